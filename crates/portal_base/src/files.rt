@@ -1,0 +1,38 @@
+//! What a tree of files shows at a path, and how it names a file.
+
+use crate::memory::{Replica, WantOfMemory};
+use crate::names::host_path::HostPath;
+use std::alloc::Global;
+
+/// What a tree has at a path.
+#[derive(Clone, Copy, Debug, PartialEq, Eq)]
+pub enum Look {
+    /// Nothing.
+    Missing,
+    /// A folder.
+    Folder,
+    /// A file.
+    File {
+        /// Which of the files that the path has had.
+        generation: u64,
+        /// Its length in bytes.
+        size: u64,
+        /// When it changed last, in seconds.
+        moment: u64,
+    },
+}
+
+impl Replica for Look {
+    fn replica(&self, _alloc: Global) -> Result<Look, WantOfMemory> {
+        Ok(*self)
+    }
+}
+
+/// The name of a file in a tree.
+#[derive(Debug, Drop)]
+pub struct FileName {
+    /// The path.
+    pub path: HostPath,
+    /// Which of the files that the path has had.
+    pub generation: u64,
+}

@@ -1,0 +1,31 @@
+//! Limits and settings of a portal.
+
+use crate::names::host_path::HostPath;
+
+/// The limits of a portal, in items or bytes.
+#[derive(Clone, Copy, Debug, PartialEq, Eq)]
+pub struct Limits {
+    /// Live documents.
+    pub documents: u64,
+    /// Documents made in a run, kept ones included.
+    pub made: u64,
+    /// The cost of the history, in bytes.
+    pub history: u64,
+    /// Open handles of one connection.
+    pub handles: u64,
+    /// Presented files that wait on one connection.
+    pub queued: u64,
+    /// Bytes of a file that the portal writes.
+    pub file_bytes: u64,
+}
+
+/// What a portal is set to.
+#[derive(Debug, Drop)]
+pub struct Settings {
+    /// The limits.
+    pub limits: Limits,
+    /// Where the file view is mounted.
+    pub mountpoint: HostPath,
+    /// The bus identifier that the handshake tells.
+    pub guid: [u8; 16],
+}
