@@ -1,0 +1,12 @@
+//! The plain data of the portal: what is asked, what is answered, what the
+//! outside gave, and the records that a portal opens with. The definitions of
+//! the sequential portal stand beside it in specs/.
+#![tactic(auto)]
+
+pub mod entry;
+pub mod opening;
+pub mod records;
+pub mod reply;
+pub mod request;
+pub mod rights;
+pub mod state;

@@ -1,0 +1,65 @@
+//! The state that a portal opens with.
+
+use crate::records::{DocRecord, EntryRecord};
+use portal_base::limits::Limits;
+use portal_base::list::{ByteList, List};
+use portal_base::memory::{Replica, WantOfMemory};
+use portal_base::names::app_id::AppId;
+use portal_base::names::doc_id::DocId;
+use std::alloc::Global;
+
+/// A document that is live from the start.
+#[derive(Debug, Drop)]
+pub struct OpeningDocument {
+    /// The document and the rights in it.
+    pub kept: DocRecord,
+    /// Whether it outlives the run.
+    pub persistent: bool,
+}
+
+/// A file of the tree that is there from the start.
+#[derive(Debug, Drop)]
+pub struct FileItem {
+    /// Its path on the host.
+    pub path: ByteList,
+    /// Its bytes.
+    pub content: ByteList,
+    /// When it changed last, in seconds.
+    pub moment: u64,
+}
+
+/// The state that a portal opens with.
+#[derive(Debug, Drop)]
+pub struct OpeningState {
+    /// The limits.
+    pub limits: Limits,
+    /// The live documents, in order of addition.
+    pub documents: List<OpeningDocument>,
+    /// The numbers of all made documents.
+    pub made: List<DocId>,
+    /// The numbered applications; application k is the k-th.
+    pub applications: List<AppId>,
+    /// The entries of the permission store, in order of creation.
+    pub entries: List<EntryRecord>,
+    /// The files of the tree.
+    pub files: List<FileItem>,
+}
+
+impl Replica for OpeningDocument {
+    fn replica(&self, alloc: Global) -> Result<OpeningDocument, WantOfMemory> {
+        Ok(OpeningDocument {
+            kept: self.kept.replica(alloc)?,
+            persistent: self.persistent,
+        })
+    }
+}
+
+impl Replica for FileItem {
+    fn replica(&self, alloc: Global) -> Result<FileItem, WantOfMemory> {
+        Ok(FileItem {
+            path: self.path.replica(alloc)?,
+            content: self.content.replica(alloc)?,
+            moment: self.moment,
+        })
+    }
+}

@@ -1,0 +1,90 @@
+//! The records that outlive a run.
+
+use portal_base::list::{ByteList, List};
+use portal_base::memory::{Replica, WantOfMemory};
+use portal_base::text::Text;
+use std::alloc::Global;
+
+/// The rights that a kept document gives to one application.
+#[derive(Debug, Drop)]
+pub struct GrantRecord {
+    /// The application's name.
+    pub app: ByteList,
+    /// The rights: read 1, write 2, grant-permissions 4, delete 8.
+    pub rights: u8,
+}
+
+/// A kept document.
+#[derive(Debug, Drop)]
+pub struct DocRecord {
+    /// Its number.
+    pub number: u32,
+    /// Its path on the host.
+    pub path: ByteList,
+    /// Whether a later addition of the same path may use it.
+    pub reusable: bool,
+    /// The rights in it, in byte order of the applications' names.
+    pub grants: List<GrantRecord>,
+}
+
+/// The permissions of one application in an entry of the permission store.
+#[derive(Debug, Drop)]
+pub struct Row {
+    /// The application's key.
+    pub app: Text,
+    /// Its permissions.
+    pub names: List<Text>,
+}
+
+/// A kept entry of the permission store.
+#[derive(Debug, Drop)]
+pub struct EntryRecord {
+    /// The table.
+    pub table: Text,
+    /// The identifier in the table.
+    pub id: Text,
+    /// The data, spelled as a D-Bus variant.
+    pub datum: ByteList,
+    /// The rows, in byte order of the applications' keys.
+    pub rows: List<Row>,
+}
+
+impl Replica for GrantRecord {
+    fn replica(&self, alloc: Global) -> Result<GrantRecord, WantOfMemory> {
+        Ok(GrantRecord {
+            app: self.app.replica(alloc)?,
+            rights: self.rights,
+        })
+    }
+}
+
+impl Replica for DocRecord {
+    fn replica(&self, alloc: Global) -> Result<DocRecord, WantOfMemory> {
+        Ok(DocRecord {
+            number: self.number,
+            path: self.path.replica(alloc)?,
+            reusable: self.reusable,
+            grants: self.grants.replica(alloc)?,
+        })
+    }
+}
+
+impl Replica for Row {
+    fn replica(&self, alloc: Global) -> Result<Row, WantOfMemory> {
+        Ok(Row {
+            app: self.app.replica(alloc)?,
+            names: self.names.replica(alloc)?,
+        })
+    }
+}
+
+impl Replica for EntryRecord {
+    fn replica(&self, alloc: Global) -> Result<EntryRecord, WantOfMemory> {
+        Ok(EntryRecord {
+            table: self.table.replica(alloc)?,
+            id: self.id.replica(alloc)?,
+            datum: self.datum.replica(alloc)?,
+            rows: self.rows.replica(alloc)?,
+        })
+    }
+}

@@ -1,0 +1,108 @@
+//! What the portal answers.
+
+use portal_base::list::List;
+use portal_base::memory::WantOfMemory;
+use portal_base::text::Text;
+
+/// Why a request is refused.
+#[derive(Clone, Copy, Debug, PartialEq, Eq)]
+pub enum Code {
+    /// A request on a node, by the number that the kernel's headers give the
+    /// error.
+    Errno(u32),
+    /// The seat has no open connection of the request's kind, or an Enter's
+    /// seat has one.
+    NotHere,
+}
+
+/// The attributes of a node, as FUSE tells them.
+#[derive(Clone, Copy, Debug, PartialEq, Eq)]
+pub struct Attr {
+    /// The number of the node.
+    pub node: u64,
+    /// Its length in bytes.
+    pub size: u64,
+    /// Its length in blocks of 512 bytes, rounded up.
+    pub blocks: u64,
+    /// When it changed last, in seconds.
+    pub moment: u64,
+    /// The kind of file and the rights of its owner.
+    pub mode: u32,
+    /// The number of its links.
+    pub links: u32,
+    /// Its owner.
+    pub uid: u32,
+    /// Its owner's group.
+    pub gid: u32,
+    /// The block size that suits reading, in bytes.
+    pub block_size: u32,
+}
+
+/// An answer to a request on a node.
+#[derive(Clone, Copy, Debug, PartialEq, Eq)]
+pub enum NodeAnswer {
+    /// The attributes of the node.
+    Attr(Attr),
+    /// A refusal, by the number that the kernel's headers give the error. The
+    /// portal itself refuses by a [`Code`].
+    Error {
+        /// The number, not negated.
+        errno: u32,
+    },
+}
+
+/// The answer to a request.
+#[derive(Clone, Copy, Debug, PartialEq, Eq)]
+pub enum Answer {
+    /// It was done, and there is nothing to tell.
+    Done,
+    /// It was refused.
+    Refused(Code),
+    /// What a request on a node was answered.
+    Node(NodeAnswer),
+}
+
+/// A change of the permission store, as it is told to hosts.
+#[derive(Debug, Drop)]
+pub struct Change {
+    /// The table.
+    pub table: Text,
+    /// The identifier in the table.
+    pub id: Text,
+    /// Whether the entry is gone.
+    pub deleted: bool,
+}
+
+/// A reply: the changes that were not told yet, and the answer.
+#[derive(Debug, Drop)]
+pub struct Reply {
+    /// The changes, in the order of the history.
+    pub signals: List<Change>,
+    /// The answer.
+    pub answer: Answer,
+}
+
+/// Why a request is no entry of the history. The portal is then as it was.
+#[derive(Clone, Copy, Debug, PartialEq, Eq)]
+pub enum Refused {
+    /// There was no memory.
+    Memory,
+    /// With this request the history would cost more than its limit.
+    Full {
+        /// The cost of the history, in bytes.
+        cost: u64,
+        /// The limit, in bytes.
+        limit: u64,
+    },
+}
+
+impl From<WantOfMemory> for Refused {
+    ghost use Rattle.std.specs.Prelude.{◌≡◌};
+    ghost use Rattle.portal_model.specs.declared.reply.Refused.TheVariants.{Memory};
+
+    ghost from_gives = { λ _ r. r ≡ Memory };
+
+    fn from(_error: WantOfMemory) -> Refused {
+        Refused::Memory
+    }
+}

@@ -1,0 +1,97 @@
+//! The items of the portal's lists, which the definitions speak of.
+
+use crate::reply::Change;
+use crate::rights::Right;
+use portal_base::list::{ByteList, List};
+use portal_base::memory::{Replica, WantOfMemory};
+use portal_base::names::app_id::AppId;
+use portal_base::names::doc_id::DocId;
+use portal_base::names::host_path::HostPath;
+use portal_base::who::{Kind, Who};
+use std::alloc::Global;
+
+/// A live document.
+#[derive(Debug, Drop)]
+pub struct Document {
+    /// Its number.
+    pub id: DocId,
+    /// Its path on the host.
+    pub path: HostPath,
+    /// Whether it outlives the run.
+    pub persistent: bool,
+    /// Whether a later addition of the same path may use it.
+    pub reusable: bool,
+}
+
+/// A right that an application has in a document.
+#[derive(Debug, Drop)]
+pub struct Triple {
+    /// The application.
+    pub app: AppId,
+    /// The document's number.
+    pub id: DocId,
+    /// The right.
+    pub right: Right,
+}
+
+/// An open connection.
+#[derive(Debug, Drop)]
+pub struct Connection {
+    /// Its seat, from 1.
+    pub seat: u32,
+    /// Whom it is bound to.
+    pub who: Who,
+    /// What it speaks.
+    pub kind: Kind,
+    /// The presented files that wait.
+    pub queue: List<HostPath>,
+    /// The number of handles that were opened on it.
+    pub opens: u64,
+    /// The changes of the permission store that were not told yet.
+    pub unsent: List<Change>,
+}
+
+/// A file of the tree.
+#[derive(Debug, Drop)]
+pub struct File {
+    /// Its path on the host.
+    pub path: HostPath,
+    /// Which of the files that the path has had.
+    pub generation: u64,
+    /// Its bytes.
+    pub bytes: ByteList,
+    /// When it changed last, in seconds.
+    pub moment: u64,
+}
+
+impl Replica for Document {
+    fn replica(&self, alloc: Global) -> Result<Document, WantOfMemory> {
+        Ok(Document {
+            id: self.id,
+            path: self.path.replica(alloc)?,
+            persistent: self.persistent,
+            reusable: self.reusable,
+        })
+    }
+}
+
+impl Replica for Triple {
+    fn replica(&self, alloc: Global) -> Result<Triple, WantOfMemory> {
+        Ok(Triple {
+            app: self.app.replica(alloc)?,
+            id: self.id,
+            right: self.right,
+        })
+    }
+}
+
+impl Replica for File {
+    fn replica(&self, alloc: Global) -> Result<File, WantOfMemory> {
+        Ok(File {
+            path: self.path.replica(alloc)?,
+            generation: self.generation,
+            bytes: self.bytes.replica(alloc)?,
+            moment: self.moment,
+        })
+    }
+}
