@@ -1,0 +1,10 @@
+//! The types and values of D-Bus, the text of their types, and the names that
+//! messages carry.
+//!
+//! Source: D-Bus Specification, "Type System" and "Message Protocol: Valid
+//! Names".
+#![tactic(auto)]
+
+pub mod copies;
+pub mod equal;
+pub mod types;
