@@ -8,6 +8,7 @@ pub mod limits;
 pub mod list;
 pub mod memory;
 pub mod names;
+pub mod outside;
 pub mod split;
 pub mod text;
 pub mod who;
