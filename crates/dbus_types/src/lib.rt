@@ -7,4 +7,5 @@
 
 pub mod copies;
 pub mod equal;
+pub mod roles;
 pub mod types;

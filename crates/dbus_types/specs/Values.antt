@@ -1,0 +1,81 @@
+-- What the D-Bus Specification says of values ("Type System").
+use Rattle.std.specs.Prelude.{◌≡◌, ℕ, zero, suc, ◌+◌, max, List, IsTrue, IsUtf8, All}
+use Rattle.dbus_types.specs.declared.types.WireType.{WireType}
+use Rattle.dbus_types.specs.declared.types.WireType.TheVariants as W
+use Rattle.dbus_types.specs.declared.types.Value.{Value, out-Value, fold-Value}
+use Rattle.dbus_types.specs.declared.types.Value.TheOpen.{Value-F}
+use Rattle.dbus_types.specs.Types.{greatest, IsValidType, IsVariantType, IsSignature}
+use Rattle.dbus_types.specs.Names.{is_path}
+
+abbrev pub type_step : Value-F WireType → WireType
+type_step (Value-F.Byte n) = W.Byte
+type_step (Value-F.Bool b) = W.Bool
+type_step (Value-F.I16 n) = W.I16
+type_step (Value-F.U16 n) = W.U16
+type_step (Value-F.I32 n) = W.I32
+type_step (Value-F.U32 n) = W.U32
+type_step (Value-F.I64 n) = W.I64
+type_step (Value-F.U64 n) = W.U64
+type_step (Value-F.Double n) = W.Double
+type_step (Value-F.Str t) = W.Str
+type_step (Value-F.ObjectPath t) = W.ObjectPath
+type_step (Value-F.Signature t) = W.Signature
+type_step (Value-F.Handle n) = W.Handle
+type_step (Value-F.Variant v) = W.Variant
+type_step (Value-F.Array t vs) = W.Array t
+type_step (Value-F.Struct ts) = W.Struct ts
+type_step (Value-F.DictEntry k v) = W.DictEntry k v
+
+-- the type of a value
+abbrev pub type_of : Value → WireType
+type_of = fold-Value WireType type_step
+
+-- UTF-8 without zero bytes
+abbrev pub IsText : List ℕ → Type 0
+IsText text = IsUtf8 text × All (λ b. b ≡ 0 → ⊥) text
+
+-- the text of a list of types
+abbrev pub IsSignatureText : List ℕ → Type 0
+IsSignatureText text = (ts : List WireType) × IsSignature ts text
+
+-- a value that holds no other, and keeps the rules
+abbrev pub LeafKeeps : Value-F Value → Type 0
+LeafKeeps (Value-F.Str text) = IsText text
+LeafKeeps (Value-F.ObjectPath text) = IsTrue (is_path text)
+LeafKeeps (Value-F.Signature text) = IsSignatureText text
+LeafKeeps (Value-F.Variant v) = ⊥
+LeafKeeps (Value-F.Array t vs) = ⊥
+LeafKeeps (Value-F.Struct vs) = ⊥
+LeafKeeps (Value-F.DictEntry k v) = ⊥
+LeafKeeps _ = Unit {0}
+
+-- The rules of one value, where Inside says what those inside it keep: each item of an array has
+-- the type of the array's element, and a variant's value a type whose signature a variant can carry.
+abbrev pub ValueKeeps : (Value → Type 0) → Value-F Value → Type 0
+ValueKeeps Inside (Value-F.Variant v) = IsVariantType (type_of v) × Inside v
+ValueKeeps Inside (Value-F.Array t vs) = All (λ v. (type_of v ≡ t) × Inside v) vs
+ValueKeeps Inside (Value-F.Struct vs) = All Inside vs
+ValueKeeps Inside (Value-F.DictEntry k v) = Inside k × Inside v
+ValueKeeps Inside leaf = LeafKeeps leaf
+
+-- A value and those inside it keep the rules, and at most so many arrays, structs, dict entries and
+-- variants stand in each other.
+unfoldable pub KeepsWithin : ℕ → Value → Type 0
+KeepsWithin zero v = LeafKeeps (out-Value v)
+KeepsWithin (suc depth) v = ValueKeeps (KeepsWithin depth) (out-Value v)
+
+-- A value that keeps the rules: its type keeps those of types, the values inside keep theirs, and at
+-- most 64 arrays, structs, dict entries and variants stand in each other.
+abbrev pub KeepsRules : Value → Type 0
+KeepsRules v = IsValidType (type_of v) × KeepsWithin 64 v
+
+abbrev pub nesting_step : Value-F ℕ → ℕ
+nesting_step (Value-F.Variant n) = n + 1
+nesting_step (Value-F.Array t ns) = greatest ns + 1
+nesting_step (Value-F.Struct ns) = greatest ns + 1
+nesting_step (Value-F.DictEntry k v) = max k v + 1
+nesting_step _ = 0
+
+-- how many arrays, structs, dict entries and variants stand in each other
+abbrev pub nesting : Value → ℕ
+nesting = fold-Value ℕ nesting_step
