@@ -1,0 +1,12 @@
+pub mod State
+pub mod Content
+pub mod Place
+pub mod Errno
+pub mod View
+pub mod Enter
+pub mod GetAttr
+pub mod Step
+pub mod Lawful
+pub mod Valid
+pub mod Opening
+pub mod History

@@ -1,0 +1,36 @@
+-- Enter, which opens a connection: in the portal, and in one application's view.
+use Rattle.std.specs.Prelude.{ℕ, List, [], ◌∷◌, ◌++◌, Option, Some, None}
+use Rattle.portal_base.specs.declared.who.Kind.{Kind}
+use Rattle.portal_base.specs.declared.who.Who.{Who}
+use Rattle.portal_model.specs.declared.reply.Answer.{Answer}
+use Rattle.portal_model.specs.declared.reply.Answer.TheVariants as Answer
+use Rattle.portal_model.specs.declared.reply.Code.TheVariants as Code
+use Rattle.portal_model.specs.declared.state.Connection.{Connection}
+use Rattle.portal_model.specs.State.{State, connection_of}
+use Rattle.portal_model.specs.View.{View}
+
+-- a connection with nothing presented, opened or unsent
+abbrev pub new_connection : ℕ → Who → Kind → Connection
+new_connection seat who kind = record { seat = seat; who = who; kind = kind; queue = []; opens = 0; unsent = [] }
+
+-- the connections after an Enter of a seat with that open connection
+abbrev pub entered : ℕ → Who → Kind → List Connection → Option Connection → List Connection
+entered seat who kind connections None = connections ++ new_connection seat who kind ∷ []
+entered seat who kind connections (Some c) = connections
+
+-- a seat has at most one open connection
+abbrev pub enter_answer : Option Connection → Answer
+enter_answer None = Answer.Done
+enter_answer (Some c) = Answer.Refused Code.NotHere
+
+-- in the portal: the state after, and the answer
+abbrev pub enter : State → ℕ → Who → Kind → State × Answer
+enter s seat who kind =
+    let open_one = connection_of s.connections seat in
+    (record s { connections = entered seat who kind s.connections open_one }, enter_answer open_one)
+
+-- in the view of the application that enters: the view after, and the answer
+abbrev pub own_enter : View → ℕ → Who → Kind → View × Answer
+own_enter v seat who kind =
+    let open_one = connection_of v.connections seat in
+    (record v { connections = entered seat who kind v.connections open_one }, enter_answer open_one)

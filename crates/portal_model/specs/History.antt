@@ -1,0 +1,81 @@
+-- Histories: lists of entries from a state.
+use Rattle.std.specs.Prelude.{◌≡◌, ℕ, ◌+◌, ◌-◌, ◌^◌, ◌==◌, min, List, [], ◌∷◌, ◌++◌, length, Bool, true, false, Option, Some, None, cond}
+use Rattle.std.specs.List.{filter, sum_by}
+use Rattle.portal_base.specs.declared.who.Who.{Who}
+use Rattle.portal_base.specs.declared.who.Who.TheVariants as Who
+use Rattle.portal_model.specs.declared.entry.Entry.{Entry}
+use Rattle.portal_model.specs.declared.reply.Reply.{Reply}
+use Rattle.portal_model.specs.declared.request.NodeOp.{NodeOp}
+use Rattle.portal_model.specs.declared.request.NodeOp.TheVariants as NodeOp
+use Rattle.portal_model.specs.declared.request.Request.{Request}
+use Rattle.portal_model.specs.declared.request.Request.TheVariants as Request
+use Rattle.portal_model.specs.declared.state.Connection.{Connection}
+use Rattle.portal_model.specs.Lawful.{Lawful}
+use Rattle.portal_model.specs.State.{State, connection_of}
+use Rattle.portal_model.specs.Step.{after, reply_at}
+use Rattle.portal_model.specs.Valid.{Valid}
+use Rattle.portal_model.specs.View.{is_app}
+
+-- the state after all entries
+abbrev pub run : State → List Entry → State
+run s [] = s
+run s (e ∷ es) = run (after s e) es
+
+-- each entry is lawful at its place
+abbrev pub EachLawful : State → List Entry → Type 0
+EachLawful s [] = Unit {0}
+EachLawful s (e ∷ es) = Lawful s e × EachLawful (after s e) es
+
+-- a history that a portal may have
+pub record Legal (s : State) (h : List Entry) : Type 0 where
+  pub opening : Valid s
+  pub lawful : EachLawful s h
+
+-- ---- cost, in bytes
+
+abbrev pub node_bytes : NodeOp → ℕ
+node_bytes (NodeOp.GetAttr flags fh) = 0
+
+abbrev pub who_bytes : Who → ℕ
+who_bytes Who.Host = 0
+who_bytes (Who.App name) = length name
+
+-- the bytes that a request carries
+abbrev pub carried : Request → ℕ
+carried (Request.Enter who kind) = who_bytes who
+carried (Request.Node r) = node_bytes r.op
+
+-- what a request costs the history: at most the greatest number that is counted
+abbrev pub cost_of : Request → ℕ
+cost_of request = min (128 + carried request) (2 ^ 64 - 1)
+
+abbrev pub cost : List Entry → ℕ
+cost h = sum_by (λ e. cost_of e.request) h
+
+-- ---- who made an entry
+
+-- the entries of a seat, in order
+abbrev pub of_seat : ℕ → List Entry → List Entry
+of_seat seat h = filter (λ e. e.seat == seat) h
+
+-- whom the seat's open connection is bound to; else whom an Enter names; else nobody
+abbrev pub maker : Option Connection → Request → Option Who
+maker (Some c) request = Some c.who
+maker None (Request.Enter who kind) = Some who
+maker None (Request.Node r) = None
+
+abbrev pub is_by : List ℕ → Option Who → Bool
+is_by app None = false
+is_by app (Some who) = is_app app who
+
+abbrev pub made_by : List ℕ → Option Connection → Request → Bool
+made_by app c request = is_by app (maker c request)
+
+-- the application makes the entry
+abbrev pub makes : List ℕ → State → Entry → Bool
+makes app s e = made_by app (connection_of s.connections e.seat) e.request
+
+-- the replies to the entries that the application makes
+abbrev pub replies : List ℕ → State → List Entry → List Reply
+replies app s [] = []
+replies app s (e ∷ es) = cond (makes app s e) (reply_at s e ∷ []) [] ++ replies app (after s e) es

@@ -1,0 +1,33 @@
+-- What the outside may have given to an entry.
+use Rattle.std.specs.Prelude.{◌≡◌, ℕ, ◌<◌, List, [], length, take, Bool, true, false, Option, None}
+use Rattle.portal_base.specs.declared.files.Look.{Look}
+use Rattle.portal_model.specs.declared.entry.Entry.{Entry}
+use Rattle.portal_model.specs.declared.entry.Fault.{Fault}
+use Rattle.portal_model.specs.declared.entry.Fault.TheVariants as Fault
+use Rattle.portal_model.specs.State.{State}
+use Rattle.portal_model.specs.Step.{looks_taken}
+
+-- over a tree that tells: the looks are those that the request takes; where a call of the tree
+-- failed, those ahead of it; and the keeper fails only where records change, which no request does yet
+abbrev pub LooksAre : List Look → Fault → List Look → Type 0
+LooksAre taken Fault.None looks = looks ≡ taken
+LooksAre taken Fault.Tree looks = (looks ≡ take (length looks) taken) × (length looks < length taken)
+LooksAre taken Fault.Keeper looks = ⊥
+
+-- over a tree that does not tell: as many looks, whatever they show
+abbrev pub LooksCount : ℕ → Fault → ℕ → Type 0
+LooksCount taken Fault.None count = count ≡ taken
+LooksCount taken Fault.Tree count = count < taken
+LooksCount taken Fault.Keeper count = ⊥
+
+abbrev pub LawfulLooks : Bool → List Look → Fault → List Look → Type 0
+LawfulLooks true taken fault looks = LooksAre taken fault looks
+LawfulLooks false taken fault looks = LooksCount (length taken) fault (length looks)
+
+-- no request reads the clock, draws a word, makes a document or meets a limit of documents yet
+pub record Lawful (s : State) (e : Entry) : Type 0 where
+  pub clock : e.given.now ≡ None
+  pub words : e.given.words ≡ []
+  pub numbers : e.given.numbers ≡ []
+  pub full : e.given.full ≡ false
+  pub looks : LawfulLooks s.told (looks_taken s e.seat e.request) e.given.fault e.given.looks

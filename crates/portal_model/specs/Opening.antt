@@ -1,0 +1,86 @@
+-- The state that an opening state of a portal stands for.
+use Rattle.std.specs.Prelude.{◌≡◌, ℕ, ◌==◌, ◌/◌, ◌%◌, List, [], ◌∷◌, ◌++◌, map, cond, not, Bool, true, false, Option, Some, None}
+use Rattle.std.specs.List.{filter}
+use Rattle.portal_base.specs.Names.{is_same}
+use Rattle.portal_base.specs.declared.names.doc_id.DocId.{DocId}
+use Rattle.portal_model.specs.declared.opening.FileItem.{FileItem}
+use Rattle.portal_model.specs.declared.opening.OpeningDocument.{OpeningDocument}
+use Rattle.portal_model.specs.declared.opening.OpeningState.{OpeningState}
+use Rattle.portal_model.specs.declared.records.DocRecord.{DocRecord}
+use Rattle.portal_model.specs.declared.records.GrantRecord.{GrantRecord}
+use Rattle.portal_model.specs.declared.rights.Right.{Right}
+use Rattle.portal_model.specs.declared.rights.Right.TheVariants.{Read, Write, GrantPermissions, Delete}
+use Rattle.portal_model.specs.declared.state.Document.{Document}
+use Rattle.portal_model.specs.declared.state.File.{File}
+use Rattle.portal_model.specs.declared.state.Triple.{Triple}
+use Rattle.portal_model.specs.State.{State, bit_of}
+use Rattle.portal_model.specs.Valid.{Valid}
+
+abbrev pub id_of : ℕ → DocId
+id_of number = record { number = number }
+
+abbrev pub document_kept : OpeningDocument → Document
+document_kept d = record { id = id_of d.kept.number; path = d.kept.path; persistent = d.persistent; reusable = d.kept.reusable }
+
+-- whether a record of rights has this one
+abbrev pub has_bit : ℕ → Right → Bool
+has_bit rights right = rights / bit_of right % 2 == 1
+
+abbrev pub triple_kept : ℕ → GrantRecord → Right → List Triple
+triple_kept number grant right = cond (has_bit grant.rights right) (record { app = grant.app; id = id_of number; right = right } ∷ []) []
+
+-- what a record gives an application in a document
+abbrev pub triples_of : ℕ → GrantRecord → List Triple
+triples_of number grant = triple_kept number grant Read ++ (triple_kept number grant Write ++ (triple_kept number grant GrantPermissions ++ triple_kept number grant Delete))
+
+-- the lists that f makes of the items, one after another
+abbrev pub each : {X Y : Type 0} → (X → List Y) → List X → List Y
+each f [] = []
+each f (x ∷ xs) = f x ++ each f xs
+
+abbrev pub triples_kept : OpeningDocument → List Triple
+triples_kept d = each (triples_of d.kept.number) d.kept.grants
+
+-- a file that is there from the start is the first that its path has
+abbrev pub file_of : FileItem → File
+file_of f = record { path = f.path; generation = 0; bytes = f.content; moment = f.moment }
+
+abbrev pub is_told : Option (List File) → Bool
+is_told None = false
+is_told (Some files) = true
+
+abbrev pub files_of : Option (List File) → List File
+files_of None = []
+files_of (Some files) = files
+
+-- the state over a tree that tells these files, or tells nothing
+abbrev pub opened_over : Option (List File) → OpeningState → State
+opened_over files o = record {
+  limits = o.limits;
+  documents = map document_kept o.documents;
+  made = o.made;
+  rights = each triples_kept o.documents;
+  applications = o.applications;
+  connections = [];
+  told = is_told files;
+  files = files_of files;
+  entries = o.entries;
+}
+
+-- the state over a tree that tells the files of the opening state
+abbrev pub opened : OpeningState → State
+opened o = opened_over (Some (map file_of o.files)) o
+
+-- the names, each where it stands first
+abbrev pub first_named : List (List ℕ) → List (List ℕ)
+first_named [] = []
+first_named (name ∷ names) = name ∷ filter (λ other. not (is_same name other)) (first_named names)
+
+abbrev pub names_kept : OpeningDocument → List (List ℕ)
+names_kept d = map (λ g. g.app) d.kept.grants
+
+-- no document was made but those that are live, and the applications are numbered as the records first name them
+pub record ValidOpening (files : Option (List File)) (o : OpeningState) : Type 0 where
+  pub valid : Valid (opened_over files o)
+  pub made : o.made ≡ map (λ d. id_of d.kept.number) o.documents
+  pub applications : o.applications ≡ first_named (each names_kept o.documents)

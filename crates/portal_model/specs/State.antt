@@ -1,0 +1,70 @@
+-- The state of the sequential portal: plain lists, and what is looked up in them.
+-- The terms are those of the documentation of org.freedesktop.portal.Documents, where an application has permissions in documents.
+use Rattle.std.specs.Prelude.{◌≡◌, ℕ, ◌==◌, ◌&&◌, List, Bool, true, Option, is_some}
+use Rattle.std.specs.List.{find, list_any}
+use Rattle.portal_base.specs.Names.{is_same}
+use Rattle.portal_base.specs.declared.limits.Limits.{Limits}
+use Rattle.portal_base.specs.declared.names.doc_id.DocId.{DocId}
+use Rattle.portal_base.specs.declared.who.Who.{Who}
+use Rattle.portal_base.specs.declared.who.Who.TheVariants as Who
+use Rattle.portal_model.specs.declared.records.EntryRecord.{EntryRecord}
+use Rattle.portal_model.specs.declared.rights.Right.{Right}
+use Rattle.portal_model.specs.declared.rights.Right.TheVariants.{Read, Write, GrantPermissions, Delete}
+use Rattle.portal_model.specs.declared.state.Connection.{Connection}
+use Rattle.portal_model.specs.declared.state.Document.{Document}
+use Rattle.portal_model.specs.declared.state.File.{File}
+use Rattle.portal_model.specs.declared.state.Triple.{Triple}
+
+pub record State : Type 0 where
+  pub limits : Limits
+  -- the live documents, in order of addition
+  pub documents : List Document
+  -- the numbers of all documents that were ever made
+  pub made : List DocId
+  -- which application has which right in which document, none twice
+  pub rights : List Triple
+  -- the names of the numbered applications: application k is the k-th
+  pub applications : List (List ℕ)
+  pub connections : List Connection
+  -- whether the tree of files tells what it has; where it does not, there are no files here
+  pub told : Bool
+  pub files : List File
+  -- the entries of the permission store, in order of creation
+  pub entries : List EntryRecord
+
+-- the number that a record of rights gives a right
+abbrev pub bit_of : Right → ℕ
+bit_of Read = 1
+bit_of Write = 2
+bit_of GrantPermissions = 4
+bit_of Delete = 8
+
+abbrev pub same_right : Right → Right → Bool
+same_right a b = bit_of a == bit_of b
+
+-- the live document of a number
+abbrev pub document_of : List Document → ℕ → Option Document
+document_of documents number = find (λ d. d.id.number == number) documents
+
+-- the open connection of a seat
+abbrev pub connection_of : List Connection → ℕ → Option Connection
+connection_of connections seat = find (λ c. c.seat == seat) connections
+
+-- whether the triple gives this application this right in the document of this number
+abbrev pub gives : List ℕ → ℕ → Right → Triple → Bool
+gives app number right t = is_same t.app app && (t.id.number == number && same_right t.right right)
+
+abbrev pub app_has : List Triple → List ℕ → ℕ → Right → Bool
+app_has rights app number right = list_any (gives app number right) rights
+
+-- the host has every right in a live document, an application those that it was given
+abbrev pub who_has : List Triple → Who → ℕ → Right → Bool
+who_has rights Who.Host number right = true
+who_has rights (Who.App app) number right = app_has rights app number right
+
+abbrev pub has : State → Who → ℕ → Right → Bool
+has s who number right = is_some (document_of s.documents number) && who_has s.rights who number right
+
+-- the document is live, and the caller has this right in it
+abbrev pub Has : State → Who → ℕ → Right → Type 0
+Has s who number right = has s who number right ≡ true

@@ -1,0 +1,87 @@
+-- One step of the sequential portal: a request of a seat, with what the outside gave it.
+use Rattle.std.specs.Prelude.{ℕ, ◌==◌, List, [], ◌∷◌, Bool, true, false, Option, Some, None, cond, map}
+use Rattle.portal_base.specs.declared.files.Look.{Look}
+use Rattle.portal_base.specs.declared.who.Kind.{Kind}
+use Rattle.portal_base.specs.declared.who.Kind.TheVariants as Kind
+use Rattle.portal_base.specs.declared.who.Who.{Who}
+use Rattle.portal_model.specs.declared.entry.Entry.{Entry}
+use Rattle.portal_model.specs.declared.entry.Given.{Given}
+use Rattle.portal_model.specs.declared.reply.Answer.{Answer}
+use Rattle.portal_model.specs.declared.reply.Answer.TheVariants as Answer
+use Rattle.portal_model.specs.declared.reply.Change.{Change}
+use Rattle.portal_model.specs.declared.reply.Code.TheVariants as Code
+use Rattle.portal_model.specs.declared.reply.Reply.{Reply}
+use Rattle.portal_model.specs.declared.request.NodeOp.{NodeOp}
+use Rattle.portal_model.specs.declared.request.NodeOp.TheVariants as NodeOp
+use Rattle.portal_model.specs.declared.request.NodeRequest.{NodeRequest}
+use Rattle.portal_model.specs.declared.request.Request.{Request}
+use Rattle.portal_model.specs.declared.request.Request.TheVariants as Request
+use Rattle.portal_model.specs.declared.state.Connection.{Connection}
+use Rattle.portal_model.specs.Enter.{enter}
+use Rattle.portal_model.specs.GetAttr.{get_attr_answer, get_attr_looks}
+use Rattle.portal_model.specs.State.{State, connection_of}
+
+-- ---- the connection that asks
+
+abbrev pub is_mount : Kind → Bool
+is_mount Kind.Mount = true
+is_mount Kind.Bus = false
+
+-- the connection, where it is a mount
+abbrev pub mount_of : Option Connection → Option Connection
+mount_of None = None
+mount_of (Some c) = cond (is_mount c.kind) (Some c) None
+
+-- what the connection was not told yet is told now
+abbrev pub told_of : ℕ → Connection → Connection
+told_of seat c = cond (c.seat == seat) (record c { unsent = [] }) c
+
+abbrev pub all_told : ℕ → State → State
+all_told seat s = record s { connections = map (told_of seat) s.connections }
+
+abbrev pub reply_with : List Change → Answer → Reply
+reply_with signals answer = record { signals = signals; answer = answer }
+
+abbrev pub with_signals : {X : Type 0} → List Change → X × Answer → X × Reply
+with_signals signals done = (done.0, reply_with signals done.1)
+
+-- the seat has no open connection of the request's kind: nothing changes
+abbrev pub not_here : {X : Type 0} → X → X × Reply
+not_here x = (x, reply_with [] (Answer.Refused Code.NotHere))
+
+-- ---- the step
+
+-- a request on a node, of this caller: the state after, and the answer
+abbrev pub node_answer : State → Who → NodeRequest → NodeOp → Given → State × Answer
+node_answer s who r (NodeOp.GetAttr flags fh) given = (s, get_attr_answer s who r flags given.looks)
+
+abbrev pub node_step : State → NodeRequest → Given → Option Connection → State × Reply
+node_step s r given None = not_here s
+node_step s r given (Some c) = with_signals c.unsent (node_answer (all_told c.seat s) c.who r r.op given)
+
+abbrev pub request_step : State → ℕ → Request → Given → State × Reply
+request_step s seat (Request.Enter who kind) given = with_signals [] (enter s seat who kind)
+request_step s seat (Request.Node r) given = node_step s r given (mount_of (connection_of s.connections seat))
+
+-- the state after an entry, and the reply to it
+abbrev pub step : State → Entry → State × Reply
+step s e = request_step s e.seat e.request e.given
+
+abbrev pub after : State → Entry → State
+after s e = (step s e).0
+
+abbrev pub reply_at : State → Entry → Reply
+reply_at s e = (step s e).1
+
+-- ---- the looks that a request takes at the tree, where none fails
+
+abbrev pub node_op_looks : State → Who → NodeRequest → NodeOp → List Look
+node_op_looks s who r (NodeOp.GetAttr flags fh) = get_attr_looks s who r flags
+
+abbrev pub node_looks : State → NodeRequest → Option Connection → List Look
+node_looks s r None = []
+node_looks s r (Some c) = node_op_looks s c.who r r.op
+
+abbrev pub looks_taken : State → ℕ → Request → List Look
+looks_taken s seat (Request.Enter who kind) = []
+looks_taken s seat (Request.Node r) = node_looks s r (mount_of (connection_of s.connections seat))

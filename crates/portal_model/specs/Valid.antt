@@ -1,0 +1,88 @@
+-- What is true of every state that a portal reaches.
+use Rattle.std.specs.Prelude.{◌≡◌, ℕ, ◌==◌, ◌^◌, ◌<◌, ◌≤◌, nat_eq, nat_le, List, [], length, map, Bool, true, false, not, ◌&&◌, ◌||◌, is_some}
+use Rattle.std.specs.List.{list_any, list_all, IsDistinct}
+use Rattle.portal_base.specs.Names.{is_same, is_app_name, is_host_path, is_byte_of_path}
+use Rattle.portal_base.specs.declared.names.doc_id.DocId.{DocId}
+use Rattle.portal_base.specs.declared.who.Kind.{Kind}
+use Rattle.portal_base.specs.declared.who.Kind.TheVariants as Kind
+use Rattle.portal_base.specs.declared.who.Who.{Who}
+use Rattle.portal_base.specs.declared.who.Who.TheVariants as Who
+use Rattle.portal_model.specs.declared.records.EntryRecord.{EntryRecord}
+use Rattle.portal_model.specs.declared.records.Row.{Row}
+use Rattle.portal_model.specs.declared.reply.Change.{Change}
+use Rattle.portal_model.specs.declared.state.Connection.{Connection}
+use Rattle.portal_model.specs.declared.state.Document.{Document}
+use Rattle.portal_model.specs.declared.state.File.{File}
+use Rattle.portal_model.specs.declared.state.Triple.{Triple}
+use Rattle.portal_model.specs.Content.{is_folder}
+use Rattle.portal_model.specs.State.{State, document_of, same_right}
+
+abbrev pub is_made : List DocId → ℕ → Bool
+is_made made number = list_any (λ id. id.number == number) made
+
+abbrev pub is_numbered : List (List ℕ) → List ℕ → Bool
+is_numbered applications app = list_any (is_same app) applications
+
+abbrev pub same_triple : Triple → Triple → Bool
+same_triple t u = is_same t.app u.app && (t.id.number == u.id.number && same_right t.right u.right)
+
+-- the document is live, and the application is numbered
+abbrev pub is_placed : State → Triple → Bool
+is_placed s t = is_some (document_of s.documents t.id.number) && is_numbered s.applications t.app
+
+abbrev pub is_host_bus : Who → Kind → Bool
+is_host_bus Who.Host Kind.Bus = true
+is_host_bus Who.Host Kind.Mount = false
+is_host_bus (Who.App app) kind = false
+
+abbrev pub is_none : {X : Type 0} → List X → Bool
+is_none xs = length xs == 0
+
+abbrev pub is_text : List ℕ → Bool
+is_text t = list_all is_byte_of_path t
+
+abbrev pub has_texts : Row → Bool
+has_texts row = is_text row.app && list_all is_text row.names
+
+abbrev pub is_sound_change : Change → Bool
+is_sound_change c = is_text c.table && is_text c.id
+
+-- only the host's buses wait for changes; the texts of these have no zero byte
+abbrev pub is_sound_connection : ℕ → Connection → Bool
+is_sound_connection queued c =
+    (is_none c.unsent || is_host_bus c.who c.kind)
+    && (list_all is_sound_change c.unsent
+    && (list_all is_host_path c.queue && nat_le (length c.queue) queued))
+
+abbrev pub same_entry : EntryRecord → EntryRecord → Bool
+same_entry a b = is_same a.table b.table && is_same a.id b.id
+
+abbrev pub is_sound_entry : EntryRecord → Bool
+is_sound_entry e = is_text e.table && (is_text e.id && list_all has_texts e.rows)
+
+-- the greatest number of applications that may be numbered
+abbrev pub applications_limit : ℕ
+applications_limit = 16777216
+
+pub record Valid (s : State) : Type 0 where
+  -- live numbers differ, and are made
+  pub numbers_differ : IsDistinct nat_eq (map (λ d. d.id.number) s.documents)
+  pub numbers_made : list_all (λ d. is_made s.made d.id.number) s.documents ≡ true
+  pub paths : list_all (λ d. is_host_path d.path) s.documents ≡ true
+  pub applications_differ : IsDistinct is_same s.applications
+  pub names : list_all is_app_name s.applications ≡ true
+  pub rights_differ : IsDistinct same_triple s.rights
+  pub rights_placed : list_all (is_placed s) s.rights ≡ true
+  pub seats_differ : IsDistinct nat_eq (map (λ c. c.seat) s.connections)
+  pub connections_sound : list_all (is_sound_connection s.limits.queued) s.connections ≡ true
+  pub entries_differ : IsDistinct same_entry s.entries
+  pub entries_sound : list_all is_sound_entry s.entries ≡ true
+  -- files differ in path; none lies below a file, and none is the root
+  pub files_differ : IsDistinct is_same (map (λ f. f.path) s.files)
+  pub files_apart : list_all (λ f. not (is_folder s.files f.path)) s.files ≡ true
+  pub files_told : s.told ≡ false → s.files ≡ []
+  pub documents_within : length s.documents ≤ s.limits.documents
+  pub made_within : length s.made ≤ s.limits.made
+  pub applications_within : length s.applications ≤ applications_limit
+  pub made_limit : s.limits.made < 2 ^ 32
+  pub queued_limit : s.limits.queued < 2 ^ 32

@@ -1,0 +1,91 @@
+-- What the portal is to one application. It holds nothing of other applications' rights, documents, numbers or connections.
+use Rattle.std.specs.Prelude.{ℕ, ◌==◌, nat_le, List, [], ◌∷◌, Bool, true, false, ◌||◌, map, cond, Option}
+use Rattle.std.specs.List.{filter, find}
+use Rattle.portal_base.specs.Names.{is_same}
+use Rattle.portal_base.specs.declared.who.Who.{Who}
+use Rattle.portal_base.specs.declared.who.Who.TheVariants as Who
+use Rattle.portal_model.specs.declared.rights.Right.TheVariants.{Read, Write, GrantPermissions, Delete}
+use Rattle.portal_model.specs.declared.state.Connection.{Connection}
+use Rattle.portal_model.specs.declared.state.Document.{Document}
+use Rattle.portal_model.specs.declared.state.Triple.{Triple}
+use Rattle.portal_model.specs.Content.{Content, content_at}
+use Rattle.portal_model.specs.State.{State, app_has}
+
+-- the rights that the application has in a document
+pub record Held : Type 0 where
+  pub read : Bool
+  pub write : Bool
+  pub grant : Bool
+  pub delete : Bool
+
+abbrev pub holds_any : Held → Bool
+holds_any h = h.read || (h.write || (h.grant || h.delete))
+
+-- a document in which the application has a right, and what the tree has at its path
+pub record Seen : Type 0 where
+  pub number : ℕ
+  pub path : List ℕ
+  pub persistent : Bool
+  pub reusable : Bool
+  pub held : Held
+  pub content : Content
+
+pub record View : Type 0 where
+  -- the limits on open handles, on presented files that wait, and on the size of a file
+  pub handles : ℕ
+  pub queued : ℕ
+  pub file_bytes : ℕ
+  -- in rising order of their numbers
+  pub documents : List Seen
+  -- in the order in which they were opened
+  pub connections : List Connection
+
+abbrev pub held_of : List Triple → List ℕ → ℕ → Held
+held_of rights app number = record {
+  read = app_has rights app number Read;
+  write = app_has rights app number Write;
+  grant = app_has rights app number GrantPermissions;
+  delete = app_has rights app number Delete;
+}
+
+abbrev pub seen_of : State → List ℕ → Document → Seen
+seen_of s app d = record {
+  number = d.id.number;
+  path = d.path;
+  persistent = d.persistent;
+  reusable = d.reusable;
+  held = held_of s.rights app d.id.number;
+  content = content_at s.files d.path;
+}
+
+-- a document put ahead of the first whose number is not smaller
+abbrev pub put_in_order : Seen → List Seen → List Seen
+put_in_order d [] = d ∷ []
+put_in_order d (x ∷ xs) = cond (nat_le d.number x.number) (d ∷ x ∷ xs) (x ∷ put_in_order d xs)
+
+abbrev pub in_order : List Seen → List Seen
+in_order [] = []
+in_order (d ∷ ds) = put_in_order d (in_order ds)
+
+abbrev pub seen_documents : State → List ℕ → List Seen
+seen_documents s app = in_order (map (seen_of s app) (filter (λ d. holds_any (held_of s.rights app d.id.number)) s.documents))
+
+abbrev pub is_app : List ℕ → Who → Bool
+is_app app Who.Host = false
+is_app app (Who.App name) = is_same name app
+
+abbrev pub own_connections : List Connection → List ℕ → List Connection
+own_connections connections app = filter (λ c. is_app app c.who) connections
+
+abbrev pub view : State → List ℕ → View
+view s app = record {
+  handles = s.limits.handles;
+  queued = s.limits.queued;
+  file_bytes = s.limits.file_bytes;
+  documents = seen_documents s app;
+  connections = own_connections s.connections app;
+}
+
+-- the document of a number in the view
+abbrev pub seen_document : View → ℕ → Option Seen
+seen_document v number = find (λ d. d.number == number) v.documents
