@@ -1,0 +1,54 @@
+-- The frames of FUSE requests, by include/uapi/linux/fuse.h. A frame is a list of bytes, and each
+-- number in it is little-endian.
+use Rattle.std.specs.Prelude.{ℕ, Bool, List, length, drop, nat_lt, ◌||◌, if◌then◌else◌}
+use Rattle.byteorder.specs.Endian.{little_number}
+use Rattle.portal_base.specs.declared.split.Split.{Split}
+use Rattle.portal_base.specs.declared.split.Split.TheVariants.{More, Whole, Bad}
+
+-- the number of so many bytes that stands at an offset of a frame
+abbrev pub number_at : ℕ → ℕ → List ℕ → ℕ
+number_at at width frame = little_number width (drop at frame)
+
+-- struct fuse_in_header; two numbers of 16 bits follow, which are not looked at
+pub record InHeader : Type 0 where
+  pub len : ℕ
+  pub opcode : ℕ
+  pub unique : ℕ
+  pub nodeid : ℕ
+  pub uid : ℕ
+  pub gid : ℕ
+  pub pid : ℕ
+
+-- the header of a frame: the fields of the struct at their offsets
+abbrev pub header_of : List ℕ → InHeader
+header_of frame = record {
+  len = number_at 0 4 frame;
+  opcode = number_at 4 4 frame;
+  unique = number_at 8 8 frame;
+  nodeid = number_at 16 8 frame;
+  uid = number_at 24 4 frame;
+  gid = number_at 28 4 frame;
+  pid = number_at 32 4 frame;
+}
+
+-- struct fuse_getattr_in, behind a number that is not looked at
+pub record GetAttrIn : Type 0 where
+  pub getattr_flags : ℕ
+  pub fh : ℕ
+
+-- the body of a frame of FUSE_GETATTR, behind the 40 bytes of its header
+abbrev pub getattr_in_of : List ℕ → GetAttrIn
+getattr_in_of frame = record { getattr_flags = number_at 40 4 frame; fh = number_at 48 8 frame }
+
+-- a length that no frame has: below that of a header, or above 135,168
+abbrev pub is_bad_len : ℕ → Bool
+is_bad_len len = nat_lt len 40 || nat_lt 135168 len
+
+-- what stands at the front of a stream: too few bytes for a header or for the length that it states,
+-- a frame of that length, or a length that no frame has
+abbrev pub split_of : List ℕ → Split
+split_of bytes =
+    if nat_lt (length bytes) 40 then More
+    else if is_bad_len (header_of bytes).len then Bad 14
+    else if nat_lt (length bytes) (header_of bytes).len then More
+    else Whole (header_of bytes).len
