@@ -1,0 +1,98 @@
+-- Which lines may stand behind which, and what is read of a text.
+use Rattle.std.specs.Prelude.{◌≡◌, ◌≢◌, ℕ, ◌+◌, ◌≤◌, ◌<◌, ◌==◌, Bool, true, false, ◌||◌, List, [], ◌∷◌, ◌++◌, length, Option, Some, None, nat_eq, count_by}
+use Rattle.std.specs.List.{list_any, starts_with}
+use Rattle.portal_base.specs.Names.{is_same}
+use Rattle.script_form.specs.declared.script.ScriptLine.{ScriptLine}
+use Rattle.script_form.specs.declared.script.ScriptLine.TheVariants.{File, Doc, Open, Data}
+use Rattle.script_form.specs.Lines.{line_text, text_of, KeepsRules}
+use Rattle.script_form.specs.Opening.{applications_of}
+
+-- the path lies below the file
+abbrev pub is_below : List ℕ → List ℕ → Bool
+is_below file path = starts_with nat_eq path (file ++ 47 ∷ [])
+
+-- both can't be files: they are the same, or one lies below the other
+abbrev pub clash : List ℕ → List ℕ → Bool
+clash path other = is_same path other || (is_below path other || is_below other path)
+
+abbrev pub is_open : ScriptLine → Bool
+is_open (File path content) = false
+is_open (Doc id reusable path grants) = false
+is_open (Open seat kind who) = true
+is_open (Data seat bytes) = false
+
+abbrev pub opens : ℕ → ScriptLine → Bool
+opens n (File path content) = false
+opens n (Doc id reusable path grants) = false
+opens n (Open seat kind who) = seat == n
+opens n (Data seat bytes) = false
+
+abbrev pub is_doc : ScriptLine → Bool
+is_doc (File path content) = false
+is_doc (Doc id reusable path grants) = true
+is_doc (Open seat kind who) = false
+is_doc (Data seat bytes) = false
+
+-- the line keeps the document of that number
+abbrev pub keeps : ℕ → ScriptLine → Bool
+keeps n (File path content) = false
+keeps n (Doc id reusable path grants) = id.number == n
+keeps n (Open seat kind who) = false
+keeps n (Data seat bytes) = false
+
+-- the line is of a file that can't be beside a file of that path
+abbrev pub clashes : List ℕ → ScriptLine → Bool
+clashes path (File other content) = clash path other
+clashes path (Doc id reusable other grants) = false
+clashes path (Open seat kind who) = false
+clashes path (Data seat bytes) = false
+
+-- how many documents, and how many applications with rights in them, a script may keep
+abbrev pub document_limit : ℕ
+document_limit = 65536
+
+abbrev pub application_limit : ℕ
+application_limit = 16777216
+
+-- the rules of a line that speak of the lines before it
+abbrev pub Follows : List ScriptLine → ScriptLine → Type 0
+Follows earlier (File path content) = (list_any is_open earlier ≡ false) × (list_any (clashes path) earlier ≡ false)
+Follows earlier (Doc id reusable path grants) = (list_any is_open earlier ≡ false) × (list_any (keeps id.number) earlier ≡ false)
+    × (count_by is_doc earlier < document_limit)
+    × (length (applications_of (earlier ++ Doc id reusable path grants ∷ [])) ≤ application_limit)
+Follows earlier (Open seat kind who) = list_any (opens seat) earlier ≡ false
+Follows earlier (Data seat bytes) = list_any (opens seat) earlier ≡ true
+
+-- the line may stand behind these lines
+pub record MayStand (earlier : List ScriptLine) (line : ScriptLine) : Type 0 where
+  pub itself : KeepsRules line
+  pub behind : Follows earlier line
+
+-- each of the lines may stand behind those before it, and `earlier` before them all
+abbrev pub StandBehind : List ScriptLine → List ScriptLine → Type 0
+StandBehind earlier [] = Unit {0}
+StandBehind earlier (line ∷ lines) = MayStand earlier line × StandBehind (earlier ++ line ∷ []) lines
+
+-- each line may stand behind those before it
+unfoldable pub IsScript : List ScriptLine → Type 0
+IsScript lines = StandBehind [] lines
+
+-- no front of the text is a line that may stand behind these
+abbrev pub NoneStands : List ScriptLine → List ℕ → Type 0
+NoneStands lines text = (line : ScriptLine) (more : List ℕ) → text ≡ line_text line ++ (10 ∷ more) → MayStand lines line → ⊥
+
+-- Where the good lines end. With no number nothing is left. With one, something is, it doesn't
+-- begin with a good line, and the number is that of its first line, counted from 1.
+abbrev pub Ends : List ScriptLine → List ℕ → Option ℕ → Type 0
+Ends lines rest None = rest ≡ []
+Ends lines rest (Some n) = (rest ≢ []) × NoneStands lines rest × (n ≡ length lines + 1)
+
+-- the longest front of good lines of a text, and the number of the first line that isn't good
+pub record IsBuilt (text : List ℕ) (lines : List ScriptLine) (unbuilt : Option ℕ) (rest : List ℕ) : Type 0 where
+  pub cut : text ≡ text_of lines ++ rest
+  pub good : IsScript lines
+  pub ends : Ends lines rest unbuilt
+
+-- the longest text that is read, in bytes
+abbrev pub script_limit : ℕ
+script_limit = 67108864

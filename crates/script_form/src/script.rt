@@ -1,0 +1,53 @@
+//! The lines of a script, as plain data.
+
+use portal_base::list::{ByteList, List};
+use portal_base::names::doc_id::DocId;
+use portal_base::names::host_path::HostPath;
+use portal_base::who::{Kind, Who};
+use portal_model::records::GrantRecord;
+
+/// One line of a script.
+#[derive(Debug, Drop)]
+pub enum ScriptLine {
+    /// `file PATH HEX`: a file of the tree.
+    File {
+        /// Its path.
+        path: HostPath,
+        /// Its bytes.
+        content: ByteList,
+    },
+    /// `doc ID FLAGS PATH GRANTS`: a kept document.
+    Doc {
+        /// Its number.
+        id: DocId,
+        /// Whether a later addition of the same path may use it.
+        reusable: bool,
+        /// Its path.
+        path: HostPath,
+        /// The rights in it, in byte order of the applications' names.
+        grants: List<GrantRecord>,
+    },
+    /// `open N KIND WHO`: a connection is opened, with its seat.
+    Open {
+        /// The number of the connection and of its seat, from 1 to 65,535.
+        seat: u32,
+        /// What the connection speaks.
+        kind: Kind,
+        /// Whom it is bound to.
+        who: Who,
+    },
+    /// `data N HEX`: bytes that come on an open connection.
+    Data {
+        /// The number of the connection.
+        seat: u32,
+        /// The bytes.
+        bytes: ByteList,
+    },
+}
+
+/// A script.
+#[derive(Debug, Drop)]
+pub struct Script {
+    /// Its lines.
+    pub lines: List<ScriptLine>,
+}
