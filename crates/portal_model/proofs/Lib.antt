@@ -1,0 +1,4 @@
+pub mod Finds
+pub mod ValidLaws
+pub mod Histories
+pub mod Silence

@@ -1,9 +1,8 @@
 -- What a tree of files has at a path, and what a look at it shows.
-use Rattle.std.specs.Prelude.{ℕ, List, [], ◌∷◌, ◌++◌, length, Bool, true, false, ◌||◌, nat_eq, Option, Some, None, cond}
+use Rattle.std.specs.Prelude.{ℕ, List, [], ◌∷◌, ◌++◌, length, Bool, true, false, ◌||◌, nat_eq, Option, Some, None}
 use Rattle.std.specs.List.{find, list_any, starts_with}
 use Rattle.portal_base.specs.Names.{is_same, root, parent_of}
 use Rattle.portal_base.specs.declared.files.Look.{Look}
-use Rattle.portal_base.specs.declared.files.Look.TheVariants as Look
 use Rattle.portal_model.specs.declared.state.File.{File}
 
 pub data Content : Type 0 where

@@ -1,15 +1,13 @@
 -- FUSE_GETATTR (include/uapi/linux/fuse.h): in the portal, and in one application's view.
 use Rattle.std.specs.Prelude.{ℕ, ◌+◌, ◌/◌, ◌%◌, ◌==◌, List, [], ◌∷◌, Bool, Option, Some, None, cond}
 use Rattle.portal_base.specs.declared.files.Look.{Look}
-use Rattle.portal_base.specs.declared.files.Look.TheVariants as Look
 use Rattle.portal_base.specs.declared.who.Who.{Who}
 use Rattle.portal_model.specs.declared.reply.Answer.{Answer}
-use Rattle.portal_model.specs.declared.reply.Answer.TheVariants as Answer
 use Rattle.portal_model.specs.declared.reply.Attr.{Attr}
 use Rattle.portal_model.specs.declared.reply.Code.TheVariants as Code
 use Rattle.portal_model.specs.declared.reply.NodeAnswer.TheVariants as NodeAnswer
 use Rattle.portal_model.specs.declared.request.NodeRequest.{NodeRequest}
-use Rattle.portal_model.specs.Content.{Content, look_of, look_at}
+use Rattle.portal_model.specs.Content.{look_of, look_at}
 use Rattle.portal_model.specs.Errno.{enoent, eio, ebadf}
 use Rattle.portal_model.specs.Place.{Sight, SightOfFile, Place, DocumentFile, sight_at, place_named, place_of}
 use Rattle.portal_model.specs.State.{State}

@@ -10,3 +10,4 @@ pub mod Lawful
 pub mod Valid
 pub mod Opening
 pub mod History
+pub mod Laws

@@ -1,21 +1,17 @@
 -- One step of the sequential portal: a request of a seat, with what the outside gave it.
-use Rattle.std.specs.Prelude.{ℕ, ◌==◌, List, [], ◌∷◌, Bool, true, false, Option, Some, None, cond, map}
+use Rattle.std.specs.Prelude.{ℕ, ◌==◌, List, [], Bool, true, false, Option, Some, None, cond, map}
 use Rattle.portal_base.specs.declared.files.Look.{Look}
 use Rattle.portal_base.specs.declared.who.Kind.{Kind}
-use Rattle.portal_base.specs.declared.who.Kind.TheVariants as Kind
 use Rattle.portal_base.specs.declared.who.Who.{Who}
 use Rattle.portal_model.specs.declared.entry.Entry.{Entry}
 use Rattle.portal_model.specs.declared.entry.Given.{Given}
 use Rattle.portal_model.specs.declared.reply.Answer.{Answer}
-use Rattle.portal_model.specs.declared.reply.Answer.TheVariants as Answer
 use Rattle.portal_model.specs.declared.reply.Change.{Change}
 use Rattle.portal_model.specs.declared.reply.Code.TheVariants as Code
 use Rattle.portal_model.specs.declared.reply.Reply.{Reply}
 use Rattle.portal_model.specs.declared.request.NodeOp.{NodeOp}
-use Rattle.portal_model.specs.declared.request.NodeOp.TheVariants as NodeOp
 use Rattle.portal_model.specs.declared.request.NodeRequest.{NodeRequest}
 use Rattle.portal_model.specs.declared.request.Request.{Request}
-use Rattle.portal_model.specs.declared.request.Request.TheVariants as Request
 use Rattle.portal_model.specs.declared.state.Connection.{Connection}
 use Rattle.portal_model.specs.Enter.{enter}
 use Rattle.portal_model.specs.GetAttr.{get_attr_answer, get_attr_looks}

@@ -1,18 +1,14 @@
 -- What is true of every state that a portal reaches.
-use Rattle.std.specs.Prelude.{◌≡◌, ℕ, ◌==◌, ◌^◌, ◌<◌, ◌≤◌, nat_eq, nat_le, List, [], length, map, Bool, true, false, not, ◌&&◌, ◌||◌, is_some}
+use Rattle.std.specs.Prelude.{◌≡◌, ℕ, ◌==◌, ◌^◌, ◌<◌, ◌≤◌, nat_eq, nat_le, List, [], ◌∷◌, length, map, Bool, true, false, not, ◌&&◌, ◌||◌, is_some}
 use Rattle.std.specs.List.{list_any, list_all, IsDistinct}
 use Rattle.portal_base.specs.Names.{is_same, is_app_name, is_host_path, is_byte_of_path}
 use Rattle.portal_base.specs.declared.names.doc_id.DocId.{DocId}
 use Rattle.portal_base.specs.declared.who.Kind.{Kind}
-use Rattle.portal_base.specs.declared.who.Kind.TheVariants as Kind
 use Rattle.portal_base.specs.declared.who.Who.{Who}
-use Rattle.portal_base.specs.declared.who.Who.TheVariants as Who
 use Rattle.portal_model.specs.declared.records.EntryRecord.{EntryRecord}
 use Rattle.portal_model.specs.declared.records.Row.{Row}
 use Rattle.portal_model.specs.declared.reply.Change.{Change}
 use Rattle.portal_model.specs.declared.state.Connection.{Connection}
-use Rattle.portal_model.specs.declared.state.Document.{Document}
-use Rattle.portal_model.specs.declared.state.File.{File}
 use Rattle.portal_model.specs.declared.state.Triple.{Triple}
 use Rattle.portal_model.specs.Content.{is_folder}
 use Rattle.portal_model.specs.State.{State, document_of, same_right}
@@ -36,7 +32,12 @@ is_host_bus Who.Host Kind.Mount = false
 is_host_bus (Who.App app) kind = false
 
 abbrev pub is_none : {X : Type 0} → List X → Bool
-is_none xs = length xs == 0
+is_none [] = true
+is_none (x ∷ xs) = false
+
+-- no connection waits for a change, as long as no request makes one
+abbrev pub is_silent : List Connection → Bool
+is_silent connections = list_all (λ c. is_none c.unsent) connections
 
 abbrev pub is_text : List ℕ → Bool
 is_text t = list_all is_byte_of_path t

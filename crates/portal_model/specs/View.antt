@@ -1,9 +1,8 @@
 -- What the portal is to one application. It holds nothing of other applications' rights, documents, numbers or connections.
-use Rattle.std.specs.Prelude.{ℕ, ◌==◌, nat_le, List, [], ◌∷◌, Bool, true, false, ◌||◌, map, cond, Option}
+use Rattle.std.specs.Prelude.{ℕ, ◌==◌, nat_le, List, [], ◌∷◌, Bool, false, ◌||◌, map, cond, Option}
 use Rattle.std.specs.List.{filter, find}
 use Rattle.portal_base.specs.Names.{is_same}
 use Rattle.portal_base.specs.declared.who.Who.{Who}
-use Rattle.portal_base.specs.declared.who.Who.TheVariants as Who
 use Rattle.portal_model.specs.declared.rights.Right.TheVariants.{Read, Write, GrantPermissions, Delete}
 use Rattle.portal_model.specs.declared.state.Connection.{Connection}
 use Rattle.portal_model.specs.declared.state.Document.{Document}

@@ -4,6 +4,7 @@
 #![tactic(auto)]
 
 pub mod entry;
+pub mod laws;
 pub mod opening;
 pub mod records;
 pub mod reply;
