@@ -1,5 +1,5 @@
 -- Looking up in a list that was filtered, mapped or made longer.
-use Rattle.std.proofs.Common.{◌≡◌, ℕ, List, [], ◌∷◌, Bool, true, cond, Some, None, refl, map, arith}
+use Rattle.std.proofs.Common.{◌≡◌, ◌==◌, ℕ, List, [], ◌∷◌, Bool, true, cond, Some, None, refl, map, arith}
 use Rattle.std.specs.List.{find, filter, list_all}
 use Rattle.std.specs.Option.{option_map}
 use Rattle.std.proofs.lemmas.Bool.Decides.{nat_tests}
@@ -41,3 +41,6 @@ found_passes p (x ∷ xs) y e = grind (arith, found_passes p xs y)
 pub find-map : {X Y : Type 0} (p : Y → Bool) (f : X → Y) (xs : List X) → find p (map f xs) ≡ option_map f (find (λ x. p (f x)) xs)
 find-map p f [] = refl
 find-map p f (x ∷ xs) = grind (arith, find-map p f xs)
+
+pub nat_is : (a b : ℕ) → (a == b) ≡ true → a ≡ b
+nat_is a b h = grind (arith, nat_tests)

@@ -2,3 +2,8 @@ pub mod Finds
 pub mod ValidLaws
 pub mod Histories
 pub mod Silence
+pub mod ViewLaws
+pub mod EnterLaws
+pub mod PlaceLaws
+pub mod GetAttrLaws
+pub mod WorldLaws

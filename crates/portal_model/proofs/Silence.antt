@@ -16,11 +16,11 @@ use Rattle.portal_model.specs.Step.{after, all_told, told_of, node_answer, node_
 use Rattle.portal_model.specs.Valid.{is_none, is_silent}
 use Rattle.portal_model.proofs.Finds.{found_in_all}
 
-none-nil : {X : Type 0} (xs : List X) → is_none xs ≡ true → xs ≡ []
+pub none-nil : {X : Type 0} (xs : List X) → is_none xs ≡ true → xs ≡ []
 none-nil [] e = refl
 none-nil (x ∷ xs) e = cc
 
-told_of-silent : (seat : ℕ) (c : Connection) → is_none c.unsent ≡ true → told_of seat c ≡ c
+pub told_of-silent : (seat : ℕ) (c : Connection) → is_none c.unsent ≡ true → told_of seat c ≡ c
 told_of-silent seat c h = elim (c.seat == seat) as (λ b. cond b (record c { unsent = [] }) c ≡ c) [
   | true ↦ λ i. record c { unsent = sym (none-nil c.unsent h) i }
   | false ↦ refl

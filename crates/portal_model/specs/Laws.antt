@@ -1,10 +1,14 @@
 -- Laws over histories, which the public functions of src/laws.rt state.
-use Rattle.std.specs.Prelude.{◌≡◌, ℕ, ◌+◌, List, ◌++◌}
+use Rattle.std.specs.Prelude.{◌≡◌, ℕ, ◌+◌, List, ◌++◌, true, false}
 use Rattle.portal_model.specs.declared.entry.Entry.{Entry}
-use Rattle.portal_model.specs.History.{run, Legal, cost, of_seat}
+use Rattle.portal_model.specs.History.{run, Legal, cost, of_seat, makes, replies}
 use Rattle.portal_model.specs.State.{State}
-use Rattle.portal_model.specs.Step.{after}
+use Rattle.portal_model.specs.Step.{after, reply_at}
+use Rattle.portal_model.specs.Effect.{apply_all}
+use Rattle.portal_model.specs.Lawful.{Lawful}
 use Rattle.portal_model.specs.Valid.{Valid}
+use Rattle.portal_model.specs.View.{view, own_connections}
+use Rattle.portal_model.specs.World.{app_run, app_step, own_of, touch, trace}
 
 -- a run of two lists joined is a run after a run
 abbrev pub RunsJoin : Type 0
@@ -27,3 +31,19 @@ SeatsJoin = (seat : ℕ) (h more : List Entry) → of_seat seat (h ++ more) ≡ 
 pub record StaysValid : Type 0 where
   pub step : (s : State) (e : Entry) → Valid s → Valid (after s e)
   pub run : (s : State) (h : List Entry) → Valid s → Valid (run s h)
+
+-- of a lawful entry over a tree that tells: where the application makes it, its own machine gives the
+-- reply and the view after; where it does not, what is touched gives the view after
+pub record StepsSeen : Type 0 where
+  pub own : (app : List ℕ) (s : State) (e : Entry) → s.told ≡ true → Valid s → Lawful s e → makes app s e ≡ true → app_step (view s app) (own_of e) ≡ (view (after s e) app, reply_at s e)
+  pub other : (app : List ℕ) (s : State) (e : Entry) → Valid s → makes app s e ≡ false → apply_all (view s app) (touch app s e) ≡ view (after s e) app
+
+-- a view is a function of the limits, the documents, the rights, the files and the own connections alone
+abbrev pub ViewsFramed : Type 0
+ViewsFramed = (app : List ℕ) (s t : State) → s.limits ≡ t.limits → s.documents ≡ t.documents → s.rights ≡ t.rights → s.files ≡ t.files →
+    own_connections s.connections app ≡ own_connections t.connections app → view s app ≡ view t app
+
+-- in every legal history over a tree that tells, the replies to an application are what its own machine
+-- replies to its trace
+abbrev pub Isolated : Type 0
+Isolated = (app : List ℕ) (s : State) (h : List Entry) → s.told ≡ true → Legal s h → replies app s h ≡ app_run (trace app s h)

@@ -3,6 +3,7 @@ pub mod Content
 pub mod Place
 pub mod Errno
 pub mod View
+pub mod Effect
 pub mod Enter
 pub mod GetAttr
 pub mod Step
@@ -10,4 +11,5 @@ pub mod Lawful
 pub mod Valid
 pub mod Opening
 pub mod History
+pub mod World
 pub mod Laws

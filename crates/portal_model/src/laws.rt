@@ -2,7 +2,16 @@
 //!
 //! Each function does nothing; its contract is the law.
 
-ghost use Rattle.portal_model.specs.Laws.{CostsJoin, LegalJoins, RunsJoin, SeatsJoin, StaysValid};
+ghost use Rattle.portal_model.specs.Laws.{
+  CostsJoin,
+  Isolated,
+  LegalJoins,
+  RunsJoin,
+  SeatsJoin,
+  StaysValid,
+  StepsSeen,
+  ViewsFramed,
+};
 
 /// The state after two histories joined is the one after the second, from the
 /// state after the first.
@@ -30,4 +39,23 @@ pub fn entries_of_a_seat_join()
 /// Every state that is reached from a valid state is valid.
 pub fn states_stay_valid()
     ensures { StaysValid }
+{}
+
+/// A step that leaves equal what a view takes from the state leaves the view
+/// equal.
+pub fn views_are_framed()
+    ensures { ViewsFramed }
+{}
+
+/// One entry, as an application sees it: its own is answered by its own
+/// machine as in the portal, and another's changes its view as it is told.
+pub fn steps_are_seen()
+    ensures { StepsSeen }
+{}
+
+/// The replies to an application are a function of its trace: its own requests
+/// with what the outside gave them, and what others change of the documents,
+/// rights and bytes that it holds.
+pub fn applications_are_isolated()
+    ensures { Isolated }
 {}

@@ -1,0 +1,87 @@
+-- What a view takes from the state, and what is looked up in it.
+use Rattle.std.proofs.Common.{◌≡◌, ℕ, ◌==◌, List, [], ◌∷◌, map, Bool, true, false, cond, Option, Some, None, refl, ap, ◌∙◌, arith}
+use Rattle.std.specs.List.{find, filter, list_all}
+use Rattle.std.specs.Option.{option_map}
+use Rattle.std.proofs.lemmas.Bool.Decides.{nat_tests}
+use Rattle.portal_base.specs.declared.who.Kind.{Kind}
+use Rattle.portal_base.specs.declared.who.Who.{Who}
+use Rattle.portal_model.specs.declared.state.Connection.{Connection}
+use Rattle.portal_model.specs.declared.state.Document.{Document}
+use Rattle.portal_model.specs.State.{State, connection_of, document_of}
+use Rattle.portal_model.specs.Step.{all_told, told_of}
+use Rattle.portal_model.specs.Valid.{Valid, is_none, is_host_bus, is_sound_connection}
+use Rattle.portal_model.specs.View.{Seen, holds_any, held_of, seen_of, put_in_order, in_order, seen_documents, seen_document, is_app, own_connections, view}
+use Rattle.portal_model.proofs.Finds.{is_same-eq, nat_is, find-filter, find-map, found_in_all}
+use Rattle.portal_model.proofs.Silence.{told_of-silent, none-nil}
+
+-- ---- the frame: a step that leaves equal all that a view takes from the state leaves the view equal
+
+pub view-frame : (app : List ℕ) (s t : State) → s.limits ≡ t.limits → s.documents ≡ t.documents → s.rights ≡ t.rights → s.files ≡ t.files →
+    own_connections s.connections app ≡ own_connections t.connections app → view s app ≡ view t app
+view-frame app s t limits documents rights files connections = λ i. record {
+  handles = (limits i).handles;
+  queued = (limits i).queued;
+  file_bytes = (limits i).file_bytes;
+  documents = seen_documents (record s { documents = documents i; rights = rights i; files = files i }) app;
+  connections = connections i;
+}
+
+-- ---- the connections of an application
+
+-- a caller that is the application has its name
+pub is_app-named : (app : List ℕ) (who : Who) → is_app app who ≡ true → who ≡ Who.App app
+is_app-named app Who.Host h = cc
+is_app-named app (Who.App name) h = ap Who.App (is_same-eq name app h)
+
+is_app-no_host : (app : List ℕ) (who : Who) (kind : Kind) → is_app app who ≡ true → is_host_bus who kind ≡ false
+is_app-no_host app Who.Host kind h = cc
+is_app-no_host app (Who.App name) kind h = refl
+
+-- nothing waits to be told to an application
+own_silent : (app : List ℕ) (queued : ℕ) (c : Connection) → is_app app c.who ≡ true → is_sound_connection queued c ≡ true → is_none c.unsent ≡ true
+own_silent app queued c h k = grind (arith, is_app-no_host app c.who c.kind h)
+
+pub own_unsent : (app : List ℕ) (s : State) (seat : ℕ) (c : Connection) → Valid s → connection_of s.connections seat ≡ Some c → is_app app c.who ≡ true → c.unsent ≡ []
+own_unsent app s seat c v e h =
+    none-nil c.unsent (own_silent app s.limits.queued c h (found_in_all (λ (x : Connection). x.seat == seat) (is_sound_connection s.limits.queued) s.connections c e v.connections_sound))
+
+told_who : (seat : ℕ) (c : Connection) → (told_of seat c).who ≡ c.who
+told_who seat c = elim (c.seat == seat) as (λ b. (cond b (record c { unsent = [] }) c).who ≡ c.who) [ true ↦ refl | false ↦ refl ]
+
+told_own : (app : List ℕ) (seat queued : ℕ) (c : Connection) (more : List Connection) (b : Bool) → is_app app c.who ≡ b → is_sound_connection queued c ≡ true →
+    cond b (told_of seat c ∷ more) more ≡ cond b (c ∷ more) more
+told_own app seat queued c more true h k = ap (λ (x : Connection). x ∷ more) (told_of-silent seat c (own_silent app queued c h k))
+told_own app seat queued c more false h k = refl
+
+own_told : (app : List ℕ) (seat queued : ℕ) (cs : List Connection) → list_all (is_sound_connection queued) cs ≡ true → own_connections (map (told_of seat) cs) app ≡ own_connections cs app
+own_told app seat queued [] h = refl
+own_told app seat queued (c ∷ cs) h =
+    let one : is_sound_connection queued c ≡ true = grind arith in
+    let all : list_all (is_sound_connection queued) cs ≡ true = grind arith in
+    ap (λ (who : Who). cond (is_app app who) (told_of seat c ∷ own_connections (map (told_of seat) cs) app) (own_connections (map (told_of seat) cs) app)) (told_who seat c)
+    ∙ (told_own app seat queued c (own_connections (map (told_of seat) cs) app) (is_app app c.who) refl one
+    ∙ ap (λ (more : List Connection). cond (is_app app c.who) (c ∷ more) more) (own_told app seat queued cs all))
+
+-- telling changes no view
+pub view-told : (app : List ℕ) (s : State) (seat : ℕ) → Valid s → view (all_told seat s) app ≡ view s app
+view-told app s seat v = view-frame app (all_told seat s) s refl refl refl refl (own_told app seat s.limits.queued s.connections v.connections_sound)
+
+-- ---- the documents of a view
+
+put_found : (number : ℕ) (d : Seen) (xs : List Seen) → find (λ (x : Seen). x.number == number) (put_in_order d xs) ≡ find (λ (x : Seen). x.number == number) (d ∷ xs)
+put_found number d [] = refl
+put_found number d (x ∷ xs) = grind (arith, nat_tests, put_found number d xs)
+
+-- the order of the documents does not matter to who looks one up
+order_found : (number : ℕ) (xs : List Seen) → find (λ (x : Seen). x.number == number) (in_order xs) ≡ find (λ (x : Seen). x.number == number) xs
+order_found number [] = refl
+order_found number (x ∷ xs) = put_found number x (in_order xs) ∙ ap (λ (o : Option Seen). cond (x.number == number) (Some x) o) (order_found number xs)
+
+-- the document of a number in the view is that of the state, where the application holds a right in it
+pub seen_is : (app : List ℕ) (s : State) (number : ℕ) →
+    seen_document (view s app) number ≡ option_map (seen_of s app) (cond (holds_any (held_of s.rights app number)) (document_of s.documents number) None)
+seen_is app s number =
+    let holds : Document → Bool = λ d. holds_any (held_of s.rights app d.id.number) in
+    order_found number (map (seen_of s app) (filter holds s.documents))
+    ∙ (find-map (λ (x : Seen). x.number == number) (seen_of s app) (filter holds s.documents)
+    ∙ ap (option_map (seen_of s app)) (find-filter (λ (d : Document). d.id.number == number) holds (holds_any (held_of s.rights app number)) (λ d h. ap (λ (n : ℕ). holds_any (held_of s.rights app n)) (nat_is d.id.number number h)) s.documents))
