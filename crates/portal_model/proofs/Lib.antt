@@ -7,3 +7,4 @@ pub mod EnterLaws
 pub mod PlaceLaws
 pub mod GetAttrLaws
 pub mod WorldLaws
+pub mod ExampleProofs

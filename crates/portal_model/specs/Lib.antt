@@ -13,3 +13,4 @@ pub mod Opening
 pub mod History
 pub mod World
 pub mod Laws
+pub mod Examples

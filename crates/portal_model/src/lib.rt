@@ -4,6 +4,7 @@
 #![tactic(auto)]
 
 pub mod entry;
+pub mod examples;
 pub mod laws;
 pub mod opening;
 pub mod records;

@@ -1,0 +1,151 @@
+-- Worked examples of the definitions, over one file and one document of it. What is expected is worked out
+-- by hand from the rules and from the fields of struct fuse_attr in include/uapi/linux/fuse.h.
+use Rattle.std.specs.Prelude.{◌≡◌, ℕ, List, [], ◌∷◌, true, false, None, codes, map}
+use Rattle.portal_base.specs.declared.files.Look.{Look}
+use Rattle.portal_base.specs.declared.limits.Limits.{Limits}
+use Rattle.portal_base.specs.declared.names.doc_id.DocId.{DocId}
+use Rattle.portal_base.specs.declared.who.Kind.TheVariants as Kind
+use Rattle.portal_base.specs.declared.who.Who.{Who}
+use Rattle.portal_model.specs.declared.entry.Entry.{Entry}
+use Rattle.portal_model.specs.declared.entry.Fault.{Fault}
+use Rattle.portal_model.specs.declared.entry.Given.{Given}
+use Rattle.portal_model.specs.declared.opening.FileItem.{FileItem}
+use Rattle.portal_model.specs.declared.opening.OpeningDocument.{OpeningDocument}
+use Rattle.portal_model.specs.declared.opening.OpeningState.{OpeningState}
+use Rattle.portal_model.specs.declared.records.GrantRecord.{GrantRecord}
+use Rattle.portal_model.specs.declared.reply.Answer.{Answer}
+use Rattle.portal_model.specs.declared.reply.Attr.{Attr}
+use Rattle.portal_model.specs.declared.reply.Code.TheVariants as Code
+use Rattle.portal_model.specs.declared.reply.NodeAnswer.TheVariants as NodeAnswer
+use Rattle.portal_model.specs.declared.reply.Reply.{Reply}
+use Rattle.portal_model.specs.declared.request.NodeOp.TheVariants as NodeOp
+use Rattle.portal_model.specs.declared.request.Request.{Request}
+use Rattle.portal_model.specs.History.{Legal, replies, cost_of}
+use Rattle.portal_model.specs.Opening.{opened, id_of, first_named, each, names_kept}
+use Rattle.portal_model.specs.World.{Trace, trace}
+
+-- ---- what the examples are made of
+
+abbrev pub editor : List ℕ
+editor = codes "org.ed"
+
+abbrev pub other : List ℕ
+other = codes "org.other"
+
+abbrev pub limits : Limits
+limits = record { documents = 65536; made = 1048576; history = 536870912; handles = 1024; queued = 16; file_bytes = 268435456 }
+
+abbrev pub file : List ℕ → List ℕ → FileItem
+file path content = record { path = path; content = content; moment = 0 }
+
+-- rights are given by their bits: read 1, write 2, grant-permissions 4, delete 8
+abbrev pub grant : List ℕ → ℕ → GrantRecord
+grant app rights = record { app = app; rights = rights }
+
+abbrev pub document : ℕ → List ℕ → List GrantRecord → OpeningDocument
+document number path grants = record { kept = record { number = number; path = path; reusable = true; grants = grants }; persistent = true }
+
+abbrev pub made_of : List OpeningDocument → List DocId
+made_of documents = map (λ d. id_of d.kept.number) documents
+
+abbrev pub opening : List OpeningDocument → List FileItem → OpeningState
+opening documents files = record {
+  limits = limits;
+  documents = documents;
+  made = made_of documents;
+  applications = first_named (each names_kept documents);
+  entries = [];
+  files = files;
+}
+
+abbrev pub given : List Look → Given
+given looks = record { now = None; words = []; numbers = []; looks = looks; full = false; fault = Fault.None }
+
+abbrev pub asks_attributes : ℕ → ℕ → ℕ → Request
+asks_attributes node flags fh = Request.Node (record { node = node; uid = 1000; gid = 1000; op = NodeOp.GetAttr flags fh })
+
+abbrev pub enters : ℕ → Who → Entry
+enters seat who = record { seat = seat; request = Request.Enter who Kind.Mount; given = given [] }
+
+-- a request for the attributes of a node, and the looks that it took
+abbrev pub asks : ℕ → ℕ → List Look → Entry
+asks seat node looks = record { seat = seat; request = asks_attributes node 0 0; given = given looks }
+
+abbrev pub replied : Answer → Reply
+replied answer = record { signals = []; answer = answer }
+
+-- ---- one document: 0000000a, of the file /home/a.txt, which holds "hello"
+
+abbrev pub a_text : List ℕ
+a_text = codes "/home/a.txt"
+
+abbrev pub hello : List FileItem
+hello = file a_text (codes "hello") ∷ []
+
+-- the file of document 0000000a in the caller's own view: 2 * 2^32 + 10
+abbrev pub a_node : ℕ
+a_node = 8589934602
+
+-- the editor opens a mount and asks for the attributes of the document's file
+abbrev pub session : List Look → List Entry
+session looks = enters 1 (Who.App editor) ∷ asks 1 a_node looks ∷ []
+
+abbrev pub read_write : OpeningState
+read_write = opening (document 10 a_text (grant editor 3 ∷ []) ∷ []) hello
+
+-- 0o100600 is 33152
+abbrev pub a_attributes : Attr
+a_attributes = record { node = a_node; size = 5; blocks = 1; moment = 0; mode = 33152; links = 1; uid = 1000; gid = 1000; block_size = 4096 }
+
+-- who may read and write the document gets the file's attributes, in a legal history
+pub record AttributesOfGrantedFile : Type 0 where
+  pub legal : Legal (opened read_write) (session (Look.File 0 5 0 ∷ []))
+  pub replies_are : replies editor (opened read_write) (session (Look.File 0 5 0 ∷ [])) ≡ replied Answer.Done ∷ replied (Answer.Node (NodeAnswer.Attr a_attributes)) ∷ []
+
+abbrev pub of_other : OpeningState
+of_other = opening (document 10 a_text (grant other 3 ∷ []) ∷ []) hello
+
+abbrev pub of_nobody : OpeningState
+of_nobody = opening [] hello
+
+abbrev pub not_found : List Reply
+not_found = replied Answer.Done ∷ replied (Answer.Refused (Code.Errno 2)) ∷ []
+
+-- a document of another application's and one that isn't there are answered alike: ENOENT
+pub record ForeignIsAsMissing : Type 0 where
+  pub legal_foreign : Legal (opened of_other) (session [])
+  pub foreign : replies editor (opened of_other) (session []) ≡ not_found
+  pub legal_missing : Legal (opened of_nobody) (session [])
+  pub missing : replies editor (opened of_nobody) (session []) ≡ not_found
+
+-- ---- costs
+
+-- 128 bytes, and six more for the name that an Enter carries
+pub record CostsOfRequests : Type 0 where
+  pub enter : cost_of (Request.Enter (Who.App editor) Kind.Mount) ≡ 134
+  pub attributes : cost_of (asks_attributes a_node 0 0) ≡ 128
+
+-- ---- traces
+
+-- the same, and another's document of another file, whose owner asks in between
+abbrev pub b_text : List ℕ
+b_text = codes "/home/b.txt"
+
+abbrev pub with_another : OpeningState
+with_another = opening (document 11 b_text (grant other 15 ∷ []) ∷ document 10 a_text (grant editor 3 ∷ []) ∷ []) (file b_text [] ∷ hello)
+
+abbrev pub with_another_session : List Entry
+with_another_session = enters 2 (Who.App other) ∷ enters 1 (Who.App editor) ∷ enters 3 Who.Host ∷ asks 2 8589934603 (Look.File 0 0 0 ∷ []) ∷ asks 1 a_node (Look.File 0 5 0 ∷ []) ∷ []
+
+-- the same, where the editor may read alone
+abbrev pub read_alone : OpeningState
+read_alone = opening (document 10 a_text (grant editor 1 ∷ []) ∷ []) hello
+
+abbrev pub trace_of_session : OpeningState → List Entry → Trace
+trace_of_session o h = trace editor (opened o) h
+
+-- histories that differ only in what the application doesn't hold give it one trace, and those that differ in its own rights two
+pub record TracesTellWhatIsHeld : Type 0 where
+  pub legal : Legal (opened with_another) with_another_session
+  pub same : trace_of_session with_another with_another_session ≡ trace_of_session read_write (session (Look.File 0 5 0 ∷ []))
+  pub own_rights : trace_of_session read_alone (session (Look.File 0 5 0 ∷ [])) ≡ trace_of_session read_write (session (Look.File 0 5 0 ∷ [])) → ⊥

@@ -1,0 +1,36 @@
+//! Worked examples of the definitions, computed by the checker over the
+//! definitions alone.
+//!
+//! Each function does nothing; its contract is the example. What is expected
+//! is worked out by hand, so that a wrong definition does not meet it.
+
+ghost use Rattle.portal_model.specs.Examples.{
+  AttributesOfGrantedFile,
+  CostsOfRequests,
+  ForeignIsAsMissing,
+  TracesTellWhatIsHeld,
+};
+
+/// An application that may read and write a document of five bytes is told
+/// the attributes of its file.
+pub fn attributes_of_a_granted_file()
+    ensures { AttributesOfGrantedFile }
+{}
+
+/// A document of another application's and one that isn't there are answered
+/// alike.
+pub fn a_foreign_document_is_as_a_missing_one()
+    ensures { ForeignIsAsMissing }
+{}
+
+/// An Enter costs 128 bytes and those of the application's name, and a request
+/// for attributes 128 bytes.
+pub fn costs_of_requests()
+    ensures { CostsOfRequests }
+{}
+
+/// Histories that differ only in what an application doesn't hold give it the
+/// same trace, and histories that differ in its own rights different ones.
+pub fn traces_tell_what_is_held()
+    ensures { TracesTellWhatIsHeld }
+{}
