@@ -1,10 +1,9 @@
 -- Which lines are `BEGIN`.
-use Rattle.std.proofs.Common.{ℕ, List, ◌≡◌, Bool, true, false, cond, refl, sym, ap, ◌∙◌}
+use Rattle.std.proofs.Common.{ℕ, List, ◌≡◌, Bool, true, false, cond, refl}
 use Rattle.std.specs.Prelude.{codes}
 use Rattle.std.proofs.lemmas.Slice.Eq.{bytes_eq-Decides}
-use Rattle.dbus_auth.specs.declared.command.Command.{Command}
 use Rattle.dbus_auth.specs.declared.command.Command.TheVariants.{AuthExternalWithIdentity, AuthExternal, AuthOther, CancelOrError, NegotiateUnixFd, Begin, Data, Unknown}
-use Rattle.dbus_auth.specs.Command.{command_of, is_auth_external_with_identity, is_auth_external, is_auth, is_cancel, is_error, is_negotiate_unix_fd, is_begin, is_data}
+use Rattle.dbus_auth.specs.Command.{command_of}
 
 -- the sixth test alone leads to `Begin`
 sixth : (a b c d e f g : Bool)

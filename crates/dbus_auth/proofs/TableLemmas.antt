@@ -7,7 +7,7 @@ use Rattle.dbus_auth.specs.declared.command.Command.TheVariants as command
 use Rattle.dbus_auth.specs.declared.handshake.AuthState.{AuthState}
 use Rattle.dbus_auth.specs.declared.handshake.AuthState.TheVariants.{WaitingForAuth, WaitingForData, WaitingForBegin}
 use Rattle.dbus_auth.specs.declared.handshake.AuthAnswer.{AuthAnswer}
-use Rattle.dbus_auth.specs.declared.handshake.AuthAnswer.TheVariants.{Say, Begin, Early}
+use Rattle.dbus_auth.specs.declared.handshake.AuthAnswer.TheVariants.{Begin, Early}
 use Rattle.dbus_auth.specs.Command.{command_of}
 use Rattle.dbus_auth.specs.Handshake.{table, EndsLine}
 use Rattle.dbus_auth.proofs.CommandLemmas.{begin-command_of, command_of-begin}
@@ -54,21 +54,23 @@ begin_before_ok guid WaitingForAuth h = refl
 begin_before_ok guid WaitingForData h = refl
 begin_before_ok guid WaitingForBegin h = absurd (h refl)
 
--- the same of a cell that is the table's, at the command of a line
-pub ends_line : (guid line : List ℕ) (state : AuthState) (cell : AuthAnswer × AuthState) → cell ≡ table guid state (command_of line)
-    → EndsLine cell.0
-ends_line guid line state cell h = rw h (EndsLine-table guid state (command_of line))
+-- the same of a cell that is the table's at what a line asks
+pub ends_line : (guid line : List ℕ) (state : AuthState) {asked : Command} {cell : AuthAnswer × AuthState}
+    → asked ≡ command_of line → cell ≡ table guid state asked → EndsLine cell.0
+ends_line guid line state {asked = asked} read h = rw h (EndsLine-table guid state asked)
 
-pub begins : (guid line : List ℕ) (state : AuthState) (cell : AuthAnswer × AuthState) → cell ≡ table guid state (command_of line)
+pub begins : (guid line : List ℕ) (state : AuthState) {asked : Command} {cell : AuthAnswer × AuthState}
+    → asked ≡ command_of line → cell ≡ table guid state asked
     → (cell.0 ≡ Begin) ↔ ((line ≡ codes "BEGIN") × (state ≡ WaitingForBegin))
-begins guid line state cell h = rw h (
+begins guid line state read h = rw (h, read) (
   λ e. let both = begin-table guid state (command_of line) e in (begin-command_of line both.0, both.1),
   λ e. rw (command_of-begin line e.0, e.1) refl,
 )
 
-pub comes_early : (guid line : List ℕ) (state : AuthState) (cell : AuthAnswer × AuthState) → cell ≡ table guid state (command_of line)
+pub comes_early : (guid line : List ℕ) (state : AuthState) {asked : Command} {cell : AuthAnswer × AuthState}
+    → asked ≡ command_of line → cell ≡ table guid state asked
     → (cell.0 ≡ Early) ↔ ((line ≡ codes "BEGIN") × (state ≢ WaitingForBegin))
-comes_early guid line state cell h = rw h (
+comes_early guid line state read h = rw (h, read) (
   λ e. let both = early-table guid state (command_of line) e in (begin-command_of line both.0, both.1),
   λ e. rw (command_of-begin line e.0) (begin_before_ok guid state e.1),
 )

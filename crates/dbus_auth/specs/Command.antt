@@ -1,7 +1,7 @@
 -- The lines of the client (D-Bus Specification, "Authentication Protocol"), as tests of their bytes
 -- without the CR LF. Each line "begins with an all-caps ASCII command name [..], a space, then any
 -- arguments for the command".
-use Rattle.std.specs.Prelude.{ℕ, ◌%◌, ◌==◌, nat_le, nat_eq, Bool, ◌&&◌, ◌||◌, if◌then◌else◌, List, ◌++◌, length, drop, codes}
+use Rattle.std.specs.Prelude.{ℕ, ◌%◌, ◌==◌, nat_le, nat_eq, Bool, ◌&&◌, ◌||◌, if◌then◌else◌, List, length, drop, codes}
 use Rattle.std.specs.List.{starts_with, list_all}
 use Rattle.std.specs.Char.{is_ascii_hexdigit}
 use Rattle.std.specs.Str.{bytes_eq}

@@ -1,6 +1,6 @@
 //! The states of the handshake, and one step of it.
 
-ghost use Rattle.std.specs.Prelude.{◌≡◌, ◌≢◌, ◌↔◌, ◌≤◌, length, codes, IfOk, OnErr};
+ghost use Rattle.std.specs.Prelude.{◌≡◌, ◌≢◌, ◌↔◌, ◌≤◌, length, codes, IsOk, IfOk, OnErr};
 ghost use Rattle.dbus_auth.specs.Handshake.{table};
 
 use crate::command::{self, Command};
@@ -66,8 +66,8 @@ impl Auth {
     ///
     /// The answer and the state behind it are those of the table in
     /// `docs/handshake.md`. Where there is no memory for the reply the state
-    /// stays, and the same line may be given again. After `Begin` and
-    /// `Early` the state stays too, and no line is due.
+    /// stays, and the same line may be given again; `BEGIN` needs no memory.
+    /// After `Begin` and `Early` the state stays too, and no line is due.
     pub fn step(&mut self, alloc: Global, line: &[u8]) -> Result<AuthAnswer, WantOfMemory>
         requires { length line.now ≤ 1024 }
         ensures ok { IfOk result (λ answer. (answer, self.new) ≡ step self.old line.now) }
@@ -76,6 +76,7 @@ impl Auth {
             ↔ ((line.now ≡ codes "BEGIN") × (self.old.state ≡ AuthState.WaitingForBegin))) }
         ensures early { IfOk result (λ answer. (answer ≡ AuthAnswer.Early)
             ↔ ((line.now ≡ codes "BEGIN") × (self.old.state ≢ AuthState.WaitingForBegin))) }
+        ensures begin_needs_no_memory { line.now ≡ codes "BEGIN" → IsOk result }
         ensures err { OnErr result (self.new ≡ self.old) }
     {
         let (answer, state) = cell(alloc, &self.guid, self.state, command::read(line))?;
@@ -92,7 +93,8 @@ fn cell(
     state: AuthState,
     command: Command,
 ) -> Result<(AuthAnswer, AuthState), WantOfMemory>
-    ensures { IfOk result (λ cell. cell ≡ table guid.now state command) }
+    ensures ok { IfOk result (λ cell. cell ≡ table guid.now state command) }
+    ensures begin_needs_no_memory { command ≡ Command.Begin → IsOk result }
 {
     let (reply, next) = match (command, state) {
         (Command::Begin, AuthState::WaitingForBegin) => return Ok((AuthAnswer::Begin, state)),
