@@ -2,6 +2,8 @@ pub mod Finds
 pub mod ValidLaws
 pub mod Histories
 pub mod Silence
+pub mod Apart
+pub mod OpeningLaws
 pub mod ViewLaws
 pub mod EnterLaws
 pub mod PlaceLaws

@@ -1,8 +1,10 @@
 -- Laws over histories, which the public functions of src/laws.rt state.
-use Rattle.std.specs.Prelude.{◌≡◌, ℕ, ◌+◌, List, ◌++◌, true, false}
+use Rattle.std.specs.Prelude.{◌≡◌, ℕ, ◌+◌, List, ◌++◌, true, false, map, Some}
 use Rattle.portal_model.specs.declared.entry.Entry.{Entry}
 use Rattle.portal_model.specs.History.{run, Legal, cost, of_seat, makes, replies}
+use Rattle.portal_model.specs.Opening.{SoundOpening, ValidOpening, file_of}
 use Rattle.portal_model.specs.State.{State}
+use Rattle.portal_model.specs.declared.opening.OpeningState.{OpeningState}
 use Rattle.portal_model.specs.Step.{after, reply_at}
 use Rattle.portal_model.specs.Effect.{apply_all}
 use Rattle.portal_model.specs.Lawful.{Lawful}
@@ -47,3 +49,7 @@ ViewsFramed = (app : List ℕ) (s t : State) → s.limits ≡ t.limits → s.doc
 -- replies to its trace
 abbrev pub Isolated : Type 0
 Isolated = (app : List ℕ) (s : State) (h : List Entry) → s.told ≡ true → Legal s h → replies app s h ≡ app_run (trace app s h)
+
+-- an opening state whose records are sound is valid, over a tree that tells its files
+abbrev pub OpeningsAreValid : Type 0
+OpeningsAreValid = (o : OpeningState) → SoundOpening o → ValidOpening (Some (map file_of o.files)) o

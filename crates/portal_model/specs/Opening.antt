@@ -1,7 +1,7 @@
 -- The state that an opening state of a portal stands for.
-use Rattle.std.specs.Prelude.{◌≡◌, ℕ, ◌==◌, ◌/◌, ◌%◌, List, [], ◌∷◌, ◌++◌, map, cond, not, Bool, true, false, Option, Some, None}
-use Rattle.std.specs.List.{filter}
-use Rattle.portal_base.specs.Names.{is_same}
+use Rattle.std.specs.Prelude.{◌≡◌, ◌≤◌, ◌<◌, ◌^◌, length, nat_eq, ℕ, ◌==◌, ◌/◌, ◌%◌, List, [], ◌∷◌, ◌++◌, map, cond, not, Bool, true, false, Option, Some, None}
+use Rattle.std.specs.List.{filter, flat_map, list_all, IsDistinct}
+use Rattle.portal_base.specs.Names.{is_same, is_app_name, is_host_path}
 use Rattle.portal_base.specs.declared.names.doc_id.DocId.{DocId}
 use Rattle.portal_model.specs.declared.opening.FileItem.{FileItem}
 use Rattle.portal_model.specs.declared.opening.OpeningDocument.{OpeningDocument}
@@ -12,8 +12,9 @@ use Rattle.portal_model.specs.declared.rights.Right.TheVariants.{Read, Write, Gr
 use Rattle.portal_model.specs.declared.state.Document.{Document}
 use Rattle.portal_model.specs.declared.state.File.{File}
 use Rattle.portal_model.specs.declared.state.Triple.{Triple}
+use Rattle.portal_model.specs.Content.{is_folder}
 use Rattle.portal_model.specs.State.{State, bit_of}
-use Rattle.portal_model.specs.Valid.{Valid}
+use Rattle.portal_model.specs.Valid.{Valid, applications_limit, is_sound_entry, same_entry}
 
 abbrev pub id_of : ℕ → DocId
 id_of number = record { number = number }
@@ -34,8 +35,7 @@ triples_of number grant = triple_kept number grant Read ++ (triple_kept number g
 
 -- the lists that f makes of the items, one after another
 abbrev pub each : {X Y : Type 0} → (X → List Y) → List X → List Y
-each f [] = []
-each f (x ∷ xs) = f x ++ each f xs
+each f xs = flat_map f xs
 
 abbrev pub triples_kept : OpeningDocument → List Triple
 triples_kept d = each (triples_of d.kept.number) d.kept.grants
@@ -83,3 +83,26 @@ pub record ValidOpening (files : Option (List File)) (o : OpeningState) : Type 0
   pub valid : Valid (opened_over files o)
   pub made : o.made ≡ map (λ d. id_of d.kept.number) o.documents
   pub applications : o.applications ≡ first_named (each names_kept o.documents)
+
+-- no application has two records in a document
+abbrev pub GrantsDiffer : List OpeningDocument → Type 0
+GrantsDiffer [] = Unit {0}
+GrantsDiffer (d ∷ ds) = IsDistinct is_same (names_kept d) × GrantsDiffer ds
+
+-- what the records of an opening state have to keep, so that it is valid
+pub record SoundOpening (o : OpeningState) : Type 0 where
+  pub made : o.made ≡ map (λ d. id_of d.kept.number) o.documents
+  pub applications : o.applications ≡ first_named (each names_kept o.documents)
+  pub numbers_differ : IsDistinct nat_eq (map (λ d. d.kept.number) o.documents)
+  pub paths : list_all (λ d. is_host_path d.kept.path) o.documents ≡ true
+  pub names : list_all (λ d. list_all is_app_name (names_kept d)) o.documents ≡ true
+  pub grants_differ : GrantsDiffer o.documents
+  pub entries_differ : IsDistinct same_entry o.entries
+  pub entries_sound : list_all is_sound_entry o.entries ≡ true
+  pub files_differ : IsDistinct is_same (map (λ f. f.path) o.files)
+  pub files_apart : list_all (λ f. not (is_folder (map file_of o.files) f.path)) o.files ≡ true
+  pub documents_within : length o.documents ≤ o.limits.documents
+  pub made_within : length o.documents ≤ o.limits.made
+  pub applications_within : length o.applications ≤ applications_limit
+  pub made_limit : o.limits.made < 2 ^ 32
+  pub queued_limit : o.limits.queued < 2 ^ 32

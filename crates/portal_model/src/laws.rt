@@ -6,6 +6,7 @@ ghost use Rattle.portal_model.specs.Laws.{
   CostsJoin,
   Isolated,
   LegalJoins,
+  OpeningsAreValid,
   RunsJoin,
   SeatsJoin,
   StaysValid,
@@ -58,4 +59,9 @@ pub fn steps_are_seen()
 /// rights and bytes that it holds.
 pub fn applications_are_isolated()
     ensures { Isolated }
+{}
+
+/// The state that sound records and files stand for is valid.
+pub fn sound_openings_are_valid()
+    ensures { OpeningsAreValid }
 {}
