@@ -1,0 +1,6 @@
+pub mod Paths
+pub mod TreeLemmas
+pub mod NameLemmas
+pub mod Loops
+pub mod ValidNames
+pub mod Steps

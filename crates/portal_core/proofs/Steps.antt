@@ -1,0 +1,122 @@
+-- One more entry of a history.
+use Rattle.std.proofs.Common.{◌≡◌, ◌+◌, ◌≤◌, ℕ, List, [], ◌∷◌, ◌++◌, Bool, true, false, cond, Option, Some, None, is_some, refl, sym, ap, ◌∙◌, subst, arith}
+use Rattle.portal_base.specs.declared.files.Look.{Look}
+use Rattle.portal_base.specs.declared.who.Kind.{Kind}
+use Rattle.portal_base.specs.declared.who.Who.{Who}
+use Rattle.portal_model.specs.declared.entry.Entry.{Entry}
+use Rattle.portal_model.specs.declared.entry.Given.{Given}
+use Rattle.portal_model.specs.declared.opening.OpeningState.{OpeningState}
+use Rattle.portal_model.specs.declared.reply.Answer.{Answer}
+use Rattle.portal_model.specs.declared.reply.Answer.TheVariants as Answer
+use Rattle.portal_model.specs.declared.reply.Code.TheVariants as Code
+use Rattle.portal_model.specs.declared.request.NodeOp.{NodeOp}
+use Rattle.portal_model.specs.declared.request.NodeOp.TheVariants as NodeOp
+use Rattle.portal_model.specs.declared.request.NodeRequest.{NodeRequest}
+use Rattle.portal_model.specs.declared.request.Request.TheVariants as Request
+use Rattle.portal_model.specs.declared.state.Connection.{Connection}
+use Rattle.portal_model.specs.declared.state.Document.{Document}
+use Rattle.portal_model.specs.declared.state.Triple.{Triple}
+use Rattle.portal_model.specs.Enter.{entered, new_connection}
+use Rattle.portal_model.specs.GetAttr.{by_handle_or_place, get_attr_looks}
+use Rattle.portal_model.specs.History.{run, cost, cost_of}
+use Rattle.portal_model.specs.Lawful.{Lawful}
+use Rattle.portal_model.specs.Opening.{opened}
+use Rattle.portal_model.specs.Place.{place_of}
+use Rattle.portal_model.specs.State.{State, connection_of}
+use Rattle.portal_model.specs.Step.{after, all_told, node_answer, node_looks, node_op_looks, node_step, is_mount, mount_of, reply_with, with_signals}
+use Rattle.portal_model.specs.Valid.{is_silent}
+use Rattle.portal_model.proofs.Histories.{run-append, Legal-append, cost-append}
+use Rattle.portal_model.proofs.Silence.{all_told-silent, node_step-silent, run-silent}
+use Rattle.portal_model.proofs.ValidLaws.{run-Valid}
+use Rattle.portal_core.specs.Held.{Stands, state_of}
+use Rattle.portal_core.specs.Served.{Serves, entry_of, flags_of, looked, taken}
+
+-- ---- a request on a node, in any state
+
+mount_found : (o : Option Connection) (c : Connection) → mount_of o ≡ Some c → o ≡ Some c
+mount_found None c e = cc
+mount_found (Some d) c e = elim (is_mount d.kind) as (λ b. cond b (Some d) None ≡ Some c → Some d ≡ Some c) [ true ↦ λ h. h | false ↦ λ h. cc ] e
+
+pub serves_absent : (s : State) (seat : ℕ) (r : NodeRequest) → mount_of (connection_of s.connections seat) ≡ None → Serves s seat r (Answer.Refused Code.NotHere) None
+serves_absent s seat r e = record { answer_is = rw e refl; look_is = rw e refl }
+
+module _ (s : State) (seat : ℕ) (r : NodeRequest) (c : Connection) (here : mount_of (connection_of s.connections seat) ≡ Some c) where
+  replied : (op : NodeOp) (given : Given) → r.op ≡ op → is_silent s.connections ≡ true →
+      reply_with [] (by_handle_or_place r (flags_of op) (place_of s c.who r.node) given.looks) ≡ (node_step s r given (Some c)).1
+  replied (NodeOp.GetAttr flags fh) given k silent =
+      ap (λ (x : NodeOp). reply_with [] (node_answer s c.who r x given).1) (sym k)
+      ∙ sym (ap (λ x. x.1) (node_step-silent s seat c r given (mount_found (connection_of s.connections seat) c here) silent))
+
+  looks_are : (op : NodeOp) → r.op ≡ op → get_attr_looks s c.who r (flags_of op) ≡ node_looks s r (Some c)
+  looks_are (NodeOp.GetAttr flags fh) k = ap (λ (x : NodeOp). node_op_looks s c.who r x) (sym k)
+
+  pub serves_get_attr : is_silent s.connections ≡ true → (answer : Answer) (look : Option Look) → answer ≡ by_handle_or_place r (flags_of r.op) (place_of s c.who r.node) (taken look) →
+      taken look ≡ get_attr_looks s c.who r (flags_of r.op) → Serves s seat r answer look
+  serves_get_attr silent answer look a l = record {
+    answer_is = rw here (ap (reply_with []) a ∙ replied r.op (looked (taken look)) refl silent);
+    look_is = rw here (l ∙ looks_are r.op refl);
+  }
+
+-- a request on a node leaves a state without unsent changes
+node_kept : (s : State) (r : NodeRequest) (op : NodeOp) (given : Given) (o : Option Connection) → r.op ≡ op → is_silent s.connections ≡ true → (node_step s r given o).0 ≡ s
+node_kept s r op given None k silent = refl
+node_kept s r (NodeOp.GetAttr flags fh) given (Some c) k silent = rw k (all_told-silent c.seat s silent)
+
+-- ---- the portal's lists
+
+module _ (o : OpeningState) (h : List Entry) (limit : ℕ) (ds : List Document) (rs : List Triple) (cs : List Connection) (p : Stands o h limit ds rs cs) where
+  here : State
+  here = state_of o ds rs cs
+
+  silent : is_silent cs ≡ true
+  silent = subst (λ (s : State). is_silent s.connections ≡ true) p.state_is (run-silent h (opened o) refl)
+
+  -- what is true of the lists' state is true of the state after the history
+  pub serves_now : (seat : ℕ) (r : NodeRequest) (answer : Answer) (look : Option Look) → Serves (state_of o ds rs cs) seat r answer look → Serves (run (opened o) h) seat r answer look
+  serves_now seat r answer look k = subst (λ (s : State). Serves s seat r answer look) (sym p.state_is) k
+
+  pub is_silent_now : is_silent cs ≡ true
+  is_silent_now = silent
+
+  stands_more : (e : Entry) (cs' : List Connection) → Lawful (state_of o ds rs cs) e → after (state_of o ds rs cs) e ≡ state_of o ds rs cs' → cost h + cost_of e.request ≤ o.limits.history →
+      Stands o (h ++ e ∷ []) limit ds rs cs'
+  stands_more e cs' k a room = record {
+    legal = Legal-append h (e ∷ []) (opened o) p.legal (record { opening = run-Valid h (opened o) p.legal.opening; lawful = (subst (λ (s : State). Lawful s e) (sym p.state_is) k, tt) });
+    state_is = run-append h (e ∷ []) (opened o) ∙ (ap (λ (s : State). after s e) p.state_is ∙ a);
+    limit_is = p.limit_is;
+    within = rw (cost-append h (e ∷ [])) (omega arith);
+  }
+
+  -- an Enter
+
+  enter_lawful : (seat : ℕ) (who : Who) (kind : Kind) → Lawful (state_of o ds rs cs) (entry_of seat (Request.Enter who kind) [])
+  enter_lawful seat who kind = record { clock = refl; words = refl; numbers = refl; full = refl; looks = refl }
+
+  entered_there : (seat : ℕ) (who : Who) (kind : Kind) (c : Option Connection) → is_some c ≡ true → entered seat who kind cs c ≡ cs
+  entered_there seat who kind None e = cc
+  entered_there seat who kind (Some c) e = refl
+
+  entered_new : (seat : ℕ) (who : Who) (kind : Kind) (c : Option Connection) → is_some c ≡ false → entered seat who kind cs c ≡ cs ++ new_connection seat who kind ∷ []
+  entered_new seat who kind None e = refl
+  entered_new seat who kind (Some c) e = cc
+
+  pub stands_there : (seat : ℕ) (who : Who) (kind : Kind) → is_some (connection_of cs seat) ≡ true → cost h + cost_of (Request.Enter who kind) ≤ o.limits.history →
+      Stands o (h ++ entry_of seat (Request.Enter who kind) [] ∷ []) limit ds rs cs
+  stands_there seat who kind t room =
+      stands_more (entry_of seat (Request.Enter who kind) []) cs (enter_lawful seat who kind) (ap (state_of o ds rs) (entered_there seat who kind (connection_of cs seat) t)) room
+
+  pub stands_new : (seat : ℕ) (who : Who) (kind : Kind) → is_some (connection_of cs seat) ≡ false → cost h + cost_of (Request.Enter who kind) ≤ o.limits.history →
+      Stands o (h ++ entry_of seat (Request.Enter who kind) [] ∷ []) limit ds rs (cs ++ new_connection seat who kind ∷ [])
+  stands_new seat who kind t room =
+      stands_more (entry_of seat (Request.Enter who kind) []) (cs ++ new_connection seat who kind ∷ []) (enter_lawful seat who kind) (ap (state_of o ds rs) (entered_new seat who kind (connection_of cs seat) t)) room
+
+  -- a request on a node
+
+  pub stands_node : (seat : ℕ) (r : NodeRequest) (answer : Answer) (look : Option Look) → Serves (run (opened o) h) seat r answer look → cost h + cost_of (Request.Node r) ≤ o.limits.history →
+      Stands o (h ++ entry_of seat (Request.Node r) (taken look) ∷ []) limit ds rs cs
+  stands_node seat r answer look k room =
+      let k' = subst (λ (s : State). Serves s seat r answer look) p.state_is k in
+      stands_more (entry_of seat (Request.Node r) (taken look)) cs
+      (record { clock = refl; words = refl; numbers = refl; full = refl; looks = k'.look_is })
+      (node_kept (state_of o ds rs cs) r r.op (looked (taken look)) (mount_of (connection_of cs seat)) refl silent)
+      room

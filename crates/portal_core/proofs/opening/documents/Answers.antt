@@ -1,0 +1,8 @@
+use Rattle.portal_base.specs.Names.{is_host_path}
+use Rattle.portal_model.specs.declared.state.Document.{Document}
+use Rattle.portal_model.specs.Opening.{document_kept}
+use Rattle.portal_core.proofs.Loops.{all_map}
+use Rattle.portal_core.proofs.opening.documents.Goals as goal
+
+pub document-requires : goal.document-requires
+document-requires c = all_map document_kept (λ (d : Document). is_host_path d.path) c.args.items.now c.loop-item.item-index c.item-item.result c.loop-item-test.true c.item-item.is c.requires

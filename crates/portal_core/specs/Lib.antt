@@ -1,0 +1,4 @@
+pub mod Stored
+pub mod Served
+pub mod Story
+pub mod Held

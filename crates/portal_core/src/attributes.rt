@@ -1,0 +1,122 @@
+//! FUSE_GETATTR: the attributes of a node, as `include/uapi/linux/fuse.h`
+//! lists them.
+
+ghost use Rattle.std.specs.Prelude.{◌≡◌, map, if◌then◌else◌, [], Some, None};
+ghost use Rattle.portal_model.specs.GetAttr.{by_look, by_handle_or_place, names_handle as is_by_handle, looks_at_place};
+ghost use Rattle.portal_model.specs.Content.{look_at as look_shown};
+ghost use Rattle.portal_model.specs.Opening.{file_of};
+ghost use Rattle.portal_core.specs.Served.{flags_of, sight_in, taken};
+
+use crate::place::{FileSight, sight_at};
+use crate::tree::look_at;
+use portal_base::files::Look;
+use portal_base::who::Who;
+use portal_model::opening::FileItem;
+use portal_model::reply::{Answer, Attr, Code, NodeAnswer};
+use portal_model::request::{NodeOp, NodeRequest};
+use portal_model::state::{Document, Triple};
+
+/// No such file or directory.
+const ENOENT: u32 = 2;
+/// Bad file number.
+const EBADF: u32 = 9;
+
+/// The bit of the flags that says that the request names an open handle.
+const FUSE_GETATTR_FH: u32 = 1;
+
+/// A file that its owner may read.
+const FILE_MODE: u32 = 0o100400;
+/// A file that its owner may read and write.
+const WRITABLE_FILE_MODE: u32 = 0o100600;
+
+/// The unit in which `blocks` counts, in bytes.
+const BLOCK: u64 = 512;
+/// The block size that suits reading, in bytes.
+const PREFERRED_SIZE: u32 = 4096;
+
+/// What a request on a node is answered, and the look at the tree that was
+/// taken for it.
+pub struct NodeDone {
+    /// The answer.
+    pub answer: Answer,
+    /// What the tree showed.
+    pub look: Option<Look>,
+}
+
+impl NodeDone {
+    /// A refusal for which the tree wasn't asked.
+    pub fn refused(code: Code) -> NodeDone
+        ensures { result ≡ record { answer = Answer.Refused code; look = None } }
+    {
+        NodeDone {
+            answer: Answer::Refused(code),
+            look: None,
+        }
+    }
+}
+
+/// Answers a caller's GETATTR of a node, over the portal's lists.
+///
+/// A request that names a handle is refused, since no connection has one
+/// yet.
+pub fn get_attr(
+    documents: &[Document],
+    rights: &[Triple],
+    files: &[FileItem],
+    who: &Who,
+    request: &NodeRequest,
+) -> NodeDone
+    ensures answer { result.answer ≡ by_handle_or_place request.now (flags_of request.now.op) (sight_in documents.now rights.now who.now request.now.node) (taken result.look) }
+    ensures look { taken result.look ≡ (if is_by_handle (flags_of request.now.op) then [] else looks_at_place (look_shown (map file_of files.now)) (sight_in documents.now rights.now who.now request.now.node)) }
+{
+    if names_handle(flags(&request.op)) {
+        return NodeDone::refused(Code::Errno(EBADF));
+    }
+    match sight_at(documents, rights, who, request.node) {
+        None => NodeDone::refused(Code::Errno(ENOENT)),
+        Some(FileSight { path, may_write }) => {
+            let look = look_at(files, path.as_bytes());
+            NodeDone {
+                answer: answer_by_look(request, may_write, look),
+                look: Some(look),
+            }
+        }
+    }
+}
+
+fn flags(op: &NodeOp) -> u32
+    ensures { result ≡ flags_of op.now }
+{
+    match op {
+        NodeOp::GetAttr { flags, .. } => *flags,
+    }
+}
+
+fn names_handle(flags: u32) -> bool
+    ensures { result ≡ is_by_handle flags }
+{
+    flags & FUSE_GETATTR_FH != 0
+}
+
+fn answer_by_look(request: &NodeRequest, may_write: bool, look: Look) -> Answer
+    ensures { result ≡ by_look request.now may_write look }
+{
+    match look {
+        Look::File { size, moment, .. } => Answer::Node(NodeAnswer::Attr(Attr {
+            node: request.node,
+            size,
+            blocks: size.div_ceil(BLOCK),
+            moment,
+            mode: if may_write {
+                WRITABLE_FILE_MODE
+            } else {
+                FILE_MODE
+            },
+            links: 1,
+            uid: request.uid,
+            gid: request.gid,
+            block_size: PREFERRED_SIZE,
+        })),
+        Look::Folder | Look::Missing => Answer::Refused(Code::Errno(ENOENT)),
+    }
+}

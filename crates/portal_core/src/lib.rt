@@ -1,0 +1,11 @@
+//! The portal: it answers requests one at a time, and keeps the history of
+//! all that it answered.
+#![tactic(auto)]
+
+mod attributes;
+pub mod history;
+mod lists;
+mod opening;
+mod place;
+pub mod portal;
+mod tree;

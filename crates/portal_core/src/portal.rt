@@ -1,0 +1,263 @@
+//! The portal.
+
+ghost use Rattle.std.specs.Prelude.{◌≡◌, ◌<◌, ◌≤◌, ◌^◌, [], length, IfErr, IfOk, OnErr, OnOk};
+ghost use Rattle.portal_model.specs.History.{Legal, cost};
+ghost use Rattle.portal_model.specs.Enter.{new_connection};
+ghost use Rattle.portal_model.specs.Opening.{opened};
+ghost use Rattle.portal_model.specs.Step.{reply_with};
+ghost use Rattle.portal_model.specs.Valid.{Valid};
+ghost use Rattle.portal_core.specs.Served.{Serves, entry_of, taken};
+ghost use Rattle.portal_core.specs.Story.{Answers, HasCause, cost_with, limit_of, state_now};
+
+use crate::attributes::{NodeDone, get_attr};
+use crate::history::{History, cost_of};
+use crate::lists::{connection_of, mount_of};
+use crate::opening;
+use portal_base::files::Look;
+use portal_base::list::List;
+use portal_base::memory::{Replica, WantOfMemory};
+use portal_base::who::{Kind, Who};
+use portal_model::entry::{Entry, Fault, Given};
+use portal_model::opening::OpeningState;
+use portal_model::reply::{Answer, Code, Refused, Reply};
+use portal_model::request::{NodeRequest, Request};
+use portal_model::state::{Connection, Document, Triple};
+use std::alloc::Global;
+use std::marker::Model;
+
+/// A portal over plain lists and the files of its opening state.
+///
+/// Contracts see its opening state and its history. The history is legal, and
+/// the portal is in the state after it.
+pub struct Portal {
+    opening: OpeningState,
+    documents: List<Document>,
+    rights: List<Triple>,
+    connections: List<Connection>,
+    history: History,
+}
+
+impl Model for Portal {
+    ghost use Rattle.portal_core.specs.Story.{Story};
+    ghost use Rattle.portal_core.specs.Held.{Stands};
+
+    ghost Value = { Story };
+
+    ghost view = { λ p. record { opening = p.opening; history = p.history.entries } };
+
+    ghost invariant = { λ p. Stands p.opening p.history.entries p.history.limit p.documents p.rights p.connections };
+}
+
+impl Portal {
+    /// A portal in an opening state, which is valid.
+    pub fn start(alloc: Global, opening: &OpeningState) -> Result<Portal, WantOfMemory>
+        requires { Valid (opened opening.now) }
+        ensures { IfOk result (λ portal. portal ≡ record { opening = opening.now; history = [] }) }
+    {
+        let documents = opening::documents(alloc, opening.documents.as_slice())?;
+        let rights = opening::rights(alloc, opening.documents.as_slice())?;
+        Ok(Portal {
+            opening: opening::copied(alloc, opening)?,
+            documents,
+            rights,
+            connections: List::new(alloc),
+            history: History::new(alloc, &opening.limits),
+        })
+    }
+
+    /// The opening state of the history.
+    pub fn opening(&self) -> &OpeningState
+        ensures { result.now ≡ self.now.opening }
+    {
+        &self.opening
+    }
+
+    /// The history: every request that was answered, in order.
+    pub fn history(&self) -> &History
+        ensures entries { result.now.entries ≡ self.now.history }
+        ensures limit { result.now.limit ≡ limit_of self.now }
+    {
+        &self.history
+    }
+
+    /// What is true of every portal: its history is legal, within its limit
+    /// and countable, and its state is valid.
+    pub fn known(&self)
+        ensures legal { Legal (opened self.now.opening) self.now.history }
+        ensures valid { Valid (state_now self.now) }
+        ensures within { cost self.now.history ≤ limit_of self.now }
+        ensures short { length self.now.history < 2 ^ 64 }
+    {
+        let _ = self.history.len();
+    }
+
+    /// Answers a request of a seat, which is a number from 1.
+    ///
+    /// The reply is that of one step of the sequential portal, from the state
+    /// after the history, which grows by this request. A refusal leaves the
+    /// portal as it was. `Full` comes exactly where the history with this
+    /// request would cost more than its limit; want of memory may come at any
+    /// other request.
+    pub fn ask(&mut self, alloc: Global, seat: u32, request: Request) -> Result<Reply, Refused>
+        requires { 1 ≤ seat }
+
+        ensures opening { self.new.opening ≡ self.old.opening }
+        ensures ok { IfOk result (Answers self.old self.new seat request) }
+        ensures err { OnErr result (self.new ≡ self.old) }
+
+        // Both ways: it is full exactly where the cost would pass the limit.
+        ensures full { limit_of self.old < cost_with self.old request → result ≡ Err (Refused.Full (cost self.old.history) (limit_of self.old)) }
+        ensures cause { IfErr result (HasCause self.old request) }
+
+        // Whatever it answers.
+        ensures legal { Legal (opened self.new.opening) self.new.history }
+        ensures valid { Valid (state_now self.new) }
+        ensures within { cost self.new.history ≤ limit_of self.new }
+        ensures short { length self.new.history < 2 ^ 64 }
+    {
+        let answered = self.answer(alloc, seat, request);
+        self.known();
+        answered
+    }
+
+    fn answer(&mut self, alloc: Global, seat: u32, request: Request) -> Result<Reply, Refused>
+        ensures opening { self.new.opening ≡ self.old.opening }
+        ensures ok { IfOk result (Answers self.old self.new seat request) }
+        ensures err { OnErr result (self.new ≡ self.old) }
+        ensures full { limit_of self.old < cost_with self.old request → result ≡ Err (Refused.Full (cost self.old.history) (limit_of self.old)) }
+        ensures cause { IfErr result (HasCause self.old request) }
+    {
+        self.check_cost(&request)?;
+        match request {
+            Request::Enter { who, kind } => Ok(self.enter(alloc, seat, who, kind)?),
+            Request::Node(node) => Ok(self.node(alloc, seat, node)?),
+        }
+    }
+
+    /// Refuses a request with which the history would cost too much.
+    fn check_cost(&self, request: &Request) -> Result<(), Refused>
+        ensures fits { OnOk result (cost_with self.now request.now ≤ limit_of self.now) }
+        ensures full { IfErr result (λ e. (e ≡ Refused.Full (cost self.now.history) (limit_of self.now)) × (limit_of self.now < cost_with self.now request.now)) }
+    {
+        let cost = self.history.cost();
+        let limit = self.history.limit();
+        if cost_of(request) > limit - cost {
+            return Err(Refused::Full { cost, limit });
+        }
+        Ok(())
+    }
+
+    fn enter(
+        &mut self,
+        alloc: Global,
+        seat: u32,
+        who: Who,
+        kind: Kind,
+    ) -> Result<Reply, WantOfMemory>
+        requires { cost_with self.old (Request.Enter who kind) ≤ limit_of self.old }
+        ensures opening { self.new.opening ≡ self.old.opening }
+        ensures ok { IfOk result (Answers self.old self.new seat (Request.Enter who kind)) }
+        ensures err { OnErr result (self.new ≡ self.old) }
+    {
+        let is_here = connection_of(self.connections.as_slice(), seat).is_some();
+        let request = Request::Enter {
+            who: who.replica(alloc)?,
+            kind,
+        };
+        let entry = entry_made(alloc, seat, request, None)?;
+        self.history.reserve(1)?;
+        if is_here {
+            self.history.push(entry);
+            return Ok(silent_reply(alloc, Answer::Refused(Code::NotHere)));
+        }
+        self.connections
+            .push(opened_connection(alloc, seat, who, kind))?;
+        self.history.push(entry);
+        Ok(silent_reply(alloc, Answer::Done))
+    }
+
+    fn node(
+        &mut self,
+        alloc: Global,
+        seat: u32,
+        request: NodeRequest,
+    ) -> Result<Reply, WantOfMemory>
+        requires { cost_with self.old (Request.Node request) ≤ limit_of self.old }
+        ensures opening { self.new.opening ≡ self.old.opening }
+        ensures ok { IfOk result (Answers self.old self.new seat (Request.Node request)) }
+        ensures err { OnErr result (self.new ≡ self.old) }
+    {
+        let NodeDone { answer, look } = self.serve(seat, &request);
+        let entry = entry_made(alloc, seat, Request::Node(request), look)?;
+        self.history.reserve(1)?;
+        self.history.push(entry);
+        Ok(silent_reply(alloc, answer))
+    }
+
+    /// Serves a request of a seat on a node, which changes nothing.
+    fn serve(&self, seat: u32, request: &NodeRequest) -> NodeDone
+        ensures { Serves (state_now self.now) seat request.now result.answer result.look }
+    {
+        let Some(connection) = mount_of(self.connections.as_slice(), seat) else {
+            return NodeDone::refused(Code::NotHere);
+        };
+        get_attr(
+            self.documents.as_slice(),
+            self.rights.as_slice(),
+            self.opening.files.as_slice(),
+            &connection.who,
+            request,
+        )
+    }
+}
+
+/// The entry of a request for which the tree showed no more than this.
+fn entry_made(
+    alloc: Global,
+    seat: u32,
+    request: Request,
+    look: Option<Look>,
+) -> Result<Entry, WantOfMemory>
+    ensures { IfOk result (λ entry. entry ≡ entry_of seat request (taken look)) }
+{
+    let mut looks = List::new(alloc);
+    if let Some(look) = look {
+        looks.push(look)?;
+    }
+    Ok(Entry {
+        seat,
+        request,
+        given: Given {
+            now: None,
+            words: List::new(alloc),
+            numbers: List::new(alloc),
+            looks,
+            full: false,
+            fault: Fault::None,
+        },
+    })
+}
+
+/// A connection on which nothing happened yet.
+fn opened_connection(alloc: Global, seat: u32, who: Who, kind: Kind) -> Connection
+    ensures { result ≡ new_connection seat who kind }
+{
+    Connection {
+        seat,
+        who,
+        kind,
+        queue: List::new(alloc),
+        opens: 0,
+        unsent: List::new(alloc),
+    }
+}
+
+/// A reply that tells no change of the permission store.
+fn silent_reply(alloc: Global, answer: Answer) -> Reply
+    ensures { result ≡ reply_with [] answer }
+{
+    Reply {
+        signals: List::new(alloc),
+        answer,
+    }
+}
