@@ -1,5 +1,5 @@
 -- What the outside gives: sources, sinks, clocks and words, that may tell what they hold.
-use Rattle.std.specs.Prelude.{◌≡◌, ◌⊎◌, ℕ, ◌+◌, ◌-◌, ◌^◌, ◌≤◌, min, max, List, [], ◌∷◌, ◌++◌, length, take, Option, Some, None, IfSome, MatchOption}
+use Rattle.std.specs.Prelude.{◌≡◌, ◌⊎◌, ℕ, ◌+◌, ◌-◌, ◌^◌, ◌≤◌, min, max, List, [], ◌∷◌, ◌++◌, length, take, Option, Some, None, IfSome}
 use Rattle.portal_base.specs.declared.outside.WriteAnswer.{WriteAnswer}
 use Rattle.portal_base.specs.declared.outside.WriteAnswer.TheVariants.{Done, Failed}
 use Rattle.portal_base.specs.declared.outside.ReadAnswer.{ReadAnswer}

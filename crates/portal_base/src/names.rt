@@ -6,6 +6,7 @@ use thiserror::Error;
 pub mod app_id;
 pub mod doc_id;
 pub mod host_path;
+mod path_reader;
 
 pub use app_id::AppId;
 pub use doc_id::DocId;

@@ -1,13 +1,16 @@
 //! The names of applications.
 
-ghost use Rattle.std.specs.Prelude.{◌≡◌, IfOk, IfErr, true};
-ghost use Rattle.portal_base.specs.Names.{is_app_name};
+ghost use Rattle.std.specs.Prelude.{◌≡◌, IfOk, IfErr, IfNone, IfSome, true};
+ghost use Rattle.portal_base.specs.Names.{is_app_name, is_name_byte, is_nothing_or_dots, has_app_form, app_limit, IsFirstBreak};
 
 use crate::list::{ByteList, List};
 use crate::memory::{Replica, WantOfMemory};
 use crate::names::NameError;
 use std::alloc::Global;
 use std::marker::Model;
+
+/// The greatest length of a name, in bytes.
+const LIMIT: usize = 255;
 
 /// The name of an application, which contracts see as its bytes.
 ///
@@ -40,7 +43,12 @@ impl AppId {
         ensures ok { IfOk result (λ name. (name ≡ text.now) × (is_app_name text.now ≡ true)) }
         ensures bad { IfErr result (RefusesApp text.now) }
     {
-        Err(NameError::Memory)
+        match first_break(text) {
+            Some(at) => Err(NameError::BadName { at }),
+            None => Ok(AppId {
+                text: List::copied(alloc, text)?,
+            }),
+        }
     }
 
     /// The bytes of the name, which keep its rule.
@@ -57,5 +65,44 @@ impl Replica for AppId {
         Ok(AppId {
             text: List::copied(alloc, self.text.as_slice())?,
         })
+    }
+}
+
+/// The first place at which a text breaks the rule of an application's name.
+fn first_break(text: &[u8]) -> Option<u32>
+    ensures none { IfNone result (is_app_name text.now ≡ true) }
+    ensures some { IfSome result (IsFirstBreak has_app_form app_limit text.now) }
+{
+    for (at, byte) in text.iter().enumerate() {
+        if at == LIMIT {
+            return Some(at as u32);
+        }
+        if !is_name_byte(*byte) {
+            return Some(at as u32);
+        }
+    }
+    if is_nothing_or_dots(text) {
+        Some(text.len() as u32)
+    } else {
+        None
+    }
+}
+
+/// Says whether a byte may stand in a name.
+fn is_name_byte(byte: u8) -> bool
+    ensures { result ≡ is_name_byte byte }
+{
+    byte.is_ascii_alphanumeric() || byte == b'.' || byte == b'_' || byte == b'-'
+}
+
+/// Says whether a text is empty, `.` or `..`.
+fn is_nothing_or_dots(text: &[u8]) -> bool
+    ensures { result ≡ is_nothing_or_dots text.now }
+{
+    match text {
+        [] => true,
+        [only] => *only == b'.',
+        [first, second] => *first == b'.' && *second == b'.',
+        _ => false,
     }
 }

@@ -1,12 +1,14 @@
 //! Paths on the host.
 
-ghost use Rattle.std.specs.Prelude.{◌≡◌, IfOk, IfErr, true, IsTrue};
-ghost use Rattle.portal_base.specs.Names.{is_host_path, child_of, parent_of, name_of, is_in_own_folder};
+ghost use Rattle.std.specs.Prelude.{◌≡◌, ◌<◌, ◌≤◌, ◌-◌, IfOk, IfErr, true, not, length, slice_index};
+ghost use Rattle.std.specs.List.{suffix_len};
+ghost use Rattle.portal_base.specs.Names.{is_host_path, child_of, parent_of, name_of, is_in_own_folder, is_same, is_slash, root};
 
 use crate::list::{ByteList, List};
 use crate::memory::{Replica, WantOfMemory};
 use crate::names::NameError;
 use crate::names::app_id::AppId;
+use crate::names::path_reader::first_break;
 use std::alloc::Global;
 use std::marker::Model;
 
@@ -43,7 +45,12 @@ impl HostPath {
         ensures ok { IfOk result (λ path. (path ≡ text.now) × (is_host_path text.now ≡ true)) }
         ensures bad { IfErr result (RefusesPath text.now) }
     {
-        Err(NameError::Memory)
+        match first_break(text) {
+            Some(at) => Err(NameError::BadName { at }),
+            None => Ok(HostPath {
+                text: List::copied(alloc, text)?,
+            }),
+        }
     }
 
     /// The path with a name behind it; `BadName` tells the place in the joined
@@ -52,14 +59,43 @@ impl HostPath {
         ensures ok { IfOk result (λ path. (path ≡ child_of self.now name.now) × (is_host_path (child_of self.now name.now) ≡ true)) }
         ensures bad { IfErr result (RefusesPath (child_of self.now name.now)) }
     {
-        Err(NameError::Memory)
+        let text = joined(alloc, self.as_bytes(), name)?;
+        match first_break(text.as_slice()) {
+            Some(at) => Err(NameError::BadName { at }),
+            None => Ok(HostPath { text }),
+        }
     }
 
     /// The path without its last part; of `/` it is `/`.
     pub fn parent(&self, alloc: Global) -> Result<HostPath, WantOfMemory>
         ensures { IfOk result (λ path. path ≡ parent_of self.now) }
     {
-        Err(WantOfMemory)
+        Ok(HostPath {
+            text: List::copied(alloc, parent_of(self.as_bytes()))?,
+        })
+    }
+
+    /// The last part of the path; of `/` it is empty.
+    pub fn name(&self) -> &[u8]
+        ensures { result.now ≡ name_of self.now }
+    {
+        let text = self.as_bytes();
+        text.split_at(behind_last_slash(text)).1
+    }
+
+    /// Says whether the path is the own folder of an application, `/app/NAME`,
+    /// or lies below it.
+    pub fn in_folder_of(&self, app: &AppId) -> bool
+        ensures { result ≡ is_in_own_folder app.now self.now }
+    {
+        let Some(below) = self.as_bytes().strip_prefix(b"/app/") else {
+            return false;
+        };
+        match below.strip_prefix(app.as_bytes()) {
+            Some([]) => true,
+            Some([first, ..]) => *first == b'/',
+            None => false,
+        }
     }
 
     /// The bytes of the path, which keep its rule.
@@ -77,4 +113,51 @@ impl Replica for HostPath {
             text: List::copied(alloc, self.text.as_slice())?,
         })
     }
+}
+
+/// A path and a name with one slash between them.
+fn joined(alloc: Global, path: &[u8], name: &[u8]) -> Result<ByteList, WantOfMemory>
+    ensures { IfOk result (λ text. text ≡ child_of path.now name.now) }
+{
+    let mut text = List::copied(alloc, path)?;
+    if !is_root(path) {
+        text.push(b'/')?;
+    }
+    text.extend_from_slice(name)?;
+    Ok(text)
+}
+
+/// Says whether a text is `/`.
+fn is_root(text: &[u8]) -> bool
+    ensures { result ≡ is_same text.now root }
+{
+    match text {
+        [only] => *only == b'/',
+        _ => false,
+    }
+}
+
+/// The place just behind the last slash, or 0 where there is none.
+fn behind_last_slash(text: &[u8]) -> usize
+    ensures within { result ≤ length text.now }
+    ensures place { result ≡ length text.now - suffix_len (λ b. not (is_slash b)) text.now }
+    ensures slash { 0 < result → slice_index text.now (result - 1) ≡ 47 }
+{
+    let mut at = text.len();
+    while at > 0 && text[at - 1] != b'/' {
+        at -= 1;
+    }
+    at
+}
+
+/// What stands ahead of the last slash, or the root.
+fn parent_of(text: &[u8]) -> &[u8]
+    ensures value { result.now ≡ parent_of text.now }
+    ensures rule { is_host_path text.now ≡ true → is_host_path result.now ≡ true }
+{
+    let behind = behind_last_slash(text);
+    if behind <= 1 {
+        return b"/";
+    }
+    text.split_at(behind - 1).0
 }
