@@ -29,10 +29,19 @@ impl Replica for Look {
 }
 
 /// The name of a file in a tree.
-#[derive(Debug, Drop)]
+#[derive(Debug, Drop, PartialEq, Eq)]
 pub struct FileName {
     /// The path.
     pub path: HostPath,
     /// Which of the files that the path has had.
     pub generation: u64,
+}
+
+impl Replica for FileName {
+    fn replica(&self, alloc: Global) -> Result<FileName, WantOfMemory> {
+        Ok(FileName {
+            path: self.path.replica(alloc)?,
+            generation: self.generation,
+        })
+    }
 }

@@ -1,6 +1,8 @@
 //! Limits and settings of a portal.
 
+use crate::memory::{Replica, WantOfMemory};
 use crate::names::host_path::HostPath;
+use std::alloc::Global;
 
 /// The limits of a portal, in items or bytes.
 #[derive(Clone, Copy, Debug, PartialEq, Eq)]
@@ -19,6 +21,12 @@ pub struct Limits {
     pub file_bytes: u64,
 }
 
+impl Replica for Limits {
+    fn replica(&self, _alloc: Global) -> Result<Limits, WantOfMemory> {
+        Ok(*self)
+    }
+}
+
 /// What a portal is set to.
 #[derive(Debug, Drop)]
 pub struct Settings {
@@ -28,4 +36,14 @@ pub struct Settings {
     pub mountpoint: HostPath,
     /// The bus identifier that the handshake tells.
     pub guid: [u8; 16],
+}
+
+impl Replica for Settings {
+    fn replica(&self, alloc: Global) -> Result<Settings, WantOfMemory> {
+        Ok(Settings {
+            limits: self.limits,
+            mountpoint: self.mountpoint.replica(alloc)?,
+            guid: self.guid,
+        })
+    }
 }

@@ -3,7 +3,7 @@
 //! It is a `Vec` whose address and capacity no contract sees, so that two
 //! lists of the same items are equal.
 
-ghost use Rattle.std.specs.Prelude.{◌≡◌, ℕ, ◌+◌, ◌<◌, ◌≤◌, List, [], ◌∷◌, ◌++◌, length, IfOk, OnOk, OnErr, IfSome, IsTrue, ◌↔◌, slice_get, option_copied, MatchOption, take, slice_set, remove, Some};
+ghost use Rattle.std.specs.Prelude.{◌≡◌, ℕ, ◌+◌, ◌-◌, ◌<◌, ◌≤◌, List, [], ◌∷◌, ◌++◌, length, IfOk, OnOk, OnErr, IfSome, IsTrue, ◌↔◌, slice_get, option_copied, MatchOption, take, drop, slice_set, remove, Some};
 ghost use Rattle.std.specs.List.{AllZip};
 ghost use Rattle.std.specs.Cmp.Lexicographic.{pointwise, lists_per, lists_equiv};
 
@@ -82,6 +82,20 @@ impl<T> List<T> {
         self.inner.get(index)
     }
 
+    /// The first item, or `None` of the empty list.
+    pub fn first(&self) -> Option<&T>
+        ensures { option_copied result ≡ slice_get self.now 0 }
+    {
+        self.inner.as_slice().first()
+    }
+
+    /// The last item, or `None` of the empty list.
+    pub fn last(&self) -> Option<&T>
+        ensures { option_copied result ≡ slice_get self.now (length self.now - 1) }
+    {
+        self.inner.as_slice().last()
+    }
+
     /// The items, one after another.
     pub fn iter(&self) -> slice::Iter<'_, T> {
         self.inner.iter()
@@ -106,6 +120,14 @@ impl<T: Copy> List<T> {
     {
         self.inner.extend_from_slice(items)?;
         Ok(())
+    }
+
+    /// Writes items over as many others, from a place on.
+    pub fn overwrite(&mut self, at: usize, items: &[T])
+        requires { at + length items.now ≤ length self.old }
+        ensures { self.new ≡ take at self.old ++ (items.now ++ drop (at + length items.now) self.old) }
+    {
+        self.inner[at..at + items.len()].copy_from_slice(items);
     }
 
     /// A list of a slice's items.

@@ -60,6 +60,12 @@ impl Replica for u64 {
     }
 }
 
+impl Replica for usize {
+    fn replica(&self, _alloc: Global) -> Result<usize, WantOfMemory> {
+        Ok(*self)
+    }
+}
+
 impl<T: Replica> Replica for Option<T> {
     fn replica(&self, alloc: Global) -> Result<Option<T>, WantOfMemory> {
         match self {

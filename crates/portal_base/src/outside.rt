@@ -7,6 +7,12 @@
 ghost use Rattle.std.specs.Prelude.{◌≡◌, ℕ, ◌<◌, List, Option, length};
 ghost use Rattle.portal_base.specs.Outside.{Writes, WriteCounts, Reads, ReadCounts, Shows, Draws};
 
+mod in_memory;
+mod real;
+
+pub use in_memory::{ListWords, MemorySink, MemorySource, SetClock};
+pub use real::{StdSink, StdSource};
+
 /// The answer of a read.
 #[derive(Clone, Copy, Debug, PartialEq, Eq)]
 pub enum ReadAnswer {

@@ -5,7 +5,7 @@ use crate::names::app_id::AppId;
 use std::alloc::Global;
 
 /// The caller that a connection's socket is bound to.
-#[derive(Debug, Drop)]
+#[derive(Debug, Drop, PartialEq, Eq)]
 pub enum Who {
     /// The host, which has every right in every live document.
     Host,
@@ -29,4 +29,10 @@ pub enum Kind {
     Bus,
     /// FUSE requests.
     Mount,
+}
+
+impl Replica for Kind {
+    fn replica(&self, _alloc: Global) -> Result<Kind, WantOfMemory> {
+        Ok(*self)
+    }
 }
