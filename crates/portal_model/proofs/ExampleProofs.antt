@@ -4,7 +4,7 @@ use Rattle.std.proofs.Common.{◌≡◌, List, [], ◌∷◌, Bool, true, false,
 use Rattle.std.specs.List.{IsDistinct}
 use Rattle.std.specs.Str.{is_utf8, chars}
 use Rattle.portal_base.specs.Names.{is_host_path, is_app_name}
-use Rattle.portal_model.specs.Examples.{editor, other, a_text, b_text, read_write, of_other, of_nobody, with_another, AttributesOfGrantedFile, ForeignIsAsMissing, CostsOfRequests, TracesTellWhatIsHeld}
+use Rattle.portal_model.specs.Examples.{editor, other, a_text, b_text, read_write, of_other, of_nobody, with_another, AttributesOfGrantedFile, ForeignIsAsMissing, CostsOfRequests, TracesTellWhatIsHeld, AnswersOfSeats, FailedLook}
 use Rattle.portal_model.specs.Opening.{opened}
 use Rattle.portal_model.specs.Valid.{Valid}
 use Rattle.portal_model.specs.View.{Seen}
@@ -143,6 +143,22 @@ foreign = record {
   foreign = refl;
   legal_missing = record { opening = valid_of_nobody; lawful = (record { clock = refl; words = refl; numbers = refl; full = refl; looks = refl }, (record { clock = refl; words = refl; numbers = refl; full = refl; looks = refl }, tt)) };
   missing = refl;
+}
+
+pub seats : AnswersOfSeats
+seats = record {
+  not_entered = refl;
+  other_seat = refl;
+  twice = refl;
+  on_a_bus = refl;
+  by_handle = refl;
+  by_handle_lawful = record { clock = refl; words = refl; numbers = refl; full = refl; looks = refl };
+}
+
+pub failed : FailedLook
+failed = record {
+  reply = refl;
+  lawful = record { clock = refl; words = refl; numbers = refl; full = refl; looks = (refl, omega arith) };
 }
 
 -- whether the first document of the opening view may be written

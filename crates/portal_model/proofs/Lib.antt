@@ -2,6 +2,7 @@ pub mod Finds
 pub mod ValidLaws
 pub mod Histories
 pub mod Silence
+pub mod Kept
 pub mod Apart
 pub mod OpeningLaws
 pub mod ViewLaws

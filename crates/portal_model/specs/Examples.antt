@@ -21,6 +21,9 @@ use Rattle.portal_model.specs.declared.reply.Reply.{Reply}
 use Rattle.portal_model.specs.declared.request.NodeOp.TheVariants as NodeOp
 use Rattle.portal_model.specs.declared.request.Request.{Request}
 use Rattle.portal_model.specs.History.{Legal, replies, cost_of}
+use Rattle.portal_model.specs.State.{State}
+use Rattle.portal_model.specs.Lawful.{Lawful}
+use Rattle.portal_model.specs.Step.{after, reply_at, step}
 use Rattle.portal_model.specs.Opening.{opened, id_of, first_named, each, names_kept}
 use Rattle.portal_model.specs.World.{Trace, trace}
 
@@ -117,6 +120,42 @@ pub record ForeignIsAsMissing : Type 0 where
   pub foreign : replies editor (opened of_other) (session []) ≡ not_found
   pub legal_missing : Legal (opened of_nobody) (session [])
   pub missing : replies editor (opened of_nobody) (session []) ≡ not_found
+
+-- ---- seats and handles
+
+abbrev pub read_write_state : State
+read_write_state = opened read_write
+
+abbrev pub entered_state : State
+entered_state = after read_write_state (enters 1 (Who.App editor))
+
+abbrev pub not_here_reply : Reply
+not_here_reply = replied (Answer.Refused Code.NotHere)
+
+abbrev pub enters_bus : Entry
+enters_bus = record { seat = 1; request = Request.Enter (Who.App editor) Kind.Bus; given = given [] }
+
+-- a request that says by bit 1 of its flags that 7 is an open handle
+abbrev pub asks_handle : Entry
+asks_handle = record { seat = 1; request = asks_attributes a_node 1 7; given = given [] }
+
+-- a request on a node is of an open mount alone, and a seat opens one connection; else nothing changes.
+-- Nobody has an open handle, so a request that names one is answered EBADF
+pub record AnswersOfSeats : Type 0 where
+  pub not_entered : step read_write_state (asks 1 a_node []) ≡ (read_write_state, not_here_reply)
+  pub other_seat : step entered_state (asks 2 a_node []) ≡ (entered_state, not_here_reply)
+  pub twice : step entered_state (enters 1 Who.Host) ≡ (entered_state, not_here_reply)
+  pub on_a_bus : step (after read_write_state enters_bus) (asks 1 a_node []) ≡ (after read_write_state enters_bus, not_here_reply)
+  pub by_handle : reply_at entered_state asks_handle ≡ replied (Answer.Refused (Code.Errno 9))
+  pub by_handle_lawful : Lawful entered_state asks_handle
+
+-- where the call of the tree failed, the answer is EIO
+abbrev pub failed_look : Entry
+failed_look = record { seat = 1; request = asks_attributes a_node 0 0; given = record { now = None; words = []; numbers = []; looks = []; full = false; fault = Fault.Tree } }
+
+pub record FailedLook : Type 0 where
+  pub reply : reply_at entered_state failed_look ≡ replied (Answer.Refused (Code.Errno 5))
+  pub lawful : Lawful entered_state failed_look
 
 -- ---- costs
 

@@ -5,8 +5,10 @@
 //! is worked out by hand, so that a wrong definition does not meet it.
 
 ghost use Rattle.portal_model.specs.Examples.{
+  AnswersOfSeats,
   AttributesOfGrantedFile,
   CostsOfRequests,
+  FailedLook,
   ForeignIsAsMissing,
   TracesTellWhatIsHeld,
 };
@@ -33,4 +35,15 @@ pub fn costs_of_requests()
 /// same trace, and histories that differ in its own rights different ones.
 pub fn traces_tell_what_is_held()
     ensures { TracesTellWhatIsHeld }
+{}
+
+/// A request on a node needs the seat's own open mount, an Enter a seat
+/// without a connection, and no handle is open yet.
+pub fn answers_of_seats()
+    ensures { AnswersOfSeats }
+{}
+
+/// A look that failed is answered EIO.
+pub fn a_failed_look()
+    ensures { FailedLook }
 {}

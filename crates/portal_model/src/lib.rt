@@ -12,3 +12,5 @@ pub mod reply;
 pub mod request;
 pub mod rights;
 pub mod state;
+#[cfg(test)]
+mod tests;
