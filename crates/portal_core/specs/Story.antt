@@ -1,6 +1,7 @@
 -- What a portal is to contracts: its opening state and its history.
 use Rattle.std.specs.Prelude.{◌≡◌, ◌+◌, ◌<◌, ◌≤◌, ℕ, List, [], ◌∷◌, ◌++◌}
 use Rattle.portal_model.specs.declared.entry.Entry.{Entry}
+use Rattle.portal_model.specs.declared.entry.Fault.TheVariants as Fault
 use Rattle.portal_model.specs.declared.opening.OpeningState.{OpeningState}
 use Rattle.portal_model.specs.declared.reply.Refused.{Refused}
 use Rattle.portal_model.specs.declared.reply.Refused.TheVariants.{Memory, Full}
@@ -28,13 +29,15 @@ limit_of p = p.opening.limits.history
 abbrev pub cost_with : Story → Request → ℕ
 cost_with p request = cost p.history + cost_of request
 
--- the history grew by one lawful entry, of this seat and request, to which the step replies so
+-- the history grew by one lawful entry, of this seat and request, to which the step replies so; the
+-- files in memory never fail
 pub record Answers (old new : Story) (seat : ℕ) (request : Request) (reply : Reply) : Type 0 where
   pub entry : Entry
   pub grown : new.history ≡ old.history ++ entry ∷ []
   pub seat_is : entry.seat ≡ seat
   pub request_is : entry.request ≡ request
   pub lawful : Lawful (state_now old) entry
+  pub faultless : entry.given.fault ≡ Fault.None
   pub reply_is : reply ≡ reply_at (state_now old) entry
 
 -- why a request is no entry: want of memory, which is free, or a history that would cost too much, told by both numbers

@@ -29,6 +29,7 @@ use std::marker::Model;
 ///
 /// Contracts see its opening state and its history. The history is legal, and
 /// the portal is in the state after it.
+#[derive(Drop)]
 pub struct Portal {
     opening: OpeningState,
     documents: List<Document>,
