@@ -1,3 +1,5 @@
 pub mod Types
+pub mod Reading
+pub mod Breaks
 pub mod Names
 pub mod Values

@@ -7,5 +7,8 @@
 
 pub mod copies;
 pub mod equal;
+pub mod errors;
+pub mod names;
 pub mod roles;
+pub mod signature;
 pub mod types;
