@@ -6,3 +6,4 @@ pub mod Fitting
 pub mod Again
 pub mod Stops
 pub mod Whole
+pub mod Extending

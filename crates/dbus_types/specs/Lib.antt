@@ -1,4 +1,5 @@
 pub mod Types
+pub mod Extends
 pub mod Reading
 pub mod Breaks
 pub mod Names

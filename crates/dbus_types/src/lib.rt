@@ -8,7 +8,11 @@
 pub mod copies;
 pub mod equal;
 pub mod errors;
+pub mod layout;
 pub mod names;
 pub mod roles;
 pub mod signature;
+#[cfg(test)]
+mod tests;
 pub mod types;
+pub mod write;
