@@ -1,3 +1,6 @@
 pub mod Lines
+pub mod Next
 pub mod Opening
 pub mod Order
+pub mod Preceding
+pub mod Reading

@@ -27,7 +27,7 @@ abbrev pub letter : ℕ → ℕ → ℕ → List ℕ
 letter rights right byte = if rights / right % 2 == 1 then byte ∷ [] else []
 
 -- "r" for read, "w" for write, "g" for grant-permissions and "d" for delete, in this order
-unfoldable pub letters : ℕ → List ℕ
+abbrev pub letters : ℕ → List ℕ
 letters rights = letter rights 1 114 ++ (letter rights 2 119 ++ (letter rights 4 103 ++ letter rights 8 100))
 
 -- NAME=LETTERS

@@ -1,19 +1,17 @@
 -- Which lines may stand behind which, and what is read of a text.
-use Rattle.std.specs.Prelude.{◌≡◌, ◌≢◌, ℕ, ◌+◌, ◌≤◌, ◌<◌, ◌==◌, Bool, true, false, ◌||◌, List, [], ◌∷◌, ◌++◌, length, Option, Some, None, nat_eq, count_by}
-use Rattle.std.specs.List.{list_any, starts_with}
+use Rattle.std.specs.Prelude.{◌≡◌, ◌≢◌, ℕ, ◌+◌, ◌≤◌, ◌==◌, Bool, true, false, not, ◌&&◌, ◌||◌, List, [], ◌∷◌, ◌++◌, length, Option, Some, None, nat_lt, count_by}
+use Rattle.std.specs.List.{list_any}
 use Rattle.portal_base.specs.Names.{is_same}
-use Rattle.script_form.specs.declared.script.ScriptLine.{ScriptLine}
-use Rattle.script_form.specs.declared.script.ScriptLine.TheVariants.{File, Doc, Open, Data}
+use Rattle.portal_model.specs.Content.{is_above}
+use Rattle.portal_model.specs.Valid.{applications_limit}
 use Rattle.script_form.specs.Lines.{line_text, text_of, KeepsRules}
 use Rattle.script_form.specs.Opening.{applications_of}
+use Rattle.script_form.specs.declared.script.ScriptLine.TheVariants.{File, Doc, Open, Data}
+use Rattle.script_form.specs.declared.script.ScriptLine.{ScriptLine}
 
--- the path lies below the file
-abbrev pub is_below : List ℕ → List ℕ → Bool
-is_below file path = starts_with nat_eq path (file ++ 47 ∷ [])
-
--- both can't be files: they are the same, or one lies below the other
+-- two paths can't both be files: they are the same, or one lies below the other
 abbrev pub clash : List ℕ → List ℕ → Bool
-clash path other = is_same path other || (is_below path other || is_below other path)
+clash path other = is_same path other || (is_above other path || is_above path other)
 
 abbrev pub is_open : ScriptLine → Bool
 is_open (File path content) = false
@@ -47,26 +45,25 @@ clashes path (Doc id reusable other grants) = false
 clashes path (Open seat kind who) = false
 clashes path (Data seat bytes) = false
 
--- how many documents, and how many applications with rights in them, a script may keep
+-- how many documents a script may keep
 abbrev pub document_limit : ℕ
 document_limit = 65536
 
-abbrev pub application_limit : ℕ
-application_limit = 16777216
-
--- the rules of a line that speak of the lines before it
-abbrev pub Follows : List ScriptLine → ScriptLine → Type 0
-Follows earlier (File path content) = (list_any is_open earlier ≡ false) × (list_any (clashes path) earlier ≡ false)
-Follows earlier (Doc id reusable path grants) = (list_any is_open earlier ≡ false) × (list_any (keeps id.number) earlier ≡ false)
-    × (count_by is_doc earlier < document_limit)
-    × (length (applications_of (earlier ++ Doc id reusable path grants ∷ [])) ≤ application_limit)
-Follows earlier (Open seat kind who) = list_any (opens seat) earlier ≡ false
-Follows earlier (Data seat bytes) = list_any (opens seat) earlier ≡ true
+-- The line goes with those before it: files and documents come before each open; no path clashes with
+-- that of another file; no number is that of another document, and no connection's number opened
+-- twice; data comes on what is open.
+abbrev pub goes_with : List ScriptLine → ScriptLine → Bool
+goes_with earlier (File path content) = not (list_any is_open earlier) && not (list_any (clashes path) earlier)
+goes_with earlier (Doc id reusable path grants) = not (list_any is_open earlier)
+    && (not (list_any (keeps id.number) earlier) && nat_lt (count_by is_doc earlier) document_limit)
+goes_with earlier (Open seat kind who) = not (list_any (opens seat) earlier)
+goes_with earlier (Data seat bytes) = list_any (opens seat) earlier
 
 -- the line may stand behind these lines
 pub record MayStand (earlier : List ScriptLine) (line : ScriptLine) : Type 0 where
   pub itself : KeepsRules line
-  pub behind : Follows earlier line
+  pub order : goes_with earlier line ≡ true
+  pub applications : length (applications_of (earlier ++ line ∷ [])) ≤ applications_limit
 
 -- each of the lines may stand behind those before it, and `earlier` before them all
 abbrev pub StandBehind : List ScriptLine → List ScriptLine → Type 0
@@ -74,7 +71,7 @@ StandBehind earlier [] = Unit {0}
 StandBehind earlier (line ∷ lines) = MayStand earlier line × StandBehind (earlier ++ line ∷ []) lines
 
 -- each line may stand behind those before it
-unfoldable pub IsScript : List ScriptLine → Type 0
+abbrev pub IsScript : List ScriptLine → Type 0
 IsScript lines = StandBehind [] lines
 
 -- no front of the text is a line that may stand behind these
@@ -88,10 +85,9 @@ Ends lines rest None = rest ≡ []
 Ends lines rest (Some n) = (rest ≢ []) × NoneStands lines rest × (n ≡ length lines + 1)
 
 -- the longest front of good lines of a text, and the number of the first line that isn't good
-pub record IsBuilt (text : List ℕ) (lines : List ScriptLine) (unbuilt : Option ℕ) (rest : List ℕ) : Type 0 where
-  pub cut : text ≡ text_of lines ++ rest
+pub record IsBuilt (text : List ℕ) (lines : List ScriptLine) (unbuilt : Option ℕ) : Type 0 where
   pub good : IsScript lines
-  pub ends : Ends lines rest unbuilt
+  pub rest : (rest : List ℕ) × (text ≡ text_of lines ++ rest) × Ends lines rest unbuilt
 
 -- the longest text that is read, in bytes
 abbrev pub script_limit : ℕ

@@ -4,6 +4,10 @@
 //! `doc ID FLAGS PATH GRANTS`, `open N mount app:NAME` and `data N HEX`.
 #![tactic(auto)]
 
+mod grants;
+mod line;
 pub mod opening;
+mod preceding;
 pub mod reader;
 pub mod script;
+mod words;

@@ -1,0 +1,204 @@
+-- A text is at most one line's, and no line's text has a line feed.
+use Rattle.std.proofs.Common.{◌≡◌, ◌≢◌, ℕ, ◌^◌, ◌<◌, ◌≤◌, Bool, true, false, List, [], ◌∷◌, ◌++◌, length, drop, refl, sym, ap, ◌∙◌, arith, map, Some}
+use Rattle.std.specs.Prelude.{not, ◌==◌, codes}
+use Rattle.std.specs.Char.{is_ascii_digit}
+use Rattle.std.specs.Fmt.{decimal}
+use Rattle.std.specs.List.{All, list_all, join_with_byte}
+use Rattle.std.proofs.lemmas.Bool.{and_parts}
+use Rattle.std.proofs.lemmas.Fmt.{decimal_injective}
+use Rattle.std.proofs.lemmas.List.{length-append}
+use Rattle.std.proofs.lemmas.List.Elements.{All-nil, All-cons, All-head, All-tail, All-append}
+use Rattle.std.proofs.lemmas.List.Sums.{list_all-from_AllPass}
+use Rattle.hex.proofs.HexLemmas.{decode_of-encode_lower, decode_of-same, decode_of-ok, length-encode_with}
+use Rattle.hex.specs.Hex.{lower_digits, is_hex_digit}
+use Rattle.portal_base.specs.DocIds.{doc_id_of}
+use Rattle.portal_base.specs.Names.{is_app_name, is_host_path, is_doc_id, is_lower_hex, doc_text}
+use Rattle.portal_base.specs.declared.names.doc_id.DocId.{DocId}
+use Rattle.portal_base.specs.declared.who.Kind.TheVariants.{Bus, Mount}
+use Rattle.portal_base.specs.declared.who.Who.TheVariants.{Host, App}
+use Rattle.portal_model.specs.declared.records.GrantRecord.{GrantRecord}
+use Rattle.script_form.specs.Lines.{line_text, KeepsRules, AreBytes, IsGrant, hex_text, flags_text, grants_text, grant_text, letters, is_script_path, is_plain, last_seat}
+use Rattle.script_form.specs.Reading.{IsFree}
+use Rattle.script_form.specs.declared.script.ScriptLine.{ScriptLine}
+use Rattle.script_form.specs.declared.script.ScriptLine.TheVariants.{File, Doc, Open, Data}
+use Rattle.script_form.proofs.GrantFacts.{grant_same, grants_split, grant_free, letters_line, letters_some, name_free}
+use Rattle.script_form.proofs.LineFacts.{path_free, seat_free, id_free, id_again, flags_free, differ_at, is_id}
+use Rattle.script_form.proofs.TextFacts.{free_from, cut_same}
+use Rattle.script_form.proofs.WordFacts.{all_digits, bytes_at}
+
+-- ---- words are written in one way
+
+pub hex_same : (a b : List ℕ) → AreBytes a → AreBytes b → hex_text a ≡ hex_text b → a ≡ b
+hex_same [] [] ha hb e = refl
+hex_same [] (y ∷ ys) ha hb e = let n = ap length e ∙ length-encode_with lower_digits (y ∷ ys) in absurd (omega arith)
+hex_same (x ∷ xs) [] ha hb e = let n = ap length (sym e) ∙ length-encode_with lower_digits (x ∷ xs) in absurd (omega arith)
+hex_same (x ∷ xs) (y ∷ ys) ha hb e =
+    decode_of-same _ (x ∷ xs) (y ∷ ys) (decode_of-encode_lower (x ∷ xs) (bytes_at (x ∷ xs) ha)) (rw e (decode_of-encode_lower (y ∷ ys) (bytes_at (y ∷ ys) hb)))
+
+pub id_same : (a b : DocId) → a.number < 2 ^ 32 → b.number < 2 ^ 32 → doc_text a.number ≡ doc_text b.number → a ≡ b
+id_same a b ha hb e =
+    let found : Some a ≡ Some b = sym (id_again a.number ha) ∙ ap doc_id_of e ∙ id_again b.number hb in
+    cc found
+
+pub flags_same : (a b : Bool) → flags_text a ≡ flags_text b → a ≡ b
+flags_same true true e = refl
+flags_same false false e = refl
+flags_same true false e = absurd (cc (differ_at 0 114 _ _ e refl refl))
+flags_same false true e = absurd (cc (differ_at 0 45 _ _ e refl refl))
+
+texts_same : (gs hs : List GrantRecord) → All IsGrant gs → All IsGrant hs → map grant_text gs ≡ map grant_text hs → gs ≡ hs
+texts_same [] [] ag ah e = refl
+texts_same [] (h ∷ hs) ag ah e = absurd (cc e)
+texts_same (g ∷ gs) [] ag ah e = absurd (cc e)
+texts_same (g ∷ gs) (h ∷ hs) ag ah e =
+    let heads : grant_text g ≡ grant_text h = cc e in
+    let tails : map grant_text gs ≡ map grant_text hs = cc e in
+    let first = grant_same g h (All-head IsGrant g gs ag) (All-head IsGrant h hs ah) heads in
+    let rest = texts_same gs hs (All-tail IsGrant g gs ag) (All-tail IsGrant h hs ah) tails in
+    cc (first, rest)
+
+name_some : (t : List ℕ) → is_app_name t ≡ true → 1 ≤ length t
+unfolding is_app_name
+name_some [] h = absurd (cc h)
+name_some (b ∷ bs) h = omega arith
+
+-- the text of a grant is longer than a dash
+pub grant_long : (g : GrantRecord) → IsGrant g → 3 ≤ length (grant_text g)
+grant_long g is =
+    let name = name_some g.app is.name in
+    let some = letters_some g.rights is.some_right is.no_other in
+    omega (arith, length-append g.app (61 ∷ letters g.rights))
+
+joined_long : (t : List ℕ) (ts : List (List ℕ)) → length t ≤ length (join_with_byte 44 (t ∷ ts))
+joined_long t [] = omega arith
+joined_long t (u ∷ us) = omega (arith, length-append t (44 ∷ join_with_byte 44 (u ∷ us)))
+
+grants_dash : (g : GrantRecord) (gs : List GrantRecord) → IsGrant g → grants_text (g ∷ gs) ≡ codes "-" → ⊥
+grants_dash g gs is e =
+    let long = grant_long g is in
+    let more = joined_long (grant_text g) (map grant_text gs) in
+    let n = ap length e in
+    absurd (omega arith)
+
+pub grants_same : (gs hs : List GrantRecord) → All IsGrant gs → All IsGrant hs → grants_text gs ≡ grants_text hs → gs ≡ hs
+grants_same [] [] ag ah e = refl
+grants_same [] (h ∷ hs) ag ah e = absurd (grants_dash h hs (All-head IsGrant h hs ah) (sym e))
+grants_same (g ∷ gs) [] ag ah e = absurd (grants_dash g gs (All-head IsGrant g gs ag) e)
+grants_same (g ∷ gs) (h ∷ hs) ag ah e =
+    let other : grants_text (g ∷ gs) ≢ codes "-" = grants_dash g gs (All-head IsGrant g gs ag) in
+    texts_same (g ∷ gs) (h ∷ hs) ag ah (sym (grants_split (grants_text (g ∷ gs)) (g ∷ gs) ag other refl) ∙ grants_split (grants_text (g ∷ gs)) (h ∷ hs) ah other e)
+
+-- ---- lines are written in one way
+
+open_same : (s t : ℕ) (name other : List ℕ) → s ≤ last_seat → t ≤ last_seat
+    → decimal s ++ (32 ∷ (codes "mount app:" ++ name)) ≡ decimal t ++ (32 ∷ (codes "mount app:" ++ other)) → (s ≡ t) × (name ≡ other)
+open_same s t name other hs ht e =
+    let halves = cut_same 32 (decimal s) (codes "mount app:" ++ name) (decimal t) (codes "mount app:" ++ other) (seat_free s hs) (seat_free t ht) e in
+    (decimal_injective s t (omega arith) (omega arith) halves.0, ap (drop 10) halves.1)
+
+seat_same : (s t : ℕ) (a b : List ℕ) → s ≤ last_seat → t ≤ last_seat → decimal s ++ (32 ∷ a) ≡ decimal t ++ (32 ∷ b) → (s ≡ t) × (a ≡ b)
+seat_same s t a b hs ht e =
+    let halves = cut_same 32 (decimal s) a (decimal t) b (seat_free s hs) (seat_free t ht) e in
+    (decimal_injective s t (omega arith) (omega arith) halves.0, halves.1)
+
+pub line_same : (l m : ScriptLine) → KeepsRules l → KeepsRules m → line_text l ≡ line_text m → l ≡ m
+unfolding line_text
+line_same (File p c) (File q d) kl km e =
+    let halves = cut_same 32 p (hex_text c) q (hex_text d) (path_free p kl.0) (path_free q km.0) (ap (drop 5) e) in
+    let bytes = hex_same c d kl.2 km.2 halves.1 in
+    cc (halves.0, bytes)
+line_same (File p c) (Doc i r q g) kl km e = absurd (cc (differ_at 0 102 _ _ e refl refl))
+line_same (File p c) (Open s k w) kl km e = absurd (cc (differ_at 0 102 _ _ e refl refl))
+line_same (File p c) (Data s b) kl km e = absurd (cc (differ_at 0 102 _ _ e refl refl))
+line_same (Doc i r p g) (File q d) kl km e = absurd (cc (differ_at 0 100 _ _ e refl refl))
+line_same (Doc i r p g) (Doc j f q h) kl km e =
+    let one = cut_same 32 (doc_text i.number) (flags_text r ++ (32 ∷ (p ++ (32 ∷ grants_text g)))) (doc_text j.number) (flags_text f ++ (32 ∷ (q ++ (32 ∷ grants_text h))))
+    (id_free i.number kl.0) (id_free j.number km.0) (ap (drop 4) e) in
+    let two = cut_same 32 (flags_text r) (p ++ (32 ∷ grants_text g)) (flags_text f) (q ++ (32 ∷ grants_text h)) (flags_free r) (flags_free f) one.1 in
+    let three = cut_same 32 p (grants_text g) q (grants_text h) (path_free p kl.1) (path_free q km.1) two.1 in
+    let ids = id_same i j kl.0 km.0 one.0 in
+    let flags = flags_same r f two.0 in
+    let grants = grants_same g h kl.2 km.2 three.1 in
+    cc (ids, flags, three.0, grants)
+line_same (Doc i r p g) (Open s k w) kl km e = absurd (cc (differ_at 0 100 _ _ e refl refl))
+line_same (Doc i r p g) (Data s b) kl km e = absurd (cc (differ_at 1 111 _ _ e refl refl))
+line_same (Open s k w) (File q d) kl km e = absurd (cc (differ_at 0 111 _ _ e refl refl))
+line_same (Open s k w) (Doc j f q h) kl km e = absurd (cc (differ_at 0 111 _ _ e refl refl))
+line_same (Open s k Host) (Open t l w) kl km e = absurd kl.3
+line_same (Open s k (App n)) (Open t l Host) kl km e = absurd km.3
+line_same (Open s Bus (App n)) (Open t l (App o)) kl km e = absurd (cc kl.2)
+line_same (Open s Mount (App n)) (Open t Bus (App o)) kl km e = absurd (cc km.2)
+line_same (Open s Mount (App n)) (Open t Mount (App o)) kl km e =
+    let same = open_same s t n o kl.1 km.1 (ap (drop 5) e) in
+    cc (same.0, same.1)
+line_same (Open s k w) (Data t b) kl km e = absurd (cc (differ_at 0 111 _ _ e refl refl))
+line_same (Data s b) (File q d) kl km e = absurd (cc (differ_at 0 100 _ _ e refl refl))
+line_same (Data s b) (Doc j f q h) kl km e = absurd (cc (differ_at 1 97 _ _ e refl refl))
+line_same (Data s b) (Open t k w) kl km e = absurd (cc (differ_at 0 100 _ _ e refl refl))
+line_same (Data s b) (Data t d) kl km e =
+    let halves = seat_same s t (hex_text b) (hex_text d) kl.1 km.1 (ap (drop 5) e) in
+    let bytes = hex_same b d kl.2 km.2 halves.1 in
+    cc (halves.0, bytes)
+
+-- ---- no line has a line feed
+
+joined : (a b : List ℕ) → IsFree 10 a → IsFree 10 b → IsFree 10 (a ++ (32 ∷ b))
+joined a b fa fb = All-append (λ x. (x == 10) ≡ false) a (32 ∷ b) fa (All-cons (λ x. (x == 10) ≡ false) 32 b refl fb)
+
+both : (a b : List ℕ) → IsFree 10 a → IsFree 10 b → IsFree 10 (a ++ b)
+both a b fa fb = All-append (λ x. (x == 10) ≡ false) a b fa fb
+
+word : (t : List ℕ) → list_all (λ b. not (b == 10)) t ≡ true → IsFree 10 t
+word t h = free_from (λ b. not (b == 10)) 10 refl t h
+
+hex_line : (bytes : List ℕ) → AreBytes bytes → IsFree 10 (hex_text bytes)
+hex_line [] h = word (codes "-") refl
+hex_line (b ∷ bs) h =
+    let read = decode_of-encode_lower (b ∷ bs) (bytes_at (b ∷ bs) h) in
+    free_from is_hex_digit 10 refl (hex_text (b ∷ bs)) (list_all-from_AllPass is_hex_digit (hex_text (b ∷ bs)) (decode_of-ok (hex_text (b ∷ bs)) (b ∷ bs) read).1)
+
+path_line : (path : List ℕ) → is_script_path path ≡ true → IsFree 10 path
+path_line path h = free_from is_plain 10 refl path (and_parts (is_host_path path) (list_all is_plain path) h).1
+
+seat_line : (n : ℕ) → n ≤ last_seat → IsFree 10 (decimal n)
+seat_line n h = free_from is_ascii_digit 10 refl (decimal n) (all_digits n (omega arith))
+
+id_line : (n : ℕ) → n < 2 ^ 32 → IsFree 10 (doc_text n)
+unfolding is_doc_id
+id_line n h =
+    let parts = and_parts (length (doc_text n) == 8) (list_all is_lower_hex (doc_text n)) (is_id (doc_text n) (record { number = n }) (id_again n h)) in
+    free_from is_lower_hex 10 refl (doc_text n) parts.1
+
+flags_line : (reusable : Bool) → IsFree 10 (flags_text reusable)
+flags_line true = word (codes "r") refl
+flags_line false = word (codes "-") refl
+
+commas : (t : List ℕ) (ts : List (List ℕ)) → All (IsFree 10) (t ∷ ts) → IsFree 10 (join_with_byte 44 (t ∷ ts))
+commas t [] all = All-head (IsFree 10) t [] all
+commas t (u ∷ us) all =
+    both t (44 ∷ join_with_byte 44 (u ∷ us)) (All-head (IsFree 10) t (u ∷ us) all)
+    (All-cons (λ x. (x == 10) ≡ false) 44 (join_with_byte 44 (u ∷ us)) refl (commas u us (All-tail (IsFree 10) t (u ∷ us) all)))
+
+grant_lines : (gs : List GrantRecord) → All IsGrant gs → All (IsFree 10) (map grant_text gs)
+grant_lines [] all = All-nil (IsFree 10)
+grant_lines (g ∷ gs) all =
+    let is = All-head IsGrant g gs all in
+    All-cons (IsFree 10) (grant_text g) (map grant_text gs) (grant_free 10 refl refl g is.name (letters_line g.rights is.no_other))
+    (grant_lines gs (All-tail IsGrant g gs all))
+
+grants_line : (gs : List GrantRecord) → All IsGrant gs → IsFree 10 (grants_text gs)
+grants_line [] all = word (codes "-") refl
+grants_line (g ∷ gs) all = commas (grant_text g) (map grant_text gs) (grant_lines (g ∷ gs) all)
+
+pub line_free : (line : ScriptLine) → KeepsRules line → IsFree 10 (line_text line)
+unfolding line_text
+line_free (File path content) k = joined (codes "file") _ (word (codes "file") refl) (joined path _ (path_line path k.0) (hex_line content k.2))
+line_free (Doc id reusable path grants) k =
+    joined (codes "doc") _ (word (codes "doc") refl) (joined (doc_text id.number) _ (id_line id.number k.0)
+    (joined (flags_text reusable) _ (flags_line reusable) (joined path _ (path_line path k.1) (grants_line grants k.2))))
+line_free (Open seat kind Host) k = absurd k.3
+line_free (Open seat Bus (App name)) k = absurd (cc k.2)
+line_free (Open seat Mount (App name)) k =
+    joined (codes "open") _ (word (codes "open") refl) (joined (decimal seat) _ (seat_line seat k.1)
+    (joined (codes "mount") (codes "app:" ++ name) (word (codes "mount") refl) (both (codes "app:") name (word (codes "app:") refl) (name_free 10 refl name k.3))))
+line_free (Data seat bytes) k = joined (codes "data") _ (word (codes "data") refl) (joined (decimal seat) _ (seat_line seat k.1) (hex_line bytes k.2))

@@ -1,0 +1,62 @@
+-- What the words of a line are read as.
+use Rattle.std.specs.Prelude.{◌≡◌, ◌≢◌, ℕ, ◌≤◌, ◌<◌, ◌^◌, ◌==◌, ◌++◌, Bool, true, false, List, ◌∷◌, Option, MatchOption}
+use Rattle.portal_model.specs.declared.records.GrantRecord.{GrantRecord}
+use Rattle.std.specs.Prelude.{All, map}
+use Rattle.std.specs.Fmt.{decimal}
+use Rattle.portal_base.specs.Names.{doc_text}
+use Rattle.portal_base.specs.declared.names.doc_id.DocId.{DocId}
+use Rattle.script_form.specs.Lines.{line_text, KeepsRules, hex_text, flags_text, AreBytes, is_script_path, grant_text, grants_text, letters, IsGrant, IsRising, last_seat}
+use Rattle.script_form.specs.declared.script.ScriptLine.{ScriptLine}
+
+-- the byte doesn't stand in the text
+abbrev pub IsFree : ℕ → List ℕ → Type 0
+IsFree separator text = All (λ b. (b == separator) ≡ false) text
+
+-- the halves of a text at its first separator
+pub record CutsAt (separator : ℕ) (text ahead behind : List ℕ) : Type 0 where
+  pub whole : text ≡ ahead ++ (separator ∷ behind)
+  pub first : IsFree separator ahead
+
+-- the line that a text is, or none where it is no line
+abbrev pub ReadsLine : List ℕ → Option ScriptLine → Type 0
+ReadsLine text read = MatchOption read ((line : ScriptLine) → KeepsRules line → text ≢ line_text line) (λ line. KeepsRules line × (text ≡ line_text line))
+
+abbrev pub ReadsBytes : List ℕ → Option (List ℕ) → Type 0
+ReadsBytes word read = MatchOption read ((bytes : List ℕ) → AreBytes bytes → word ≢ hex_text bytes) (λ bytes. AreBytes bytes × (word ≡ hex_text bytes))
+
+abbrev pub ReadsPath : List ℕ → Option (List ℕ) → Type 0
+ReadsPath word read = MatchOption read (is_script_path word ≡ false) (λ path. (path ≡ word) × (is_script_path word ≡ true))
+
+pub record IsSeat (word : List ℕ) (seat : ℕ) : Type 0 where
+  pub low : 1 ≤ seat
+  pub high : seat ≤ last_seat
+  pub same : word ≡ decimal seat
+
+abbrev pub ReadsSeat : List ℕ → Option ℕ → Type 0
+ReadsSeat word read = MatchOption read ((seat : ℕ) → IsSeat word seat → ⊥) (λ seat. IsSeat word seat)
+
+-- the rights that letters stand for
+pub record AreLetters (word : List ℕ) (rights : ℕ) : Type 0 where
+  pub low : 1 ≤ rights
+  pub high : rights ≤ 15
+  pub same : word ≡ letters rights
+
+abbrev pub ReadsRights : List ℕ → Option ℕ → Type 0
+ReadsRights word read = MatchOption read ((rights : ℕ) → AreLetters word rights → ⊥) (λ rights. AreLetters word rights)
+
+abbrev pub ReadsGrant : List ℕ → Option GrantRecord → Type 0
+ReadsGrant word read = MatchOption read ((grant : GrantRecord) → IsGrant grant → word ≢ grant_text grant) (λ grant. IsGrant grant × (word ≡ grant_text grant))
+
+pub record AreGrants (word : List ℕ) (grants : List GrantRecord) : Type 0 where
+  pub each : All IsGrant grants
+  pub rising : IsRising (map (λ grant. grant.app) grants)
+  pub same : word ≡ grants_text grants
+
+abbrev pub ReadsGrants : List ℕ → Option (List GrantRecord) → Type 0
+ReadsGrants word read = MatchOption read ((grants : List GrantRecord) → AreGrants word grants → ⊥) (λ grants. AreGrants word grants)
+
+abbrev pub ReadsId : List ℕ → Option DocId → Type 0
+ReadsId word read = MatchOption read ((id : DocId) → id.number < 2 ^ 32 → word ≢ doc_text id.number) (λ id. (id.number < 2 ^ 32) × (word ≡ doc_text id.number))
+
+abbrev pub ReadsFlags : List ℕ → Option Bool → Type 0
+ReadsFlags word read = MatchOption read ((reusable : Bool) → word ≢ flags_text reusable) (λ reusable. word ≡ flags_text reusable)
