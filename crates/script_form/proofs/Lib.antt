@@ -5,3 +5,4 @@ pub mod LineFacts
 pub mod PathFacts
 pub mod SameFacts
 pub mod ScriptFacts
+pub mod NamingFacts

@@ -22,7 +22,7 @@ use Rattle.script_form.specs.declared.script.ScriptLine.TheVariants.{File, Doc, 
 use Rattle.script_form.proofs.SameFacts.{grant_long, line_same, line_free}
 use Rattle.script_form.proofs.TextFacts.{cut_same, not_free}
 
-append_nil : {X : Type 0} (xs : List X) → xs ++ [] ≡ xs
+pub append_nil : {X : Type 0} (xs : List X) → xs ++ [] ≡ xs
 append_nil [] = refl
 append_nil (x ∷ xs) = ap (λ (ys : List _). x ∷ ys) (append_nil xs)
 
@@ -94,7 +94,7 @@ line_names (Data seat bytes) k = omega arith
 names_cons : (line : ScriptLine) (lines : List ScriptLine) → names_of (line ∷ lines) ≡ names_in line ++ names_of lines
 names_cons line lines = each_append names_kept (document_in line) (documents_of lines)
 
-names_push : (lines : List ScriptLine) (line : ScriptLine) → names_of (lines ++ (line ∷ [])) ≡ names_of lines ++ names_in line
+pub names_push : (lines : List ScriptLine) (line : ScriptLine) → names_of (lines ++ (line ∷ [])) ≡ names_of lines ++ names_in line
 names_push lines line =
     ap (each names_kept) (each_append document_in lines (line ∷ []) ∙ ap (λ (t : List OpeningDocument). documents_of lines ++ t) (append_nil (document_in line)))
     ∙ each_append names_kept (documents_of lines) (document_in line)

@@ -1,4 +1,5 @@
 pub mod Lines
+pub mod Naming
 pub mod Next
 pub mod Opening
 pub mod Order

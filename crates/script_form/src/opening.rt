@@ -1,13 +1,23 @@
 //! The state that a script opens with.
 
-ghost use Rattle.std.specs.Prelude.{◌≡◌, IfOk};
+ghost use Rattle.std.specs.Prelude.{◌≡◌, ◌++◌, true, IfOk, OnOk, fold, map};
+ghost use Rattle.std.specs.List.{All, list_any};
+ghost use Rattle.portal_base.specs.Names.{is_app_name, is_same};
+ghost use Rattle.portal_model.specs.Opening.{each, names_kept, id_of};
+ghost use Rattle.script_form.specs.Lines.{KeepsRules};
+ghost use Rattle.script_form.specs.Naming.{also_named};
+ghost use Rattle.script_form.specs.Opening.{opening, document_in, documents_of, file_in, files_of, applications_of};
 ghost use Rattle.script_form.specs.Order.{IsScript};
-ghost use Rattle.script_form.specs.Opening.{opening};
 
-use crate::script::Script;
+use crate::script::{Script, ScriptLine};
 use portal_base::limits::Limits;
-use portal_base::memory::WantOfMemory;
-use portal_model::opening::OpeningState;
+use portal_base::list::List;
+use portal_base::memory::{Replica, WantOfMemory};
+use portal_base::names::NameError;
+use portal_base::names::app_id::AppId;
+use portal_base::names::doc_id::DocId;
+use portal_model::opening::{FileItem, OpeningDocument, OpeningState};
+use portal_model::records::DocRecord;
 use std::alloc::Global;
 
 /// The state that a script opens with: its documents and files, and the
@@ -20,5 +30,145 @@ pub fn opening_of(
     requires { IsScript script.now.lines }
     ensures { IfOk result (λ state. state ≡ opening limits script.now.lines) }
 {
-    Err(WantOfMemory)
+    let lines = script.lines.as_slice();
+    let documents = documents_in(alloc, lines)?;
+    let made = numbers_of(alloc, documents.as_slice())?;
+    let applications = applications_in(alloc, lines)?;
+    let files = files_in(alloc, lines)?;
+    Ok(OpeningState {
+        limits,
+        documents,
+        made,
+        applications,
+        entries: List::new(alloc),
+        files,
+    })
+}
+
+/// The documents that lines keep.
+fn documents_in(alloc: Global, lines: &[ScriptLine]) -> Result<List<OpeningDocument>, WantOfMemory>
+    ensures { IfOk result (λ documents. documents ≡ documents_of lines.now) }
+{
+    let mut documents = List::new(alloc);
+    for line in lines {
+        add_document(alloc, &mut documents, line)?;
+    }
+    Ok(documents)
+}
+
+/// Adds the document that a line keeps.
+fn add_document(
+    alloc: Global,
+    documents: &mut List<OpeningDocument>,
+    line: &ScriptLine,
+) -> Result<(), WantOfMemory>
+    ensures { OnOk result (documents.new ≡ documents.old ++ document_in line.now) }
+{
+    match line {
+        ScriptLine::Doc {
+            id,
+            reusable,
+            path,
+            grants,
+        } => documents.push(OpeningDocument {
+            kept: DocRecord {
+                number: id.number,
+                path: List::copied(alloc, path.as_bytes())?,
+                reusable: *reusable,
+                grants: grants.replica(alloc)?,
+            },
+            persistent: true,
+        }),
+        ScriptLine::File { .. } | ScriptLine::Open { .. } | ScriptLine::Data { .. } => Ok(()),
+    }
+}
+
+/// The numbers of documents.
+fn numbers_of(alloc: Global, documents: &[OpeningDocument]) -> Result<List<DocId>, WantOfMemory>
+    ensures { IfOk result (λ numbers. numbers ≡ map (λ d. id_of d.kept.number) documents.now) }
+{
+    let mut numbers = List::new(alloc);
+    for document in documents {
+        numbers.push(DocId {
+            number: document.kept.number,
+        })?;
+    }
+    Ok(numbers)
+}
+
+/// The files that lines add.
+fn files_in(alloc: Global, lines: &[ScriptLine]) -> Result<List<FileItem>, WantOfMemory>
+    ensures { IfOk result (λ files. files ≡ files_of lines.now) }
+{
+    let mut files = List::new(alloc);
+    for line in lines {
+        add_file(alloc, &mut files, line)?;
+    }
+    Ok(files)
+}
+
+/// Adds the file of a line.
+fn add_file(
+    alloc: Global,
+    files: &mut List<FileItem>,
+    line: &ScriptLine,
+) -> Result<(), WantOfMemory>
+    ensures { OnOk result (files.new ≡ files.old ++ file_in line.now) }
+{
+    match line {
+        ScriptLine::File { path, content } => files.push(FileItem {
+            path: List::copied(alloc, path.as_bytes())?,
+            content: content.replica(alloc)?,
+            moment: 0,
+        }),
+        ScriptLine::Doc { .. } | ScriptLine::Open { .. } | ScriptLine::Data { .. } => Ok(()),
+    }
+}
+
+/// The applications that lines give rights to, as they first name them.
+fn applications_in(alloc: Global, lines: &[ScriptLine]) -> Result<List<AppId>, WantOfMemory>
+    requires { All KeepsRules lines.now }
+    ensures { IfOk result (λ named. named ≡ applications_of lines.now) }
+{
+    let mut named = List::new(alloc);
+    for line in lines {
+        add_names(alloc, &mut named, line)?;
+    }
+    Ok(named)
+}
+
+/// Adds the names in a line that are new.
+fn add_names(alloc: Global, named: &mut List<AppId>, line: &ScriptLine) -> Result<(), WantOfMemory>
+    requires { KeepsRules line.now }
+    ensures { OnOk result (named.new ≡ fold also_named named.old (each names_kept (document_in line.now))) }
+{
+    let ScriptLine::Doc { grants, .. } = line else {
+        return Ok(());
+    };
+    for grant in grants.as_slice() {
+        add_name(alloc, named, grant.app.as_slice())?;
+    }
+    Ok(())
+}
+
+/// Whether a name is among those.
+fn is_named(named: &[AppId], name: &[u8]) -> bool
+    ensures { result ≡ list_any (λ known. is_same known name.now) named.now }
+{
+    named.iter().any(|known| known.as_bytes() == name)
+}
+
+/// Adds a name, if it is new.
+fn add_name(alloc: Global, named: &mut List<AppId>, name: &[u8]) -> Result<(), WantOfMemory>
+    requires { is_app_name name.now ≡ true }
+    ensures { OnOk result (named.new ≡ also_named named.old name.now) }
+{
+    if is_named(named.as_slice(), name) {
+        return Ok(());
+    }
+    match AppId::read(alloc, name) {
+        Ok(app) => named.push(app),
+        Err(NameError::Memory) => Err(WantOfMemory),
+        Err(NameError::BadName { at: _ }) => unreachable!(),
+    }
 }
