@@ -11,8 +11,11 @@ pub mod errors;
 pub mod layout;
 pub mod names;
 pub mod roles;
+pub mod rules;
 pub mod signature;
 #[cfg(test)]
 mod tests;
 pub mod types;
+#[cfg(test)]
+mod value_tests;
 pub mod write;
