@@ -24,12 +24,14 @@ impl<T> Model for Boxed<T> {
 }
 
 impl<T> Boxed<T> {
+    /// The value.
     pub fn get(&self) -> &T
         ensures { result.now ≡ self.now }
     {
         &self.inner
     }
 
+    /// Gives the value back, and frees the place that it stood in.
     pub fn into_inner(self) -> T
         ensures { result ≡ self }
     {
@@ -39,6 +41,7 @@ impl<T> Boxed<T> {
 }
 
 impl<T: Drop> Boxed<T> {
+    /// An owner of the value, or want of memory, which drops it.
     pub fn new(alloc: Global, value: T) -> Result<Boxed<T>, WantOfMemory>
         ensures { IfOk result (λ b. b ≡ value) }
     {

@@ -10,5 +10,7 @@ pub mod memory;
 pub mod names;
 pub mod outside;
 pub mod split;
+#[cfg(test)]
+mod tests;
 pub mod text;
 pub mod who;

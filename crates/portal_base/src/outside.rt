@@ -9,6 +9,8 @@ ghost use Rattle.portal_base.specs.Outside.{Writes, WriteCounts, Reads, ReadCoun
 
 mod in_memory;
 mod real;
+#[cfg(test)]
+mod tests;
 
 pub use in_memory::{ListWords, MemorySink, MemorySource, SetClock};
 pub use real::{StdSink, StdSource};
