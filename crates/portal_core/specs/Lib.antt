@@ -2,3 +2,4 @@ pub mod Stored
 pub mod Served
 pub mod Story
 pub mod Held
+pub mod Examples

@@ -43,7 +43,7 @@ fn name_length(who: &Who) -> u64
 ///
 /// Contracts see the list, the room for entries that was taken ahead, and the
 /// limit of the cost.
-#[derive(Drop)]
+#[derive(Debug, Drop)]
 pub struct History {
     entries: Vec<Entry>,
     cost: u64,

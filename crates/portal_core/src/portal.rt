@@ -29,7 +29,7 @@ use std::marker::Model;
 ///
 /// Contracts see its opening state and its history. The history is legal, and
 /// the portal is in the state after it.
-#[derive(Drop)]
+#[derive(Debug, Drop)]
 pub struct Portal {
     opening: OpeningState,
     documents: List<Document>,
@@ -262,3 +262,6 @@ fn silent_reply(alloc: Global, answer: Answer) -> Reply
         answer,
     }
 }
+
+#[cfg(test)]
+mod tests;
