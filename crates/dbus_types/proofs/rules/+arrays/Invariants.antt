@@ -1,4 +1,4 @@
-use Rattle.std.proofs.Common.{ℕ, ◌≤◌, map, drop, max, ◌≡◌, ◌↔◌}
+use Rattle.std.proofs.Common.{◌≤◌, map, drop, ◌↔◌}
 use Rattle.dbus_types.specs.Types.{greatest, arrays_deep}
 use Rattle.dbus_types.proofs.rules.+arrays.Given as goal
 

@@ -1,6 +1,5 @@
 use Rattle.std.proofs.Common.{◌++◌, ◌∙◌, map, ap, sym}
 use Rattle.dbus_types.specs.declared.types.WireType.{WireType}
-use Rattle.dbus_types.specs.declared.types.Value.{Value}
 use Rattle.dbus_types.specs.Types.{type_text}
 use Rattle.dbus_types.specs.Values.{type_of}
 use Rattle.dbus_types.proofs.Extending.{on_ok, struct_put, entry_put, type_struct, type_entry}
