@@ -1,0 +1,7 @@
+pub mod Inputs
+pub mod Frames
+pub mod Replies
+pub mod Outputs
+pub mod Lines
+pub mod Plays
+pub mod Runs

@@ -1,0 +1,69 @@
+//! The document portal and permission store of a desktop, in one program.
+#![tactic(auto)]
+
+mod frame;
+mod input;
+mod line;
+mod output;
+mod replay;
+mod run;
+mod status;
+#[cfg(test)]
+mod tests;
+
+use crate::run::run;
+use crate::status::Status;
+use portal_base::list::List;
+use portal_base::outside::{StdSink, StdSource};
+use portal_base::text::Text;
+use std::process::ExitCode;
+use std::{env, io};
+
+fn main(rt: HostRuntime) -> ExitCode {
+    let status = match words_of(&rt) {
+        Ok(words) => {
+            let mut source = StdSource::new(rt.stdin());
+            let mut sink = StdSink::new(rt.stdout());
+            run(rt.alloc(), words.as_slice(), &mut source, &mut sink)
+        }
+        Err(status) => status,
+    };
+    let _ = tell(&rt, status);
+    ExitCode::from(status.number())
+}
+
+/// The words behind the program's name. One that isn't UTF-8 is no word that
+/// the program knows.
+fn words_of(rt: &HostRuntime) -> Result<List<Text>, Status> {
+    let mut words = List::new(rt.alloc());
+    let arguments = match env::args(rt) {
+        Ok(arguments) => arguments,
+        Err(error) => return Err(status_of(&error)),
+    };
+    for word in arguments.skip(1) {
+        if words.push(Text::from_string(word)).is_err() {
+            return Err(Status::Memory);
+        }
+    }
+    Ok(words)
+}
+
+fn status_of(error: &io::Error) -> Status {
+    if error.kind() == io::ErrorKind::OutOfMemory {
+        Status::Memory
+    } else {
+        Status::Unbuilt { line: 0 }
+    }
+}
+
+/// Says on standard error how a run ended that isn't done.
+fn tell(rt: &HostRuntime, status: Status) -> io::Result<()> {
+    match status {
+        Status::Done => Ok(()),
+        Status::ReadFault => eprintln!(rt; "docportal: read fault"),
+        Status::WriteFault => eprintln!(rt; "docportal: write fault"),
+        Status::Memory => eprintln!(rt; "docportal: no memory"),
+        Status::TooLong => eprintln!(rt; "docportal: input too long"),
+        Status::Unbuilt { line } => eprintln!(rt; "docportal: not built at line {line}"),
+    }
+}

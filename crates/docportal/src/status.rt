@@ -1,0 +1,36 @@
+//! How a run ended.
+
+/// How a run ended.
+#[derive(Clone, Copy, Debug, PartialEq, Eq)]
+pub enum Status {
+    /// All output was written, and the input was read to its end.
+    Done,
+    /// A read failed.
+    ReadFault,
+    /// A write failed; a front of the output is written.
+    WriteFault,
+    /// There was no memory; a front of the output is written.
+    Memory,
+    /// The input has more bytes than a script may have.
+    TooLong,
+    /// A line needs a part that is not built; the output of the lines before
+    /// it is written. Line 0 means the words.
+    Unbuilt {
+        /// The number of the line, from 1.
+        line: u64,
+    },
+}
+
+impl Status {
+    /// The number that the program ends with.
+    pub fn number(self) -> u8 {
+        match self {
+            Status::Done => 0,
+            Status::ReadFault => 3,
+            Status::WriteFault => 4,
+            Status::Memory => 5,
+            Status::TooLong => 6,
+            Status::Unbuilt { .. } => 7,
+        }
+    }
+}
