@@ -6,3 +6,4 @@ pub mod PathFacts
 pub mod SameFacts
 pub mod ScriptFacts
 pub mod NamingFacts
+pub mod SoundFacts

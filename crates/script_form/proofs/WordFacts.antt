@@ -99,7 +99,7 @@ digit_more n d low small fits =
 eqb_yes : (n : ℕ) → eqb n n ≡ true
 eqb_yes n = grind (arith, nat_tests)
 
-same_refl : (a : List ℕ) → pointwise nat_eq a a ≡ true
+pub same_refl : (a : List ℕ) → pointwise nat_eq a a ≡ true
 same_refl [] = refl
 same_refl (x ∷ xs) = rw (eqb_yes x, same_refl xs) refl
 

@@ -1,5 +1,5 @@
 -- The state that a script opens with.
-use Rattle.std.specs.Prelude.{ℕ, true, List, [], ◌∷◌, map}
+use Rattle.std.specs.Prelude.{ℕ, ◌^◌, ◌<◌, ◌≤◌, true, List, [], ◌∷◌, map}
 use Rattle.portal_base.specs.declared.limits.Limits.{Limits}
 use Rattle.portal_model.specs.Opening.{each, first_named, id_of, names_kept}
 use Rattle.portal_model.specs.declared.opening.FileItem.{FileItem}
@@ -42,3 +42,10 @@ opening limits lines = record {
   entries = [];
   files = files_of lines;
 }
+
+-- limits that hold whatever a script keeps
+pub record HoldsScripts (limits : Limits) : Type 0 where
+  pub documents : 65536 ≤ limits.documents
+  pub made : 65536 ≤ limits.made
+  pub made_limit : limits.made < 2 ^ 32
+  pub queued_limit : limits.queued < 2 ^ 32

@@ -10,4 +10,6 @@ pub mod opening;
 mod preceding;
 pub mod reader;
 pub mod script;
+#[cfg(test)]
+mod tests;
 mod words;

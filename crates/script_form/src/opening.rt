@@ -1,12 +1,12 @@
 //! The state that a script opens with.
 
-ghost use Rattle.std.specs.Prelude.{◌≡◌, ◌++◌, true, IfOk, OnOk, fold, map};
+ghost use Rattle.std.specs.Prelude.{◌≡◌, ◌++◌, true, IfOk, OnOk, Some, fold, map};
 ghost use Rattle.std.specs.List.{All, list_any};
 ghost use Rattle.portal_base.specs.Names.{is_app_name, is_same};
-ghost use Rattle.portal_model.specs.Opening.{each, names_kept, id_of};
+ghost use Rattle.portal_model.specs.Opening.{each, names_kept, id_of, file_of, ValidOpening};
 ghost use Rattle.script_form.specs.Lines.{KeepsRules};
 ghost use Rattle.script_form.specs.Naming.{also_named};
-ghost use Rattle.script_form.specs.Opening.{opening, document_in, documents_of, file_in, files_of, applications_of};
+ghost use Rattle.script_form.specs.Opening.{opening, document_in, documents_of, file_in, files_of, applications_of, HoldsScripts};
 ghost use Rattle.script_form.specs.Order.{IsScript};
 
 use crate::script::{Script, ScriptLine};
@@ -22,11 +22,23 @@ use std::alloc::Global;
 
 /// The state that a script opens with: its documents and files, and the
 /// applications that have rights, numbered as they are first named.
+///
+/// It is a valid state where the limits hold whatever a script keeps: at
+/// least 65,536 live and made documents.
 pub fn opening_of(
     alloc: Global,
     script: &Script,
     limits: Limits,
 ) -> Result<OpeningState, WantOfMemory>
+    requires { IsScript script.now.lines }
+    ensures state { IfOk result (λ state. state ≡ opening limits script.now.lines) }
+    ensures valid { HoldsScripts limits → IfOk result (λ state. ValidOpening (Some (map file_of state.files)) state) }
+{
+    state_of(alloc, script, limits)
+}
+
+/// The state that a script opens with.
+fn state_of(alloc: Global, script: &Script, limits: Limits) -> Result<OpeningState, WantOfMemory>
     requires { IsScript script.now.lines }
     ensures { IfOk result (λ state. state ≡ opening limits script.now.lines) }
 {

@@ -1,6 +1,5 @@
-use Rattle.std.proofs.Common.{[]}
-use Rattle.script_form.proofs.NamingFacts.{all_keep}
+use Rattle.script_form.proofs.SoundFacts.{valid_result}
 use Rattle.script_form.proofs.opening.opening_of.Goals as goal
 
-pub applications_in-requires : goal.applications_in-requires
-applications_in-requires c = rw c.as_slice-lines.ensures (all_keep [] c.args.script.now.lines c.requires)
+pub returns-clause-valid : goal.returns-clause-valid
+returns-clause-valid c = λ holds. valid_result c.args.limits c.args.script.now.lines _ c.requires c.state_of.ensures holds

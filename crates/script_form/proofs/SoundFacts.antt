@@ -1,0 +1,288 @@
+-- The state that a script opens with is valid.
+use Rattle.std.proofs.Common.{◌≡◌, ℕ, ◌+◌, ◌<◌, ◌≤◌, ◌==◌, nat_eq, Bool, true, false, ◌&&◌, ◌||◌, not, List, [], ◌∷◌, ◌++◌, length, take, map, Some, Result, Ok, Err, refl, ap, ◌∙◌, arith, append_assoc, cond, Less, nat_cmp}
+use Rattle.std.specs.Prelude.{IfOk, count_by, nat_lt}
+use Rattle.std.specs.Cmp.Lexicographic.{slice_cmp, nat_list_cmp_total}
+use Rattle.std.specs.List.{All, list_any, list_all, AllByRecursion, IsDistinct}
+use Rattle.std.proofs.lemmas.Bool.{and_parts, ltb-true}
+use Rattle.std.proofs.lemmas.Bool.Decides.{nat_tests}
+use Rattle.std.proofs.lemmas.List.{length-append, take_all}
+use Rattle.std.proofs.lemmas.List.Elements.{All-head, All-tail}
+use Rattle.std.proofs.lemmas.List.Folds.{list_any-append}
+use Rattle.std.proofs.lemmas.List.Sums.{sum_by-append}
+use Rattle.portal_base.specs.Names.{is_same, is_app_name, is_host_path, root}
+use Rattle.portal_base.specs.declared.limits.Limits.{Limits}
+use Rattle.portal_model.specs.Content.{is_above, is_folder}
+use Rattle.portal_model.specs.Opening.{names_kept, file_of, GrantsDiffer, SoundOpening, ValidOpening}
+use Rattle.portal_model.specs.Valid.{applications_limit}
+use Rattle.portal_model.specs.declared.opening.FileItem.{FileItem}
+use Rattle.portal_model.specs.declared.opening.OpeningDocument.{OpeningDocument}
+use Rattle.portal_model.specs.declared.records.GrantRecord.{GrantRecord}
+use Rattle.portal_model.specs.declared.opening.OpeningState.{OpeningState}
+use Rattle.portal_model.proofs.OpeningLaws.{sound-ValidOpening}
+use Rattle.script_form.specs.Lines.{IsGrant, IsRising, is_script_path, is_plain}
+use Rattle.script_form.specs.Opening.{opening, documents_of, files_of, applications_of, HoldsScripts}
+use Rattle.script_form.specs.Order.{StandBehind, IsScript, clash, clashes, keeps, is_doc, document_limit}
+use Rattle.script_form.specs.declared.script.ScriptLine.{ScriptLine}
+use Rattle.script_form.specs.declared.script.ScriptLine.TheVariants.{File, Doc, Open, Data}
+use Rattle.script_form.proofs.ScriptFacts.{append_nil}
+use Rattle.script_form.proofs.TextFacts.{no_true, eqb_yes}
+use Rattle.script_form.proofs.WordFacts.{same_from_test, same_refl}
+
+not_true : (b : Bool) → not b ≡ true → b ≡ false
+not_true true h = cc h
+not_true false h = refl
+
+still : (p : ScriptLine → Bool) (earlier : List ScriptLine) (line : ScriptLine) → list_any p earlier ≡ true → list_any p (earlier ++ (line ∷ [])) ≡ true
+still p earlier line h = list_any-append p earlier (line ∷ []) ∙ rw h refl
+
+now : (p : ScriptLine → Bool) (earlier : List ScriptLine) (line : ScriptLine) → p line ≡ true → list_any p (earlier ++ (line ∷ [])) ≡ true
+now p earlier line h = list_any-append p earlier (line ∷ []) ∙ rw h (or_true (list_any p earlier))
+  where
+    or_true : (b : Bool) → (b || true) ≡ true
+    or_true true = refl
+    or_true false = refl
+
+-- ---- documents
+
+abbrev numbers : List ScriptLine → List ℕ
+numbers lines = map (λ (d : OpeningDocument). d.kept.number) (documents_of lines)
+
+doc_new : (earlier : List ScriptLine) (n : ℕ) (b c : Bool) → (not b && (not (list_any (keeps n) earlier) && c)) ≡ true → list_any (keeps n) earlier ≡ false
+doc_new earlier n b c h =
+    let parts = and_parts (not b) (not (list_any (keeps n) earlier) && c) h in
+    not_true _ (and_parts (not (list_any (keeps n) earlier)) c parts.1).0
+
+later_numbers : (n : ℕ) (lines earlier : List ScriptLine) → list_any (keeps n) earlier ≡ true → StandBehind earlier lines → AllByRecursion (λ y. (n == y) ≡ false) (numbers lines)
+later_numbers n [] earlier kept all = tt
+later_numbers n (File path content ∷ ls) earlier kept all = later_numbers n ls _ (still (keeps n) earlier _ kept) all.1
+later_numbers n (Doc id reusable path grants ∷ ls) earlier kept all = (
+  no_true (n == id.number) (λ same.
+      let e : n ≡ id.number = grind (arith, nat_tests) in
+      let new = doc_new earlier id.number _ _ all.0.order in
+      cc (kept, new, e)),
+  later_numbers n ls _ (still (keeps n) earlier _ kept) all.1,
+)
+later_numbers n (Open seat kind who ∷ ls) earlier kept all = later_numbers n ls _ (still (keeps n) earlier _ kept) all.1
+later_numbers n (Data seat bytes ∷ ls) earlier kept all = later_numbers n ls _ (still (keeps n) earlier _ kept) all.1
+
+numbers_differ : (lines earlier : List ScriptLine) → StandBehind earlier lines → IsDistinct nat_eq (numbers lines)
+unfolding IsDistinct
+numbers_differ [] earlier all = tt
+numbers_differ (File path content ∷ ls) earlier all = numbers_differ ls _ all.1
+numbers_differ (Doc id reusable path grants ∷ ls) earlier all = (
+  later_numbers id.number ls _ (now (keeps id.number) earlier (Doc id reusable path grants) (eqb_yes id.number)) all.1,
+  numbers_differ ls _ all.1,
+)
+numbers_differ (Open seat kind who ∷ ls) earlier all = numbers_differ ls _ all.1
+numbers_differ (Data seat bytes ∷ ls) earlier all = numbers_differ ls _ all.1
+
+path_is : (path : List ℕ) → is_script_path path ≡ true → is_host_path path ≡ true
+path_is path h = (and_parts (is_host_path path) (list_all is_plain path) h).0
+
+both_true : (a b : Bool) → a ≡ true → b ≡ true → (a && b) ≡ true
+both_true a b ha hb = rw (ha, hb) refl
+
+paths_are : (lines earlier : List ScriptLine) → StandBehind earlier lines → list_all (λ (d : OpeningDocument). is_host_path d.kept.path) (documents_of lines) ≡ true
+paths_are [] earlier all = refl
+paths_are (File path content ∷ ls) earlier all = paths_are ls _ all.1
+paths_are (Doc id reusable path grants ∷ ls) earlier all = both_true (is_host_path path) _ (path_is path all.0.itself.1) (paths_are ls _ all.1)
+paths_are (Open seat kind who ∷ ls) earlier all = paths_are ls _ all.1
+paths_are (Data seat bytes ∷ ls) earlier all = paths_are ls _ all.1
+
+grant_names : (gs : List GrantRecord) → All IsGrant gs → list_all is_app_name (map (λ (g : GrantRecord). g.app) gs) ≡ true
+grant_names [] all = refl
+grant_names (g ∷ gs) all = both_true (is_app_name g.app) _ (All-head IsGrant g gs all).name (grant_names gs (All-tail IsGrant g gs all))
+
+names_are : (lines earlier : List ScriptLine) → StandBehind earlier lines → list_all (λ (d : OpeningDocument). list_all is_app_name (names_kept d)) (documents_of lines) ≡ true
+names_are [] earlier all = refl
+names_are (File path content ∷ ls) earlier all = names_are ls _ all.1
+names_are (Doc id reusable path grants ∷ ls) earlier all = both_true (list_all is_app_name (map (λ (g : GrantRecord). g.app) grants)) _ (grant_names grants all.0.itself.2) (names_are ls _ all.1)
+names_are (Open seat kind who ∷ ls) earlier all = names_are ls _ all.1
+names_are (Data seat bytes ∷ ls) earlier all = names_are ls _ all.1
+
+less_differs : (a b : List ℕ) → slice_cmp nat_cmp a b ≡ Less → is_same a b ≡ false
+less_differs a b less = no_true (is_same a b) (λ same.
+    let e : a ≡ b = same_from_test a b same in
+    let itself : slice_cmp nat_cmp a a ≡ Less = ap (slice_cmp nat_cmp a) e ∙ less in
+    let turned = nat_list_cmp_total.antisymm a a in
+    cc (itself, turned))
+
+below_all : (a b : List ℕ) (names : List (List ℕ)) → slice_cmp nat_cmp a b ≡ Less → IsRising (b ∷ names) → AllByRecursion (λ y. is_same a y ≡ false) (b ∷ names)
+below_all a b [] less rising = (less_differs a b less, tt)
+below_all a b (c ∷ names) less rising = (less_differs a b less, below_all a c names (nat_list_cmp_total.trans a b c less rising.0) rising.1)
+
+rising_differ : (names : List (List ℕ)) → IsRising names → IsDistinct is_same names
+unfolding IsDistinct
+rising_differ [] rising = tt
+rising_differ (a ∷ []) rising = (tt, tt)
+rising_differ (a ∷ b ∷ names) rising = (below_all a b names rising.0 rising.1, rising_differ (b ∷ names) rising.1)
+
+grants_differ : (lines earlier : List ScriptLine) → StandBehind earlier lines → GrantsDiffer (documents_of lines)
+grants_differ [] earlier all = tt
+grants_differ (File path content ∷ ls) earlier all = grants_differ ls _ all.1
+grants_differ (Doc id reusable path grants ∷ ls) earlier all = (rising_differ (map (λ (g : GrantRecord). g.app) grants) all.0.itself.3, grants_differ ls _ all.1)
+grants_differ (Open seat kind who ∷ ls) earlier all = grants_differ ls _ all.1
+grants_differ (Data seat bytes ∷ ls) earlier all = grants_differ ls _ all.1
+
+doc_room : (earlier : List ScriptLine) (b c : Bool) → (b && (c && nat_lt (count_by is_doc earlier) document_limit)) ≡ true → count_by is_doc earlier < 65536
+doc_room earlier b c h = ltb-true _ _ (and_parts c _ (and_parts b _ h).1).1
+
+count_push : (line : ScriptLine) (earlier : List ScriptLine) → count_by is_doc (earlier ++ (line ∷ [])) ≡ count_by is_doc earlier + count_by is_doc (line ∷ [])
+count_push line earlier = sum_by-append (λ (l : ScriptLine). cond (is_doc l) 1 0) earlier (line ∷ [])
+
+documents_few : (lines earlier : List ScriptLine) → count_by is_doc earlier ≤ 65536 → StandBehind earlier lines → length (documents_of lines) + count_by is_doc earlier ≤ 65536
+documents_few [] earlier few all = omega arith
+documents_few (File path content ∷ ls) earlier few all =
+    let e = count_push (File path content) earlier in
+    let rest = documents_few ls (earlier ++ (File path content ∷ [])) (omega arith) all.1 in omega arith
+documents_few (Doc id reusable path grants ∷ ls) earlier few all =
+    let e = count_push (Doc id reusable path grants) earlier in
+    let room = doc_room earlier _ _ all.0.order in
+    let rest = documents_few ls (earlier ++ (Doc id reusable path grants ∷ [])) (omega arith) all.1 in omega arith
+documents_few (Open seat kind who ∷ ls) earlier few all =
+    let e = count_push (Open seat kind who) earlier in
+    let rest = documents_few ls (earlier ++ (Open seat kind who ∷ [])) (omega arith) all.1 in omega arith
+documents_few (Data seat bytes ∷ ls) earlier few all =
+    let e = count_push (Data seat bytes) earlier in
+    let rest = documents_few ls (earlier ++ (Data seat bytes ∷ [])) (omega arith) all.1 in omega arith
+
+applications_few : (lines earlier : List ScriptLine) → length (applications_of earlier) ≤ applications_limit → StandBehind earlier lines
+    → length (applications_of (earlier ++ lines)) ≤ applications_limit
+applications_few [] earlier few all = rw append_nil few
+applications_few (line ∷ ls) earlier few all = rw (← append_assoc earlier (line ∷ []) ls) (applications_few ls (earlier ++ (line ∷ [])) all.0.applications all.1)
+
+-- ---- files
+
+-- each file before clashes with the path where this one does
+abbrev Known : List ℕ → List ScriptLine → Type 0
+Known p earlier = (q : List ℕ) → clash q p ≡ true → list_any (clashes q) earlier ≡ true
+
+abbrev paths : List ScriptLine → List (List ℕ)
+paths lines = map (λ (f : FileItem). f.path) (files_of lines)
+
+-- no two are the same, or above one another
+abbrev Clear : List ℕ → List (List ℕ) → Type 0
+Clear p qs = AllByRecursion (λ q. clash q p ≡ false) qs
+
+abbrev AllClear : List (List ℕ) → Type 0
+AllClear [] = Unit {0}
+AllClear (p ∷ ps) = Clear p ps × AllClear ps
+
+file_new : (earlier : List ScriptLine) (q : List ℕ) (b : Bool) → (b && not (list_any (clashes q) earlier)) ≡ true → list_any (clashes q) earlier ≡ false
+file_new earlier q b h = not_true _ (and_parts b _ h).1
+
+known_more : (p : List ℕ) (earlier : List ScriptLine) (line : ScriptLine) → Known p earlier → Known p (earlier ++ (line ∷ []))
+known_more p earlier line known = λ q c. still (clashes q) earlier line (known q c)
+
+later_clear : (p : List ℕ) (lines earlier : List ScriptLine) → Known p earlier → StandBehind earlier lines → Clear p (paths lines)
+later_clear p [] earlier known all = tt
+later_clear p (File q content ∷ ls) earlier known all = (
+  no_true (clash q p) (λ c. let one = known q c in let new = file_new earlier q _ all.0.order in cc (one, new)),
+  later_clear p ls _ (known_more p earlier (File q content) known) all.1,
+)
+later_clear p (Doc id reusable path grants ∷ ls) earlier known all = later_clear p ls _ (known_more p earlier _ known) all.1
+later_clear p (Open seat kind who ∷ ls) earlier known all = later_clear p ls _ (known_more p earlier _ known) all.1
+later_clear p (Data seat bytes ∷ ls) earlier known all = later_clear p ls _ (known_more p earlier _ known) all.1
+
+all_clear : (lines earlier : List ScriptLine) → StandBehind earlier lines → AllClear (paths lines)
+all_clear [] earlier all = tt
+all_clear (File p content ∷ ls) earlier all = (later_clear p ls _ (λ q c. now (clashes q) earlier (File p content) c) all.1, all_clear ls _ all.1)
+all_clear (Doc id reusable path grants ∷ ls) earlier all = all_clear ls _ all.1
+all_clear (Open seat kind who ∷ ls) earlier all = all_clear ls _ all.1
+all_clear (Data seat bytes ∷ ls) earlier all = all_clear ls _ all.1
+
+no_root : (lines earlier : List ScriptLine) → StandBehind earlier lines → AllByRecursion (λ p. is_same p root ≡ false) (paths lines)
+no_root [] earlier all = tt
+no_root (File p content ∷ ls) earlier all = (no_true (is_same p root) (λ same. all.0.itself.1 (same_from_test p root same)), no_root ls _ all.1)
+no_root (Doc id reusable path grants ∷ ls) earlier all = no_root ls _ all.1
+no_root (Open seat kind who ∷ ls) earlier all = no_root ls _ all.1
+no_root (Data seat bytes ∷ ls) earlier all = no_root ls _ all.1
+
+same_clear : (p : List ℕ) (qs : List (List ℕ)) → Clear p qs → AllByRecursion (λ q. is_same p q ≡ false) qs
+same_clear p [] clear = tt
+same_clear p (q ∷ qs) clear = (
+  no_true (is_same p q) (λ same.
+      let e : p ≡ q = same_from_test p q same in
+      let turned : is_same q p ≡ true = ap (is_same q) e ∙ same_refl q in
+      let never = clear.0 in
+      cc (rw turned at never)),
+  same_clear p qs clear.1,
+)
+
+clear_differ : (ps : List (List ℕ)) → AllClear ps → IsDistinct is_same ps
+unfolding IsDistinct
+clear_differ [] clear = tt
+clear_differ (p ∷ ps) clear = (same_clear p ps clear.0, clear_differ ps clear.1)
+
+or_parts : (a b c : Bool) → (a || (b || c)) ≡ false → (b ≡ false) × (c ≡ false)
+or_parts false false false h = (refl, refl)
+or_parts true b c h = cc h
+or_parts false true c h = cc h
+or_parts false false true h = cc h
+
+above_itself : (p : List ℕ) → is_above p p ≡ false
+above_itself p = no_true (is_above p p) (λ above.
+    let n = length-append p (47 ∷ []) in
+    let same = ap length (same_from_test (p ++ (47 ∷ [])) (take (length (p ++ (47 ∷ []))) p) above ∙ take_all (length (p ++ (47 ∷ []))) p (omega arith)) in
+    absurd (omega arith))
+
+above_none : (p : List ℕ) (qs : List (List ℕ)) → Clear p qs → list_any (is_above p) qs ≡ false
+above_none p [] clear = refl
+above_none p (q ∷ qs) clear = rw ((or_parts (is_same q p) (is_above p q) (is_above q p) clear.0).0, above_none p qs clear.1) refl
+
+behind_none : (p : List ℕ) (qs ws : List (List ℕ)) → Clear p qs → AllByRecursion (λ q. list_any (is_above q) ws ≡ false) qs
+    → AllByRecursion (λ q. list_any (is_above q) (p ∷ ws) ≡ false) qs
+behind_none p [] ws clear none = tt
+behind_none p (q ∷ qs) ws clear none = (
+  rw ((or_parts (is_same q p) (is_above p q) (is_above q p) clear.0).1, none.0) refl,
+  behind_none p qs ws clear.1 none.1,
+)
+
+none_above : (ps : List (List ℕ)) → AllClear ps → AllByRecursion (λ p. list_any (is_above p) ps ≡ false) ps
+none_above [] clear = tt
+none_above (p ∷ ps) clear = (rw (above_itself p, above_none p ps clear.0) refl, behind_none p ps ps clear.0 (none_above ps clear.1))
+
+any_paths : (p : List ℕ) (fs : List FileItem) → list_any (λ f. is_above p f.path) (map file_of fs) ≡ list_any (is_above p) (map (λ (f : FileItem). f.path) fs)
+any_paths p [] = refl
+any_paths p (f ∷ fs) = ap (λ (b : Bool). is_above p f.path || b) (any_paths p fs)
+
+files_apart : (fs whole : List FileItem) → AllByRecursion (λ p. is_same p root ≡ false) (map (λ (f : FileItem). f.path) fs)
+    → AllByRecursion (λ p. list_any (is_above p) (map (λ (f : FileItem). f.path) whole) ≡ false) (map (λ (f : FileItem). f.path) fs)
+    → list_all (λ f. not (is_folder (map file_of whole) f.path)) fs ≡ true
+files_apart [] whole roots none = refl
+files_apart (f ∷ fs) whole roots none =
+    both_true (not (is_folder (map file_of whole) f.path)) _ (rw (roots.0, any_paths f.path whole, none.0) refl) (files_apart fs whole roots.1 none.1)
+
+pub sound : (limits : Limits) (lines : List ScriptLine) → IsScript lines → HoldsScripts limits → SoundOpening (opening limits lines)
+unfolding IsDistinct
+sound limits lines good holds =
+    let few = documents_few lines [] (omega arith) good in
+    let documents = holds.documents in
+    let made = holds.made in
+    record {
+      made = refl;
+      applications = refl;
+      numbers_differ = numbers_differ lines [] good;
+      paths = paths_are lines [] good;
+      names = names_are lines [] good;
+      grants_differ = grants_differ lines [] good;
+      entries_differ = tt;
+      entries_sound = refl;
+      files_differ = clear_differ (paths lines) (all_clear lines [] good);
+      files_apart = files_apart (files_of lines) (files_of lines) (no_root lines [] good) (none_above (paths lines) (all_clear lines [] good));
+      documents_within = omega arith;
+      made_within = omega arith;
+      applications_within = applications_few lines [] (omega arith) good;
+      made_limit = holds.made_limit;
+      queued_limit = holds.queued_limit;
+    }
+
+pub opening_valid : (limits : Limits) (lines : List ScriptLine) (state : OpeningState) → IsScript lines → state ≡ opening limits lines → HoldsScripts limits
+    → ValidOpening (Some (map file_of state.files)) state
+opening_valid limits lines state good same holds = rw same (sound-ValidOpening (opening limits lines) (sound limits lines good holds))
+
+pub valid_result : {E : Type 0} (limits : Limits) (lines : List ScriptLine) (result : Result OpeningState E) → IsScript lines
+    → IfOk result (λ state. state ≡ opening limits lines) → HoldsScripts limits
+    → IfOk result (λ state. ValidOpening (Some (map file_of state.files)) state)
+valid_result limits lines (Ok state) good same holds = opening_valid limits lines state good same holds
+valid_result limits lines (Err error) good same holds = tt
