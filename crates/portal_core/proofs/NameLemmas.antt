@@ -1,8 +1,8 @@
 -- A text that is a name breaks its rule nowhere.
-use Rattle.std.proofs.Common.{◌≡◌, ◌+◌, ◌<◌, ◌≤◌, ◌++◌, ℕ, List, length, take, drop, Bool, true, false, ◌&&◌, nat_le, inl, inr, refl, sym, ap, subst, ◌∙◌, arith}
+use Rattle.std.proofs.Common.{◌≡◌, ◌+◌, ◌≤◌, ℕ, List, length, drop, Bool, true, false, ◌&&◌, nat_le, inl, inr, refl, sym, ap, ◌∙◌, arith}
 use Rattle.std.proofs.lemmas.Bool.Decides.{nat_tests}
 use Rattle.std.proofs.lemmas.List.{take-append-drop}
-use Rattle.portal_base.specs.Names.{IsFirstBreak, Begins, is_app_name, is_host_path, has_app_form, has_path_form, app_limit, path_limit}
+use Rattle.portal_base.specs.Names.{IsFirstBreak, is_app_name, is_host_path, has_app_form, has_path_form, app_limit, path_limit}
 
 no_break : (has_form : List ℕ → Bool) (limit : ℕ) (t : List ℕ) (n : ℕ) → has_form t ≡ true → length t ≤ limit → IsFirstBreak has_form limit t n → ⊥
 no_break has_form limit t n form short b = elim b.here [

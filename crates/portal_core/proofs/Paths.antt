@@ -1,7 +1,6 @@
 -- When one path lies above another.
-use Rattle.std.proofs.Common.{◌≡◌, ◌+◌, ◌<◌, ◌≤◌, ℕ, List, [], ◌∷◌, ◌++◌, length, take, slice_index, Bool, true, false, ◌&&◌, nat_eq, refl, arith}
+use Rattle.std.proofs.Common.{◌≡◌, ◌<◌, ◌≤◌, ℕ, List, [], ◌∷◌, length, slice_index, true, false, nat_eq, refl, arith}
 use Rattle.std.specs.List.{starts_with}
-use Rattle.std.specs.Cmp.Lexicographic.{pointwise}
 use Rattle.portal_model.specs.Content.{is_above}
 
 -- a path that begins with another lies below it where a slash follows

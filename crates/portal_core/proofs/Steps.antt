@@ -1,5 +1,5 @@
 -- One more entry of a history.
-use Rattle.std.proofs.Common.{◌≡◌, ◌+◌, ◌≤◌, ℕ, List, [], ◌∷◌, ◌++◌, Bool, true, false, cond, Option, Some, None, is_some, refl, sym, ap, ◌∙◌, subst, arith}
+use Rattle.std.proofs.Common.{◌≡◌, ◌+◌, ◌≤◌, ℕ, List, [], ◌∷◌, ◌++◌, true, false, cond, Option, Some, None, is_some, refl, sym, ap, ◌∙◌, subst, arith}
 use Rattle.portal_base.specs.declared.files.Look.{Look}
 use Rattle.portal_base.specs.declared.who.Kind.{Kind}
 use Rattle.portal_base.specs.declared.who.Who.{Who}
@@ -7,10 +7,8 @@ use Rattle.portal_model.specs.declared.entry.Entry.{Entry}
 use Rattle.portal_model.specs.declared.entry.Given.{Given}
 use Rattle.portal_model.specs.declared.opening.OpeningState.{OpeningState}
 use Rattle.portal_model.specs.declared.reply.Answer.{Answer}
-use Rattle.portal_model.specs.declared.reply.Answer.TheVariants as Answer
 use Rattle.portal_model.specs.declared.reply.Code.TheVariants as Code
 use Rattle.portal_model.specs.declared.request.NodeOp.{NodeOp}
-use Rattle.portal_model.specs.declared.request.NodeOp.TheVariants as NodeOp
 use Rattle.portal_model.specs.declared.request.NodeRequest.{NodeRequest}
 use Rattle.portal_model.specs.declared.request.Request.TheVariants as Request
 use Rattle.portal_model.specs.declared.state.Connection.{Connection}
@@ -23,7 +21,7 @@ use Rattle.portal_model.specs.Lawful.{Lawful}
 use Rattle.portal_model.specs.Opening.{opened}
 use Rattle.portal_model.specs.Place.{place_of}
 use Rattle.portal_model.specs.State.{State, connection_of}
-use Rattle.portal_model.specs.Step.{after, all_told, node_answer, node_looks, node_op_looks, node_step, is_mount, mount_of, reply_with, with_signals}
+use Rattle.portal_model.specs.Step.{after, node_answer, node_looks, node_op_looks, node_step, is_mount, mount_of, reply_with}
 use Rattle.portal_model.specs.Valid.{is_silent}
 use Rattle.portal_model.proofs.Histories.{run-append, Legal-append, cost-append}
 use Rattle.portal_model.proofs.Silence.{all_told-silent, node_step-silent, run-silent}

@@ -1,13 +1,12 @@
 -- Looks at the files of an opening state.
-use Rattle.std.proofs.Common.{◌≡◌, ℕ, List, [], ◌∷◌, Bool, true, false, ◌||◌, cond, Option, Some, None, map, length, refl, sym, ap, ◌∙◌, arith}
+use Rattle.std.proofs.Common.{◌≡◌, ℕ, List, [], ◌∷◌, Bool, true, false, cond, Option, Some, None, map, length, refl, sym, ap, ◌∙◌, arith}
 use Rattle.std.specs.List.{find, list_any}
 use Rattle.std.specs.Option.{option_map}
 use Rattle.portal_base.specs.Names.{is_same}
 use Rattle.portal_base.specs.declared.files.Look.{Look}
-use Rattle.portal_base.specs.declared.files.Look.TheVariants as Look
 use Rattle.portal_model.specs.declared.opening.FileItem.{FileItem}
 use Rattle.portal_model.specs.declared.state.File.{File}
-use Rattle.portal_model.specs.Content.{look_at, look_of, content_of, is_folder, has_room, file_at}
+use Rattle.portal_model.specs.Content.{look_at, look_of, content_of, is_folder, has_room}
 use Rattle.portal_model.specs.Opening.{file_of}
 use Rattle.portal_model.proofs.Finds.{find-map}
 

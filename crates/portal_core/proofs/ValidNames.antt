@@ -1,10 +1,10 @@
 -- The names in a valid state.
-use Rattle.std.proofs.Common.{◌≡◌, ℕ, List, [], ◌∷◌, Bool, true, ◌&&◌, ◌||◌, refl, sym, subst, arith}
+use Rattle.std.proofs.Common.{◌≡◌, ℕ, List, [], ◌∷◌, true, refl, arith}
 use Rattle.std.specs.List.{list_all, list_any}
 use Rattle.portal_base.specs.Names.{is_same, is_app_name}
 use Rattle.portal_model.specs.declared.state.Triple.{Triple}
 use Rattle.portal_model.specs.State.{State}
-use Rattle.portal_model.specs.Valid.{Valid, is_placed, is_numbered}
+use Rattle.portal_model.specs.Valid.{Valid, is_placed}
 use Rattle.portal_model.proofs.Finds.{is_same-eq}
 
 -- an application that is numbered has a name

@@ -1,9 +1,6 @@
-use Rattle.std.proofs.Common.{subst, sym, ◌≡◌, true, List}
-use Rattle.std.specs.List.{list_all}
 use Rattle.portal_base.specs.Names.{is_app_name}
-use Rattle.portal_model.specs.declared.records.GrantRecord.{GrantRecord}
 use Rattle.portal_model.specs.declared.state.Triple.{Triple}
-use Rattle.portal_model.specs.Opening.{each, triples_of}
+use Rattle.portal_model.specs.Opening.{triples_of}
 use Rattle.portal_core.proofs.Loops.{all_each}
 use Rattle.portal_core.proofs.opening.add_document.Goals as goal
 

@@ -1,5 +1,3 @@
-use Rattle.std.proofs.Common.{rules, ◌∙◌, ap, sym, ℕ}
-use Rattle.portal_base.specs.declared.files.Look.TheVariants as Look
 use Rattle.portal_core.proofs.TreeLemmas.{shown-file, shown-none}
 use Rattle.portal_core.proofs.tree.look_at.Goals as goal
 
