@@ -199,7 +199,7 @@ fn read_members(
 }
 
 /// Reads the types of a text of at most 255 bytes.
-fn read_list(alloc: Global, text: &[u8]) -> Result<List<WireType>, SignatureError>
+pub fn read_list(alloc: Global, text: &[u8]) -> Result<List<WireType>, SignatureError>
     requires short { length text.now ≤ 255 }
     ensures { Gives (λ ts. ts) result (whole_at 32 32 text.now) }
 {

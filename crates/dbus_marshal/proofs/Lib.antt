@@ -1,0 +1,13 @@
+pub mod Places
+pub mod Depths
+pub mod Took
+pub mod Words
+pub mod Signatures
+pub mod Sound
+pub mod Whole
+pub mod Public
+pub mod Loops
+pub mod Extending
+pub mod Sets
+pub mod Same
+pub mod Keeps

@@ -1,0 +1,4 @@
+pub mod Reading
+pub mod Spells
+pub mod Reads
+pub mod Spelling

@@ -1,0 +1,38 @@
+-- Answers of readers.
+use Rattle.std.specs.Prelude.{◌≡◌, ℕ, List, drop, Result, Ok, Err}
+use Rattle.dbus_marshal.specs.declared.error.ReadError.{ReadError}
+use Rattle.dbus_marshal.specs.declared.error.ReadError.TheVariants.{Memory}
+
+-- one step, and then the next where the first gave something
+infixl 10 ◌>>=◌
+abbrev pub ◌>>=◌ : {A B : Type 0} → Result A ReadError → (A → Result B ReadError) → Result B ReadError
+(Ok x) >>= f = f x
+(Err e) >>= f = Err e
+
+-- Reading breaks so, or memory ran out.
+abbrev pub Fails : {Y : Type 0} → ReadError → Result Y ReadError → Type 0
+Fails Memory read = Unit {0}
+Fails e read = read ≡ Err e
+
+-- What was returned, seen by view, is what reading gives, unless memory ran out.
+abbrev pub Gives : {X Y : Type 0} → (X → Y) → Result X ReadError → Result Y ReadError → Type 0
+Gives view (Ok x) read = read ≡ Ok (view x)
+Gives view (Err e) read = Fails e read
+
+-- What was read is such a thing, unless memory ran out.
+abbrev pub IsRead : {X : Type 0} → Result X ReadError → (X → Type 0) → Type 0
+IsRead (Ok x) P = P x
+IsRead (Err Memory) P = Unit {0}
+IsRead (Err e) P = ⊥
+
+-- a reader's answer: what was read, the offset after it, and the bytes from there on
+abbrev pub Read : Type 0 → Type 0
+Read X = Result (X × ℕ × List ℕ) ReadError
+
+-- what was read, and the offset and the bytes after it
+abbrev pub after : {X : Type 0} → List ℕ → X × ℕ → X × ℕ × List ℕ
+after bytes x = (x.0, x.1, drop x.1 bytes)
+
+-- an offset, and the bytes from there on
+abbrev pub place : List ℕ → ℕ → ℕ × List ℕ
+place bytes next = (next, drop next bytes)

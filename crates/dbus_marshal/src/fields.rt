@@ -1,0 +1,152 @@
+//! Reading the pieces that values are spelled with.
+
+ghost use Rattle.std.specs.Prelude.{◌≡◌, ◌+◌, ◌<◌, ◌≤◌, ◌^◌, length, take, drop, IfOk, ◌==◌};
+ghost use Rattle.std.specs.Int.{w16, w32, w64};
+ghost use Rattle.std.specs.List.{list_any};
+ghost use Rattle.dbus_marshal.specs.Reads.{Gives, after, place, zeros as zeros_in, padded as padded_in, byte_at as byte_in, taken as taken_in, ended as ended_in, number_at as number_in, truth as truth_in, array_error as array_error_of};
+
+use crate::error::ReadError;
+use byteorder::{BigEndian, ByteOrder, LittleEndian};
+use dbus_types::types::Endian;
+
+#[tactic(auto, using(crate::proofs::Places::byte_none, crate::proofs::Places::byte_some))]
+pub(crate) fn byte_at(bytes: &[u8], at: usize) -> Result<(u8, usize), ReadError>
+    requires { at ≤ length bytes.now }
+    ensures read { Gives (after bytes.now) result (byte_in at (drop at bytes.now)) }
+    ensures within { IfOk result (λ r. (at < r.1) × (r.1 ≤ length bytes.now)) }
+{
+    match bytes.get(at) {
+        Some(byte) => Ok((*byte, at + 1)),
+        None => Err(ReadError::Short { at }),
+    }
+}
+
+#[tactic(auto, using(crate::proofs::Places::zeros_nothing, crate::proofs::Places::zeros_none, crate::proofs::Places::zeros_zero, crate::proofs::Places::zeros_other))]
+fn skip_zeros(bytes: &[u8], at: usize, count: usize) -> Result<usize, ReadError>
+    requires { at ≤ length bytes.now }
+    ensures read { Gives (place bytes.now) result (zeros_in count at (drop at bytes.now)) }
+    ensures within { IfOk result (λ next. (at ≤ next) × (next ≤ length bytes.now)) }
+{
+    if count == 0 {
+        return Ok(at);
+    }
+    match bytes.get(at) {
+        None => Err(ReadError::Short { at }),
+        Some(0) => skip_zeros(bytes, at + 1, count - 1),
+        Some(_) => Err(ReadError::Padding { at }),
+    }
+}
+
+/// The next multiple of an alignment, over zero bytes.
+pub(crate) fn skip_padding(bytes: &[u8], at: usize, to: usize) -> Result<usize, ReadError>
+    requires place { at ≤ length bytes.now }
+    requires to { 0 < to }
+    ensures read { Gives (place bytes.now) result (padded_in to at (drop at bytes.now)) }
+    ensures within { IfOk result (λ next. (at ≤ next) × (next ≤ length bytes.now)) }
+{
+    skip_zeros(bytes, at, (to - at % to) % to)
+}
+
+#[tactic(auto, unfolding(crate::specs::Reads::taken))]
+pub(crate) fn taken(bytes: &[u8], at: usize, count: usize) -> Result<(&[u8], usize), ReadError>
+    requires { at ≤ length bytes.now }
+    ensures read { Gives (λ r. after bytes.now (r.0.now, r.1)) result (taken_in count at (drop at bytes.now)) }
+    ensures window { IfOk result (λ r. drop at (take r.1 bytes.now) ≡ r.0.now) }
+    ensures body { IfOk result (λ r. r.0.now ≡ take count (drop at bytes.now)) }
+    ensures within { IfOk result (λ r. (r.1 ≡ at + count) × (r.1 ≤ length bytes.now) × (length r.0.now ≡ count)) }
+{
+    if bytes.len() - at < count {
+        return Err(ReadError::Short { at });
+    }
+    Ok((&bytes[at..at + count], at + count))
+}
+
+/// The zero byte behind a text.
+#[tactic(auto, using(crate::proofs::Places::ended_none, crate::proofs::Places::ended_zero, crate::proofs::Places::ended_other))]
+pub(crate) fn ended(bytes: &[u8], at: usize, error: ReadError) -> Result<usize, ReadError>
+    requires { at ≤ length bytes.now }
+    ensures read { Gives (place bytes.now) result (ended_in error at (drop at bytes.now)) }
+    ensures within { IfOk result (λ next. (at < next) × (next ≤ length bytes.now)) }
+{
+    match bytes.get(at) {
+        None => Err(ReadError::Short { at }),
+        Some(0) => Ok(at + 1),
+        Some(_) => Err(error),
+    }
+}
+
+#[tactic(auto, unfolding(crate::specs::Reads::number_at))]
+pub(crate) fn number_16(endian: Endian, bytes: &[u8], at: usize) -> Result<(u16, usize), ReadError>
+    requires { at ≤ length bytes.now }
+    ensures read { Gives (after bytes.now) result (number_in endian w16 at (drop at bytes.now)) }
+    ensures within { IfOk result (λ r. (at < r.1) × (r.1 ≤ length bytes.now)) }
+{
+    let (raw, next) = taken(bytes, at, 2)?;
+    let number = match endian {
+        Endian::Little => LittleEndian::read_u16(raw),
+        Endian::Big => BigEndian::read_u16(raw),
+    };
+    Ok((number, next))
+}
+
+#[tactic(auto, unfolding(crate::specs::Reads::number_at))]
+pub(crate) fn number_32(endian: Endian, bytes: &[u8], at: usize) -> Result<(u32, usize), ReadError>
+    requires { at ≤ length bytes.now }
+    ensures read { Gives (after bytes.now) result (number_in endian w32 at (drop at bytes.now)) }
+    ensures within { IfOk result (λ r. (at < r.1) × (r.1 ≤ length bytes.now)) }
+{
+    let (raw, next) = taken(bytes, at, 4)?;
+    let number = match endian {
+        Endian::Little => LittleEndian::read_u32(raw),
+        Endian::Big => BigEndian::read_u32(raw),
+    };
+    Ok((number, next))
+}
+
+#[tactic(auto, unfolding(crate::specs::Reads::number_at))]
+pub(crate) fn number_64(endian: Endian, bytes: &[u8], at: usize) -> Result<(u64, usize), ReadError>
+    requires { at ≤ length bytes.now }
+    ensures read { Gives (after bytes.now) result (number_in endian w64 at (drop at bytes.now)) }
+    ensures within { IfOk result (λ r. (at < r.1) × (r.1 ≤ length bytes.now)) }
+{
+    let (raw, next) = taken(bytes, at, 8)?;
+    let number = match endian {
+        Endian::Little => LittleEndian::read_u64(raw),
+        Endian::Big => BigEndian::read_u64(raw),
+    };
+    Ok((number, next))
+}
+
+#[tactic(auto, unfolding(crate::specs::Reads::truth))]
+pub(crate) fn truth(at: usize, number: u32) -> Result<bool, ReadError>
+    ensures { Gives (λ b. b) result (truth_in at number) }
+{
+    match number {
+        0 => Ok(false),
+        1 => Ok(true),
+        _ => Err(ReadError::BadBool { at }),
+    }
+}
+
+/// Where the bytes end inside an array, they end at its length.
+pub(crate) fn array_error(error: ReadError) -> ReadError
+    ensures { result ≡ array_error_of error }
+{
+    match error {
+        ReadError::Short { at } => ReadError::BadArray { at },
+        ReadError::Padding { at } => ReadError::Padding { at },
+        ReadError::BadBool { at } => ReadError::BadBool { at },
+        ReadError::BadText { at } => ReadError::BadText { at },
+        ReadError::TooLong { at } => ReadError::TooLong { at },
+        ReadError::BadSignature { at } => ReadError::BadSignature { at },
+        ReadError::TooDeep { at } => ReadError::TooDeep { at },
+        ReadError::BadArray { at } => ReadError::BadArray { at },
+        ReadError::Memory => ReadError::Memory,
+    }
+}
+
+pub(crate) fn has_zero(text: &[u8]) -> bool
+    ensures { result ≡ list_any (λ b. b == 0) text.now }
+{
+    text.iter().any(|byte| *byte == 0)
+}

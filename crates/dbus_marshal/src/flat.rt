@@ -1,0 +1,253 @@
+//! Reading values that hold no other.
+
+ghost use Rattle.std.specs.Prelude.{◌≡◌, ◌+◌, ◌<◌, ◌≤◌, ◌^◌, length, take, drop, true, false, IfOk, MatchOption};
+ghost use Rattle.std.specs.Int.{w16, w32, w64, cast_signed};
+ghost use Rattle.dbus_types.specs.declared.types.WireType.{out-WireType};
+ghost use Rattle.dbus_marshal.specs.Reads.{Gives, after, is_text, is_path_text, padded_number, ended_with, text_at, signature_with, signature_at as signature_in, fixed, flat};
+
+use crate::error::ReadError;
+use crate::fields::{
+    byte_at, ended, has_zero, number_16, number_32, number_64, skip_padding, taken, truth,
+};
+use crate::signature::types_at;
+use dbus_types::names::is_object_path;
+use dbus_types::types::{Endian, Value, WireType};
+use portal_base::text::Text;
+use std::alloc::Global;
+use std::str;
+
+/// The bytes as a text, where they are UTF-8 without zero bytes.
+#[tactic(auto, using(crate::proofs::Places::not_utf8, crate::proofs::Places::utf8))]
+fn as_text(raw: &[u8]) -> Option<&str>
+    ensures { MatchOption result (is_text raw.now ≡ false) (λ text. (is_text raw.now ≡ true) × (text.now ≡ raw.now)) }
+{
+    match str::from_utf8(raw) {
+        Ok(text) => {
+            if has_zero(raw) {
+                return None;
+            }
+            Some(text)
+        }
+        Err(_) => None,
+    }
+}
+
+/// The bytes as the path of an object, where they are one.
+fn as_path(raw: &[u8]) -> Option<&str>
+    ensures { MatchOption result (is_path_text raw.now ≡ false) (λ text. (is_path_text raw.now ≡ true) × (text.now ≡ raw.now)) }
+{
+    match as_text(raw) {
+        Some(text) => {
+            if !is_object_path(raw) {
+                return None;
+            }
+            Some(text)
+        }
+        None => None,
+    }
+}
+
+/// A text, and the zero byte behind it.
+fn text_before(
+    alloc: Global,
+    bytes: &[u8],
+    end: usize,
+    text: &str,
+) -> Result<(Text, usize), ReadError>
+    requires { end ≤ length bytes.now }
+    ensures read { Gives (after bytes.now) result (ended_with text.now end (drop end bytes.now)) }
+    ensures within { IfOk result (λ r. (end < r.1) × (r.1 ≤ length bytes.now)) }
+{
+    let next = ended(bytes, end, ReadError::BadText { at: end })?;
+    let text = Text::copied(alloc, text)?;
+    Ok((text, next))
+}
+
+#[tactic(auto, unfolding(crate::specs::Reads::text_at))]
+fn string_at(
+    alloc: Global,
+    endian: Endian,
+    bytes: &[u8],
+    at: usize,
+) -> Result<(Text, usize), ReadError>
+    requires { at ≤ length bytes.now }
+    ensures read { Gives (after bytes.now) result (text_at endian is_text at (drop at bytes.now)) }
+    ensures within { IfOk result (λ r. (at < r.1) × (r.1 ≤ length bytes.now)) }
+{
+    let (count, start) = number_32(endian, bytes, at)?;
+    let (raw, end) = taken(bytes, start, count as usize)?;
+    match as_text(raw) {
+        Some(text) => text_before(alloc, bytes, end, text),
+        None => Err(ReadError::BadText { at: start }),
+    }
+}
+
+#[tactic(auto, unfolding(crate::specs::Reads::text_at))]
+fn path_at(
+    alloc: Global,
+    endian: Endian,
+    bytes: &[u8],
+    at: usize,
+) -> Result<(Text, usize), ReadError>
+    requires { at ≤ length bytes.now }
+    ensures read { Gives (after bytes.now) result (text_at endian is_path_text at (drop at bytes.now)) }
+    ensures within { IfOk result (λ r. (at < r.1) × (r.1 ≤ length bytes.now)) }
+{
+    let (count, start) = number_32(endian, bytes, at)?;
+    let (raw, end) = taken(bytes, start, count as usize)?;
+    match as_path(raw) {
+        Some(text) => text_before(alloc, bytes, end, text),
+        None => Err(ReadError::BadText { at: start }),
+    }
+}
+
+/// A signature, and the zero byte behind it.
+fn signature_before(
+    alloc: Global,
+    bytes: &[u8],
+    end: usize,
+    text: &str,
+) -> Result<(Text, usize), ReadError>
+    requires { end ≤ length bytes.now }
+    ensures read { Gives (after bytes.now) result (signature_with text.now end (drop end bytes.now)) }
+    ensures within { IfOk result (λ r. (end < r.1) × (r.1 ≤ length bytes.now)) }
+{
+    let next = ended(bytes, end, ReadError::BadSignature { at: end })?;
+    let text = Text::copied(alloc, text)?;
+    Ok((text, next))
+}
+
+#[tactic(auto, unfolding(crate::specs::Reads::signature_at))]
+fn signature_at(alloc: Global, bytes: &[u8], at: usize) -> Result<(Text, usize), ReadError>
+    requires { at ≤ length bytes.now }
+    ensures read { Gives (after bytes.now) result (signature_in at (drop at bytes.now)) }
+    ensures within { IfOk result (λ r. (at < r.1) × (r.1 ≤ length bytes.now)) }
+{
+    let (count, start) = byte_at(bytes, at)?;
+    let (raw, end) = taken(bytes, start, count as usize)?;
+    let _types = types_at(alloc, raw, start)?;
+    match as_text(raw) {
+        Some(text) => signature_before(alloc, bytes, end, text),
+        None => Err(ReadError::BadSignature { at: start }),
+    }
+}
+
+/// The number at the next multiple of two.
+fn padded_16(endian: Endian, bytes: &[u8], at: usize) -> Result<(u16, usize), ReadError>
+    requires { at ≤ length bytes.now }
+    ensures read { Gives (after bytes.now) result (padded_number endian 2 w16 at (drop at bytes.now)) }
+    ensures within { IfOk result (λ r. (at < r.1) × (r.1 ≤ length bytes.now)) }
+{
+    let start = skip_padding(bytes, at, 2)?;
+    number_16(endian, bytes, start)
+}
+
+/// The number at the next multiple of four.
+fn padded_32(endian: Endian, bytes: &[u8], at: usize) -> Result<(u32, usize), ReadError>
+    requires { at ≤ length bytes.now }
+    ensures read { Gives (after bytes.now) result (padded_number endian 4 w32 at (drop at bytes.now)) }
+    ensures within { IfOk result (λ r. (at < r.1) × (r.1 ≤ length bytes.now)) }
+{
+    let start = skip_padding(bytes, at, 4)?;
+    number_32(endian, bytes, start)
+}
+
+/// The number at the next multiple of eight.
+fn padded_64(endian: Endian, bytes: &[u8], at: usize) -> Result<(u64, usize), ReadError>
+    requires { at ≤ length bytes.now }
+    ensures read { Gives (after bytes.now) result (padded_number endian 8 w64 at (drop at bytes.now)) }
+    ensures within { IfOk result (λ r. (at < r.1) × (r.1 ≤ length bytes.now)) }
+{
+    let start = skip_padding(bytes, at, 8)?;
+    number_64(endian, bytes, start)
+}
+
+#[tactic(auto, unfolding(crate::specs::Reads::fixed))]
+fn read_fixed(
+    endian: Endian,
+    bytes: &[u8],
+    at: usize,
+    kind: &WireType,
+) -> Result<(Value, usize), ReadError>
+    requires { at ≤ length bytes.now }
+    ensures read { Gives (after bytes.now) result (fixed endian (out-WireType kind.now) at (drop at bytes.now)) }
+    ensures within { IfOk result (λ r. (at < r.1) × (r.1 ≤ length bytes.now)) }
+{
+    match kind {
+        WireType::I16 => {
+            let (number, next) = padded_16(endian, bytes, at)?;
+            Ok((Value::I16(number.cast_signed()), next))
+        }
+        WireType::U16 => {
+            let (number, next) = padded_16(endian, bytes, at)?;
+            Ok((Value::U16(number), next))
+        }
+        WireType::I32 => {
+            let (number, next) = padded_32(endian, bytes, at)?;
+            Ok((Value::I32(number.cast_signed()), next))
+        }
+        WireType::U32 => {
+            let (number, next) = padded_32(endian, bytes, at)?;
+            Ok((Value::U32(number), next))
+        }
+        WireType::Handle => {
+            let (number, next) = padded_32(endian, bytes, at)?;
+            Ok((Value::Handle(number), next))
+        }
+        WireType::I64 => {
+            let (number, next) = padded_64(endian, bytes, at)?;
+            Ok((Value::I64(number.cast_signed()), next))
+        }
+        WireType::U64 => {
+            let (number, next) = padded_64(endian, bytes, at)?;
+            Ok((Value::U64(number), next))
+        }
+        WireType::Double => {
+            let (number, next) = padded_64(endian, bytes, at)?;
+            Ok((Value::Double(number), next))
+        }
+        _ => Err(ReadError::TooDeep { at }),
+    }
+}
+
+/// The value of a type with no value inside.
+#[tactic(auto, unfolding(crate::specs::Reads::flat))]
+pub(crate) fn read_flat(
+    alloc: Global,
+    endian: Endian,
+    bytes: &[u8],
+    at: usize,
+    kind: &WireType,
+) -> Result<(Value, usize), ReadError>
+    requires { at ≤ length bytes.now }
+    ensures read { Gives (after bytes.now) result (flat endian (out-WireType kind.now) at (drop at bytes.now)) }
+    ensures within { IfOk result (λ r. (at < r.1) × (r.1 ≤ length bytes.now)) }
+{
+    match kind {
+        WireType::Byte => {
+            let (byte, next) = byte_at(bytes, at)?;
+            Ok((Value::Byte(byte), next))
+        }
+        WireType::Bool => {
+            let start = skip_padding(bytes, at, 4)?;
+            let (number, next) = number_32(endian, bytes, start)?;
+            let truth = truth(start, number)?;
+            Ok((Value::Bool(truth), next))
+        }
+        WireType::Str => {
+            let start = skip_padding(bytes, at, 4)?;
+            let (text, next) = string_at(alloc, endian, bytes, start)?;
+            Ok((Value::Str(text), next))
+        }
+        WireType::ObjectPath => {
+            let start = skip_padding(bytes, at, 4)?;
+            let (path, next) = path_at(alloc, endian, bytes, start)?;
+            Ok((Value::ObjectPath(path), next))
+        }
+        WireType::Signature => {
+            let (text, next) = signature_at(alloc, bytes, at)?;
+            Ok((Value::Signature(text), next))
+        }
+        _ => read_fixed(endian, bytes, at, kind),
+    }
+}

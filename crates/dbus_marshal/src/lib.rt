@@ -1,0 +1,16 @@
+//! Values of D-Bus as bytes: reading them in either order of bytes, and
+//! writing them with the lowest byte first.
+//!
+//! Source: D-Bus Specification, "Marshaling (Wire Format)".
+#![tactic(auto)]
+
+mod align;
+pub mod error;
+mod fields;
+mod flat;
+mod put;
+pub mod read;
+mod signature;
+#[cfg(test)]
+mod tests;
+pub mod write;

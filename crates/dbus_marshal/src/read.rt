@@ -1,0 +1,252 @@
+//! Reading values.
+//!
+//! Source: D-Bus Specification, "Marshaling (Wire Format)".
+
+ghost use Rattle.std.specs.Prelude.{◌≡◌, ◌+◌, ◌-◌, ◌<◌, ◌≤◌, ◌^◌, ℕ, List, ◌++◌, length, take, drop, IfOk};
+ghost use Rattle.dbus_types.specs.declared.types.Value.{Value as Value'};
+ghost use Rattle.dbus_types.specs.declared.types.WireType.{out-WireType};
+ghost use Rattle.dbus_types.specs.declared.types.WireType.TheOpen.{WireType-F};
+ghost use Rattle.dbus_types.specs.Types.{IsValidType};
+ghost use Rattle.dbus_types.specs.Values.{type_of, KeepsRules};
+ghost use Rattle.dbus_marshal.specs.Spells.{Spells};
+ghost use Rattle.dbus_marshal.specs.Reads.{Gives, IsRead, after, layer, members, elements, reads};
+
+use crate::align::alignment_of;
+use crate::error::ReadError;
+use crate::fields::{array_error, byte_at, ended, number_32, skip_padding, taken};
+use crate::flat::read_flat;
+use crate::signature::type_at;
+use dbus_types::types::{Endian, Value, WireType};
+use portal_base::boxed::Boxed;
+use portal_base::list::List;
+use portal_base::memory::Replica;
+use std::alloc::Global;
+
+/// The greatest length of an array in bytes.
+const LONGEST_ARRAY: u32 = 67_108_864;
+
+/// How many arrays, structs, dict entries and variants may stand in each other.
+const DEEPEST: u32 = 64;
+
+/// The value of a type at a place, within a depth.
+#[cycle(read)]
+#[tactic(auto, unfolding(crate::specs::Reads::layer), using(crate::proofs::Depths::reads_flat, crate::proofs::Depths::reads_more))]
+fn read_within(
+    alloc: Global,
+    endian: Endian,
+    bytes: &[u8],
+    at: usize,
+    kind: &WireType,
+    depth: u32,
+) -> Result<(Value, usize), ReadError>
+    requires { at ≤ length bytes.now }
+    ensures read { Gives (after bytes.now) result (reads depth endian kind.now at (drop at bytes.now)) }
+    ensures within { IfOk result (λ r. (at < r.1) × (r.1 ≤ length bytes.now)) }
+{
+    if depth == 0 {
+        return read_flat(alloc, endian, bytes, at, kind);
+    }
+    match kind {
+        WireType::Array(element) => {
+            read_array(alloc, endian, bytes, at, element.get(), depth - 1)
+        }
+        WireType::Struct(kinds) => {
+            read_struct(alloc, endian, bytes, at, kinds.as_slice(), depth - 1)
+        }
+        WireType::DictEntry { key, value } => {
+            read_entry(alloc, endian, bytes, at, key.get(), value.get(), depth - 1)
+        }
+        WireType::Variant => read_variant(alloc, endian, bytes, at, depth - 1),
+        _ => read_flat(alloc, endian, bytes, at, kind),
+    }
+}
+
+#[cycle(read)]
+#[tactic(auto, unfolding(crate::specs::Reads::layer))]
+fn read_array(
+    alloc: Global,
+    endian: Endian,
+    bytes: &[u8],
+    at: usize,
+    element: &WireType,
+    depth: u32,
+) -> Result<(Value, usize), ReadError>
+    requires { at ≤ length bytes.now }
+    ensures read { Gives (after bytes.now) result (layer (reads depth endian) endian (WireType-F.Array element.now) at (drop at bytes.now)) }
+    ensures within { IfOk result (λ r. (at < r.1) × (r.1 ≤ length bytes.now)) }
+{
+    let start = skip_padding(bytes, at, 4)?;
+    let (count, begins) = number_32(endian, bytes, start)?;
+    if LONGEST_ARRAY < count {
+        return Err(ReadError::TooLong { at: start });
+    }
+    let from = skip_padding(bytes, begins, alignment_of(element))?;
+    let (body, end) = taken(bytes, from, count as usize)?;
+    match read_elements(alloc, endian, &bytes[..end], from, element, depth) {
+        Ok(items) => {
+            let element = element.replica(alloc)?;
+            Ok((Value::Array { element, items }, end))
+        }
+        Err(error) => Err(array_error(error)),
+    }
+}
+
+#[cycle(read)]
+fn read_elements(
+    alloc: Global,
+    endian: Endian,
+    bytes: &[u8],
+    at: usize,
+    element: &WireType,
+    depth: u32,
+) -> Result<List<Value>, ReadError>
+    requires { at ≤ length bytes.now }
+    ensures read { Gives (λ items. items) result (elements (length (drop at bytes.now)) (reads depth endian element.now) at (drop at bytes.now)) }
+{
+    let mut items = List::new(alloc);
+    let mut next = at;
+    while next < bytes.len() {
+        match read_within(alloc, endian, bytes, next, element, depth) {
+            Ok((item, end)) => {
+                items.push(item)?;
+                next = end;
+            }
+            Err(error) => return Err(error),
+        }
+    }
+    Ok(items)
+}
+
+#[cycle(read)]
+#[tactic(auto, unfolding(crate::specs::Reads::layer))]
+fn read_struct(
+    alloc: Global,
+    endian: Endian,
+    bytes: &[u8],
+    at: usize,
+    kinds: &[WireType],
+    depth: u32,
+) -> Result<(Value, usize), ReadError>
+    requires { at ≤ length bytes.now }
+    ensures read { Gives (after bytes.now) result (layer (reads depth endian) endian (WireType-F.Struct kinds.now) at (drop at bytes.now)) }
+    ensures within { IfOk result (λ r. (at < r.1) × (r.1 ≤ length bytes.now)) }
+{
+    if kinds.is_empty() {
+        return Err(ReadError::BadSignature { at });
+    }
+    let start = skip_padding(bytes, at, 8)?;
+    let (values, next) = read_members(alloc, endian, bytes, start, kinds, depth)?;
+    Ok((Value::Struct(values), next))
+}
+
+#[cycle(read)]
+fn read_members(
+    alloc: Global,
+    endian: Endian,
+    bytes: &[u8],
+    at: usize,
+    kinds: &[WireType],
+    depth: u32,
+) -> Result<(List<Value>, usize), ReadError>
+    requires { at ≤ length bytes.now }
+    ensures read { Gives (after bytes.now) result (members (reads depth endian) kinds.now at (drop at bytes.now)) }
+    ensures within { IfOk result (λ r. (at + length kinds.now ≤ r.1) × (r.1 ≤ length bytes.now)) }
+{
+    let mut values = List::new(alloc);
+    let mut next = at;
+    for kind in kinds {
+        match read_within(alloc, endian, bytes, next, kind, depth) {
+            Ok((value, end)) => {
+                values.push(value)?;
+                next = end;
+            }
+            Err(error) => return Err(error),
+        }
+    }
+    Ok((values, next))
+}
+
+#[cycle(read)]
+#[tactic(auto, unfolding(crate::specs::Reads::layer))]
+fn read_entry(
+    alloc: Global,
+    endian: Endian,
+    bytes: &[u8],
+    at: usize,
+    key: &WireType,
+    value: &WireType,
+    depth: u32,
+) -> Result<(Value, usize), ReadError>
+    requires { at ≤ length bytes.now }
+    ensures read { Gives (after bytes.now) result (layer (reads depth endian) endian (WireType-F.DictEntry key.now value.now) at (drop at bytes.now)) }
+    ensures within { IfOk result (λ r. (at < r.1) × (r.1 ≤ length bytes.now)) }
+{
+    let start = skip_padding(bytes, at, 8)?;
+    let (key, middle) = read_within(alloc, endian, bytes, start, key, depth)?;
+    let (value, next) = read_within(alloc, endian, bytes, middle, value, depth)?;
+    let key = Boxed::new(alloc, key)?;
+    let value = Boxed::new(alloc, value)?;
+    Ok((Value::DictEntry { key, value }, next))
+}
+
+#[cycle(read)]
+#[tactic(auto, unfolding(crate::specs::Reads::layer))]
+fn read_variant(
+    alloc: Global,
+    endian: Endian,
+    bytes: &[u8],
+    at: usize,
+    depth: u32,
+) -> Result<(Value, usize), ReadError>
+    requires { at ≤ length bytes.now }
+    ensures read { Gives (after bytes.now) result (layer (reads depth endian) endian WireType-F.Variant at (drop at bytes.now)) }
+    ensures within { IfOk result (λ r. (at < r.1) × (r.1 ≤ length bytes.now)) }
+{
+    let (count, begins) = byte_at(bytes, at)?;
+    let (signature, end) = taken(bytes, begins, count as usize)?;
+    let kind = type_at(alloc, signature, begins)?;
+    let start = ended(bytes, end, ReadError::BadSignature { at: end })?;
+    let (value, next) = read_within(alloc, endian, bytes, start, &kind, depth)?;
+    Ok((Value::Variant(Boxed::new(alloc, value)?), next))
+}
+
+/// A value that was read.
+#[derive(Debug, Drop)]
+pub struct ReadValue {
+    /// The value.
+    pub value: Value,
+    /// The index of the byte after it.
+    pub next: usize,
+}
+
+/// Reads the value of a type that the bytes spell from a place, whose index is
+/// the offset that alignments go by.
+///
+/// The error is that of the first break from the left. A field that the bytes
+/// end in is `Short` at its first byte. Of an array, its length comes first,
+/// then the padding ahead of its elements, then whether as many bytes are
+/// there as the length says, and then the elements; memory is taken only for
+/// elements whose bytes are there. Of a text, its bytes come before the zero
+/// byte behind it.
+pub fn read_value(
+    alloc: Global,
+    endian: Endian,
+    bytes: &[u8],
+    at: usize,
+    kind: &WireType,
+) -> Result<ReadValue, ReadError>
+    requires { at ≤ length bytes.now }
+    // What is read is spelled there.
+    ensures found { IfOk result (λ r. (at ≤ r.next) × (r.next ≤ length bytes.now)
+        × Spells endian at kind.now r.value (take (r.next - at) (drop at bytes.now))) }
+    // What is spelled there is read, unless memory runs out.
+    ensures only { (value : Value') (text rest : List ℕ) → Spells endian at kind.now value text → drop at bytes.now ≡ text ++ rest
+        → IsRead result (λ r. (r.value ≡ value) × (r.next ≡ at + length text)) }
+    // What is read has the type, and keeps the rules of values: it stands in at most 64 others, among them.
+    ensures keeps { IsValidType kind.now → IfOk result (λ r. (type_of r.value ≡ kind.now) × KeepsRules r.value) }
+    // Which break it is.
+    ensures exact { Gives (λ r. after bytes.now (r.value, r.next)) result (reads 64 endian kind.now at (drop at bytes.now)) }
+{
+    let (value, next) = read_within(alloc, endian, bytes, at, kind, DEEPEST)?;
+    Ok(ReadValue { value, next })
+}
