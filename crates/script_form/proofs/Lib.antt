@@ -7,3 +7,4 @@ pub mod SameFacts
 pub mod ScriptFacts
 pub mod NamingFacts
 pub mod SoundFacts
+pub mod OneWay

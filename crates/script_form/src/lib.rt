@@ -5,6 +5,7 @@
 #![tactic(auto)]
 
 mod grants;
+pub mod laws;
 mod line;
 pub mod opening;
 mod preceding;
