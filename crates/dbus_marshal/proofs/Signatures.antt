@@ -1,11 +1,11 @@
 -- Signatures in values.
-use Rattle.std.proofs.Common.{◌≡◌, ℕ, ◌+◌, ◌≤◌, List, [], ◌∷◌, ◌++◌, length, Result, Ok, Err, refl, sym, ap, subst, ◌∙◌, append-nil, arith}
-use Rattle.std.specs.Prelude.{IfOk, All}
+use Rattle.std.proofs.Common.{◌≡◌, ℕ, ◌≤◌, List, [], ◌∷◌, length, Result, Ok, Err, refl, sym, subst, ◌∙◌, append-nil}
+use Rattle.std.specs.Prelude.{IfOk}
 use Rattle.std.proofs.lemmas.List.Elements.{All-head, All-cons, All-nil}
 use Rattle.dbus_types.specs.declared.errors.SignatureError.{SignatureError}
 use Rattle.dbus_types.specs.declared.types.WireType.{WireType}
 use Rattle.dbus_types.specs.Reading.{whole_at}
-use Rattle.dbus_types.specs.Types.{type_text, types_text, IsValidType, IsVariantType, IsSignature}
+use Rattle.dbus_types.specs.Types.{type_text, IsValidType, IsVariantType, IsSignature}
 use Rattle.dbus_types.proofs.Whole.{short_reading, whole_again}
 use Rattle.dbus_marshal.specs.declared.error.ReadError.{ReadError}
 use Rattle.dbus_marshal.specs.Reads.{◌>>=◌, moved, types_in, only_type, type_in}

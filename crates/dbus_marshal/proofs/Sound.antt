@@ -2,7 +2,6 @@
 use Rattle.std.proofs.Common.{◌≡◌, ℕ, zero, suc, ◌+◌, ◌^◌, ◌<◌, Bool, true, ltb, List, [], ◌∷◌, ◌++◌, length, replicate, Result, Ok, Err, refl, sym, ap, subst, ◌∙◌, append_assoc, append-nil, arith}
 use Rattle.std.specs.Prelude.{IfOk}
 use Rattle.std.specs.Int.{w16, w32, w64, cast_signed}
-use mir.Val.{bits}
 use Rattle.std.proofs.lemmas.Result.{IfOk-weaker}
 use Rattle.std.proofs.lemmas.Bool.{ltb-false}
 use Rattle.std.proofs.lemmas.List.{length-append, length-replicate}
@@ -16,7 +15,7 @@ use Rattle.dbus_marshal.specs.declared.error.ReadError.TheVariants.{BadText, Too
 use Rattle.dbus_types.specs.Types.{alignment}
 use Rattle.dbus_types.specs.Values.{IsText, IsSignatureText}
 use Rattle.dbus_marshal.specs.Spells.{number, gap, Aligned, IsPath, bit, Members, Elements, BoolRow, NumberRow, TextRow, ArrayRow, StructRow, EntryRow, Flat, Row, SpellsWithin}
-use Rattle.dbus_marshal.specs.Reads.{◌>>=◌, Read, padded, taken, padded_number, numbered, number_at, byte_at, ended, truth, is_text, is_path_text, ended_with, text_at, texted, types_in, type_in, signature_with, signature_at, joined, members, listed, elements, within_array, fixed, flat, layer, reads}
+use Rattle.dbus_marshal.specs.Reads.{◌>>=◌, Read, padded, taken, numbered, number_at, byte_at, ended, truth, is_text, is_path_text, text_at, texted, types_in, type_in, signature_at, joined, members, listed, elements, within_array, fixed, flat, layer, reads}
 use Rattle.dbus_marshal.proofs.Signatures.{types_took, type_took}
 use Rattle.dbus_marshal.proofs.Words.{text_is, path_is}
 use Rattle.dbus_marshal.proofs.Took.{Wide, two, four, eight, width, IsBytes, bytes_before, Took, took, Then, took_then, took_as, number_len, bind, guard, guard_then, zeros_took, taken_took, byte_took, ended_took, number_took}

@@ -1,5 +1,5 @@
 -- The spelling of a value, as a function of the value and the offset.
-use Rattle.std.specs.Prelude.{◌≡◌, ℕ, ◌+◌, List, [], ◌∷◌, ◌++◌, length, replicate, map}
+use Rattle.std.specs.Prelude.{ℕ, ◌+◌, List, [], ◌∷◌, ◌++◌, length, replicate, map}
 use Rattle.std.specs.Int.{w8, w16, w32, w64, to_le_bytes, cast_unsigned}
 use Rattle.dbus_types.specs.declared.types.Endian.{Endian}
 use Rattle.dbus_types.specs.declared.types.WireType.{WireType}
