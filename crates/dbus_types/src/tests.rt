@@ -67,146 +67,131 @@ fn each_code_is_a_type(rt: HostRuntime) -> Result<(), Fail> {
 #[test]
 fn containers_are_read(rt: HostRuntime) -> Result<(), Fail> {
     let alloc = rt.alloc();
-    good(&rt, alloc, b"as", 1)?;
-    good(&rt, alloc, b"aas", 1)?;
-    good(&rt, alloc, b"a{sv}", 1)?;
-    good(&rt, alloc, b"a{yy}", 1)?;
-    good(&rt, alloc, b"a{oa{sv}}", 1)?;
-    good(&rt, alloc, b"a{ia(ii)}", 1)?;
-    good(&rt, alloc, b"aa{sv}", 1)?;
-    good(&rt, alloc, b"(i)", 1)?;
-    good(&rt, alloc, b"(ii)", 1)?;
-    good(&rt, alloc, b"(i(ii))", 1)?;
-    good(&rt, alloc, b"((y)(v)a(s))", 1)?;
-    good(&rt, alloc, b"a(yv)", 1)?;
-    good(&rt, alloc, b"ai(s)a{uv}g", 4)?;
-    good(&rt, alloc, b"ayaayas", 3)?;
-    good(&rt, alloc, b"ssa{sas}v", 4)
-}
-
-#[test]
-fn broken_texts_stop_at_their_first_break(rt: HostRuntime) -> Result<(), Fail> {
-    let alloc = rt.alloc();
-    bad(&rt, alloc, b"a", 1);
-    bad(&rt, alloc, b"aa", 2);
-    bad(&rt, alloc, b"(", 1);
-    bad(&rt, alloc, b"()", 1);
-    bad(&rt, alloc, b"(i", 2);
-    bad(&rt, alloc, b")", 0);
-    bad(&rt, alloc, b"i)", 1);
-    bad(&rt, alloc, b"(i))", 3);
-    bad(&rt, alloc, b"(i}", 2);
-    bad(&rt, alloc, b"((i)", 4);
-    bad(&rt, alloc, b"a()", 2);
-    bad(&rt, alloc, b"(a)", 2);
-    bad(&rt, alloc, b"r", 0);
-    bad(&rt, alloc, b"e", 0);
-    bad(&rt, alloc, b"ii*i", 2);
-    bad(&rt, alloc, b"i\x00", 1);
-    bad(&rt, alloc, b"az", 1);
+    let rows = [
+        (b"as".as_slice(), 1),
+        (b"aas".as_slice(), 1),
+        (b"a{sv}".as_slice(), 1),
+        (b"a{yy}".as_slice(), 1),
+        (b"a{oa{sv}}".as_slice(), 1),
+        (b"a{ia(ii)}".as_slice(), 1),
+        (b"aa{sv}".as_slice(), 1),
+        (b"(i)".as_slice(), 1),
+        (b"(ii)".as_slice(), 1),
+        (b"(i(ii))".as_slice(), 1),
+        (b"((y)(v)a(s))".as_slice(), 1),
+        (b"a(yv)".as_slice(), 1),
+        (b"ai(s)a{uv}g".as_slice(), 4),
+        (b"ayaayas".as_slice(), 3),
+        (b"ssa{sas}v".as_slice(), 4),
+    ];
+    for (text, count) in rows {
+        good(&rt, alloc, text, count)?;
+    }
     Ok(())
 }
 
 #[test]
-fn dict_entries_stand_in_arrays_alone(rt: HostRuntime) -> Result<(), Fail> {
+fn broken_texts_stop_at_their_first_break(rt: HostRuntime) {
     let alloc = rt.alloc();
-    bad(&rt, alloc, b"{sv}", 0);
-    bad(&rt, alloc, b"({sv})", 1);
-    bad(&rt, alloc, b"a{vs}", 2);
-    bad(&rt, alloc, b"a{ass}", 2);
-    bad(&rt, alloc, b"a{(i)s}", 2);
-    bad(&rt, alloc, b"a{}", 2);
-    bad(&rt, alloc, b"a{s}", 3);
-    bad(&rt, alloc, b"a{sss}", 4);
-    bad(&rt, alloc, b"a{sv", 4);
-    bad(&rt, alloc, b"a{s", 3);
-    bad(&rt, alloc, b"a{", 2);
-    bad(&rt, alloc, b"a{s{sv}}", 3);
-    bad(&rt, alloc, b"a{sv)", 4);
-    Ok(())
+    let rows = [
+        (b"a".as_slice(), 1),
+        (b"aa".as_slice(), 2),
+        (b"(".as_slice(), 1),
+        (b"()".as_slice(), 1),
+        (b"(i".as_slice(), 2),
+        (b")".as_slice(), 0),
+        (b"i)".as_slice(), 1),
+        (b"(i))".as_slice(), 3),
+        (b"(i}".as_slice(), 2),
+        (b"((i)".as_slice(), 4),
+        (b"a()".as_slice(), 2),
+        (b"(a)".as_slice(), 2),
+        (b"r".as_slice(), 0),
+        (b"e".as_slice(), 0),
+        (b"ii*i".as_slice(), 2),
+        (b"i\x00".as_slice(), 1),
+        (b"az".as_slice(), 1),
+    ];
+    for (text, at) in rows {
+        bad(&rt, alloc, text, at);
+    }
+}
+
+#[test]
+fn dict_entries_stand_in_arrays_alone(rt: HostRuntime) {
+    let alloc = rt.alloc();
+    let rows = [
+        (b"{sv}".as_slice(), 0),
+        (b"({sv})".as_slice(), 1),
+        (b"a{vs}".as_slice(), 2),
+        (b"a{ass}".as_slice(), 2),
+        (b"a{(i)s}".as_slice(), 2),
+        (b"a{}".as_slice(), 2),
+        (b"a{s}".as_slice(), 3),
+        (b"a{sss}".as_slice(), 4),
+        (b"a{sv".as_slice(), 4),
+        (b"a{s".as_slice(), 3),
+        (b"a{".as_slice(), 2),
+        (b"a{s{sv}}".as_slice(), 3),
+        (b"a{sv)".as_slice(), 4),
+    ];
+    for (text, at) in rows {
+        bad(&rt, alloc, text, at);
+    }
 }
 
 #[test]
 fn at_most_32_arrays_and_32_brackets_nest(rt: HostRuntime) -> Result<(), Fail> {
     let alloc = rt.alloc();
-    good(
-        &rt,
-        alloc,
-        around(alloc, 32, b"a", b"y", b"")?.as_slice(),
-        1,
-    )?;
-    deep(
-        &rt,
-        alloc,
-        around(alloc, 33, b"a", b"y", b"")?.as_slice(),
-        32,
-    );
-    good(
-        &rt,
-        alloc,
-        around(alloc, 32, b"(", b"y", b")")?.as_slice(),
-        1,
-    )?;
-    deep(
-        &rt,
-        alloc,
-        around(alloc, 33, b"(", b"y", b")")?.as_slice(),
-        32,
-    );
-    good(
-        &rt,
-        alloc,
-        around(alloc, 32, b"a(", b"y", b")")?.as_slice(),
-        1,
-    )?;
-    good(
-        &rt,
-        alloc,
-        around(alloc, 32, b"a{y", b"y", b"}")?.as_slice(),
-        1,
-    )?;
-    deep(
-        &rt,
-        alloc,
-        around(alloc, 32, b"(", b"a{yy}", b")")?.as_slice(),
-        33,
-    );
-    deep(
-        &rt,
-        alloc,
-        around(alloc, 33, b"a", b"", b"")?.as_slice(),
-        32,
-    );
+    let rows = [
+        (b"a".as_slice(), b"".as_slice()),
+        (b"(".as_slice(), b")".as_slice()),
+        (b"a(".as_slice(), b")".as_slice()),
+        (b"a{y".as_slice(), b"}".as_slice()),
+    ];
+    for (front, back) in rows {
+        let text = around(alloc, 32, front, b"y", back)?;
+        good(&rt, alloc, text.as_slice(), 1)?;
+    }
+    Ok(())
+}
+
+#[test]
+fn deeper_types_stop_where_they_go_too_deep(rt: HostRuntime) -> Result<(), Fail> {
+    let alloc = rt.alloc();
+    let rows = [
+        (33, b"a".as_slice(), b"y".as_slice(), b"".as_slice(), 32),
+        (33, b"(".as_slice(), b"y".as_slice(), b")".as_slice(), 32),
+        (
+            32,
+            b"(".as_slice(),
+            b"a{yy}".as_slice(),
+            b")".as_slice(),
+            33,
+        ),
+        (33, b"a".as_slice(), b"".as_slice(), b"".as_slice(), 32),
+    ];
+    for (count, front, middle, back, at) in rows {
+        let text = around(alloc, count, front, middle, back)?;
+        deep(&rt, alloc, text.as_slice(), at);
+    }
     Ok(())
 }
 
 #[test]
 fn a_signature_has_at_most_255_bytes(rt: HostRuntime) -> Result<(), Fail> {
     let alloc = rt.alloc();
-    good(
-        &rt,
-        alloc,
-        around(alloc, 255, b"y", b"", b"")?.as_slice(),
-        255,
-    )?;
-    bad(
-        &rt,
-        alloc,
-        around(alloc, 256, b"y", b"", b"")?.as_slice(),
-        255,
-    );
-    bad(
-        &rt,
-        alloc,
-        around(alloc, 256, b"y", b"z", b"")?.as_slice(),
-        255,
-    );
-    bad(
-        &rt,
-        alloc,
-        around(alloc, 150, b"y", b"z", b"y")?.as_slice(),
-        150,
-    );
+    let longest = around(alloc, 255, b"y", b"", b"")?;
+    good(&rt, alloc, longest.as_slice(), 255)?;
+    let rows = [
+        (256, b"".as_slice(), b"".as_slice(), 255),
+        (256, b"z".as_slice(), b"".as_slice(), 255),
+        (150, b"z".as_slice(), b"y".as_slice(), 150),
+    ];
+    for (count, middle, back, at) in rows {
+        let text = around(alloc, count, b"y", middle, back)?;
+        bad(&rt, alloc, text.as_slice(), at);
+    }
     Ok(())
 }
 
@@ -228,54 +213,85 @@ fn the_parts_of_a_type_are_there(rt: HostRuntime) -> Result<(), Fail> {
 }
 
 #[test]
-fn object_paths_are_told(rt: HostRuntime) -> Result<(), Fail> {
-    assert!(rt; is_object_path(b"/"));
-    assert!(rt; is_object_path(b"/a"));
-    assert!(rt; is_object_path(b"/org/freedesktop/portal/documents"));
-    assert!(rt; is_object_path(b"/A_9/0/_"));
-    assert!(rt; !is_object_path(b""));
-    assert!(rt; !is_object_path(b"a"));
-    assert!(rt; !is_object_path(b"a/b"));
-    assert!(rt; !is_object_path(b"/a/"));
-    assert!(rt; !is_object_path(b"//"));
-    assert!(rt; !is_object_path(b"//a"));
-    assert!(rt; !is_object_path(b"/a//b"));
-    assert!(rt; !is_object_path(b"/a-b"));
-    assert!(rt; !is_object_path(b"/a.b"));
-    assert!(rt; !is_object_path(b"/\xc3\xa4"));
-    Ok(())
+fn object_paths_are_told(rt: HostRuntime) {
+    let names = [
+        b"/".as_slice(),
+        b"/a".as_slice(),
+        b"/org/freedesktop/portal/documents".as_slice(),
+        b"/A_9/0/_".as_slice(),
+    ];
+    for name in names {
+        assert!(rt; is_object_path(name));
+    }
+    let others = [
+        b"".as_slice(),
+        b"a".as_slice(),
+        b"a/b".as_slice(),
+        b"/a/".as_slice(),
+        b"//".as_slice(),
+        b"//a".as_slice(),
+        b"/a//b".as_slice(),
+        b"/a-b".as_slice(),
+        b"/a.b".as_slice(),
+        b"/\xc3\xa4".as_slice(),
+    ];
+    for text in others {
+        assert!(rt; !is_object_path(text));
+    }
 }
 
 #[test]
 fn interfaces_are_told(rt: HostRuntime) -> Result<(), Fail> {
-    let alloc = rt.alloc();
-    assert!(rt; is_interface(b"org.freedesktop.DBus"));
-    assert!(rt; is_interface(b"a.b"));
-    assert!(rt; is_interface(b"_a._9"));
-    assert!(rt; !is_interface(b""));
-    assert!(rt; !is_interface(b"org"));
-    assert!(rt; !is_interface(b"org."));
-    assert!(rt; !is_interface(b".org"));
-    assert!(rt; !is_interface(b"org..a"));
-    assert!(rt; !is_interface(b"org.9a"));
-    assert!(rt; !is_interface(b"9org.a"));
-    assert!(rt; !is_interface(b"org.a-b"));
-    assert!(rt; is_interface(around(alloc, 253, b"a", b".a", b"")?.as_slice()));
-    assert!(rt; !is_interface(around(alloc, 254, b"a", b".a", b"")?.as_slice()));
+    let names = [
+        b"org.freedesktop.DBus".as_slice(),
+        b"a.b".as_slice(),
+        b"_a._9".as_slice(),
+    ];
+    for name in names {
+        assert!(rt; is_interface(name));
+    }
+    let others = [
+        b"".as_slice(),
+        b"org".as_slice(),
+        b"org.".as_slice(),
+        b".org".as_slice(),
+        b"org..a".as_slice(),
+        b"org.9a".as_slice(),
+        b"9org.a".as_slice(),
+        b"org.a-b".as_slice(),
+    ];
+    for text in others {
+        assert!(rt; !is_interface(text));
+    }
+    let longest = around(rt.alloc(), 253, b"a", b".a", b"")?;
+    assert!(rt; is_interface(longest.as_slice()));
+    let longer = around(rt.alloc(), 254, b"a", b".a", b"")?;
+    assert!(rt; !is_interface(longer.as_slice()));
     Ok(())
 }
 
 #[test]
 fn members_are_told(rt: HostRuntime) -> Result<(), Fail> {
-    let alloc = rt.alloc();
-    assert!(rt; is_member(b"GetMountPoint"));
-    assert!(rt; is_member(b"_"));
-    assert!(rt; is_member(b"a9"));
-    assert!(rt; !is_member(b""));
-    assert!(rt; !is_member(b"9a"));
-    assert!(rt; !is_member(b"a.b"));
-    assert!(rt; !is_member(b"a b"));
-    assert!(rt; is_member(around(alloc, 255, b"a", b"", b"")?.as_slice()));
-    assert!(rt; !is_member(around(alloc, 256, b"a", b"", b"")?.as_slice()));
+    let names = [
+        b"GetMountPoint".as_slice(),
+        b"_".as_slice(),
+        b"a9".as_slice(),
+    ];
+    for name in names {
+        assert!(rt; is_member(name));
+    }
+    let others = [
+        b"".as_slice(),
+        b"9a".as_slice(),
+        b"a.b".as_slice(),
+        b"a b".as_slice(),
+    ];
+    for text in others {
+        assert!(rt; !is_member(text));
+    }
+    let longest = around(rt.alloc(), 255, b"a", b"", b"")?;
+    assert!(rt; is_member(longest.as_slice()));
+    let longer = around(rt.alloc(), 256, b"a", b"", b"")?;
+    assert!(rt; !is_member(longer.as_slice()));
     Ok(())
 }

@@ -39,14 +39,28 @@ fn a_value_has_its_type_alone(rt: HostRuntime) -> Result<(), Fail> {
     let kind = type_of(alloc, &value)?;
     assert!(rt; has_type(&value, &kind));
     assert!(rt; !has_type(&value, &WireType::Byte));
+    Ok(())
+}
+
+#[test]
+fn a_type_is_written_from_its_value(rt: HostRuntime) -> Result<(), Fail> {
+    let alloc = rt.alloc();
+    let value = sample(alloc)?;
+    let kind = type_of(alloc, &value)?;
     let mut text = List::new(alloc);
     put_type_of(&mut text, &value)?;
     assert!(rt; text.as_slice() == b"(a{sv}y)".as_slice());
     put_type(&mut text, &kind)?;
     assert!(rt; text.as_slice() == b"(a{sv}y)(a{sv}y)".as_slice());
+    Ok(())
+}
+
+#[test]
+fn values_have_the_types_of_a_signature(rt: HostRuntime) -> Result<(), Fail> {
+    let alloc = rt.alloc();
     let kinds = read_signature(alloc, b"(a{sv}y)")?;
     let mut values = List::new(alloc);
-    values.push(value)?;
+    values.push(sample(alloc)?)?;
     assert!(rt; have_types(values.as_slice(), kinds.as_slice()));
     let same = types_of(alloc, values.as_slice())?;
     assert_eq!(rt; same.len(), 1);
