@@ -7,6 +7,8 @@ pub mod Apart
 pub mod OpeningLaws
 pub mod ViewLaws
 pub mod EnterLaws
+pub mod LeaveLaws
+pub mod CollectLaws
 pub mod PlaceLaws
 pub mod GetAttrLaws
 pub mod WorldLaws
