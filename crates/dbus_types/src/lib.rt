@@ -8,6 +8,7 @@
 pub mod copies;
 pub mod equal;
 pub mod errors;
+pub mod keeping;
 pub mod layout;
 pub mod names;
 pub mod roles;
