@@ -1,5 +1,5 @@
-//! The types and values of D-Bus, the text of their types, and the names that
-//! messages carry.
+//! The types and values of D-Bus, the text of their types, the names that
+//! messages carry, and messages as plain data.
 //!
 //! Source: D-Bus Specification, "Type System" and "Message Protocol: Valid
 //! Names".
@@ -9,6 +9,7 @@ pub mod copies;
 pub mod equal;
 pub mod errors;
 pub mod layout;
+pub mod message;
 pub mod names;
 pub mod roles;
 pub mod rules;
