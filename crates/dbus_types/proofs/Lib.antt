@@ -7,3 +7,4 @@ pub mod Again
 pub mod Stops
 pub mod Whole
 pub mod Extending
+pub mod Within

@@ -1,5 +1,6 @@
 -- What the D-Bus Specification says of values ("Type System").
-use Rattle.std.specs.Prelude.{◌≡◌, ℕ, zero, suc, ◌+◌, max, List, IsTrue, IsUtf8, All}
+use Rattle.std.specs.Prelude.{◌≡◌, ℕ, zero, suc, ◌+◌, ◌<◌, ◌^◌, max, List, IsTrue, IsUtf8, All, FitsSigned}
+use Rattle.std.specs.Int.{w16, w32, w64}
 use Rattle.dbus_types.specs.declared.types.WireType.{WireType}
 use Rattle.dbus_types.specs.declared.types.WireType.TheVariants as W
 use Rattle.dbus_types.specs.declared.types.Value.{Value, out-Value, fold-Value}
@@ -38,8 +39,17 @@ IsText text = IsUtf8 text × All (λ b. b ≡ 0 → ⊥) text
 abbrev pub IsSignatureText : List ℕ → Type 0
 IsSignatureText text = (ts : List WireType) × IsSignature ts text
 
--- a value that holds no other, and keeps the rules
+-- a value that holds no other, and keeps the rules; a number fits its type
 abbrev pub LeafKeeps : Value-F Value → Type 0
+LeafKeeps (Value-F.Byte n) = n < 2 ^ 8
+LeafKeeps (Value-F.I16 z) = FitsSigned w16 z
+LeafKeeps (Value-F.U16 n) = n < 2 ^ 16
+LeafKeeps (Value-F.I32 z) = FitsSigned w32 z
+LeafKeeps (Value-F.U32 n) = n < 2 ^ 32
+LeafKeeps (Value-F.I64 z) = FitsSigned w64 z
+LeafKeeps (Value-F.U64 n) = n < 2 ^ 64
+LeafKeeps (Value-F.Double n) = n < 2 ^ 64
+LeafKeeps (Value-F.Handle n) = n < 2 ^ 32
 LeafKeeps (Value-F.Str text) = IsText text
 LeafKeeps (Value-F.ObjectPath text) = IsTrue (is_path text)
 LeafKeeps (Value-F.Signature text) = IsSignatureText text
@@ -47,7 +57,7 @@ LeafKeeps (Value-F.Variant v) = ⊥
 LeafKeeps (Value-F.Array t vs) = ⊥
 LeafKeeps (Value-F.Struct vs) = ⊥
 LeafKeeps (Value-F.DictEntry k v) = ⊥
-LeafKeeps _ = Unit {0}
+LeafKeeps (Value-F.Bool b) = Unit {0}
 
 -- The rules of one value, where Inside says what those inside it keep: each item of an array has
 -- the type of the array's element, and a variant's value a type whose signature a variant can carry.

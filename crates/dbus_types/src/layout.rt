@@ -2,8 +2,8 @@
 //!
 //! Source: D-Bus Specification, "Marshaling (Wire Format)".
 
-ghost use Rattle.std.specs.Prelude.{◌≡◌, IfOk, IsTrue, ◌↔◌, map, take};
-ghost use Rattle.dbus_types.specs.Types.{alignment as alignment_in};
+ghost use Rattle.std.specs.Prelude.{◌≡◌, [], ◌∷◌, IfOk, IsTrue, ◌↔◌, map, take};
+ghost use Rattle.dbus_types.specs.Types.{alignment as alignment_in, type_text};
 ghost use Rattle.dbus_types.specs.Values.{type_of as type_in};
 
 use crate::equal::same_type;
@@ -24,6 +24,34 @@ pub fn alignment(kind: &WireType) -> usize
         WireType::Struct(_) | WireType::DictEntry { .. } => 8,
         WireType::Bool | WireType::I32 | WireType::U32 | WireType::Str => 4,
         WireType::ObjectPath | WireType::Handle | WireType::Array(_) => 4,
+    }
+}
+
+/// The first code of a type's signature, which tells the kind of the type:
+/// `a` is an array, `(` a struct and `{` a dict entry.
+///
+/// Source: D-Bus Specification, "Type System: Summary of types".
+pub fn first_code(kind: &WireType) -> u8
+    ensures { take 1 (type_text kind.now) ≡ result ∷ [] }
+{
+    match kind {
+        WireType::Byte => b'y',
+        WireType::Bool => b'b',
+        WireType::I16 => b'n',
+        WireType::U16 => b'q',
+        WireType::I32 => b'i',
+        WireType::U32 => b'u',
+        WireType::I64 => b'x',
+        WireType::U64 => b't',
+        WireType::Double => b'd',
+        WireType::Str => b's',
+        WireType::ObjectPath => b'o',
+        WireType::Signature => b'g',
+        WireType::Handle => b'h',
+        WireType::Variant => b'v',
+        WireType::Array(_) => b'a',
+        WireType::Struct(_) => b'(',
+        WireType::DictEntry { .. } => b'{',
     }
 }
 

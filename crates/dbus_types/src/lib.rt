@@ -8,9 +8,11 @@
 pub mod copies;
 pub mod equal;
 pub mod errors;
+pub mod keeping;
 pub mod layout;
 pub mod message;
 pub mod names;
+pub mod nesting;
 pub mod roles;
 pub mod rules;
 pub mod signature;

@@ -104,7 +104,7 @@ fn all_brackets_within(kinds: &[WireType], limit: u32) -> bool
     true
 }
 
-fn is_single(role: Role) -> bool
+pub(crate) fn is_single(role: Role) -> bool
     ensures { result ≡ stands_alone role }
 {
     matches!(role, Role::Basic | Role::Single)
