@@ -1,9 +1,9 @@
 -- What a value keeps at each outer layer, and how long the texts of types are.
-use Rattle.std.proofs.Common.{◌≡◌, ℕ, zero, suc, ◌+◌, ◌-◌, ◌<◌, ◌≤◌, ◌↔◌, Bool, true, false, Option, None, Some, List, [], ◌∷◌, ◌++◌, length, map, take, get_or, Result, Ok, Err, refl, sym, ap, subst, ◌∙◌, arith}
+use Rattle.std.proofs.Common.{◌≡◌, ℕ, zero, suc, ◌+◌, ◌<◌, ◌≤◌, ◌↔◌, Bool, true, false, Option, None, Some, List, [], ◌∷◌, ◌++◌, length, take, get_or, Result, Ok, Err, refl, sym, ap, subst, ◌∙◌, arith}
 use Rattle.std.specs.Prelude.{IsTrue, MatchOption, All, is_ok}
 use Rattle.std.proofs.lemmas.Bool.{true≢false}
 use Rattle.std.proofs.lemmas.List.{length-append, take_all}
-use Rattle.std.proofs.lemmas.List.Elements.{All-get_or, All-more, All-same}
+use Rattle.std.proofs.lemmas.List.Elements.{All-get_or, All-more}
 use Rattle.dbus_types.specs.declared.types.WireType.{WireType}
 use Rattle.dbus_types.specs.declared.types.WireType.TheVariants as W
 use Rattle.dbus_types.specs.declared.types.Value.{Value, out-Value, roll-Value, the_lemmas}
@@ -14,7 +14,6 @@ use Rattle.dbus_types.specs.Types.{type_text, types_text, IsVariantType}
 use Rattle.dbus_types.specs.Values.{type_of, IsSignatureText, LeafKeeps, ValueKeeps, KeepsWithin}
 use Rattle.dbus_types.specs.Breaks.{IsChecked}
 use Rattle.dbus_types.proofs.Layers.{text_struct, text_entry}
-use Rattle.dbus_types.proofs.Extending.{type_struct, type_entry}
 use Rattle.dbus_types.proofs.Whole.{checked_none}
 
 -- ---- the length of a text
