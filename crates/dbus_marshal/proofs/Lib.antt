@@ -11,3 +11,5 @@ pub mod Extending
 pub mod Sets
 pub mod Same
 pub mod Keeps
+pub mod Plain
+pub mod Every

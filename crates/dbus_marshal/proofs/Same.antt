@@ -15,55 +15,55 @@ use Rattle.dbus_types.specs.Types.{alignment, type_text}
 use Rattle.dbus_marshal.specs.Spells.{number, gap, Aligned, NumberRow, TextRow, Members, Elements, Flat, Row, SpellsWithin}
 use Rattle.dbus_marshal.specs.Spelling.{aligned, text_body, Spelled, spell_step, spelled, spelling, spellings, signature_body, variant_body}
 
-roll_byte : (e : Endian) (n : ℕ) → spelled e (V.Byte n) ≡ spell_step e (Value-F.Byte n)
+pub roll_byte : (e : Endian) (n : ℕ) → spelled e (V.Byte n) ≡ spell_step e (Value-F.Byte n)
 roll_byte e n = search the_lemmas
 
-roll_bool : (e : Endian) (b : Bool) → spelled e (V.Bool b) ≡ spell_step e (Value-F.Bool b)
+pub roll_bool : (e : Endian) (b : Bool) → spelled e (V.Bool b) ≡ spell_step e (Value-F.Bool b)
 roll_bool e b = search the_lemmas
 
-roll_i16 : (e : Endian) (z : ℤ) → spelled e (V.I16 z) ≡ spell_step e (Value-F.I16 z)
+pub roll_i16 : (e : Endian) (z : ℤ) → spelled e (V.I16 z) ≡ spell_step e (Value-F.I16 z)
 roll_i16 e z = search the_lemmas
 
-roll_u16 : (e : Endian) (n : ℕ) → spelled e (V.U16 n) ≡ spell_step e (Value-F.U16 n)
+pub roll_u16 : (e : Endian) (n : ℕ) → spelled e (V.U16 n) ≡ spell_step e (Value-F.U16 n)
 roll_u16 e n = search the_lemmas
 
-roll_i32 : (e : Endian) (z : ℤ) → spelled e (V.I32 z) ≡ spell_step e (Value-F.I32 z)
+pub roll_i32 : (e : Endian) (z : ℤ) → spelled e (V.I32 z) ≡ spell_step e (Value-F.I32 z)
 roll_i32 e z = search the_lemmas
 
-roll_u32 : (e : Endian) (n : ℕ) → spelled e (V.U32 n) ≡ spell_step e (Value-F.U32 n)
+pub roll_u32 : (e : Endian) (n : ℕ) → spelled e (V.U32 n) ≡ spell_step e (Value-F.U32 n)
 roll_u32 e n = search the_lemmas
 
-roll_i64 : (e : Endian) (z : ℤ) → spelled e (V.I64 z) ≡ spell_step e (Value-F.I64 z)
+pub roll_i64 : (e : Endian) (z : ℤ) → spelled e (V.I64 z) ≡ spell_step e (Value-F.I64 z)
 roll_i64 e z = search the_lemmas
 
-roll_u64 : (e : Endian) (n : ℕ) → spelled e (V.U64 n) ≡ spell_step e (Value-F.U64 n)
+pub roll_u64 : (e : Endian) (n : ℕ) → spelled e (V.U64 n) ≡ spell_step e (Value-F.U64 n)
 roll_u64 e n = search the_lemmas
 
-roll_double : (e : Endian) (n : ℕ) → spelled e (V.Double n) ≡ spell_step e (Value-F.Double n)
+pub roll_double : (e : Endian) (n : ℕ) → spelled e (V.Double n) ≡ spell_step e (Value-F.Double n)
 roll_double e n = search the_lemmas
 
-roll_handle : (e : Endian) (n : ℕ) → spelled e (V.Handle n) ≡ spell_step e (Value-F.Handle n)
+pub roll_handle : (e : Endian) (n : ℕ) → spelled e (V.Handle n) ≡ spell_step e (Value-F.Handle n)
 roll_handle e n = search the_lemmas
 
-roll_str : (e : Endian) (s : List ℕ) → spelled e (V.Str s) ≡ spell_step e (Value-F.Str s)
+pub roll_str : (e : Endian) (s : List ℕ) → spelled e (V.Str s) ≡ spell_step e (Value-F.Str s)
 roll_str e s = search the_lemmas
 
-roll_path : (e : Endian) (s : List ℕ) → spelled e (V.ObjectPath s) ≡ spell_step e (Value-F.ObjectPath s)
+pub roll_path : (e : Endian) (s : List ℕ) → spelled e (V.ObjectPath s) ≡ spell_step e (Value-F.ObjectPath s)
 roll_path e s = search the_lemmas
 
-roll_signature : (e : Endian) (s : List ℕ) → spelled e (V.Signature s) ≡ spell_step e (Value-F.Signature s)
+pub roll_signature : (e : Endian) (s : List ℕ) → spelled e (V.Signature s) ≡ spell_step e (Value-F.Signature s)
 roll_signature e s = search the_lemmas
 
-roll_array : (e : Endian) (t : WireType) (vs : List Value) → spelled e (V.Array t vs) ≡ spell_step e (Value-F.Array t (map (spelled e) vs))
+pub roll_array : (e : Endian) (t : WireType) (vs : List Value) → spelled e (V.Array t vs) ≡ spell_step e (Value-F.Array t (map (spelled e) vs))
 roll_array e t vs = search the_lemmas
 
-roll_struct : (e : Endian) (vs : List Value) → spelled e (V.Struct vs) ≡ spell_step e (Value-F.Struct (map (spelled e) vs))
+pub roll_struct : (e : Endian) (vs : List Value) → spelled e (V.Struct vs) ≡ spell_step e (Value-F.Struct (map (spelled e) vs))
 roll_struct e vs = search the_lemmas
 
-roll_entry : (e : Endian) (k v : Value) → spelled e (V.DictEntry k v) ≡ spell_step e (Value-F.DictEntry (spelled e k) (spelled e v))
+pub roll_entry : (e : Endian) (k v : Value) → spelled e (V.DictEntry k v) ≡ spell_step e (Value-F.DictEntry (spelled e k) (spelled e v))
 roll_entry e k v = search the_lemmas
 
-roll_variant : (e : Endian) (v : Value) → spelled e (V.Variant v) ≡ spell_step e (Value-F.Variant (spelled e v))
+pub roll_variant : (e : Endian) (v : Value) → spelled e (V.Variant v) ≡ spell_step e (Value-F.Variant (spelled e v))
 roll_variant e v = search the_lemmas
 
 rolls_array : (t : WireType) → W.Array t ≡ roll-WireType (WireType-F.Array t)
@@ -139,7 +139,7 @@ texted_same : (e : Endian) (Good : List ℕ → Type 0) (make : List ℕ → Val
     → (at : ℕ) (v : Value) (text : List ℕ) → Aligned 4 at (TextRow e Good make v) text → (text ≡ spelling e at v) × ((spelled e v).0 ≡ u)
 texted_same e Good make t u is roll at v text h = let b = h.2 in made e at v (make b.0) (t, aligned 4 (λ start. text_body e b.0)) text u b.1 (roll b.0) (rw (h.1, b.4) refl) is
 
-one_byte : (n : ℕ) → n < 256 → to_le_bytes w8 n ≡ n ∷ []
+pub one_byte : (n : ℕ) → n < 256 → to_le_bytes w8 n ≡ n ∷ []
 one_byte n lt = ap (λ (k : ℕ). k ∷ []) (omega (arith, lt))
 
 flat_same : (e : Endian) (t : WireType-F WireType) (at : ℕ) (v : Value) (text : List ℕ) → Flat e t at v text → (text ≡ spelling e at v) × ((spelled e v).0 ≡ roll-WireType t)

@@ -8,6 +8,7 @@ mod align;
 pub mod error;
 mod fields;
 mod flat;
+pub mod laws;
 mod put;
 pub mod read;
 mod signature;

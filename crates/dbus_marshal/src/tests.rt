@@ -1,6 +1,7 @@
 //! Values against what others write, and against the specification's text.
 
 use crate::error::ReadError;
+use crate::laws::every_value_is_spelled;
 use crate::read::{ReadValue, read_value};
 use crate::write::{one_spelling, write_value};
 use dbus_types::signature::read_signature;
@@ -608,6 +609,7 @@ fn glib_writes_the_same(rt: HostRuntime) {
         assert!(rt; matches!(is_read(alloc, Endian::Big, row.big, row), Ok(true)));
     }
     one_spelling();
+    every_value_is_spelled();
 }
 
 #[test]

@@ -93,9 +93,10 @@ fn write_all(out: &mut ByteList, values: &[Value]) -> Result<(), WantOfMemory>
 /// Puts the spelling of a value, with the lowest byte of each number first, at
 /// the end of a list, whose length is the offset.
 ///
-/// Where there is no memory the list stays as it was. A value that breaks a
-/// rule has no spelling; then what is put there is not said.
+/// Where there is no memory the list stays as it was. What is put for a value
+/// that breaks a rule, and so has no spelling, is `spelling` all the same.
 pub fn write_value(out: &mut ByteList, value: &Value) -> Result<(), WantOfMemory>
+    ensures written { OnOk result (out.new ≡ out.old ++ spelling Little (length out.old) value.now) }
     ensures ok { (kind : WireType') (text : List ℕ) → Spells Little (length out.old) kind value.now text → OnOk result (out.new ≡ out.old ++ text) }
     ensures err { OnErr result (out.new ≡ out.old) }
 {
