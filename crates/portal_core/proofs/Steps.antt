@@ -1,5 +1,5 @@
 -- One more entry of a history.
-use Rattle.std.proofs.Common.{◌≡◌, ◌+◌, ◌≤◌, ℕ, List, [], ◌∷◌, ◌++◌, true, false, cond, Option, Some, None, is_some, refl, sym, ap, ◌∙◌, subst, arith}
+use Rattle.std.proofs.Common.{◌≡◌, ◌+◌, ◌<◌, ◌≤◌, ℕ, List, [], ◌∷◌, ◌++◌, length, true, false, cond, Option, Some, None, is_some, refl, sym, ap, ◌∙◌, subst, arith}
 use Rattle.portal_base.specs.declared.files.Look.{Look}
 use Rattle.portal_base.specs.declared.who.Kind.{Kind}
 use Rattle.portal_base.specs.declared.who.Who.{Who}
@@ -18,22 +18,36 @@ use Rattle.portal_model.specs.Enter.{entered, new_connection}
 use Rattle.portal_model.specs.GetAttr.{by_handle_or_place, get_attr_looks}
 use Rattle.portal_model.specs.History.{run, cost, cost_of}
 use Rattle.portal_model.specs.Lawful.{Lawful}
+use Rattle.portal_model.specs.Leave.{left, of_others}
 use Rattle.portal_model.specs.Opening.{opened}
 use Rattle.portal_model.specs.Place.{place_of}
 use Rattle.portal_model.specs.State.{State, connection_of}
-use Rattle.portal_model.specs.Step.{after, node_answer, node_looks, node_op_looks, node_step, is_mount, mount_of, reply_with}
+use Rattle.portal_model.specs.Step.{after, bus_of, collect_step, node_answer, node_looks, node_op_looks, node_step, is_mount, mount_of, reply_with}
 use Rattle.portal_model.specs.Valid.{is_silent}
 use Rattle.portal_model.proofs.Histories.{run-append, Legal-append, cost-append}
-use Rattle.portal_model.proofs.Silence.{all_told-silent, node_step-silent, run-silent}
+use Rattle.portal_model.proofs.Silence.{all_told-silent, node_step-silent, run-silent, unsent-silent}
 use Rattle.portal_model.proofs.ValidLaws.{run-Valid}
 use Rattle.portal_core.specs.Held.{Stands, state_of}
-use Rattle.portal_core.specs.Served.{Serves, entry_of, flags_of, looked, taken}
+use Rattle.portal_core.specs.Served.{Serves, collect_answer, entry_of, flags_of, looked, taken}
 
 -- ---- a request on a node, in any state
 
 mount_found : (o : Option Connection) (c : Connection) → mount_of o ≡ Some c → o ≡ Some c
 mount_found None c e = cc
 mount_found (Some d) c e = elim (is_mount d.kind) as (λ b. cond b (Some d) None ≡ Some c → Some d ≡ Some c) [ true ↦ λ h. h | false ↦ λ h. cc ] e
+
+bus_found : (o : Option Connection) (c : Connection) → bus_of o ≡ Some c → o ≡ Some c
+bus_found None c e = cc
+bus_found (Some d) c e = elim (is_mount d.kind) as (λ b. cond b None (Some d) ≡ Some c → Some d ≡ Some c) [ true ↦ λ h. cc | false ↦ λ h. h ] e
+
+others_within : (seat : ℕ) (cs : List Connection) → length (of_others seat cs) ≤ length cs
+others_within seat [] = omega arith
+others_within seat (c ∷ cs) = grind (arith, others_within seat cs)
+
+-- fewer connections are of others, where one is of the seat
+pub fewer_others : (seat : ℕ) (cs : List Connection) → is_some (connection_of cs seat) ≡ true → length (of_others seat cs) < length cs
+fewer_others seat [] e = cc
+fewer_others seat (c ∷ cs) e = grind (arith, fewer_others seat cs, others_within seat cs)
 
 pub serves_absent : (s : State) (seat : ℕ) (r : NodeRequest) → mount_of (connection_of s.connections seat) ≡ None → Serves s seat r (Answer.Refused Code.NotHere) None
 serves_absent s seat r e = record { answer_is = rw e refl; look_is = rw e refl }
@@ -107,6 +121,44 @@ module _ (o : OpeningState) (h : List Entry) (limit : ℕ) (ds : List Document) 
       Stands o (h ++ entry_of seat (Request.Enter who kind) [] ∷ []) limit ds rs (cs ++ new_connection seat who kind ∷ [])
   stands_new seat who kind t room =
       stands_more (entry_of seat (Request.Enter who kind) []) (cs ++ new_connection seat who kind ∷ []) (enter_lawful seat who kind) (ap (state_of o ds rs) (entered_new seat who kind (connection_of cs seat) t)) room
+
+  -- a Leave
+
+  leave_lawful : (seat : ℕ) → Lawful (state_of o ds rs cs) (entry_of seat Request.Leave [])
+  leave_lawful seat = record { clock = refl; words = refl; numbers = refl; full = refl; looks = refl }
+
+  left_absent : (seat : ℕ) (c : Option Connection) → is_some c ≡ false → left seat cs c ≡ cs
+  left_absent seat None e = refl
+  left_absent seat (Some c) e = cc
+
+  left_here : (seat : ℕ) (c : Option Connection) → is_some c ≡ true → left seat cs c ≡ of_others seat cs
+  left_here seat None e = cc
+  left_here seat (Some c) e = refl
+
+  pub stands_absent : (seat : ℕ) → is_some (connection_of cs seat) ≡ false → Stands o (h ++ entry_of seat Request.Leave [] ∷ []) limit ds rs cs
+  stands_absent seat t = stands_more (entry_of seat Request.Leave []) cs (leave_lawful seat) (ap (state_of o ds rs) (left_absent seat (connection_of cs seat) t)) (omega (arith, p.within))
+
+  pub stands_left : (seat : ℕ) → is_some (connection_of cs seat) ≡ true → Stands o (h ++ entry_of seat Request.Leave [] ∷ []) limit ds rs (of_others seat cs)
+  stands_left seat t = stands_more (entry_of seat Request.Leave []) (of_others seat cs) (leave_lawful seat) (ap (state_of o ds rs) (left_here seat (connection_of cs seat) t)) (omega (arith, p.within))
+
+  -- a Collect
+
+  collect_kept : (c : Option Connection) → (collect_step (state_of o ds rs cs) c).0 ≡ state_of o ds rs cs
+  collect_kept None = refl
+  collect_kept (Some c) = all_told-silent c.seat (state_of o ds rs cs) silent
+
+  pub stands_collected : (seat : ℕ) → cost h + cost_of Request.Collect ≤ o.limits.history → Stands o (h ++ entry_of seat Request.Collect [] ∷ []) limit ds rs cs
+  stands_collected seat room =
+      stands_more (entry_of seat Request.Collect []) cs (record { clock = refl; words = refl; numbers = refl; full = refl; looks = refl }) (collect_kept (bus_of (connection_of cs seat))) room
+
+  collect_replied : (seat : ℕ) (c : Option Connection) (b : Option Connection) → connection_of cs seat ≡ c → bus_of c ≡ b → reply_with [] (collect_answer b) ≡ (collect_step (state_of o ds rs cs) b).1
+  collect_replied seat c None e k = refl
+  collect_replied seat c (Some d) e k = λ i. reply_with (sym (unsent-silent seat cs d (e ∙ bus_found c d k) silent) i) Answer.Done
+
+  -- what the code answers is what the step replies
+  pub collect_answered : (seat : ℕ) → reply_with [] (collect_answer (bus_of (connection_of cs seat))) ≡ (collect_step (run (opened o) h) (bus_of (connection_of (run (opened o) h).connections seat))).1
+  collect_answered seat = subst (λ (s : State). reply_with [] (collect_answer (bus_of (connection_of cs seat))) ≡ (collect_step s (bus_of (connection_of s.connections seat))).1) (sym p.state_is)
+      (collect_replied seat (connection_of cs seat) (bus_of (connection_of cs seat)) refl refl)
 
   -- a request on a node
 

@@ -6,9 +6,11 @@ use Rattle.portal_model.specs.declared.entry.Entry.{Entry}
 use Rattle.portal_model.specs.declared.entry.Fault.TheVariants as Fault
 use Rattle.portal_model.specs.declared.entry.Given.{Given}
 use Rattle.portal_model.specs.declared.reply.Answer.{Answer}
+use Rattle.portal_model.specs.declared.reply.Code.TheVariants as Code
 use Rattle.portal_model.specs.declared.request.NodeOp.{NodeOp}
 use Rattle.portal_model.specs.declared.request.NodeRequest.{NodeRequest}
 use Rattle.portal_model.specs.declared.request.Request.{Request}
+use Rattle.portal_model.specs.declared.state.Connection.{Connection}
 use Rattle.portal_model.specs.declared.state.Document.{Document}
 use Rattle.portal_model.specs.declared.state.Triple.{Triple}
 use Rattle.portal_model.specs.Place.{Sight, sight_at, sight_of_document, place_named}
@@ -35,6 +37,11 @@ looked looks = record { now = None; words = []; numbers = []; looks = looks; ful
 -- an entry to which the outside gave these looks alone
 abbrev pub entry_of : ℕ → Request → List Look → Entry
 entry_of seat request looks = record { seat = seat; request = request; given = looked looks }
+
+-- a Collect is of a bus alone
+abbrev pub collect_answer : Option Connection → Answer
+collect_answer None = Answer.Refused Code.NotHere
+collect_answer (Some c) = Answer.Done
 
 -- the answer, and the look, are those of the step
 pub record Serves (s : State) (seat : ℕ) (r : NodeRequest) (answer : Answer) (look : Option Look) : Type 0 where

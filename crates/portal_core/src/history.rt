@@ -16,17 +16,19 @@ use portal_model::request::Request;
 use std::alloc::Global;
 use std::marker::Model;
 
-/// What any request costs besides the bytes that it carries, in bytes.
+/// What any request but Leave costs besides the bytes that it carries, in
+/// bytes.
 pub const REQUEST_COST: u64 = 128;
 
 /// What a request costs in the history, in bytes: 128, and the bytes of the
-/// names that it carries, but at most the greatest `u64`.
+/// names that it carries, but at most the greatest `u64`. A Leave is free.
 pub fn cost_of(request: &Request) -> u64
     ensures { result ≡ request_cost request.now }
 {
     match request {
         Request::Enter { who, .. } => REQUEST_COST.saturating_add(name_length(who)),
-        Request::Node(_) => REQUEST_COST,
+        Request::Leave => 0,
+        Request::Collect | Request::Node(_) => REQUEST_COST,
     }
 }
 
@@ -118,7 +120,17 @@ impl History {
         ensures entries { self.new.entries ≡ self.old.entries }
         ensures limit { self.new.limit ≡ self.old.limit }
     {
-        self.entries.reserve(count as usize)?;
+        self.reserve_places(count as usize)
+    }
+
+    /// The same, for any count.
+    pub fn reserve_places(&mut self, count: usize) -> Result<(), WantOfMemory>
+        ensures ok { OnOk result (count ≤ self.new.spare) }
+        ensures err { OnErr result (self.new ≡ self.old) }
+        ensures entries { self.new.entries ≡ self.old.entries }
+        ensures limit { self.new.limit ≡ self.old.limit }
+    {
+        self.entries.reserve(count)?;
         Ok(())
     }
 

@@ -2,8 +2,10 @@
 
 ghost use Rattle.std.specs.Prelude.{◌≡◌, option_copied};
 ghost use Rattle.portal_model.specs.State.{connection_of as open_connection, document_of as live_document, app_has, who_has, same_right as is_same_right, bit_of as number_of_right};
-ghost use Rattle.portal_model.specs.Step.{mount_of as open_mount};
+ghost use Rattle.portal_model.specs.Leave.{of_others as connections_of_others};
+ghost use Rattle.portal_model.specs.Step.{bus_of as open_bus, mount_of as open_mount};
 
+use portal_base::list::List;
 use portal_base::names::app_id::AppId;
 use portal_base::who::{Kind, Who};
 use portal_model::rights::Right;
@@ -73,4 +75,24 @@ pub fn mount_of(connections: &[Connection], seat: u32) -> Option<&Connection>
         Kind::Mount => Some(connection),
         Kind::Bus => None,
     }
+}
+
+/// The open connection of a seat, where it is a bus.
+pub fn bus_of(connections: &[Connection], seat: u32) -> Option<&Connection>
+    ensures { option_copied result ≡ open_bus (open_connection connections.now seat) }
+{
+    let connection = connection_of(connections, seat)?;
+    match connection.kind {
+        Kind::Mount => None,
+        Kind::Bus => Some(connection),
+    }
+}
+
+/// The connections of other seats than this one.
+pub fn of_others(connections: List<Connection>, seat: u32) -> List<Connection>
+    ensures { result ≡ connections_of_others seat connections }
+{
+    let mut kept = connections.into_vec();
+    kept.retain(|connection| connection.seat != seat);
+    List::from_vec(kept)
 }

@@ -1,17 +1,18 @@
 //! The portal.
 
-ghost use Rattle.std.specs.Prelude.{◌≡◌, ◌<◌, ◌≤◌, ◌^◌, [], length, IfErr, IfOk, OnErr, OnOk};
+ghost use Rattle.std.specs.Prelude.{◌≡◌, ◌<◌, ◌≤◌, ◌^◌, [], length, true, IfErr, IfOk, IsOk, OnErr, OnOk, option_copied};
 ghost use Rattle.portal_model.specs.History.{Legal, cost};
 ghost use Rattle.portal_model.specs.Enter.{new_connection};
 ghost use Rattle.portal_model.specs.Opening.{opened};
+ghost use Rattle.portal_model.specs.Seated.{is_open};
 ghost use Rattle.portal_model.specs.Step.{reply_with};
 ghost use Rattle.portal_model.specs.Valid.{Valid};
-ghost use Rattle.portal_core.specs.Served.{Serves, entry_of, taken};
+ghost use Rattle.portal_core.specs.Served.{Serves, collect_answer as answer_of_bus, entry_of, taken};
 ghost use Rattle.portal_core.specs.Story.{Answers, HasCause, cost_with, limit_of, state_now};
 
 use crate::attributes::{NodeDone, get_attr};
 use crate::history::{History, cost_of};
-use crate::lists::{connection_of, mount_of};
+use crate::lists::{bus_of, connection_of, mount_of, of_others};
 use crate::opening;
 use portal_base::files::Look;
 use portal_base::list::List;
@@ -24,6 +25,7 @@ use portal_model::request::{NodeRequest, Request};
 use portal_model::state::{Connection, Document, Triple};
 use std::alloc::Global;
 use std::marker::Model;
+use std::mem;
 
 /// A portal over plain lists and the files of its opening state.
 ///
@@ -39,6 +41,7 @@ pub struct Portal {
 }
 
 impl Model for Portal {
+    ghost use Rattle.std.specs.Prelude.{◌≤◌, length};
     ghost use Rattle.portal_core.specs.Story.{Story};
     ghost use Rattle.portal_core.specs.Held.{Stands};
 
@@ -46,7 +49,8 @@ impl Model for Portal {
 
     ghost view = { λ p. record { opening = p.opening; history = p.history.entries } };
 
-    ghost invariant = { λ p. Stands p.opening p.history.entries p.history.limit p.documents p.rights p.connections };
+    // Room is kept for a Leave of each open connection.
+    ghost invariant = { λ p. Stands p.opening p.history.entries p.history.limit p.documents p.rights p.connections × (length p.connections ≤ p.history.spare) };
 }
 
 impl Portal {
@@ -98,7 +102,8 @@ impl Portal {
     /// after the history, which grows by this request. A refusal leaves the
     /// portal as it was. `Full` comes exactly where the history with this
     /// request would cost more than its limit; want of memory may come at any
-    /// other request.
+    /// other request, but not at the Leave of an open connection, which is
+    /// never refused.
     pub fn ask(&mut self, alloc: Global, seat: u32, request: Request) -> Result<Reply, Refused>
         requires { 1 ≤ seat }
 
@@ -109,6 +114,9 @@ impl Portal {
         // Both ways: it is full exactly where the cost would pass the limit.
         ensures full { limit_of self.old < cost_with self.old request → result ≡ Err (Refused.Full (cost self.old.history) (limit_of self.old)) }
         ensures cause { IfErr result (HasCause self.old request) }
+
+        // Enter took the room for it.
+        ensures leave { request ≡ Request.Leave → is_open (state_now self.old) seat ≡ true → IsOk result }
 
         // Whatever it answers.
         ensures legal { Legal (opened self.new.opening) self.new.history }
@@ -127,16 +135,20 @@ impl Portal {
         ensures err { OnErr result (self.new ≡ self.old) }
         ensures full { limit_of self.old < cost_with self.old request → result ≡ Err (Refused.Full (cost self.old.history) (limit_of self.old)) }
         ensures cause { IfErr result (HasCause self.old request) }
+        ensures leave { request ≡ Request.Leave → is_open (state_now self.old) seat ≡ true → IsOk result }
     {
         self.check_cost(&request)?;
         match request {
             Request::Enter { who, kind } => Ok(self.enter(alloc, seat, who, kind)?),
+            Request::Leave => Ok(self.leave(alloc, seat)?),
+            Request::Collect => Ok(self.collect(alloc, seat)?),
             Request::Node(node) => Ok(self.node(alloc, seat, node)?),
         }
     }
 
     /// Refuses a request with which the history would cost too much.
     fn check_cost(&self, request: &Request) -> Result<(), Refused>
+        ensures leave { request.now ≡ Request.Leave → IsOk result }
         ensures fits { OnOk result (cost_with self.now request.now ≤ limit_of self.now) }
         ensures full { IfErr result (λ e. (e ≡ Refused.Full (cost self.now.history) (limit_of self.now)) × (limit_of self.now < cost_with self.now request.now)) }
     {
@@ -165,8 +177,11 @@ impl Portal {
             who: who.replica(alloc)?,
             kind,
         };
-        let entry = entry_made(alloc, seat, request, None)?;
-        self.history.reserve(1)?;
+        let entry = entry_made(alloc, seat, request, List::new(alloc));
+        // Besides the Leaves of the connections that are there, for this entry
+        // and for the Leave of the new one.
+        self.history
+            .reserve_places(self.connections.as_slice().len() + 2)?;
         if is_here {
             self.history.push(entry);
             return Ok(silent_reply(alloc, Answer::Refused(Code::NotHere)));
@@ -189,8 +204,44 @@ impl Portal {
         ensures err { OnErr result (self.new ≡ self.old) }
     {
         let NodeDone { answer, look } = self.serve(seat, &request);
-        let entry = entry_made(alloc, seat, Request::Node(request), look)?;
-        self.history.reserve(1)?;
+        let looks = looks_made(alloc, look)?;
+        let entry = entry_made(alloc, seat, Request::Node(request), looks);
+        self.history
+            .reserve_places(self.connections.as_slice().len() + 1)?;
+        self.history.push(entry);
+        Ok(silent_reply(alloc, answer))
+    }
+
+    fn leave(&mut self, alloc: Global, seat: u32) -> Result<Reply, WantOfMemory>
+        ensures opening { self.new.opening ≡ self.old.opening }
+        ensures ok { IfOk result (Answers self.old self.new seat Request.Leave) }
+        ensures err { OnErr result (self.new ≡ self.old) }
+        ensures here { is_open (state_now self.old) seat ≡ true → IsOk result }
+    {
+        let is_here = connection_of(self.connections.as_slice(), seat).is_some();
+        let entry = entry_made(alloc, seat, Request::Leave, List::new(alloc));
+        if !is_here {
+            self.history
+                .reserve_places(self.connections.as_slice().len() + 1)?;
+            self.history.push(entry);
+            return Ok(silent_reply(alloc, Answer::Refused(Code::NotHere)));
+        }
+        let connections = mem::replace(&mut self.connections, List::new(alloc));
+        self.connections = of_others(connections, seat);
+        self.history.push(entry);
+        Ok(silent_reply(alloc, Answer::Done))
+    }
+
+    fn collect(&mut self, alloc: Global, seat: u32) -> Result<Reply, WantOfMemory>
+        requires { cost_with self.old Request.Collect ≤ limit_of self.old }
+        ensures opening { self.new.opening ≡ self.old.opening }
+        ensures ok { IfOk result (Answers self.old self.new seat Request.Collect) }
+        ensures err { OnErr result (self.new ≡ self.old) }
+    {
+        let answer = collect_answer(bus_of(self.connections.as_slice(), seat));
+        let entry = entry_made(alloc, seat, Request::Collect, List::new(alloc));
+        self.history
+            .reserve_places(self.connections.as_slice().len() + 1)?;
         self.history.push(entry);
         Ok(silent_reply(alloc, answer))
     }
@@ -212,20 +263,33 @@ impl Portal {
     }
 }
 
-/// The entry of a request for which the tree showed no more than this.
-fn entry_made(
-    alloc: Global,
-    seat: u32,
-    request: Request,
-    look: Option<Look>,
-) -> Result<Entry, WantOfMemory>
-    ensures { IfOk result (λ entry. entry ≡ entry_of seat request (taken look)) }
+/// The answer to a Collect of a seat with this bus. Nothing waits to be told,
+/// since no request makes a change.
+fn collect_answer(bus: Option<&Connection>) -> Answer
+    ensures { result ≡ answer_of_bus (option_copied bus.entry) }
+{
+    match bus {
+        Some(_) => Answer::Done,
+        None => Answer::Refused(Code::NotHere),
+    }
+}
+
+/// The looks that were taken, of which there is one at most.
+fn looks_made(alloc: Global, look: Option<Look>) -> Result<List<Look>, WantOfMemory>
+    ensures { IfOk result (λ looks. looks ≡ taken look) }
 {
     let mut looks = List::new(alloc);
     if let Some(look) = look {
         looks.push(look)?;
     }
-    Ok(Entry {
+    Ok(looks)
+}
+
+/// The entry of a request for which the tree showed these looks alone.
+fn entry_made(alloc: Global, seat: u32, request: Request, looks: List<Look>) -> Entry
+    ensures { result ≡ entry_of seat request looks }
+{
+    Entry {
         seat,
         request,
         given: Given {
@@ -236,7 +300,7 @@ fn entry_made(
             full: false,
             fault: Fault::None,
         },
-    })
+    }
 }
 
 /// A connection on which nothing happened yet.

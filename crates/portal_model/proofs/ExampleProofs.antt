@@ -4,7 +4,7 @@ use Rattle.std.proofs.Common.{◌≡◌, List, [], ◌∷◌, Bool, true, false,
 use Rattle.std.specs.List.{IsDistinct}
 use Rattle.std.specs.Str.{is_utf8, chars}
 use Rattle.portal_base.specs.Names.{is_host_path, is_app_name}
-use Rattle.portal_model.specs.Examples.{editor, other, a_text, b_text, read_write, of_other, of_nobody, with_another, AttributesOfGrantedFile, ForeignIsAsMissing, CostsOfRequests, TracesTellWhatIsHeld, AnswersOfSeats, FailedLook}
+use Rattle.portal_model.specs.Examples.{editor, other, a_text, b_text, read_write, of_other, of_nobody, with_another, AttributesOfGrantedFile, ForeignIsAsMissing, CostsOfRequests, TracesTellWhatIsHeld, AnswersOfSeats, LeaveAndCollect, FailedLook}
 use Rattle.portal_model.specs.Opening.{opened}
 use Rattle.portal_model.specs.Valid.{Valid}
 use Rattle.portal_model.specs.View.{Seen}
@@ -129,7 +129,7 @@ valid_with_another = record {
 -- ---- the examples
 
 pub costs : CostsOfRequests
-costs = record { enter = refl; attributes = refl }
+costs = record { enter = refl; attributes = refl; leave = refl; collect = refl }
 
 pub attributes : AttributesOfGrantedFile
 attributes = record {
@@ -153,6 +153,19 @@ seats = record {
   on_a_bus = refl;
   by_handle = refl;
   by_handle_lawful = record { clock = refl; words = refl; numbers = refl; full = refl; looks = refl };
+}
+
+pub endings : LeaveAndCollect
+endings = record {
+  leaves_once = refl;
+  not_entered = refl;
+  other_seat = refl;
+  tells_nothing = refl;
+  on_a_mount = refl;
+  nothing_waits = refl;
+  tells = refl;
+  tells_once = refl;
+  lawful = record { clock = refl; words = refl; numbers = refl; full = refl; looks = refl };
 }
 
 pub failed : FailedLook

@@ -29,6 +29,11 @@ module _ {X : Type 0} (p q : X → Bool) where
   find-filter-some [] y e h = cc
   find-filter-some (x ∷ xs) y e h = grind (arith, find-filter-some xs y)
 
+  -- two filters may change places
+  pub filters-swap : (xs : List X) → filter p (filter q xs) ≡ filter q (filter p xs)
+  filters-swap [] = refl
+  filters-swap (x ∷ xs) = grind (arith, filters-swap xs)
+
   -- what is true of all is true of the one that is found
   pub found_in_all : (xs : List X) (x : X) → find p xs ≡ Some x → list_all q xs ≡ true → q x ≡ true
   found_in_all [] y e h = cc

@@ -9,7 +9,7 @@ use Rattle.portal_model.specs.declared.request.Request.{Request}
 use Rattle.portal_model.specs.declared.state.Connection.{Connection}
 use Rattle.portal_model.specs.History.{run}
 use Rattle.portal_model.specs.State.{State, connection_of}
-use Rattle.portal_model.specs.Step.{after, all_told, mount_of, node_answer, node_step, request_step}
+use Rattle.portal_model.specs.Step.{after, all_told, bus_of, collect_step, mount_of, node_answer, node_step, request_step}
 
 node_answer-kept : (s : State) (who : Who) (r : NodeRequest) (op : NodeOp) (given : Given) → (node_answer s who r op given).0 ≡ record s { connections = (node_answer s who r op given).0.connections }
 node_answer-kept s who r (NodeOp.GetAttr flags fh) given = refl
@@ -18,8 +18,14 @@ node_step-kept : (s : State) (r : NodeRequest) (given : Given) (o : Option Conne
 node_step-kept s r given None = refl
 node_step-kept s r given (Some c) = node_answer-kept (all_told c.seat s) c.who r r.op given
 
+collect_step-kept : (s : State) (o : Option Connection) → (collect_step s o).0 ≡ record s { connections = (collect_step s o).0.connections }
+collect_step-kept s None = refl
+collect_step-kept s (Some c) = refl
+
 request_step-kept : (s : State) (seat : ℕ) (request : Request) (given : Given) → (request_step s seat request given).0 ≡ record s { connections = (request_step s seat request given).0.connections }
 request_step-kept s seat (Request.Enter who kind) given = refl
+request_step-kept s seat Request.Leave given = refl
+request_step-kept s seat Request.Collect given = collect_step-kept s (bus_of (connection_of s.connections seat))
 request_step-kept s seat (Request.Node r) given = node_step-kept s r given (mount_of (connection_of s.connections seat))
 
 pub after-kept : (s : State) (e : Entry) → after s e ≡ record s { connections = (after s e).connections }

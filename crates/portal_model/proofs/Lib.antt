@@ -7,7 +7,10 @@ pub mod Apart
 pub mod OpeningLaws
 pub mod ViewLaws
 pub mod EnterLaws
+pub mod LeaveLaws
+pub mod CollectLaws
 pub mod PlaceLaws
 pub mod GetAttrLaws
 pub mod WorldLaws
+pub mod SeatLaws
 pub mod ExampleProofs

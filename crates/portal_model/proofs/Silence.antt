@@ -10,10 +10,12 @@ use Rattle.portal_model.specs.declared.request.NodeRequest.{NodeRequest}
 use Rattle.portal_model.specs.declared.request.Request.{Request}
 use Rattle.portal_model.specs.declared.state.Connection.{Connection}
 use Rattle.portal_model.specs.Enter.{entered, new_connection}
+use Rattle.portal_model.specs.Leave.{left}
 use Rattle.portal_model.specs.History.{run}
 use Rattle.portal_model.specs.State.{State, connection_of}
-use Rattle.portal_model.specs.Step.{after, all_told, told_of, node_answer, node_step, request_step, mount_of, with_signals}
+use Rattle.portal_model.specs.Step.{after, all_told, bus_of, collect_step, told_of, node_answer, node_step, request_step, mount_of, with_signals}
 use Rattle.portal_model.specs.Valid.{is_none, is_silent}
+use Rattle.portal_model.proofs.Apart.{list_all-filter}
 use Rattle.portal_model.proofs.Finds.{found_in_all}
 
 pub none-nil : {X : Type 0} (xs : List X) → is_none xs ≡ true → xs ≡ []
@@ -50,6 +52,14 @@ entered-silent : (seat : ℕ) (who : Who) (kind : Kind) (cs : List Connection) (
 entered-silent seat who kind cs None h = rw (list_all-append (λ (c : Connection). is_none c.unsent) cs (new_connection seat who kind ∷ []), h) refl
 entered-silent seat who kind cs (Some c) h = h
 
+left-silent : (seat : ℕ) (cs : List Connection) (o : Option Connection) → is_silent cs ≡ true → is_silent (left seat cs o) ≡ true
+left-silent seat cs None h = h
+left-silent seat cs (Some c) h = list_all-filter (λ (x : Connection). is_none x.unsent) _ cs h
+
+collect_kept : (s : State) (o : Option Connection) → is_silent s.connections ≡ true → is_silent (collect_step s o).0.connections ≡ true
+collect_kept s None h = h
+collect_kept s (Some c) h = subst (λ (t : State). is_silent t.connections ≡ true) (sym (all_told-silent c.seat s h)) h
+
 node_answer-silent : (s : State) (who : Who) (r : NodeRequest) (op : NodeOp) (given : Given) → is_silent s.connections ≡ true → is_silent (node_answer s who r op given).0.connections ≡ true
 node_answer-silent s who r (NodeOp.GetAttr flags fh) given h = h
 
@@ -59,6 +69,8 @@ node_step_kept s r given (Some c) h = node_answer-silent (all_told c.seat s) c.w
 
 request_step-silent : (s : State) (seat : ℕ) (request : Request) (given : Given) → is_silent s.connections ≡ true → is_silent (request_step s seat request given).0.connections ≡ true
 request_step-silent s seat (Request.Enter who kind) given h = entered-silent seat who kind s.connections (connection_of s.connections seat) h
+request_step-silent s seat Request.Leave given h = left-silent seat s.connections (connection_of s.connections seat) h
+request_step-silent s seat Request.Collect given h = collect_kept s (bus_of (connection_of s.connections seat)) h
 request_step-silent s seat (Request.Node r) given h = node_step_kept s r given (mount_of (connection_of s.connections seat)) h
 
 pub after-silent : (s : State) (e : Entry) → is_silent s.connections ≡ true → is_silent (after s e).connections ≡ true

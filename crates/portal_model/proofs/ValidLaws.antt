@@ -1,6 +1,6 @@
 -- A valid state stays valid.
-use Rattle.std.proofs.Common.{◌≡◌, ℕ, ◌==◌, nat_eq, List, [], ◌∷◌, ◌++◌, map, Bool, true, false, cond, Option, Some, None, refl, sym, ap, subst, arith}
-use Rattle.std.specs.List.{list_any, list_all, IsDistinct}
+use Rattle.std.proofs.Common.{◌≡◌, ℕ, ◌==◌, nat_eq, List, [], ◌∷◌, ◌++◌, map, Bool, true, false, not, cond, Option, Some, None, refl, sym, ap, subst, arith}
+use Rattle.std.specs.List.{filter, list_any, list_all, IsDistinct}
 use Rattle.std.proofs.lemmas.Bool.Decides.{nat_tests}
 use Rattle.std.proofs.lemmas.List.Folds.{list_all-append}
 use Rattle.std.proofs.lemmas.Cmp.{nat_eq_equiv}
@@ -14,10 +14,12 @@ use Rattle.portal_model.specs.declared.request.NodeRequest.{NodeRequest}
 use Rattle.portal_model.specs.declared.request.Request.{Request}
 use Rattle.portal_model.specs.declared.state.Connection.{Connection}
 use Rattle.portal_model.specs.Enter.{entered, new_connection}
+use Rattle.portal_model.specs.Leave.{left, of_others}
 use Rattle.portal_model.specs.History.{run}
 use Rattle.portal_model.specs.State.{State, connection_of}
-use Rattle.portal_model.specs.Step.{after, all_told, told_of, node_answer, node_step, request_step, mount_of}
+use Rattle.portal_model.specs.Step.{after, all_told, bus_of, collect_step, told_of, node_answer, node_step, request_step, mount_of}
 use Rattle.portal_model.specs.Valid.{Valid, is_sound_connection}
+use Rattle.portal_model.proofs.Apart.{IsDistinct-filter, list_all-filter}
 
 abbrev seats : List Connection → List ℕ
 seats cs = map (λ (c : Connection). c.seat) cs
@@ -70,6 +72,22 @@ entered_sound seat who kind queued cs None e k = (
 )
 entered_sound seat who kind queued cs (Some c) e k = k
 
+-- ---- Leave
+
+left_seats : (seat : ℕ) (cs : List Connection) → seats (of_others seat cs) ≡ filter (λ (n : ℕ). not (n == seat)) (seats cs)
+left_seats seat [] = refl
+left_seats seat (c ∷ cs) = elim (c.seat == seat) as (λ b. seats (cond (not b) (c ∷ of_others seat cs) (of_others seat cs)) ≡ cond (not b) (c.seat ∷ filter (λ (n : ℕ). not (n == seat)) (seats cs)) (filter (λ (n : ℕ). not (n == seat)) (seats cs))) [
+  | true ↦ left_seats seat cs
+  | false ↦ ap (λ (x : List ℕ). c.seat ∷ x) (left_seats seat cs)
+]
+
+left_sound : (seat queued : ℕ) (cs : List Connection) (o : Option Connection) → SoundConnections queued cs → SoundConnections queued (left seat cs o)
+left_sound seat queued cs None k = k
+left_sound seat queued cs (Some c) k = (
+  subst (IsDistinct nat_eq) (sym (left_seats seat cs)) (IsDistinct-filter nat_eq (λ (n : ℕ). not (n == seat)) (seats cs) k.0),
+  list_all-filter (is_sound_connection queued) _ cs k.1,
+)
+
 -- ---- what is told
 
 told_seats : (seat : ℕ) (cs : List Connection) → seats (map (told_of seat) cs) ≡ seats cs
@@ -96,6 +114,10 @@ all_told-Valid s seat v = Valid-connections s (map (told_of seat) s.connections)
 node_answer-Valid : (s : State) (who : Who) (r : NodeRequest) (op : NodeOp) (given : Given) → Valid s → Valid (node_answer s who r op given).0
 node_answer-Valid s who r (NodeOp.GetAttr flags fh) given v = v
 
+collect_step-Valid : (s : State) (o : Option Connection) → Valid s → Valid (collect_step s o).0
+collect_step-Valid s None v = v
+collect_step-Valid s (Some c) v = all_told-Valid s c.seat v
+
 node_step-Valid : (s : State) (r : NodeRequest) (given : Given) (o : Option Connection) → Valid s → Valid (node_step s r given o).0
 node_step-Valid s r given None v = v
 node_step-Valid s r given (Some c) v = node_answer-Valid (all_told c.seat s) c.who r r.op given (all_told-Valid s c.seat v)
@@ -103,6 +125,9 @@ node_step-Valid s r given (Some c) v = node_answer-Valid (all_told c.seat s) c.w
 request_step-Valid : (s : State) (seat : ℕ) (request : Request) (given : Given) → Valid s → Valid (request_step s seat request given).0
 request_step-Valid s seat (Request.Enter who kind) given v =
     Valid-connections s _ v (entered_sound seat who kind s.limits.queued s.connections (connection_of s.connections seat) refl (v.seats_differ, v.connections_sound))
+request_step-Valid s seat Request.Leave given v =
+    Valid-connections s _ v (left_sound seat s.limits.queued s.connections (connection_of s.connections seat) (v.seats_differ, v.connections_sound))
+request_step-Valid s seat Request.Collect given v = collect_step-Valid s (bus_of (connection_of s.connections seat)) v
 request_step-Valid s seat (Request.Node r) given v = node_step-Valid s r given (mount_of (connection_of s.connections seat)) v
 
 pub after-Valid : (s : State) (e : Entry) → Valid s → Valid (after s e)

@@ -13,13 +13,15 @@ use Rattle.portal_model.specs.Effect.{Effect, apply, apply_all}
 use Rattle.portal_model.specs.History.{made_by, makes, EachLawful, replies}
 use Rattle.portal_model.specs.Lawful.{Lawful, LooksAre, LawfulLooks}
 use Rattle.portal_model.specs.State.{State, connection_of}
-use Rattle.portal_model.specs.Step.{is_mount, mount_of, all_told, with_signals, node_answer, node_step, request_step, after, reply_at, node_op_looks, node_looks, looks_taken}
+use Rattle.portal_model.specs.Step.{is_mount, bus_of, mount_of, all_told, with_signals, node_answer, node_step, request_step, after, reply_at, node_op_looks, node_looks, looks_taken}
 use Rattle.portal_model.specs.Valid.{Valid}
 use Rattle.portal_model.specs.View.{View, view, is_app, own_connections}
 use Rattle.portal_model.specs.World.{Own, Item, Asked, Changed, own_of, own_node_answer, own_node_step, app_step, node_touch, touch, items, own_replies, trace, app_run}
+use Rattle.portal_model.proofs.CollectLaws.{collect_own, collect_other, collect_told}
 use Rattle.portal_model.proofs.EnterLaws.{enter_own, enter_other}
 use Rattle.portal_model.proofs.Finds.{find-filter-some}
 use Rattle.portal_model.proofs.GetAttrLaws.{get_attr_own}
+use Rattle.portal_model.proofs.LeaveLaws.{leave_own, leave_other}
 use Rattle.portal_model.proofs.ValidLaws.{after-Valid}
 use Rattle.portal_model.proofs.ViewLaws.{is_app-named, own_unsent, view-told}
 
@@ -80,12 +82,16 @@ module _ (app : List ℕ) (s : State) (seat : ℕ) (r : NodeRequest) (given : Gi
 pub step_own : (app : List ℕ) (s : State) (seat : ℕ) (request : Request) (given : Given) → Valid s → made_by app (connection_of s.connections seat) request ≡ true →
     LooksAre (looks_taken s seat request) given.fault given.looks → app_step (view s app) (own_of (entry seat request given)) ≡ seen_step app (request_step s seat request given)
 step_own app s seat (Request.Enter who kind) given v m l = ap (λ (done : View × Answer). with_signals [] done) (enter_own app s seat who kind m)
+step_own app s seat Request.Leave given v m l = ap (λ (done : View × Answer). with_signals [] done) (leave_own app s seat m)
+step_own app s seat Request.Collect given v m l = collect_own app s seat v (connection_of s.connections seat) refl m
 step_own app s seat (Request.Node r) given v m l = node_own app s seat r given v (connection_of s.connections seat) refl m l
 
 -- that it does not make: what is touched gives the view after
 pub step_other : (app : List ℕ) (s : State) (seat : ℕ) (request : Request) (given : Given) → Valid s → made_by app (connection_of s.connections seat) request ≡ false →
     apply_all (view s app) (touch app s (entry seat request given)) ≡ view (request_step s seat request given).0 app
 step_other app s seat (Request.Enter who kind) given v m = enter_other app s seat who kind m
+step_other app s seat Request.Leave given v m = leave_other app s seat v m
+step_other app s seat Request.Collect given v m = collect_other app s (bus_of (connection_of s.connections seat)) v
 step_other app s seat (Request.Node r) given v m = node_other app s seat r given v (mount_of (connection_of s.connections seat))
 
 node_told : (s : State) (r : NodeRequest) (given : Given) (o : Option Connection) → (node_step s r given o).0.told ≡ s.told
@@ -95,6 +101,8 @@ node_told s r given (Some c) = node_answer_told (all_told c.seat s) c.who r r.op
 -- a tree that tells goes on telling
 pub step_told : (s : State) (seat : ℕ) (request : Request) (given : Given) → (request_step s seat request given).0.told ≡ s.told
 step_told s seat (Request.Enter who kind) given = refl
+step_told s seat Request.Leave given = refl
+step_told s seat Request.Collect given = collect_told s (bus_of (connection_of s.connections seat))
 step_told s seat (Request.Node r) given = node_told s r given (mount_of (connection_of s.connections seat))
 
 -- ---- a history, by the laws of one step alone

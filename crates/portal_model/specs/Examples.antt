@@ -15,6 +15,7 @@ use Rattle.portal_model.specs.declared.opening.OpeningState.{OpeningState}
 use Rattle.portal_model.specs.declared.records.GrantRecord.{GrantRecord}
 use Rattle.portal_model.specs.declared.reply.Answer.{Answer}
 use Rattle.portal_model.specs.declared.reply.Attr.{Attr}
+use Rattle.portal_model.specs.declared.reply.Change.{Change}
 use Rattle.portal_model.specs.declared.reply.Code.TheVariants as Code
 use Rattle.portal_model.specs.declared.reply.NodeAnswer.TheVariants as NodeAnswer
 use Rattle.portal_model.specs.declared.reply.Reply.{Reply}
@@ -149,6 +150,36 @@ pub record AnswersOfSeats : Type 0 where
   pub by_handle : reply_at entered_state asks_handle ≡ replied (Answer.Refused (Code.Errno 9))
   pub by_handle_lawful : Lawful entered_state asks_handle
 
+-- ---- what was not told yet, and the end of a connection
+
+abbrev pub asks_alone : ℕ → Request → Entry
+asks_alone seat request = record { seat = seat; request = request; given = given [] }
+
+abbrev pub leaves : ℕ → Entry
+leaves seat = asks_alone seat Request.Leave
+
+abbrev pub collects : Entry
+collects = asks_alone 1 Request.Collect
+
+abbrev pub change : Change
+change = record { table = codes "devices"; id = codes "camera"; deleted = false }
+
+-- the host's bus waits for a change
+abbrev pub waiting_state : State
+waiting_state = record read_write_state { connections = record { seat = 1; who = Who.Host; kind = Kind.Bus; queue = []; opens = 0; unsent = change ∷ [] } ∷ [] }
+
+-- a Leave ends the seat's own connection and tells nothing. A Collect is of a bus alone: it tells what was not told yet, once
+pub record LeaveAndCollect : Type 0 where
+  pub leaves_once : step entered_state (leaves 1) ≡ (read_write_state, replied Answer.Done)
+  pub not_entered : step read_write_state (leaves 1) ≡ (read_write_state, not_here_reply)
+  pub other_seat : step entered_state (leaves 2) ≡ (entered_state, not_here_reply)
+  pub tells_nothing : step waiting_state (leaves 1) ≡ (read_write_state, replied Answer.Done)
+  pub on_a_mount : step entered_state collects ≡ (entered_state, not_here_reply)
+  pub nothing_waits : step (after read_write_state enters_bus) collects ≡ (after read_write_state enters_bus, replied Answer.Done)
+  pub tells : reply_at waiting_state collects ≡ record { signals = change ∷ []; answer = Answer.Done }
+  pub tells_once : reply_at (after waiting_state collects) collects ≡ replied Answer.Done
+  pub lawful : Lawful entered_state (leaves 1)
+
 -- where the call of the tree failed, the answer is EIO
 abbrev pub failed_look : Entry
 failed_look = record { seat = 1; request = asks_attributes a_node 0 0; given = record { now = None; words = []; numbers = []; looks = []; full = false; fault = Fault.Tree } }
@@ -159,10 +190,12 @@ pub record FailedLook : Type 0 where
 
 -- ---- costs
 
--- 128 bytes, and six more for the name that an Enter carries
+-- 128 bytes, and six more for the name that an Enter carries; a Leave is free
 pub record CostsOfRequests : Type 0 where
   pub enter : cost_of (Request.Enter (Who.App editor) Kind.Mount) ≡ 134
   pub attributes : cost_of (asks_attributes a_node 0 0) ≡ 128
+  pub leave : cost_of Request.Leave ≡ 0
+  pub collect : cost_of Request.Collect ≡ 128
 
 -- ---- traces
 

@@ -37,14 +37,16 @@ abbrev pub who_bytes : Who → ℕ
 who_bytes Who.Host = 0
 who_bytes (Who.App name) = length name
 
--- the bytes that a request carries
-abbrev pub carried : Request → ℕ
-carried (Request.Enter who kind) = who_bytes who
-carried (Request.Node r) = node_bytes r.op
+-- what a request that carries so many bytes costs: at most the greatest number that is counted
+abbrev pub cost_of_bytes : ℕ → ℕ
+cost_of_bytes count = min (128 + count) (2 ^ 64 - 1)
 
--- what a request costs the history: at most the greatest number that is counted
+-- what a request costs the history. A Leave is free, so that it is never too much
 abbrev pub cost_of : Request → ℕ
-cost_of request = min (128 + carried request) (2 ^ 64 - 1)
+cost_of (Request.Enter who kind) = cost_of_bytes (who_bytes who)
+cost_of Request.Leave = 0
+cost_of Request.Collect = cost_of_bytes 0
+cost_of (Request.Node r) = cost_of_bytes (node_bytes r.op)
 
 abbrev pub cost : List Entry → ℕ
 cost h = sum_by (λ e. cost_of e.request) h
@@ -59,6 +61,8 @@ of_seat seat h = filter (λ e. e.seat == seat) h
 abbrev pub maker : Option Connection → Request → Option Who
 maker (Some c) request = Some c.who
 maker None (Request.Enter who kind) = Some who
+maker None Request.Leave = None
+maker None Request.Collect = None
 maker None (Request.Node r) = None
 
 abbrev pub is_by : List ℕ → Option Who → Bool

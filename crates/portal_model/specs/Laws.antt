@@ -1,5 +1,5 @@
 -- Laws over histories, which the public functions of src/laws.rt state.
-use Rattle.std.specs.Prelude.{◌≡◌, ℕ, ◌+◌, List, ◌++◌, true, false, map, Some}
+use Rattle.std.specs.Prelude.{◌≡◌, ℕ, ◌+◌, ◌≤◌, List, [], ◌∷◌, ◌++◌, length, take, true, false, map, Some, is_some}
 use Rattle.portal_model.specs.declared.entry.Entry.{Entry}
 use Rattle.portal_model.specs.History.{run, Legal, cost, of_seat, makes, replies}
 use Rattle.portal_model.specs.Opening.{SoundOpening, ValidOpening, file_of}
@@ -8,6 +8,7 @@ use Rattle.portal_model.specs.declared.opening.OpeningState.{OpeningState}
 use Rattle.portal_model.specs.Step.{after, reply_at}
 use Rattle.portal_model.specs.Effect.{apply_all}
 use Rattle.portal_model.specs.Lawful.{Lawful}
+use Rattle.portal_model.specs.Seated.{BeginsWith, bound, bound_by, exchange, exchanges, is_open}
 use Rattle.portal_model.specs.Valid.{Valid}
 use Rattle.portal_model.specs.View.{view, own_connections}
 use Rattle.portal_model.specs.World.{app_run, app_step, own_of, touch, trace}
@@ -28,6 +29,30 @@ CostsJoin = (h more : List Entry) → cost (h ++ more) ≡ cost h + cost more
 
 abbrev pub SeatsJoin : Type 0
 SeatsJoin = (seat : ℕ) (h more : List Entry) → of_seat seat (h ++ more) ≡ of_seat seat h ++ of_seat seat more
+
+-- what a list begins with: an order of lists, by their lengths where one list begins with both
+pub record Beginnings : Type 0 where
+  pub itself : (h : List Entry) → BeginsWith h h
+  pub through : (h i j : List Entry) → BeginsWith h i → BeginsWith i j → BeginsWith h j
+  pub joined : (h more : List Entry) → BeginsWith (h ++ more) h
+  pub taken : (h i : List Entry) → BeginsWith h i → take (length i) h ≡ i
+  pub lengths : (h i : List Entry) → BeginsWith h i → length i ≤ length h
+  pub whole : (h i : List Entry) → BeginsWith h i → length h ≤ length i → h ≡ i
+  pub between : (h i j : List Entry) → BeginsWith h i → BeginsWith h j → length j ≤ length i → BeginsWith i j
+
+-- the exchanges of a seat in lists that are joined, and their entries
+pub record ExchangesJoin : Type 0 where
+  pub join : (seat : ℕ) (s : State) (h more : List Entry) → exchanges seat s (h ++ more) ≡ exchanges seat s h ++ exchanges seat (run s h) more
+  pub own : (seat : ℕ) (s : State) (h : List Entry) (e : Entry) → e.seat ≡ seat → exchanges seat s (h ++ e ∷ []) ≡ exchanges seat s h ++ exchange (run s h) e ∷ []
+  pub other : (seat : ℕ) (s : State) (h : List Entry) (e : Entry) → (e.seat ≡ seat → ⊥) → exchanges seat s (h ++ e ∷ []) ≡ exchanges seat s h
+  pub entries : (seat : ℕ) (s : State) (h : List Entry) → map (λ x. x.entry) (exchanges seat s h) ≡ of_seat seat h
+  pub lengths : (seat : ℕ) (s : State) (h : List Entry) → length (exchanges seat s h) ≤ length h
+
+-- whether a seat has an open connection, whom it is bound to and what it speaks, is told by the entries of
+-- that seat alone
+pub record SeatsTell : Type 0 where
+  pub binding : (seat : ℕ) (s : State) (h : List Entry) → bound (run s h) seat ≡ bound_by (bound s seat) (of_seat seat h)
+  pub open_one : (seat : ℕ) (s : State) (h : List Entry) → is_open (run s h) seat ≡ is_some (bound_by (bound s seat) (of_seat seat h))
 
 -- a valid state stays valid
 pub record StaysValid : Type 0 where

@@ -5,6 +5,8 @@ pub mod Errno
 pub mod View
 pub mod Effect
 pub mod Enter
+pub mod Leave
+pub mod Collect
 pub mod GetAttr
 pub mod Step
 pub mod Lawful
@@ -12,5 +14,6 @@ pub mod Valid
 pub mod Opening
 pub mod History
 pub mod World
+pub mod Seated
 pub mod Laws
 pub mod Examples

@@ -13,8 +13,10 @@ use Rattle.portal_model.specs.declared.request.NodeOp.{NodeOp}
 use Rattle.portal_model.specs.declared.request.NodeRequest.{NodeRequest}
 use Rattle.portal_model.specs.declared.request.Request.{Request}
 use Rattle.portal_model.specs.declared.state.Connection.{Connection}
+use Rattle.portal_model.specs.Collect.{collect}
 use Rattle.portal_model.specs.Enter.{enter}
 use Rattle.portal_model.specs.GetAttr.{get_attr_answer, get_attr_looks}
+use Rattle.portal_model.specs.Leave.{leave}
 use Rattle.portal_model.specs.State.{State, connection_of}
 
 -- ---- the connection that asks
@@ -27,6 +29,11 @@ is_mount Kind.Bus = false
 abbrev pub mount_of : Option Connection → Option Connection
 mount_of None = None
 mount_of (Some c) = cond (is_mount c.kind) (Some c) None
+
+-- the connection, where it is a bus
+abbrev pub bus_of : Option Connection → Option Connection
+bus_of None = None
+bus_of (Some c) = cond (is_mount c.kind) None (Some c)
 
 -- what the connection was not told yet is told now
 abbrev pub told_of : ℕ → Connection → Connection
@@ -55,8 +62,15 @@ abbrev pub node_step : State → NodeRequest → Given → Option Connection →
 node_step s r given None = not_here s
 node_step s r given (Some c) = with_signals c.unsent (node_answer (all_told c.seat s) c.who r r.op given)
 
+abbrev pub collect_step : State → Option Connection → State × Reply
+collect_step s None = not_here s
+collect_step s (Some c) = with_signals c.unsent (collect (all_told c.seat s))
+
+-- an Enter and a Leave tell no change
 abbrev pub request_step : State → ℕ → Request → Given → State × Reply
 request_step s seat (Request.Enter who kind) given = with_signals [] (enter s seat who kind)
+request_step s seat Request.Leave given = with_signals [] (leave s seat)
+request_step s seat Request.Collect given = collect_step s (bus_of (connection_of s.connections seat))
 request_step s seat (Request.Node r) given = node_step s r given (mount_of (connection_of s.connections seat))
 
 -- the state after an entry, and the reply to it
@@ -80,4 +94,6 @@ node_looks s r (Some c) = node_op_looks s c.who r r.op
 
 abbrev pub looks_taken : State → ℕ → Request → List Look
 looks_taken s seat (Request.Enter who kind) = []
+looks_taken s seat Request.Leave = []
+looks_taken s seat Request.Collect = []
 looks_taken s seat (Request.Node r) = node_looks s r (mount_of (connection_of s.connections seat))

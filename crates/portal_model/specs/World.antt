@@ -12,12 +12,14 @@ use Rattle.portal_model.specs.declared.request.NodeOp.{NodeOp}
 use Rattle.portal_model.specs.declared.request.NodeRequest.{NodeRequest}
 use Rattle.portal_model.specs.declared.request.Request.{Request}
 use Rattle.portal_model.specs.declared.state.Connection.{Connection}
+use Rattle.portal_model.specs.Collect.{own_collect}
 use Rattle.portal_model.specs.Effect.{Effect, apply}
 use Rattle.portal_model.specs.Enter.{own_enter}
 use Rattle.portal_model.specs.GetAttr.{own_get_attr_answer, own_get_attr_looks}
 use Rattle.portal_model.specs.History.{makes}
+use Rattle.portal_model.specs.Leave.{own_leave}
 use Rattle.portal_model.specs.State.{State, connection_of}
-use Rattle.portal_model.specs.Step.{after, mount_of, not_here, with_signals}
+use Rattle.portal_model.specs.Step.{after, bus_of, mount_of, not_here, with_signals}
 use Rattle.portal_model.specs.View.{View, view}
 
 -- ---- the application's own machine
@@ -46,8 +48,15 @@ abbrev pub own_node_step : View → NodeRequest → Own → Option Connection �
 own_node_step v r own None = not_here v
 own_node_step v r own (Some c) = with_signals [] (own_node_answer v r r.op own)
 
+-- nothing waits to be told to an application
+abbrev pub own_collect_step : View → Option Connection → View × Reply
+own_collect_step v None = not_here v
+own_collect_step v (Some c) = with_signals [] (own_collect v)
+
 abbrev pub own_request_step : View → Own → Request → View × Reply
 own_request_step v own (Request.Enter who kind) = with_signals [] (own_enter v own.seat who kind)
+own_request_step v own Request.Leave = with_signals [] (own_leave v own.seat)
+own_request_step v own Request.Collect = own_collect_step v (bus_of (connection_of v.connections own.seat))
 own_request_step v own (Request.Node r) = own_node_step v r own (mount_of (connection_of v.connections own.seat))
 
 -- the view after a request of the application, and the reply to it
@@ -76,6 +85,8 @@ node_touch app s r (NodeOp.GetAttr flags fh) given = []
 
 abbrev pub request_touch : List ℕ → State → ℕ → Request → Given → List Effect
 request_touch app s seat (Request.Enter who kind) given = []
+request_touch app s seat Request.Leave given = []
+request_touch app s seat Request.Collect given = []
 request_touch app s seat (Request.Node r) given = node_touch app s r r.op given
 
 -- what an entry that the application does not make changes of its view

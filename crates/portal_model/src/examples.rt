@@ -10,6 +10,7 @@ ghost use Rattle.portal_model.specs.Examples.{
   CostsOfRequests,
   FailedLook,
   ForeignIsAsMissing,
+  LeaveAndCollect,
   TracesTellWhatIsHeld,
 };
 
@@ -25,8 +26,8 @@ pub fn a_foreign_document_is_as_a_missing_one()
     ensures { ForeignIsAsMissing }
 {}
 
-/// An Enter costs 128 bytes and those of the application's name, and a request
-/// for attributes 128 bytes.
+/// An Enter costs 128 bytes and those of the application's name, a Collect and
+/// a request for attributes 128 bytes, and a Leave nothing.
 pub fn costs_of_requests()
     ensures { CostsOfRequests }
 {}
@@ -41,6 +42,12 @@ pub fn traces_tell_what_is_held()
 /// without a connection, and no handle is open yet.
 pub fn answers_of_seats()
     ensures { AnswersOfSeats }
+{}
+
+/// A Leave ends the seat's own connection, and a Collect tells a bus once what
+/// it was not told yet.
+pub fn leave_and_collect()
+    ensures { LeaveAndCollect }
 {}
 
 /// A look that failed is answered EIO.

@@ -3,12 +3,15 @@
 //! Each function does nothing; its contract is the law.
 
 ghost use Rattle.portal_model.specs.Laws.{
+  Beginnings,
   CostsJoin,
+  ExchangesJoin,
   Isolated,
   LegalJoins,
   OpeningsAreValid,
   RunsJoin,
   SeatsJoin,
+  SeatsTell,
   StaysValid,
   StepsSeen,
   ViewsFramed,
@@ -35,6 +38,26 @@ pub fn costs_join()
 /// then those in the second.
 pub fn entries_of_a_seat_join()
     ensures { SeatsJoin }
+{}
+
+/// What a history begins with: itself, what was there before it grew, and what
+/// that began with. Of two histories that one begins with, the longer begins
+/// with the shorter.
+pub fn histories_begin()
+    ensures { Beginnings }
+{}
+
+/// The exchanges of a seat in two histories joined are those in the first and
+/// then those in the second, from the state after the first. They are of the
+/// entries of the seat, in order.
+pub fn exchanges_of_a_seat_join()
+    ensures { ExchangesJoin }
+{}
+
+/// Whether a seat has an open connection after a history, whom it is bound to
+/// and what it speaks, is told by the entries of that seat alone.
+pub fn seats_tell_their_connections()
+    ensures { SeatsTell }
 {}
 
 /// Every state that is reached from a valid state is valid.

@@ -3,6 +3,7 @@
 //! the sequential portal stand beside it in specs/.
 #![tactic(auto)]
 
+pub mod desk;
 pub mod entry;
 pub mod examples;
 pub mod laws;

@@ -39,6 +39,11 @@ pub enum Request {
         /// What it speaks.
         kind: Kind,
     },
+    /// The open connection of the seat is closed.
+    Leave,
+    /// A bus asks for the changes of the permission store that it was not told
+    /// yet, and for nothing else.
+    Collect,
     /// A request on a node.
     Node(NodeRequest),
 }
@@ -50,6 +55,8 @@ impl Replica for Request {
                 who: who.replica(alloc)?,
                 kind: *kind,
             }),
+            Request::Leave => Ok(Request::Leave),
+            Request::Collect => Ok(Request::Collect),
             Request::Node(request) => Ok(Request::Node(*request)),
         }
     }

@@ -75,6 +75,15 @@ fn requests_are_copied(rt: HostRuntime) -> Result<(), Fail> {
         } => assert_eq!(rt; kind, Kind::Bus),
         _ => return Err("another request".into()),
     }
+    for request in [Request::Leave, Request::Collect] {
+        let copy = request.replica(rt.alloc())?;
+        assert!(rt;
+            matches!(
+                (&request, &copy),
+                (Request::Leave, Request::Leave) | (Request::Collect, Request::Collect)
+            )
+        );
+    }
     let node = NodeRequest {
         node: 8_589_934_602,
         uid: 1000,

@@ -1,11 +1,12 @@
 //! Tests of the portal, over one file that holds "hello".
 
-ghost use Rattle.std.specs.Prelude.{◌≡◌, ◌≤◌, [], ◌∷◌, IfOk, true};
+ghost use Rattle.std.specs.Prelude.{◌≡◌, [], ◌∷◌, IfOk, true};
 ghost use Rattle.portal_base.specs.Names.{is_app_name};
 ghost use Rattle.portal_model.specs.Examples.{a_text, document, grant, hello};
 ghost use Rattle.portal_core.specs.Examples.{granted, within as within_limit};
 
-use super::Portal;
+use super::{Portal, entry_made};
+use crate::history::History;
 use portal_base::limits::Limits;
 use portal_base::list::List;
 use portal_base::names::{AppId, DocId};
@@ -115,45 +116,75 @@ fn started_empty(alloc: Global) -> Result<Portal, Fail> {
     Ok(Portal::start(alloc, &opening)?)
 }
 
-fn enter(alloc: Global, app: &[u8]) -> Result<Request, Fail> {
-    Ok(Request::Enter {
-        who: Who::App(AppId::read(alloc, app)?),
-        kind: Kind::Mount,
-    })
+/// What is asked.
+#[derive(Clone, Copy)]
+enum Ask {
+    /// An Enter of org.ed.
+    Enter(Kind),
+    Leave,
+    Collect,
+    /// The attributes of the node, with these flags.
+    GetAttr(u32),
 }
 
-fn get_attr(flags: u32) -> Request {
-    Request::Node(NodeRequest {
-        node: NODE,
-        uid: 1000,
-        gid: 1000,
-        op: NodeOp::GetAttr { flags, fh: 0 },
-    })
+fn request_of(alloc: Global, ask: Ask) -> Result<Request, Fail> {
+    let request = match ask {
+        Ask::Enter(kind) => Request::Enter {
+            who: Who::App(AppId::read(alloc, b"org.ed")?),
+            kind,
+        },
+        Ask::Leave => Request::Leave,
+        Ask::Collect => Request::Collect,
+        Ask::GetAttr(flags) => Request::Node(NodeRequest {
+            node: NODE,
+            uid: 1000,
+            gid: 1000,
+            op: NodeOp::GetAttr { flags, fh: 0 },
+        }),
+    };
+    Ok(request)
 }
 
-fn answer(
+/// A row of a table: who asks what, and how it is answered. Seats are counted
+/// from 0 here.
+type Row = (u16, Ask, Result<Answer, Refused>);
+
+fn answer_to(
     portal: &mut Portal,
     alloc: Global,
-    seat: u32,
+    seat: u16,
     request: Request,
-) -> Result<Answer, Refused>
-    requires { 1 ≤ seat }
-{
-    let reply = portal.ask(alloc, seat, request)?;
-    Ok(reply.answer)
+) -> Result<Answer, Refused> {
+    Ok(portal.ask(alloc, u32::from(seat) + 1, request)?.answer)
 }
 
-fn not_found() -> Answer {
-    Answer::Refused(Code::Errno(2))
+/// Asks as the rows say, and finds the first that is answered otherwise.
+fn first_wrong(portal: &mut Portal, alloc: Global, rows: &[Row]) -> Result<Option<usize>, Fail> {
+    for (i, (seat, ask, expected)) in rows.iter().enumerate() {
+        let answered = answer_to(portal, alloc, *seat, request_of(alloc, *ask)?);
+        if answered != *expected {
+            return Ok(Some(i));
+        }
+    }
+    Ok(None)
 }
 
-#[test]
-fn a_granted_file_has_attributes(rt: HostRuntime) -> Result<(), Fail> {
-    let alloc = rt.alloc();
-    let mut portal = started(alloc, b"org.ed", PLENTY)?;
-    let entered = answer(&mut portal, alloc, 1, enter(alloc, b"org.ed")?);
-    assert_eq!(rt; entered, Ok(Answer::Done));
-    let attributes = Attr {
+const ENTER: Ask = Ask::Enter(Kind::Mount);
+
+const DONE: Result<Answer, Refused> = Ok(Answer::Done);
+
+const NOT_HERE: Result<Answer, Refused> = Ok(Answer::Refused(Code::NotHere));
+
+const fn errno(number: u32) -> Result<Answer, Refused> {
+    Ok(Answer::Refused(Code::Errno(number)))
+}
+
+const fn full(cost: u64, limit: u64) -> Result<Answer, Refused> {
+    Err(Refused::Full { cost, limit })
+}
+
+fn attributes() -> Result<Answer, Refused> {
+    Ok(Answer::Node(NodeAnswer::Attr(Attr {
         node: NODE,
         size: 5,
         blocks: 1,
@@ -163,101 +194,131 @@ fn a_granted_file_has_attributes(rt: HostRuntime) -> Result<(), Fail> {
         uid: 1000,
         gid: 1000,
         block_size: 4096,
-    };
-    let answered = answer(&mut portal, alloc, 1, get_attr(0));
-    assert_eq!(rt; answered, Ok(Answer::Node(NodeAnswer::Attr(attributes))));
-    assert_eq!(rt; portal.history().len(), 2);
-    assert_eq!(rt; portal.history().cost(), 262);
-    assert_eq!(rt; portal.opening().files.len(), 1);
+    })))
+}
+
+/// The same at a new portal.
+fn first_wrong_at(
+    alloc: Global,
+    app: &[u8],
+    history: u64,
+    rows: &[Row],
+) -> Result<Option<usize>, Fail> {
+    let mut portal = started(alloc, app, history)?;
+    first_wrong(&mut portal, alloc, rows)
+}
+
+#[test]
+fn before_an_enter_nobody_is_here(rt: HostRuntime) -> Result<(), Fail> {
+    let rows = [
+        (0, Ask::GetAttr(0), NOT_HERE),
+        (0, Ask::Collect, NOT_HERE),
+        (0, Ask::Leave, NOT_HERE),
+    ];
+    assert_eq!(rt; first_wrong_at(rt.alloc(), b"org.ed", PLENTY, &rows)?, None);
+    Ok(())
+}
+
+#[test]
+fn a_mount_enters_once_and_asks(rt: HostRuntime) -> Result<(), Fail> {
+    let rows = [
+        (0, ENTER, DONE),
+        (0, ENTER, NOT_HERE),
+        (0, Ask::GetAttr(0), attributes()),
+        (0, Ask::Collect, NOT_HERE),
+    ];
+    assert_eq!(rt; first_wrong_at(rt.alloc(), b"org.ed", PLENTY, &rows)?, None);
+    Ok(())
+}
+
+#[test]
+fn a_bus_collects(rt: HostRuntime) -> Result<(), Fail> {
+    let rows = [
+        (0, Ask::Enter(Kind::Bus), DONE),
+        (0, Ask::Collect, DONE),
+        (0, Ask::GetAttr(0), NOT_HERE),
+    ];
+    assert_eq!(rt; first_wrong_at(rt.alloc(), b"org.ed", PLENTY, &rows)?, None);
+    Ok(())
+}
+
+#[test]
+fn a_seat_that_left_may_enter_again(rt: HostRuntime) -> Result<(), Fail> {
+    let rows = [
+        (0, ENTER, DONE),
+        (0, Ask::Leave, DONE),
+        (0, Ask::Leave, NOT_HERE),
+        (0, ENTER, DONE),
+    ];
+    assert_eq!(rt; first_wrong_at(rt.alloc(), b"org.ed", PLENTY, &rows)?, None);
+    Ok(())
+}
+
+#[test]
+fn a_leave_ends_no_other_connection(rt: HostRuntime) -> Result<(), Fail> {
+    let rows = [
+        (0, ENTER, DONE),
+        (1, ENTER, DONE),
+        (0, Ask::Leave, DONE),
+        (1, Ask::GetAttr(0), attributes()),
+    ];
+    assert_eq!(rt; first_wrong_at(rt.alloc(), b"org.ed", PLENTY, &rows)?, None);
     Ok(())
 }
 
 #[test]
 fn a_foreign_document_is_not_found(rt: HostRuntime) -> Result<(), Fail> {
-    let alloc = rt.alloc();
-    let mut portal = started(alloc, b"org.other", PLENTY)?;
-    let entered = answer(&mut portal, alloc, 1, enter(alloc, b"org.ed")?);
-    assert_eq!(rt; entered, Ok(Answer::Done));
-    let answered = answer(&mut portal, alloc, 1, get_attr(0));
-    assert_eq!(rt; answered, Ok(not_found()));
+    let rows = [(0, ENTER, DONE), (0, Ask::GetAttr(0), errno(2))];
+    assert_eq!(rt;
+        first_wrong_at(rt.alloc(), b"org.other", PLENTY, &rows)?,
+        None
+    );
     Ok(())
 }
 
 #[test]
 fn a_missing_document_is_not_found(rt: HostRuntime) -> Result<(), Fail> {
-    let alloc = rt.alloc();
-    let mut portal = started_empty(alloc)?;
-    let entered = answer(&mut portal, alloc, 1, enter(alloc, b"org.ed")?);
-    assert_eq!(rt; entered, Ok(Answer::Done));
-    let answered = answer(&mut portal, alloc, 1, get_attr(0));
-    assert_eq!(rt; answered, Ok(not_found()));
+    let mut portal = started_empty(rt.alloc())?;
+    let rows = [(0, ENTER, DONE), (0, Ask::GetAttr(0), errno(2))];
+    assert_eq!(rt; first_wrong(&mut portal, rt.alloc(), &rows)?, None);
     Ok(())
 }
 
 #[test]
-fn before_an_enter_nobody_is_here(rt: HostRuntime) -> Result<(), Fail> {
-    let alloc = rt.alloc();
-    let mut portal = started(alloc, b"org.ed", PLENTY)?;
-    let answered = answer(&mut portal, alloc, 1, get_attr(0));
-    assert_eq!(rt; answered, Ok(Answer::Refused(Code::NotHere)));
-    assert_eq!(rt; portal.history().len(), 1);
-    Ok(())
-}
-
-#[test]
-fn a_seat_enters_once(rt: HostRuntime) -> Result<(), Fail> {
-    let alloc = rt.alloc();
-    let mut portal = started(alloc, b"org.ed", PLENTY)?;
-    let first = answer(&mut portal, alloc, 1, enter(alloc, b"org.ed")?);
-    assert_eq!(rt; first, Ok(Answer::Done));
-    let second = answer(&mut portal, alloc, 1, enter(alloc, b"org.ed")?);
-    assert_eq!(rt; second, Ok(Answer::Refused(Code::NotHere)));
-    let other_seat = answer(&mut portal, alloc, 2, enter(alloc, b"org.ed")?);
-    assert_eq!(rt; other_seat, Ok(Answer::Done));
-    Ok(())
-}
-
-#[test]
-fn an_enter_that_costs_too_much_is_refused(rt: HostRuntime) -> Result<(), Fail> {
-    let alloc = rt.alloc();
-    for limit in [128, 133] {
-        let mut portal = started(alloc, b"org.ed", limit)?;
-        let refused = answer(&mut portal, alloc, 1, enter(alloc, b"org.ed")?);
-        assert_eq!(rt; refused, Err(Refused::Full { cost: 0, limit }));
-        assert_eq!(rt; portal.history().len(), 0);
-    }
-    Ok(())
-}
-
-#[test]
-fn a_request_past_the_limit_is_refused(rt: HostRuntime) -> Result<(), Fail> {
-    let alloc = rt.alloc();
-    for limit in [134, 261] {
-        let mut portal = started(alloc, b"org.ed", limit)?;
-        let entered = answer(&mut portal, alloc, 1, enter(alloc, b"org.ed")?);
-        assert_eq!(rt; entered, Ok(Answer::Done));
-        let refused = answer(&mut portal, alloc, 1, get_attr(0));
-        assert_eq!(rt; refused, Err(Refused::Full { cost: 134, limit }));
-    }
+fn a_full_history_takes_a_leave_alone(rt: HostRuntime) -> Result<(), Fail> {
+    let rows = [
+        (0, ENTER, DONE),
+        (0, Ask::GetAttr(0), full(134, 261)),
+        (0, Ask::Collect, full(134, 261)),
+        (0, Ask::Leave, DONE),
+    ];
+    assert_eq!(rt; first_wrong_at(rt.alloc(), b"org.ed", 261, &rows)?, None);
     Ok(())
 }
 
 #[test]
 fn a_history_may_cost_its_limit(rt: HostRuntime) -> Result<(), Fail> {
-    let alloc = rt.alloc();
-    let mut portal = started(alloc, b"org.ed", 262)?;
-    let entered = answer(&mut portal, alloc, 1, enter(alloc, b"org.ed")?);
-    assert_eq!(rt; entered, Ok(Answer::Done));
-    let answered = answer(&mut portal, alloc, 1, get_attr(1));
-    assert_eq!(rt; answered, Ok(Answer::Refused(Code::Errno(9))));
-    let refused = answer(&mut portal, alloc, 1, get_attr(0));
-    assert_eq!(rt;
-        refused,
-        Err(Refused::Full {
-            cost: 262,
-            limit: 262
-        })
-    );
+    let mut portal = started(rt.alloc(), b"org.ed", 262)?;
+    let rows = [
+        (0, ENTER, DONE),
+        (0, Ask::GetAttr(1), errno(9)),
+        (0, Ask::GetAttr(1), full(262, 262)),
+    ];
+    assert_eq!(rt; first_wrong(&mut portal, rt.alloc(), &rows)?, None);
     assert_eq!(rt; portal.history().len(), 2);
+    assert_eq!(rt; portal.opening().files.len(), 1);
+    Ok(())
+}
+
+#[test]
+fn an_entry_goes_into_room_that_was_taken(rt: HostRuntime) -> Result<(), Fail> {
+    let alloc = rt.alloc();
+    let mut history = History::new(alloc, &limits(128));
+    history.reserve(1)?;
+    let spare = history.spare();
+    history.push(entry_made(alloc, 7, Request::Collect, List::new(alloc)));
+    assert_eq!(rt; history.spare() + 1, spare);
+    assert_eq!(rt; history.cost(), history.limit());
+    assert_eq!(rt; history.entry(0).map(|entry| entry.seat), Some(7));
     Ok(())
 }

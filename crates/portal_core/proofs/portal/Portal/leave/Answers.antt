@@ -1,0 +1,23 @@
+use Rattle.std.proofs.Common.{◌≡◌, ◌<◌, length, is_some, arith, rules, true}
+use Rattle.portal_model.specs.Leave.{of_others}
+use Rattle.portal_model.specs.State.{connection_of}
+use Rattle.portal_core.proofs.Steps.{fewer_others, stands_absent, stands_left}
+use Rattle.portal_core.proofs.portal.Portal.leave.Goals as goal
+
+pub invariant_of-self-then-not-is_here : goal.invariant_of-self-then-not-is_here
+invariant_of-self-then-not-is_here c =
+    let room = rw (c.as_slice-then-not-is_here.ensures) at c.in_ok-reserve_places.ensures.ok in
+    rw (c.push.ensures, c.in_ok-reserve_places.ensures.entries, c.in_ok-reserve_places.ensures.limit, c.entry_made-entry.ensures, c.new.ensures) (
+      stands_absent c.self.inside.opening c.self.inside.history.entries c.self.inside.history.limit c.self.inside.documents c.self.inside.rights c.self.inside.connections c.self.invariant.0
+          c.args.seat (search rules),
+      omega (arith, room),
+    )
+
+pub invariant_of-self-2 : goal.invariant_of-self-2
+invariant_of-self-2 c =
+    let here : is_some (connection_of c.self.inside.connections c.args.seat) ≡ true = search rules in
+    let fewer : length (of_others c.args.seat c.self.inside.connections) < length c.self.inside.connections = fewer_others c.args.seat c.self.inside.connections here in
+    rw (c.push-2.ensures, c.of_others.ensures, c.replace-connections.ensures.value, c.entry_made-entry.ensures, c.new.ensures) (
+      stands_left c.self.inside.opening c.self.inside.history.entries c.self.inside.history.limit c.self.inside.documents c.self.inside.rights c.self.inside.connections c.self.invariant.0 c.args.seat here,
+      omega (arith, c.self.invariant.1),
+    )
