@@ -8,7 +8,7 @@ use Rattle.portal_model.specs.Examples.{a_text}
 use Rattle.portal_model.specs.Opening.{opened}
 use Rattle.portal_model.specs.Valid.{Valid}
 use Rattle.portal_model.proofs.OpeningLaws.{sound-Valid}
-use Rattle.portal_core.specs.Examples.{granted, within}
+use Rattle.portal_core.specs.Examples.{granted, nothing_within, within}
 
 a_path : is_host_path a_text ≡ true
 unfolding is_host_path is_utf8 chars encode
@@ -46,6 +46,26 @@ valid_within history = sound-Valid (within history []) (record {
   entries_differ = tt;
   entries_sound = refl;
   files_differ = (tt, tt);
+  files_apart = refl;
+  documents_within = omega arith;
+  made_within = omega arith;
+  applications_within = omega arith;
+  made_limit = omega arith;
+  queued_limit = omega arith;
+})
+
+pub valid_nothing : (history : ℕ) → Valid (opened (nothing_within history))
+unfolding IsDistinct
+valid_nothing history = sound-Valid (nothing_within history) (record {
+  made = refl;
+  applications = refl;
+  numbers_differ = tt;
+  paths = refl;
+  names = refl;
+  grants_differ = tt;
+  entries_differ = tt;
+  entries_sound = refl;
+  files_differ = tt;
   files_apart = refl;
   documents_within = omega arith;
   made_within = omega arith;

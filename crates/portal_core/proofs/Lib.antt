@@ -5,3 +5,4 @@ pub mod Loops
 pub mod ValidNames
 pub mod Steps
 pub mod ExampleLemmas
+pub mod Desks

@@ -11,3 +11,7 @@ within history documents = record (opening documents hello) { limits = record li
 -- the document 0000000a, in which the application has these rights
 abbrev pub granted : List ℕ → ℕ → ℕ → OpeningState
 granted app rights history = within history (document 10 a_text (grant app rights ∷ []) ∷ [])
+
+-- an opening state of nothing with this limit of the history
+abbrev pub nothing_within : ℕ → OpeningState
+nothing_within history = record (opening [] []) { limits = record limits { history = history } }

@@ -5,7 +5,9 @@
 mod attributes;
 pub mod history;
 mod lists;
+pub mod local_desk;
 mod opening;
 mod place;
 pub mod portal;
+pub mod storied;
 mod tree;

@@ -1,0 +1,41 @@
+-- A desk that sees the whole history: what it answers is what a desk promises.
+use Rattle.std.proofs.Common.{◌≡◌, ℕ, List, [], ◌∷◌, ◌++◌, Ok, refl, sym, ap, ◌∙◌, subst}
+use Rattle.std.proofs.lemmas.List.{append-nil}
+use Rattle.portal_model.specs.declared.entry.Entry.{Entry}
+use Rattle.portal_model.specs.declared.reply.Reply.{Reply}
+use Rattle.portal_model.specs.declared.request.Request.{Request}
+use Rattle.portal_model.specs.History.{run}
+use Rattle.portal_model.specs.Seated.{Asks, Made, exchanges}
+use Rattle.portal_model.specs.State.{State}
+use Rattle.portal_model.specs.Step.{reply_at}
+use Rattle.portal_model.proofs.SeatLaws.{exchanges-own}
+use Rattle.portal_core.specs.Growth.{GrowsBy}
+use Rattle.portal_core.specs.Lending.{seated_at}
+
+module _ (says : Entry → Type 0) (s : State) (old new : List Entry) (seat refusals : ℕ) (request : Request) (reply : Reply) (g : GrowsBy says s old new seat request reply) where
+  own_exchange : exchanges seat s new ≡ exchanges seat s old ++ record { entry = g.entry; reply = reply } ∷ []
+  own_exchange =
+      ap (exchanges seat s) g.grown
+      ∙ (exchanges-own seat s old g.entry g.seat_is
+      ∙ ap (λ (r : Reply). exchanges seat s old ++ record { entry = g.entry; reply = r } ∷ []) (sym g.reply_is))
+
+  made_here : Made (seated_at s old seat refusals) (seated_at s new seat refusals) request reply
+  made_here = record {
+    entry = g.entry;
+    others = [];
+    seen = g.grown;
+    seat_is = g.seat_is;
+    request_is = g.request_is;
+    reply_is = g.reply_is ∙ ap (λ (h : List Entry). reply_at (run s h) g.entry) (sym (append-nil old));
+    mine = own_exchange;
+    refusals = refl;
+  }
+
+  asked_here : Asks (seated_at s old seat refusals) request (Ok reply) (seated_at s new seat refusals)
+  asked_here = record { moved = record { opening = refl; seat = refl; begins = (g.entry ∷ [], g.grown) }; answered = made_here }
+
+-- also where the state at the opening goes by another name afterwards
+pub asked : (says : Entry → Type 0) (s t : State) (old new : List Entry) (seat refusals : ℕ) (request : Request) (reply : Reply) → t ≡ s → GrowsBy says s old new seat request reply →
+    Asks (seated_at s old seat refusals) request (Ok reply) (seated_at t new seat refusals)
+asked says s t old new seat refusals request reply e g =
+    subst (λ (u : State). Asks (seated_at s old seat refusals) request (Ok reply) (seated_at u new seat refusals)) (sym e) (asked_here says s old new seat refusals request reply g)

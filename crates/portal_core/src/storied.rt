@@ -1,0 +1,86 @@
+//! What keeps a history.
+
+ghost use Rattle.std.specs.Prelude.{◌≡◌, ◌<◌, ◌≤◌, ◌^◌, length, true, IfErr, IfOk, IsOk, OnErr};
+ghost use Rattle.portal_core.specs.Growth.{GrowsBy, RefusedFor, cost_after};
+ghost use Rattle.portal_model.specs.History.{Legal, cost, run};
+ghost use Rattle.portal_model.specs.Seated.{is_open};
+
+use crate::portal::Portal;
+use portal_model::reply::{Refused, Reply};
+use portal_model::request::Request;
+use std::alloc::Global;
+
+/// What answers requests of seats and keeps them all, as a portal does.
+///
+/// Contracts see the state that the history began in, and its entries.
+pub trait Storied {
+    ghost use Rattle.std.specs.Prelude.{List};
+    ghost use Rattle.portal_model.specs.State.{State};
+    ghost use Rattle.portal_model.specs.declared.entry.Entry.{Entry};
+
+    /// The state that the history began in.
+    ghost opening: { Self → State };
+
+    /// The entries, in order.
+    ghost entries: { Self → List Entry };
+
+    /// What is true of each entry that it makes.
+    ghost says: { Entry → Type 0 };
+
+    /// Answers a request of a seat, which is a number from 1.
+    ///
+    /// The reply is that of one step of the sequential portal, from the state
+    /// after the history, which grows by this request. A refusal leaves the
+    /// history as it was. `Full` comes exactly where the history with this
+    /// request would cost more than its limit. The Leave of an open connection
+    /// is never refused.
+    fn ask(&mut self, alloc: Global, seat: u32, request: Request) -> Result<Reply, Refused>
+        requires { 1 ≤ seat }
+
+        ensures opening { opening self.new ≡ opening self.old }
+        ensures answered { IfOk result (GrowsBy says (opening self.old) (entries self.old) (entries self.new) seat request) }
+        ensures refused { OnErr result (entries self.new ≡ entries self.old) }
+
+        // Both ways: it is full exactly where the cost would pass the limit.
+        ensures full { (opening self.old).limits.history < cost_after (entries self.old) request → result ≡ Err (Refused.Full (cost (entries self.old)) (opening self.old).limits.history) }
+        ensures cause { IfErr result (RefusedFor (opening self.old) (entries self.old) request) }
+
+        ensures leave { request ≡ Request.Leave → is_open (run (opening self.old) (entries self.old)) seat ≡ true → IsOk result }
+
+        // Whatever it answers.
+        ensures legal { Legal (opening self.new) (entries self.new) }
+        ensures short { length (entries self.new) < 2 ^ 64 };
+
+    /// The number of entries.
+    fn entry_count(&self) -> u64
+        ensures { result ≡ length (entries self.now) };
+
+    /// What is true at each moment: the history is legal and countable.
+    fn known(&self)
+        ensures legal { Legal (opening self.now) (entries self.now) }
+        ensures short { length (entries self.now) < 2 ^ 64 };
+}
+
+impl Storied for Portal {
+    ghost use Rattle.portal_model.specs.Opening.{opened};
+    ghost use Rattle.portal_core.specs.Lending.{is_faultless};
+
+    ghost opening = { λ p. opened p.opening };
+
+    ghost entries = { λ p. p.history };
+
+    // The files in memory never fail.
+    ghost says = { is_faultless };
+
+    fn ask(&mut self, alloc: Global, seat: u32, request: Request) -> Result<Reply, Refused> {
+        Portal::ask(self, alloc, seat, request)
+    }
+
+    fn entry_count(&self) -> u64 {
+        self.history().len()
+    }
+
+    fn known(&self) {
+        Portal::known(self);
+    }
+}
