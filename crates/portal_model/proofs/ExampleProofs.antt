@@ -4,7 +4,7 @@ use Rattle.std.proofs.Common.{◌≡◌, List, [], ◌∷◌, Bool, true, false,
 use Rattle.std.specs.List.{IsDistinct}
 use Rattle.std.specs.Str.{is_utf8, chars}
 use Rattle.portal_base.specs.Names.{is_host_path, is_app_name}
-use Rattle.portal_model.specs.Examples.{editor, other, a_text, b_text, read_write, of_other, of_nobody, with_another, AttributesOfGrantedFile, ForeignIsAsMissing, CostsOfRequests, TracesTellWhatIsHeld, AnswersOfSeats, LeaveAndCollect, FailedLook}
+use Rattle.portal_model.specs.Examples.{editor, other, a_text, b_text, read_write, of_other, of_nobody, with_another, AttributesOfGrantedFile, ForeignIsAsMissing, CostsOfRequests, TracesTellWhatIsHeld, AnswersOfSeats, LeaveAndCollect, FailedLook, EffectsOnAView}
 use Rattle.portal_model.specs.Opening.{opened}
 use Rattle.portal_model.specs.Valid.{Valid}
 use Rattle.portal_model.specs.View.{Seen}
@@ -185,4 +185,22 @@ traces = record {
   legal = record { opening = valid_with_another; lawful = (record { clock = refl; words = refl; numbers = refl; full = refl; looks = refl }, (record { clock = refl; words = refl; numbers = refl; full = refl; looks = refl }, (record { clock = refl; words = refl; numbers = refl; full = refl; looks = refl }, (record { clock = refl; words = refl; numbers = refl; full = refl; looks = refl }, (record { clock = refl; words = refl; numbers = refl; full = refl; looks = refl }, tt))))) };
   same = refl;
   own_rights = λ e. let p : false ≡ true = ap (λ (t : Trace). first_written t.opening.documents) e in cc;
+}
+
+pub effects : EffectsOnAView
+effects = record {
+  joins_below = refl;
+  joins_above = refl;
+  gains = refl;
+  loses_one = refl;
+  loses_last = refl;
+  loses_none = refl;
+  goes = refl;
+  other_goes = refl;
+  changes = refl;
+  other_path = refl;
+  other_generation = refl;
+  first_file = refl;
+  no_first_file = refl;
+  folder_stays = refl;
 }

@@ -26,6 +26,9 @@ use Rattle.portal_model.specs.State.{State}
 use Rattle.portal_model.specs.Lawful.{Lawful}
 use Rattle.portal_model.specs.Step.{after, reply_at, step}
 use Rattle.portal_model.specs.Opening.{opened, id_of, first_named, each, names_kept}
+use Rattle.portal_model.specs.Content.{Content, OfFile, OfFolder, NotThere}
+use Rattle.portal_model.specs.Effect.{Gained, Lost, Gone, Bytes, apply}
+use Rattle.portal_model.specs.View.{View, Seen, Held}
 use Rattle.portal_model.specs.World.{Trace, trace}
 
 -- ---- what the examples are made of
@@ -221,3 +224,51 @@ pub record TracesTellWhatIsHeld : Type 0 where
   pub legal : Legal (opened with_another) with_another_session
   pub same : trace_of_session with_another with_another_session ≡ trace_of_session read_write (session (Look.File 0 5 0 ∷ []))
   pub own_rights : trace_of_session read_alone (session (Look.File 0 5 0 ∷ [])) ≡ trace_of_session read_write (session (Look.File 0 5 0 ∷ [])) → ⊥
+
+-- ---- what others change of a view
+
+-- rights to read, to write, and both
+abbrev pub reads : Held
+reads = record { read = true; write = false; grant = false; delete = false }
+
+abbrev pub writes : Held
+writes = record { read = false; write = true; grant = false; delete = false }
+
+abbrev pub both : Held
+both = record { read = true; write = true; grant = false; delete = false }
+
+abbrev pub seen : ℕ → List ℕ → Held → Content → Seen
+seen number path held content = record { number = number; path = path; persistent = true; reusable = true; held = held; content = content }
+
+-- what the file held at first, and what it holds then
+abbrev pub old_file : Content
+old_file = OfFile 0 (codes "hello") 0
+
+abbrev pub new_file : Content
+new_file = OfFile 0 (codes "bye") 7
+
+abbrev pub viewing : List Seen → View
+viewing documents = record { handles = 1024; queued = 16; file_bytes = 268435456; documents = documents; connections = [] }
+
+-- the document of the file a.txt, with these rights and this content
+abbrev pub a_seen : Held → Content → List Seen
+a_seen held content = seen 10 a_text held content ∷ []
+
+-- A document that is gained joins in its place by number, with its content; one that is there gains rights alone.
+-- Rights are lost one by one, and with the last of them the document. Another content comes to the files of one path
+-- and generation alone, and to a path without a file where it is a first file.
+pub record EffectsOnAView : Type 0 where
+  pub joins_below : apply (viewing (a_seen reads old_file)) (Gained (seen 5 b_text writes OfFolder)) ≡ viewing (seen 5 b_text writes OfFolder ∷ a_seen reads old_file)
+  pub joins_above : apply (viewing (a_seen reads old_file)) (Gained (seen 11 b_text writes OfFolder)) ≡ viewing (seen 10 a_text reads old_file ∷ seen 11 b_text writes OfFolder ∷ [])
+  pub gains : apply (viewing (a_seen reads old_file)) (Gained (seen 10 a_text writes new_file)) ≡ viewing (a_seen both old_file)
+  pub loses_one : apply (viewing (a_seen both old_file)) (Lost 10 writes) ≡ viewing (a_seen reads old_file)
+  pub loses_last : apply (viewing (a_seen reads old_file)) (Lost 10 both) ≡ viewing []
+  pub loses_none : apply (viewing (a_seen reads old_file)) (Lost 11 reads) ≡ viewing (a_seen reads old_file)
+  pub goes : apply (viewing (a_seen both old_file)) (Gone 10) ≡ viewing []
+  pub other_goes : apply (viewing (a_seen both old_file)) (Gone 11) ≡ viewing (a_seen both old_file)
+  pub changes : apply (viewing (a_seen reads old_file)) (Bytes a_text 0 new_file) ≡ viewing (a_seen reads new_file)
+  pub other_path : apply (viewing (a_seen reads old_file)) (Bytes b_text 0 new_file) ≡ viewing (a_seen reads old_file)
+  pub other_generation : apply (viewing (a_seen reads old_file)) (Bytes a_text 1 new_file) ≡ viewing (a_seen reads old_file)
+  pub first_file : apply (viewing (a_seen reads (NotThere true))) (Bytes a_text 0 new_file) ≡ viewing (a_seen reads new_file)
+  pub no_first_file : apply (viewing (a_seen reads (NotThere true))) (Bytes a_text 1 new_file) ≡ viewing (a_seen reads (NotThere true))
+  pub folder_stays : apply (viewing (a_seen reads OfFolder)) (Bytes a_text 0 new_file) ≡ viewing (a_seen reads OfFolder)

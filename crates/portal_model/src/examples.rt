@@ -8,6 +8,7 @@ ghost use Rattle.portal_model.specs.Examples.{
   AnswersOfSeats,
   AttributesOfGrantedFile,
   CostsOfRequests,
+  EffectsOnAView,
   FailedLook,
   ForeignIsAsMissing,
   LeaveAndCollect,
@@ -53,4 +54,10 @@ pub fn leave_and_collect()
 /// A look that failed is answered EIO.
 pub fn a_failed_look()
     ensures { FailedLook }
+{}
+
+/// What others change of the documents that an application holds: rights that
+/// are gained and lost, documents that go, and contents.
+pub fn effects_on_a_view()
+    ensures { EffectsOnAView }
 {}
