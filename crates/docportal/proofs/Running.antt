@@ -1,6 +1,6 @@
 -- A text replayed, and a run of the program.
 use Rattle.std.proofs.Common.{◌≡◌, ℕ, ◌+◌, ◌*◌, ◌<◌, ◌≤◌, List, [], ◌∷◌, ◌++◌, length, Option, Some, None, Bool, true, false, refl, sym, ap, ◌∙◌, subst, inl, inr, ◌⊎◌, get_or, arith, length-append}
-use Rattle.std.specs.Prelude.{◌≢◌, nat_lt, if◌then◌else◌, IsTrue, codes}
+use Rattle.std.specs.Prelude.{◌≢◌, nat_lt, cond, if◌then◌else◌, IsTrue, codes}
 use Rattle.std.proofs.lemmas.Bool.Decides.{nat_tests}
 use Rattle.portal_base.specs.Outside.{HasRisen, Short, behind, onto}
 use Rattle.portal_base.specs.Names.{is_same}
@@ -18,10 +18,10 @@ use Rattle.docportal.specs.declared.input.InputError.TheVariants as input
 use Rattle.docportal.specs.declared.status.Status.{Status}
 use Rattle.docportal.specs.declared.status.Status.TheVariants.{Done, ReadFault, WriteFault, Memory, TooLong, Unbuilt}
 use Rattle.docportal.specs.Inputs.{script_limit, AtEnd, IsWhole, Stops}
-use Rattle.docportal.specs.Outputs.{out_from, built_front}
+use Rattle.docportal.specs.Outputs.{out_from, built_front, is_built}
 use Rattle.docportal.specs.Lines.{MayPlay, lines_cost}
 use Rattle.docportal.specs.Plays.{PlaysAll, PlaysPart, PlayStops}
-use Rattle.docportal.specs.Runs.{Cause, Ran, Replays, Risen, Wrote, WroteFront, ended_at, first_unbuilt, opening_state, replay_words, run_limits}
+use Rattle.docportal.specs.Runs.{Cause, Ran, Replays, Risen, WroteAll, WroteFront, WroteUpTo, HistoryOf, Out, ended_at, first_unbuilt, opening_state, replay_words, run_limits}
 use Rattle.docportal.proofs.Asking.{onto_none}
 use Rattle.docportal.proofs.Behind.{behind_none}
 use Rattle.docportal.proofs.Sounding.{sound}
@@ -55,6 +55,16 @@ word_known words w r l e s =
 abbrev pub Replayed : List ℕ → Option (List (List ℕ)) → Option (List (List ℕ)) → Status → Type 0
 Replayed text told told' status = (pieces : List (List ℕ)) × (told' ≡ onto told pieces) × Replays text pieces status
 
+front_step : (line : ScriptLine) (lines : List ScriptLine) (b : Bool) → (length (built_front lines) ≡ length lines → built_front lines ≡ lines)
+    → length (cond b (line ∷ built_front lines) []) ≡ length (line ∷ lines) → cond b (line ∷ built_front lines) [] ≡ line ∷ lines
+front_step line lines true rest e = ap (λ (x : List ScriptLine). line ∷ x) (rest (omega (arith, e)))
+front_step line lines false rest e = absurd (omega (arith, e))
+
+-- where the lines ahead of the first that is not built are as many as all, they are all
+front_whole : (lines : List ScriptLine) → length (built_front lines) ≡ length lines → built_front lines ≡ lines
+front_whole [] e = refl
+front_whole (line ∷ lines) e = front_step line lines (is_built line) (front_whole lines) e
+
 first_all : (lines : List ScriptLine) (ends : Option ℕ) → length (built_front lines) ≡ length lines → first_unbuilt lines ends ≡ ends
 first_all lines ends all =
     let no : nat_lt (length (built_front lines)) (length lines) ≡ false = grind (arith, nat_tests) in
@@ -65,16 +75,25 @@ first_some lines ends some =
     let yes : nat_lt (length (built_front lines)) (length lines) ≡ true = grind (arith, nat_tests) in
     ap (λ (b : Bool). if b then Some (length (built_front lines) + 1) else ends) yes
 
-wrote_all : (text : List ℕ) (lines : List ScriptLine) (ends : Option ℕ) → IsBuilt text lines ends → length (built_front lines) ≡ length lines
-    → Wrote text ends (out_from (opening_state lines) (built_front lines))
-wrote_all text lines ends b all = record { lines = lines; ends = ends; script = b; first = first_all lines ends all; output = refl; sound = sound lines (built_front lines) b.good }
+wrote_all : (text : List ℕ) (lines : List ScriptLine) → IsBuilt text lines None → length (built_front lines) ≡ length lines
+    → WroteAll text (out_from (opening_state lines) (built_front lines))
+wrote_all text lines b all =
+    let whole = front_whole lines all in
+    record { lines = lines; script = b; built = whole; output = ap (λ (x : List ScriptLine). out_from (opening_state lines) x) whole; sound = sound lines lines b.good }
+
+wrote_up_to : (text : List ℕ) (lines : List ScriptLine) (ends : Option ℕ) (n : ℕ) → IsBuilt text lines ends → first_unbuilt lines ends ≡ Some n
+    → WroteUpTo text n (out_from (opening_state lines) (built_front lines))
+wrote_up_to text lines ends n b first = record { lines = lines; ends = ends; script = b; first = first; output = refl; sound = sound lines (built_front lines) b.good }
 
 pub replayed_all : (text : List ℕ) (lines : List ScriptLine) (ends : Option ℕ) (s : State) (told told' : Option (List (List ℕ)))
     → IsBuilt text lines ends → s ≡ opening_state lines → PlaysAll s lines told told' → Replayed text told told' (ended_at ends)
 replayed_all text lines None s told told' b o p =
-    (out_from (opening_state lines) (built_front lines), p.output ∙ ap (λ (t : State). onto told (out_from t (built_front lines))) o, wrote_all text lines None b p.all)
-replayed_all text lines (Some n) s told told' b o p =
-    (out_from (opening_state lines) (built_front lines), p.output ∙ ap (λ (t : State). onto told (out_from t (built_front lines))) o, wrote_all text lines (Some n) b p.all)
+    (out_from (opening_state lines) (built_front lines), p.output ∙ ap (λ (t : State). onto told (out_from t (built_front lines))) o, wrote_all text lines b p.all)
+replayed_all text lines (Some n) s told told' b o p = (
+  out_from (opening_state lines) (built_front lines),
+  p.output ∙ ap (λ (t : State). onto told (out_from t (built_front lines))) o,
+  wrote_up_to text lines (Some n) n b (first_all lines (Some n) p.all),
+)
 
 part_of : (text : List ℕ) (lines : List ScriptLine) (ends : Option ℕ) (s : State) (told told' : Option (List (List ℕ)))
     → IsBuilt text lines ends → s ≡ opening_state lines → PlaysPart s lines told told' → (pieces : List (List ℕ)) × (told' ≡ onto told pieces) × WroteFront text pieces
@@ -95,7 +114,7 @@ replay_stopped text lines ends s told told' faults faults' TooLong b o p = absur
 replay_stopped text lines ends s told told' faults faults' (Unbuilt line) b o p = (
   out_from (opening_state lines) (built_front lines),
   p.2 ∙ ap (λ (t : State). onto told (out_from t (built_front lines))) o,
-  record { lines = lines; ends = ends; script = b; first = first_some lines ends p.0 ∙ ap Some (sym p.1); output = refl; sound = sound lines (built_front lines) b.good },
+  wrote_up_to text lines ends line b (first_some lines ends p.0 ∙ ap Some (sym p.1)),
 )
 
 pub stopped_risen : (lines : List ScriptLine) (s : State) (told told' : Option (List (List ℕ))) (faults faults' : ℕ) (status : Status)
@@ -177,7 +196,7 @@ status_of input.Memory = Memory
 
 pub ran_not : (words : List (List ℕ)) (left left' : Option (List ℕ)) (told : Option (List (List ℕ))) (faults faults' : ℕ) (e : InputError)
     → words ≡ replay_words → Stops left faults left' faults' e → Ran words left left' told told (status_of e)
-ran_not words left left' told faults faults' input.Failed w s = record { text = s.1.0; pieces = []; read = s.1.1; wrote = onto_none told; cause = (w, refl) }
+ran_not words left left' told faults faults' input.Failed w s = record { text = s.1.0; pieces = []; read = s.1.1; wrote = onto_none told; cause = (w, s.1.2, refl) }
 ran_not words left left' told faults faults' input.TooLong w s = record { text = s.0; pieces = []; read = s.1; wrote = onto_none told; cause = (w, s.2, refl) }
 ran_not words left left' told faults faults' input.Memory w s = record { text = s.0; pieces = []; read = s.1; wrote = onto_none told; cause = (w, inl refl) }
 

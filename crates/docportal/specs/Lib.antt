@@ -5,3 +5,4 @@ pub mod Outputs
 pub mod Lines
 pub mod Plays
 pub mod Runs
+pub mod Statuses

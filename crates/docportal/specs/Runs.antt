@@ -39,13 +39,21 @@ pub record IsSound (lines : List ScriptLine) (h : List Entry) : Type 0 where
   pub legal : Legal (opening_state lines) h
   pub isolated : (app : List ℕ) → replies app (opening_state lines) h ≡ app_run (trace app (opening_state lines) h)
 
+-- the text is a script, all lines of which are built, and the pieces are its output
+pub record WroteAll (text : List ℕ) (pieces : List (List ℕ)) : Type 0 where
+  pub lines : List ScriptLine
+  pub script : IsBuilt text lines None
+  pub built : built_front lines ≡ lines
+  pub output : pieces ≡ Out lines
+  pub sound : IsSound lines (HistoryOf lines)
+
 -- the pieces are the output of all lines of the text that stand ahead of the first that is not built,
--- whose number is told where there is one
-pub record Wrote (text : List ℕ) (unbuilt : Option ℕ) (pieces : List (List ℕ)) : Type 0 where
+-- which has this number
+pub record WroteUpTo (text : List ℕ) (unbuilt : ℕ) (pieces : List (List ℕ)) : Type 0 where
   pub lines : List ScriptLine
   pub ends : Option ℕ
   pub script : IsBuilt text lines ends
-  pub first : first_unbuilt lines ends ≡ unbuilt
+  pub first : first_unbuilt lines ends ≡ Some unbuilt
   pub output : pieces ≡ out_from (opening_state lines) (built_front lines)
   pub sound : IsSound lines (history_from (opening_state lines) (built_front lines))
 
@@ -63,15 +71,15 @@ replay_words = codes "replay" ∷ []
 -- Why a run ends so that was told these words, read this text, left this of the source, and wrote these
 -- pieces.
 abbrev pub Cause : List (List ℕ) → List ℕ → Option (List ℕ) → List (List ℕ) → Status → Type 0
-Cause words text left pieces Done = (words ≡ replay_words) × (length text ≤ script_limit) × AtEnd left × Wrote text None pieces
-Cause words text left pieces ReadFault = (words ≡ replay_words) × (pieces ≡ [])
+Cause words text left pieces Done = (words ≡ replay_words) × (length text ≤ script_limit) × AtEnd left × WroteAll text pieces
+Cause words text left pieces ReadFault = (words ≡ replay_words) × (length text ≤ script_limit) × (pieces ≡ [])
 Cause words text left pieces WriteFault = (words ≡ replay_words) × (length text ≤ script_limit) × AtEnd left × WroteFront text pieces
 Cause words text left pieces Memory = (words ≡ replay_words)
     × ((pieces ≡ []) ⊎ ((length text ≤ script_limit) × AtEnd left × WroteFront text pieces))
 Cause words text left pieces TooLong = (words ≡ replay_words) × (script_limit < length text) × (pieces ≡ [])
 Cause words text left pieces (Unbuilt line) =
     ((words ≢ replay_words) × (line ≡ 0) × (text ≡ []) × (pieces ≡ []))
-    ⊎ ((words ≡ replay_words) × (length text ≤ script_limit) × AtEnd left × Wrote text (Some line) pieces)
+    ⊎ ((words ≡ replay_words) × (length text ≤ script_limit) × AtEnd left × WroteUpTo text line pieces)
 
 -- a run: what it read stood ahead of what is left, and what it wrote stands behind what was written
 pub record Ran (words : List (List ℕ)) (left left' : Option (List ℕ)) (told told' : Option (List (List ℕ))) (status : Status) : Type 0 where
@@ -92,12 +100,12 @@ Risen (Unbuilt line) reads reads' writes writes' = Unit {0}
 
 -- how a text of allowed length is replayed, with these pieces written
 abbrev pub Replays : List ℕ → List (List ℕ) → Status → Type 0
-Replays text pieces Done = Wrote text None pieces
+Replays text pieces Done = WroteAll text pieces
 Replays text pieces ReadFault = ⊥
 Replays text pieces WriteFault = WroteFront text pieces
 Replays text pieces Memory = (pieces ≡ []) ⊎ WroteFront text pieces
 Replays text pieces TooLong = ⊥
-Replays text pieces (Unbuilt line) = Wrote text (Some line) pieces
+Replays text pieces (Unbuilt line) = WroteUpTo text line pieces
 
 -- how a run ends whose lines were all run, where a line of this number is none
 abbrev pub ended_at : Option ℕ → Status

@@ -60,10 +60,6 @@ fn status_of(error: &io::Error) -> Status {
 fn tell(rt: &HostRuntime, status: Status) -> io::Result<()> {
     match status {
         Status::Done => Ok(()),
-        Status::ReadFault => eprintln!(rt; "docportal: read fault"),
-        Status::WriteFault => eprintln!(rt; "docportal: write fault"),
-        Status::Memory => eprintln!(rt; "docportal: no memory"),
-        Status::TooLong => eprintln!(rt; "docportal: input too long"),
-        Status::Unbuilt { line } => eprintln!(rt; "docportal: not built at line {line}"),
+        _ => eprintln!(rt; "docportal: {status}"),
     }
 }

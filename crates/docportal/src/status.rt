@@ -1,5 +1,10 @@
 //! How a run ended.
 
+ghost use Rattle.std.specs.Prelude.{◌≡◌};
+ghost use Rattle.docportal.specs.Statuses.{number_of};
+
+use std::fmt;
+
 /// How a run ended.
 #[derive(Clone, Copy, Debug, PartialEq, Eq)]
 pub enum Status {
@@ -23,7 +28,9 @@ pub enum Status {
 
 impl Status {
     /// The number that the program ends with.
-    pub fn number(self) -> u8 {
+    pub fn number(self) -> u8
+        ensures { result ≡ number_of self }
+    {
         match self {
             Status::Done => 0,
             Status::ReadFault => 3,
@@ -31,6 +38,20 @@ impl Status {
             Status::Memory => 5,
             Status::TooLong => 6,
             Status::Unbuilt { .. } => 7,
+        }
+    }
+}
+
+/// What the program says of it.
+impl fmt::Display for Status {
+    fn fmt<W: fmt::Write>(&self, f: &mut fmt::Formatter<W>) -> fmt::Result {
+        match self {
+            Status::Done => write!(f, "done"),
+            Status::ReadFault => write!(f, "read fault"),
+            Status::WriteFault => write!(f, "write fault"),
+            Status::Memory => write!(f, "no memory"),
+            Status::TooLong => write!(f, "input too long"),
+            Status::Unbuilt { line } => write!(f, "not built at line {line}"),
         }
     }
 }

@@ -142,3 +142,20 @@ fn one_byte_too_many_is_too_long(rt: HostRuntime) -> Result<(), Fail> {
     assert!(rt; written.is_empty());
     Ok(())
 }
+
+#[test]
+fn statuses_have_their_numbers_and_words(rt: HostRuntime) -> Result<(), Fail> {
+    let rows = [
+        (Status::Done, 0, "done"),
+        (Status::ReadFault, 3, "read fault"),
+        (Status::WriteFault, 4, "write fault"),
+        (Status::Memory, 5, "no memory"),
+        (Status::TooLong, 6, "input too long"),
+        (Status::Unbuilt { line: 12 }, 7, "not built at line 12"),
+    ];
+    for (status, number, words) in &rows {
+        assert_eq!(rt; status.number(), *number);
+        assert_eq!(rt; status.to_string(rt.alloc())?.as_str(), *words);
+    }
+    Ok(())
+}
