@@ -1,0 +1,10 @@
+pub mod Parts
+pub mod Bodies
+pub mod Contents
+pub mod Arrays
+pub mod Reading
+pub mod Writing
+pub mod Tables
+pub mod Ascii
+pub mod Spelling
+pub mod Sent

@@ -1,0 +1,135 @@
+-- Messages that are written.
+use Rattle.std.proofs.Common.{◌≡◌, ℕ, zero, suc, ◌+◌, ◌^◌, ◌<◌, true, List, [], ◌∷◌, ◌++◌, length, map, take, drop, replicate, refl, sym, ap, subst, ◌∙◌, append_assoc, append-nil, arith}
+use Rattle.std.specs.Prelude.{◌==◌}
+use Rattle.std.specs.List.{list_all}
+use Rattle.std.specs.Int.{w32, from_le_bytes}
+use Rattle.std.proofs.lemmas.List.{take_at, drop_at, drop-drop, drop-take, length-append, length-replicate}
+use Rattle.std.proofs.lemmas.Nat.{from_le_bytes-to_le_bytes_4}
+use Rattle.dbus_types.specs.declared.types.Endian.TheVariants.{Little}
+use Rattle.dbus_types.specs.declared.types.WireType.{WireType}
+use Rattle.dbus_types.specs.declared.types.Value.{Value}
+use Rattle.dbus_types.specs.Values.{type_of}
+use Rattle.dbus_marshal.specs.Spells.{Spells, Members, number, gap}
+use Rattle.dbus_marshal.proofs.Took.{four, number_len}
+use Rattle.dbus_message.specs.Header.{number_at}
+use Rattle.dbus_message.specs.Content.{IsBody}
+use Rattle.dbus_message.specs.Written.{laid}
+use Rattle.dbus_message.proofs.Bodies.{Spelled}
+
+-- What is to be written begins with these bytes, and the values that are left are spelled behind them.
+abbrev pub Left : List Value → List ℕ → List Value → Type 0
+Left body bytes left = (text : List ℕ) → IsBody Little (map type_of body) body text
+    → (rest : List ℕ) × (text ≡ bytes ++ rest) × Members (Spelled Little) (map type_of left) left (length bytes) rest
+
+pub left_start : (body : List Value) → Left body [] body
+left_start body text h = (text, refl, h)
+
+pub left_step : (body : List Value) (bytes new : List ℕ) (v : Value) (vs : List Value) → Left body bytes (v ∷ vs)
+    → ((kind : WireType) (text : List ℕ) → Spells Little (length bytes) kind v text → new ≡ bytes ++ text) → Left body new vs
+left_step body bytes new v vs a wrote text h =
+    let old = a text h in
+    let m = old.2 in
+    let is : new ≡ bytes ++ m.0 = wrote (type_of v) m.0 m.3 in
+    let len : length new ≡ length bytes + length m.0 = omega (arith, ap length is, length-append bytes m.0) in (
+      m.1,
+      old.1 ∙ (ap (λ (w : List ℕ). bytes ++ w) m.2 ∙ (sym (append_assoc bytes m.0 m.1) ∙ ap (λ (w : List ℕ). w ++ m.1) (sym is))),
+      subst (λ (k : ℕ). Members (Spelled Little) (map type_of vs) vs k m.1) (sym len) m.4,
+    )
+
+pub left_end : (body : List Value) (bytes : List ℕ) → Left body bytes [] → (text : List ℕ) → IsBody Little (map type_of body) body text → bytes ≡ text
+left_end body bytes a text h = let old = a text h in sym (old.1 ∙ (ap (λ (w : List ℕ). bytes ++ w) old.2 ∙ append-nil bytes))
+
+pub all_zeros : (n : ℕ) → list_all (λ b. b == 0) (replicate n 0) ≡ true
+all_zeros zero = refl
+all_zeros (suc n) = all_zeros n
+
+abbrev bits_of : ℕ → List ℕ
+bits_of n = number Little w32 n
+
+number_back : (n : ℕ) (rest : List ℕ) → n < 2 ^ 32 → from_le_bytes w32 (take 4 (bits_of n ++ rest)) ≡ n
+number_back n rest lt = ap (from_le_bytes w32) (take_at (bits_of n) rest 4 (number_len Little four n)) ∙ from_le_bytes-to_le_bytes_4 n lt
+
+skip_number : (n : ℕ) (rest : List ℕ) → drop 4 (bits_of n ++ rest) ≡ rest
+skip_number n rest = drop_at (bits_of n) rest 4 (number_len Little four n)
+
+-- what stands behind the length of the body, behind the serial, and behind the fields
+abbrev third : List ℕ → List ℕ → List ℕ
+third F B = replicate (gap 8 (12 + length F)) 0 ++ B
+
+abbrev second : List ℕ → List ℕ → List ℕ
+second F B = F ++ third F B
+
+abbrev first : ℕ → List ℕ → List ℕ → List ℕ
+first serial F B = bits_of serial ++ second F B
+
+pub drop_4 : (k serial : ℕ) (F B : List ℕ) → drop 4 (laid k serial F B) ≡ bits_of (length B) ++ first serial F B
+drop_4 k serial F B = refl
+
+pub drop_8 : (k serial : ℕ) (F B : List ℕ) → drop 8 (laid k serial F B) ≡ first serial F B
+drop_8 k serial F B = sym (drop-drop 4 4 (laid k serial F B)) ∙ skip_number (length B) (first serial F B)
+
+pub drop_12 : (k serial : ℕ) (F B : List ℕ) → drop 12 (laid k serial F B) ≡ second F B
+drop_12 k serial F B = sym (drop-drop 4 8 (laid k serial F B)) ∙ (ap (λ (w : List ℕ). drop 4 w) (drop_8 k serial F B) ∙ skip_number serial (second F B))
+
+pub says_body : (k serial : ℕ) (F B : List ℕ) → length B < 2 ^ 32 → number_at Little (laid k serial F B) 4 ≡ length B
+says_body k serial F B lt = number_back (length B) (first serial F B) lt
+
+pub says_serial : (k serial : ℕ) (F B : List ℕ) → serial < 2 ^ 32 → number_at Little (laid k serial F B) 8 ≡ serial
+says_serial k serial F B lt = ap (λ (w : List ℕ). from_le_bytes w32 (take 4 w)) (drop_8 k serial F B) ∙ number_back serial (second F B) lt
+
+pub says_fields : (k serial : ℕ) (F B els : List ℕ) → F ≡ bits_of (length els) ++ els → length els < 2 ^ 32 → number_at Little (laid k serial F B) 12 ≡ length els
+says_fields k serial F B els is lt =
+    ap (λ (w : List ℕ). from_le_bytes w32 (take 4 w)) (drop_12 k serial F B ∙ (ap (λ (w : List ℕ). w ++ third F B) is ∙ append_assoc (bits_of (length els)) els (third F B))) ∙ number_back (length els) (els ++ third F B) lt
+
+pub behind_fields : (k serial : ℕ) (F B : List ℕ) → drop (12 + length F) (laid k serial F B) ≡ third F B
+behind_fields k serial F B = sym (drop-drop (length F) 12 (laid k serial F B)) ∙ (ap (λ (w : List ℕ). drop (length F) w) (drop_12 k serial F B) ∙ drop_at F (third F B) (length F) refl)
+
+pub fields_stand : (k serial : ℕ) (F B : List ℕ) → drop 12 (take (12 + length F) (laid k serial F B)) ≡ F
+fields_stand k serial F B = drop-take 12 (length F) (laid k serial F B) ∙ (ap (λ (w : List ℕ). take (length F) w) (drop_12 k serial F B) ∙ take_at F (third F B) (length F) refl)
+
+pub padding_stands : (k serial : ℕ) (F B : List ℕ) → drop (12 + length F) (take (12 + length F + gap 8 (12 + length F)) (laid k serial F B)) ≡ replicate (gap 8 (12 + length F)) 0
+padding_stands k serial F B =
+    drop-take (12 + length F) (gap 8 (12 + length F)) (laid k serial F B) ∙ (ap (λ (w : List ℕ). take (gap 8 (12 + length F)) w) (behind_fields k serial F B)
+    ∙ take_at (replicate (gap 8 (12 + length F)) 0) B (gap 8 (12 + length F)) (length-replicate {A = ℕ} (gap 8 (12 + length F)) 0))
+
+pub body_stands : (k serial : ℕ) (F B : List ℕ) → drop (12 + length F + gap 8 (12 + length F)) (laid k serial F B) ≡ B
+body_stands k serial F B =
+    sym (drop-drop (gap 8 (12 + length F)) (12 + length F) (laid k serial F B)) ∙ (ap (λ (w : List ℕ). drop (gap 8 (12 + length F)) w) (behind_fields k serial F B)
+    ∙ drop_at (replicate (gap 8 (12 + length F)) 0) B (gap 8 (12 + length F)) (length-replicate {A = ℕ} (gap 8 (12 + length F)) 0))
+
+pub whole_len : (k serial : ℕ) (F B : List ℕ) → length (laid k serial F B) ≡ 12 + length F + gap 8 (12 + length F) + length B
+whole_len k serial F B = omega (
+  arith,
+  length-append (bits_of (length B)) (first serial F B),
+  number_len Little four (length B),
+  length-append (bits_of serial) (second F B),
+  number_len Little four serial,
+  length-append F (third F B),
+  length-append (replicate (gap 8 (12 + length F)) 0) B,
+  length-replicate {A = ℕ} (gap 8 (12 + length F)) 0,
+)
+
+-- the parts of a message, put one behind another
+module _ (k serial : ℕ) (T B : List ℕ) where
+  header_laid : (a b c : List ℕ) → a ≡ 108 ∷ k ∷ 1 ∷ 1 ∷ [] → b ≡ a ++ bits_of (length B) → c ≡ b ++ bits_of serial → c ≡ 108 ∷ k ∷ 1 ∷ 1 ∷ (bits_of (length B) ++ bits_of serial)
+  header_laid a b c p q r = r ∙ ap (λ (w : List ℕ). w ++ bits_of serial) (q ∙ ap (λ (w : List ℕ). w ++ bits_of (length B)) p)
+
+  pub header_len : (a b c : List ℕ) → a ≡ 108 ∷ k ∷ 1 ∷ 1 ∷ [] → b ≡ a ++ bits_of (length B) → c ≡ b ++ bits_of serial → length c ≡ 12
+  header_len a b c p q r = omega (
+    arith,
+    ap length (header_laid a b c p q r),
+    length-append (bits_of (length B)) (bits_of serial),
+    number_len Little four (length B),
+    number_len Little four serial,
+  )
+
+  regroup : (L S P : List ℕ) → (((L ++ S) ++ T) ++ P) ++ B ≡ L ++ (S ++ (T ++ (P ++ B)))
+  regroup L S P = simp append_assoc
+
+  pub parts_laid : (a b c d e f : List ℕ) → a ≡ 108 ∷ k ∷ 1 ∷ 1 ∷ [] → b ≡ a ++ bits_of (length B) → c ≡ b ++ bits_of serial → d ≡ c ++ T → e ≡ d ++ replicate (gap 8 (length d)) 0 → f ≡ e ++ B → f ≡ laid k serial T B
+  parts_laid a b c d e f p q r s t u =
+      let len : length d ≡ 12 + length T = omega (arith, ap length s, length-append c T, header_len a b c p q r) in
+      let pads : e ≡ d ++ replicate (gap 8 (12 + length T)) 0 = t ∙ ap (λ (n : ℕ). d ++ replicate (gap 8 n) 0) len in
+      let head : d ≡ (108 ∷ k ∷ 1 ∷ 1 ∷ (bits_of (length B) ++ bits_of serial)) ++ T = s ∙ ap (λ (w : List ℕ). w ++ T) (header_laid a b c p q r) in
+      u ∙ (ap (λ (w : List ℕ). w ++ B) (pads ∙ ap (λ (w : List ℕ). w ++ replicate (gap 8 (12 + length T)) 0) head)
+      ∙ ap (λ (w : List ℕ). 108 ∷ k ∷ 1 ∷ 1 ∷ w) (regroup (bits_of (length B)) (bits_of serial) (replicate (gap 8 (12 + length T)) 0)))

@@ -1,0 +1,54 @@
+use Rattle.std.proofs.Common.{◌≡◌, true, List, Ok, Err, sym, ap, subst, ◌∙◌}
+use Rattle.std.specs.Prelude.{IsTrue, ◌==◌}
+use Rattle.std.specs.List.{list_all}
+use Rattle.std.specs.Option.{option_copied}
+use Rattle.dbus_types.specs.declared.types.Value.{Value}
+use Rattle.dbus_message.specs.Header.{kind_of, padding_bytes}
+use Rattle.dbus_message.specs.Fields.{are_good, has_needed, text_of}
+use Rattle.dbus_message.specs.Messages.{SaysFields}
+use Rattle.dbus_message.proofs.Reading.{bad_padding, body_failed, message_read, not_true, fields_at, padding_at, content_at}
+use Rattle.dbus_message.proofs.read.read_message.Goals as goal
+
+pub returns-then-not-are_zeros : goal.returns-then-not-are_zeros
+returns-then-not-are_zeros c =
+    let bytes = c.args.bytes.now in
+    let fs = c.in-Ok.fields in
+    let end = c.fields_end-end.result in
+    let start = c.body_start-start.result in
+    let is = fields_at bytes c.endian_of-endian.result end (Ok fs) c.endian_of-endian.ensures c.fields_end-end.ensures.at c.in-Ok.ensures in
+    let keeps : are_good fs ≡ true = sym (c.are_good.ensures ∙ ap are_good c.as_slice.ensures) ∙ c.if-not-are_good.false in
+    let all : has_needed (kind_of bytes) fs ≡ true = sym (c.has_needed.ensures ∙ ap (has_needed (kind_of bytes)) c.as_slice-2.ensures) ∙ c.if-not-has_needed.false in
+    let other = not_true c.are_zeros.result (list_all (λ b. b == 0) (padding_bytes bytes)) (c.are_zeros.ensures ∙ ap (list_all (λ b. b == 0)) (padding_at bytes end start c.fields_end-end.ensures.at c.body_start-start.ensures.at)) c.if-not-are_zeros.true in
+    let a = bad_padding bytes c.requires fs is.0 keeps all other in
+    record { reading = a.reading; only = a.only; refused = a.refused }
+
+pub returns-in-Ok-message_of : goal.returns-in-Ok-message_of
+returns-in-Ok-message_of c =
+    let bytes = c.args.bytes.now in
+    let fs = c.in-Ok.fields in
+    let end = c.fields_end-end.result in
+    let start = c.body_start-start.result in
+    let is = fields_at bytes c.endian_of-endian.result end (Ok fs) c.endian_of-endian.ensures c.fields_end-end.ensures.at c.in-Ok.ensures in
+    let keeps : are_good fs ≡ true = sym (c.are_good.ensures ∙ ap are_good c.as_slice.ensures) ∙ c.if-not-are_good.false in
+    let all : has_needed (kind_of bytes) fs ≡ true = sym (c.has_needed.ensures ∙ ap (has_needed (kind_of bytes)) c.as_slice-2.ensures) ∙ c.if-not-has_needed.false in
+    let content = c.in-Ok-read_content.content in
+    let m = c.in-Ok-message_of.message in
+    let zeros : IsTrue (list_all (λ b. b == 0) (padding_bytes bytes)) = sym (c.are_zeros.ensures ∙ ap (list_all (λ b. b == 0)) (padding_at bytes end start c.fields_end-end.ensures.at c.body_start-start.ensures.at)) ∙ c.if-not-are_zeros.false in
+    let said = content_at bytes fs c.endian_of-endian.result start (option_copied c.text_of-signature.result) (Ok content) c.endian_of-endian.ensures c.body_start-start.ensures.at (c.text_of-signature.ensures ∙ ap (text_of 8) c.as_slice-3.ensures) c.in-Ok-read_content.ensures in
+    let fields = subst (λ (l : List Value). SaysFields l m) c.as_slice-in-Ok-read_content.ensures c.in-Ok-message_of.ensures.fields in
+    let a = message_read bytes c.requires fs is.0 keeps all zeros content m said c.in-Ok-message_of.ensures.header fields c.in-Ok-message_of.ensures.body.0 c.in-Ok-message_of.ensures.body.1 in
+    record { reading = a.reading; only = a.only; refused = a.refused }
+
+pub returns : goal.returns
+returns c =
+    let bytes = c.args.bytes.now in
+    let fs = c.in-Ok.fields in
+    let end = c.fields_end-end.result in
+    let start = c.body_start-start.result in
+    let is = fields_at bytes c.endian_of-endian.result end (Ok fs) c.endian_of-endian.ensures c.fields_end-end.ensures.at c.in-Ok.ensures in
+    let keeps : are_good fs ≡ true = sym (c.are_good.ensures ∙ ap are_good c.as_slice.ensures) ∙ c.if-not-are_good.false in
+    let all : has_needed (kind_of bytes) fs ≡ true = sym (c.has_needed.ensures ∙ ap (has_needed (kind_of bytes)) c.as_slice-2.ensures) ∙ c.if-not-has_needed.false in
+    let zeros : IsTrue (list_all (λ b. b == 0) (padding_bytes bytes)) = sym (c.are_zeros.ensures ∙ ap (list_all (λ b. b == 0)) (padding_at bytes end start c.fields_end-end.ensures.at c.body_start-start.ensures.at)) ∙ c.if-not-are_zeros.false in
+    let said = content_at bytes fs c.endian_of-endian.result start (option_copied c.text_of-signature.result) (Err c.in-Err-read_content.error) c.endian_of-endian.ensures c.body_start-start.ensures.at (c.text_of-signature.ensures ∙ ap (text_of 8) c.as_slice-3.ensures) c.in-Err-read_content.ensures in
+    let a = body_failed bytes c.requires fs is.0 keeps all zeros c.in-Err-read_content.error said in
+    record { reading = a.reading; only = a.only; refused = a.refused }

@@ -1,0 +1,141 @@
+-- The fields in a message's header: D-Bus Specification, "Message Format", "Header Fields".
+use Rattle.std.specs.Prelude.{ℕ, Bool, true, false, ◌&&◌, ◌==◌, nat_le, List, [], ◌∷◌, length, find, filter, Option, Some, None, option_and_then, if◌then◌else◌, is_some}
+use Rattle.std.specs.List.{list_all}
+use Rattle.dbus_types.specs.declared.types.WireType.{WireType}
+use Rattle.dbus_types.specs.declared.types.WireType.TheVariants as W
+use Rattle.dbus_types.specs.declared.types.Value.{Value, out-Value}
+use Rattle.dbus_types.specs.declared.types.Value.TheVariants as V
+use Rattle.dbus_types.specs.declared.types.Value.TheOpen.{Value-F}
+use Rattle.dbus_types.specs.Names.{is_interface_name, is_member_name}
+use Rattle.dbus_marshal.specs.Spells.{Spells}
+use Rattle.dbus_message.specs.Header.{endian_of, field_bytes}
+
+-- a field is `(yv)`: a byte that is its code, and its value in a variant
+abbrev pub field_type : WireType
+field_type = W.Struct (W.Byte ∷ W.Variant ∷ [])
+
+-- The message's fields are these: from byte 12 on stands their array, an `a(yv)`.
+abbrev pub AreFieldsOf : List ℕ → List Value → Type 0
+AreFieldsOf bytes fields = Spells (endian_of bytes) 12 (W.Array field_type) (V.Array field_type fields) (field_bytes bytes)
+
+abbrev pub members_of : Value-F Value → List Value
+members_of (Value-F.Struct vs) = vs
+members_of _ = []
+
+abbrev pub byte_of : Value-F Value → ℕ
+byte_of (Value-F.Byte n) = n
+byte_of _ = 0
+
+abbrev pub inner_of : Value-F Value → Option Value
+inner_of (Value-F.Variant v) = Some v
+inner_of _ = None
+
+abbrev pub first_of : List Value → ℕ
+first_of [] = 0
+first_of (v ∷ vs) = byte_of (out-Value v)
+
+abbrev pub second_of : List Value → Option Value
+second_of (v ∷ w ∷ []) = inner_of (out-Value w)
+second_of _ = None
+
+-- the code of a field
+abbrev pub field_code : Value → ℕ
+field_code f = first_of (members_of (out-Value f))
+
+-- the value of a field
+abbrev pub field_value : Value → Option Value
+field_value f = second_of (members_of (out-Value f))
+
+-- ---- the kinds of values
+
+abbrev pub is_path_value : Value-F Value → Bool
+is_path_value (Value-F.ObjectPath text) = true
+is_path_value _ = false
+
+abbrev pub is_text_value : (List ℕ → Bool) → Value-F Value → Bool
+is_text_value good (Value-F.Str text) = good text
+is_text_value good _ = false
+
+abbrev pub is_number_value : Value-F Value → Bool
+is_number_value (Value-F.U32 n) = true
+is_number_value _ = false
+
+abbrev pub is_signature_value : Value-F Value → Bool
+is_signature_value (Value-F.Signature text) = true
+is_signature_value _ = false
+
+abbrev pub any_text : List ℕ → Bool
+any_text text = true
+
+-- The table of the header fields: which value may stand under which code. Of DESTINATION and SENDER
+-- the text is not looked at, and a code that isn't in the table may have any value; 0 is no code.
+abbrev pub is_in_table : ℕ → Value → Bool
+is_in_table code v =
+    if code == 0 then false
+    else if code == 1 then is_path_value (out-Value v)
+    else if code == 2 then is_text_value is_interface_name (out-Value v)
+    else if code == 3 then is_text_value is_member_name (out-Value v)
+    else if code == 4 then is_text_value is_interface_name (out-Value v)
+    else if code == 5 then is_number_value (out-Value v)
+    else if code == 6 then is_text_value any_text (out-Value v)
+    else if code == 7 then is_text_value any_text (out-Value v)
+    else if code == 8 then is_signature_value (out-Value v)
+    else if code == 9 then is_number_value (out-Value v)
+    else true
+
+abbrev pub is_good : ℕ → Option Value → Bool
+is_good code None = false
+is_good code (Some v) = is_in_table code v
+
+-- a field that the table allows
+abbrev pub is_field : Value → Bool
+is_field f = is_good (field_code f) (field_value f)
+
+-- no two fields have the code
+abbrev pub is_once : List Value → ℕ → Bool
+is_once fields code = nat_le (length (filter (λ f. field_code f == code) fields)) 1
+
+-- the codes of the table
+abbrev pub known_codes : List ℕ
+known_codes = 1 ∷ 2 ∷ 3 ∷ 4 ∷ 5 ∷ 6 ∷ 7 ∷ 8 ∷ 9 ∷ []
+
+-- fields that the table allows, with no known code twice
+abbrev pub are_good : List Value → Bool
+are_good fields = list_all is_field fields && list_all (is_once fields) known_codes
+
+-- ---- what the fields say
+
+-- the value under a code
+abbrev pub value_of : ℕ → List Value → Option Value
+value_of code fields = option_and_then field_value (find (λ f. field_code f == code) fields)
+
+abbrev pub text_in : Value-F Value → Option (List ℕ)
+text_in (Value-F.Str text) = Some text
+text_in (Value-F.ObjectPath text) = Some text
+text_in (Value-F.Signature text) = Some text
+text_in _ = None
+
+abbrev pub number_in : Value-F Value → Option ℕ
+number_in (Value-F.U32 n) = Some n
+number_in _ = None
+
+-- the text under a code
+abbrev pub text_of : ℕ → List Value → Option (List ℕ)
+text_of code fields = option_and_then (λ v. text_in (out-Value v)) (value_of code fields)
+
+-- the number under a code
+abbrev pub number_of : ℕ → List Value → Option ℕ
+number_of code fields = option_and_then (λ v. number_in (out-Value v)) (value_of code fields)
+
+abbrev pub has : ℕ → List Value → Bool
+has code fields = is_some (value_of code fields)
+
+-- A call has PATH and MEMBER, a return REPLY_SERIAL, an error ERROR_NAME and REPLY_SERIAL, and a
+-- signal PATH, INTERFACE and MEMBER.
+abbrev pub has_needed : ℕ → List Value → Bool
+has_needed kind fields =
+    if kind == 1 then has 1 fields && has 3 fields
+    else if kind == 2 then has 5 fields
+    else if kind == 3 then has 4 fields && has 5 fields
+    else if kind == 4 then has 1 fields && (has 2 fields && has 3 fields)
+    else true

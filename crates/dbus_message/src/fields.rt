@@ -1,0 +1,296 @@
+//! The fields in a message's header.
+//!
+//! Source: D-Bus Specification, "Header Fields".
+
+ghost use Rattle.std.specs.Prelude.{◌≡◌, ◌==◌, length, filter, find, IfOk};
+ghost use Rattle.dbus_types.specs.declared.types.Value.{out-Value};
+ghost use Rattle.std.specs.List.{list_all};
+ghost use Rattle.std.specs.Option.{option_copied};
+ghost use Rattle.dbus_message.specs.Fields.{known_codes, members_of as members_in, byte_of as byte_in, inner_of as inner_in, field_code as code_in, field_value as value_in, is_path_value as path_holds, is_text_value as text_holds, any_text, is_number_value as number_holds, is_signature_value as signature_holds, is_in_table as table_holds, is_field as field_holds, is_once as once, are_good as good, value_of as value_under, text_in as text_inside, number_in as number_inside, text_of as text_under, number_of as number_under, has as is_there, has_needed as needed_there};
+ghost use Rattle.dbus_types.specs.Names.{is_interface_name, is_member_name};
+
+use dbus_types::names::{is_interface, is_member};
+use dbus_types::types::Value;
+use portal_base::memory::{Replica, WantOfMemory};
+use portal_base::text::Text;
+use std::alloc::Global;
+
+pub(crate) const PATH: u8 = 1;
+
+pub(crate) const INTERFACE: u8 = 2;
+
+pub(crate) const MEMBER: u8 = 3;
+
+pub(crate) const ERROR_NAME: u8 = 4;
+
+pub(crate) const REPLY_SERIAL: u8 = 5;
+
+pub(crate) const SIGNATURE: u8 = 8;
+
+pub(crate) const UNIX_FDS: u8 = 9;
+
+fn members_of(value: &Value) -> &[Value]
+    ensures { result.now ≡ members_in (out-Value value.now) }
+{
+    match value {
+        Value::Struct(members) => members.as_slice(),
+        _ => &[],
+    }
+}
+
+fn byte_of(value: &Value) -> u8
+    ensures { result ≡ byte_in (out-Value value.now) }
+{
+    match value {
+        Value::Byte(number) => *number,
+        _ => 0,
+    }
+}
+
+fn inner_of(value: &Value) -> Option<&Value>
+    ensures { option_copied result ≡ inner_in (out-Value value.now) }
+{
+    match value {
+        Value::Variant(inner) => Some(inner.get()),
+        _ => None,
+    }
+}
+
+/// The code of a field.
+pub(crate) fn field_code(field: &Value) -> u8
+    ensures { result ≡ code_in field.now }
+{
+    match members_of(field) {
+        [] => 0,
+        [code, ..] => byte_of(code),
+    }
+}
+
+/// The value of a field.
+fn field_value(field: &Value) -> Option<&Value>
+    ensures { option_copied result ≡ value_in field.now }
+{
+    match members_of(field) {
+        [_, variant] => inner_of(variant),
+        _ => None,
+    }
+}
+
+fn is_path_value(value: &Value) -> bool
+    ensures { result ≡ path_holds (out-Value value.now) }
+{
+    match value {
+        Value::ObjectPath(_) => true,
+        _ => false,
+    }
+}
+
+fn is_interface_value(value: &Value) -> bool
+    ensures { result ≡ text_holds is_interface_name (out-Value value.now) }
+{
+    match value {
+        Value::Str(text) => is_interface(text.as_bytes()),
+        _ => false,
+    }
+}
+
+fn is_member_value(value: &Value) -> bool
+    ensures { result ≡ text_holds is_member_name (out-Value value.now) }
+{
+    match value {
+        Value::Str(text) => is_member(text.as_bytes()),
+        _ => false,
+    }
+}
+
+fn is_text_value(value: &Value) -> bool
+    ensures { result ≡ text_holds any_text (out-Value value.now) }
+{
+    match value {
+        Value::Str(_) => true,
+        _ => false,
+    }
+}
+
+fn is_number_value(value: &Value) -> bool
+    ensures { result ≡ number_holds (out-Value value.now) }
+{
+    match value {
+        Value::U32(_) => true,
+        _ => false,
+    }
+}
+
+fn is_signature_value(value: &Value) -> bool
+    ensures { result ≡ signature_holds (out-Value value.now) }
+{
+    match value {
+        Value::Signature(_) => true,
+        _ => false,
+    }
+}
+
+/// Says whether a value may stand under a code.
+fn is_in_table(code: u8, value: &Value) -> bool
+    ensures { result ≡ table_holds code value.now }
+{
+    match code {
+        0 => false,
+        1 => is_path_value(value),
+        2 => is_interface_value(value),
+        3 => is_member_value(value),
+        4 => is_interface_value(value),
+        5 => is_number_value(value),
+        6 => is_text_value(value),
+        7 => is_text_value(value),
+        8 => is_signature_value(value),
+        9 => is_number_value(value),
+        _ => true,
+    }
+}
+
+/// Says whether the table of fields allows a field.
+fn is_field(field: &Value) -> bool
+    ensures { result ≡ field_holds field.now }
+{
+    match field_value(field) {
+        Some(value) => is_in_table(field_code(field), value),
+        None => false,
+    }
+}
+
+fn all_fields(fields: &[Value]) -> bool
+    ensures { result ≡ list_all field_holds fields.now }
+{
+    fields.iter().all(|field| is_field(field))
+}
+
+/// How many fields have a code.
+fn count_of(fields: &[Value], code: u8) -> usize
+    ensures { result ≡ length (filter (λ f. code_in f == code) fields.now) }
+{
+    fields
+        .iter()
+        .filter(|field| field_code(field) == code)
+        .count()
+}
+
+/// Says whether no two fields have a code.
+fn is_once(fields: &[Value], code: u8) -> bool
+    ensures { result ≡ once fields.now code }
+{
+    count_of(fields, code) <= 1
+}
+
+/// Says whether no known code stands twice.
+fn all_once(fields: &[Value]) -> bool
+    ensures { result ≡ list_all (once fields.now) known_codes }
+{
+    is_once(fields, 1)
+        && is_once(fields, 2)
+        && is_once(fields, 3)
+        && is_once(fields, 4)
+        && is_once(fields, 5)
+        && is_once(fields, 6)
+        && is_once(fields, 7)
+        && is_once(fields, 8)
+        && is_once(fields, 9)
+}
+
+/// Says whether the table of fields allows all, and no known code stands
+/// twice.
+pub(crate) fn are_good(fields: &[Value]) -> bool
+    ensures { result ≡ good fields.now }
+{
+    all_fields(fields) && all_once(fields)
+}
+
+/// The first field of a code.
+fn find_field(fields: &[Value], code: u8) -> Option<&Value>
+    ensures { option_copied result ≡ find (λ f. code_in f == code) fields.now }
+{
+    fields.iter().find(|field| field_code(field) == code)
+}
+
+/// The value under a code.
+fn value_of(fields: &[Value], code: u8) -> Option<&Value>
+    ensures { option_copied result ≡ value_under code fields.now }
+{
+    match find_field(fields, code) {
+        Some(field) => field_value(field),
+        None => None,
+    }
+}
+
+fn text_in(value: &Value) -> Option<&Text>
+    ensures { option_copied result ≡ text_inside (out-Value value.now) }
+{
+    match value {
+        Value::Str(text) => Some(text),
+        Value::ObjectPath(text) => Some(text),
+        Value::Signature(text) => Some(text),
+        _ => None,
+    }
+}
+
+fn number_in(value: &Value) -> Option<u32>
+    ensures { result ≡ number_inside (out-Value value.now) }
+{
+    match value {
+        Value::U32(number) => Some(*number),
+        _ => None,
+    }
+}
+
+/// The text under a code.
+pub(crate) fn text_of(fields: &[Value], code: u8) -> Option<&Text>
+    ensures { option_copied result ≡ text_under code fields.now }
+{
+    match value_of(fields, code) {
+        Some(value) => text_in(value),
+        None => None,
+    }
+}
+
+/// A copy of the text under a code.
+pub(crate) fn copy_of(
+    alloc: Global,
+    fields: &[Value],
+    code: u8,
+) -> Result<Option<Text>, WantOfMemory>
+    ensures { IfOk result (λ text. text ≡ text_under code fields.now) }
+{
+    match text_of(fields, code) {
+        Some(text) => Ok(Some(text.replica(alloc)?)),
+        None => Ok(None),
+    }
+}
+
+/// The number under a code.
+pub(crate) fn number_of(fields: &[Value], code: u8) -> Option<u32>
+    ensures { result ≡ number_under code fields.now }
+{
+    match value_of(fields, code) {
+        Some(value) => number_in(value),
+        None => None,
+    }
+}
+
+fn has(fields: &[Value], code: u8) -> bool
+    ensures { result ≡ is_there code fields.now }
+{
+    value_of(fields, code).is_some()
+}
+
+/// Says whether a message of a type has the fields that it needs.
+pub(crate) fn has_needed(kind: u8, fields: &[Value]) -> bool
+    ensures { result ≡ needed_there kind fields.now }
+{
+    match kind {
+        1 => has(fields, PATH) && has(fields, MEMBER),
+        2 => has(fields, REPLY_SERIAL),
+        3 => has(fields, ERROR_NAME) && has(fields, REPLY_SERIAL),
+        4 => has(fields, PATH) && has(fields, INTERFACE) && has(fields, MEMBER),
+        _ => true,
+    }
+}

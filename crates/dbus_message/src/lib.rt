@@ -1,0 +1,16 @@
+//! Messages of D-Bus: cutting them from a stream, reading them in either order
+//! of bytes, and writing them.
+//!
+//! Source: D-Bus Specification, "Message Format".
+#![tactic(auto)]
+
+mod content;
+pub mod error;
+mod fields;
+mod header;
+pub mod read;
+mod signature;
+pub mod split;
+#[cfg(test)]
+mod tests;
+pub mod write;

@@ -1,0 +1,156 @@
+//! Reading messages.
+//!
+//! Source: D-Bus Specification, "Message Format".
+
+ghost use Rattle.std.specs.Prelude.{◌≡◌, ◌≤◌, ◌==◌, ℕ, length, drop, IfOk};
+ghost use Rattle.std.specs.List.{list_all};
+ghost use Rattle.dbus_types.specs.declared.types.WireType.TheVariants as W;
+ghost use Rattle.dbus_types.specs.declared.types.Value.{out-Value};
+ghost use Rattle.dbus_message.specs.Fields.{field_type as type_of_field};
+ghost use Rattle.dbus_types.specs.declared.message.Message.{Message as TheMessage};
+ghost use Rattle.dbus_message.specs.Header.{endian_of as endian_in};
+ghost use Rattle.dbus_message.specs.Rules.{IsWhole, IsFirstBroken};
+ghost use Rattle.dbus_message.specs.Answers.{items_in, IsReadFields};
+ghost use Rattle.dbus_message.specs.Messages.{SaysHeader, SaysFields, IsMessage, IsReadAs, IsRefusedFor, IsReading};
+
+use crate::content::{Content, read_content};
+use crate::error::{MessageError, broken};
+use crate::fields::{
+    ERROR_NAME, INTERFACE, MEMBER, PATH, REPLY_SERIAL, SIGNATURE, UNIX_FDS, are_good, copy_of,
+    has_needed, number_of, text_of,
+};
+use crate::header::{body_start, endian_of, fields_end, number_at};
+use dbus_marshal::read::read_value;
+use dbus_types::message::Message;
+use dbus_types::types::{Endian, Value, WireType};
+use portal_base::boxed::Boxed;
+use portal_base::list::List;
+use portal_base::memory::WantOfMemory;
+use std::alloc::Global;
+
+/// The type `a(yv)`.
+pub(crate) fn fields_type(alloc: Global) -> Result<WireType, WantOfMemory>
+    ensures { IfOk result (λ kind. kind ≡ W.Array type_of_field) }
+{
+    Ok(WireType::Array(Boxed::new(alloc, field_type(alloc)?)?))
+}
+
+/// The type `(yv)`.
+pub(crate) fn field_type(alloc: Global) -> Result<WireType, WantOfMemory>
+    ensures { IfOk result (λ kind. kind ≡ type_of_field) }
+{
+    let mut members = List::new(alloc);
+    members.push(WireType::Byte)?;
+    members.push(WireType::Variant)?;
+    Ok(WireType::Struct(members))
+}
+
+/// The items of an array.
+fn items_of(value: Value) -> Option<List<Value>>
+    ensures { result ≡ items_in (out-Value value) }
+{
+    match value {
+        Value::Array {
+            element: _element,
+            items,
+        } => Some(items),
+        _ => None,
+    }
+}
+
+/// The fields of a message, whose bytes are given up to the end of the fields.
+fn read_fields(alloc: Global, endian: Endian, bytes: &[u8]) -> Result<List<Value>, MessageError>
+    requires { 12 ≤ length bytes.now }
+    ensures { IsReadFields endian (drop 12 bytes.now) result }
+{
+    let kind = fields_type(alloc)?;
+    match read_value(alloc, endian, bytes, 12, &kind) {
+        Ok(read) => {
+            if read.next < bytes.len() {
+                return Err(MessageError::Bad { rule: 6 });
+            }
+            match items_of(read.value) {
+                Some(items) => Ok(items),
+                None => Err(MessageError::Bad { rule: 6 }),
+            }
+        }
+        Err(error) => Err(broken(6, error)),
+    }
+}
+
+fn are_zeros(bytes: &[u8]) -> bool
+    ensures { result ≡ list_all (λ b. b == 0) bytes.now }
+{
+    bytes.iter().all(|byte| *byte == 0)
+}
+
+/// The message that the header, the fields and the body say.
+fn message_of(
+    alloc: Global,
+    endian: Endian,
+    bytes: &[u8],
+    fields: &[Value],
+    content: Content,
+) -> Result<Message, WantOfMemory>
+    requires long { 16 ≤ length bytes.now }
+    requires known { endian ≡ endian_in bytes.now }
+    ensures header { IfOk result (λ m. SaysHeader bytes.now m) }
+    ensures fields { IfOk result (λ m. SaysFields fields.now m) }
+    ensures body { IfOk result (λ m. (m.signature ≡ content.types) × (m.body ≡ content.values)) }
+{
+    Ok(Message {
+        endian,
+        kind: bytes[1],
+        flags: bytes[2],
+        serial: number_at(endian, bytes, 8),
+        path: copy_of(alloc, fields, PATH)?,
+        interface: copy_of(alloc, fields, INTERFACE)?,
+        member: copy_of(alloc, fields, MEMBER)?,
+        error: copy_of(alloc, fields, ERROR_NAME)?,
+        reply_serial: number_of(fields, REPLY_SERIAL),
+        signature: content.types,
+        fds: number_of(fields, UNIX_FDS).unwrap_or(0),
+        body: content.values,
+    })
+}
+
+/// Reads a message, which is as long as its header states, and whose header
+/// keeps the first five rules: `split` answers so.
+///
+/// `Bad` names the first of the other rules that the bytes break. Fields and
+/// flags that are not known are passed over.
+///
+/// Source: D-Bus Specification, "Message Format".
+pub fn read_message(alloc: Global, bytes: &[u8]) -> Result<Message, MessageError>
+    requires { IsWhole bytes.now }
+    ensures reading { IsReading bytes.now result }
+    // What is a message is read as it.
+    ensures only { (m : TheMessage) → IsMessage bytes.now m → IsReadAs m result }
+    // What breaks a rule is refused for it.
+    ensures refused { (rule : ℕ) → IsFirstBroken bytes.now rule → IsRefusedFor rule result }
+{
+    let endian = endian_of(bytes);
+    let end = fields_end(bytes);
+    let start = body_start(bytes);
+    let fields = match read_fields(alloc, endian, &bytes[..end]) {
+        Ok(fields) => fields,
+        Err(error) => return Err(error),
+    };
+    if !are_good(fields.as_slice()) {
+        return Err(MessageError::Bad { rule: 7 });
+    }
+    if !has_needed(bytes[1], fields.as_slice()) {
+        return Err(MessageError::Bad { rule: 8 });
+    }
+    if !are_zeros(&bytes[end..start]) {
+        return Err(MessageError::Bad { rule: 9 });
+    }
+    let signature = text_of(fields.as_slice(), SIGNATURE);
+    match read_content(alloc, endian, signature, &bytes[start..]) {
+        Ok(content) => match message_of(alloc, endian, bytes, fields.as_slice(), content) {
+            Ok(message) => Ok(message),
+            Err(_) => Err(MessageError::Memory),
+        },
+        Err(error) => Err(error),
+    }
+}

@@ -1,0 +1,59 @@
+//! Cutting messages from a stream.
+//!
+//! Source: D-Bus Specification, "Message Format".
+
+ghost use Rattle.std.specs.Prelude.{◌≡◌, ◌≤◌, length, MatchOption};
+ghost use Rattle.dbus_message.specs.Rules.{KeepsHeader, IsFirstBroken};
+ghost use Rattle.dbus_message.specs.Messages.{IsSplit};
+
+use crate::header::{endian_of, number_at, stated_len};
+use portal_base::split::Split;
+
+/// The greatest length of a message in bytes.
+const LONGEST: usize = 16_777_216;
+
+/// The first of the five rules of the header that the bytes break.
+fn broken_header(bytes: &[u8]) -> Option<u32>
+    requires { 16 ≤ length bytes.now }
+    ensures { MatchOption result (KeepsHeader bytes.now) (λ rule. (rule ≤ 5) × IsFirstBroken bytes.now rule) }
+{
+    if bytes[0] != b'l' && bytes[0] != b'B' {
+        return Some(1);
+    }
+    if bytes[1] == 0 {
+        return Some(2);
+    }
+    if bytes[3] != 1 {
+        return Some(3);
+    }
+    if number_at(endian_of(bytes), bytes, 8) == 0 {
+        return Some(4);
+    }
+    if stated_len(bytes) > LONGEST {
+        return Some(5);
+    }
+    None
+}
+
+/// Says whether a message stands at the front of the bytes, and its length.
+///
+/// The rules of the header are looked at as soon as 16 bytes are there: `Bad`
+/// names the first of 1 to 5 that they break. No memory is taken.
+pub fn split(bytes: &[u8]) -> Split
+    ensures { IsSplit bytes.now result }
+{
+    if bytes.len() < 16 {
+        return Split::More;
+    }
+    match broken_header(bytes) {
+        Some(rule) => Split::Bad { rule },
+        None => {
+            let len = stated_len(bytes);
+            if bytes.len() < len {
+                Split::More
+            } else {
+                Split::Whole { len }
+            }
+        }
+    }
+}
