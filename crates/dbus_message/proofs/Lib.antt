@@ -3,6 +3,8 @@ pub mod Bodies
 pub mod Contents
 pub mod Arrays
 pub mod Reading
+pub mod Fronts
+pub mod Ones
 pub mod Writing
 pub mod Tables
 pub mod Ascii

@@ -19,7 +19,7 @@ use Rattle.dbus_message.specs.Messages.{SaysHeader, SaysFields, IsMessage, IsRea
 use Rattle.dbus_message.specs.Answers.{IsReadFields, IsReadContent}
 use Rattle.dbus_message.proofs.Arrays.{one_list}
 
-past : {R L : Type 0} {n rule : ℕ} → Checked R n rule L → R → L
+pub past : {R L : Type 0} {n rule : ℕ} → Checked R n rule L → R → L
 past (inl x) r = absurd (x.1 r)
 past (inr y) r = y.1
 

@@ -6,3 +6,4 @@ pub mod Messages
 pub mod Answers
 pub mod Errors
 pub mod Written
+pub mod Laws

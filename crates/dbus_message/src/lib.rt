@@ -8,6 +8,7 @@ mod content;
 pub mod error;
 mod fields;
 mod header;
+pub mod laws;
 pub mod read;
 mod signature;
 pub mod split;

@@ -1,0 +1,6 @@
+use Rattle.dbus_message.proofs.Ones.{one_message}
+use Rattle.dbus_message.proofs.Reading.{one_first, refutes}
+use Rattle.dbus_message.proofs.laws.readings_are_one.Goals as goal
+
+pub returns : goal.returns
+returns c = record { message = one_message; rule = one_first; apart = refutes }

@@ -1,0 +1,5 @@
+use Rattle.dbus_message.proofs.Ones.{one_written}
+use Rattle.dbus_message.proofs.laws.written_are_one.Goals as goal
+
+pub returns : goal.returns
+returns c = one_written
