@@ -1,7 +1,7 @@
 -- The names that messages carry are texts: their bytes are ASCII, and none is zero.
-use Rattle.std.proofs.Common.{◌≡◌, ℕ, ◌<◌, ◌-◌, Bool, true, List, [], ◌∷◌, length, drop, subst, arith, lit<}
+use Rattle.std.proofs.Common.{◌≡◌, ℕ, ◌<◌, true, List, [], ◌∷◌, length, subst, arith, lit<}
 use Rattle.std.specs.Prelude.{All, IsTrue, ◌==◌, nat_le}
-use Rattle.std.specs.List.{list_all, slice_split, join_with_byte, suffix_len}
+use Rattle.std.specs.List.{list_all, slice_split, join_with_byte}
 use Rattle.std.proofs.lemmas.Bool.{and_parts, false≢true}
 use Rattle.std.proofs.lemmas.Bool.Decides.{nat_tests}
 use Rattle.std.proofs.lemmas.List.Elements.{All-nil, All-cons, All-append, All-weaker, All-drop}

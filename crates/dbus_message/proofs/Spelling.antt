@@ -1,5 +1,5 @@
 -- A message that may be written has a spelling.
-use Rattle.std.proofs.Common.{◌≡◌, ℕ, suc, ◌+◌, ◌<◌, ◌≤◌, ◌^◌, Bool, true, List, [], ◌∷◌, ◌++◌, length, map, refl, sym, ap, subst, ◌∙◌, arith}
+use Rattle.std.proofs.Common.{◌≡◌, ℕ, ◌+◌, ◌<◌, ◌≤◌, ◌^◌, true, List, [], ◌∷◌, ◌++◌, length, map, refl, sym, ap, subst, ◌∙◌, arith}
 use Rattle.std.specs.Prelude.{All, IsTrue}
 use Rattle.std.proofs.lemmas.List.{length-append}
 use Rattle.std.proofs.lemmas.List.Elements.{All-nil, All-cons, All-head, All-tail, All-map, All-weaker}
@@ -13,7 +13,7 @@ use Rattle.dbus_types.specs.declared.message.OutMessage.{OutMessage}
 use Rattle.dbus_types.specs.declared.message.OutMessage.TheVariants.{Return, Error, Signal}
 use Rattle.dbus_types.specs.declared.roles.Role.{Role}
 use Rattle.dbus_types.specs.declared.roles.Role.TheVariants.{Basic, Single}
-use Rattle.dbus_types.specs.Names.{is_path, is_interface_name, is_member_name}
+use Rattle.dbus_types.specs.Names.{is_path, is_interface_name}
 use Rattle.dbus_types.specs.Types.{is_single, struct_role, array_role, role, greatest, arrays_deep, brackets_deep, type_text, types_text, IsValidType, IsVariantType, IsSignature}
 use Rattle.dbus_types.specs.Values.{type_of, IsText, IsSignatureText, ValueKeeps, KeepsWithin, KeepsRules}
 use Rattle.dbus_types.proofs.Layers.{role_byte, role_array, role_struct, arrays_array, arrays_struct, brackets_array, brackets_struct}
@@ -21,7 +21,6 @@ use Rattle.dbus_marshal.specs.Spells.{Spells, Members}
 use Rattle.dbus_marshal.specs.Spelling.{spelling, spellings}
 use Rattle.dbus_marshal.proofs.Every.{every_spelled}
 use Rattle.dbus_message.specs.Fields.{field_type}
-use Rattle.dbus_message.specs.Content.{IsBody}
 use Rattle.dbus_message.specs.Written.{field, signature_field, last_part, kind_out, body_out, return_fields, fields_out, message_bytes, IsWritten, IsGoodBody, KeepsKinds, CanWrite}
 use Rattle.dbus_message.proofs.Ascii.{interface_text, member_text, last_text}
 use Rattle.dbus_message.proofs.Bodies.{Spelled}

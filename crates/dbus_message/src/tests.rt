@@ -267,8 +267,9 @@ fn zeros(alloc: Global, len: usize) -> Result<Vec<u8>, AllocError>
 fn longest(alloc: Global, len: usize) -> Result<Vec<u8>, AllocError> {
     let mut bytes = zeros(alloc, len)?;
     if len >= 16 {
-        bytes[..16]
-            .copy_from_slice(b"l\x02\x00\x01\xf0\xff\xff\x00\x01\x00\x00\x00\x00\x00\x00\x00");
+        bytes[..16].copy_from_slice(
+            b"l\x02\x00\x01\xf0\xff\xff\x00\x01\x00\x00\x00\x00\x00\x00\x00",
+        );
     }
     Ok(bytes)
 }
