@@ -1,0 +1,5 @@
+pub mod Tables
+pub mod Errors
+pub mod Calls
+pub mod Properties
+pub mod Asks

@@ -1,0 +1,124 @@
+//! What a message asks.
+//!
+//! Source: D-Bus Specification, "Message Protocol" and "Standard Interfaces".
+
+ghost use Rattle.std.specs.Prelude.{◌≡◌, ◌≢◌, ◌↔◌, [], ◌∷◌, IfOk};
+ghost use Rattle.dbus_dispatch.specs.Asks.{ask_of, asked, returned, expects_reply, closed_bytes};
+
+use crate::call::{called, object_of};
+use crate::error_name::ErrorName;
+use crate::method::Method;
+use crate::properties::{dictionary, interface_in, value_in, variant};
+use dbus_types::message::{Message, OutMessage};
+use dbus_types::types::{Value, WireType};
+use portal_base::limits::Settings;
+use portal_base::list::List;
+use portal_base::memory::WantOfMemory;
+use std::alloc::Global;
+
+/// What a message asks.
+#[derive(Debug, Drop)]
+pub enum Ask {
+    /// This answer, and nothing of the portal. It is written only where the
+    /// call expects a reply.
+    Local(OutMessage),
+    /// Nothing: the message is no call.
+    Ignore,
+    /// What isn't built yet.
+    Unbuilt,
+}
+
+/// The type of a message that calls a method.
+const METHOD_CALL: u8 = 1;
+
+/// The flag of a call that expects no reply.
+const NO_REPLY_EXPECTED: u8 = 1;
+
+/// Says whether a message is a call that expects a reply, be it a return or an
+/// error. A call that expects none is answered all the same, and the answer
+/// isn't written.
+pub fn expects_reply(message: &Message) -> bool
+    ensures { result ≡ expects_reply message.now }
+{
+    message.kind == METHOD_CALL && message.flags & NO_REPLY_EXPECTED == 0
+}
+
+/// Says what a message asks.
+pub fn request_of(
+    alloc: Global,
+    message: &Message,
+    settings: &Settings,
+) -> Result<Ask, WantOfMemory>
+    ensures asks { IfOk result (λ ask. ask ≡ ask_of settings.now message.now) }
+    ensures ignored { IfOk result (λ ask. (ask ≡ Ask.Ignore) ↔ (message.now.kind ≢ METHOD_CALL)) }
+{
+    if message.kind != METHOD_CALL {
+        return Ok(Ask::Ignore);
+    }
+    match called(alloc, message)? {
+        Ok(method) => asked(alloc, message, settings, method),
+        Err(error) => Ok(Ask::Local(error.answer_to(alloc, message)?)),
+    }
+}
+
+/// What a call of a method asks that no rule refuses.
+fn asked(
+    alloc: Global,
+    call: &Message,
+    settings: &Settings,
+    method: Method,
+) -> Result<Ask, WantOfMemory>
+    ensures { IfOk result (λ ask. ask ≡ asked settings.now call.now method) }
+{
+    let answer = match method {
+        Method::Ping => returned(call, List::new(alloc)),
+        Method::Get => match value_in(object_of(call), call.body.as_slice()) {
+            Ok(number) => returned(call, only(alloc, variant(alloc, number)?)?),
+            Err(error) => error.answer_to(alloc, call)?,
+        },
+        Method::GetAll => match interface_in(object_of(call), call.body.as_slice()) {
+            Ok(interface) => returned(call, only(alloc, dictionary(alloc, interface)?)?),
+            Err(error) => error.answer_to(alloc, call)?,
+        },
+        Method::GetMountPoint => {
+            let path = closed_bytes(alloc, settings.mountpoint.as_bytes())?;
+            returned(call, only(alloc, path)?)
+        }
+        _ => return Ok(Ask::Unbuilt),
+    };
+    Ok(Ask::Local(answer))
+}
+
+/// The return of a call.
+fn returned(call: &Message, body: List<Value>) -> OutMessage
+    ensures { result ≡ returned call.now body }
+{
+    OutMessage::Return {
+        to: call.serial,
+        body,
+    }
+}
+
+/// A list of one value.
+fn only(alloc: Global, value: Value) -> Result<List<Value>, WantOfMemory>
+    ensures { IfOk result (λ list. list ≡ value ∷ []) }
+{
+    let mut list = List::new(alloc);
+    list.push(value)?;
+    Ok(list)
+}
+
+/// Bytes as `ay`, with a zero byte behind them.
+fn closed_bytes(alloc: Global, bytes: &[u8]) -> Result<Value, WantOfMemory>
+    ensures { IfOk result (λ value. value ≡ closed_bytes bytes.now) }
+{
+    let mut items = List::new(alloc);
+    for byte in bytes {
+        items.push(Value::Byte(*byte))?;
+    }
+    items.push(Value::Byte(0))?;
+    Ok(Value::Array {
+        element: WireType::Byte,
+        items,
+    })
+}

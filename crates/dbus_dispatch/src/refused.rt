@@ -1,0 +1,25 @@
+//! The answer to a call whose request is no entry of the history.
+
+ghost use Rattle.std.specs.Prelude.{◌≡◌, IfOk};
+ghost use Rattle.dbus_dispatch.specs.Errors.{error_to, refusal_of};
+
+use crate::error_name::ErrorName;
+use dbus_types::message::{Message, OutMessage};
+use portal_base::memory::WantOfMemory;
+use portal_model::reply::Refused;
+use std::alloc::Global;
+
+/// The error that answers a call whose request was refused.
+pub fn refused_message(
+    alloc: Global,
+    refused: &Refused,
+    call: &Message,
+) -> Result<OutMessage, WantOfMemory>
+    ensures { IfOk result (λ reply. reply ≡ error_to call.now (refusal_of refused.now)) }
+{
+    let error = match refused {
+        Refused::Memory => ErrorName::NoMemory,
+        Refused::Full { .. } => ErrorName::LimitsExceeded,
+    };
+    error.answer_to(alloc, call)
+}
