@@ -10,3 +10,4 @@ pub mod Tables
 pub mod Ascii
 pub mod Spelling
 pub mod Sent
+pub mod Bare

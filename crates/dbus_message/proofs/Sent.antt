@@ -25,7 +25,7 @@ use Rattle.dbus_message.proofs.Tables.{HasNames, fields_good, fields_needed, fie
 use Rattle.dbus_message.proofs.Spelling.{names_good, body_good, good_signature, is_spelled}
 use Rattle.dbus_message.proofs.Writing.{says_body, says_serial, says_fields, fields_stand, padding_stands, body_stands, whole_len, all_zeros}
 
-field_alignment : alignment field_type ≡ 8
+pub field_alignment : alignment field_type ≡ 8
 field_alignment = search type_lemmas
 
 array_type : (t : WireType) → out-WireType (W.Array t) ≡ WireType-F.Array t

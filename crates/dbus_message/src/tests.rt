@@ -1,11 +1,12 @@
 //! Messages that were worked out, and those of another program.
 
-ghost use Rattle.std.specs.Prelude.{◌≡◌, length, IfOk};
+ghost use Rattle.std.specs.Prelude.{◌≡◌, ◌≢◌, length, IfOk};
 
 use crate::error::MessageError;
 use crate::read::read_message;
 use crate::split::split;
-use dbus_types::message::Message;
+use crate::write::write_message;
+use dbus_types::message::{Message, OutMessage};
 use dbus_types::types::{Endian, Value, WireType};
 use portal_base::list::{ByteList, List};
 use portal_base::memory::WantOfMemory;
@@ -117,6 +118,23 @@ fn ping_is_read(rt: HostRuntime) {
     }
     match read(alloc, PONG) {
         Ok(message) => assert!(rt; is_pong(&message)),
+        Err(_) => assert!(rt; false),
+    }
+}
+
+/// What is written for the return of nothing.
+fn written_return(alloc: Global, to: u32, serial: u32) -> Result<ByteList, WantOfMemory>
+    requires { serial ≢ 0 }
+{
+    let body = List::new(alloc);
+    let message = OutMessage::Return { to, body };
+    write_message(alloc, &message, serial)
+}
+
+#[test]
+fn the_return_of_ping_is_written(rt: HostRuntime) {
+    match written_return(rt.alloc(), 1, 1) {
+        Ok(bytes) => assert!(rt; bytes.as_slice() == PONG),
         Err(_) => assert!(rt; false),
     }
 }
