@@ -1,1 +1,5 @@
 pub mod Methods
+pub mod Utf8
+pub mod Lengths
+pub mod Bodies
+pub mod Writable

@@ -3,3 +3,4 @@ pub mod Errors
 pub mod Calls
 pub mod Properties
 pub mod Asks
+pub mod Writable

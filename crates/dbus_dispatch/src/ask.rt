@@ -2,8 +2,9 @@
 //!
 //! Source: D-Bus Specification, "Message Protocol" and "Standard Interfaces".
 
-ghost use Rattle.std.specs.Prelude.{◌≡◌, ◌≢◌, ◌↔◌, [], ◌∷◌, IfOk};
+ghost use Rattle.std.specs.Prelude.{◌≡◌, ◌≢◌, ◌<◌, ◌^◌, ◌↔◌, [], ◌∷◌, IfOk};
 ghost use Rattle.dbus_dispatch.specs.Asks.{ask_of, asked, returned, expects_reply, closed_bytes};
+ghost use Rattle.dbus_dispatch.specs.Writable.{CanBeAnswered};
 
 use crate::call::{called, object_of};
 use crate::error_name::ErrorName;
@@ -43,32 +44,41 @@ pub fn expects_reply(message: &Message) -> bool
     message.kind == METHOD_CALL && message.flags & NO_REPLY_EXPECTED == 0
 }
 
-/// Says what a message asks.
+/// Says what a message asks. What it answers can be written, with each serial
+/// that isn't 0.
 pub fn request_of(
     alloc: Global,
     message: &Message,
     settings: &Settings,
 ) -> Result<Ask, WantOfMemory>
     ensures asks { IfOk result (λ ask. ask ≡ ask_of settings.now message.now) }
+    ensures writable { IfOk result CanBeAnswered }
     ensures ignored { IfOk result (λ ask. (ask ≡ Ask.Ignore) ↔ (message.now.kind ≢ METHOD_CALL)) }
 {
     if message.kind != METHOD_CALL {
         return Ok(Ask::Ignore);
     }
+    let mountpoint = settings.mountpoint.as_bytes();
+    fits(message.serial);
     match called(alloc, message)? {
-        Ok(method) => asked(alloc, message, settings, method),
+        Ok(method) => asked(alloc, message, mountpoint, method),
         Err(error) => Ok(Ask::Local(error.answer_to(alloc, message)?)),
     }
 }
+
+/// Says to a caller's proof that a serial is a number of 32 bits.
+fn fits(serial: u32)
+    ensures { serial < 2 ^ 32 }
+{}
 
 /// What a call of a method asks that no rule refuses.
 fn asked(
     alloc: Global,
     call: &Message,
-    settings: &Settings,
+    mountpoint: &[u8],
     method: Method,
 ) -> Result<Ask, WantOfMemory>
-    ensures { IfOk result (λ ask. ask ≡ asked settings.now call.now method) }
+    ensures { IfOk result (λ ask. ask ≡ asked mountpoint.now call.now method) }
 {
     let answer = match method {
         Method::Ping => returned(call, List::new(alloc)),
@@ -81,7 +91,7 @@ fn asked(
             Err(error) => error.answer_to(alloc, call)?,
         },
         Method::GetMountPoint => {
-            let path = closed_bytes(alloc, settings.mountpoint.as_bytes())?;
+            let path = closed_bytes(alloc, mountpoint)?;
             returned(call, only(alloc, path)?)
         }
         _ => return Ok(Ask::Unbuilt),

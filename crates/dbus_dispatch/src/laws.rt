@@ -1,8 +1,13 @@
-//! Laws of the tables.
+//! Laws of the tables, and of what is answered.
 
 ghost use Rattle.dbus_dispatch.specs.declared.object.Object.{Object as AnObject};
-ghost use Rattle.std.specs.Prelude.{IsTrue, map};
+ghost use Rattle.std.specs.Prelude.{◌≡◌, ◌<◌, ◌^◌, IsTrue, true, map};
 ghost use Rattle.std.specs.List.{flat_map};
+ghost use Rattle.portal_base.specs.declared.limits.Settings.{Settings as TheSettings};
+ghost use Rattle.portal_base.specs.Names.{is_host_path};
+ghost use Rattle.dbus_types.specs.declared.message.Message.{Message as AMessage};
+ghost use Rattle.dbus_dispatch.specs.Asks.{ask_of};
+ghost use Rattle.dbus_dispatch.specs.Writable.{CanBeAnswered};
 ghost use Rattle.dbus_dispatch.specs.Tables.{objects, path_of, interfaces_of, interface_name, methods_of, row, are_apart};
 
 /// The objects have different paths, the interfaces of an object different
@@ -12,4 +17,11 @@ pub fn names_are_told_apart()
     ensures paths { IsTrue (are_apart (map path_of objects)) }
     ensures interfaces { (object : AnObject) → IsTrue (are_apart (map interface_name (interfaces_of object))) }
     ensures members { (object : AnObject) → IsTrue (are_apart (map (λ method. (row method).member) (flat_map methods_of (interfaces_of object)))) }
+{}
+
+/// What a message is answered can be written, with each serial that isn't 0:
+/// its values keep the rules, and it is no longer than a message may be. The
+/// mount point is a path on the host, and so at most 4,095 bytes long.
+pub fn answers_can_be_written()
+    ensures { (settings : TheSettings) (message : AMessage) → is_host_path settings.mountpoint ≡ true → message.serial < 2 ^ 32 → CanBeAnswered (ask_of settings message) }
 {}
