@@ -1,0 +1,129 @@
+-- What is done at a desk and a sink, one part after another.
+use Rattle.std.proofs.Common.{◌≡◌, ℕ, ◌+◌, ◌≤◌, List, [], ◌∷◌, ◌++◌, length, Option, Some, None, Result, Ok, Err, refl, sym, ap, ◌∙◌, subst, arith}
+use Rattle.std.proofs.lemmas.List.{append-nil, append_assoc}
+use Rattle.std.proofs.lemmas.List.Sums.{sum_by-append}
+use Rattle.portal_base.specs.Outside.{onto, HasRisen, Short}
+use Rattle.portal_model.specs.declared.entry.Entry.{Entry}
+use Rattle.portal_model.specs.declared.reply.Refused.{Refused}
+use Rattle.portal_model.specs.declared.reply.Refused.TheVariants as refused
+use Rattle.portal_model.specs.declared.reply.Reply.{Reply}
+use Rattle.portal_model.specs.declared.request.Request.{Request}
+use Rattle.portal_model.specs.History.{cost, cost_of}
+use Rattle.portal_model.specs.Seated.{Asks, Exchange, HasCause, Moved, Seated, rises_by}
+use Rattle.portal_model.proofs.SeatLaws.{begins-itself, begins-through}
+use Rattle.session.specs.Answers.{Outcome, Made, Denied, kept, denied, IsOf}
+use Rattle.session.specs.Ledger.{AreCaused, Grew, Grows, IsPassed, World, world}
+
+-- ---- what is told, and counts
+
+pub onto_onto : (o : Option (List (List ℕ))) (ps qs : List (List ℕ)) → onto (onto o ps) qs ≡ onto o (ps ++ qs)
+onto_onto None ps qs = refl
+onto_onto (Some told) ps qs = ap Some (append_assoc told ps qs)
+
+pub onto_none : (o : Option (List (List ℕ))) → o ≡ onto o []
+onto_none None = refl
+onto_none (Some told) = ap Some (sym (append-nil told))
+
+pub rises_rises : (a m n : ℕ) → rises_by (rises_by a m) n ≡ rises_by a (m + n)
+rises_rises a m n = omega arith
+
+pub rises_none : (a : ℕ) → a ≡ rises_by a 0
+rises_none a = omega arith
+
+pub risen_later : (a b c : ℕ) → a ≤ b → HasRisen b c → HasRisen a c
+risen_later a b c h k = omega arith
+
+-- ---- outcomes
+
+pub kept-append : (os us : List Outcome) → kept (os ++ us) ≡ kept os ++ kept us
+kept-append [] us = refl
+kept-append (Made x ∷ os) us = ap (λ (z : List Exchange). x ∷ z) (kept-append os us)
+kept-append (Denied request why ∷ os) us = kept-append os us
+
+pub denied-append : (os us : List Outcome) → denied (os ++ us) ≡ denied os + denied us
+denied-append [] us = omega arith
+denied-append (Made x ∷ os) us = denied-append os us
+denied-append (Denied request why ∷ os) us = omega (arith, denied-append os us)
+
+-- ---- the desk
+
+pub moved_none : (v : Seated) → Moved v v
+moved_none v = record { opening = refl; seat = refl; begins = begins-itself v.seen }
+
+pub moved_on : (u v w : Seated) → Moved u v → Moved v w → Moved u w
+moved_on u v w a b = record {
+  opening = b.opening ∙ a.opening;
+  seat = b.seat ∙ a.seat;
+  begins = begins-through w.seen v.seen u.seen b.begins a.begins;
+}
+
+-- what passed the limit passes it in a longer history
+passed_later : (v w : Seated) (request : Request) (why : Refused) → Moved v w → IsPassed v request why → IsPassed w request why
+passed_later v w request refused.Memory m h = tt
+passed_later v w request (refused.Full now limit) m h =
+    let longer : cost w.seen ≡ cost v.seen + cost m.begins.0 = ap cost m.begins.1 ∙ sum_by-append (λ (e : Entry). cost_of e.request) v.seen m.begins.0 in
+    (h.0 ∙ sym (ap (λ z. z.limits.history) m.opening), omega (arith, longer, h.1))
+
+caused_later : (os : List Outcome) (v w : Seated) → Moved v w → AreCaused v os → AreCaused w os
+caused_later [] v w m h = tt
+caused_later (Made x ∷ os) v w m h = caused_later os v w m h
+caused_later (Denied request why ∷ os) v w m h = (passed_later v w request why m h.0, caused_later os v w m h.1)
+
+caused-append : (os us : List Outcome) (w : Seated) → AreCaused w os → AreCaused w us → AreCaused w (os ++ us)
+caused-append [] us w a b = b
+caused-append (Made x ∷ os) us w a b = caused-append os us w a b
+caused-append (Denied request why ∷ os) us w a b = (a.0, caused-append os us w a.1 b)
+
+pub grew_none : (v : Seated) → Grew v [] v
+grew_none v = record {
+  moved = moved_none v;
+  mine = sym (append-nil v.mine);
+  refusals = rises_none v.refusals;
+  caused = tt;
+}
+
+pub grew_on : (u v w : Seated) (os us : List Outcome) → Grew u os v → Grew v us w → Grew u (os ++ us) w
+grew_on u v w os us a b = record {
+  moved = moved_on u v w a.moved b.moved;
+  mine = b.mine ∙ (ap (λ (z : List Exchange). z ++ kept us) a.mine ∙ (append_assoc u.mine (kept os) (kept us) ∙ ap (λ (z : List Exchange). u.mine ++ z) (sym (kept-append os us))));
+  refusals = b.refusals ∙ (ap (λ (z : ℕ). rises_by z (denied us)) a.refusals ∙ (rises_rises u.refusals (denied os) (denied us) ∙ ap (rises_by u.refusals) (sym (denied-append os us))));
+  caused = caused-append os us w (caused_later os v w b.moved a.caused) b.caused;
+}
+
+-- an ask that is answered is one entry
+pub asked_ok : (v w : Seated) (request : Request) (reply : Reply) → Asks v request (Ok reply) w → (x : Exchange) × (x.entry.request ≡ request) × (x.reply ≡ reply) × Grew v (Made x ∷ []) w
+asked_ok v w request reply a = (
+  record { entry = a.answered.entry; reply = reply },
+  a.answered.request_is,
+  refl,
+  record { moved = a.moved; mine = a.answered.mine; refusals = a.answered.refusals ∙ rises_none v.refusals; caused = tt },
+)
+
+pub passes : (w : Seated) (request : Request) (why : Refused) → HasCause w request why → IsPassed w request why
+passes w request refused.Memory h = tt
+passes w request (refused.Full now limit) h = (h.1, omega (arith, h.0, h.2))
+
+-- an ask that is refused is none
+pub asked_err : (v w : Seated) (request : Request) (why : Refused) → Asks v request (Err why) w → Grew v (Denied request why ∷ []) w
+asked_err v w request why a = record {
+  moved = a.moved;
+  mine = a.answered.mine ∙ sym (append-nil v.mine);
+  refusals = a.answered.refusals;
+  caused = (passes w request why a.answered.cause, tt);
+}
+
+-- ---- the desk and the sink
+
+pub grows_none : (w : World) → Grows w [] [] w
+grows_none w = record { desk = grew_none w.seated; told = onto_none w.told; faults = omega arith }
+
+pub grows_on : (u v w : World) (os us : List Outcome) (ps qs : List (List ℕ)) → Grows u os ps v → Grows v us qs w → Grows u (os ++ us) (ps ++ qs) w
+grows_on u v w os us ps qs a b = record {
+  desk = grew_on u.seated v.seated w.seated os us a.desk b.desk;
+  told = b.told ∙ (ap (λ (z : Option (List (List ℕ))). onto z qs) a.told ∙ onto_onto u.told ps qs);
+  faults = let x = a.faults in let y = b.faults in omega arith;
+}
+
+-- the desk alone
+pub grows_silent : (v w : Seated) (os : List Outcome) (o : Option (List (List ℕ))) (f : ℕ) → Grew v os w → Grows (world v o f) os [] (world w o f)
+grows_silent v w os o f g = record { desk = g; told = onto_none o; faults = omega arith }

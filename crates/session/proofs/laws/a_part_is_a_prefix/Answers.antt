@@ -1,0 +1,5 @@
+use Rattle.session.proofs.Proving.{short_begins}
+use Rattle.session.proofs.laws.a_part_is_a_prefix.Goals as goal
+
+pub returns : goal.returns
+returns c = short_begins

@@ -1,0 +1,5 @@
+use Rattle.session.proofs.Proving.{answer_asked}
+use Rattle.session.proofs.laws.answers_are_of_what_is_asked.Goals as goal
+
+pub returns : goal.returns
+returns c = answer_asked

@@ -1,0 +1,5 @@
+use Rattle.session.proofs.Oneness.{are_one}
+use Rattle.session.proofs.laws.items_are_one.Goals as goal
+
+pub returns : goal.returns
+returns c = are_one

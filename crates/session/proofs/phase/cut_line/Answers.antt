@@ -1,0 +1,26 @@
+use Rattle.std.proofs.Common.{◌≡◌, ℕ, ◌<◌, ◌≤◌, length, List, Bool, true, false, Some, None, refl, arith}
+use Rattle.std.proofs.lemmas.Bool.Decides.{nat_tests}
+use Rattle.std.specs.Prelude.{min, nat_lt}
+use Rattle.session.proofs.Lines.{line_cut_found}
+use Rattle.session.proofs.phase.cut_line.Goals as goal
+
+under : (n : ℕ) → n < 1024 → true ≡ nat_lt n 1024
+under n h = grind (arith, nat_tests)
+
+over : (n : ℕ) → 1024 ≤ n → false ≡ nat_lt n 1024
+over n h = grind (arith, nat_tests)
+
+pub returns-in-Some : goal.returns-in-Some
+returns-in-Some c =
+    let e : c.min.result ≡ min 1024 (length c.args.bytes.now) = omega arith in
+    line_cut_found c.args.bytes.now c.min.result (Some c.in-Some.len) (nat_lt (length c.args.bytes.now) 1024) e c.in-Some.ensures refl
+
+pub returns-in-None : goal.returns-in-None
+returns-in-None c =
+    let e : c.min.result ≡ min 1024 (length c.args.bytes.now) = omega arith in
+    line_cut_found c.args.bytes.now c.min.result None true e c.in-None.ensures (under (length c.args.bytes.now) c.if-bytes-lt-LONGEST_LINE.true)
+
+pub returns-in-None-2 : goal.returns-in-None-2
+returns-in-None-2 c =
+    let e : c.min.result ≡ min 1024 (length c.args.bytes.now) = omega arith in
+    line_cut_found c.args.bytes.now c.min.result None false e c.in-None-2.ensures (over (length c.args.bytes.now) c.if-bytes-lt-LONGEST_LINE.false)

@@ -1,0 +1,35 @@
+use Rattle.std.proofs.Common.{ℕ, List, [], ◌∷◌, Ok, Err, ap, refl}
+use Rattle.std.specs.Prelude.{option_to_list}
+use Rattle.session.specs.declared.act.Act.TheVariants.{Nothing, Line, Call}
+use Rattle.session.specs.Answers.{spoken}
+use Rattle.session.proofs.Growing.{grew_none}
+use Rattle.session.proofs.Doing.{act_ends}
+use Rattle.session.proofs.Serving.{sends_all}
+use Rattle.session.proofs.serve.serve_act.Goals as goal
+
+pub returns-in-Nothing-clause-ends : goal.returns-in-Nothing-clause-ends
+returns-in-Nothing-clause-ends g c =
+    let n = c.args.serial in
+    let v = g.D.Desk.seated c.args.desk.now in
+    let o = g.K.Sink.told c.args.sink.now in
+    let f = g.K.Sink.faults c.args.sink.now in
+    rw c.in-Nothing.is (act_ends Nothing n [] v v (grew_none v) o o f f (Ok n) [] refl refl (sends_all n o f) refl)
+
+pub returns-in-Call-clause-ends : goal.returns-in-Call-clause-ends
+returns-in-Call-clause-ends g c =
+    let n = c.args.serial in
+    let reply = c.in-Call.reply in
+    let k = c.collect.ensures.asked in
+    let f = c.send_message in
+    rw c.in-Call.is (act_ends (Call reply c.in-Call.collects) n k.0 _ _ k.2 _ _ _ _ f.result (spoken n (option_to_list reply)) k.1 refl f.ensures.sends f.ensures.last)
+
+pub returns-in-Node-clause-ends : goal.returns-in-Node-clause-ends
+returns-in-Node-clause-ends g c = rw c.in-Node.is c.serve_node.ensures.ends
+
+pub returns-in-Line-clause-ends : goal.returns-in-Line-clause-ends
+returns-in-Line-clause-ends g c =
+    let n = c.args.serial in
+    let v = g.D.Desk.seated c.args.desk.now in
+    let reply = c.in-Line.reply in
+    let f = c.send in
+    rw c.in-Line.is (act_ends (Line reply) n [] v v (grew_none v) (g.K.Sink.told c.args.sink.now) (g.K.Sink.told f.new.sink) (g.K.Sink.faults c.args.sink.now) (g.K.Sink.faults f.new.sink) f.result (c.as_slice.result.now ∷ []) refl (ap (λ (z : List ℕ). z ∷ []) c.as_slice.ensures) f.ensures.sends f.ensures.last)

@@ -1,0 +1,93 @@
+-- What items are answered. A call that dispatch answers itself is answered so, whatever the portal was
+-- asked ahead of it; what a host wasn't told yet, which would stand ahead of the answer, is nothing until
+-- the permission store is built.
+use Rattle.std.specs.Prelude.{◌≡◌, ℕ, ◌+◌, ◌==◌, List, [], ◌∷◌, ◌++◌, if◌then◌else◌, option_to_list}
+use Rattle.std.specs.List.{flat_map}
+use Rattle.portal_model.specs.declared.reply.Refused.{Refused}
+use Rattle.portal_model.specs.declared.request.Request.{Request}
+use Rattle.portal_model.specs.Seated.{Exchange}
+use Rattle.dbus_types.specs.declared.message.OutMessage.{OutMessage}
+use Rattle.dbus_message.specs.Written.{message_bytes}
+use Rattle.session.specs.declared.act.Act.{Act}
+use Rattle.session.specs.declared.act.Act.TheVariants.{Nothing, Line, Call, Node}
+use Rattle.session.specs.Asked.{asked_by}
+use Rattle.session.specs.Frames.{answer_frames, refusal_frames}
+
+-- ---- what became of requests
+
+-- a request is an entry with its reply, or is refused
+pub data Outcome : Type 0 where
+  Made : Exchange → Outcome
+  Denied : Request → Refused → Outcome
+
+-- the entries among outcomes
+abbrev pub kept : List Outcome → List Exchange
+kept [] = []
+kept (Made x ∷ os) = x ∷ kept os
+kept (Denied request why ∷ os) = kept os
+
+-- how many requests have no entry
+abbrev pub denied : List Outcome → ℕ
+denied [] = 0
+denied (Made x ∷ os) = denied os
+denied (Denied request why ∷ os) = denied os + 1
+
+abbrev pub IsOf : Request → Outcome → Type 0
+IsOf request (Made x) = x.entry.request ≡ request
+IsOf request (Denied asked why) = asked ≡ request
+
+-- each outcome is one of its request, in order
+abbrev pub AreOf : List Request → List Outcome → Type 0
+AreOf [] outcomes = outcomes ≡ []
+AreOf (r ∷ rs) outcomes = (o : Outcome) × (os : List Outcome) × (outcomes ≡ o ∷ os) × IsOf r o × AreOf rs os
+
+-- ---- messages
+
+-- A serial isn't 0 (D-Bus Specification, "Message Format"): after the last comes 1.
+abbrev pub serial_after : ℕ → ℕ
+serial_after serial = if serial == 4294967295 then 1 else serial + 1
+
+-- the messages behind a serial, each with the next serial as one piece
+abbrev pub spoken : ℕ → List OutMessage → List (List ℕ)
+spoken serial [] = []
+spoken serial (m ∷ ms) = message_bytes m (serial_after serial) ∷ spoken (serial_after serial) ms
+
+-- and the last serial
+abbrev pub last_spoken : ℕ → List OutMessage → ℕ
+last_spoken serial [] = serial
+last_spoken serial (m ∷ ms) = last_spoken (serial_after serial) ms
+
+-- ---- answers
+
+-- the frame of the reply or of the refusal
+abbrev pub frames_for : ℕ → Outcome → List (List ℕ)
+frames_for unique (Made x) = answer_frames unique x.reply.answer
+frames_for unique (Denied request why) = refusal_frames unique why
+
+-- the pieces that are written of what an item asks, behind a serial, with these outcomes
+abbrev pub pieces_of : Act → ℕ → List Outcome → List (List ℕ)
+pieces_of Nothing serial outcomes = []
+pieces_of (Line reply) serial outcomes = reply ∷ []
+pieces_of (Call reply collects) serial outcomes = spoken serial (option_to_list reply)
+pieces_of (Node unique request) serial outcomes = flat_map (frames_for unique) outcomes
+
+-- and the last serial
+abbrev pub serial_past : Act → ℕ → ℕ
+serial_past Nothing serial = serial
+serial_past (Line reply) serial = serial
+serial_past (Call reply collects) serial = last_spoken serial (option_to_list reply)
+serial_past (Node unique request) serial = serial
+
+-- What an item asks is asked and answered, with these outcomes: the pieces, and the last serial.
+pub record Gives (act : Act) (serial : ℕ) (outcomes : List Outcome) (pieces : List (List ℕ)) (last : ℕ) : Type 0 where
+  pub asked : AreOf (asked_by act) outcomes
+  pub said : pieces ≡ pieces_of act serial outcomes
+  pub serial_is : last ≡ serial_past act serial
+
+-- The same of items, one after another.
+abbrev pub Answers : ℕ → List Act → List Outcome → List (List ℕ) → ℕ → Type 0
+Answers serial [] outcomes pieces last = (outcomes ≡ []) × (pieces ≡ []) × (last ≡ serial)
+Answers serial (act ∷ acts) outcomes pieces last =
+    (os : List Outcome) × (us : List Outcome) × (ps : List (List ℕ)) × (qs : List (List ℕ)) × (mid : ℕ)
+    × (outcomes ≡ os ++ us) × (pieces ≡ ps ++ qs)
+    × Gives act serial os ps mid × Answers mid acts us qs last

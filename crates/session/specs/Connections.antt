@@ -1,0 +1,120 @@
+-- What a connection came to, of all that was read.
+use Rattle.std.specs.Prelude.{◌≡◌, ◌⊎◌, ℕ, ◌+◌, ◌<◌, ◌≤◌, List, [], ◌∷◌, ◌++◌, length}
+use Rattle.portal_base.specs.Outside.{behind, HasRisen, Short}
+use Rattle.portal_model.specs.declared.reply.Refused.{Refused}
+use Rattle.portal_model.specs.declared.reply.Refused.TheVariants as refused
+use Rattle.portal_model.specs.declared.request.Request.{Request}
+use Rattle.portal_model.specs.Seated.{Exchange, HasCause}
+use Rattle.session.specs.declared.act.Act.{Act}
+use Rattle.session.specs.declared.act.Client.{Client}
+use Rattle.session.specs.declared.served.Rest.{Rest}
+use Rattle.session.specs.declared.served.Rest.TheVariants as rest
+use Rattle.session.specs.declared.served.Served.{Served}
+use Rattle.session.specs.declared.served.Served.TheVariants as served
+use Rattle.session.specs.Cuts.{first_phase}
+use Rattle.session.specs.Items.{IsItem, AreItems, Items, joined, phase_after}
+use Rattle.session.specs.Answers.{Outcome, Made, Denied, Gives, Answers}
+use Rattle.session.specs.Ledger.{World, Grows}
+use Rattle.session.specs.Pumps.{Spring, IsDry}
+use Rattle.session.specs.Sessions.{enter, longest}
+
+-- the outcomes of Enter, of these requests, and of Leave
+abbrev pub between : Exchange → List Outcome → Exchange → List Outcome
+between entered outcomes left = Made entered ∷ (outcomes ++ Made left ∷ [])
+
+-- Enter and Leave are made.
+abbrev pub Encloses : Client → Exchange → Exchange → Type 0
+Encloses c entered left = (entered.entry.request ≡ enter c) × (left.entry.request ≡ Request.Leave)
+
+-- Between Enter and Leave all whole items of what was read are asked and answered, and behind them stands
+-- the rest, which is this.
+pub record Whole (c : Client) (read left : List ℕ) (what : Rest) (v w : World) : Type 0 where
+  pub entered : Exchange
+  pub leaving : Exchange
+  pub items : List (List ℕ)
+  pub acts : List Act
+  pub outcomes : List Outcome
+  pub pieces : List (List ℕ)
+  pub last : ℕ
+  pub cut : Items c (first_phase c.kind) read items acts left what
+  pub answers : Answers 0 acts outcomes pieces last
+  pub encloses : Encloses c entered leaving
+  pub grows : Grows v (between entered outcomes leaving) pieces w
+
+-- Between Enter and Leave some items of what was read are asked and answered, and nothing more is done.
+pub record Front (c : Client) (read : List ℕ) (v w : World) : Type 0 where
+  pub entered : Exchange
+  pub leaving : Exchange
+  pub items : List (List ℕ)
+  pub acts : List Act
+  pub after : List ℕ
+  pub outcomes : List Outcome
+  pub pieces : List (List ℕ)
+  pub last : ℕ
+  pub bytes : read ≡ joined items ++ after
+  pub each : AreItems c (first_phase c.kind) items acts
+  pub answers : Answers 0 acts outcomes pieces last
+  pub encloses : Encloses c entered leaving
+  pub grows : Grows v (between entered outcomes leaving) pieces w
+
+-- Between Enter and Leave some items of what was read are asked and answered, and then one more is asked,
+-- and answered in part.
+pub record Half (c : Client) (read : List ℕ) (v w : World) : Type 0 where
+  pub entered : Exchange
+  pub leaving : Exchange
+  pub items : List (List ℕ)
+  pub acts : List Act
+  pub outcomes : List Outcome
+  pub pieces : List (List ℕ)
+  pub mid : ℕ
+  pub item : List ℕ
+  pub act : Act
+  pub after : List ℕ
+  pub last_outcomes : List Outcome
+  pub last_pieces : List (List ℕ)
+  pub last : ℕ
+  pub written : List (List ℕ)
+  pub bytes : read ≡ joined items ++ (item ++ after)
+  pub each : AreItems c (first_phase c.kind) items acts
+  pub answers : Answers 0 acts outcomes pieces mid
+  pub is_item : IsItem c (phase_after c (first_phase c.kind) items) item act
+  pub gives : Gives act mid last_outcomes last_pieces last
+  pub short : Short written last_pieces
+  pub encloses : Encloses c entered leaving
+  pub grows : Grows v (between entered (outcomes ++ last_outcomes) leaving) (pieces ++ written) w
+
+-- Enter was refused so, and nothing else was done.
+abbrev pub IsRefused : Client → Refused → List ℕ → World → World → Type 0
+IsRefused c why read v w = (read ≡ []) × Grows v (Denied (enter c) why ∷ []) [] w × HasCause w.seated (enter c) why
+
+-- What each ending means: of what was read, of the source before and after, and of the desk and the sink
+-- before and after.
+abbrev pub EndsAs : Client → Served → List ℕ → Spring → Spring → World → World → Type 0
+-- the input ended between items
+EndsAs c served.Ended read a b v w = IsDry b × Whole c read [] rest.More v w
+-- the input ended inside one, of which so many bytes came
+EndsAs c (served.Cut n) read a b v w = IsDry b × (1 ≤ n) × ((left : List ℕ) × (length left ≡ n) × Whole c read left rest.More v w)
+-- the item at this byte breaks this rule first
+EndsAs c (served.Malformed at rule) read a b v w = (left : List ℕ) × (at + length left ≡ length read) × Whole c read left (rest.Bad rule) v w
+-- the line at this byte is too long
+EndsAs c (served.LineTooLong at) read a b v w = (left : List ℕ) × (at + length left ≡ length read) × Whole c read left rest.TooLong v w
+-- the item at this byte asks for a part that isn't built
+EndsAs c (served.Unbuilt at) read a b v w = (left : List ℕ) × (at + length left ≡ length read) × Whole c read left rest.Unbuilt v w
+-- a read failed, and all that was whole by then is answered
+EndsAs c served.ReadFault read a b v w = HasRisen a.faults b.faults × ((left : List ℕ) × Whole c read left rest.More v w)
+-- a write failed
+EndsAs c served.WriteFault read a b v w = HasRisen v.faults w.faults × Half c read v w
+-- a piece came with which there are too many bytes, and nothing of it is looked at
+EndsAs c served.Spent read a b v w = (longest < length read) × ((before : List ℕ) × (piece : List ℕ) × (left : List ℕ) × (read ≡ before ++ piece) × Whole c before left rest.More v w)
+-- the history has no room for Enter
+EndsAs c (served.Full cost limit) read a b v w = IsRefused c (refused.Full cost limit) read v w
+-- there was no memory: to ask Enter, for Enter, ahead of an item, or in its answer
+EndsAs c served.Memory read a b v w = (((read ≡ []) × (w ≡ v)) ⊎ IsRefused c refused.Memory read v w) ⊎ (Front c read v w ⊎ Half c read v w)
+
+-- What was read stood ahead of what is left, and the ending means what it says of it.
+abbrev pub Serves : Client → Served → Spring → Spring → World → World → Type 0
+Serves c r a b v w = (read : List ℕ) × (a.left ≡ behind read b.left) × (a.faults ≤ b.faults) × EndsAs c r read a b v w
+
+abbrev pub served_by : Refused → Served
+served_by refused.Memory = served.Memory
+served_by (refused.Full cost limit) = served.Full cost limit

@@ -1,0 +1,38 @@
+-- The frames that answer a request on a node (include/uapi/linux/fuse.h).
+use Rattle.std.specs.Prelude.{ℕ, List, [], Option, Some, None, option_to_list}
+use Rattle.fuse_reply.specs.Replies.{reply_of}
+use Rattle.portal_model.specs.declared.reply.Answer.{Answer}
+use Rattle.portal_model.specs.declared.reply.Answer.TheVariants as answer
+use Rattle.portal_model.specs.declared.reply.Code.{Code}
+use Rattle.portal_model.specs.declared.reply.Code.TheVariants.{Errno, NotHere}
+use Rattle.portal_model.specs.declared.reply.NodeAnswer.{NodeAnswer}
+use Rattle.portal_model.specs.declared.reply.NodeAnswer.TheVariants.{Error}
+use Rattle.portal_model.specs.declared.reply.Refused.{Refused}
+use Rattle.portal_model.specs.declared.reply.Refused.TheVariants.{Memory, Full}
+
+-- what a frame tells of an answer; a seat without an open connection is told nothing
+abbrev pub told_code : Code → Option NodeAnswer
+told_code (Errno errno) = Some (Error errno)
+told_code NotHere = None
+
+abbrev pub told_of : Answer → Option NodeAnswer
+told_of answer.Done = None
+told_of (answer.Refused code) = told_code code
+told_of (answer.Node told) = Some told
+
+abbrev pub frames_telling : ℕ → Option NodeAnswer → List (List ℕ)
+frames_telling unique None = []
+frames_telling unique (Some told) = option_to_list (reply_of unique told)
+
+-- the frame, if any, that tells an answer to the request of this number
+abbrev pub answer_frames : ℕ → Answer → List (List ℕ)
+answer_frames unique answered = frames_telling unique (told_of answered)
+
+-- ENOMEM, and ENOSPC
+abbrev pub refusal_errno : Refused → ℕ
+refusal_errno Memory = 12
+refusal_errno (Full cost limit) = 28
+
+-- the frame that tells that the request of this number is no entry of the history
+abbrev pub refusal_frames : ℕ → Refused → List (List ℕ)
+refusal_frames unique why = frames_telling unique (Some (Error (refusal_errno why)))

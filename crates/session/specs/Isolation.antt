@@ -1,0 +1,18 @@
+-- What an application is served.
+use Rattle.std.specs.Prelude.{◌≡◌, ℕ, ◌≤◌, List, ◌∷◌, ◌++◌, length, true, Some, slice_get}
+use Rattle.portal_base.specs.declared.who.Who.{Who}
+use Rattle.portal_model.specs.declared.entry.Entry.{Entry}
+use Rattle.portal_model.specs.History.{run, replies}
+use Rattle.portal_model.specs.Seated.{Seated}
+use Rattle.portal_model.specs.Step.{reply_at}
+use Rattle.portal_model.specs.World.{app_run, trace}
+
+-- What is replied to an entry of a history from which an application's seat entered is what the
+-- application's own machine replies over its trace, at the entry's place among all that it makes.
+abbrev pub IsServed : List ℕ → Seated → Seated → Type 0
+IsServed app v w = (front after : List Entry) (e : Entry) → w.seen ≡ front ++ e ∷ after → length v.seen ≤ length front → e.seat ≡ w.seat
+    → slice_get (app_run (trace app w.opening w.seen)) (length (replies app w.opening front)) ≡ Some (reply_at (run w.opening front) e)
+
+-- of the client of a connection, where it is an application and the tree tells its files
+abbrev pub IsIsolated : Who → Seated → Seated → Type 0
+IsIsolated who v w = (app : List ℕ) → who ≡ Who.App app → w.opening.told ≡ true → IsServed app v w

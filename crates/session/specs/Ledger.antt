@@ -1,0 +1,151 @@
+-- What is done of a stream at a desk and a sink.
+use Rattle.std.specs.Prelude.{◌≡◌, ◌⊎◌, ℕ, ◌+◌, ◌<◌, ◌≤◌, List, [], ◌∷◌, ◌++◌, length, take, drop, Option, Some, None, Result, Ok, Err}
+use Rattle.portal_base.specs.Outside.{onto, HasRisen, Short}
+use Rattle.portal_model.specs.declared.reply.Refused.{Refused}
+use Rattle.portal_model.specs.declared.reply.Refused.TheVariants as refused
+use Rattle.portal_model.specs.declared.request.Request.{Request}
+use Rattle.portal_model.specs.History.{cost, cost_of}
+use Rattle.portal_model.specs.Seated.{Seated, Moved, rises_by}
+use Rattle.session.specs.declared.act.Act.{Act}
+use Rattle.session.specs.declared.act.Client.{Client}
+use Rattle.session.specs.declared.act.ItemError.TheVariants.{Breaks, Unbuilt}
+use Rattle.session.specs.declared.phase.Cut.TheVariants as cut
+use Rattle.session.specs.declared.phase.Phase.{Phase}
+use Rattle.session.specs.declared.serve.Run.{Run}
+use Rattle.session.specs.declared.serve.Stage.{Stage}
+use Rattle.session.specs.declared.served.Halt.{Halt}
+use Rattle.session.specs.declared.served.Halt.TheVariants.{WriteFault, Memory}
+use Rattle.session.specs.declared.served.Rest.{Rest}
+use Rattle.session.specs.declared.served.Rest.TheVariants as rest
+use Rattle.session.specs.Cuts.{Cuts, next_phase}
+use Rattle.session.specs.Asked.{Means}
+use Rattle.session.specs.Items.{IsItem, AreItems, Remains, joined, phase_after}
+use Rattle.session.specs.Answers.{Outcome, Made, Denied, kept, denied, AreOf, Gives, Answers}
+
+-- ---- the desk and the sink
+
+-- where a refusal names the limit, it is the desk's, and what was seen in the end and the request pass it
+abbrev pub IsPassed : Seated → Request → Refused → Type 0
+IsPassed w request refused.Memory = Unit {0}
+IsPassed w request (refused.Full now limit) = (limit ≡ w.opening.limits.history) × (limit < cost w.seen + cost_of request)
+
+abbrev pub AreCaused : Seated → List Outcome → Type 0
+AreCaused w [] = Unit {0}
+AreCaused w (Made x ∷ os) = AreCaused w os
+AreCaused w (Denied request why ∷ os) = IsPassed w request why × AreCaused w os
+
+-- From one state of a desk to another there came these outcomes, and no others: the seat's own entries
+-- grew by those that were made, and the count of refusals rose by the others.
+pub record Grew (v : Seated) (outcomes : List Outcome) (w : Seated) : Type 0 where
+  pub moved : Moved v w
+  pub mine : w.mine ≡ v.mine ++ kept outcomes
+  pub refusals : w.refusals ≡ rises_by v.refusals (denied outcomes)
+  pub caused : AreCaused w outcomes
+
+-- a desk, and what a sink tells with its count of faults
+pub record World : Type 0 where
+  pub seated : Seated
+  pub told : Option (List (List ℕ))
+  pub faults : ℕ
+
+abbrev pub world : Seated → Option (List (List ℕ)) → ℕ → World
+world seated told faults = record { seated = seated; told = told; faults = faults }
+
+-- from one world to another there came these outcomes at the desk, and these pieces at the sink
+pub record Grows (v : World) (outcomes : List Outcome) (pieces : List (List ℕ)) (w : World) : Type 0 where
+  pub desk : Grew v.seated outcomes w.seated
+  pub told : w.told ≡ onto v.told pieces
+  pub faults : v.faults ≤ w.faults
+
+-- ---- pieces
+
+-- these pieces are written in part, since a write failed or there was no memory
+abbrev pub SendsPart : List (List ℕ) → Halt → Option (List (List ℕ)) → ℕ → Option (List (List ℕ)) → ℕ → Type 0
+SendsPart pieces WriteFault told faults told' faults' = (written : List (List ℕ)) × Short written pieces × (told' ≡ onto told written) × (faults ≤ faults') × HasRisen faults faults'
+SendsPart pieces Memory told faults told' faults' = (written : List (List ℕ)) × Short written pieces × (told' ≡ onto told written) × (faults ≤ faults')
+
+-- how writing these pieces ended
+abbrev pub Sends : {X : Type 0} → List (List ℕ) → Result X Halt → Option (List (List ℕ)) → ℕ → Option (List (List ℕ)) → ℕ → Type 0
+Sends pieces (Ok x) told faults told' faults' = (told' ≡ onto told pieces) × (faults ≤ faults')
+Sends pieces (Err halt) told faults told' faults' = SendsPart pieces halt told faults told' faults'
+
+-- these requests, and no others, were asked at a desk
+abbrev pub Collected : List Request → Seated → Seated → Type 0
+Collected requests v w = (outcomes : List Outcome) × AreOf requests outcomes × Grew v outcomes w
+
+-- ---- one item
+
+-- What an item asks was asked, and its answer is written in part.
+pub record Halted (act : Act) (serial : ℕ) (v w : World) : Type 0 where
+  pub outcomes : List Outcome
+  pub pieces : List (List ℕ)
+  pub written : List (List ℕ)
+  pub last : ℕ
+  pub gives : Gives act serial outcomes pieces last
+  pub grows : Grows v outcomes written w
+  pub short : Short written pieces
+
+-- how asking and answering ended
+abbrev pub ActEnds : Result ℕ Halt → Act → ℕ → World → World → Type 0
+ActEnds (Ok last) act serial v w = (outcomes : List Outcome) × (pieces : List (List ℕ)) × Gives act serial outcomes pieces last × Grows v outcomes pieces w
+ActEnds (Err WriteFault) act serial v w = Halted act serial v w × HasRisen v.faults w.faults
+ActEnds (Err Memory) act serial v w = Halted act serial v w
+
+-- what a whole item that asks nothing is
+abbrev pub Declines : Client → Phase → List ℕ → Rest → Type 0
+Declines c p item rest.More = ⊥
+Declines c p item (rest.Bad rule) = Means c p item (Err (Breaks rule))
+Declines c p item rest.TooLong = ⊥
+Declines c p item rest.Unbuilt = Means c p item (Err Unbuilt)
+
+-- an item was read, and then asking and answering it ended so
+abbrev pub HaltsAt : Client → Halt → Stage → World → List ℕ → World → Type 0
+HaltsAt c halt s v item w = (act : Act) × Means c s.phase item (Ok act) × ActEnds (Err halt) act s.serial v w
+
+-- how one whole item ended
+abbrev pub ItemEnds : Client → Result (Option Rest) Halt → Stage → World → List ℕ → Stage → World → Type 0
+ItemEnds c (Ok None) s v item t w = (act : Act) × Means c s.phase item (Ok act) × (t.phase ≡ next_phase c s.phase item) × ActEnds (Ok t.serial) act s.serial v w
+ItemEnds c (Ok (Some what)) s v item t w = Declines c s.phase item what × (t ≡ s) × (w ≡ v)
+ItemEnds c (Err WriteFault) s v item t w = HaltsAt c WriteFault s v item w
+ItemEnds c (Err Memory) s v item t w = (w ≡ v) ⊎ HaltsAt c Memory s v item w
+
+-- ---- items
+
+-- These bytes were items, and each is asked and answered.
+pub record Did (c : Client) (s : Stage) (v : World) (bytes : List ℕ) (t : Stage) (w : World) : Type 0 where
+  pub items : List (List ℕ)
+  pub acts : List Act
+  pub outcomes : List Outcome
+  pub pieces : List (List ℕ)
+  pub bytes_are : bytes ≡ joined items
+  pub each : AreItems c s.phase items acts
+  pub phase : t.phase ≡ phase_after c s.phase items
+  pub answers : Answers s.serial acts outcomes pieces t.serial
+  pub grows : Grows v outcomes pieces w
+
+-- These bytes begin with items that are asked and answered, and then one that is asked, and answered in part.
+pub record Broke (c : Client) (s : Stage) (v : World) (bytes : List ℕ) (w : World) : Type 0 where
+  pub front : List ℕ
+  pub item : List ℕ
+  pub after : List ℕ
+  pub mid : Stage
+  pub then : World
+  pub act : Act
+  pub bytes_are : bytes ≡ front ++ (item ++ after)
+  pub did : Did c s v front mid then
+  pub is_item : IsItem c mid.phase item act
+  pub halted : Halted act mid.serial then w
+
+-- These bytes begin with items that are asked and answered, and nothing more is done.
+pub record Began (c : Client) (s : Stage) (v : World) (bytes : List ℕ) (w : World) : Type 0 where
+  pub front : List ℕ
+  pub after : List ℕ
+  pub mid : Stage
+  pub bytes_are : bytes ≡ front ++ after
+  pub did : Did c s v front mid w
+
+-- how a run over bytes ended
+abbrev pub Stops : Client → Result Run Halt → Stage → World → List ℕ → Stage → World → Type 0
+Stops c (Ok run) s v bytes t w = (run.len ≤ length bytes) × Did c s v (take run.len bytes) t w × Remains c t.phase (drop run.len bytes) run.rest
+Stops c (Err WriteFault) s v bytes t w = Broke c s v bytes w × HasRisen v.faults w.faults
+Stops c (Err Memory) s v bytes t w = Began c s v bytes w ⊎ Broke c s v bytes w

@@ -1,0 +1,12 @@
+pub mod Cuts
+pub mod Asked
+pub mod Items
+pub mod Frames
+pub mod Answers
+pub mod Ledger
+pub mod Standings
+pub mod Sessions
+pub mod Pumps
+pub mod Connections
+pub mod Isolation
+pub mod Laws

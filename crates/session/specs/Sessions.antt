@@ -1,0 +1,121 @@
+-- What the calls of a session do.
+use Rattle.std.specs.Prelude.{◌≡◌, ◌⊎◌, ℕ, ◌+◌, ◌^◌, ◌<◌, ◌≤◌, List, [], ◌∷◌, ◌++◌, length, Some, Result, Ok, Err, IfOk}
+use Rattle.portal_base.specs.Outside.{HasRisen}
+use Rattle.portal_base.specs.declared.who.Kind.{Kind}
+use Rattle.portal_base.specs.declared.who.Who.{Who}
+use Rattle.portal_model.specs.declared.reply.Refused.{Refused}
+use Rattle.portal_model.specs.declared.reply.Refused.TheVariants as refused
+use Rattle.portal_model.specs.declared.reply.Reply.{Reply}
+use Rattle.portal_model.specs.declared.request.Request.{Request}
+use Rattle.portal_model.specs.Seated.{Seated, Asks, Binding, bound, state_seen}
+use Rattle.session.specs.declared.act.Client.{Client}
+use Rattle.session.specs.declared.served.Fed.{Fed}
+use Rattle.session.specs.declared.served.Fed.TheVariants as fed
+use Rattle.session.specs.declared.served.Halt.{Halt}
+use Rattle.session.specs.declared.served.Halt.TheVariants as halt
+use Rattle.session.specs.declared.served.Rest.{Rest}
+use Rattle.session.specs.declared.served.Rest.TheVariants as rest
+use Rattle.session.specs.declared.served.Served.{Served}
+use Rattle.session.specs.declared.served.Served.TheVariants as served
+use Rattle.session.specs.Items.{Remains}
+use Rattle.session.specs.Ledger.{World, Did, Broke, Began}
+use Rattle.session.specs.Standings.{Standing, fresh}
+
+-- how many bytes a connection may have
+abbrev pub longest : ℕ
+longest = 2 ^ 40
+
+-- in the state that the desk has seen, its seat has an open connection, which is bound so
+abbrev pub IsBound : Who → Kind → Seated → Type 0
+IsBound who kind d = bound (state_seen d) d.seat ≡ Some (record { who = who; kind = kind })
+
+abbrev pub IsOpen : Client → Seated → Type 0
+IsOpen c d = IsBound c.who c.kind d
+
+-- ---- begin
+
+abbrev pub enter : Client → Request
+enter c = Request.Enter c.who c.kind
+
+-- Enter is asked, or there is no memory to ask it.
+abbrev pub Enters : {X : Type 0} → Who → Kind → Seated → Result X Refused → Seated → Type 0
+Enters who kind v (Ok x) w = (reply : Reply) × Asks v (Request.Enter who kind) (Ok reply) w
+Enters who kind v (Err why) w = ((why ≡ refused.Memory) × (w ≡ v)) ⊎ Asks v (Request.Enter who kind) (Err why) w
+
+-- and where it is answered, the session is one before its first byte
+abbrev pub Opens : Client → Seated → Result Standing Refused → Seated → Type 0
+Opens c v result w = Enters c.who c.kind v result w × IfOk result (λ s. s ≡ fresh c)
+
+-- ---- feed
+
+-- Of the rest and the piece the whole items are asked and answered, and behind them stands this.
+pub record TakesUpTo (what : Rest) (s : Standing) (v : World) (piece : List ℕ) (t : Standing) (w : World) : Type 0 where
+  pub taken : List ℕ
+  pub bytes : s.rest ++ piece ≡ taken ++ t.rest
+  pub before : t.before ≡ s.before + length taken
+  pub did : Did s.client s.stage v taken t.stage w
+  pub remains : Remains s.client t.stage.phase t.rest what
+  pub client : t.client ≡ s.client
+  pub room : t.before + length t.rest ≤ longest
+
+-- what a piece is told to have come to is what the session goes on to answer
+abbrev pub Keeps : Standing → Fed → Standing → Type 0
+Keeps s r t = (t.fed ≡ r) × (t.client ≡ s.client)
+
+-- The ends that a piece alone can bring.
+abbrev pub FeedsOver : Standing → World → List ℕ → Served → Standing → World → Type 0
+FeedsOver s v piece (served.Malformed at rule) t w = TakesUpTo (rest.Bad rule) s v piece t w × (at ≡ t.before)
+FeedsOver s v piece (served.LineTooLong at) t w = TakesUpTo rest.TooLong s v piece t w × (at ≡ t.before)
+FeedsOver s v piece (served.Unbuilt at) t w = TakesUpTo rest.Unbuilt s v piece t w × (at ≡ t.before)
+FeedsOver s v piece served.Spent t w = (longest < s.before + length s.rest + length piece) × (w ≡ v)
+FeedsOver s v piece served.Ended t w = ⊥
+FeedsOver s v piece (served.Cut n) t w = ⊥
+FeedsOver s v piece served.ReadFault t w = ⊥
+FeedsOver s v piece served.WriteFault t w = ⊥
+FeedsOver s v piece (served.Full cost limit) t w = ⊥
+FeedsOver s v piece served.Memory t w = ⊥
+
+abbrev pub FeedsOpen : Standing → World → List ℕ → Fed → Standing → World → Type 0
+FeedsOpen s v piece fed.More t w = TakesUpTo rest.More s v piece t w × Keeps s fed.More t
+FeedsOpen s v piece (fed.Over ending) t w = FeedsOver s v piece ending t w × Keeps s (fed.Over ending) t
+FeedsOpen s v piece fed.WriteFault t w = Broke s.client s.stage v (s.rest ++ piece) w × HasRisen v.faults w.faults × Keeps s fed.WriteFault t
+FeedsOpen s v piece fed.Memory t w = (Began s.client s.stage v (s.rest ++ piece) w ⊎ Broke s.client s.stage v (s.rest ++ piece) w) × Keeps s fed.Memory t
+
+-- the same is answered again, and nothing is done
+abbrev pub Stays : Standing → World → Fed → Fed → Standing → World → Type 0
+Stays s v before r t w = (r ≡ before) × (t ≡ s) × (w ≡ v)
+
+-- By what the last piece came to.
+abbrev pub Feeds : Fed → Standing → World → List ℕ → Fed → Standing → World → Type 0
+Feeds fed.More s v piece r t w = FeedsOpen s v piece r t w
+Feeds (fed.Over ending) s v piece r t w = Stays s v (fed.Over ending) r t w
+Feeds fed.WriteFault s v piece r t w = Stays s v fed.WriteFault r t w
+Feeds fed.Memory s v piece r t w = Stays s v fed.Memory r t w
+
+-- what bytes came to behind whose whole items this stands, at this byte of the stream
+abbrev pub fed_of : ℕ → Rest → Fed
+fed_of at rest.More = fed.More
+fed_of at (rest.Bad rule) = fed.Over (served.Malformed at rule)
+fed_of at rest.TooLong = fed.Over (served.LineTooLong at)
+fed_of at rest.Unbuilt = fed.Over (served.Unbuilt at)
+
+abbrev pub halted : Halt → Fed
+halted halt.WriteFault = fed.WriteFault
+halted halt.Memory = fed.Memory
+
+-- ---- end
+
+-- how a connection ends whose input ends behind this rest
+abbrev pub ending_at : List ℕ → Served
+ending_at [] = served.Ended
+ending_at (b ∷ bs) = served.Cut (length (b ∷ bs))
+
+abbrev pub ending : Fed → List ℕ → Served
+ending fed.More left = ending_at left
+ending (fed.Over met) left = met
+ending fed.WriteFault left = served.WriteFault
+ending fed.Memory left = served.Memory
+
+-- Leave is asked, and is not refused
+abbrev pub Closes : Standing → Seated → Served → Seated → Type 0
+Closes s v r w = (r ≡ ending s.fed s.rest) × ((reply : Reply) × Asks v Request.Leave (Ok reply) w)

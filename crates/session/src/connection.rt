@@ -1,0 +1,110 @@
+//! Serving one connection over a source and a sink.
+
+ghost use Rattle.std.specs.Prelude.{◌≡◌, false};
+ghost use Rattle.portal_model.specs.Seated.{Known, is_open, state_seen};
+ghost use Rattle.session.specs.Ledger.{world};
+ghost use Rattle.session.specs.Standings.{client, fresh};
+ghost use Rattle.session.specs.Pumps.{spring, Pumps};
+ghost use Rattle.session.specs.Sessions.{IsOpen};
+ghost use Rattle.session.specs.Connections.{Serves, served_by};
+ghost use Rattle.session.specs.Isolation.{IsIsolated};
+
+use crate::serve::front;
+use crate::served::{Fed, Served};
+use crate::session::Session;
+use portal_base::limits::Settings;
+use portal_base::outside::{ReadAnswer, Sink, Source};
+use portal_base::who::{Kind, Who};
+use portal_model::desk::Desk;
+use portal_model::reply::Refused;
+use std::alloc::Global;
+
+/// How many bytes are asked of the source at a time.
+const PIECE: usize = 4096;
+
+/// Why no more pieces are read.
+#[derive(Clone, Copy, Debug, PartialEq, Eq)]
+pub enum Pumped {
+    /// The source ended.
+    End,
+    /// A read failed.
+    Fault,
+    /// The session is over.
+    Over,
+}
+
+/// Feeds each piece to the session as it comes, before the next is read.
+fn pump<D: Desk, S: Source, K: Sink>(
+    alloc: Global,
+    session: &mut Session,
+    desk: &mut D,
+    source: &mut S,
+    sink: &mut K,
+) -> Pumped
+    requires { session.old ≡ fresh session.old.client }
+    ensures pumps { Pumps session.old.client result (spring (S.left source.old) (S.faults source.old)) (spring (S.left source.new) (S.faults source.new)) (world (D.seated desk.old) (K.told sink.old) (K.faults sink.old)) session.new (world (D.seated desk.new) (K.told sink.new) (K.faults sink.new)) }
+    ensures stays_open { IsOpen session.old.client (D.seated desk.old) → IsOpen session.old.client (D.seated desk.new) }
+    ensures goes { D.goes desk.old desk.new }
+{
+    let mut buffer = [0; PIECE];
+    'pieces: loop {
+        match source.read(&mut buffer) {
+            ReadAnswer::End => return Pumped::End,
+            ReadAnswer::Failed => return Pumped::Fault,
+            ReadAnswer::Got(len) => match session.feed(alloc, desk, front(&buffer, len), sink) {
+                Fed::More => {}
+                _ => return Pumped::Over,
+            },
+        }
+    }
+}
+
+/// Serves one connection from Enter to Leave.
+///
+/// Every item is asked and answered as soon as it is whole: an answer is
+/// written before the next piece is read. The desk's seat has no open
+/// connection.
+pub fn serve_connection<D: Desk, S: Source, K: Sink>(
+    alloc: Global,
+    desk: &mut D,
+    who: &Who,
+    kind: Kind,
+    settings: &Settings,
+    source: &mut S,
+    sink: &mut K,
+) -> Served
+    requires { is_open (state_seen (D.seated desk.old)) (D.seated desk.old).seat ≡ false }
+    // What the ending means: which items were read, asked and answered.
+    ensures serves { Serves (client who.now kind settings.now) result (spring (S.left source.old) (S.faults source.old)) (spring (S.left source.new) (S.faults source.new)) (world (D.seated desk.old) (K.told sink.old) (K.faults sink.old)) (world (D.seated desk.new) (K.told sink.new) (K.faults sink.new)) }
+    // The history that the desk sees is legal, and the seat's entries in it are its own.
+    ensures known { Known (D.seated desk.new) }
+    // What an application is replied is a function of its trace.
+    ensures isolated { IsIsolated who.now (D.seated desk.old) (D.seated desk.new) }
+    ensures goes { D.goes desk.old desk.new }
+{
+    desk.known();
+    let mut session = match Session::begin(alloc, desk, who, kind, settings) {
+        Ok(session) => session,
+        Err(refused) => {
+            desk.known();
+            return refused_ending(refused);
+        }
+    };
+    let pumped = pump(alloc, &mut session, desk, source, sink);
+    let served = session.end(alloc, desk);
+    desk.known();
+    match pumped {
+        Pumped::Fault => Served::ReadFault,
+        _ => served,
+    }
+}
+
+/// How a connection ends whose Enter is refused.
+fn refused_ending(refused: Refused) -> Served
+    ensures { result ≡ served_by refused }
+{
+    match refused {
+        Refused::Memory => Served::Memory,
+        Refused::Full { cost, limit } => Served::Full { cost, limit },
+    }
+}

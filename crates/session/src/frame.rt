@@ -1,0 +1,68 @@
+//! The frames that answer a request on a node.
+
+ghost use Rattle.std.specs.Prelude.{◌≡◌, IfOk, option_to_list};
+ghost use Rattle.session.specs.Frames.{told_of, answer_frames, refusal_errno, refusal_frames};
+
+use fuse_reply::reply::write_reply;
+use portal_base::list::ByteList;
+use portal_base::memory::WantOfMemory;
+use portal_model::reply::{Answer, Code, NodeAnswer, Refused};
+use std::alloc::Global;
+
+/// Want of memory, by the number that the kernel's headers give it.
+const ENOMEM: u32 = 12;
+
+/// No space is left, by the number that the kernel's headers give it.
+const ENOSPC: u32 = 28;
+
+/// The frame that tells an answer to the request of this number, or `None`
+/// where nothing is told.
+pub fn answer_frame(
+    alloc: Global,
+    unique: u64,
+    answer: &Answer,
+) -> Result<Option<ByteList>, WantOfMemory>
+    ensures { IfOk result (λ frame. option_to_list frame ≡ answer_frames unique answer.now) }
+{
+    match told_of(answer) {
+        Some(told) => write_reply(alloc, unique, &told),
+        None => Ok(None),
+    }
+}
+
+/// The frame that tells that the request of this number is no entry of the
+/// history.
+pub fn refusal_frame(
+    alloc: Global,
+    unique: u64,
+    refused: Refused,
+) -> Result<Option<ByteList>, WantOfMemory>
+    ensures { IfOk result (λ frame. option_to_list frame ≡ refusal_frames unique refused) }
+{
+    let told = NodeAnswer::Error {
+        errno: errno_of(refused),
+    };
+    write_reply(alloc, unique, &told)
+}
+
+fn errno_of(refused: Refused) -> u32
+    ensures { result ≡ refusal_errno refused }
+{
+    match refused {
+        Refused::Memory => ENOMEM,
+        Refused::Full { .. } => ENOSPC,
+    }
+}
+
+/// What a frame tells of an answer. No connection that is open meets an answer
+/// of which nothing is told.
+fn told_of(answer: &Answer) -> Option<NodeAnswer>
+    ensures { result ≡ told_of answer.now }
+{
+    match answer {
+        Answer::Node(answer) => Some(*answer),
+        Answer::Refused(Code::Errno(errno)) => Some(NodeAnswer::Error { errno: *errno }),
+        Answer::Refused(Code::NotHere) => None,
+        Answer::Done => None,
+    }
+}

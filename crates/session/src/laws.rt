@@ -1,0 +1,34 @@
+//! Laws of streams and answers, for the crates that stand on this one.
+//!
+//! Each function does nothing; its contract is the law.
+
+ghost use Rattle.session.specs.Laws.{AreOne, AreCutAlike, AnswerAsked, SayAlike, ShortBegins};
+
+/// The whole items of a stream, what they ask and the rest behind them are
+/// one.
+pub fn items_are_one()
+    ensures { AreOne }
+{}
+
+/// What is cut piece by piece, each behind the rest of those before, are the
+/// items of all pieces together, and no others.
+pub fn pieces_cut_alike()
+    ensures { AreCutAlike }
+{}
+
+/// The outcomes of answers are those of what the items ask, each once, in
+/// order.
+pub fn answers_are_of_what_is_asked()
+    ensures { AnswerAsked }
+{}
+
+/// What is written is a function of what the items ask and of what became of
+/// these requests.
+pub fn outcomes_say_alike()
+    ensures { SayAlike }
+{}
+
+/// What is written in part is a prefix of the whole.
+pub fn a_part_is_a_prefix()
+    ensures { ShortBegins }
+{}

@@ -1,0 +1,244 @@
+//! Asking and answering the items of a stream.
+
+ghost use Rattle.std.specs.Prelude.{◌≡◌, ℕ, List, ◌≤◌, ◌∷◌, [], length, take, drop, option_to_list, IfOk, IfSome};
+ghost use Rattle.session.specs.Asked.{collect_requests, IsWritable, MayAnswer};
+ghost use Rattle.session.specs.Answers.{last_spoken, serial_after, spoken};
+ghost use Rattle.session.specs.declared.phase.Cut.TheVariants.{Whole};
+ghost use Rattle.session.specs.Cuts.{Cuts};
+ghost use Rattle.session.specs.Ledger.{world, Sends, ActEnds, Collected, ItemEnds, Stops};
+
+use crate::act::{Act, Client, ItemError};
+use crate::frame::{answer_frame, refusal_frame};
+use crate::item::read_item;
+use crate::phase::{Cut, Phase, next_cut};
+use crate::served::{Halt, Rest};
+use dbus_message::write::write_message;
+use dbus_types::message::OutMessage;
+use portal_base::list::ByteList;
+use portal_base::memory::WantOfMemory;
+use portal_base::outside::{Sink, WriteAnswer};
+use portal_model::desk::Desk;
+use portal_model::request::{NodeRequest, Request};
+use std::alloc::Global;
+
+/// How far a stream has come.
+#[derive(Debug, Drop)]
+pub struct Stage {
+    /// What is due next.
+    pub phase: Phase,
+    /// The serial of the last message that was written, 0 before the first.
+    pub serial: u32,
+}
+
+/// How far the whole items of some bytes reach, and what stands behind them.
+#[derive(Clone, Copy, Debug, PartialEq, Eq)]
+pub struct Run {
+    /// The length of the items together, in bytes.
+    pub len: usize,
+    /// What stands behind them.
+    pub rest: Rest,
+}
+
+/// The serial of the message behind one with this serial (D-Bus Specification,
+/// "Message Format": a serial isn't 0).
+pub fn serial_after(serial: u32) -> u32
+    ensures { result ≡ serial_after serial }
+{
+    if serial == u32::MAX { 1 } else { serial + 1 }
+}
+
+/// Writes one piece, and answers this serial.
+fn send<K: Sink>(sink: &mut K, piece: &[u8], serial: u32) -> Result<u32, Halt>
+    ensures sends { Sends (piece.now ∷ []) result (K.told sink.old) (K.faults sink.old) (K.told sink.new) (K.faults sink.new) }
+    ensures last { IfOk result (λ last. last ≡ serial) }
+{
+    match sink.write(piece) {
+        WriteAnswer::Done => Ok(serial),
+        WriteAnswer::Failed => Err(Halt::WriteFault),
+    }
+}
+
+/// Writes a frame as one piece, where there is one, and answers the last serial,
+/// which it leaves.
+fn send_frame<K: Sink>(
+    serial: u32,
+    frame: Result<Option<ByteList>, WantOfMemory>,
+    sink: &mut K,
+) -> Result<u32, Halt>
+    ensures sends { (pieces : List (List ℕ)) → IfOk frame (λ f. option_to_list f ≡ pieces)
+        → Sends pieces result (K.told sink.old) (K.faults sink.old) (K.told sink.new) (K.faults sink.new) }
+    ensures last { IfOk result (λ last. last ≡ serial) }
+{
+    let Ok(frame) = frame else {
+        return Err(Halt::Memory);
+    };
+    let Some(frame) = frame else {
+        return Ok(serial);
+    };
+    send(sink, frame.as_slice(), serial)
+}
+
+/// Writes a message with the next serial as one piece, where there is one, and
+/// answers the last serial.
+fn send_message<K: Sink>(
+    alloc: Global,
+    serial: u32,
+    message: &Option<OutMessage>,
+    sink: &mut K,
+) -> Result<u32, Halt>
+    requires { IfSome message.now IsWritable }
+    ensures sends { Sends (spoken serial (option_to_list message.now)) result (K.told sink.old) (K.faults sink.old) (K.told sink.new) (K.faults sink.new) }
+    ensures last { IfOk result (λ last. last ≡ last_spoken serial (option_to_list message.now)) }
+{
+    let Some(message) = message else {
+        return Ok(serial);
+    };
+    let next = serial_after(serial);
+    let Ok(bytes) = write_message(alloc, message, next) else {
+        return Err(Halt::Memory);
+    };
+    send(sink, bytes.as_slice(), next)
+}
+
+/// Asks for what the host was not told yet. A refusal leaves it untold.
+fn collect<D: Desk>(alloc: Global, collects: bool, desk: &mut D)
+    ensures asked { Collected (collect_requests collects) (D.seated desk.old) (D.seated desk.new) }
+    ensures goes { D.goes desk.old desk.new }
+{
+    if collects {
+        let _ = desk.ask(alloc, Request::Collect);
+    }
+}
+
+/// Asks a request on a node, and answers it.
+fn serve_node<D: Desk, K: Sink>(
+    alloc: Global,
+    unique: u64,
+    request: NodeRequest,
+    serial: u32,
+    desk: &mut D,
+    sink: &mut K,
+) -> Result<u32, Halt>
+    ensures ends { ActEnds result (Act.Node unique request) serial (world (D.seated desk.old) (K.told sink.old) (K.faults sink.old)) (world (D.seated desk.new) (K.told sink.new) (K.faults sink.new)) }
+    ensures goes { D.goes desk.old desk.new }
+{
+    match desk.ask(alloc, Request::Node(request)) {
+        Ok(reply) => send_frame(serial, answer_frame(alloc, unique, &reply.answer), sink),
+        Err(refused) => send_frame(serial, refusal_frame(alloc, unique, refused), sink),
+    }
+}
+
+/// Asks what an item asks and answers it, behind this serial. Answers the last
+/// serial.
+pub fn serve_act<D: Desk, K: Sink>(
+    alloc: Global,
+    act: &Act,
+    serial: u32,
+    desk: &mut D,
+    sink: &mut K,
+) -> Result<u32, Halt>
+    requires { MayAnswer act.now }
+    ensures ends { ActEnds result act.now serial (world (D.seated desk.old) (K.told sink.old) (K.faults sink.old)) (world (D.seated desk.new) (K.told sink.new) (K.faults sink.new)) }
+    ensures goes { D.goes desk.old desk.new }
+{
+    match act {
+        Act::Nothing => Ok(serial),
+        Act::Line { reply } => send(sink, reply.as_slice(), serial),
+        Act::Call { reply, collects } => {
+            collect(alloc, *collects, desk);
+            send_message(alloc, serial, reply, sink)
+        }
+        Act::Node { unique, request } => {
+            serve_node(alloc, *unique, *request, serial, desk, sink)
+        }
+    }
+}
+
+/// The bytes from an index on.
+fn behind(bytes: &[u8], at: usize) -> &[u8]
+    requires { at ≤ length bytes.now }
+    ensures { result.now ≡ drop at bytes.now }
+{
+    &bytes[at..]
+}
+
+/// The first `len` bytes.
+pub fn front(bytes: &[u8], len: usize) -> &[u8]
+    requires { len ≤ length bytes.now }
+    ensures { result.now ≡ take len bytes.now }
+{
+    &bytes[..len]
+}
+
+/// Asks and answers one whole item. Where it asks nothing, says why, and all
+/// stays as it was.
+fn serve_item<D: Desk, K: Sink>(
+    alloc: Global,
+    client: &Client,
+    stage: &mut Stage,
+    item: &[u8],
+    desk: &mut D,
+    sink: &mut K,
+) -> Result<Option<Rest>, Halt>
+    requires { Cuts stage.old.phase item.now (Whole (length item.now)) }
+    ensures ends { ItemEnds client.now result stage.old (world (D.seated desk.old) (K.told sink.old) (K.faults sink.old)) item.now stage.new (world (D.seated desk.new) (K.told sink.new) (K.faults sink.new)) }
+    ensures goes { D.goes desk.old desk.new }
+{
+    match read_item(alloc, client, &mut stage.phase, item) {
+        Ok(act) => match serve_act(alloc, &act, stage.serial, desk, sink) {
+            Ok(serial) => {
+                stage.serial = serial;
+                Ok(None)
+            }
+            Err(halt) => Err(halt),
+        },
+        Err(ItemError::Breaks { rule }) => Ok(Some(Rest::Bad { rule })),
+        Err(ItemError::Unbuilt) => Ok(Some(Rest::Unbuilt)),
+        Err(ItemError::Memory) => Err(Halt::Memory),
+    }
+}
+
+/// Asks and answers each whole item of the bytes, one after another, up to the
+/// first place where none stands that may be asked.
+pub fn serve_items<D: Desk, K: Sink>(
+    alloc: Global,
+    client: &Client,
+    stage: &mut Stage,
+    bytes: &[u8],
+    desk: &mut D,
+    sink: &mut K,
+) -> Result<Run, Halt>
+    ensures stops { Stops client.now result stage.old (world (D.seated desk.old) (K.told sink.old) (K.faults sink.old)) bytes.now stage.new (world (D.seated desk.new) (K.told sink.new) (K.faults sink.new)) }
+    ensures goes { D.goes desk.old desk.new }
+{
+    let mut len = 0;
+    'items: loop {
+        let left = behind(bytes, len);
+        let item = match next_cut(&stage.phase, left) {
+            Cut::More => {
+                return Ok(Run {
+                    len,
+                    rest: Rest::More,
+                });
+            }
+            Cut::Bad { rule } => {
+                return Ok(Run {
+                    len,
+                    rest: Rest::Bad { rule },
+                });
+            }
+            Cut::TooLong => {
+                return Ok(Run {
+                    len,
+                    rest: Rest::TooLong,
+                });
+            }
+            Cut::Whole { len } => front(left, len),
+        };
+        match serve_item(alloc, client, stage, item, desk, sink) {
+            Ok(None) => len += item.len(),
+            Ok(Some(rest)) => return Ok(Run { len, rest }),
+            Err(halt) => return Err(halt),
+        }
+    }
+}

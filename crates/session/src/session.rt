@@ -1,0 +1,230 @@
+//! A session: one connection, from Enter to Leave.
+
+ghost use Rattle.std.specs.Prelude.{◌≡◌, length, true, false, IfOk, OnOk, Ok};
+ghost use Rattle.portal_model.specs.Seated.{Asks, is_open, state_seen};
+ghost use Rattle.session.specs.Ledger.{world};
+ghost use Rattle.session.specs.Sessions.{Opens, Enters, Feeds, Closes, IsBound, IsOpen, fed_of, halted, ending};
+ghost use Rattle.session.specs.Standings.{client as the_client};
+
+use crate::act::Client;
+use crate::phase::first_phase;
+use crate::serve::{Stage, serve_items};
+use crate::served::{Fed, Halt, Rest, Served};
+use bytes::BytesMut;
+use portal_base::limits::Settings;
+use portal_base::memory::{Replica, WantOfMemory};
+use portal_base::outside::Sink;
+use portal_base::who::{Kind, Who};
+use portal_model::desk::Desk;
+use portal_model::reply::{Refused, Reply};
+use portal_model::request::Request;
+use std::alloc::Global;
+use std::marker::Model;
+
+/// How many bytes a connection may have.
+pub const LONGEST: u64 = 1 << 40;
+
+/// One connection of a client, open at a desk.
+///
+/// Contracts see its client, how far its stream has come, how many bytes stood
+/// before the rest, the rest, which is no whole item yet, and what the last
+/// piece came to.
+#[derive(Drop)]
+pub struct Session {
+    client: Client,
+    stage: Stage,
+    before: u64,
+    rest: BytesMut,
+    fed: Fed,
+}
+
+impl Model for Session {
+    ghost use Rattle.std.specs.Prelude.{◌+◌, ◌^◌, ◌≤◌, length};
+    ghost use Rattle.session.specs.Standings.{Standing};
+
+    ghost Value = { Standing };
+
+    ghost view = { λ s. record { client = s.client; stage = s.stage; before = s.before; rest = s.rest.items; fed = s.fed } };
+
+    ghost invariant = { λ s. s.before + length s.rest.items ≤ 2 ^ 40 };
+}
+
+impl Session {
+    /// Opens a connection: Enter is asked.
+    ///
+    /// The desk's seat has no open connection.
+    pub fn begin<D: Desk>(
+        alloc: Global,
+        desk: &mut D,
+        who: &Who,
+        kind: Kind,
+        settings: &Settings,
+    ) -> Result<Session, Refused>
+        requires { is_open (state_seen (D.seated desk.old)) (D.seated desk.old).seat ≡ false }
+        ensures opens { Opens (the_client who.now kind settings.now) (D.seated desk.old) result (D.seated desk.new) }
+        // Then the connection is open.
+        ensures open_now { OnOk result (IsOpen (the_client who.now kind settings.now) (D.seated desk.new)) }
+        ensures goes { D.goes desk.old desk.new }
+    {
+        let client = client_of(alloc, who, kind, settings)?;
+        enter(alloc, desk, who, kind)?;
+        Ok(Session {
+            client,
+            stage: Stage {
+                phase: first_phase(kind),
+                serial: 0,
+            },
+            before: 0,
+            rest: BytesMut::new(alloc),
+            fed: Fed::More,
+        })
+    }
+
+    /// Takes the next piece of the stream, cut anywhere, and asks and answers
+    /// each item that is whole now.
+    ///
+    /// After anything but `More` it answers the same again, and takes nothing.
+    pub fn feed<D: Desk, K: Sink>(
+        &mut self,
+        alloc: Global,
+        desk: &mut D,
+        piece: &[u8],
+        sink: &mut K,
+    ) -> Fed
+        ensures feeds { Feeds self.old.fed self.old (world (D.seated desk.old) (K.told sink.old) (K.faults sink.old)) piece.now result self.new (world (D.seated desk.new) (K.told sink.new) (K.faults sink.new)) }
+        // The connection stays open.
+        ensures stays_open { IsOpen self.old.client (D.seated desk.old) → IsOpen self.old.client (D.seated desk.new) }
+        ensures goes { D.goes desk.old desk.new }
+    {
+        match self.fed {
+            Fed::More => {}
+            fed => return fed,
+        }
+        let room = LONGEST - self.before - self.rest.len() as u64;
+        if piece.len() as u64 > room {
+            self.fed = Fed::Over(Served::Spent);
+            return self.fed;
+        }
+        if self.rest.extend_from_slice(piece).is_err() {
+            self.fed = Fed::Memory;
+            return self.fed;
+        }
+        desk.known();
+        match serve_items(
+            alloc,
+            &self.client,
+            &mut self.stage,
+            self.rest.as_slice(),
+            desk,
+            sink,
+        ) {
+            Ok(run) => {
+                self.rest.advance(run.len);
+                self.before += run.len as u64;
+                self.fed = fed_of(self.before, run.rest);
+            }
+            Err(halt) => self.fed = halted(halt),
+        }
+        desk.known();
+        self.fed
+    }
+
+    /// How many bytes are held that are no whole item yet.
+    pub fn held(&self) -> usize
+        ensures { result ≡ length self.now.rest }
+    {
+        self.rest.len()
+    }
+
+    /// Closes the connection: Leave is asked. Answers how it ended, where its
+    /// input ended after the last piece.
+    ///
+    /// The desk's seat has an open connection of the session's client.
+    pub fn end<D: Desk>(self, alloc: Global, desk: &mut D) -> Served
+        requires { IsOpen self.client (D.seated desk.old) }
+        ensures closes { Closes self (D.seated desk.old) result (D.seated desk.new) }
+        ensures goes { D.goes desk.old desk.new }
+    {
+        leave(alloc, desk);
+        ending(self.fed, self.rest.as_slice())
+    }
+}
+
+fn client_of(
+    alloc: Global,
+    who: &Who,
+    kind: Kind,
+    settings: &Settings,
+) -> Result<Client, WantOfMemory>
+    ensures { IfOk result (λ made. made ≡ the_client who.now kind settings.now) }
+{
+    Ok(Client {
+        who: who.replica(alloc)?,
+        kind,
+        settings: settings.replica(alloc)?,
+    })
+}
+
+/// Asks Enter, where there is memory to ask it.
+fn enter<D: Desk>(alloc: Global, desk: &mut D, who: &Who, kind: Kind) -> Result<(), Refused>
+    requires { is_open (state_seen (D.seated desk.old)) (D.seated desk.old).seat ≡ false }
+    ensures entered { Enters who.now kind (D.seated desk.old) result (D.seated desk.new) }
+    ensures open_now { OnOk result (IsBound who.now kind (D.seated desk.new)) }
+    ensures goes { D.goes desk.old desk.new }
+{
+    desk.known();
+    let request = Request::Enter {
+        who: who.replica(alloc)?,
+        kind,
+    };
+    let _ = desk.ask(alloc, request)?;
+    desk.known();
+    Ok(())
+}
+
+/// Asks Leave, which isn't refused where a connection is open.
+fn leave<D: Desk>(alloc: Global, desk: &mut D)
+    requires { is_open (state_seen (D.seated desk.old)) (D.seated desk.old).seat ≡ true }
+    ensures left { (reply : Reply) × Asks (D.seated desk.old) Request.Leave (Ok reply) (D.seated desk.new) }
+    ensures goes { D.goes desk.old desk.new }
+{
+    let _ = desk.ask(alloc, Request::Leave);
+}
+
+/// What bytes came to behind whose whole items this stands, at this byte of
+/// the stream.
+fn fed_of(at: u64, rest: Rest) -> Fed
+    ensures { result ≡ fed_of at rest }
+{
+    match rest {
+        Rest::More => Fed::More,
+        Rest::Bad { rule } => Fed::Over(Served::Malformed { at, rule }),
+        Rest::TooLong => Fed::Over(Served::LineTooLong { at }),
+        Rest::Unbuilt => Fed::Over(Served::Unbuilt { at }),
+    }
+}
+
+fn halted(halt: Halt) -> Fed
+    ensures { result ≡ halted halt }
+{
+    match halt {
+        Halt::WriteFault => Fed::WriteFault,
+        Halt::Memory => Fed::Memory,
+    }
+}
+
+/// How a connection ends whose last piece came to this, and which has this
+/// rest.
+fn ending(fed: Fed, rest: &[u8]) -> Served
+    ensures { result ≡ ending fed rest.now }
+{
+    match fed {
+        Fed::More if rest.is_empty() => Served::Ended,
+        Fed::More => Served::Cut {
+            rest: rest.len() as u64,
+        },
+        Fed::Over(served) => served,
+        Fed::WriteFault => Served::WriteFault,
+        Fed::Memory => Served::Memory,
+    }
+}
