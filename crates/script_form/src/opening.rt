@@ -1,11 +1,11 @@
 //! The state that a script opens with.
 
 ghost use Rattle.std.specs.Prelude.{◌≡◌, ◌++◌, true, IfOk, OnOk, Some, fold, map};
-ghost use Rattle.std.specs.List.{All, list_any};
-ghost use Rattle.portal_base.specs.Names.{is_app_name, is_same};
+ghost use Rattle.std.specs.List.{All};
+ghost use Rattle.portal_base.specs.Names.{is_app_name};
 ghost use Rattle.portal_model.specs.Opening.{each, names_kept, id_of, file_of, ValidOpening};
 ghost use Rattle.script_form.specs.Lines.{KeepsRules};
-ghost use Rattle.script_form.specs.Naming.{also_named};
+ghost use Rattle.script_form.specs.Naming.{also_named, Knows};
 ghost use Rattle.script_form.specs.Opening.{opening, document_in, documents_of, file_in, files_of, applications_of, HoldsScripts};
 ghost use Rattle.script_form.specs.Order.{IsScript};
 
@@ -19,6 +19,7 @@ use portal_base::names::doc_id::DocId;
 use portal_model::opening::{FileItem, OpeningDocument, OpeningState};
 use portal_model::records::DocRecord;
 use std::alloc::Global;
+use std::collections::BTreeSet;
 
 /// The state that a script opens with: its documents and files, and the
 /// applications that have rights, numbered as they are first named.
@@ -143,41 +144,49 @@ fn applications_in(alloc: Global, lines: &[ScriptLine]) -> Result<List<AppId>, W
     ensures { IfOk result (λ named. named ≡ applications_of lines.now) }
 {
     let mut named = List::new(alloc);
+    let mut known = BTreeSet::new(alloc);
     for line in lines {
-        add_names(alloc, &mut named, line)?;
+        add_names(alloc, &mut named, &mut known, line)?;
     }
     Ok(named)
 }
 
-/// Adds the names in a line that are new.
-fn add_names(alloc: Global, named: &mut List<AppId>, line: &ScriptLine) -> Result<(), WantOfMemory>
-    requires { KeepsRules line.now }
-    ensures { OnOk result (named.new ≡ fold also_named named.old (each names_kept (document_in line.now))) }
+/// Adds the names in a line that are new; known is the set of those that are
+/// there.
+fn add_names<'a>(
+    alloc: Global,
+    named: &mut List<AppId>,
+    known: &mut BTreeSet<&'a [u8]>,
+    line: &'a ScriptLine,
+) -> Result<(), WantOfMemory>
+    requires rules { KeepsRules line.now }
+    requires knows { Knows known.old named.old }
+    ensures { OnOk result ((named.new ≡ fold also_named named.old (each names_kept (document_in line.now))) × Knows known.new named.new) }
 {
     let ScriptLine::Doc { grants, .. } = line else {
         return Ok(());
     };
     for grant in grants.as_slice() {
-        add_name(alloc, named, grant.app.as_slice())?;
+        add_name(alloc, named, known, grant.app.as_slice())?;
     }
     Ok(())
 }
 
-/// Whether a name is among those.
-fn is_named(named: &[AppId], name: &[u8]) -> bool
-    ensures { result ≡ list_any (λ known. is_same known name.now) named.now }
-{
-    named.iter().any(|known| known.as_bytes() == name)
-}
-
 /// Adds a name, if it is new.
-fn add_name(alloc: Global, named: &mut List<AppId>, name: &[u8]) -> Result<(), WantOfMemory>
-    requires { is_app_name name.now ≡ true }
-    ensures { OnOk result (named.new ≡ also_named named.old name.now) }
+fn add_name<'a>(
+    alloc: Global,
+    named: &mut List<AppId>,
+    known: &mut BTreeSet<&'a [u8]>,
+    name: &'a [u8],
+) -> Result<(), WantOfMemory>
+    requires rules { is_app_name name.now ≡ true }
+    requires knows { Knows known.old named.old }
+    ensures { OnOk result ((named.new ≡ also_named named.old name.now) × Knows known.new named.new) }
 {
-    if is_named(named.as_slice(), name) {
+    if known.contains(name) {
         return Ok(());
     }
+    known.insert(name)?;
     match AppId::read(alloc, name) {
         Ok(app) => named.push(app),
         Err(NameError::Memory) => Err(WantOfMemory),

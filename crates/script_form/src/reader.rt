@@ -51,6 +51,8 @@ fn built(preceding: Preceding, unbuilt: Option<u64>) -> BuiltScript
         begun: _,
         opened: _,
         documents: _,
+        kept: _,
+        files: _,
     } = preceding;
     BuiltScript {
         script: Script { lines },
@@ -65,10 +67,10 @@ fn read_next<'a>(
     preceding: &mut Preceding,
     text: &'a [u8],
 ) -> Result<Option<&'a [u8]>, WantOfMemory>
-    requires tracks { Tracks preceding.old.lines preceding.old.begun preceding.old.opened.items preceding.old.documents }
+    requires tracks { Tracks preceding.old.lines preceding.old.begun preceding.old.opened.items preceding.old.documents preceding.old.kept preceding.old.files }
     requires good { IsScript preceding.old.lines }
     requires short { length (text_of preceding.old.lines) + length text.now ≤ script_limit }
-    ensures { IfOk result (λ after. MatchOption after ((preceding.new.lines ≡ preceding.old.lines) × NoneStands preceding.old.lines text.entry.now) (λ a. TakesLine preceding.old.lines text.entry.now preceding.new.lines a.now) × Tracks preceding.new.lines preceding.new.begun preceding.new.opened.items preceding.new.documents) }
+    ensures { IfOk result (λ after. MatchOption after ((preceding.new.lines ≡ preceding.old.lines) × NoneStands preceding.old.lines text.entry.now) (λ a. TakesLine preceding.old.lines text.entry.now preceding.new.lines a.now) × Tracks preceding.new.lines preceding.new.begun preceding.new.opened.items preceding.new.documents preceding.new.kept preceding.new.files) }
 {
     let Some((line, after)) = cut(text, b'\n') else {
         return Ok(None);
@@ -76,9 +78,9 @@ fn read_next<'a>(
     let Some(line) = read_line(alloc, line)? else {
         return Ok(None);
     };
-    if !preceding.allows(&line) {
+    if !preceding.allows(alloc, &line)? {
         return Ok(None);
     }
-    preceding.push(line)?;
+    preceding.push(alloc, line)?;
     Ok(Some(after))
 }

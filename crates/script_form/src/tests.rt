@@ -157,6 +157,7 @@ fn a_line_that_does_not_go_with_those_before_stops_the_reader(rt: HostRuntime) {
         b"file /a -\nfile /a 00\n".as_slice(),
         b"file /a -\nfile /a/b -\n",
         b"file /a/b -\nfile /a -\n",
+        b"file /a/b/c -\nfile /a -\n",
         b"doc 0000000a r /a -\ndoc 0000000a - /b -\n",
         b"open 1 mount app:a\nopen 1 mount app:b\n",
         b"open 1 mount app:a\nfile /a -\n",
@@ -165,6 +166,15 @@ fn a_line_that_does_not_go_with_those_before_stops_the_reader(rt: HostRuntime) {
         b"open 1 mount app:a\ndata 01 -\n",
     ] {
         assert_eq!(rt; stop_of(&rt, alloc, text), Some(2));
+    }
+    // Bytes ahead of the slash part a folder from what lies in it.
+    for text in [
+        b"file /a -\nfile /a- -\nfile /a+ -\nfile /a/b -\n".as_slice(),
+        b"file /a/b -\nfile /a- -\nfile /a+/c -\nfile /a -\n",
+        b"file /a-/b -\nfile /a/z -\nfile /a0 -\nfile /a/z/y -\n",
+        b"doc 00000001 r /a -\ndoc ffffffff - /a -\ndoc 00000000 - /a -\ndoc ffffffff r /b -\n",
+    ] {
+        assert_eq!(rt; stop_of(&rt, alloc, text), Some(4));
     }
     assert_eq!(rt;
         stop_of(
