@@ -1,0 +1,112 @@
+//! Sources that give their bytes in other pieces than one in memory does.
+
+ghost use Rattle.std.specs.Prelude.{◌≡◌, ◌<◌, ◌≤◌, length};
+
+use portal_base::list::ByteList;
+use portal_base::outside::{ReadAnswer, Sink, Source, WriteAnswer};
+use std::cell::Cell;
+
+/// Copies as many bytes as there is room for, and says how many.
+fn fill(buffer: &mut [u8], bytes: &[u8]) -> usize
+    requires room { 0 < length buffer.old }
+    requires some { 0 < length bytes.now }
+    ensures least { 1 ≤ result }
+    ensures most { result ≤ length buffer.new }
+    ensures there { result ≤ length bytes.now }
+{
+    let len = bytes.len().min(buffer.len());
+    buffer[..len].copy_from_slice(&bytes[..len]);
+    len
+}
+
+/// A source that gives so many bytes at a time, and fails at the read of a
+/// number, counted from 1.
+#[derive(Drop)]
+pub struct Drip {
+    pub bytes: ByteList,
+    pub at: usize,
+    pub size: usize,
+    pub calls: u64,
+    pub fail_at: u64,
+    pub faults: u64,
+}
+
+impl Source for Drip {
+    ghost use Rattle.std.specs.Prelude.{None};
+
+    ghost left = { λ s. None };
+
+    ghost faults = { λ s. s.faults };
+
+    fn read(&mut self, buffer: &mut [u8]) -> ReadAnswer {
+        self.calls = self.calls.saturating_add(1);
+        if self.calls == self.fail_at {
+            self.faults = self.faults.saturating_add(1);
+            return ReadAnswer::Failed;
+        }
+        let bytes = self.bytes.as_slice();
+        let start = self.at.min(bytes.len());
+        let end = start.saturating_add(self.size).min(bytes.len());
+        if start >= end {
+            return ReadAnswer::End;
+        }
+        let len = fill(buffer, &bytes[start..end]);
+        self.at = start + len;
+        ReadAnswer::Got(len)
+    }
+}
+
+/// A source that gives its second half only once a piece was written, and
+/// otherwise fails.
+#[derive(Drop)]
+pub struct Waiting<'a> {
+    pub first: &'a [u8],
+    pub second: &'a [u8],
+    pub reads: u64,
+    pub written: &'a Cell<u64>,
+    pub faults: u64,
+}
+
+impl<'a> Source for Waiting<'a> {
+    ghost use Rattle.std.specs.Prelude.{None};
+
+    ghost left = { λ s. None };
+
+    ghost faults = { λ s. s.faults };
+
+    fn read(&mut self, buffer: &mut [u8]) -> ReadAnswer {
+        self.reads = self.reads.saturating_add(1);
+        if self.reads > 1 && self.written.get() == 0 {
+            self.faults = self.faults.saturating_add(1);
+            return ReadAnswer::Failed;
+        }
+        let bytes = match self.reads {
+            1 => self.first,
+            2 => self.second,
+            _ => &[],
+        };
+        if bytes.is_empty() {
+            return ReadAnswer::End;
+        }
+        ReadAnswer::Got(fill(buffer, bytes))
+    }
+}
+
+/// A sink that counts its pieces.
+#[derive(Drop)]
+pub struct Counting<'a> {
+    pub written: &'a Cell<u64>,
+}
+
+impl<'a> Sink for Counting<'a> {
+    ghost use Rattle.std.specs.Prelude.{None};
+
+    ghost told = { λ s. None };
+
+    ghost faults = { λ s. 0 };
+
+    fn write(&mut self, _bytes: &[u8]) -> WriteAnswer {
+        self.written.set(self.written.get().saturating_add(1));
+        WriteAnswer::Done
+    }
+}
