@@ -250,22 +250,46 @@ fn an_answer_is_written_before_more_is_read(rt: HostRuntime) -> Result<(), Fail>
 }
 
 /// What a stream of five calls comes to that is read 32 bytes at a time, where
-/// the read of this number fails.
-fn failed(alloc: Global, fail_read: u64) -> Result<Ran, Fail> {
+/// the read and the write of these numbers fail.
+fn failed(alloc: Global, fail_read: u64, fail_write: u64) -> Result<Ran, Fail> {
     let input = stream(alloc, "handshake ping ping_2 quiet_ping nobody")?;
-    run(alloc, PLENTY, "host bus", input, (32, fail_read, 0))
+    run(
+        alloc,
+        PLENTY,
+        "host bus",
+        input,
+        (32, fail_read, fail_write),
+    )
 }
 
 #[test]
 fn each_read_may_fail(rt: HostRuntime) -> Result<(), Fail> {
     let alloc = rt.alloc();
-    let whole = failed(alloc, 0)?;
+    let whole = failed(alloc, 0, 0)?;
     for call in 1..13 {
-        let ran = failed(alloc, call)?;
+        let ran = failed(alloc, call, 0)?;
         assert!(rt; ran.told.as_str().starts_with("ReadFault "), "read {call}");
         assert!(rt;
             whole.written.as_slice().starts_with(ran.written.as_slice()),
             "read {call}"
+        );
+    }
+    Ok(())
+}
+
+#[test]
+fn each_write_may_fail(rt: HostRuntime) -> Result<(), Fail> {
+    let alloc = rt.alloc();
+    let whole = failed(alloc, 0, 0)?;
+    for call in 1..5 {
+        let ran = failed(alloc, 0, call)?;
+        assert!(rt;
+            ran.told.as_str().starts_with("WriteFault "),
+            "write {call}"
+        );
+        assert!(rt;
+            whole.written.as_slice().starts_with(ran.written.as_slice()),
+            "write {call}"
         );
     }
     Ok(())
