@@ -10,17 +10,18 @@ use Rattle.std.proofs.lemmas.List.Elements.{All-nil, All-cons}
 use Rattle.portal_base.specs.DocIds.{doc_id_of}
 use Rattle.portal_base.specs.Names.{is_app_name, is_host_path, is_doc_id, is_lower_hex, doc_text, hex_number}
 use Rattle.portal_base.specs.declared.names.doc_id.DocId.{DocId}
+use Rattle.portal_base.specs.declared.who.Kind.{Kind}
 use Rattle.portal_base.specs.declared.who.Kind.TheVariants.{Bus, Mount}
+use Rattle.portal_base.specs.declared.who.Who.{Who}
 use Rattle.portal_base.specs.declared.who.Who.TheVariants.{Host, App}
 use Rattle.portal_base.proofs.DocIdDigits.{digits_again, doc_text-digits}
 use Rattle.portal_model.specs.declared.records.GrantRecord.{GrantRecord}
-use Rattle.script_form.specs.Lines.{line_text, KeepsRules, hex_text, flags_text, grants_text, is_script_path, is_plain, last_seat}
-use Rattle.script_form.specs.Reading.{IsFree, CutsAt}
+use Rattle.script_form.specs.Lines.{line_text, KeepsRules, hex_text, flags_text, grants_text, is_script_path, is_plain, last_seat, kind_text, who_text, IsCaller}
+use Rattle.script_form.specs.Reading.{IsFree, CutsAt, IsSeat}
 use Rattle.script_form.specs.declared.script.ScriptLine.{ScriptLine}
-use Rattle.script_form.specs.declared.script.ScriptLine.TheVariants.{File, Doc, Open, Data}
+use Rattle.script_form.specs.declared.script.ScriptLine.TheVariants.{File, Doc, Open, Data, Close}
 use Rattle.script_form.proofs.TextFacts.{free_from, not_free, cut_same}
-use Rattle.script_form.proofs.WordFacts.{all_digits, differ, same_from_test}
-use Rattle.std.proofs.lemmas.List.{take-append-drop}
+use Rattle.script_form.proofs.WordFacts.{all_digits}
 
 -- ---- words without spaces
 
@@ -35,6 +36,10 @@ seat_free n h = free_from is_ascii_digit 32 refl (decimal n) (all_digits n (omeg
 pub flags_free : (reusable : Bool) → IsFree 32 (flags_text reusable)
 flags_free true = All-cons (λ b. (b == 32) ≡ false) 114 [] refl (All-nil (λ b. (b == 32) ≡ false))
 flags_free false = All-cons (λ b. (b == 32) ≡ false) 45 [] refl (All-nil (λ b. (b == 32) ≡ false))
+
+pub kind_free : (kind : Kind) → IsFree 32 (kind_text kind)
+kind_free Bus = free_from (λ b. not (b == 32)) 32 refl (codes "bus") refl
+kind_free Mount = free_from (λ b. not (b == 32)) 32 refl (codes "mount") refl
 
 pub id_again : (n : ℕ) → n < 2 ^ 32 → doc_id_of (doc_text n) ≡ Some (record { number = n })
 id_again n h = rw (← doc_text-digits n) (digits_again n h)
@@ -71,6 +76,7 @@ file_text rest (File path content) rules e = record { path = path; content = con
 file_text rest (Doc id reusable path grants) rules e = absurd (cc (differ_at 0 102 _ _ e refl refl))
 file_text rest (Open seat kind who) rules e = absurd (cc (differ_at 0 102 _ _ e refl refl))
 file_text rest (Data seat bytes) rules e = absurd (cc (differ_at 0 102 _ _ e refl refl))
+file_text rest (Close seat) rules e = absurd (cc (differ_at 0 102 _ _ e refl refl))
 
 pub file_cut : (rest a b : List ℕ) (t : FileText rest) → CutsAt 32 rest a b → (a ≡ t.path) × (b ≡ hex_text t.content)
 file_cut rest a b t cut = cut_same 32 a b t.path (hex_text t.content) cut.first (path_free t.path t.rules.0) (sym cut.whole ∙ t.same)
@@ -98,6 +104,7 @@ doc_line rest (File path content) rules e = absurd (cc (differ_at 0 100 _ _ e re
 doc_line rest (Doc id reusable path grants) rules e = record { id = id; reusable = reusable; path = path; grants = grants; same = cc e; rules = rules }
 doc_line rest (Open seat kind who) rules e = absurd (cc (differ_at 0 100 _ _ e refl refl))
 doc_line rest (Data seat bytes) rules e = absurd (cc (differ_at 1 111 _ _ e refl refl))
+doc_line rest (Close seat) rules e = absurd (cc (differ_at 0 100 _ _ e refl refl))
 
 pub doc_cut : (rest a b : List ℕ) (t : DocText rest) → CutsAt 32 rest a b
     → (a ≡ doc_text t.id.number) × (b ≡ flags_text t.reusable ++ (32 ∷ (t.path ++ (32 ∷ grants_text t.grants))))
@@ -134,31 +141,36 @@ doc_made rest a b c d e f id reusable path grants cut more last i r p g = rw (cu
 
 pub record OpenText (rest : List ℕ) : Type 0 where
   pub seat : ℕ
-  pub name : List ℕ
-  pub same : rest ≡ decimal seat ++ (32 ∷ (codes "mount app:" ++ name))
-  pub low : 1 ≤ seat
-  pub high : seat ≤ last_seat
-  pub is_name : is_app_name name ≡ true
+  pub kind : Kind
+  pub who : Who
+  pub same : rest ≡ decimal seat ++ (32 ∷ (kind_text kind ++ (32 ∷ who_text who)))
+  pub rules : KeepsRules (Open seat kind who)
 
 pub open_line : (rest : List ℕ) (line : ScriptLine) → KeepsRules line → codes "open" ++ (32 ∷ rest) ≡ line_text line → OpenText rest
 unfolding line_text
 open_line rest (File path content) rules e = absurd (cc (differ_at 0 111 _ _ e refl refl))
 open_line rest (Doc id reusable path grants) rules e = absurd (cc (differ_at 0 111 _ _ e refl refl))
-open_line rest (Open seat Mount (App name)) rules e = record { seat = seat; name = name; same = cc e; low = rules.0; high = rules.1; is_name = rules.3 }
-open_line rest (Open seat Bus (App name)) rules e = cc rules.2
-open_line rest (Open seat kind Host) rules e = absurd rules.3
+open_line rest (Open seat kind who) rules e = record { seat = seat; kind = kind; who = who; same = cc e; rules = rules }
 open_line rest (Data seat bytes) rules e = absurd (cc (differ_at 0 111 _ _ e refl refl))
+open_line rest (Close seat) rules e = absurd (cc (differ_at 0 111 _ _ e refl refl))
 
-pub open_cut : (rest a b : List ℕ) (t : OpenText rest) → CutsAt 32 rest a b → (a ≡ decimal t.seat) × (b ≡ codes "mount app:" ++ t.name)
-open_cut rest a b t cut = cut_same 32 a b (decimal t.seat) (codes "mount app:" ++ t.name) cut.first (seat_free t.seat t.high) (sym cut.whole ∙ t.same)
+pub open_cut : (rest a b : List ℕ) (t : OpenText rest) → CutsAt 32 rest a b → (a ≡ decimal t.seat) × (b ≡ kind_text t.kind ++ (32 ∷ who_text t.who))
+open_cut rest a b t cut = cut_same 32 a b (decimal t.seat) (kind_text t.kind ++ (32 ∷ who_text t.who)) cut.first (seat_free t.seat t.rules.1) (sym cut.whole ∙ t.same)
+
+pub open_cut_kind : (rest a b c d : List ℕ) (t : OpenText rest) → CutsAt 32 rest a b → CutsAt 32 b c d → (c ≡ kind_text t.kind) × (d ≡ who_text t.who)
+open_cut_kind rest a b c d t cut more =
+    cut_same 32 c d (kind_text t.kind) (who_text t.who) more.first (kind_free t.kind) (sym more.whole ∙ (open_cut rest a b t cut).1)
 
 pub no_seat : (rest : List ℕ) → IsFree 32 rest → OpenText rest → ⊥
-no_seat rest free t = not_free 32 (decimal t.seat) (codes "mount app:" ++ t.name) (rw t.same at free)
+no_seat rest free t = not_free 32 (decimal t.seat) (kind_text t.kind ++ (32 ∷ who_text t.who)) (rw t.same at free)
 
-pub open_made : (rest a b : List ℕ) (seat : ℕ) (name : List ℕ) → CutsAt 32 rest a b → a ≡ decimal seat → b ≡ codes "mount app:" ++ name
-    → codes "open" ++ (32 ∷ rest) ≡ line_text (Open seat Mount (App name))
+pub no_kind : (rest a b : List ℕ) (t : OpenText rest) → CutsAt 32 rest a b → IsFree 32 b → ⊥
+no_kind rest a b t cut free = not_free 32 (kind_text t.kind) (who_text t.who) (rw (open_cut rest a b t cut).1 at free)
+
+pub open_made : (rest a b c d : List ℕ) (seat : ℕ) (kind : Kind) (who : Who) → CutsAt 32 rest a b → CutsAt 32 b c d
+    → a ≡ decimal seat → c ≡ kind_text kind → d ≡ who_text who → codes "open" ++ (32 ∷ rest) ≡ line_text (Open seat kind who)
 unfolding line_text
-open_made rest a b seat name cut s n = rw (cut.whole, s, n) refl
+open_made rest a b c d seat kind who cut more s k w = rw (cut.whole, more.whole, s, k, w) refl
 
 -- ---- data
 
@@ -174,6 +186,7 @@ data_line rest (File path content) rules e = absurd (cc (differ_at 0 100 _ _ e r
 data_line rest (Doc id reusable path grants) rules e = absurd (cc (differ_at 1 97 _ _ e refl refl))
 data_line rest (Open seat kind who) rules e = absurd (cc (differ_at 0 100 _ _ e refl refl))
 data_line rest (Data seat bytes) rules e = record { seat = seat; bytes = bytes; same = cc e; rules = rules }
+data_line rest (Close seat) rules e = absurd (cc (differ_at 0 100 _ _ e refl refl))
 
 pub data_cut : (rest a b : List ℕ) (t : DataText rest) → CutsAt 32 rest a b → (a ≡ decimal t.seat) × (b ≡ hex_text t.bytes)
 data_cut rest a b t cut = cut_same 32 a b (decimal t.seat) (hex_text t.bytes) cut.first (seat_free t.seat t.rules.1) (sym cut.whole ∙ t.same)
@@ -186,48 +199,57 @@ pub data_made : (rest a b : List ℕ) (seat : ℕ) (bytes : List ℕ) → CutsAt
 unfolding line_text
 data_made rest a b seat bytes cut s h = rw (cut.whole, s, h) refl
 
+-- ---- close
+
+pub close_line : (rest : List ℕ) (line : ScriptLine) → KeepsRules line → codes "close" ++ (32 ∷ rest) ≡ line_text line → (seat : ℕ) × IsSeat rest seat
+unfolding line_text
+close_line rest (File path content) rules e = absurd (cc (differ_at 0 99 _ _ e refl refl))
+close_line rest (Doc id reusable path grants) rules e = absurd (cc (differ_at 0 99 _ _ e refl refl))
+close_line rest (Open seat kind who) rules e = absurd (cc (differ_at 0 99 _ _ e refl refl))
+close_line rest (Data seat bytes) rules e = absurd (cc (differ_at 0 99 _ _ e refl refl))
+close_line rest (Close seat) rules e = (seat, record { low = rules.0; high = rules.1; same = cc e })
+
+pub close_made : (rest : List ℕ) (seat : ℕ) → rest ≡ decimal seat → codes "close" ++ (32 ∷ rest) ≡ line_text (Close seat)
+unfolding line_text
+close_made rest seat same = rw same refl
+
 -- ---- any line
 
--- a line's first word, which is one of four
+-- a line's first word, which is one of five
 pub record AnyText (text : List ℕ) : Type 0 where
   pub command : List ℕ
   pub rest : List ℕ
   pub same : text ≡ command ++ (32 ∷ rest)
   pub free : IsFree 32 command
-  pub known : (command ≢ codes "file") → (command ≢ codes "doc") → (command ≢ codes "open") → (command ≢ codes "data") → ⊥
+  pub known : (command ≢ codes "file") → (command ≢ codes "doc") → (command ≢ codes "open") → (command ≢ codes "data") → (command ≢ codes "close") → ⊥
 
 word_free : (word : List ℕ) → list_all (λ b. not (b == 32)) word ≡ true → IsFree 32 word
 word_free word h = free_from (λ b. not (b == 32)) 32 refl word h
 
 pub any_line : (text : List ℕ) (line : ScriptLine) → text ≡ line_text line → AnyText text
 unfolding line_text
-any_line text (File path content) e = record { command = codes "file"; rest = _; same = e; free = word_free (codes "file") refl; known = λ f d o t. f refl }
-any_line text (Doc id reusable path grants) e = record { command = codes "doc"; rest = _; same = e; free = word_free (codes "doc") refl; known = λ f d o t. d refl }
-any_line text (Open seat kind who) e = record { command = codes "open"; rest = _; same = e; free = word_free (codes "open") refl; known = λ f d o t. o refl }
-any_line text (Data seat bytes) e = record { command = codes "data"; rest = _; same = e; free = word_free (codes "data") refl; known = λ f d o t. t refl }
+any_line text (File path content) e = record { command = codes "file"; rest = _; same = e; free = word_free (codes "file") refl; known = λ f d o t c. f refl }
+any_line text (Doc id reusable path grants) e = record { command = codes "doc"; rest = _; same = e; free = word_free (codes "doc") refl; known = λ f d o t c. d refl }
+any_line text (Open seat kind who) e = record { command = codes "open"; rest = _; same = e; free = word_free (codes "open") refl; known = λ f d o t c. o refl }
+any_line text (Data seat bytes) e = record { command = codes "data"; rest = _; same = e; free = word_free (codes "data") refl; known = λ f d o t c. t refl }
+any_line text (Close seat) e = record { command = codes "close"; rest = _; same = e; free = word_free (codes "close") refl; known = λ f d o t c. c refl }
 
 pub no_line : (text : List ℕ) → IsFree 32 text → (line : ScriptLine) → text ≡ line_text line → ⊥
 no_line text free line e = let any = any_line text line e in not_free 32 any.command any.rest (rw any.same at free)
 
 pub other_line : (text a b : List ℕ) → CutsAt 32 text a b → (line : ScriptLine) → text ≡ line_text line
-    → (a ≢ codes "file") → (a ≢ codes "doc") → (a ≢ codes "open") → (a ≢ codes "data") → ⊥
-other_line text a b cut line e f d o t =
+    → (a ≢ codes "file") → (a ≢ codes "doc") → (a ≢ codes "open") → (a ≢ codes "data") → (a ≢ codes "close") → ⊥
+other_line text a b cut line e f d o t c =
     let any = any_line text line e in
     let same : a ≡ any.command = (cut_same 32 a b any.command any.rest cut.first any.free (sym cut.whole ∙ any.same)).0 in
-    any.known (rw same at f) (rw same at d) (rw same at o) (rw same at t)
+    any.known (rw same at f) (rw same at d) (rw same at o) (rw same at t) (rw same at c)
 
--- ---- the bound of an open line
+-- ---- whom a connection is bound to
 
-pub prefix_yes : (b prefix name : List ℕ) → prefix ≡ codes "mount app:" → pointwise nat_eq (take (length prefix) b) prefix ≡ true
-    → name ≡ drop (length prefix) b → b ≡ codes "mount app:" ++ name
-prefix_yes b prefix name is test rest =
-    let ahead = same_from_test (take (length prefix) b) prefix test in
-    sym (take-append-drop (length prefix) b) ∙ rw (ahead, ← rest, is) refl
-
-pub prefix_no : (b prefix name : List ℕ) → prefix ≡ codes "mount app:" → pointwise nat_eq (take (length prefix) b) prefix ≡ false
-    → b ≡ codes "mount app:" ++ name → ⊥
-prefix_no b prefix name is test same =
-    differ (take (length prefix) b) prefix test (rw (is, same) refl)
-
-pub same_name : (b name other : List ℕ) → b ≡ codes "mount app:" ++ name → b ≡ codes "mount app:" ++ other → name ≡ other
-same_name b name other e f = ap (drop 10) (sym e ∙ f)
+-- a word behind "app:" that isn't a name, and isn't "host", is no caller's
+pub no_caller : (word prefix name : List ℕ) → prefix ≡ codes "app:" → pointwise nat_eq (take (length prefix) word) prefix ≡ true
+    → name ≡ drop (length prefix) word → (word ≢ codes "host") → is_app_name name ≡ false → (who : Who) → IsCaller who → word ≢ who_text who
+no_caller word prefix name is test rest other bad Host caller same = other same
+no_caller word prefix name is test rest other bad (App found) caller same =
+    let this : name ≡ found = rest ∙ rw (is, same) refl in
+    cc (bad, caller, this)

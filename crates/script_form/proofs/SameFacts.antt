@@ -14,15 +14,17 @@ use Rattle.hex.specs.Hex.{lower_digits, is_hex_digit}
 use Rattle.portal_base.specs.DocIds.{doc_id_of}
 use Rattle.portal_base.specs.Names.{is_app_name, is_host_path, is_doc_id, is_lower_hex, doc_text}
 use Rattle.portal_base.specs.declared.names.doc_id.DocId.{DocId}
+use Rattle.portal_base.specs.declared.who.Kind.{Kind}
 use Rattle.portal_base.specs.declared.who.Kind.TheVariants.{Bus, Mount}
+use Rattle.portal_base.specs.declared.who.Who.{Who}
 use Rattle.portal_base.specs.declared.who.Who.TheVariants.{Host, App}
 use Rattle.portal_model.specs.declared.records.GrantRecord.{GrantRecord}
-use Rattle.script_form.specs.Lines.{line_text, KeepsRules, AreBytes, IsGrant, hex_text, flags_text, grants_text, grant_text, letters, is_script_path, is_plain, last_seat}
+use Rattle.script_form.specs.Lines.{line_text, KeepsRules, AreBytes, IsGrant, hex_text, flags_text, grants_text, grant_text, letters, is_script_path, is_plain, last_seat, kind_text, who_text, IsCaller}
 use Rattle.script_form.specs.Reading.{IsFree}
 use Rattle.script_form.specs.declared.script.ScriptLine.{ScriptLine}
-use Rattle.script_form.specs.declared.script.ScriptLine.TheVariants.{File, Doc, Open, Data}
+use Rattle.script_form.specs.declared.script.ScriptLine.TheVariants.{File, Doc, Open, Data, Close}
 use Rattle.script_form.proofs.GrantFacts.{grant_same, grants_split, grant_free, letters_line, letters_some, name_free}
-use Rattle.script_form.proofs.LineFacts.{path_free, seat_free, id_free, id_again, flags_free, differ_at, is_id}
+use Rattle.script_form.proofs.LineFacts.{path_free, seat_free, id_free, id_again, flags_free, kind_free, differ_at, is_id}
 use Rattle.script_form.proofs.TextFacts.{free_from, cut_same}
 use Rattle.script_form.proofs.WordFacts.{all_digits, bytes_at}
 
@@ -88,18 +90,27 @@ grants_same (g ∷ gs) (h ∷ hs) ag ah e =
     let other : grants_text (g ∷ gs) ≢ codes "-" = grants_dash g gs (All-head IsGrant g gs ag) in
     texts_same (g ∷ gs) (h ∷ hs) ag ah (sym (grants_split (grants_text (g ∷ gs)) (g ∷ gs) ag other refl) ∙ grants_split (grants_text (g ∷ gs)) (h ∷ hs) ah other e)
 
+kind_same : (a b : Kind) → kind_text a ≡ kind_text b → a ≡ b
+kind_same Bus Bus e = refl
+kind_same Mount Mount e = refl
+kind_same Bus Mount e = absurd (cc (differ_at 0 98 _ _ e refl refl))
+kind_same Mount Bus e = absurd (cc (differ_at 0 109 _ _ e refl refl))
+
+who_same : (a b : Who) → who_text a ≡ who_text b → a ≡ b
+who_same Host Host e = refl
+who_same Host (App name) e = absurd (cc (differ_at 0 104 _ _ e refl refl))
+who_same (App name) Host e = absurd (cc (differ_at 0 97 _ _ e refl refl))
+who_same (App name) (App other) e = ap App (ap (drop 4) e)
+
 -- ---- lines are written in one way
 
-open_same : (s t : ℕ) (name other : List ℕ) → s ≤ last_seat → t ≤ last_seat
-    → decimal s ++ (32 ∷ (codes "mount app:" ++ name)) ≡ decimal t ++ (32 ∷ (codes "mount app:" ++ other)) → (s ≡ t) × (name ≡ other)
-open_same s t name other hs ht e =
-    let halves = cut_same 32 (decimal s) (codes "mount app:" ++ name) (decimal t) (codes "mount app:" ++ other) (seat_free s hs) (seat_free t ht) e in
-    (decimal_injective s t (omega arith) (omega arith) halves.0, ap (drop 10) halves.1)
+seat_fits : (n : ℕ) → n ≤ last_seat → n < 2 ^ 64
+seat_fits n h = omega arith
 
 seat_same : (s t : ℕ) (a b : List ℕ) → s ≤ last_seat → t ≤ last_seat → decimal s ++ (32 ∷ a) ≡ decimal t ++ (32 ∷ b) → (s ≡ t) × (a ≡ b)
 seat_same s t a b hs ht e =
     let halves = cut_same 32 (decimal s) a (decimal t) b (seat_free s hs) (seat_free t ht) e in
-    (decimal_injective s t (omega arith) (omega arith) halves.0, halves.1)
+    (decimal_injective s t (seat_fits s hs) (seat_fits t ht) halves.0, halves.1)
 
 pub line_same : (l m : ScriptLine) → KeepsRules l → KeepsRules m → line_text l ≡ line_text m → l ≡ m
 unfolding line_text
@@ -110,6 +121,7 @@ line_same (File p c) (File q d) kl km e =
 line_same (File p c) (Doc i r q g) kl km e = absurd (cc (differ_at 0 102 _ _ e refl refl))
 line_same (File p c) (Open s k w) kl km e = absurd (cc (differ_at 0 102 _ _ e refl refl))
 line_same (File p c) (Data s b) kl km e = absurd (cc (differ_at 0 102 _ _ e refl refl))
+line_same (File p c) (Close s) kl km e = absurd (cc (differ_at 0 102 _ _ e refl refl))
 line_same (Doc i r p g) (File q d) kl km e = absurd (cc (differ_at 0 100 _ _ e refl refl))
 line_same (Doc i r p g) (Doc j f q h) kl km e =
     let one = cut_same 32 (doc_text i.number) (flags_text r ++ (32 ∷ (p ++ (32 ∷ grants_text g)))) (doc_text j.number) (flags_text f ++ (32 ∷ (q ++ (32 ∷ grants_text h))))
@@ -122,16 +134,17 @@ line_same (Doc i r p g) (Doc j f q h) kl km e =
     cc (ids, flags, three.0, grants)
 line_same (Doc i r p g) (Open s k w) kl km e = absurd (cc (differ_at 0 100 _ _ e refl refl))
 line_same (Doc i r p g) (Data s b) kl km e = absurd (cc (differ_at 1 111 _ _ e refl refl))
+line_same (Doc i r p g) (Close s) kl km e = absurd (cc (differ_at 0 100 _ _ e refl refl))
 line_same (Open s k w) (File q d) kl km e = absurd (cc (differ_at 0 111 _ _ e refl refl))
 line_same (Open s k w) (Doc j f q h) kl km e = absurd (cc (differ_at 0 111 _ _ e refl refl))
-line_same (Open s k Host) (Open t l w) kl km e = absurd kl.3
-line_same (Open s k (App n)) (Open t l Host) kl km e = absurd km.3
-line_same (Open s Bus (App n)) (Open t l (App o)) kl km e = absurd (cc kl.2)
-line_same (Open s Mount (App n)) (Open t Bus (App o)) kl km e = absurd (cc km.2)
-line_same (Open s Mount (App n)) (Open t Mount (App o)) kl km e =
-    let same = open_same s t n o kl.1 km.1 (ap (drop 5) e) in
-    cc (same.0, same.1)
+line_same (Open s k w) (Open t l v) kl km e =
+    let one = seat_same s t (kind_text k ++ (32 ∷ who_text w)) (kind_text l ++ (32 ∷ who_text v)) kl.1 km.1 (ap (drop 5) e) in
+    let two = cut_same 32 (kind_text k) (who_text w) (kind_text l) (who_text v) (kind_free k) (kind_free l) one.1 in
+    let kinds = kind_same k l two.0 in
+    let callers = who_same w v two.1 in
+    cc (one.0, kinds, callers)
 line_same (Open s k w) (Data t b) kl km e = absurd (cc (differ_at 0 111 _ _ e refl refl))
+line_same (Open s k w) (Close t) kl km e = absurd (cc (differ_at 0 111 _ _ e refl refl))
 line_same (Data s b) (File q d) kl km e = absurd (cc (differ_at 0 100 _ _ e refl refl))
 line_same (Data s b) (Doc j f q h) kl km e = absurd (cc (differ_at 1 97 _ _ e refl refl))
 line_same (Data s b) (Open t k w) kl km e = absurd (cc (differ_at 0 100 _ _ e refl refl))
@@ -139,6 +152,12 @@ line_same (Data s b) (Data t d) kl km e =
     let halves = seat_same s t (hex_text b) (hex_text d) kl.1 km.1 (ap (drop 5) e) in
     let bytes = hex_same b d kl.2 km.2 halves.1 in
     cc (halves.0, bytes)
+line_same (Data s b) (Close t) kl km e = absurd (cc (differ_at 0 100 _ _ e refl refl))
+line_same (Close s) (File q d) kl km e = absurd (cc (differ_at 0 99 _ _ e refl refl))
+line_same (Close s) (Doc j f q h) kl km e = absurd (cc (differ_at 0 99 _ _ e refl refl))
+line_same (Close s) (Open t k w) kl km e = absurd (cc (differ_at 0 99 _ _ e refl refl))
+line_same (Close s) (Data t b) kl km e = absurd (cc (differ_at 0 99 _ _ e refl refl))
+line_same (Close s) (Close t) kl km e = ap Close (decimal_injective s t (seat_fits s kl.1) (seat_fits t km.1) (ap (drop 6) e))
 
 -- ---- no line has a line feed
 
@@ -190,15 +209,22 @@ grants_line : (gs : List GrantRecord) → All IsGrant gs → IsFree 10 (grants_t
 grants_line [] all = word (codes "-") refl
 grants_line (g ∷ gs) all = commas (grant_text g) (map grant_text gs) (grant_lines (g ∷ gs) all)
 
+kind_line : (kind : Kind) → IsFree 10 (kind_text kind)
+kind_line Bus = word (codes "bus") refl
+kind_line Mount = word (codes "mount") refl
+
+who_line : (who : Who) → IsCaller who → IsFree 10 (who_text who)
+who_line Host k = word (codes "host") refl
+who_line (App name) k = both (codes "app:") name (word (codes "app:") refl) (name_free 10 refl name k)
+
 pub line_free : (line : ScriptLine) → KeepsRules line → IsFree 10 (line_text line)
 unfolding line_text
 line_free (File path content) k = joined (codes "file") _ (word (codes "file") refl) (joined path _ (path_line path k.0) (hex_line content k.2))
 line_free (Doc id reusable path grants) k =
     joined (codes "doc") _ (word (codes "doc") refl) (joined (doc_text id.number) _ (id_line id.number k.0)
     (joined (flags_text reusable) _ (flags_line reusable) (joined path _ (path_line path k.1) (grants_line grants k.2))))
-line_free (Open seat kind Host) k = absurd k.3
-line_free (Open seat Bus (App name)) k = absurd (cc k.2)
-line_free (Open seat Mount (App name)) k =
+line_free (Open seat kind who) k =
     joined (codes "open") _ (word (codes "open") refl) (joined (decimal seat) _ (seat_line seat k.1)
-    (joined (codes "mount") (codes "app:" ++ name) (word (codes "mount") refl) (both (codes "app:") name (word (codes "app:") refl) (name_free 10 refl name k.3))))
+    (joined (kind_text kind) (who_text who) (kind_line kind) (who_line who k.2)))
 line_free (Data seat bytes) k = joined (codes "data") _ (word (codes "data") refl) (joined (decimal seat) _ (seat_line seat k.1) (hex_line bytes k.2))
+line_free (Close seat) k = joined (codes "close") _ (word (codes "close") refl) (seat_line seat k.1)

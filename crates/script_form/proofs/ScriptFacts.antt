@@ -1,9 +1,9 @@
 -- Facts on lists of lines.
 use Rattle.std.proofs.Common.{◌≡◌, ◌≢◌, ℕ, ◌+◌, ◌*◌, ◌<◌, ◌≤◌, Bool, true, false, List, [], ◌∷◌, ◌++◌, length, refl, sym, ap, ◌∙◌, arith, map, Some, None, Option, append_assoc}
-use Rattle.std.specs.Prelude.{not, replicate}
-use Rattle.std.specs.List.{All, flat_map, join_with_byte}
+use Rattle.std.specs.Prelude.{not, ◌&&◌, replicate, slice_index_or}
+use Rattle.std.specs.List.{All, flat_map, join_with_byte, list_any}
 use Rattle.std.proofs.lemmas.Grind.{flat_map-append}
-use Rattle.std.proofs.lemmas.List.{length-append, length-map, get_or-replicate, length-replicate}
+use Rattle.std.proofs.lemmas.List.{length-append, length-map, get_or-replicate, get_or_default, length-replicate}
 use Rattle.std.proofs.lemmas.List.Elements.{All-head, All-tail}
 use Rattle.std.proofs.lemmas.List.Sums.{length-filter, count_by-le-length}
 use Rattle.portal_base.specs.Names.{is_same, doc_text}
@@ -11,14 +11,17 @@ use Rattle.portal_model.specs.Opening.{each, first_named, names_kept}
 use Rattle.portal_model.specs.Valid.{applications_limit}
 use Rattle.portal_model.specs.declared.opening.OpeningDocument.{OpeningDocument}
 use Rattle.portal_model.specs.declared.records.GrantRecord.{GrantRecord}
-use Rattle.script_form.specs.Lines.{line_text, text_of, KeepsRules, IsGrant, grant_text, grants_text, flags_text}
+use Rattle.script_form.specs.Lines.{line_text, text_of, KeepsRules, IsGrant, grant_text, grants_text, flags_text, last_seat}
 use Rattle.script_form.specs.Opening.{documents_of, document_in, applications_of}
-use Rattle.script_form.specs.Order.{MayStand, StandBehind, IsScript, NoneStands, IsBuilt, goes_with, script_limit}
-use Rattle.script_form.specs.Preceding.{Tracks}
+use Rattle.script_form.specs.Order.{MayStand, StandBehind, IsScript, NoneStands, IsBuilt, goes_with, opens, closes, script_limit}
+use Rattle.script_form.specs.Preceding.{Tracks, is_opened, is_closed}
 use Rattle.script_form.specs.Next.{TakesLine}
 use Rattle.script_form.specs.Reading.{CutsAt, IsFree}
+use Rattle.script_form.specs.declared.preceding.Number.{Number}
+use Rattle.script_form.specs.declared.preceding.Number.TheVariants.{Unopened, Closed}
+use Rattle.script_form.specs.declared.preceding.Number.TheVariants as number
 use Rattle.script_form.specs.declared.script.ScriptLine.{ScriptLine}
-use Rattle.script_form.specs.declared.script.ScriptLine.TheVariants.{File, Doc, Open, Data}
+use Rattle.script_form.specs.declared.script.ScriptLine.TheVariants.{File, Doc, Open, Data, Close}
 use Rattle.script_form.proofs.SameFacts.{grant_long, line_same, line_free}
 use Rattle.script_form.proofs.TextFacts.{cut_same, not_free}
 
@@ -90,6 +93,7 @@ line_names (Doc id reusable path grants) k =
     )
 line_names (Open seat kind who) k = omega arith
 line_names (Data seat bytes) k = omega arith
+line_names (Close seat) k = omega arith
 
 names_cons : (line : ScriptLine) (lines : List ScriptLine) → names_of (line ∷ lines) ≡ names_in line ++ names_of lines
 names_cons line lines = each_append names_kept (document_in line) (documents_of lines)
@@ -132,13 +136,29 @@ applications_fit lines line text after good k ahead short =
 
 -- ---- what is read
 
-pub new_tracks : (n : ℕ) (items : List Bool) (lines : List ScriptLine) → lines ≡ [] → n ≡ 65536 → items ≡ replicate n false → Tracks lines false items 0
+pub new_tracks : (n : ℕ) (items : List Number) (lines : List ScriptLine) → lines ≡ [] → n ≡ 65536 → items ≡ replicate n Unopened → Tracks lines false items 0
 new_tracks n items lines none all filled = rw (none, filled) (record {
   starts = refl;
-  seats = length-replicate n false ∙ all;
-  numbers = λ k inside. get_or-replicate n k false false (omega arith);
+  seats = length-replicate n Unopened ∙ all;
+  opened = λ k inside. ap is_opened (get_or-replicate n k Unopened Unopened (omega arith));
+  closed = λ k inside. ap is_closed (get_or-replicate n k Unopened Unopened (omega arith));
   count = refl;
 })
+
+-- nothing comes on a number of which the table says that it isn't open
+pub none_goes : (lines : List ScriptLine) (begun : Bool) (numbers : List Number) (documents n : ℕ) (found : Number) → Tracks lines begun numbers documents
+    → found ≡ slice_index_or numbers n found → (found ≢ number.Open) → n ≤ last_seat → (list_any (opens n) lines && not (list_any (closes n) lines)) ≡ false
+none_goes lines begun numbers documents n found tracks is other high =
+    by found (ap is_opened at ∙ tracks.opened n (omega arith)) (ap is_closed at ∙ tracks.closed n (omega arith)) other
+  where
+    at : found ≡ slice_index_or numbers n Unopened
+    at = is ∙ get_or_default numbers n found Unopened (let e = tracks.seats in omega arith)
+
+    by : (f : Number) → is_opened f ≡ list_any (opens n) lines → is_closed f ≡ list_any (closes n) lines → (f ≢ number.Open)
+        → (list_any (opens n) lines && not (list_any (closes n) lines)) ≡ false
+    by Unopened o c other = rw (← o) refl
+    by number.Open o c other = absurd (other refl)
+    by Closed o c other = rw (← o, ← c) refl
 
 pub none_by_free : (lines : List ScriptLine) (text : List ℕ) → IsFree 10 text → NoneStands lines text
 none_by_free lines text free = λ line more e stands. not_free 10 (line_text line) more (rw e at free)

@@ -23,7 +23,7 @@ use Rattle.script_form.specs.Lines.{IsGrant, IsRising, is_script_path, is_plain}
 use Rattle.script_form.specs.Opening.{opening, documents_of, files_of, applications_of, HoldsScripts}
 use Rattle.script_form.specs.Order.{StandBehind, IsScript, clash, clashes, keeps, is_doc, document_limit}
 use Rattle.script_form.specs.declared.script.ScriptLine.{ScriptLine}
-use Rattle.script_form.specs.declared.script.ScriptLine.TheVariants.{File, Doc, Open, Data}
+use Rattle.script_form.specs.declared.script.ScriptLine.TheVariants.{File, Doc, Open, Data, Close}
 use Rattle.script_form.proofs.ScriptFacts.{append_nil}
 use Rattle.script_form.proofs.TextFacts.{no_true, eqb_yes}
 use Rattle.script_form.proofs.WordFacts.{same_from_test, same_refl}
@@ -64,6 +64,7 @@ later_numbers n (Doc id reusable path grants ∷ ls) earlier kept all = (
 )
 later_numbers n (Open seat kind who ∷ ls) earlier kept all = later_numbers n ls _ (still (keeps n) earlier _ kept) all.1
 later_numbers n (Data seat bytes ∷ ls) earlier kept all = later_numbers n ls _ (still (keeps n) earlier _ kept) all.1
+later_numbers n (Close seat ∷ ls) earlier kept all = later_numbers n ls _ (still (keeps n) earlier _ kept) all.1
 
 numbers_differ : (lines earlier : List ScriptLine) → StandBehind earlier lines → IsDistinct nat_eq (numbers lines)
 unfolding IsDistinct
@@ -75,6 +76,7 @@ numbers_differ (Doc id reusable path grants ∷ ls) earlier all = (
 )
 numbers_differ (Open seat kind who ∷ ls) earlier all = numbers_differ ls _ all.1
 numbers_differ (Data seat bytes ∷ ls) earlier all = numbers_differ ls _ all.1
+numbers_differ (Close seat ∷ ls) earlier all = numbers_differ ls _ all.1
 
 path_is : (path : List ℕ) → is_script_path path ≡ true → is_host_path path ≡ true
 path_is path h = (and_parts (is_host_path path) (list_all is_plain path) h).0
@@ -88,6 +90,7 @@ paths_are (File path content ∷ ls) earlier all = paths_are ls _ all.1
 paths_are (Doc id reusable path grants ∷ ls) earlier all = both_true (is_host_path path) _ (path_is path all.0.itself.1) (paths_are ls _ all.1)
 paths_are (Open seat kind who ∷ ls) earlier all = paths_are ls _ all.1
 paths_are (Data seat bytes ∷ ls) earlier all = paths_are ls _ all.1
+paths_are (Close seat ∷ ls) earlier all = paths_are ls _ all.1
 
 grant_names : (gs : List GrantRecord) → All IsGrant gs → list_all is_app_name (map (λ (g : GrantRecord). g.app) gs) ≡ true
 grant_names [] all = refl
@@ -99,6 +102,7 @@ names_are (File path content ∷ ls) earlier all = names_are ls _ all.1
 names_are (Doc id reusable path grants ∷ ls) earlier all = both_true (list_all is_app_name (map (λ (g : GrantRecord). g.app) grants)) _ (grant_names grants all.0.itself.2) (names_are ls _ all.1)
 names_are (Open seat kind who ∷ ls) earlier all = names_are ls _ all.1
 names_are (Data seat bytes ∷ ls) earlier all = names_are ls _ all.1
+names_are (Close seat ∷ ls) earlier all = names_are ls _ all.1
 
 less_differs : (a b : List ℕ) → slice_cmp nat_cmp a b ≡ Less → is_same a b ≡ false
 less_differs a b less = no_true (is_same a b) (λ same.
@@ -123,6 +127,7 @@ grants_differ (File path content ∷ ls) earlier all = grants_differ ls _ all.1
 grants_differ (Doc id reusable path grants ∷ ls) earlier all = (rising_differ (map (λ (g : GrantRecord). g.app) grants) all.0.itself.3, grants_differ ls _ all.1)
 grants_differ (Open seat kind who ∷ ls) earlier all = grants_differ ls _ all.1
 grants_differ (Data seat bytes ∷ ls) earlier all = grants_differ ls _ all.1
+grants_differ (Close seat ∷ ls) earlier all = grants_differ ls _ all.1
 
 doc_room : (earlier : List ScriptLine) (b c : Bool) → (b && (c && nat_lt (count_by is_doc earlier) document_limit)) ≡ true → count_by is_doc earlier < 65536
 doc_room earlier b c h = ltb-true _ _ (and_parts c _ (and_parts b _ h).1).1
@@ -145,6 +150,9 @@ documents_few (Open seat kind who ∷ ls) earlier few all =
 documents_few (Data seat bytes ∷ ls) earlier few all =
     let e = count_push (Data seat bytes) earlier in
     let rest = documents_few ls (earlier ++ (Data seat bytes ∷ [])) (omega arith) all.1 in omega arith
+documents_few (Close seat ∷ ls) earlier few all =
+    let e = count_push (Close seat) earlier in
+    let rest = documents_few ls (earlier ++ (Close seat ∷ [])) (omega arith) all.1 in omega arith
 
 applications_few : (lines earlier : List ScriptLine) → length (applications_of earlier) ≤ applications_limit → StandBehind earlier lines
     → length (applications_of (earlier ++ lines)) ≤ applications_limit
@@ -183,6 +191,7 @@ later_clear p (File q content ∷ ls) earlier known all = (
 later_clear p (Doc id reusable path grants ∷ ls) earlier known all = later_clear p ls _ (known_more p earlier _ known) all.1
 later_clear p (Open seat kind who ∷ ls) earlier known all = later_clear p ls _ (known_more p earlier _ known) all.1
 later_clear p (Data seat bytes ∷ ls) earlier known all = later_clear p ls _ (known_more p earlier _ known) all.1
+later_clear p (Close seat ∷ ls) earlier known all = later_clear p ls _ (known_more p earlier _ known) all.1
 
 all_clear : (lines earlier : List ScriptLine) → StandBehind earlier lines → AllClear (paths lines)
 all_clear [] earlier all = tt
@@ -190,6 +199,7 @@ all_clear (File p content ∷ ls) earlier all = (later_clear p ls _ (λ q c. now
 all_clear (Doc id reusable path grants ∷ ls) earlier all = all_clear ls _ all.1
 all_clear (Open seat kind who ∷ ls) earlier all = all_clear ls _ all.1
 all_clear (Data seat bytes ∷ ls) earlier all = all_clear ls _ all.1
+all_clear (Close seat ∷ ls) earlier all = all_clear ls _ all.1
 
 no_root : (lines earlier : List ScriptLine) → StandBehind earlier lines → AllByRecursion (λ p. is_same p root ≡ false) (paths lines)
 no_root [] earlier all = tt
@@ -197,6 +207,7 @@ no_root (File p content ∷ ls) earlier all = (no_true (is_same p root) (λ same
 no_root (Doc id reusable path grants ∷ ls) earlier all = no_root ls _ all.1
 no_root (Open seat kind who ∷ ls) earlier all = no_root ls _ all.1
 no_root (Data seat bytes ∷ ls) earlier all = no_root ls _ all.1
+no_root (Close seat ∷ ls) earlier all = no_root ls _ all.1
 
 same_clear : (p : List ℕ) (qs : List (List ℕ)) → Clear p qs → AllByRecursion (λ q. is_same p q ≡ false) qs
 same_clear p [] clear = tt

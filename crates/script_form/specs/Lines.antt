@@ -13,7 +13,7 @@ use Rattle.portal_base.specs.declared.who.Kind.{Kind}
 use Rattle.portal_base.specs.declared.who.Kind.TheVariants.{Bus, Mount}
 use Rattle.portal_model.specs.declared.records.GrantRecord.{GrantRecord}
 use Rattle.script_form.specs.declared.script.ScriptLine.{ScriptLine}
-use Rattle.script_form.specs.declared.script.ScriptLine.TheVariants.{File, Doc, Open, Data}
+use Rattle.script_form.specs.declared.script.ScriptLine.TheVariants.{File, Doc, Open, Data, Close}
 
 -- ---- how a line is written
 
@@ -57,6 +57,7 @@ words_of (File path content) = codes "file" ∷ path ∷ hex_text content ∷ []
 words_of (Doc id reusable path grants) = codes "doc" ∷ doc_text id.number ∷ flags_text reusable ∷ path ∷ grants_text grants ∷ []
 words_of (Open seat kind who) = codes "open" ∷ decimal seat ∷ kind_text kind ∷ who_text who ∷ []
 words_of (Data seat bytes) = codes "data" ∷ decimal seat ∷ hex_text bytes ∷ []
+words_of (Close seat) = codes "close" ∷ decimal seat ∷ []
 
 -- a line without its end: its words, with one space between each two
 unfoldable pub line_text : ScriptLine → List ℕ
@@ -92,9 +93,10 @@ IsRising [] = Unit {0}
 IsRising (name ∷ []) = Unit {0}
 IsRising (name ∷ next ∷ names) = (slice_cmp nat_cmp name next ≡ Less) × IsRising (next ∷ names)
 
-abbrev pub IsApp : Who → Type 0
-IsApp Host = ⊥
-IsApp (App name) = is_app_name name ≡ true
+-- whom a connection may be bound to: the host, or an application by its name
+abbrev pub IsCaller : Who → Type 0
+IsCaller Host = Unit {0}
+IsCaller (App name) = is_app_name name ≡ true
 
 abbrev pub last_seat : ℕ
 last_seat = 65535
@@ -103,5 +105,6 @@ last_seat = 65535
 abbrev pub KeepsRules : ScriptLine → Type 0
 KeepsRules (File path content) = (is_script_path path ≡ true) × (path ≢ root) × AreBytes content
 KeepsRules (Doc id reusable path grants) = (id.number < 2 ^ 32) × (is_script_path path ≡ true) × All IsGrant grants × IsRising (map (λ grant. grant.app) grants)
-KeepsRules (Open seat kind who) = (1 ≤ seat) × (seat ≤ last_seat) × (kind ≡ Mount) × IsApp who
+KeepsRules (Open seat kind who) = (1 ≤ seat) × (seat ≤ last_seat) × IsCaller who
 KeepsRules (Data seat bytes) = (1 ≤ seat) × (seat ≤ last_seat) × AreBytes bytes
+KeepsRules (Close seat) = (1 ≤ seat) × (seat ≤ last_seat)

@@ -6,7 +6,7 @@ use Rattle.portal_model.specs.declared.opening.FileItem.{FileItem}
 use Rattle.portal_model.specs.declared.opening.OpeningDocument.{OpeningDocument}
 use Rattle.portal_model.specs.declared.opening.OpeningState.{OpeningState}
 use Rattle.script_form.specs.declared.script.ScriptLine.{ScriptLine}
-use Rattle.script_form.specs.declared.script.ScriptLine.TheVariants.{File, Doc, Open, Data}
+use Rattle.script_form.specs.declared.script.ScriptLine.TheVariants.{File, Doc, Open, Data, Close}
 
 -- the document that a line keeps
 abbrev pub document_in : ScriptLine → List OpeningDocument
@@ -14,6 +14,7 @@ document_in (File path content) = []
 document_in (Doc id reusable path grants) = record { kept = record { number = id.number; path = path; reusable = reusable; grants = grants }; persistent = true } ∷ []
 document_in (Open seat kind who) = []
 document_in (Data seat bytes) = []
+document_in (Close seat) = []
 
 -- the file that a line adds; no clock was set, so its moment is 0
 abbrev pub file_in : ScriptLine → List FileItem
@@ -21,6 +22,7 @@ file_in (File path content) = record { path = path; content = content; moment = 
 file_in (Doc id reusable path grants) = []
 file_in (Open seat kind who) = []
 file_in (Data seat bytes) = []
+file_in (Close seat) = []
 
 abbrev pub documents_of : List ScriptLine → List OpeningDocument
 documents_of lines = each document_in lines

@@ -5,7 +5,9 @@ use Rattle.std.specs.Prelude.{All, map}
 use Rattle.std.specs.Fmt.{decimal}
 use Rattle.portal_base.specs.Names.{doc_text}
 use Rattle.portal_base.specs.declared.names.doc_id.DocId.{DocId}
-use Rattle.script_form.specs.Lines.{line_text, KeepsRules, hex_text, flags_text, AreBytes, is_script_path, grant_text, grants_text, letters, IsGrant, IsRising, last_seat}
+use Rattle.portal_base.specs.declared.who.Kind.{Kind}
+use Rattle.portal_base.specs.declared.who.Who.{Who}
+use Rattle.script_form.specs.Lines.{line_text, KeepsRules, hex_text, flags_text, AreBytes, is_script_path, grant_text, grants_text, letters, IsGrant, IsRising, last_seat, kind_text, who_text, IsCaller}
 use Rattle.script_form.specs.declared.script.ScriptLine.{ScriptLine}
 
 -- the byte doesn't stand in the text
@@ -60,3 +62,9 @@ ReadsId word read = MatchOption read ((id : DocId) → id.number < 2 ^ 32 → wo
 
 abbrev pub ReadsFlags : List ℕ → Option Bool → Type 0
 ReadsFlags word read = MatchOption read ((reusable : Bool) → word ≢ flags_text reusable) (λ reusable. word ≡ flags_text reusable)
+
+abbrev pub ReadsKind : List ℕ → Option Kind → Type 0
+ReadsKind word read = MatchOption read ((kind : Kind) → word ≢ kind_text kind) (λ kind. word ≡ kind_text kind)
+
+abbrev pub ReadsWho : List ℕ → Option Who → Type 0
+ReadsWho word read = MatchOption read ((who : Who) → IsCaller who → word ≢ who_text who) (λ who. IsCaller who × (word ≡ who_text who))

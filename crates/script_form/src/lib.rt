@@ -1,7 +1,7 @@
 //! Scripts: the lines that a run is described by, read from a text.
 //!
-//! What is built are four forms of lines: `file PATH HEX`,
-//! `doc ID FLAGS PATH GRANTS`, `open N mount app:NAME` and `data N HEX`.
+//! A line has one of five forms: `file PATH HEX`, `doc ID FLAGS PATH GRANTS`,
+//! `open N KIND WHO`, `data N HEX` and `close N`.
 #![tactic(auto)]
 
 mod grants;

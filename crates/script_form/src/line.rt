@@ -1,7 +1,7 @@
 //! The reader of one line.
 
 ghost use Rattle.std.specs.Prelude.{◌≡◌, ◌++◌, ◌∷◌, IfOk, codes};
-ghost use Rattle.script_form.specs.Reading.{ReadsLine, ReadsFlags, ReadsId};
+ghost use Rattle.script_form.specs.Reading.{ReadsLine, ReadsFlags, ReadsId, ReadsKind, ReadsWho};
 
 use crate::grants::read_grants;
 use crate::script::ScriptLine;
@@ -32,6 +32,9 @@ pub fn read_line(alloc: Global, line: &[u8]) -> Result<Option<ScriptLine>, WantO
     }
     if command == b"data".as_slice() {
         return read_data(alloc, rest);
+    }
+    if command == b"close".as_slice() {
+        return Ok(read_close(rest));
     }
     Ok(None)
 }
@@ -112,28 +115,56 @@ fn read_doc(alloc: Global, rest: &[u8]) -> Result<Option<ScriptLine>, WantOfMemo
     }))
 }
 
-/// Reads `N mount app:NAME` of an `open` line.
+/// What a connection speaks, by its name.
+fn read_kind(word: &[u8]) -> Option<Kind>
+    ensures { ReadsKind word.now result }
+{
+    if word == b"bus".as_slice() {
+        return Some(Kind::Bus);
+    }
+    if word == b"mount".as_slice() {
+        return Some(Kind::Mount);
+    }
+    None
+}
+
+/// Whom a connection is bound to: `host`, or `app:NAME`.
+fn read_who(alloc: Global, word: &[u8]) -> Result<Option<Who>, WantOfMemory>
+    ensures { IfOk result (λ read. ReadsWho word.now read) }
+{
+    if word == b"host".as_slice() {
+        return Ok(Some(Who::Host));
+    }
+    let Some(name) = word.strip_prefix(b"app:".as_slice()) else {
+        return Ok(None);
+    };
+    match AppId::read(alloc, name) {
+        Ok(app) => Ok(Some(Who::App(app))),
+        Err(NameError::Memory) => Err(WantOfMemory),
+        Err(NameError::BadName { at: _ }) => Ok(None),
+    }
+}
+
+/// Reads `N KIND WHO` of an `open` line.
 fn read_open(alloc: Global, rest: &[u8]) -> Result<Option<ScriptLine>, WantOfMemory>
     ensures { IfOk result (λ read. ReadsLine (codes "open" ++ (32 ∷ rest.now)) read) }
 {
-    let Some((seat, bound)) = cut(rest, b' ') else {
+    let Some((seat, rest)) = cut(rest, b' ') else {
+        return Ok(None);
+    };
+    let Some((kind, who)) = cut(rest, b' ') else {
         return Ok(None);
     };
     let Some(seat) = read_seat(seat) else {
         return Ok(None);
     };
-    let Some(name) = bound.strip_prefix(b"mount app:".as_slice()) else {
+    let Some(kind) = read_kind(kind) else {
         return Ok(None);
     };
-    match AppId::read(alloc, name) {
-        Ok(app) => Ok(Some(ScriptLine::Open {
-            seat,
-            kind: Kind::Mount,
-            who: Who::App(app),
-        })),
-        Err(NameError::Memory) => Err(WantOfMemory),
-        Err(NameError::BadName { at: _ }) => Ok(None),
-    }
+    let Some(who) = read_who(alloc, who)? else {
+        return Ok(None);
+    };
+    Ok(Some(ScriptLine::Open { seat, kind, who }))
 }
 
 /// Reads `N HEX` of a `data` line.
@@ -150,4 +181,12 @@ fn read_data(alloc: Global, rest: &[u8]) -> Result<Option<ScriptLine>, WantOfMem
         return Ok(None);
     };
     Ok(Some(ScriptLine::Data { seat, bytes }))
+}
+
+/// Reads `N` of a `close` line.
+fn read_close(rest: &[u8]) -> Option<ScriptLine>
+    ensures { ReadsLine (codes "close" ++ (32 ∷ rest.now)) result }
+{
+    let seat = read_seat(rest)?;
+    Some(ScriptLine::Close { seat })
 }

@@ -91,7 +91,10 @@ fn add_document(
             },
             persistent: true,
         }),
-        ScriptLine::File { .. } | ScriptLine::Open { .. } | ScriptLine::Data { .. } => Ok(()),
+        ScriptLine::File { .. }
+        | ScriptLine::Open { .. }
+        | ScriptLine::Data { .. }
+        | ScriptLine::Close { .. } => Ok(()),
     }
 }
 
@@ -133,7 +136,10 @@ fn add_file(
             content: content.replica(alloc)?,
             moment: 0,
         }),
-        ScriptLine::Doc { .. } | ScriptLine::Open { .. } | ScriptLine::Data { .. } => Ok(()),
+        ScriptLine::Doc { .. }
+        | ScriptLine::Open { .. }
+        | ScriptLine::Data { .. }
+        | ScriptLine::Close { .. } => Ok(()),
     }
 }
 

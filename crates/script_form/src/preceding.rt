@@ -18,16 +18,27 @@ const DOCUMENT_LIMIT: usize = 65_536;
 /// How many numbers of connections there are, 0 among them.
 const SEATS: usize = 65_536;
 
+/// What became of a connection's number.
+#[derive(Clone, Copy, Debug)]
+pub enum Number {
+    /// No line opens it.
+    Unopened,
+    /// A line opens it, and none closes it.
+    Open,
+    /// A line opens it, and one closes it.
+    Closed,
+}
+
 /// The lines so far. What each next line asks about them is kept beside them,
-/// so that no `data` line walks the lines before it.
+/// so that no `open`, `data` or `close` line walks the lines before it.
 #[derive(Drop)]
 pub struct Preceding {
     /// The lines.
     pub lines: List<ScriptLine>,
     /// Whether one of them opens a connection.
     pub begun: bool,
-    /// Which numbers they open.
-    pub opened: Vec<bool>,
+    /// What became of each number.
+    pub numbers: Vec<Number>,
     /// How many documents they keep.
     pub documents: usize,
 }
@@ -55,7 +66,10 @@ fn line_clashes(path: &[u8], line: &ScriptLine) -> bool
 {
     match line {
         ScriptLine::File { path: other, .. } => paths_clash(path, other.as_bytes()),
-        ScriptLine::Doc { .. } | ScriptLine::Open { .. } | ScriptLine::Data { .. } => false,
+        ScriptLine::Doc { .. }
+        | ScriptLine::Open { .. }
+        | ScriptLine::Data { .. }
+        | ScriptLine::Close { .. } => false,
     }
 }
 
@@ -65,19 +79,22 @@ fn line_keeps(number: u32, line: &ScriptLine) -> bool
 {
     match line {
         ScriptLine::Doc { id, .. } => id.number == number,
-        ScriptLine::File { .. } | ScriptLine::Open { .. } | ScriptLine::Data { .. } => false,
+        ScriptLine::File { .. }
+        | ScriptLine::Open { .. }
+        | ScriptLine::Data { .. }
+        | ScriptLine::Close { .. } => false,
     }
 }
 
 impl Preceding {
     /// No lines.
     pub fn new(alloc: Global) -> Result<Preceding, WantOfMemory>
-        ensures { IfOk result (λ none. (none.lines ≡ []) × Tracks none.lines none.begun none.opened.items none.documents) }
+        ensures { IfOk result (λ none. (none.lines ≡ []) × Tracks none.lines none.begun none.numbers.items none.documents) }
     {
         Ok(Preceding {
             lines: List::new(alloc),
             begun: false,
-            opened: vec![in alloc; false; SEATS]?,
+            numbers: vec![in alloc; Number::Unopened; SEATS]?,
             documents: 0,
         })
     }
@@ -104,7 +121,7 @@ impl Preceding {
 
     /// Whether the line goes with those so far.
     pub fn allows(&self, line: &ScriptLine) -> bool
-        requires tracks { Tracks self.now.lines self.now.begun self.now.opened.items self.now.documents }
+        requires tracks { Tracks self.now.lines self.now.begun self.now.numbers.items self.now.documents }
         requires rules { KeepsRules line.now }
         ensures { result ≡ goes_with self.now.lines line.now }
     {
@@ -113,25 +130,30 @@ impl Preceding {
             ScriptLine::Doc { id, .. } => {
                 !self.begun && !self.has_kept(id.number) && self.documents < DOCUMENT_LIMIT
             }
-            ScriptLine::Open { seat, .. } => !self.opened[*seat as usize],
-            ScriptLine::Data { seat, .. } => self.opened[*seat as usize],
+            ScriptLine::Open { seat, .. } => {
+                matches!(self.numbers[*seat as usize], Number::Unopened)
+            }
+            ScriptLine::Data { seat, .. } | ScriptLine::Close { seat } => {
+                matches!(self.numbers[*seat as usize], Number::Open)
+            }
         }
     }
 
     /// Puts the line behind those so far, with which it goes.
     pub fn push(&mut self, line: ScriptLine) -> Result<(), WantOfMemory>
-        requires tracks { Tracks self.old.lines self.old.begun self.old.opened.items self.old.documents }
+        requires tracks { Tracks self.old.lines self.old.begun self.old.numbers.items self.old.documents }
         requires rules { KeepsRules line }
         requires order { goes_with self.old.lines line ≡ true }
-        ensures { OnOk result ((self.new.lines ≡ self.old.lines ++ line ∷ []) × Tracks self.new.lines self.new.begun self.new.opened.items self.new.documents) }
+        ensures { OnOk result ((self.new.lines ≡ self.old.lines ++ line ∷ []) × Tracks self.new.lines self.new.begun self.new.numbers.items self.new.documents) }
     {
         match &line {
             ScriptLine::File { .. } | ScriptLine::Data { .. } => {}
             ScriptLine::Doc { .. } => self.documents += 1,
             ScriptLine::Open { seat, .. } => {
                 self.begun = true;
-                self.opened[*seat as usize] = true;
+                self.numbers[*seat as usize] = Number::Open;
             }
+            ScriptLine::Close { seat } => self.numbers[*seat as usize] = Number::Closed,
         }
         self.lines.push(line)
     }

@@ -49,7 +49,7 @@ fn built(preceding: Preceding, unbuilt: Option<u64>) -> BuiltScript
     let Preceding {
         lines,
         begun: _,
-        opened: _,
+        numbers: _,
         documents: _,
     } = preceding;
     BuiltScript {
@@ -65,10 +65,10 @@ fn read_next<'a>(
     preceding: &mut Preceding,
     text: &'a [u8],
 ) -> Result<Option<&'a [u8]>, WantOfMemory>
-    requires tracks { Tracks preceding.old.lines preceding.old.begun preceding.old.opened.items preceding.old.documents }
+    requires tracks { Tracks preceding.old.lines preceding.old.begun preceding.old.numbers.items preceding.old.documents }
     requires good { IsScript preceding.old.lines }
     requires short { length (text_of preceding.old.lines) + length text.now ≤ script_limit }
-    ensures { IfOk result (λ after. MatchOption after ((preceding.new.lines ≡ preceding.old.lines) × NoneStands preceding.old.lines text.entry.now) (λ a. TakesLine preceding.old.lines text.entry.now preceding.new.lines a.now) × Tracks preceding.new.lines preceding.new.begun preceding.new.opened.items preceding.new.documents) }
+    ensures { IfOk result (λ after. MatchOption after ((preceding.new.lines ≡ preceding.old.lines) × NoneStands preceding.old.lines text.entry.now) (λ a. TakesLine preceding.old.lines text.entry.now preceding.new.lines a.now) × Tracks preceding.new.lines preceding.new.begun preceding.new.numbers.items preceding.new.documents) }
 {
     let Some((line, after)) = cut(text, b'\n') else {
         return Ok(None);

@@ -43,6 +43,11 @@ pub enum ScriptLine {
         /// The bytes.
         bytes: ByteList,
     },
+    /// `close N`: the end of a connection's input.
+    Close {
+        /// The number of the connection.
+        seat: u32,
+    },
 }
 
 /// A script.

@@ -30,16 +30,40 @@ fn stop_of(rt: &impl Abort, alloc: Global, text: &[u8]) -> Option<u64> {
     read(rt, alloc, text).unbuilt
 }
 
+/// Whether the line opens a connection of that kind for the host.
+fn opens_for_host(line: &ScriptLine, speaks: Kind) -> bool {
+    match line {
+        ScriptLine::Open {
+            kind,
+            who: Who::Host,
+            ..
+        } => *kind == speaks,
+        _ => false,
+    }
+}
+
+/// Whether the line opens a connection of that kind for an application.
+fn opens_for_app(line: &ScriptLine, speaks: Kind, name: &[u8]) -> bool {
+    match line {
+        ScriptLine::Open {
+            kind,
+            who: Who::App(app),
+            ..
+        } => *kind == speaks && app.as_bytes() == name,
+        _ => false,
+    }
+}
+
 #[test]
 fn a_script_of_each_form_is_read(rt: HostRuntime) {
     let read = read(
         &rt,
         rt.alloc(),
-        b"file /home/a.txt 68656c6c6f\ndoc 0000000a r /home/a.txt org.ed=rw,org.other=g\nopen 65535 mount app:org.ed\ndata 65535 -\n",
+        b"file /home/a.txt 68656c6c6f\ndoc 0000000a r /home/a.txt org.ed=rw,org.other=g\nopen 65535 mount app:org.ed\ndata 65535 -\nclose 65535\n",
     );
     assert_eq!(rt; read.unbuilt, None);
     let lines = read.script.lines.as_slice();
-    assert_eq!(rt; lines.len(), 4);
+    assert_eq!(rt; lines.len(), 5);
     match &lines[0] {
         ScriptLine::File { path, content } => {
             assert_eq!(rt; path.as_bytes(), b"/home/a.txt".as_slice());
@@ -83,6 +107,7 @@ fn a_script_of_each_form_is_read(rt: HostRuntime) {
         }
         _ => panic!(rt; "a data line"),
     }
+    assert!(rt; matches!(&lines[4], ScriptLine::Close { seat: 65_535 }));
 }
 
 #[test]
@@ -106,9 +131,10 @@ fn a_line_of_another_form_stops_the_reader(rt: HostRuntime) {
         b"file /a\n",
         b"file /a -\r\n",
         b"FILE /a -\n",
-        b"open 1 bus host\n",
-        b"open 1 mount host\n",
-        b"close 1\n",
+        b"open 1 pipe host\n",
+        b"open 1 bus root\n",
+        b"open 1 bus\n",
+        b"close 1 -\n",
         b"word 0000000a\n",
     ] {
         assert_eq!(rt; stop_of(&rt, alloc, text), Some(1));
@@ -145,6 +171,8 @@ fn a_word_out_of_form_stops_the_reader(rt: HostRuntime) {
         b"open 65536 mount app:a\n",
         b"open 1 mount app:\n",
         b"open 1 mount app:..\n",
+        b"open 1 bus app:\n",
+        b"close 0\n",
     ] {
         assert_eq!(rt; stop_of(&rt, alloc, text), Some(1));
     }
@@ -163,6 +191,7 @@ fn a_line_that_does_not_go_with_those_before_stops_the_reader(rt: HostRuntime) {
         b"open 1 mount app:a\ndoc 0000000a r /a -\n",
         b"open 1 mount app:a\ndata 2 -\n",
         b"open 1 mount app:a\ndata 01 -\n",
+        b"open 1 bus host\nclose 2\n",
     ] {
         assert_eq!(rt; stop_of(&rt, alloc, text), Some(2));
     }
@@ -170,10 +199,39 @@ fn a_line_that_does_not_go_with_those_before_stops_the_reader(rt: HostRuntime) {
         stop_of(
             &rt,
             alloc,
-            b"file /a -\nfile /ab -\ndoc 0000000a - /a -\nopen 2 mount app:a\nopen 1 mount app:a\ndata 2 00\n"
+            b"file /a -\nfile /ab -\ndoc 0000000a - /a -\nopen 2 mount app:a\nopen 1 mount app:a\ndata 2 00\nclose 2\ndata 1 -\nclose 1\n"
         ),
         None
     );
+}
+
+#[test]
+fn a_number_that_is_closed_stays_closed(rt: HostRuntime) {
+    let alloc = rt.alloc();
+    for text in [
+        b"open 1 bus host\nclose 1\nclose 1\n".as_slice(),
+        b"open 1 bus host\nclose 1\ndata 1 -\n",
+        b"open 1 bus host\nclose 1\nopen 1 bus host\n",
+    ] {
+        assert_eq!(rt; stop_of(&rt, alloc, text), Some(3));
+    }
+}
+
+#[test]
+fn each_kind_is_opened_for_each_caller(rt: HostRuntime) {
+    let read = read(
+        &rt,
+        rt.alloc(),
+        b"open 1 bus host\nopen 2 bus app:a\nopen 3 mount host\nopen 4 mount app:b\nclose 4\n",
+    );
+    assert_eq!(rt; read.unbuilt, None);
+    let lines = read.script.lines.as_slice();
+    assert_eq!(rt; lines.len(), 5);
+    assert!(rt; opens_for_host(&lines[0], Kind::Bus));
+    assert!(rt; opens_for_app(&lines[1], Kind::Bus, b"a"));
+    assert!(rt; opens_for_host(&lines[2], Kind::Mount));
+    assert!(rt; opens_for_app(&lines[3], Kind::Mount, b"b"));
+    assert!(rt; matches!(&lines[4], ScriptLine::Close { seat: 4 }));
 }
 
 #[test]

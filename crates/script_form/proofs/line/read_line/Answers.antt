@@ -12,3 +12,4 @@ returns c = λ line rules same. other_line c.args.line.now c.in-Some.command.now
     (λ e. differ c.in-Some.command.now c.as_slice-2.result.now (sym c.if-eq-2.ensures) (e ∙ sym c.as_slice-2.ensures))
     (λ e. differ c.in-Some.command.now c.as_slice-3.result.now (sym c.if-eq-3.ensures) (e ∙ sym c.as_slice-3.ensures))
     (λ e. differ c.in-Some.command.now c.as_slice-4.result.now (sym c.if-eq-4.ensures) (e ∙ sym c.as_slice-4.ensures))
+    (λ e. differ c.in-Some.command.now c.as_slice-5.result.now (sym c.if-eq-5.ensures) (e ∙ sym c.as_slice-5.ensures))

@@ -9,7 +9,7 @@ abbrev pub invariant-loop-rest : goal.invariant-loop-rest
 invariant-loop-rest l = record {
   cut : l.text ≡ text_of l.preceding.lines ++ l.rest;
   good : IsScript l.preceding.lines;
-  tracks : Tracks l.preceding.lines l.preceding.begun l.preceding.opened.items l.preceding.documents;
+  tracks : Tracks l.preceding.lines l.preceding.begun l.preceding.numbers.items l.preceding.documents;
 }
 
 abbrev pub decreases-loop-rest : goal.decreases-loop-rest
