@@ -6,13 +6,13 @@ use Rattle.script_form.specs.declared.preceding.Number.{Number}
 use Rattle.script_form.specs.declared.preceding.Number.TheVariants.{Unopened, Open, Closed}
 use Rattle.script_form.specs.declared.script.ScriptLine.{ScriptLine}
 
--- a line opens the number
+-- whether a line opens a number of which this became
 abbrev pub is_opened : Number → Bool
 is_opened Unopened = false
 is_opened Open = true
 is_opened Closed = true
 
--- a line closes the number
+-- whether a line closes it
 abbrev pub is_closed : Number → Bool
 is_closed Unopened = false
 is_closed Open = false

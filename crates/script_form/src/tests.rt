@@ -134,6 +134,7 @@ fn a_line_of_another_form_stops_the_reader(rt: HostRuntime) {
         b"open 1 pipe host\n",
         b"open 1 bus root\n",
         b"open 1 bus\n",
+        b"close\n",
         b"close 1 -\n",
         b"word 0000000a\n",
     ] {
@@ -173,6 +174,7 @@ fn a_word_out_of_form_stops_the_reader(rt: HostRuntime) {
         b"open 1 mount app:..\n",
         b"open 1 bus app:\n",
         b"close 0\n",
+        b"close 01\n",
     ] {
         assert_eq!(rt; stop_of(&rt, alloc, text), Some(1));
     }
