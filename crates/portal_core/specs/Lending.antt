@@ -1,5 +1,5 @@
 -- The desk of one seat at a history that it borrows.
-use Rattle.std.specs.Prelude.{◌≡◌, ◌-◌, ◌^◌, ◌<◌, ◌≤◌, ℕ, List, [], ◌++◌, refl}
+use Rattle.std.specs.Prelude.{◌≡◌, ◌≤◌, ℕ, List, [], ◌++◌, refl}
 use Rattle.std.specs.List.{All}
 use Rattle.std.proofs.Common.{◌∙◌, sym, ap, subst, arith}
 use Rattle.std.proofs.lemmas.List.{append-nil, append_assoc}
@@ -21,12 +21,12 @@ seated_at s h seat refusals = record { opening = s; seat = seat; seen = h; mine 
 abbrev pub GrowsByOwn : (Entry → Type 0) → ℕ → List Entry → List Entry → Type 0
 GrowsByOwn says seat old new = (more : List Entry) × (new ≡ old ++ more) × All (λ e. (e.seat ≡ seat) × says e) more
 
--- the history goes on, and the count of refusals doesn't fall. Where the count stands still below its last
--- value, the history grew by entries of this seat alone
+-- the count of refusals doesn't fall, and whatever was refused, the history grew by entries of this seat
+-- alone: a desk alone borrows what keeps the history, so no other seat asks in between
 pub record GoesOn (says : Entry → Type 0) (old new : Seated) : Type 0 where
   pub moved : Moved old new
   pub count : old.refusals ≤ new.refusals
-  pub own : old.refusals ≡ new.refusals → new.refusals < 2 ^ 64 - 1 → GrowsByOwn says old.seat old.seen new.seen
+  pub own : GrowsByOwn says old.seat old.seen new.seen
 
 -- ---- its laws, which a desk that goes on so gives
 
@@ -34,7 +34,7 @@ pub goes_nowhere : (says : Entry → Type 0) (d : Seated) → GoesOn says d d
 goes_nowhere says d = record {
   moved = record { opening = refl; seat = refl; begins = ([], sym (append-nil d.seen)) };
   count = omega arith;
-  own = λ e l. ([], sym (append-nil d.seen), All-nil _);
+  own = ([], sym (append-nil d.seen), All-nil _);
 }
 
 -- the entries of a seat are those of an equal one
@@ -56,8 +56,5 @@ goes_further says d e f p q = record {
     begins = (p.moved.begins.0 ++ q.moved.begins.0, q.moved.begins.1 ∙ (ap (λ (x : List Entry). x ++ q.moved.begins.0) p.moved.begins.1 ∙ append_assoc d.seen p.moved.begins.0 q.moved.begins.0));
   };
   count = let a = p.count in let b = q.count in omega arith;
-  own = λ k l.
-      let a = p.count in
-      let b = q.count in
-      own_further says d.seat d.seen e.seen f.seen (p.own (omega arith) (omega arith)) (own_of_same says e.seat d.seat p.moved.seat e.seen f.seen (q.own (omega arith) l));
+  own = own_further says d.seat d.seen e.seen f.seen p.own (own_of_same says e.seat d.seat p.moved.seat e.seen f.seen q.own);
 }

@@ -8,8 +8,9 @@ use portal_model::reply::{Refused, Reply};
 use portal_model::request::Request;
 use std::alloc::Global;
 
-/// One seat of a portal that it borrows. It sees the whole history, and counts
-/// its own refusals up to the greatest `u64`.
+/// One seat of a portal that it borrows. No other seat asks meanwhile, so the
+/// history grows by entries of this seat alone. It sees the whole history, and
+/// counts its own refusals up to the greatest `u64`.
 #[derive(Drop)]
 pub struct LocalDesk<'a, S> {
     portal: &'a mut S,

@@ -1,7 +1,7 @@
 //! What can be said of any desk, by the trait alone, and of a portal that was
 //! lent to one.
 
-ghost use Rattle.std.specs.Prelude.{◌≡◌, ◌+◌, ◌≤◌, length, IsTrue, OnOk};
+ghost use Rattle.std.specs.Prelude.{◌≡◌, ◌+◌, ◌≤◌, length, OnOk};
 ghost use Rattle.portal_model.specs.Opening.{opened};
 ghost use Rattle.portal_model.specs.Seated.{BeginsWith, Known, Moved};
 ghost use Rattle.portal_core.specs.Examples.{nothing_within};
@@ -34,13 +34,13 @@ fn visit<D: Desk>(desk: &mut D, alloc: Global, who: Who, kind: Kind) -> Result<(
     Ok(())
 }
 
-/// Lends a portal to the same. What is said of the portal afterwards is what a
-/// desk's `goes` says.
+/// Lends a portal to the same, and tells whether nothing was refused. What is
+/// said of the portal afterwards is what a desk's `goes` says.
 fn visit_alone(portal: &mut Portal, alloc: Global, seat: u32, who: Who, kind: Kind) -> bool
     requires { 1 ≤ seat }
     ensures opening { opened portal.new.opening ≡ opened portal.old.opening }
     ensures begins { BeginsWith portal.new.history portal.old.history }
-    ensures own { IsTrue result → GrowsByOwn is_faultless seat portal.old.history portal.new.history }
+    ensures own { GrowsByOwn is_faultless seat portal.old.history portal.new.history }
 {
     let mut desk = LocalDesk::new(portal, seat);
     let _ = visit(&mut desk, alloc, who, kind);
