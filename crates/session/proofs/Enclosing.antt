@@ -1,7 +1,6 @@
 -- A connection's own entries: Enter, those of its items, and Leave; and what they are replied.
-use Rattle.std.proofs.Common.{◌≡◌, inl, inr, ℕ, ◌+◌, ◌≤◌, List, [], ◌∷◌, ◌++◌, ◌==◌, length, map, Bool, true, false, cond, Option, Some, None, refl, sym, ap, ◌∙◌, subst, arith}
-use Rattle.std.specs.Prelude.{◌⊎◌, slice_get}
-use Rattle.std.specs.Option.{option_map}
+use Rattle.std.proofs.Common.{◌≡◌, inl, inr, ℕ, ◌≤◌, List, [], ◌∷◌, ◌++◌, ◌==◌, length, Bool, true, false, cond, Option, Some, None, refl, sym, ap, ◌∙◌, subst, arith}
+use Rattle.std.specs.Prelude.{slice_get}
 use Rattle.std.proofs.lemmas.Bool.Decides.{nat_tests}
 use Rattle.std.proofs.lemmas.List.{append_assoc, append_cancel_left, map-append}
 use Rattle.portal_base.specs.declared.who.Who.{Who}
@@ -10,7 +9,7 @@ use Rattle.portal_model.specs.declared.reply.Refused.{Refused}
 use Rattle.portal_model.specs.declared.reply.Refused.TheVariants as refused
 use Rattle.portal_model.specs.declared.request.Request.{Request}
 use Rattle.portal_model.specs.History.{Legal, makes, of_seat, replies, run}
-use Rattle.portal_model.specs.Seated.{BeginsWith, Binding, Exchange, Known, Seated, binding_of, bound, bound_by, is_open, state_seen}
+use Rattle.portal_model.specs.Seated.{BeginsWith, Binding, Exchange, Known, Seated, bound, bound_by, is_open, state_seen}
 use Rattle.portal_model.specs.State.{State, connection_of}
 use Rattle.portal_model.specs.Step.{reply_at}
 use Rattle.portal_model.specs.World.{app_run, trace}
@@ -25,7 +24,7 @@ use Rattle.session.specs.Answers.{Answers, AreOf, Denied, Gives, IsOf, Made, Out
 use Rattle.session.specs.Asked.{asked_by}
 use Rattle.session.specs.Connections.{Encloses, EndsAs, Front, Half, IsRefused, Serves, Whole, between}
 use Rattle.session.specs.Isolation.{IsIsolated}
-use Rattle.session.specs.Ledger.{Grew, Grows, World}
+use Rattle.session.specs.Ledger.{Grew, World}
 use Rattle.session.specs.Pumps.{Spring}
 use Rattle.session.specs.Sessions.{enter}
 use Rattle.session.proofs.Growing.{grew_none, kept-append}
@@ -89,11 +88,11 @@ half_connects c read v w k = (
       (plain_on k.outcomes k.last_outcomes (answers_plain k.acts 0 k.mid k.outcomes k.pieces k.answers) (gives_plain k.act k.mid k.last k.last_outcomes k.last_pieces k.gives)),
 )
 
-refused_connects : (c : Client) (why : Refused) (read : List ℕ) (v w : World) → IsRefused c why read v w → Connects c v.seated w.seated
-refused_connects c why read v w h = (Denied (enter c) why ∷ [], h.1.desk, inl refl)
+refused_connects : (c : Client) (why : Refused) (read : List ℕ) (i j : Spring) (v w : World) → IsRefused c why read i j v w → Connects c v.seated w.seated
+refused_connects c why read i j v w h = (Denied (enter c) why ∷ [], h.1.desk, inl refl)
 
-none_connects : (c : Client) (v w : World) → w ≡ v → Connects c v.seated w.seated
-none_connects c v w e = ([], subst (λ (z : World). Grew v.seated [] z.seated) (sym e) (grew_none v.seated), inl refl)
+none_connects : (c : Client) (v w : World) → w.seated ≡ v.seated → Connects c v.seated w.seated
+none_connects c v w e = ([], subst (λ (z : Seated). Grew v.seated [] z) (sym e) (grew_none v.seated), inl refl)
 
 ends_connect : (c : Client) (r : Served) (read : List ℕ) (i j : Spring) (v w : World) → EndsAs c r read i j v w → Connects c v.seated w.seated
 ends_connect c served.Ended read i j v w h = whole_connects c read _ _ v w h.1
@@ -103,12 +102,12 @@ ends_connect c (served.LineTooLong at) read i j v w h = whole_connects c read _ 
 ends_connect c (served.Unbuilt at) read i j v w h = whole_connects c read _ _ v w h.2
 ends_connect c served.ReadFault read i j v w h = whole_connects c read _ _ v w h.1.1
 ends_connect c served.WriteFault read i j v w h = half_connects c read v w h.1
-ends_connect c served.Spent read i j v w h = whole_connects c h.1.0 _ _ v w h.1.4
-ends_connect c (served.Full now limit) read i j v w h = refused_connects c (refused.Full now limit) read v w h
+ends_connect c served.Spent read i j v w h = whole_connects c h.1.0 _ _ v w h.1.5
+ends_connect c (served.Full now limit) read i j v w h = refused_connects c (refused.Full now limit) read i j v w h
 ends_connect c served.Memory read i j v w (inl (inl h)) = none_connects c v w h.1
-ends_connect c served.Memory read i j v w (inl (inr h)) = refused_connects c refused.Memory read v w h
-ends_connect c served.Memory read i j v w (inr (inl h)) = front_connects c read v w h
-ends_connect c served.Memory read i j v w (inr (inr h)) = half_connects c read v w h
+ends_connect c served.Memory read i j v w (inl (inr h)) = refused_connects c refused.Memory read i j v w h
+ends_connect c served.Memory read i j v w (inr (inl h, last)) = front_connects c read v w h
+ends_connect c served.Memory read i j v w (inr (inr h, last)) = half_connects c read v w h
 
 pub serves_connect : (c : Client) (r : Served) (i j : Spring) (v w : World) → Serves c r i j v w → Connects c v.seated w.seated
 serves_connect c r i j v w h = ends_connect c r h.0 i j v w h.3

@@ -1,28 +1,24 @@
 -- What an application is served, by the trace of its history.
-use Rattle.std.proofs.Common.{◌≡◌, ◌≢◌, inl, inr, ℕ, ◌+◌, ◌≤◌, List, [], ◌∷◌, ◌++◌, length, map, Bool, true, false, cond, eqb, Option, Some, None, refl, sym, ap, ◌∙◌, subst, arith}
+use Rattle.std.proofs.Common.{◌≡◌, inl, inr, ℕ, List, [], ◌∷◌, ◌++◌, length, Bool, true, cond, Option, Some, None, refl, sym, ap, ◌∙◌, subst}
 use Rattle.std.specs.Prelude.{slice_get, ◌⊎◌}
 use Rattle.std.specs.Option.{option_map}
-use Rattle.std.proofs.lemmas.Bool.Decides.{nat_tests}
-use Rattle.std.proofs.lemmas.List.{append-nil, append_assoc, length-append, map-append, append_cancel_left}
+use Rattle.std.proofs.lemmas.List.{append_assoc}
 use Rattle.portal_base.specs.declared.who.Kind.{Kind}
 use Rattle.portal_base.specs.declared.who.Who.{Who}
 use Rattle.portal_model.specs.declared.entry.Entry.{Entry}
 use Rattle.portal_model.specs.declared.reply.Reply.{Reply}
 use Rattle.portal_model.specs.declared.request.Request.{Request}
 use Rattle.portal_model.specs.declared.state.Connection.{Connection}
-use Rattle.portal_model.specs.History.{Legal, is_by, maker, makes, made_by, of_seat, replies, run}
-use Rattle.portal_model.specs.Seated.{Binding, Exchange, Known, Seated, binding_of, bound, bound_after, bound_by, is_open, state_seen}
-use Rattle.portal_model.specs.State.{State, connection_of}
+use Rattle.portal_model.specs.History.{Legal, is_by, makes, made_by, replies, run}
+use Rattle.portal_model.specs.Seated.{Binding, binding_of, bound_after, bound_by}
+use Rattle.portal_model.specs.State.{State}
 use Rattle.portal_model.specs.Step.{after, reply_at}
 use Rattle.portal_model.specs.World.{app_run, trace}
 use Rattle.portal_model.proofs.Finds.{is_same-refl}
-use Rattle.portal_model.proofs.Histories.{of_seat-append, run-append}
-use Rattle.portal_model.proofs.SeatLaws.{begins-between, exchanges-entries, run-bound}
 use Rattle.portal_model.proofs.WorldLaws.{replies_of_trace}
 use Rattle.session.specs.declared.act.Client.{Client}
-use Rattle.session.specs.Isolation.{IsIsolated, IsServed}
 use Rattle.session.specs.Sessions.{enter}
-use Rattle.session.proofs.Staying.{IsPlain, bound_stays, entries_of}
+use Rattle.session.proofs.Staying.{IsPlain, bound_stays}
 
 -- ---- replies by place
 

@@ -16,3 +16,4 @@ pub mod Telling
 pub mod Connecting
 pub mod Asking
 pub mod Enclosing
+pub mod Completing
