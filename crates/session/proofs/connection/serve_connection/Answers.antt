@@ -6,7 +6,7 @@ use Rattle.session.specs.Standings.{client}
 use Rattle.session.specs.declared.served.Served.{Served}
 use Rattle.session.specs.declared.served.Served.TheVariants as served
 use Rattle.session.proofs.Connecting.{begun_fresh, serves_closed, serves_faulted, serves_refused, still_open}
-use Rattle.session.proofs.Enclosing.{isolated, serves_connect}
+use Rattle.session.proofs.Enclosing.{heard, isolated, serves_connect}
 use Rattle.session.proofs.connection.serve_connection.Goals as goal
 
 pub pump-pumped-requires : goal.pump-pumped-requires
@@ -31,6 +31,7 @@ returns-in-Err g c =
       serves = s;
       closed_now = c.in-Err.ensures.still_closed;
       known = c.known-in-Err.ensures;
+      heard = heard who d0 d3 c.known.ensures c.known-in-Err.ensures (serves_connect who c.refused_ending.result i i (world d0 o f) (world d3 o f) s) c.requires;
       isolated = isolated who d0 d3 c.known.ensures c.known-in-Err.ensures (serves_connect who c.refused_ending.result i i (world d0 o f) (world d3 o f) s) c.requires;
       goes = c.in-Err.ensures.goes;
     }
@@ -54,6 +55,7 @@ returns-in-Fault g c =
       serves = s;
       closed_now = c.end-served.ensures.closed_now;
       known = c.known-2.ensures;
+      heard = heard who d0 d3 c.known.ensures c.known-2.ensures (serves_connect who served.ReadFault i j (world d0 o f) (world d3 n k) s) c.requires;
       isolated = isolated who d0 d3 c.known.ensures c.known-2.ensures (serves_connect who served.ReadFault i j (world d0 o f) (world d3 n k) s) c.requires;
       goes = g.met.D.Desk.follows _ _ _ c.in-Ok.ensures.goes (g.met.D.Desk.follows _ _ _ c.pump-pumped.ensures.goes c.end-served.ensures.goes);
     }
@@ -77,6 +79,7 @@ returns-in_default g c =
       serves = s;
       closed_now = c.end-served.ensures.closed_now;
       known = c.known-2.ensures;
+      heard = heard who d0 d3 c.known.ensures c.known-2.ensures (serves_connect who c.end-served.result i j (world d0 o f) (world d3 n k) s) c.requires;
       isolated = isolated who d0 d3 c.known.ensures c.known-2.ensures (serves_connect who c.end-served.result i j (world d0 o f) (world d3 n k) s) c.requires;
       goes = g.met.D.Desk.follows _ _ _ c.in-Ok.ensures.goes (g.met.D.Desk.follows _ _ _ c.pump-pumped.ensures.goes c.end-served.ensures.goes);
     }
