@@ -26,9 +26,8 @@ pub const LONGEST: u64 = 1 << 40;
 
 /// One connection of a client, open at a desk.
 ///
-/// Contracts see its client, how far its stream has come, how many bytes stood
-/// before the rest, the rest, which is no whole item yet, and what the last
-/// piece came to.
+/// Contracts see its client, how far its stream has come, how many bytes were
+/// taken as items, the rest behind them, and what the last piece came to.
 #[derive(Drop)]
 pub struct Session {
     client: Client,
@@ -132,7 +131,7 @@ impl Session {
         self.fed
     }
 
-    /// How many bytes are held that are no whole item yet.
+    /// How many bytes are held behind those that were taken as items.
     pub fn held(&self) -> usize
         ensures { result ≡ length self.now.rest }
     {
