@@ -1,5 +1,6 @@
 -- What the calls of a session come to.
 use Rattle.std.proofs.Common.{◌≡◌, inl, ℕ, ◌+◌, ◌≤◌, List, [], ◌++◌, length, drop, true, false, Result, Ok, Err, refl, sym, subst}
+use Rattle.std.specs.Prelude.{OnErr}
 use Rattle.portal_base.specs.declared.who.Kind.{Kind}
 use Rattle.portal_base.specs.declared.who.Who.{Who}
 use Rattle.portal_model.specs.declared.reply.Refused.{Refused}
@@ -14,12 +15,12 @@ use Rattle.session.specs.declared.served.Fed.TheVariants as fed
 use Rattle.session.specs.declared.served.Halt.{Halt}
 use Rattle.session.specs.declared.served.Halt.TheVariants as halt
 use Rattle.session.specs.Ledger.{Began, Stops, World}
-use Rattle.session.specs.Sessions.{Feeds, FeedsOpen, IsBound, IsOpen, fed_of, halted, longest}
+use Rattle.session.specs.Sessions.{Feeds, FeedsOpen, HasRoom, IsBound, IsOpen, fed_of, halted, longest}
 use Rattle.session.specs.Standings.{Standing}
 use Rattle.session.proofs.Doing.{did_none}
 use Rattle.session.proofs.Feeding.{feeds_rest, takes}
-use Rattle.session.proofs.Growing.{asked_ok}
-use Rattle.session.proofs.Staying.{enter_opens, feeds_let, stays_open}
+use Rattle.session.proofs.Growing.{asked_err, asked_ok}
+use Rattle.session.proofs.Staying.{enter_opens, feeds_let, left_closed, refusal_keeps_closed, stays_open}
 
 -- ---- Enter and Leave
 
@@ -27,6 +28,20 @@ pub enter_asked : (who : Who) (kind : Kind) (v w : Seated) (reply : Reply) → K
 enter_asked who kind v w reply a b closed h =
     let x = asked_ok v w (Request.Enter who kind) reply h in
     enter_opens who kind v w x.0 a b closed x.1 x.3
+
+pub whatever_err : {X E P : Type 0} (r : Result X E) → P → OnErr r P
+whatever_err (Ok x) p = tt
+whatever_err (Err e) p = p
+
+-- where Enter is refused none is open, as before
+pub enter_refused : (who : Who) (kind : Kind) (v w : Seated) (why : Refused) → Known v → Known w → is_open (state_seen v) v.seat ≡ false → Asks v (Request.Enter who kind) (Err why) w → is_open (state_seen w) w.seat ≡ false
+enter_refused who kind v w why a b closed h = refusal_keeps_closed v w (Request.Enter who kind) why a b closed (asked_err v w (Request.Enter who kind) why h)
+
+-- Leave ends the connection
+pub leave_closes : (v w : Seated) (reply : Reply) → Known v → Known w → Asks v Request.Leave (Ok reply) w → is_open (state_seen w) w.seat ≡ false
+leave_closes v w reply a b h =
+    let x = asked_ok v w Request.Leave reply h in
+    left_closed v w x.0 a b x.1 x.3
 
 pub left_of : (v w : Seated) (r : Result Reply Refused) → is_open (state_seen v) v.seat ≡ true → Asks v Request.Leave r w → (reply : Reply) × Asks v Request.Leave (Ok reply) w
 left_of v w (Ok reply) opened h = (reply, h)
@@ -38,8 +53,8 @@ pub began_none : (c : Client) (s : Stage) (v : World) (bytes : List ℕ) → Beg
 began_none c s v bytes = record { front = []; after = bytes; mid = s; bytes_are = refl; did = did_none c s v }
 
 -- where there is no memory for the piece
-pub fed_none : (s : Standing) (v : World) (piece : List ℕ) (t : Standing) → t.fed ≡ fed.Memory → t.client ≡ s.client → FeedsOpen s v piece fed.Memory t v
-fed_none s v piece t is client = (inl (began_none s.client s.stage v (s.rest ++ piece)), (is, client))
+pub fed_none : (s : Standing) (v : World) (piece : List ℕ) (t : Standing) → t.fed ≡ fed.Memory → t.client ≡ s.client → HasRoom s piece → FeedsOpen s v piece fed.Memory t v
+fed_none s v piece t is client room = (inl (began_none s.client s.stage v (s.rest ++ piece)), (is, client), room)
 
 -- a run over the rest and the piece, which was whole
 pub fed_ok : (s : Standing) (v w : World) (piece bytes : List ℕ) (run : Run) (t : Standing)
@@ -50,14 +65,14 @@ fed_ok s v w piece bytes run t is room stops before left client came =
     subst (λ (r : Fed). FeedsOpen s v piece r t w) (sym came) (feeds_rest run.rest s v piece t w h came)
 
 -- the same, halted
-halt_opens : (why : Halt) (s : Standing) (v w : World) (piece : List ℕ) (t : Standing) → Stops s.client (Err why) s.stage v (s.rest ++ piece) t.stage w → t.client ≡ s.client → t.fed ≡ halted why → FeedsOpen s v piece (halted why) t w
-halt_opens halt.WriteFault s v w piece t stops client came = (stops.0, stops.1, (came, client))
-halt_opens halt.Memory s v w piece t stops client came = (stops, (came, client))
+halt_opens : (why : Halt) (s : Standing) (v w : World) (piece : List ℕ) (t : Standing) → Stops s.client (Err why) s.stage v (s.rest ++ piece) t.stage w → t.client ≡ s.client → t.fed ≡ halted why → HasRoom s piece → FeedsOpen s v piece (halted why) t w
+halt_opens halt.WriteFault s v w piece t stops client came room = (stops.0, stops.1, (came, client), room)
+halt_opens halt.Memory s v w piece t stops client came room = (stops, (came, client), room)
 
-pub fed_err : (why : Halt) (s : Standing) (v w : World) (piece bytes : List ℕ) (t : Standing) → bytes ≡ s.rest ++ piece → Stops s.client (Err why) s.stage v bytes t.stage w → t.client ≡ s.client → t.fed ≡ halted why → FeedsOpen s v piece t.fed t w
-fed_err why s v w piece bytes t is stops client came =
+pub fed_err : (why : Halt) (s : Standing) (v w : World) (piece bytes : List ℕ) (t : Standing) → bytes ≡ s.rest ++ piece → Stops s.client (Err why) s.stage v bytes t.stage w → t.client ≡ s.client → t.fed ≡ halted why → HasRoom s piece → FeedsOpen s v piece t.fed t w
+fed_err why s v w piece bytes t is stops client came room =
     subst (λ (r : Fed). FeedsOpen s v piece r t w) (sym came)
-    (halt_opens why s v w piece t (subst (λ (b : List ℕ). Stops s.client (Err why) s.stage v b t.stage w) is stops) client came)
+    (halt_opens why s v w piece t (subst (λ (b : List ℕ). Stops s.client (Err why) s.stage v b t.stage w) is stops) client came room)
 
 pub fed_stays : (s : Standing) (v w : World) (piece : List ℕ) (r : Fed) (t : Standing) → Known v.seated → Known w.seated → FeedsOpen s v piece r t w → IsOpen s.client v.seated → IsOpen s.client w.seated
 fed_stays s v w piece r t a b h is = stays_open s.client v.seated w.seated a b (feeds_let r s v piece t w h) is

@@ -1,7 +1,6 @@
 -- A connection from Enter to Leave.
 use Rattle.std.proofs.Common.{◌≡◌, ◌≢◌, inl, inr, ℕ, ◌+◌, ◌≤◌, List, [], ◌∷◌, ◌++◌, length, refl, sym, ap, ◌∙◌, subst, arith}
-use Rattle.std.proofs.lemmas.List.{append-nil, append_assoc, length-append}
-use Rattle.portal_base.specs.Outside.{behind}
+use Rattle.std.proofs.lemmas.List.{append-nil, length-append}
 use Rattle.portal_model.specs.Seated.{Exchange}
 use Rattle.session.specs.declared.act.Client.{Client}
 use Rattle.session.specs.declared.connection.Pumped.{Pumped}
@@ -14,12 +13,13 @@ use Rattle.session.specs.declared.served.Served.{Served}
 use Rattle.session.specs.declared.served.Served.TheVariants as served
 use Rattle.session.specs.Answers.{Outcome, Made}
 use Rattle.session.specs.Connections.{Encloses, EndsAs, Front, Half, Serves, Whole, between}
-use Rattle.session.specs.Items.{IsItem, Remains}
+use Rattle.session.specs.Items.{IsItem}
 use Rattle.session.specs.Ledger.{Began, Broke, Grows, World}
-use Rattle.session.specs.Pumps.{IsDry, Kept, Pumps, PumpsInto, PumpsOver, Spring}
-use Rattle.session.specs.Sessions.{ending, ending_at}
+use Rattle.session.specs.Pumps.{CameLast, IsDry, Kept, Pumps, PumpsInto, PumpsOver, Spring}
+use Rattle.session.specs.Sessions.{ending, ending_at, longest}
 use Rattle.session.specs.Standings.{Standing, first_stage}
 use Rattle.session.proofs.Growing.{grows_on}
+use Rattle.session.proofs.Pumping.{kept_items}
 
 enclosed : (u v w x : World) (e l : Exchange) (os : List Outcome) (ps : List (List ℕ)) → Grows u (Made e ∷ []) [] v → Grows v os ps w → Grows w (Made l ∷ []) [] x → Grows u (between e os l) ps x
 enclosed u v w x e l os ps a b c =
@@ -28,6 +28,7 @@ enclosed u v w x e l os ps a b c =
 module _ (c : Client) (u v w x : World) (entered leaving : Exchange) (encloses : Encloses c entered leaving) (a : Grows u (Made entered ∷ []) [] v) (z : Grows w (Made leaving ∷ []) [] x) where
   pub whole : (read : List ℕ) (what : Rest) (s : Standing) → Kept c read what v s w → Whole c read s.rest what u x
   whole read what s k = record {
+    room = k.room;
     entered = entered;
     leaving = leaving;
     items = k.did.items;
@@ -35,18 +36,15 @@ module _ (c : Client) (u v w x : World) (entered leaving : Exchange) (encloses :
     outcomes = k.did.outcomes;
     pieces = k.did.pieces;
     last = s.stage.serial;
-    cut = record {
-      bytes = k.bytes ∙ ap (λ (b : List ℕ). b ++ s.rest) k.did.bytes_are;
-      each = k.did.each;
-      remains = subst (λ p. Remains c p s.rest what) k.did.phase k.remains;
-    };
+    cut = kept_items c read what v s w k;
     answers = k.did.answers;
     encloses = encloses;
     grows = enclosed u v w x entered leaving k.did.outcomes k.did.pieces a k.did.grows z;
   }
 
-  front : (read : List ℕ) → Began c (first_stage c) v read w → Front c read u x
-  front read b = record {
+  front : (read : List ℕ) → length read ≤ longest → Began c (first_stage c) v read w → Front c read u x
+  front read room b = record {
+    room = room;
     entered = entered;
     leaving = leaving;
     items = b.did.items;
@@ -62,10 +60,11 @@ module _ (c : Client) (u v w x : World) (entered leaving : Exchange) (encloses :
     grows = enclosed u v w x entered leaving b.did.outcomes b.did.pieces a b.did.grows z;
   }
 
-  half : (read : List ℕ) → Broke c (first_stage c) v read w → Half c read u x
-  half read b =
+  half : (read : List ℕ) → length read ≤ longest → Broke c (first_stage c) v read w → Half c read u x
+  half read room b =
       let h = b.halted in
       record {
+        room = room;
         entered = entered;
         leaving = leaving;
         items = b.did.items;
@@ -95,33 +94,33 @@ module _ (c : Client) (u v w x : World) (entered leaving : Exchange) (encloses :
   at_end [] read i j dry k = (dry, k)
   at_end (b ∷ bs) read i j dry k = (dry, omega arith, (b ∷ bs, refl, k))
 
-  at_byte : (read : List ℕ) (what : Rest) (s : Standing) (at : ℕ) → Kept c read what v s w → at ≡ s.before → (left : List ℕ) × (at + length left ≡ length read) × Whole c read left what u x
-  at_byte read what s at k e = (s.rest, (let l = ap length k.bytes in let b = k.before in omega (arith, length-append k.taken s.rest, l, b, e)), whole read what s k)
+  at_byte : (read : List ℕ) (what : Rest) (s : Standing) (at : ℕ) → Kept c read what v s w → at ≡ s.before → CameLast c read → (left : List ℕ) × (at + length left ≡ length read) × Whole c read left what u x × CameLast c read
+  at_byte read what s at k e last = (s.rest, (let l = ap length k.bytes in let b = k.before in omega (arith, length-append k.taken s.rest, l, b, e)), whole read what s k, last)
 
-  over_into : (met : Served) (read : List ℕ) (s : Standing) (i j : Spring) → PumpsInto c met read v s w → EndsAs c met read i j u x
-  over_into (served.Malformed at rule) read s i j h = at_byte read (rest.Bad rule) s at h.0 h.1
-  over_into (served.LineTooLong at) read s i j h = at_byte read rest.TooLong s at h.0 h.1
-  over_into (served.Unbuilt at) read s i j h = at_byte read rest.Unbuilt s at h.0 h.1
-  over_into served.Spent read s i j h = (h.0, (h.1.0, h.1.1, h.1.2.rest, h.1.3, whole h.1.0 rest.More h.1.2 h.1.4))
-  over_into served.Ended read s i j h = absurd h
-  over_into (served.Cut n) read s i j h = absurd h
-  over_into served.ReadFault read s i j h = absurd h
-  over_into served.WriteFault read s i j h = absurd h
-  over_into (served.Full cost limit) read s i j h = absurd h
-  over_into served.Memory read s i j h = absurd h
+  over_into : (met : Served) (read : List ℕ) (s : Standing) (i j : Spring) → PumpsInto c met read v s w → CameLast c read → EndsAs c met read i j u x
+  over_into (served.Malformed at rule) read s i j h last = at_byte read (rest.Bad rule) s at h.0 h.1 last
+  over_into (served.LineTooLong at) read s i j h last = at_byte read rest.TooLong s at h.0 h.1 last
+  over_into (served.Unbuilt at) read s i j h last = at_byte read rest.Unbuilt s at h.0 h.1 last
+  over_into served.Spent read s i j h last = (h.0, (h.1.0, h.1.1, h.1.2.rest, h.1.3, h.1.4, whole h.1.0 rest.More h.1.2 h.1.5))
+  over_into served.Ended read s i j h last = absurd h
+  over_into (served.Cut n) read s i j h last = absurd h
+  over_into served.ReadFault read s i j h last = absurd h
+  over_into served.WriteFault read s i j h last = absurd h
+  over_into (served.Full cost limit) read s i j h last = absurd h
+  over_into served.Memory read s i j h last = absurd h
 
-  over_at : (o : Fed) (left read : List ℕ) (s : Standing) (i j : Spring) → u.faults ≤ v.faults → w.faults ≤ x.faults → PumpsOver c o read v s w → EndsAs c (ending o left) read i j u x
-  over_at fed.More left read s i j p q h = absurd h
-  over_at (fed.Over met) left read s i j p q h = over_into met read s i j h
-  over_at fed.WriteFault left read s i j p q h = (let r = h.1 in omega arith, half read h.0)
-  over_at fed.Memory left read s i j p q (inl h) = inr (inl (front read h))
-  over_at fed.Memory left read s i j p q (inr h) = inr (inr (half read h))
+  over_at : (o : Fed) (left read : List ℕ) (s : Standing) (i j : Spring) → u.faults ≤ v.faults → w.faults ≤ x.faults → PumpsOver c o read v s w → CameLast c read → EndsAs c (ending o left) read i j u x
+  over_at fed.More left read s i j p q h last = absurd h
+  over_at (fed.Over met) left read s i j p q h last = over_into met read s i j h last
+  over_at fed.WriteFault left read s i j p q h last = (let r = h.1 in omega arith, half read h.2 h.0, last)
+  over_at fed.Memory left read s i j p q (inl h, room) last = inr (inl (front read room h), last)
+  over_at fed.Memory left read s i j p q (inr h, room) last = inr (inr (half read room h), last)
 
   -- the pieces ended, or the session was over
   pub closed : (r : Pumped) (i j : Spring) (s : Standing) → r ≢ pumped.Fault → u.faults ≤ v.faults → w.faults ≤ x.faults → Pumps c r i j v s w → Serves c (ending s.fed s.rest) i j u x
   closed pumped.Fault i j s ne p q h = absurd (ne refl)
   closed pumped.End i j s ne p q h = (h.0, h.1, h.2, subst (λ (o : Fed). EndsAs c (ending o s.rest) h.0 i j u x) (sym h.4.1) (at_end s.rest h.0 i j h.4.2 (whole h.0 rest.More s h.4.0)))
-  closed pumped.Over i j s ne p q h = (h.0, h.1, h.2, over_at s.fed s.rest h.0 s i j p q h.4)
+  closed pumped.Over i j s ne p q h = (h.0, h.1, h.2, over_at s.fed s.rest h.0 s i j p q h.4.0 h.4.1)
 
   -- a read failed
   pub faulted : (i j : Spring) (s : Standing) → Pumps c pumped.Fault i j v s w → Serves c served.ReadFault i j u x

@@ -1,21 +1,21 @@
 -- A connection over a source: what is read of it, and how it ends.
-use Rattle.std.proofs.Common.{◌≡◌, ◌≢◌, inl, inr, ℕ, ◌+◌, ◌≤◌, List, [], ◌∷◌, ◌++◌, false, Option, Some, None, IfSome, Result, Ok, Err, refl, sym, ap, ◌∙◌, subst, arith}
+use Rattle.std.proofs.Common.{◌≡◌, ◌≢◌, inl, inr, ℕ, List, [], ◌∷◌, ◌++◌, Option, IfSome, Ok, Err, refl, sym, ap, ◌∙◌, subst, arith}
 use Rattle.std.specs.Prelude.{◌⊎◌}
 use Rattle.portal_base.specs.Outside.{behind}
 use Rattle.portal_model.specs.declared.reply.Refused.{Refused}
 use Rattle.portal_model.specs.declared.reply.Refused.TheVariants as refused
 use Rattle.portal_model.specs.declared.request.Request.{Request}
-use Rattle.portal_model.specs.Seated.{Asks, Exchange, Seated}
+use Rattle.portal_model.specs.Seated.{Asks, Seated}
 use Rattle.session.specs.declared.act.Client.{Client}
 use Rattle.session.specs.declared.connection.Pumped.{Pumped}
 use Rattle.session.specs.declared.connection.Pumped.TheVariants as pumped
 use Rattle.session.specs.declared.served.Served.{Served}
 use Rattle.session.specs.declared.served.Served.TheVariants as served
-use Rattle.session.specs.Answers.{Denied, Made, Outcome}
+use Rattle.session.specs.Answers.{Denied, Made}
 use Rattle.session.specs.Connections.{Serves, served_by}
-use Rattle.session.specs.Ledger.{Grows, World, world}
+use Rattle.session.specs.Ledger.{world}
 use Rattle.session.specs.Pumps.{Pumps, Spring}
-use Rattle.session.specs.Sessions.{Closes, Enters, IsOpen, ending, enter}
+use Rattle.session.specs.Sessions.{Closes, Enters, IsOpen, enter}
 use Rattle.session.specs.Standings.{Standing, fresh}
 use Rattle.session.proofs.Closing.{closed, faulted}
 use Rattle.session.proofs.Growing.{asked_err, asked_ok, grows_silent}
@@ -52,10 +52,10 @@ begun_fresh c x h = subst (λ (s : Standing). s ≡ fresh s.client) (sym h) refl
 -- Enter was not made
 pub serves_refused : (c : Client) (why : Refused) (d e : Seated) (i : Spring) (o : Option (List (List ℕ))) (f : ℕ)
     → ((why ≡ refused.Memory) × (e ≡ d)) ⊎ Asks d (enter c) (Err why) e → Serves c (served_by why) i i (world d o f) (world e o f)
-serves_refused c refused.Memory d e i o f (inl h) = ([], behind_none i.left, omega arith, inl (inl (refl, ap (λ (z : Seated). world z o f) h.1)))
-serves_refused c refused.Memory d e i o f (inr a) = ([], behind_none i.left, omega arith, inl (inr (refl, grows_silent d e (Denied (enter c) refused.Memory ∷ []) o f (asked_err d e (enter c) refused.Memory a), a.answered.cause)))
+serves_refused c refused.Memory d e i o f (inl h) = ([], behind_none i.left, omega arith, inl (inl ((refl, refl, refl, refl), h.1)))
+serves_refused c refused.Memory d e i o f (inr a) = ([], behind_none i.left, omega arith, inl (inr ((refl, refl, refl, refl), grows_silent d e (Denied (enter c) refused.Memory ∷ []) o f (asked_err d e (enter c) refused.Memory a), a.answered.cause)))
 serves_refused c (refused.Full now limit) d e i o f (inl h) = (let never : refused.Full now limit ≡ refused.Memory = h.0 in absurd (cc))
-serves_refused c (refused.Full now limit) d e i o f (inr a) = ([], behind_none i.left, omega arith, (refl, grows_silent d e (Denied (enter c) (refused.Full now limit) ∷ []) o f (asked_err d e (enter c) (refused.Full now limit) a), a.answered.cause))
+serves_refused c (refused.Full now limit) d e i o f (inr a) = ([], behind_none i.left, omega arith, ((refl, refl, refl, refl), grows_silent d e (Denied (enter c) (refused.Full now limit) ∷ []) o f (asked_err d e (enter c) (refused.Full now limit) a), a.answered.cause))
 
 module _ (c : Client) (x t : Standing) (d0 d1 d2 d3 : Seated) (i j : Spring) (o n : Option (List (List ℕ))) (f k : ℕ) (met : Served) (a : Enters {X = Standing} c.who c.kind d0 (Ok x) d1) (new : x ≡ fresh c) (z : Closes t d2 met d3) where
   pumps_of : (r : Pumped) → Pumps x.client r i j (world d1 o f) t (world d2 n k) → Pumps c r i j (world d1 o f) t (world d2 n k)

@@ -1,8 +1,8 @@
 -- Where items are cut: what is whole lies within the bytes, stands at the front alone, and stays whole.
-use Rattle.std.proofs.Common.{◌≡◌, inl, inr, ℕ, suc, ◌+◌, ◌≤◌, ◌<◌, List, [], ◌∷◌, ◌++◌, length, take, Bool, true, false, cond, ltb, Option, Some, None, refl, sym, ap, ◌∙◌, subst, arith}
+use Rattle.std.proofs.Common.{◌≡◌, inl, inr, ℕ, suc, ◌≤◌, ◌<◌, List, [], ◌∷◌, ◌++◌, length, take, Bool, true, false, cond, Option, Some, None, refl, sym, ap, ◌∙◌, subst, arith}
 use Rattle.std.proofs.lemmas.Bool.Decides.{nat_tests}
 use Rattle.std.proofs.lemmas.List.{get_or-take, length-append, length-take, length-take-le, take-append-le, take-take}
-use Rattle.std.specs.Prelude.{slice_index, nat_eq, nat_lt, ◌==◌, ◌||◌, ◌⊎◌}
+use Rattle.std.specs.Prelude.{slice_index, nat_eq, nat_lt, ◌==◌, ◌⊎◌}
 use Rattle.std.specs.List.{starts_with}
 use Rattle.std.specs.Option.{option_map}
 use Rattle.std.specs.Cmp.Lexicographic.{pointwise}
@@ -14,7 +14,6 @@ use Rattle.dbus_message.proofs.Fronts.{front_alike, front_whole, front_within}
 use Rattle.fuse_wire.specs.Frames.{header_of, is_bad_len, split_of}
 use Rattle.portal_base.specs.declared.split.Split.{Split}
 use Rattle.portal_base.specs.declared.split.Split.TheVariants as split
-use Rattle.session.specs.declared.phase.Cut.{Cut}
 use Rattle.session.specs.declared.phase.Cut.TheVariants as cut
 use Rattle.session.specs.declared.phase.Phase.{Phase}
 use Rattle.session.specs.declared.phase.Phase.TheVariants as due
@@ -22,7 +21,7 @@ use Rattle.session.specs.Cuts.{Cuts, cut_of, line_cut, line_cut_of, line_len, ze
 
 -- ---- the zero byte
 
-byte_cases : (b : Bool) (n : ℕ) → cut.Whole n ≡ cond b (cut.Whole 1) (cut.Bad 12) → (b ≡ true) × (n ≡ 1)
+pub byte_cases : (b : Bool) (n : ℕ) → cut.Whole n ≡ cond b (cut.Whole 1) (cut.Bad 12) → (b ≡ true) × (n ≡ 1)
 byte_cases true n h = (refl, cc)
 byte_cases false n h = absurd (cc)
 
@@ -84,7 +83,7 @@ line_cut_cases None true n h = absurd (cc)
 line_cut_cases None false n h = absurd (cc)
 line_cut_cases (Some m) b n h = let e : m ≡ n = cc in ap Some e
 
-line_found : (b : List ℕ) (n : ℕ) → cut.Whole n ≡ line_cut b → line_len (take 1024 b) ≡ Some n
+pub line_found : (b : List ℕ) (n : ℕ) → cut.Whole n ≡ line_cut b → line_len (take 1024 b) ≡ Some n
 line_found b n h = line_cut_cases (line_len (take 1024 b)) (nat_lt (length b) 1024) n h
 
 pub line_short : (b : List ℕ) (n : ℕ) → cut.Whole n ≡ line_cut b → (2 ≤ n) × (n ≤ length b) × (n ≤ 1024)
@@ -107,7 +106,7 @@ split_cases split.More b n h e = absurd (cc)
 split_cases (split.Whole m) b n h e = let same : m ≡ n = cc in subst (λ (z : ℕ). IsSplit b (split.Whole z)) same h
 split_cases (split.Bad rule) b n h e = absurd (cc)
 
-message_found : (b : List ℕ) (n : ℕ) → Cuts due.Messages b (cut.Whole n) → IsSplit b (split.Whole n)
+pub message_found : (b : List ℕ) (n : ℕ) → Cuts due.Messages b (cut.Whole n) → IsSplit b (split.Whole n)
 message_found b n h = split_cases h.0 b n h.1 h.2
 
 -- ---- frames
@@ -116,7 +115,7 @@ byte_in : (n i : ℕ) (xs : List ℕ) → i < n → slice_index (take n xs) i �
 byte_in n i xs h = get_or-take n xs i 0 h
 
 -- the length that a frame states, in its first four bytes
-frame_len_is : (xs ys : List ℕ) → take 4 xs ≡ take 4 ys → (header_of xs).len ≡ (header_of ys).len
+pub frame_len_is : (xs ys : List ℕ) → take 4 xs ≡ take 4 ys → (header_of xs).len ≡ (header_of ys).len
 frame_len_is xs ys same =
     let b : (i : ℕ) → i < 4 → slice_index xs i ≡ slice_index ys i = λ i h. sym (byte_in 4 i xs h) ∙ (ap (λ (z : List ℕ). slice_index z i) same ∙ byte_in 4 i ys h) in
     let b0 = b 0 (omega arith) in
@@ -135,13 +134,13 @@ frame_made : (s t u : Bool) (len : ℕ) → s ≡ false → t ≡ false → u �
 frame_made s t u len f g h = rw (f, g, h) refl
 
 -- a frame of n bytes: the length of a header is there, n is stated and allowed, and as many bytes are there
-record IsFrame (b : List ℕ) (n : ℕ) : Type 0 where
-  long : 40 ≤ length b
-  good : is_bad_len n ≡ false
-  there : n ≤ length b
-  stated : n ≡ (header_of b).len
+pub record IsFrame (b : List ℕ) (n : ℕ) : Type 0 where
+  pub long : 40 ≤ length b
+  pub good : is_bad_len n ≡ false
+  pub there : n ≤ length b
+  pub stated : n ≡ (header_of b).len
 
-frame_found : (b : List ℕ) (n : ℕ) → cut.Whole n ≡ cut_of (split_of b) → IsFrame b n
+pub frame_found : (b : List ℕ) (n : ℕ) → cut.Whole n ≡ cut_of (split_of b) → IsFrame b n
 frame_found b n h =
     let len = (header_of b).len in
     let k = frame_cases (nat_lt (length b) 40) (is_bad_len len) (nat_lt (length b) len) len n h in

@@ -1,7 +1,6 @@
 -- Items that are asked and answered, one part after another.
-use Rattle.std.proofs.Common.{◌≡◌, ℕ, ◌+◌, ◌≤◌, List, [], ◌∷◌, ◌++◌, length, Option, Result, Ok, Err, IfOk, refl, sym, ap, ◌∙◌, subst, arith}
+use Rattle.std.proofs.Common.{◌≡◌, ℕ, List, [], ◌∷◌, ◌++◌, Option, Result, Ok, Err, IfOk, refl, sym, ap, ◌∙◌, subst}
 use Rattle.std.proofs.lemmas.List.{append-nil, append_assoc}
-use Rattle.portal_base.specs.Outside.{Short}
 use Rattle.portal_model.specs.Seated.{Seated}
 use Rattle.session.specs.declared.act.Act.{Act}
 use Rattle.session.specs.declared.act.Client.{Client}
@@ -13,7 +12,7 @@ use Rattle.session.specs.Cuts.{next_phase}
 use Rattle.session.specs.Items.{AreItems, IsItem, joined, phase_after}
 use Rattle.session.specs.Answers.{Answers, AreOf, Gives, Outcome, pieces_of, serial_past}
 use Rattle.session.specs.Asked.{asked_by}
-use Rattle.session.specs.Ledger.{ActEnds, Began, Broke, Did, Grew, Grows, Halted, Sends, SendsPart, World, world}
+use Rattle.session.specs.Ledger.{ActEnds, Began, Broke, Did, Grew, Grows, Sends, SendsPart, World, world}
 use Rattle.session.proofs.Growing.{grows_none, grows_on}
 
 -- ---- items

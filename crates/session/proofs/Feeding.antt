@@ -1,5 +1,5 @@
 -- What a piece comes to.
-use Rattle.std.proofs.Common.{◌≡◌, ℕ, ◌+◌, ◌^◌, ◌≤◌, List, ◌++◌, length, take, drop, refl, sym, ap, ◌∙◌, subst, arith}
+use Rattle.std.proofs.Common.{◌≡◌, ℕ, ◌+◌, ◌≤◌, List, ◌++◌, length, take, drop, refl, sym, ap, ◌∙◌, subst, arith}
 use Rattle.std.proofs.lemmas.List.{length-append, length-drop, length-take, take-append-drop}
 use Rattle.session.specs.declared.served.Fed.{Fed}
 use Rattle.session.specs.declared.served.Fed.TheVariants as fed
@@ -7,7 +7,7 @@ use Rattle.session.specs.declared.served.Rest.{Rest}
 use Rattle.session.specs.declared.served.Rest.TheVariants as rest
 use Rattle.session.specs.Items.{Remains}
 use Rattle.session.specs.Ledger.{Did, World}
-use Rattle.session.specs.Sessions.{Feeds, FeedsOpen, Keeps, TakesUpTo, fed_of, longest}
+use Rattle.session.specs.Sessions.{Feeds, FeedsOpen, TakesUpTo, fed_of, longest}
 use Rattle.session.specs.Standings.{Standing}
 
 pub feeds_open : (s : Standing) (v : World) (piece : List ℕ) (r : Fed) (t : Standing) (w : World) → s.fed ≡ fed.More → FeedsOpen s v piece r t w → Feeds s.fed s v piece r t w

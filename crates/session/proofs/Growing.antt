@@ -1,8 +1,8 @@
 -- What is done at a desk and a sink, one part after another.
-use Rattle.std.proofs.Common.{◌≡◌, ℕ, ◌+◌, ◌≤◌, List, [], ◌∷◌, ◌++◌, length, Option, Some, None, Result, Ok, Err, refl, sym, ap, ◌∙◌, subst, arith}
+use Rattle.std.proofs.Common.{◌≡◌, ℕ, ◌+◌, ◌≤◌, List, [], ◌∷◌, ◌++◌, Option, Some, None, Ok, Err, refl, sym, ap, ◌∙◌, arith}
 use Rattle.std.proofs.lemmas.List.{append-nil, append_assoc}
 use Rattle.std.proofs.lemmas.List.Sums.{sum_by-append}
-use Rattle.portal_base.specs.Outside.{onto, HasRisen, Short}
+use Rattle.portal_base.specs.Outside.{onto, HasRisen}
 use Rattle.portal_model.specs.declared.entry.Entry.{Entry}
 use Rattle.portal_model.specs.declared.reply.Refused.{Refused}
 use Rattle.portal_model.specs.declared.reply.Refused.TheVariants as refused
@@ -11,7 +11,7 @@ use Rattle.portal_model.specs.declared.request.Request.{Request}
 use Rattle.portal_model.specs.History.{cost, cost_of}
 use Rattle.portal_model.specs.Seated.{Asks, Exchange, HasCause, Moved, Seated, rises_by}
 use Rattle.portal_model.proofs.SeatLaws.{begins-itself, begins-through}
-use Rattle.session.specs.Answers.{Outcome, Made, Denied, kept, denied, IsOf}
+use Rattle.session.specs.Answers.{Outcome, Made, Denied, kept, denied}
 use Rattle.session.specs.Ledger.{AreCaused, Grew, Grows, IsPassed, World, world}
 
 -- ---- what is told, and counts

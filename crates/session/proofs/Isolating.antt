@@ -1,28 +1,25 @@
 -- What an application is served, by the trace of its history.
-use Rattle.std.proofs.Common.{◌≡◌, ◌≢◌, inl, inr, ℕ, ◌+◌, ◌≤◌, List, [], ◌∷◌, ◌++◌, length, map, Bool, true, false, cond, eqb, Option, Some, None, refl, sym, ap, ◌∙◌, subst, arith}
+use Rattle.std.proofs.Common.{◌≡◌, inl, inr, ℕ, List, [], ◌∷◌, ◌++◌, length, Bool, true, cond, Option, Some, None, refl, sym, ap, ◌∙◌, subst}
 use Rattle.std.specs.Prelude.{slice_get, ◌⊎◌}
 use Rattle.std.specs.Option.{option_map}
-use Rattle.std.proofs.lemmas.Bool.Decides.{nat_tests}
-use Rattle.std.proofs.lemmas.List.{append-nil, append_assoc, length-append, map-append, append_cancel_left}
+use Rattle.std.proofs.lemmas.List.{append_assoc}
 use Rattle.portal_base.specs.declared.who.Kind.{Kind}
 use Rattle.portal_base.specs.declared.who.Who.{Who}
 use Rattle.portal_model.specs.declared.entry.Entry.{Entry}
 use Rattle.portal_model.specs.declared.reply.Reply.{Reply}
 use Rattle.portal_model.specs.declared.request.Request.{Request}
 use Rattle.portal_model.specs.declared.state.Connection.{Connection}
-use Rattle.portal_model.specs.History.{Legal, is_by, maker, makes, made_by, of_seat, replies, run}
-use Rattle.portal_model.specs.Seated.{Binding, Exchange, Known, Seated, binding_of, bound, bound_after, bound_by, is_open, state_seen}
-use Rattle.portal_model.specs.State.{State, connection_of}
+use Rattle.portal_model.specs.History.{Legal, is_by, makes, made_by, replies, run}
+use Rattle.portal_model.specs.Seated.{Binding, binding_of, bound_after, bound_by}
+use Rattle.portal_model.specs.State.{State}
 use Rattle.portal_model.specs.Step.{after, reply_at}
 use Rattle.portal_model.specs.World.{app_run, trace}
 use Rattle.portal_model.proofs.Finds.{is_same-refl}
-use Rattle.portal_model.proofs.Histories.{of_seat-append, run-append}
-use Rattle.portal_model.proofs.SeatLaws.{begins-between, exchanges-entries, run-bound}
 use Rattle.portal_model.proofs.WorldLaws.{replies_of_trace}
 use Rattle.session.specs.declared.act.Client.{Client}
-use Rattle.session.specs.Isolation.{IsIsolated, IsServed}
 use Rattle.session.specs.Sessions.{enter}
-use Rattle.session.proofs.Staying.{IsPlain, bound_stays, entries_of}
+use Rattle.session.proofs.Fitting.{EntriesFit, Fits, fits_plain}
+use Rattle.session.proofs.Staying.{bound_stays}
 
 -- ---- replies by place
 
@@ -63,34 +60,47 @@ made_by_bound app None request h = ap (λ (r : Request). made_by app None r) h.1
 
 -- ---- the entries of a connection
 
-abbrev pub EntriesPlain : List Entry → Type 0
-EntriesPlain [] = Unit {0}
-EntriesPlain (e ∷ es) = IsPlain e.request × EntriesPlain es
-
--- none, or Enter, then some that leave the connection, and Leave
+-- none, or Enter, then some that fit the connection, and Leave
 abbrev pub AreEnclosed : Client → List Entry → Type 0
-AreEnclosed c es = (es ≡ []) ⊎ ((first : Entry) × (mids : List Entry) × (last : Entry) × (es ≡ first ∷ (mids ++ last ∷ [])) × (first.request ≡ enter c) × EntriesPlain mids)
+AreEnclosed c es = (es ≡ []) ⊎ ((first : Entry) × (mids : List Entry) × (last : Entry) × (es ≡ first ∷ (mids ++ last ∷ [])) × (first.request ≡ enter c) × EntriesFit c.kind mids × (last.request ≡ Request.Leave))
 
 -- ahead of one of them the connection is open
-ahead : (b : Binding) (mids xs ys : List Entry) (last e : Entry) → EntriesPlain mids → mids ++ last ∷ [] ≡ xs ++ e ∷ ys → bound_by (Some b) xs ≡ Some b
-ahead b mids [] ys last e plain h = refl
-ahead b [] (x ∷ []) ys last e plain h = absurd (cc)
-ahead b [] (x ∷ y ∷ xs) ys last e plain h = absurd (cc)
-ahead b (m ∷ mids) (x ∷ xs) ys last e plain h =
+ahead : (kind : Kind) (b : Binding) (mids xs ys : List Entry) (last e : Entry) → EntriesFit kind mids → mids ++ last ∷ [] ≡ xs ++ e ∷ ys → bound_by (Some b) xs ≡ Some b
+ahead kind b mids [] ys last e fit h = refl
+ahead kind b [] (x ∷ []) ys last e fit h = absurd (cc)
+ahead kind b [] (x ∷ y ∷ xs) ys last e fit h = absurd (cc)
+ahead kind b (m ∷ mids) (x ∷ xs) ys last e fit h =
     let same : m ≡ x = cc in
     let tails : mids ++ last ∷ [] ≡ xs ++ e ∷ ys = cc in
-    ap (λ (o : Option Binding). bound_by o xs) (bound_stays x.request (Some b) (subst (λ (z : Entry). IsPlain z.request) same plain.0)) ∙ ahead b mids xs ys last e plain.1 tails
+    ap (λ (o : Option Binding). bound_by o xs) (bound_stays x.request (Some b) (fits_plain kind x.request (subst (λ (z : Entry). Fits kind z.request) same fit.0))) ∙ ahead kind b mids xs ys last e fit.1 tails
 
--- whoever enters makes each of them
-pub makers : (app : List ℕ) (c : Client) (es xs ys : List Entry) (e : Entry) → c.who ≡ Who.App app → AreEnclosed c es → es ≡ xs ++ e ∷ ys → IsMakers app (bound_by None xs) e.request
-makers app c es [] ys e who (inl none) h = absurd (cc)
-makers app c es (x ∷ xs) ys e who (inl none) h = absurd (cc)
-makers app c es [] ys e who (inr (first, mids, last, all, is, plain)) h =
+-- what is asked where the connection isn't open yet, and where it is
+abbrev pub IsAskedAt : Client → Option Binding → Request → Type 0
+IsAskedAt c None request = request ≡ enter c
+IsAskedAt c (Some b) request = (b.kind ≡ c.kind) × (b.who ≡ c.who) × (Fits c.kind request ⊎ (request ≡ Request.Leave))
+
+-- one of them behind Enter
+behind_enter : (kind : Kind) (mids xs ys : List Entry) (last e : Entry) → EntriesFit kind mids → last.request ≡ Request.Leave → mids ++ last ∷ [] ≡ xs ++ e ∷ ys → Fits kind e.request ⊎ (e.request ≡ Request.Leave)
+behind_enter kind [] [] ys last e fit leaves h = let same : last ≡ e = cc in inr (subst (λ (z : Entry). z.request ≡ Request.Leave) same leaves)
+behind_enter kind [] (x ∷ []) ys last e fit leaves h = absurd (cc)
+behind_enter kind [] (x ∷ y ∷ xs) ys last e fit leaves h = absurd (cc)
+behind_enter kind (m ∷ mids) [] ys last e fit leaves h = let same : m ≡ e = cc in inl (subst (λ (z : Entry). Fits kind z.request) same fit.0)
+behind_enter kind (m ∷ mids) (x ∷ xs) ys last e fit leaves h = let tails : mids ++ last ∷ [] ≡ xs ++ e ∷ ys = cc in behind_enter kind mids xs ys last e fit.1 leaves tails
+
+pub asked_at : (c : Client) (es xs ys : List Entry) (e : Entry) → AreEnclosed c es → es ≡ xs ++ e ∷ ys → IsAskedAt c (bound_by None xs) e.request
+asked_at c es [] ys e (inl none) h = absurd (cc)
+asked_at c es (x ∷ xs) ys e (inl none) h = absurd (cc)
+asked_at c es [] ys e (inr (first, mids, last, all, is, fit, leaves)) h =
     let same : first ≡ e = cc in
-    (c.kind, ap (λ (z : Entry). z.request) (sym same) ∙ (is ∙ ap (λ (w : Who). Request.Enter w c.kind) who))
-makers app c es (x ∷ xs) ys e who (inr (first, mids, last, all, is, plain)) h =
+    subst (λ (z : Entry). z.request ≡ enter c) same is
+asked_at c es (x ∷ xs) ys e (inr (first, mids, last, all, is, fit, leaves)) h =
     let same : first ≡ x = cc in
     let tails : mids ++ last ∷ [] ≡ xs ++ e ∷ ys = cc in
     let open_one : bound_after None x.request ≡ Some (record { who = c.who; kind = c.kind }) = ap (bound_after None) (ap (λ (z : Entry). z.request) (sym same) ∙ is) in
-    let stays : bound_by None (x ∷ xs) ≡ Some (record { who = c.who; kind = c.kind }) = ap (λ (o : Option Binding). bound_by o xs) open_one ∙ ahead _ mids xs ys last e plain tails in
-    subst (λ (o : Option Binding). IsMakers app o e.request) (sym stays) who
+    let stays : bound_by None (x ∷ xs) ≡ Some (record { who = c.who; kind = c.kind }) = ap (λ (o : Option Binding). bound_by o xs) open_one ∙ ahead c.kind _ mids xs ys last e fit tails in
+    subst (λ (o : Option Binding). IsAskedAt c o e.request) (sym stays) (refl, refl, behind_enter c.kind mids xs ys last e fit leaves tails)
+
+-- whoever enters makes each of them
+pub makers : (app : List ℕ) (c : Client) (o : Option Binding) (request : Request) → c.who ≡ Who.App app → IsAskedAt c o request → IsMakers app o request
+makers app c None request who h = (c.kind, h ∙ ap (λ (w : Who). Request.Enter w c.kind) who)
+makers app c (Some b) request who h = h.1 ∙ who

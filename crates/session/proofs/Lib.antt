@@ -8,6 +8,7 @@ pub mod Pumping
 pub mod Closing
 pub mod Staying
 pub mod Proving
+pub mod Fitting
 pub mod Isolating
 pub mod Oneness
 pub mod Calling
@@ -16,3 +17,5 @@ pub mod Telling
 pub mod Connecting
 pub mod Asking
 pub mod Enclosing
+pub mod Hearing
+pub mod Completing

@@ -118,7 +118,7 @@ one_standing c p b (inl x) (inr f) h k = absurd (part_whole x k.1.0 h.0 (one_cut
 one_standing c p b (inr e) (inl y) h k = absurd (part_whole y h.1.0 k.0 (one_cut p b y (cut.Whole h.1.0) k.1 h.1.1))
 one_standing c p b (inr e) (inr f) h k = ap inr (one_error c p b e f h.0 k.0 h.1 k.1)
 
-one_rest : (c : Client) (p : Phase) (b : List ℕ) (x y : Rest) → Remains c p b x → Remains c p b y → x ≡ y
+pub one_rest : (c : Client) (p : Phase) (b : List ℕ) (x y : Rest) → Remains c p b x → Remains c p b y → x ≡ y
 one_rest c p b x y h k =
     let w = stands c p b x h in
     let z = stands c p b y k in
@@ -142,7 +142,7 @@ standing_item c p i more act (inr e) is h =
     not_both act e (one_meaning c p i (Ok act) (Err e) tt h.0 is.1 means)
 
 -- where an item stands at the front, there is no rest
-item_rest : (c : Client) (p : Phase) (b i more : List ℕ) (act : Act) (x : Rest) → b ≡ i ++ more → IsItem c p i act → Remains c p b x → ⊥
+pub item_rest : (c : Client) (p : Phase) (b i more : List ℕ) (act : Act) (x : Rest) → b ≡ i ++ more → IsItem c p i act → Remains c p b x → ⊥
 item_rest c p b i more act x e is h =
     let w = stands c p b x h in
     standing_item c p i more act w.0 is (subst (λ (z : List ℕ). Stands c p z w.0) e w.1)
@@ -151,7 +151,7 @@ same_act : (r s : Result Act ItemError) (a b : Act) → r ≡ Ok a → s ≡ Ok 
 same_act r s a b e f h = cc
 
 -- two items at the front are one, ask one thing, and have the same bytes behind them
-one_item : (c : Client) (p : Phase) (i j m n : List ℕ) (a b : Act) → i ++ m ≡ j ++ n → IsItem c p i a → IsItem c p j b → (i ≡ j) × (a ≡ b) × (m ≡ n)
+pub one_item : (c : Client) (p : Phase) (i j m n : List ℕ) (a b : Act) → i ++ m ≡ j ++ n → IsItem c p i a → IsItem c p j b → (i ≡ j) × (a ≡ b) × (m ≡ n)
 one_item c p i j m n a b e is are =
     let at = subst (λ (z : List ℕ). Cuts p z (cut.Whole (length j))) (sym e) (item_at c p j n b are) in
     let len : length i ≡ length j = same_len (length i) (length j) (one_cut p (i ++ m) (cut.Whole (length i)) (cut.Whole (length j)) (item_at c p i m a is) at) in

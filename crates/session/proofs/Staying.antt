@@ -5,6 +5,7 @@ use Rattle.std.proofs.lemmas.List.{map-append}
 use Rattle.portal_base.specs.declared.who.Kind.{Kind}
 use Rattle.portal_base.specs.declared.who.Who.{Who}
 use Rattle.portal_model.specs.declared.entry.Entry.{Entry}
+use Rattle.portal_model.specs.declared.reply.Refused.{Refused}
 use Rattle.portal_model.specs.declared.request.Request.{Request}
 use Rattle.portal_model.specs.declared.state.Connection.{Connection}
 use Rattle.portal_model.specs.Seated.{Binding, Exchange, Known, Seated, binding_of, bound, bound_after, bound_by, is_open, state_seen}
@@ -136,8 +137,8 @@ pub feeds_let : (r : Fed) (s : Standing) (v : World) (piece : List ℕ) (t : Sta
 feeds_let fed.More s v piece t w h = takes_let rest.More s v piece t w h.0
 feeds_let (fed.Over met) s v piece t w h = over_lets met s v piece t w h.0
 feeds_let fed.WriteFault s v piece t w h = broke_lets s.client s.stage v w (s.rest ++ piece) h.0
-feeds_let fed.Memory s v piece t w (inl h, keeps) = began_lets s.client s.stage v w (s.rest ++ piece) h
-feeds_let fed.Memory s v piece t w (inr h, keeps) = broke_lets s.client s.stage v w (s.rest ++ piece) h
+feeds_let fed.Memory s v piece t w (inl h, keeps, room) = began_lets s.client s.stage v w (s.rest ++ piece) h
+feeds_let fed.Memory s v piece t w (inr h, keeps, room) = broke_lets s.client s.stage v w (s.rest ++ piece) h
 
 -- ---- the open connection, by the seat's own entries
 
@@ -180,3 +181,25 @@ pub enter_opens : (who : Who) (kind : Kind) (v w : Seated) (x : Exchange) → Kn
 enter_opens who kind v w x a b closed is grew =
     grew_bound v w (Made x ∷ []) a b grew
     ∙ (ap (λ (o : Option Binding). bound_after o x.entry.request) (not_open (state_seen v) v.seat closed) ∙ ap (bound_after None) is)
+
+-- ---- no open connection
+
+none_open : (o : Option Connection) → option_binding o ≡ None → is_some o ≡ false
+none_open None h = refl
+none_open (Some c) h = absurd (cc)
+
+unbound_closed : (d : Seated) → bound (state_seen d) d.seat ≡ None → is_open (state_seen d) d.seat ≡ false
+unbound_closed d h = none_open (connection_of (state_seen d).connections d.seat) h
+
+leave_ends : (o : Option Binding) → bound_after o Request.Leave ≡ None
+leave_ends None = refl
+leave_ends (Some b) = refl
+
+-- behind a Leave
+pub left_closed : (v w : Seated) (x : Exchange) → Known v → Known w → x.entry.request ≡ Request.Leave → Grew v (Made x ∷ []) w → is_open (state_seen w) w.seat ≡ false
+left_closed v w x a b is grew =
+    unbound_closed w (grew_bound v w (Made x ∷ []) a b grew ∙ (ap (bound_after (bound (state_seen v) v.seat)) is ∙ leave_ends (bound (state_seen v) v.seat)))
+
+-- what is refused opens none
+pub refusal_keeps_closed : (v w : Seated) (request : Request) (why : Refused) → Known v → Known w → is_open (state_seen v) v.seat ≡ false → Grew v (Denied request why ∷ []) w → is_open (state_seen w) w.seat ≡ false
+refusal_keeps_closed v w request why a b closed grew = unbound_closed w (grew_bound v w (Denied request why ∷ []) a b grew ∙ not_open (state_seen v) v.seat closed)

@@ -1,18 +1,17 @@
 -- A run over bytes, one item further.
-use Rattle.std.proofs.Common.{◌≡◌, inl, inr, ℕ, ◌+◌, ◌≤◌, List, ◌++◌, take, drop, None, Ok, Err, sym, ap, ◌∙◌, subst, take-add}
+use Rattle.std.proofs.Common.{◌≡◌, inr, ℕ, ◌+◌, List, ◌++◌, take, drop, None, Ok, sym, ap, ◌∙◌, subst, take-add}
 use Rattle.std.proofs.lemmas.List.{take-append-drop}
 use Rattle.session.specs.declared.act.Act.{Act}
 use Rattle.session.specs.declared.act.Client.{Client}
 use Rattle.session.specs.declared.phase.Cut.TheVariants as cut
 use Rattle.session.specs.declared.phase.Phase.{Phase}
 use Rattle.session.specs.declared.serve.Stage.{Stage}
-use Rattle.session.specs.declared.served.Halt.TheVariants.{WriteFault, Memory}
 use Rattle.session.specs.declared.served.Rest.{Rest}
 use Rattle.session.specs.declared.served.Rest.TheVariants as rest
 use Rattle.session.specs.Asked.{Means}
 use Rattle.session.specs.Cuts.{Cuts}
 use Rattle.session.specs.Items.{Remains}
-use Rattle.session.specs.Ledger.{Began, Broke, Declines, Did, Halted, HaltsAt, ItemEnds, World}
+use Rattle.session.specs.Ledger.{Began, Broke, Declines, Did, Halted, ItemEnds, World}
 use Rattle.session.proofs.Cutting.{whole_alone}
 use Rattle.session.proofs.Doing.{did_on, did_one}
 

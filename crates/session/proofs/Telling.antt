@@ -1,5 +1,5 @@
 -- What is told of an answer is the frame that is written of it.
-use Rattle.std.proofs.Common.{◌≡◌, ℕ, List, Option, Some, None, IfOk, Result, Ok, Err, ap, ◌∙◌}
+use Rattle.std.proofs.Common.{◌≡◌, ℕ, List, Option, Some, IfOk, Result, Ok, Err, ap, ◌∙◌}
 use Rattle.std.specs.Prelude.{option_to_list}
 use Rattle.fuse_reply.specs.Replies.{reply_of}
 use Rattle.portal_model.specs.declared.reply.NodeAnswer.{NodeAnswer}

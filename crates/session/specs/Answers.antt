@@ -1,9 +1,10 @@
 -- What items are answered. A call that dispatch answers itself is answered so, whatever the portal was
 -- asked ahead of it; what a host wasn't told yet, which would stand ahead of the answer, is nothing until
 -- the permission store is built.
-use Rattle.std.specs.Prelude.{◌≡◌, ℕ, ◌+◌, ◌==◌, List, [], ◌∷◌, ◌++◌, if◌then◌else◌, option_to_list}
+use Rattle.std.specs.Prelude.{◌≡◌, ℕ, ◌+◌, ◌==◌, List, [], ◌∷◌, ◌++◌, if◌then◌else◌, option_to_list, Result, Ok, Err}
 use Rattle.std.specs.List.{flat_map}
 use Rattle.portal_model.specs.declared.reply.Refused.{Refused}
+use Rattle.portal_model.specs.declared.reply.Reply.{Reply}
 use Rattle.portal_model.specs.declared.request.Request.{Request}
 use Rattle.portal_model.specs.Seated.{Exchange}
 use Rattle.dbus_types.specs.declared.message.OutMessage.{OutMessage}
@@ -35,6 +36,11 @@ denied (Denied request why ∷ os) = denied os + 1
 abbrev pub IsOf : Request → Outcome → Type 0
 IsOf request (Made x) = x.entry.request ≡ request
 IsOf request (Denied asked why) = asked ≡ request
+
+-- what a client is told of a request: the reply to its entry, or the refusal
+abbrev pub told_as : Outcome → Result Reply Refused
+told_as (Made x) = Ok x.reply
+told_as (Denied request why) = Err why
 
 -- each outcome is one of its request, in order
 abbrev pub AreOf : List Request → List Outcome → Type 0

@@ -15,7 +15,7 @@ use Rattle.session.specs.Cuts.{first_phase}
 use Rattle.session.specs.Items.{IsItem, AreItems, Items, joined, phase_after}
 use Rattle.session.specs.Answers.{Outcome, Made, Denied, Gives, Answers}
 use Rattle.session.specs.Ledger.{World, Grows}
-use Rattle.session.specs.Pumps.{Spring, IsDry}
+use Rattle.session.specs.Pumps.{CameLast, Spring, IsDry, longest_piece}
 use Rattle.session.specs.Sessions.{enter, longest}
 
 -- the outcomes of Enter, of these requests, and of Leave
@@ -26,9 +26,10 @@ between entered outcomes left = Made entered ∷ (outcomes ++ Made left ∷ [])
 abbrev pub Encloses : Client → Exchange → Exchange → Type 0
 Encloses c entered left = (entered.entry.request ≡ enter c) × (left.entry.request ≡ Request.Leave)
 
--- Between Enter and Leave all whole items of what was read are asked and answered, and behind them stands
--- the rest, which is this.
+-- Between Enter and Leave all whole items of what was read, no more bytes than a connection may have, are
+-- asked and answered, and behind them stands the rest, which is this.
 pub record Whole (c : Client) (read left : List ℕ) (what : Rest) (v w : World) : Type 0 where
+  pub room : length read ≤ longest
   pub entered : Exchange
   pub leaving : Exchange
   pub items : List (List ℕ)
@@ -43,6 +44,7 @@ pub record Whole (c : Client) (read left : List ℕ) (what : Rest) (v w : World)
 
 -- Between Enter and Leave some items of what was read are asked and answered, and nothing more is done.
 pub record Front (c : Client) (read : List ℕ) (v w : World) : Type 0 where
+  pub room : length read ≤ longest
   pub entered : Exchange
   pub leaving : Exchange
   pub items : List (List ℕ)
@@ -60,6 +62,7 @@ pub record Front (c : Client) (read : List ℕ) (v w : World) : Type 0 where
 -- Between Enter and Leave some items of what was read are asked and answered, and then one more is asked,
 -- and answered in part.
 pub record Half (c : Client) (read : List ℕ) (v w : World) : Type 0 where
+  pub room : length read ≤ longest
   pub entered : Exchange
   pub leaving : Exchange
   pub items : List (List ℕ)
@@ -83,33 +86,37 @@ pub record Half (c : Client) (read : List ℕ) (v w : World) : Type 0 where
   pub encloses : Encloses c entered leaving
   pub grows : Grows v (between entered (outcomes ++ last_outcomes) leaving) (pieces ++ written) w
 
+-- Nothing was read or written, and no read or write failed.
+abbrev pub IsUntouched : List ℕ → Spring → Spring → World → World → Type 0
+IsUntouched read a b v w = (read ≡ []) × (b ≡ a) × (w.told ≡ v.told) × (w.faults ≡ v.faults)
+
 -- Enter was refused so, and nothing else was done.
-abbrev pub IsRefused : Client → Refused → List ℕ → World → World → Type 0
-IsRefused c why read v w = (read ≡ []) × Grows v (Denied (enter c) why ∷ []) [] w × HasCause w.seated (enter c) why
+abbrev pub IsRefused : Client → Refused → List ℕ → Spring → Spring → World → World → Type 0
+IsRefused c why read a b v w = IsUntouched read a b v w × Grows v (Denied (enter c) why ∷ []) [] w × HasCause w.seated (enter c) why
 
 -- What each ending means: of what was read, of the source before and after, and of the desk and the sink
--- before and after.
+-- before and after. Once the session is over no further piece is read.
 abbrev pub EndsAs : Client → Served → List ℕ → Spring → Spring → World → World → Type 0
 -- the input ended between items
 EndsAs c served.Ended read a b v w = IsDry b × Whole c read [] rest.More v w
 -- the input ended inside one, of which so many bytes came
 EndsAs c (served.Cut n) read a b v w = IsDry b × (1 ≤ n) × ((left : List ℕ) × (length left ≡ n) × Whole c read left rest.More v w)
 -- the item at this byte breaks this rule first
-EndsAs c (served.Malformed at rule) read a b v w = (left : List ℕ) × (at + length left ≡ length read) × Whole c read left (rest.Bad rule) v w
+EndsAs c (served.Malformed at rule) read a b v w = (left : List ℕ) × (at + length left ≡ length read) × Whole c read left (rest.Bad rule) v w × CameLast c read
 -- the line at this byte is too long
-EndsAs c (served.LineTooLong at) read a b v w = (left : List ℕ) × (at + length left ≡ length read) × Whole c read left rest.TooLong v w
+EndsAs c (served.LineTooLong at) read a b v w = (left : List ℕ) × (at + length left ≡ length read) × Whole c read left rest.TooLong v w × CameLast c read
 -- the item at this byte asks for a part that isn't built
-EndsAs c (served.Unbuilt at) read a b v w = (left : List ℕ) × (at + length left ≡ length read) × Whole c read left rest.Unbuilt v w
+EndsAs c (served.Unbuilt at) read a b v w = (left : List ℕ) × (at + length left ≡ length read) × Whole c read left rest.Unbuilt v w × CameLast c read
 -- a read failed, and all that was whole by then is answered
 EndsAs c served.ReadFault read a b v w = HasRisen a.faults b.faults × ((left : List ℕ) × Whole c read left rest.More v w)
 -- a write failed
-EndsAs c served.WriteFault read a b v w = HasRisen v.faults w.faults × Half c read v w
+EndsAs c served.WriteFault read a b v w = HasRisen v.faults w.faults × Half c read v w × CameLast c read
 -- a piece came with which there are too many bytes, and nothing of it is looked at
-EndsAs c served.Spent read a b v w = (longest < length read) × ((before : List ℕ) × (piece : List ℕ) × (left : List ℕ) × (read ≡ before ++ piece) × Whole c before left rest.More v w)
+EndsAs c served.Spent read a b v w = (longest < length read) × ((before : List ℕ) × (piece : List ℕ) × (left : List ℕ) × (read ≡ before ++ piece) × (length piece ≤ longest_piece) × Whole c before left rest.More v w)
 -- the history has no room for Enter
-EndsAs c (served.Full cost limit) read a b v w = IsRefused c (refused.Full cost limit) read v w
+EndsAs c (served.Full cost limit) read a b v w = IsRefused c (refused.Full cost limit) read a b v w
 -- there was no memory: to ask Enter, for Enter, ahead of an item, or in its answer
-EndsAs c served.Memory read a b v w = (((read ≡ []) × (w ≡ v)) ⊎ IsRefused c refused.Memory read v w) ⊎ (Front c read v w ⊎ Half c read v w)
+EndsAs c served.Memory read a b v w = ((IsUntouched read a b v w × (w.seated ≡ v.seated)) ⊎ IsRefused c refused.Memory read a b v w) ⊎ ((Front c read v w ⊎ Half c read v w) × CameLast c read)
 
 -- What was read stood ahead of what is left, and the ending means what it says of it.
 abbrev pub Serves : Client → Served → Spring → Spring → World → World → Type 0

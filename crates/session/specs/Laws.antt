@@ -1,40 +1,63 @@
 -- Laws of cutting and of answers, which the public functions of src/laws.rt state.
-use Rattle.std.specs.Prelude.{◌≡◌, ℕ, List, [], ◌∷◌, ◌++◌}
-use Rattle.portal_base.specs.Outside.{Short}
+use Rattle.std.specs.Prelude.{◌≡◌, ◌⊎◌, ℕ, ◌<◌, ◌≤◌, List, [], ◌∷◌, ◌++◌, length, map, Some}
+use Rattle.portal_base.specs.Outside.{Short, last_count}
+use Rattle.portal_model.specs.Seated.{Exchange}
 use Rattle.session.specs.declared.act.Act.{Act}
 use Rattle.session.specs.declared.act.Client.{Client}
 use Rattle.session.specs.declared.phase.Phase.{Phase}
 use Rattle.session.specs.declared.served.Rest.{Rest}
 use Rattle.session.specs.declared.served.Rest.TheVariants as rest
-use Rattle.session.specs.Asked.{requests_of}
+use Rattle.session.specs.declared.served.Served.{Served}
+use Rattle.session.specs.declared.served.Served.TheVariants as served
+use Rattle.session.specs.Asked.{asked, requests_of}
 use Rattle.session.specs.Items.{Items, joined, phase_after}
-use Rattle.session.specs.Answers.{Answers, Outcome, AreOf}
+use Rattle.session.specs.Answers.{Answers, Outcome, AreOf, told_as}
+use Rattle.session.specs.Connections.{Encloses, Serves, between}
+use Rattle.session.specs.Cuts.{first_phase}
+use Rattle.session.specs.Ledger.{World}
+use Rattle.session.specs.Pumps.{Spring}
+use Rattle.session.specs.Sessions.{longest}
 
 -- the items of a stream are one list, they ask one list, and the rest is one
 abbrev pub AreOne : Type 0
 AreOne = (c : Client) (p : Phase) (stream : List ℕ) (is js : List (List ℕ)) (xs ys : List Act) (q r : List ℕ) (x y : Rest)
     → Items c p stream is xs q x → Items c p stream js ys r y → (is ≡ js) × (xs ≡ ys) × (q ≡ r) × (x ≡ y)
 
--- a stream that comes in pieces, of which each is cut behind the rest of those before
-abbrev pub CutBy : Client → Phase → List ℕ → List (List ℕ) → List (List ℕ) → List Act → List ℕ → Type 0
-CutBy c p held [] items acts left = (items ≡ []) × (acts ≡ []) × (left ≡ held)
-CutBy c p held (piece ∷ pieces) items acts left =
+-- A stream that comes in pieces, of which each is cut behind the rest of those before. Behind the last one
+-- may stand any rest.
+abbrev pub CutBy : Client → Phase → List ℕ → List ℕ → List (List ℕ) → List (List ℕ) → List Act → List ℕ → Rest → Type 0
+CutBy c p held piece [] items acts left what = Items c p (held ++ piece) items acts left what
+CutBy c p held piece (next ∷ pieces) items acts left what =
     (first : List (List ℕ)) × (others : List (List ℕ)) × (first_acts : List Act) × (other_acts : List Act) × (mid : List ℕ)
     × (items ≡ first ++ others) × (acts ≡ first_acts ++ other_acts)
-    × Items c p (held ++ piece) first first_acts mid rest.More × CutBy c (phase_after c p first) mid pieces others other_acts left
+    × Items c p (held ++ piece) first first_acts mid rest.More × CutBy c (phase_after c p first) mid next pieces others other_acts left what
 
 -- what is cut piece by piece are the items of all the pieces, and no others
 abbrev pub AreCutAlike : Type 0
-AreCutAlike = (c : Client) (p : Phase) (piece : List ℕ) (pieces items : List (List ℕ)) (acts : List Act) (left : List ℕ)
-    → CutBy c p [] (piece ∷ pieces) items acts left → Items c p (joined (piece ∷ pieces)) items acts left rest.More
+AreCutAlike = (c : Client) (p : Phase) (piece : List ℕ) (pieces items : List (List ℕ)) (acts : List Act) (left : List ℕ) (what : Rest)
+    → CutBy c p [] piece pieces items acts left what → Items c p (joined (piece ∷ pieces)) items acts left what
 
--- the outcomes of answers are those of what the items ask, each once, in order
-abbrev pub AnswerAsked : Type 0
-AnswerAsked = (serial last : ℕ) (acts : List Act) (os : List Outcome) (ps : List (List ℕ)) → Answers serial acts os ps last → AreOf (requests_of acts) os
+-- The outcomes of answers are those of what the items ask, each once, in order. With Enter ahead of them
+-- and Leave behind they are those of what the connection asks.
+pub record AnswerAsked : Type 0 where
+  pub items : (serial last : ℕ) (acts : List Act) (os : List Outcome) (ps : List (List ℕ)) → Answers serial acts os ps last → AreOf (requests_of acts) os
+  pub connection : (c : Client) (entered leaving : Exchange) (last : ℕ) (acts : List Act) (os : List Outcome) (ps : List (List ℕ)) → Encloses c entered leaving → Answers 0 acts os ps last
+      → AreOf (asked c acts) (between entered os leaving)
 
--- the pieces are a function of what the items ask and of the outcomes
+-- the pieces are a function of what the items ask, of the replies, and of which requests were refused, and how
 abbrev pub SayAlike : Type 0
-SayAlike = (serial m n : ℕ) (acts : List Act) (os : List Outcome) (ps qs : List (List ℕ)) → Answers serial acts os ps m → Answers serial acts os qs n → (ps ≡ qs) × (m ≡ n)
+SayAlike = (serial m n : ℕ) (acts : List Act) (os us : List Outcome) (ps qs : List (List ℕ)) → map told_as os ≡ map told_as us → Answers serial acts os ps m → Answers serial acts us qs n → (ps ≡ qs) × (m ≡ n)
+
+-- a count below its last value stands still
+abbrev pub StandsStill : ℕ → ℕ → Type 0
+StandsStill old new = (new ≡ old) × (old < last_count)
+
+-- Where no read and no write fails and no request is refused, an input of whole items, no more bytes than a
+-- connection may have, is served to its end, unless there is no memory.
+abbrev pub WholeInputsEnd : Type 0
+WholeInputsEnd = (c : Client) (r : Served) (a b : Spring) (v w : World) (stream : List ℕ) (items : List (List ℕ)) (acts : List Act)
+    → Serves c r a b v w → a.left ≡ Some stream → Items c (first_phase c.kind) stream items acts [] rest.More → length stream ≤ longest
+    → StandsStill a.faults b.faults → StandsStill v.faults w.faults → StandsStill v.seated.refusals w.seated.refusals → (r ≡ served.Ended) ⊎ (r ≡ served.Memory)
 
 -- the one list of bytes begins with the other
 abbrev pub Begins : List ℕ → List ℕ → Type 0

@@ -9,7 +9,6 @@ use Rattle.portal_model.specs.Seated.{Seated, Moved, rises_by}
 use Rattle.session.specs.declared.act.Act.{Act}
 use Rattle.session.specs.declared.act.Client.{Client}
 use Rattle.session.specs.declared.act.ItemError.TheVariants.{Breaks, Unbuilt}
-use Rattle.session.specs.declared.phase.Cut.TheVariants as cut
 use Rattle.session.specs.declared.phase.Phase.{Phase}
 use Rattle.session.specs.declared.serve.Run.{Run}
 use Rattle.session.specs.declared.serve.Stage.{Stage}
@@ -17,7 +16,7 @@ use Rattle.session.specs.declared.served.Halt.{Halt}
 use Rattle.session.specs.declared.served.Halt.TheVariants.{WriteFault, Memory}
 use Rattle.session.specs.declared.served.Rest.{Rest}
 use Rattle.session.specs.declared.served.Rest.TheVariants as rest
-use Rattle.session.specs.Cuts.{Cuts, next_phase}
+use Rattle.session.specs.Cuts.{next_phase}
 use Rattle.session.specs.Asked.{Means}
 use Rattle.session.specs.Items.{IsItem, AreItems, Remains, joined, phase_after}
 use Rattle.session.specs.Answers.{Outcome, Made, Denied, kept, denied, AreOf, Gives, Answers}

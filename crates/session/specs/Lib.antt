@@ -9,4 +9,5 @@ pub mod Sessions
 pub mod Pumps
 pub mod Connections
 pub mod Isolation
+pub mod Hearing
 pub mod Laws

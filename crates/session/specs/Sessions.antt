@@ -7,7 +7,7 @@ use Rattle.portal_model.specs.declared.reply.Refused.{Refused}
 use Rattle.portal_model.specs.declared.reply.Refused.TheVariants as refused
 use Rattle.portal_model.specs.declared.reply.Reply.{Reply}
 use Rattle.portal_model.specs.declared.request.Request.{Request}
-use Rattle.portal_model.specs.Seated.{Seated, Asks, Binding, bound, state_seen}
+use Rattle.portal_model.specs.Seated.{Seated, Asks, bound, state_seen}
 use Rattle.session.specs.declared.act.Client.{Client}
 use Rattle.session.specs.declared.served.Fed.{Fed}
 use Rattle.session.specs.declared.served.Fed.TheVariants as fed
@@ -58,6 +58,10 @@ pub record TakesUpTo (what : Rest) (s : Standing) (v : World) (piece : List ℕ)
   pub client : t.client ≡ s.client
   pub room : t.before + length t.rest ≤ longest
 
+-- with the piece the connection has no more bytes than it may have
+abbrev pub HasRoom : Standing → List ℕ → Type 0
+HasRoom s piece = s.before + length s.rest + length piece ≤ longest
+
 -- what a piece is told to have come to is what the session goes on to answer
 abbrev pub Keeps : Standing → Fed → Standing → Type 0
 Keeps s r t = (t.fed ≡ r) × (t.client ≡ s.client)
@@ -78,8 +82,8 @@ FeedsOver s v piece served.Memory t w = ⊥
 abbrev pub FeedsOpen : Standing → World → List ℕ → Fed → Standing → World → Type 0
 FeedsOpen s v piece fed.More t w = TakesUpTo rest.More s v piece t w × Keeps s fed.More t
 FeedsOpen s v piece (fed.Over ending) t w = FeedsOver s v piece ending t w × Keeps s (fed.Over ending) t
-FeedsOpen s v piece fed.WriteFault t w = Broke s.client s.stage v (s.rest ++ piece) w × HasRisen v.faults w.faults × Keeps s fed.WriteFault t
-FeedsOpen s v piece fed.Memory t w = (Began s.client s.stage v (s.rest ++ piece) w ⊎ Broke s.client s.stage v (s.rest ++ piece) w) × Keeps s fed.Memory t
+FeedsOpen s v piece fed.WriteFault t w = Broke s.client s.stage v (s.rest ++ piece) w × HasRisen v.faults w.faults × Keeps s fed.WriteFault t × HasRoom s piece
+FeedsOpen s v piece fed.Memory t w = (Began s.client s.stage v (s.rest ++ piece) w ⊎ Broke s.client s.stage v (s.rest ++ piece) w) × Keeps s fed.Memory t × HasRoom s piece
 
 -- the same is answered again, and nothing is done
 abbrev pub Stays : Standing → World → Fed → Fed → Standing → World → Type 0

@@ -7,6 +7,7 @@ ghost use Rattle.session.specs.Standings.{client, fresh};
 ghost use Rattle.session.specs.Pumps.{spring, Pumps};
 ghost use Rattle.session.specs.Sessions.{IsOpen};
 ghost use Rattle.session.specs.Connections.{Serves, served_by};
+ghost use Rattle.session.specs.Hearing.{IsHeard};
 ghost use Rattle.session.specs.Isolation.{IsIsolated};
 
 use crate::serve::front;
@@ -76,9 +77,15 @@ pub fn serve_connection<D: Desk, S: Source, K: Sink>(
     requires { is_open (state_seen (D.seated desk.old)) (D.seated desk.old).seat ≡ false }
     // What the ending means: which items were read, asked and answered.
     ensures serves { Serves (client who.now kind settings.now) result (spring (S.left source.old) (S.faults source.old)) (spring (S.left source.new) (S.faults source.new)) (world (D.seated desk.old) (K.told sink.old) (K.faults sink.old)) (world (D.seated desk.new) (K.told sink.new) (K.faults sink.new)) }
+    // The desk's seat has no open connection then either.
+    ensures closed_now { is_open (state_seen (D.seated desk.new)) (D.seated desk.new).seat ≡ false }
     // The history that the desk sees is legal, and the seat's entries in it are its own.
     ensures known { Known (D.seated desk.new) }
-    // What an application is replied is a function of its trace.
+    // None of the connection's requests meets a seat that isn't there: each is
+    // done, or a frame tells its answer.
+    ensures heard { IsHeard (D.seated desk.old) (D.seated desk.new) }
+    // What an application is replied is a function of its trace, over a tree
+    // that tells its files.
     ensures isolated { IsIsolated who.now (D.seated desk.old) (D.seated desk.new) }
     ensures goes { D.goes desk.old desk.new }
 {

@@ -2,7 +2,7 @@
 //!
 //! Each function does nothing; its contract is the law.
 
-ghost use Rattle.session.specs.Laws.{AreOne, AreCutAlike, AnswerAsked, SayAlike, ShortBegins};
+ghost use Rattle.session.specs.Laws.{AreOne, AreCutAlike, AnswerAsked, SayAlike, ShortBegins, WholeInputsEnd};
 
 /// The whole items of a stream, what they ask and the rest behind them are
 /// one.
@@ -11,19 +11,20 @@ pub fn items_are_one()
 {}
 
 /// What is cut piece by piece, each behind the rest of those before, are the
-/// items of all pieces together, and no others.
+/// items of all pieces together, and no others; what stands behind the last
+/// piece stands behind them all.
 pub fn pieces_cut_alike()
     ensures { AreCutAlike }
 {}
 
 /// The outcomes of answers are those of what the items ask, each once, in
-/// order.
+/// order; between Enter and Leave they are those of what the connection asks.
 pub fn answers_are_of_what_is_asked()
     ensures { AnswerAsked }
 {}
 
-/// What is written is a function of what the items ask and of what became of
-/// these requests.
+/// What is written is a function of what the items ask, of the replies, and of
+/// which requests were refused, and how. What else an entry holds doesn't show.
 pub fn outcomes_say_alike()
     ensures { SayAlike }
 {}
@@ -31,4 +32,11 @@ pub fn outcomes_say_alike()
 /// What is written in part is a prefix of the whole.
 pub fn a_part_is_a_prefix()
     ensures { ShortBegins }
+{}
+
+/// Where no read and no write of a connection fails and none of its requests
+/// is refused, an input of whole items, no more bytes than a connection may
+/// have, is served to its end, unless there is no memory.
+pub fn whole_inputs_are_served_to_their_end()
+    ensures { WholeInputsEnd }
 {}

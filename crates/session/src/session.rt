@@ -1,6 +1,6 @@
 //! A session: one connection, from Enter to Leave.
 
-ghost use Rattle.std.specs.Prelude.{◌≡◌, length, true, false, IfOk, OnOk, Ok};
+ghost use Rattle.std.specs.Prelude.{◌≡◌, length, true, false, IfOk, OnOk, OnErr, Ok};
 ghost use Rattle.portal_model.specs.Seated.{Asks, is_open, state_seen};
 ghost use Rattle.session.specs.Ledger.{world};
 ghost use Rattle.session.specs.Sessions.{Opens, Enters, Feeds, Closes, IsBound, IsOpen, fed_of, halted, ending};
@@ -26,9 +26,8 @@ pub const LONGEST: u64 = 1 << 40;
 
 /// One connection of a client, open at a desk.
 ///
-/// Contracts see its client, how far its stream has come, how many bytes stood
-/// before the rest, the rest, which is no whole item yet, and what the last
-/// piece came to.
+/// Contracts see its client, how far its stream has come, how many bytes were
+/// taken as items, the rest behind them, and what the last piece came to.
 #[derive(Drop)]
 pub struct Session {
     client: Client,
@@ -64,6 +63,8 @@ impl Session {
         ensures opens { Opens (the_client who.now kind settings.now) (D.seated desk.old) result (D.seated desk.new) }
         // Then the connection is open.
         ensures open_now { OnOk result (IsOpen (the_client who.now kind settings.now) (D.seated desk.new)) }
+        // Or the seat has none, as before.
+        ensures still_closed { OnErr result (is_open (state_seen (D.seated desk.new)) (D.seated desk.new).seat ≡ false) }
         ensures goes { D.goes desk.old desk.new }
     {
         let client = client_of(alloc, who, kind, settings)?;
@@ -92,7 +93,8 @@ impl Session {
         sink: &mut K,
     ) -> Fed
         ensures feeds { Feeds self.old.fed self.old (world (D.seated desk.old) (K.told sink.old) (K.faults sink.old)) piece.now result self.new (world (D.seated desk.new) (K.told sink.new) (K.faults sink.new)) }
-        // The connection stays open.
+        // The client stays, and the connection stays open.
+        ensures client_stays { self.new.client ≡ self.old.client }
         ensures stays_open { IsOpen self.old.client (D.seated desk.old) → IsOpen self.old.client (D.seated desk.new) }
         ensures goes { D.goes desk.old desk.new }
     {
@@ -129,7 +131,7 @@ impl Session {
         self.fed
     }
 
-    /// How many bytes are held that are no whole item yet.
+    /// How many bytes are held behind those that were taken as items.
     pub fn held(&self) -> usize
         ensures { result ≡ length self.now.rest }
     {
@@ -143,6 +145,8 @@ impl Session {
     pub fn end<D: Desk>(self, alloc: Global, desk: &mut D) -> Served
         requires { IsOpen self.client (D.seated desk.old) }
         ensures closes { Closes self (D.seated desk.old) result (D.seated desk.new) }
+        // The seat has no open connection then.
+        ensures closed_now { is_open (state_seen (D.seated desk.new)) (D.seated desk.new).seat ≡ false }
         ensures goes { D.goes desk.old desk.new }
     {
         leave(alloc, desk);
@@ -170,6 +174,7 @@ fn enter<D: Desk>(alloc: Global, desk: &mut D, who: &Who, kind: Kind) -> Result<
     requires { is_open (state_seen (D.seated desk.old)) (D.seated desk.old).seat ≡ false }
     ensures entered { Enters who.now kind (D.seated desk.old) result (D.seated desk.new) }
     ensures open_now { OnOk result (IsBound who.now kind (D.seated desk.new)) }
+    ensures still_closed { OnErr result (is_open (state_seen (D.seated desk.new)) (D.seated desk.new).seat ≡ false) }
     ensures goes { D.goes desk.old desk.new }
 {
     desk.known();
@@ -177,8 +182,9 @@ fn enter<D: Desk>(alloc: Global, desk: &mut D, who: &Who, kind: Kind) -> Result<
         who: who.replica(alloc)?,
         kind,
     };
-    let _ = desk.ask(alloc, request)?;
+    let asked = desk.ask(alloc, request);
     desk.known();
+    let _ = asked?;
     Ok(())
 }
 
@@ -186,9 +192,12 @@ fn enter<D: Desk>(alloc: Global, desk: &mut D, who: &Who, kind: Kind) -> Result<
 fn leave<D: Desk>(alloc: Global, desk: &mut D)
     requires { is_open (state_seen (D.seated desk.old)) (D.seated desk.old).seat ≡ true }
     ensures left { (reply : Reply) × Asks (D.seated desk.old) Request.Leave (Ok reply) (D.seated desk.new) }
+    ensures closed_now { is_open (state_seen (D.seated desk.new)) (D.seated desk.new).seat ≡ false }
     ensures goes { D.goes desk.old desk.new }
 {
+    desk.known();
     let _ = desk.ask(alloc, Request::Leave);
+    desk.known();
 }
 
 /// What bytes came to behind whose whole items this stands, at this byte of

@@ -1,14 +1,11 @@
-use Rattle.std.proofs.Common.{◌≡◌, ℕ, List, [], ◌++◌, length, refl, sym, ap, ◌∙◌, subst, arith}
+use Rattle.std.proofs.Common.{◌≡◌, ◌≤◌, [], ◌++◌, length, refl, sym, ap, ◌∙◌, subst, arith}
 use Rattle.std.proofs.lemmas.List.{length-append, length-take}
-use Rattle.portal_base.specs.Outside.{behind}
-use Rattle.session.specs.declared.act.Client.{Client}
 use Rattle.session.specs.declared.served.Fed.TheVariants as fed
 use Rattle.session.specs.declared.served.Rest.TheVariants as rest
 use Rattle.session.specs.Ledger.{world}
 use Rattle.session.specs.Pumps.{Kept}
-use Rattle.session.specs.Sessions.{IsOpen}
 use Rattle.session.specs.Standings.{Standing}
-use Rattle.session.proofs.Pumping.{behind_none, client_on, kept_none, kept_on, opened, over_on}
+use Rattle.session.proofs.Pumping.{behind_none, came_last, client_on, kept_none, kept_on, opened, over_on}
 use Rattle.session.proofs.Connecting.{dry_still, left_later, left_same, opens_on}
 use Rattle.session.proofs.connection.pump.Goals as goal
 
@@ -91,9 +88,10 @@ returns-in_default g c =
     let piece = c.front.result.now in
     let f = opened s m piece c.feed.result c.feed.new.self w i.still c.feed.ensures.feeds in
     let r = c.in-Got.ensures.reads in
+    let few : length piece ≤ 4096 = omega (arith, ap length c.front.ensures, length-take c.in-Got.len c.read.new.buffer, r.1, i.long) in
     let n = c.in-Got.ensures.counts in
     record {
-      pumps = (i.so_far.0 ++ piece, left_later i.so_far.0 _ piece _ _ _ i.so_far.1 r.2 c.front.ensures, omega (arith, i.faults, n), client_on who i.so_far.0 piece v m w s c.feed.new.self i.so_far.2 i.client_is c.feed.result f, over_on who i.so_far.0 piece v m w s c.feed.new.self i.so_far.2 i.client_is c.feed.result c.in_default.not-More f);
+      pumps = (i.so_far.0 ++ piece, left_later i.so_far.0 _ piece _ _ _ i.so_far.1 r.2 c.front.ensures, omega (arith, i.faults, n), client_on who i.so_far.0 piece v m w s c.feed.new.self i.so_far.2 i.client_is c.feed.result f, (over_on who i.so_far.0 piece v m w s c.feed.new.self i.so_far.2 i.client_is few c.feed.result c.in_default.not-More f, came_last who i.so_far.0 piece v m w s c.feed.new.self i.so_far.2 i.client_is few));
       stays_open = λ h. opens_on s.client who (g.D.Desk.seated c.pieces.desk) (g.D.Desk.seated c.feed.new.desk) i.client_is c.feed.ensures.stays_open (i.stays h);
       goes = g.met.D.Desk.follows _ _ _ i.goes c.feed.ensures.goes;
     }

@@ -1,4 +1,4 @@
-use Rattle.std.proofs.Common.{◌≡◌, refl, sym, ap, ◌∙◌, subst, arith}
+use Rattle.std.proofs.Common.{sym, subst}
 use Rattle.session.specs.Connections.{Serves}
 use Rattle.session.specs.Ledger.{world}
 use Rattle.session.specs.Pumps.{spring}
@@ -6,7 +6,7 @@ use Rattle.session.specs.Standings.{client}
 use Rattle.session.specs.declared.served.Served.{Served}
 use Rattle.session.specs.declared.served.Served.TheVariants as served
 use Rattle.session.proofs.Connecting.{begun_fresh, serves_closed, serves_faulted, serves_refused, still_open}
-use Rattle.session.proofs.Enclosing.{isolated, serves_connect}
+use Rattle.session.proofs.Enclosing.{heard, isolated, serves_connect}
 use Rattle.session.proofs.connection.serve_connection.Goals as goal
 
 pub pump-pumped-requires : goal.pump-pumped-requires
@@ -29,7 +29,9 @@ returns-in-Err g c =
     let s = subst (λ (r : Served). Serves who r i i (world d0 o f) (world d3 o f)) (sym c.refused_ending.ensures) (serves_refused who c.in-Err.refused d0 d3 i o f c.in-Err.ensures.opens.0) in
     record {
       serves = s;
+      closed_now = c.in-Err.ensures.still_closed;
       known = c.known-in-Err.ensures;
+      heard = heard who d0 d3 c.known.ensures c.known-in-Err.ensures (serves_connect who c.refused_ending.result i i (world d0 o f) (world d3 o f) s) c.requires;
       isolated = isolated who d0 d3 c.known.ensures c.known-in-Err.ensures (serves_connect who c.refused_ending.result i i (world d0 o f) (world d3 o f) s) c.requires;
       goes = c.in-Err.ensures.goes;
     }
@@ -51,7 +53,9 @@ returns-in-Fault g c =
     let s = serves_faulted who c.in-Ok.session c.pump-pumped.new.session d0 d1 d2 d3 i j o n f k c.end-served.result a.0 a.1 c.end-served.ensures.closes c.in-Fault.ensures.pumps in
     record {
       serves = s;
+      closed_now = c.end-served.ensures.closed_now;
       known = c.known-2.ensures;
+      heard = heard who d0 d3 c.known.ensures c.known-2.ensures (serves_connect who served.ReadFault i j (world d0 o f) (world d3 n k) s) c.requires;
       isolated = isolated who d0 d3 c.known.ensures c.known-2.ensures (serves_connect who served.ReadFault i j (world d0 o f) (world d3 n k) s) c.requires;
       goes = g.met.D.Desk.follows _ _ _ c.in-Ok.ensures.goes (g.met.D.Desk.follows _ _ _ c.pump-pumped.ensures.goes c.end-served.ensures.goes);
     }
@@ -73,7 +77,9 @@ returns-in_default g c =
     let s = serves_closed who c.in-Ok.session c.pump-pumped.new.session d0 d1 d2 d3 i j o n f k c.end-served.result a.0 a.1 c.end-served.ensures.closes c.pump-pumped.result c.in_default.not-Fault c.pump-pumped.ensures.pumps in
     record {
       serves = s;
+      closed_now = c.end-served.ensures.closed_now;
       known = c.known-2.ensures;
+      heard = heard who d0 d3 c.known.ensures c.known-2.ensures (serves_connect who c.end-served.result i j (world d0 o f) (world d3 n k) s) c.requires;
       isolated = isolated who d0 d3 c.known.ensures c.known-2.ensures (serves_connect who c.end-served.result i j (world d0 o f) (world d3 n k) s) c.requires;
       goes = g.met.D.Desk.follows _ _ _ c.in-Ok.ensures.goes (g.met.D.Desk.follows _ _ _ c.pump-pumped.ensures.goes c.end-served.ensures.goes);
     }

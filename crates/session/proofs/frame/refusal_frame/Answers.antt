@@ -1,4 +1,4 @@
-use Rattle.std.proofs.Common.{◌≡◌, ℕ, ap, Some}
+use Rattle.std.proofs.Common.{ℕ, ap, Some}
 use Rattle.portal_model.specs.declared.reply.NodeAnswer.TheVariants.{Error}
 use Rattle.session.specs.Frames.{refusal_errno}
 use Rattle.session.proofs.Telling.{tells}

@@ -1,4 +1,4 @@
-use Rattle.std.proofs.Common.{ℕ, List, [], ◌∷◌, Ok, Err, ap, refl}
+use Rattle.std.proofs.Common.{ℕ, List, [], ◌∷◌, Ok, ap, refl}
 use Rattle.std.specs.Prelude.{option_to_list}
 use Rattle.session.specs.declared.act.Act.TheVariants.{Nothing, Line, Call}
 use Rattle.session.specs.Answers.{spoken}

@@ -1,4 +1,4 @@
-use Rattle.std.proofs.Common.{◌≡◌, inl, ℕ, List, length, take, drop, Option, Some, None, Ok, Err, sym, ap, ◌∙◌, subst, arith}
+use Rattle.std.proofs.Common.{◌≡◌, inl, ℕ, List, length, take, drop, Option, Some, None, Ok, ap, ◌∙◌, subst, arith}
 use Rattle.session.specs.declared.phase.Cut.TheVariants as cut
 use Rattle.session.specs.declared.served.Rest.{Rest}
 use Rattle.session.specs.Cuts.{Cuts}

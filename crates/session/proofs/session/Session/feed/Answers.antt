@@ -15,7 +15,10 @@ returns-then-is_err-clause-feeds g c =
     let is = c.self.view_is in
     let more : s.fed ≡ fed.More = ap (λ (z : Standing). z.fed) (sym is) ∙ c.in-More.is in
     let t : Standing = record { client = c.self.inside.client; stage = c.self.inside.stage; before = c.self.inside.before; rest = c.extend_from_slice.new.self.items; fed = fed.Memory } in
-    feeds_open s v c.args.piece.now fed.Memory t v more (fed_none s v c.args.piece.now t refl (ap (λ (z : Standing). z.client) is))
+    let at : s.before ≡ c.self.inside.before = ap (λ (z : Standing). z.before) (sym is) in
+    let rest : s.rest ≡ c.self.inside.rest.items = ap (λ (z : Standing). z.rest) (sym is) in
+    let room : s.before + length s.rest + length c.args.piece.now ≤ longest = omega (arith, at, ap length rest, c.len.ensures.value, c.if-piece-room.false, c.self.invariant) in
+    feeds_open s v c.args.piece.now fed.Memory t v more (fed_none s v c.args.piece.now t refl (ap (λ (z : Standing). z.client) is) room)
 
 pub returns-clause-feeds : goal.returns-clause-feeds
 returns-clause-feeds g c =
@@ -41,7 +44,7 @@ returns-clause-feeds g c =
       | in-Err x ↦
           let why = x.in-Err.halt in
           let stops = stops_of _ s.client (Err why) _ s.stage c.serve_items.new.stage v w c.as_slice.result.now client stage x.in-Err.ensures.stops in
-          feeds_open s v piece _ _ w more (rw x.self-inside-is (fed_err why s v w piece c.as_slice.result.now _ bytes stops client x.halted-self-inside.ensures))
+          feeds_open s v piece _ _ w more (rw x.self-inside-is (fed_err why s v w piece c.as_slice.result.now _ bytes stops client x.halted-self-inside.ensures room))
     ]
 
 pub returns-clause-stays_open : goal.returns-clause-stays_open
