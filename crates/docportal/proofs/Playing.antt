@@ -1,58 +1,38 @@
 -- Lines run one after another.
-use Rattle.std.proofs.Common.{◌≡◌, ℕ, suc, ◌+◌, ◌-◌, ◌^◌, ◌<◌, ◌≤◌, min, max, List, [], ◌∷◌, ◌++◌, length, drop, get_or, Option, Some, None, Bool, true, false, cond, refl, sym, ap, ◌∙◌, subst, inl, inr, append_assoc, add-one, arith, drop-cons}
-use Rattle.std.specs.Prelude.{option_to_list}
-use Rattle.std.proofs.lemmas.List.{append-nil}
+use Rattle.std.proofs.Common.{◌≡◌, ℕ, suc, ◌+◌, ◌<◌, ◌≤◌, List, [], ◌∷◌, ◌++◌, length, take, drop, get_or, Option, Some, None, Bool, true, false, not, refl, sym, ap, ◌∙◌, subst, inl, inr, append_assoc, add-one, arith, drop-cons, length-take}
+use Rattle.std.specs.List.{list_any}
+use Rattle.std.proofs.Math.Seq.{take-suc}
+use Rattle.std.proofs.lemmas.List.{append-nil, take-append-drop, take_all}
 use Rattle.portal_base.specs.Outside.{HasRisen, Short, onto}
+use Rattle.portal_core.specs.Story.{Story, limit_of}
 use Rattle.portal_model.specs.declared.entry.Entry.{Entry}
-use Rattle.portal_model.specs.History.{run, cost, cost_of}
-use Rattle.portal_model.specs.declared.opening.OpeningState.{OpeningState}
+use Rattle.portal_model.specs.History.{cost}
 use Rattle.portal_model.specs.Opening.{opened}
 use Rattle.portal_model.specs.State.{State}
-use Rattle.portal_model.proofs.Histories.{run-append, cost-append}
-use Rattle.portal_core.specs.Story.{Story, state_now, limit_of}
+use Rattle.portal_model.proofs.Histories.{cost-append}
 use Rattle.script_form.specs.declared.script.ScriptLine.{ScriptLine}
-use Rattle.script_form.specs.declared.script.ScriptLine.TheVariants.{File, Doc, Open, Data}
-use Rattle.docportal.specs.declared.frame.FrameAsk.{FrameAsk}
+use Rattle.script_form.specs.declared.script.ScriptLine.TheVariants.{File, Doc, Open, Data, Close}
+use Rattle.script_form.specs.Lines.{line_text, text_of}
+use Rattle.script_form.specs.Order.{goes_with, opens}
+use Rattle.session.specs.Standings.{Standing}
 use Rattle.docportal.specs.declared.line.LineError.{LineError}
 use Rattle.docportal.specs.declared.line.LineError.TheVariants as stop
-use Rattle.docportal.specs.Frames.{asked_in}
-use Rattle.docportal.specs.Lines.{Runs, Breaks, HasSeat, MayRun, MayPlay, AllSeats, line_cost, lines_cost, frame_cost}
-use Rattle.docportal.specs.Outputs.{entry_of, frame_entry, out_of_line, after_line, out_from, built_front, is_built}
-use Rattle.docportal.specs.Plays.{PlaysAll, PlaysPart, PlayStops, status_at}
-use Rattle.docportal.proofs.Asking.{onto_none}
+use Rattle.docportal.specs.Lines.{Does}
+use Rattle.docportal.specs.Plays.{Plays, PlaysAll, PlaysPart, PlayStops, status_at}
+use Rattle.docportal.specs.Scenes.{Scene, sessions_of}
+use Rattle.docportal.specs.Steps.{Breaks, HaveRoom, IsNew, MayPlay, MayRun, Runs, WritesPart, scene}
+use Rattle.docportal.proofs.Costs.{text_more}
+use Rattle.docportal.proofs.Staying.{does_agree, does_close, does_cost, does_room, holds_less}
+
+-- ---- what is told
+
+pub onto_none : (o : Option (List (List ℕ))) → o ≡ onto o []
+onto_none None = refl
+onto_none (Some told) = ap Some (sym (append-nil told))
 
 pub onto_more : (o : Option (List (List ℕ))) (first more : List (List ℕ)) → onto (onto o first) more ≡ onto o (first ++ more)
 onto_more None first more = refl
 onto_more (Some told) first more = ap Some (append_assoc told first more)
-
--- ---- the history and its cost
-
-run_one : (s : State) (o : Option Entry) → run s (option_to_list o) ≡ after_line s o
-run_one s None = refl
-run_one s (Some e) = refl
-
--- the state after a line
-pub state_on : (p q : Story) (line : ScriptLine) → q.opening ≡ p.opening → q.history ≡ p.history ++ option_to_list (entry_of (state_now p) line)
-    → state_now q ≡ after_line (state_now p) (entry_of (state_now p) line)
-state_on p q line o h =
-    ap (λ (z : OpeningState). run (opened z) q.history) o
-    ∙ (ap (run (opened p.opening)) h
-    ∙ (run-append p.history (option_to_list (entry_of (state_now p) line)) (opened p.opening) ∙ run_one (state_now p) (entry_of (state_now p) line)))
-
-frame_entry_cost : (s : State) (seat : ℕ) (o : Option FrameAsk) → cost (option_to_list (frame_entry s seat o)) ≡ frame_cost o
-frame_entry_cost s seat None = refl
-frame_entry_cost s seat (Some f) = omega arith
-
-entry_cost : (s : State) (line : ScriptLine) → cost (option_to_list (entry_of s line)) ≡ line_cost line
-entry_cost s (File path content) = refl
-entry_cost s (Doc id reusable path grants) = refl
-entry_cost s (Open seat kind who) = omega arith
-entry_cost s (Data seat bytes) = frame_entry_cost s seat (asked_in bytes)
-
-pub cost_on : (p q : Story) (line : ScriptLine) → q.history ≡ p.history ++ option_to_list (entry_of (state_now p) line) → cost q.history ≡ cost p.history + line_cost line
-cost_on p q line h = ap cost h ∙ (cost-append p.history (option_to_list (entry_of (state_now p) line)) ∙ ap (λ (n : ℕ). cost p.history + n) (entry_cost (state_now p) line))
-
--- ---- what was written
 
 pub short_after : (first pieces whole : List (List ℕ)) → Short pieces whole → Short (first ++ pieces) (first ++ whole)
 short_after [] pieces whole h = h
@@ -63,109 +43,169 @@ short_more [] whole more h = tt
 short_more (w ∷ ws) [] more h = absurd h
 short_more (w ∷ ws) (p ∷ ps) more h = elim h as (λ _. Short (w ∷ ws) ((p ∷ ps) ++ more)) [ inl both ↦ inl (both.0, short_more ws ps more both.1) | inr front ↦ inr front ]
 
-short_none : (whole : List (List ℕ)) → Short [] whole
-short_none whole = tt
+pub short_whole : (whole : List (List ℕ)) → Short whole whole
+short_whole [] = tt
+short_whole (w ∷ ws) = inl (refl, short_whole ws)
 
--- ---- the lines that are left
+-- ---- lines that were run, and one more
 
-front_built : (line : ScriptLine) (lines : List ScriptLine) → is_built line ≡ true → built_front (line ∷ lines) ≡ line ∷ built_front lines
-front_built line lines b = ap (λ (t : Bool). cond t (line ∷ built_front lines) []) b
+plays_on : (front : List ScriptLine) (a b c : Scene) (line : ScriptLine) (es fs : List Entry) (out said : List (List ℕ)) → Plays a front es out b → Does b line fs said c → Plays a (front ++ line ∷ []) (es ++ fs) (out ++ said) c
+plays_on [] a b c line es fs out said h d =
+    let does : Does a line fs said c = subst (λ (z : Scene). Does z line fs said c) h.2 d in
+    (fs, [], said, [], c, ap (λ (z : List Entry). z ++ fs) h.0 ∙ sym (append-nil fs), ap (λ (z : List (List ℕ)). z ++ said) h.1 ∙ sym (append-nil said), does, (refl, refl, refl))
+plays_on (x ∷ front) a b c line es fs out said (first, more, here, later, mid, entries_are, out_is, does, plays) d = (
+  first,
+  more ++ fs,
+  here,
+  later ++ said,
+  mid,
+  ap (λ (z : List Entry). z ++ fs) entries_are ∙ append_assoc first more fs,
+  ap (λ (z : List (List ℕ)). z ++ said) out_is ∙ append_assoc here later said,
+  does,
+  plays_on front mid b c line more fs later said plays d,
+)
 
-front_unbuilt : (line : ScriptLine) (lines : List ScriptLine) → is_built line ≡ false → built_front (line ∷ lines) ≡ []
-front_unbuilt line lines b = ap (λ (t : Bool). cond t (line ∷ built_front lines) []) b
+-- the lines up to this index were run, and their output written
+pub record Played (first : Scene) (lines : List ScriptLine) (told told' : Option (List (List ℕ))) (index : ℕ) (now : Scene) : Type 0 where
+  pub history : List Entry
+  pub out : List (List ℕ)
+  pub plays : Plays first (take index lines) history out now
+  pub wrote : told' ≡ onto told out
 
--- lines up to this index were run, and these pieces written; the others are to come
-pub record Played (first : State) (lines : List ScriptLine) (told told' : Option (List (List ℕ))) (index : ℕ) (s : State) : Type 0 where
-  pub pieces : List (List ℕ)
-  pub wrote : told' ≡ onto told pieces
-  pub output : out_from first (built_front lines) ≡ pieces ++ out_from s (built_front (drop index lines))
-  pub count : length (built_front lines) ≡ index + length (built_front (drop index lines))
-
-pub played_none : (s : State) (lines : List ScriptLine) (told : Option (List (List ℕ))) → Played s lines told told 0 s
-played_none s lines told = record { pieces = []; wrote = onto_none told; output = refl; count = omega arith }
+pub played_none : (s : Scene) (lines : List ScriptLine) (told : Option (List (List ℕ))) → Played s lines told told 0 s
+played_none s lines told = record { history = []; out = []; plays = (refl, refl, refl); wrote = onto_none told }
 
 rest_is : (lines : List ScriptLine) (index : ℕ) (line : ScriptLine) → index < length lines → line ≡ get_or lines index line → drop index lines ≡ line ∷ drop (index + 1) lines
 rest_is lines index line h is = rw (add-one, drop-cons lines index line) (ap (λ (x : ScriptLine). x ∷ drop (suc index) lines) (sym is))
 
-pub played_on : (first : State) (lines : List ScriptLine) (told told' told'' : Option (List (List ℕ))) (index : ℕ) (p q : Story) (line : ScriptLine)
-    → index < length lines → line ≡ get_or lines index line → q.opening ≡ p.opening → Played first lines told told' index (state_now p) → Runs p q line told' told''
-    → Played first lines told told'' (index + 1) (state_now q)
-played_on first lines told told' told'' index p q line h is o before r =
-    let rest = rest_is lines index line h is in
-    let s = state_now p in
-    let front : built_front (drop index lines) ≡ line ∷ built_front (drop (index + 1) lines) = ap built_front rest ∙ front_built line (drop (index + 1) lines) r.built in
-    let out = out_of_line s line in
-    record {
-      pieces = before.pieces ++ out;
-      wrote = r.output ∙ (ap (λ (t : Option (List (List ℕ))). onto t out) before.wrote ∙ onto_more told before.pieces out);
-      output = before.output
-          ∙ (ap (λ (f : List ScriptLine). before.pieces ++ out_from s f) front
-          ∙ (sym (append_assoc before.pieces out (out_from (after_line s (entry_of s line)) (built_front (drop (index + 1) lines))))
-          ∙ ap (λ (t : State). (before.pieces ++ out) ++ out_from t (built_front (drop (index + 1) lines))) (sym (state_on p q line o r.history))));
-      count = before.count ∙ (ap (λ (f : List ScriptLine). index + length f) front ∙ omega arith);
-    }
+front_is : (lines : List ScriptLine) (index : ℕ) (line : ScriptLine) → index < length lines → line ≡ get_or lines index line → take (index + 1) lines ≡ take index lines ++ line ∷ []
+front_is lines index line h is = rw (add-one, take-suc lines index line) (ap (λ (x : ScriptLine). take index lines ++ x ∷ []) (sym is))
 
-pub played_all : (first : State) (lines : List ScriptLine) (told told' : Option (List (List ℕ))) (index : ℕ) (s : State) → length lines ≡ index → drop index lines ≡ []
-    → Played first lines told told' index s → PlaysAll first lines told told'
-played_all first lines told told' index s all none p =
-    record {
-      all = p.count ∙ (ap (λ (l : List ScriptLine). index + length (built_front l)) none ∙ omega arith);
-      output = p.wrote ∙ ap (onto told) (sym (p.output ∙ (ap (λ (l : List ScriptLine). p.pieces ++ out_from s (built_front l)) none ∙ append-nil p.pieces)));
-    }
+whole_is : (lines : List ScriptLine) (index : ℕ) (line : ScriptLine) → index < length lines → line ≡ get_or lines index line → lines ≡ take index lines ++ line ∷ drop (index + 1) lines
+whole_is lines index line h is = sym (take-append-drop index lines) ∙ ap (λ (z : List ScriptLine). take index lines ++ z) (rest_is lines index line h is)
+
+pub played_on : (first : Scene) (lines : List ScriptLine) (told told' told'' : Option (List (List ℕ))) (index : ℕ) (p q : Story) (table table' : List (Option Standing)) (line : ScriptLine)
+    → index < length lines → line ≡ get_or lines index line → Played first lines told told' index (scene p table) → Runs p table q table' line told' told'' → Played first lines told told'' (index + 1) (scene q table')
+played_on first lines told told' told'' index p q table table' line h is before r = record {
+  history = before.history ++ r.entries;
+  out = before.out ++ r.out;
+  plays = subst (λ (z : List ScriptLine). Plays first z (before.history ++ r.entries) (before.out ++ r.out) (scene q table')) (sym (front_is lines index line h is))
+      (plays_on (take index lines) first (scene p table) (scene q table') line before.history r.entries before.out r.out before.plays r.does);
+  wrote = r.output ∙ (ap (λ (z : Option (List (List ℕ))). onto z r.out) before.wrote ∙ onto_more told before.out r.out);
+}
+
+pub played_all : (first : Scene) (lines : List ScriptLine) (told told' : Option (List (List ℕ))) (index : ℕ) (s : Scene) → length lines ≡ index → Played first lines told told' index s → PlaysAll first lines told told'
+played_all first lines told told' index s all p = record {
+  history = p.history;
+  out = p.out;
+  last = s;
+  plays = subst (λ (z : List ScriptLine). Plays first z p.history p.out s) (take_all index lines (omega arith)) p.plays;
+  output = p.wrote;
+}
 
 later : (first last faults : ℕ) → first ≤ faults → HasRisen faults last → HasRisen first last
 later first last faults h r = omega arith
 
--- a built line that isn't run whole: what was written of it goes on from what was written before
-part_on : (first : State) (lines : List ScriptLine) (told told' told'' : Option (List (List ℕ))) (index : ℕ) (s : State) (line : ScriptLine) (pieces : List (List ℕ))
-    → index < length lines → line ≡ get_or lines index line → Played first lines told told' index s → is_built line ≡ true → Short pieces (out_of_line s line) → told'' ≡ onto told' pieces
-    → PlaysPart first lines told told''
-part_on first lines told told' told'' index s line pieces h is before b short t =
-    let rest = rest_is lines index line h is in
-    let front : built_front (drop index lines) ≡ line ∷ built_front (drop (index + 1) lines) = ap built_front rest ∙ front_built line (drop (index + 1) lines) b in
-    let whole : out_from first (built_front lines) ≡ before.pieces ++ (out_of_line s line ++ out_from (after_line s (entry_of s line)) (built_front (drop (index + 1) lines))) =
-    before.output ∙ ap (λ (f : List ScriptLine). before.pieces ++ out_from s f) front in (
-      before.pieces ++ pieces,
-      subst (λ (w : List (List ℕ)). Short (before.pieces ++ pieces) w) (sym whole) (short_after before.pieces pieces _ (short_more pieces (out_of_line s line) _ short)),
-      t ∙ (ap (λ (x : Option (List (List ℕ))). onto x pieces) before.wrote ∙ onto_more told before.pieces pieces),
-    )
+-- a front of a line's output was written behind that of the lines before it
+part_on : (first : Scene) (lines : List ScriptLine) (told told' told'' : Option (List (List ℕ))) (index : ℕ) (p : Story) (table : List (Option Standing)) (line : ScriptLine)
+    → index < length lines → line ≡ get_or lines index line → Played first lines told told' index (scene p table) → WritesPart (scene p table) line told' told'' → PlaysPart first lines told told''
+part_on first lines told told' told'' index p table line h is before (entries, out, b, pieces, does, short, wrote) = record {
+  front = take index lines ++ line ∷ [];
+  history = before.history ++ entries;
+  out = before.out ++ out;
+  last = b;
+  plays = (
+    drop (index + 1) lines,
+    whole_is lines index line h is ∙ sym (append_assoc (take index lines) (line ∷ []) (drop (index + 1) lines)),
+    plays_on (take index lines) first (scene p table) b line before.history entries before.out out before.plays does,
+  );
+  pieces = before.out ++ pieces;
+  short = short_after before.out pieces out short;
+  output = wrote ∙ (ap (λ (z : Option (List (List ℕ))). onto z pieces) before.wrote ∙ onto_more told before.out pieces);
+}
 
-pub play_stops : (first : State) (lines : List ScriptLine) (told told' told'' : Option (List (List ℕ))) (faults faults' faults'' : ℕ) (index : ℕ) (p : Story) (line : ScriptLine)
-    → index < length lines → line ≡ get_or lines index line → faults ≤ faults' → Played first lines told told' index (state_now p)
-    → (e : LineError) → Breaks p line told' faults' told'' faults'' e → PlayStops first lines told faults told'' faults'' (status_at e index)
-play_stops first lines told told' told'' faults faults' faults'' index p line h is le before stop.Unbuilt b =
-    let rest = rest_is lines index line h is in
-    let front : built_front (drop index lines) ≡ [] = ap built_front rest ∙ front_unbuilt line (drop (index + 1) lines) b.0 in
-    let count : length (built_front lines) ≡ index = before.count ∙ (ap (λ (f : List ScriptLine). index + length f) front ∙ omega arith) in (
-      omega arith,
-      omega arith,
-      b.1 ∙ (before.wrote ∙ ap (onto told) (sym (before.output ∙ (ap (λ (f : List ScriptLine). before.pieces ++ out_from (state_now p) f) front ∙ append-nil before.pieces)))),
-    )
-play_stops first lines told told' told'' faults faults' faults'' index p line h is le before stop.WriteFault b =
-    (later faults faults'' faults' le b.0, part_on first lines told told' told'' index (state_now p) line b.2.0 h is before b.1 b.2.1 b.2.2)
-play_stops first lines told told' told'' faults faults' faults'' index p line h is le before stop.Memory b =
-    part_on first lines told told' told'' index (state_now p) line [] h is before b.0 tt (b.1 ∙ onto_none told')
+-- nothing of the line was written
+none_on : (first : Scene) (lines : List ScriptLine) (told told' told'' : Option (List (List ℕ))) (index : ℕ) (s : Scene) → Played first lines told told' index s → told'' ≡ told' → PlaysPart first lines told told''
+none_on first lines told told' told'' index s before same = record {
+  front = take index lines;
+  history = before.history;
+  out = before.out;
+  last = s;
+  plays = (drop index lines, sym (take-append-drop index lines), before.plays);
+  pieces = before.out;
+  short = short_whole before.out;
+  output = same ∙ before.wrote;
+}
+
+pub play_stops : (first : Scene) (lines : List ScriptLine) (told told' told'' : Option (List (List ℕ))) (faults faults' faults'' : ℕ) (index : ℕ) (p : Story) (table : List (Option Standing)) (line : ScriptLine)
+    → index < length lines → line ≡ get_or lines index line → faults ≤ faults' → Played first lines told told' index (scene p table)
+    → (e : LineError) → Breaks (scene p table) line told' faults' told'' faults'' e → PlayStops first lines told faults told'' faults'' (status_at e index)
+play_stops first lines told told' told'' faults faults' faults'' index p table line h is le before stop.Unbuilt b = record {
+  front = take index lines;
+  history = before.history;
+  out = before.out;
+  last = scene p table;
+  plays = before.plays;
+  stops = (line, drop (index + 1) lines, whole_is lines index line h is, b.0, let long = length-take index lines in omega arith);
+  output = b.1 ∙ before.wrote;
+}
+play_stops first lines told told' told'' faults faults' faults'' index p table line h is le before stop.WriteFault b = (later faults faults'' faults' le b.0, part_on first lines told told' told'' index p table line h is before b.1)
+play_stops first lines told told' told'' faults faults' faults'' index p table line h is le before stop.Memory (inl same) = none_on first lines told told' told'' index (scene p table) before same
+play_stops first lines told told' told'' faults faults' faults'' index p table line h is le before stop.Memory (inr part) = part_on first lines told told' told'' index p table line h is before part
 
 -- ---- what the lines need
 
-pub seats_split : (line : ScriptLine) (lines : List ScriptLine) (l : List ScriptLine) → l ≡ line ∷ lines → AllSeats l → HasSeat line × AllSeats lines
-seats_split line lines l e h = subst AllSeats e h
+no_true : (b : Bool) → not b ≡ true → b ≡ false
+no_true true h = cc
+no_true false h = refl
 
-pub costs_split : (line : ScriptLine) (lines : List ScriptLine) (l : List ScriptLine) → l ≡ line ∷ lines → lines_cost l ≡ line_cost line + lines_cost lines
-costs_split line lines l e = ap lines_cost e
+line_new : (line : ScriptLine) (earlier : List ScriptLine) (p : Story) (table : List (Option Standing)) → goes_with earlier line ≡ true → ((n : ℕ) → list_any (opens n) earlier ≡ false → sessions_of table n ≡ None) → IsNew (scene p table) line
+line_new (File path content) earlier p table order closed = tt
+line_new (Doc id reusable path grants) earlier p table order closed = tt
+line_new (Open seat kind who) earlier p table order closed = closed seat (no_true _ order)
+line_new (Data seat bytes) earlier p table order closed = tt
+line_new (Close seat) earlier p table order closed = tt
 
--- the next line may be run where the lines that are left may be
-pub may_run : (lines : List ScriptLine) (index : ℕ) (p : Story) (line : ScriptLine) → index < length lines → line ≡ get_or lines index line → MayPlay p (drop index lines) → MayRun p line
-may_run lines index p line h is m =
-    let rest = rest_is lines index line h is in
-    let costs = costs_split line (drop (index + 1) lines) (drop index lines) rest in
-    record { seat = (seats_split line (drop (index + 1) lines) (drop index lines) rest m.seats).0; room = omega (arith, m.room, costs) }
+module _ (earlier lines : List ScriptLine) (p : Story) (table : List (Option Standing)) (line : ScriptLine) (m : MayPlay earlier p table (line ∷ lines)) where
+  is_new : IsNew (scene p table) line
+  is_new = line_new line earlier p table m.stand.0.order m.closed
 
-pub may_go_on : (lines : List ScriptLine) (index : ℕ) (p q : Story) (line : ScriptLine) (told told' : Option (List (List ℕ))) → index < length lines → line ≡ get_or lines index line
-    → q.opening ≡ p.opening → MayPlay p (drop index lines) → Runs p q line told told' → MayPlay q (drop (index + 1) lines)
-may_go_on lines index p q line told told' h is o m r =
-    let rest = rest_is lines index line h is in
-    let costs = costs_split line (drop (index + 1) lines) (drop index lines) rest in
-    let grown = cost_on p q line r.history in
-    let limit : limit_of q ≡ limit_of p = ap (λ (z : OpeningState). z.limits.history) o in
-    record { seats = (seats_split line (drop (index + 1) lines) (drop index lines) rest m.seats).1; room = omega (arith, m.room, costs, grown, limit) }
+  next_may_run : MayRun p table line
+  next_may_run =
+      let text = text_more line lines in
+      record {
+        agrees = m.agrees;
+        itself = m.stand.0.itself;
+        new = is_new;
+        room = omega (arith, m.room);
+        space = λ n. holds_less (sessions_of table n) (length (line_text line)) (length (text_of (line ∷ lines))) (omega arith) (m.space n);
+      }
+
+  next_may_play : (q : Story) (table' : List (Option Standing)) (told told' : Option (List (List ℕ))) → opened q.opening ≡ opened p.opening → Runs p table q table' line told told' → MayPlay (earlier ++ line ∷ []) q table' lines
+  next_may_play q table' told told' same r =
+      let a = scene p table in
+      let b = scene q table' in
+      let text = text_more line lines in
+      let least = does_cost line a b r.entries r.out m.agrees m.stand.0.itself r.does in
+      let grown : cost q.history ≡ cost p.history + cost r.entries = ap cost r.history ∙ cost-append p.history r.entries in
+      let limit : limit_of q ≡ limit_of p = ap (λ (z : State). z.limits.history) same in
+      let more : HaveRoom a (length (line_text line) + 1 + length (text_of lines)) = λ n. holds_less (sessions_of table n) _ (length (text_of (line ∷ lines))) (omega arith) (m.space n) in
+      let room = m.room in
+      let short = m.short in
+      record {
+        stand = m.stand.1;
+        agrees = does_agree line a b r.entries r.out m.agrees is_new r.does;
+        closed = does_close line a b r.entries r.out earlier m.closed r.does;
+        room = omega arith;
+        space = does_room line a b r.entries r.out (length (text_of lines)) m.agrees (omega arith) more r.does;
+        short = omega arith;
+      }
+
+pub may_run : (lines : List ScriptLine) (index : ℕ) (p : Story) (table : List (Option Standing)) (line : ScriptLine) → index < length lines → line ≡ get_or lines index line → MayPlay (take index lines) p table (drop index lines) → MayRun p table line
+may_run lines index p table line h is m = next_may_run (take index lines) (drop (index + 1) lines) p table line (subst (λ (z : List ScriptLine). MayPlay (take index lines) p table z) (rest_is lines index line h is) m)
+
+pub may_go_on : (lines : List ScriptLine) (index : ℕ) (p q : Story) (table table' : List (Option Standing)) (line : ScriptLine) (told told' : Option (List (List ℕ))) → index < length lines → line ≡ get_or lines index line
+    → opened q.opening ≡ opened p.opening → MayPlay (take index lines) p table (drop index lines) → Runs p table q table' line told told' → MayPlay (take (index + 1) lines) q table' (drop (index + 1) lines)
+may_go_on lines index p q table table' line told told' h is same m r =
+    subst (λ (z : List ScriptLine). MayPlay z q table' (drop (index + 1) lines)) (sym (front_is lines index line h is))
+    (next_may_play (take index lines) (drop (index + 1) lines) p table line (subst (λ (z : List ScriptLine). MayPlay (take index lines) p table z) (rest_is lines index line h is) m) q table' told told' same r)

@@ -1,31 +1,32 @@
 -- A text replayed, and a run of the program.
-use Rattle.std.proofs.Common.{◌≡◌, ℕ, ◌+◌, ◌*◌, ◌<◌, ◌≤◌, List, [], ◌∷◌, ◌++◌, length, Option, Some, None, Bool, true, false, refl, sym, ap, ◌∙◌, subst, inl, inr, ◌⊎◌, get_or, arith, length-append}
-use Rattle.std.specs.Prelude.{◌≢◌, nat_lt, cond, if◌then◌else◌, IsTrue, codes}
-use Rattle.std.proofs.lemmas.Bool.Decides.{nat_tests}
-use Rattle.portal_base.specs.Outside.{HasRisen, Short, behind, onto}
+use Rattle.std.proofs.Common.{◌≡◌, ℕ, ◌+◌, ◌≤◌, List, [], ◌∷◌, length, Option, Some, None, Bool, false, refl, sym, ap, ◌∙◌, subst, inl, inr, ◌⊎◌, get_or, arith, length-append, map}
+use Rattle.std.specs.Prelude.{◌≢◌, IsTrue, codes}
+use Rattle.portal_base.specs.Outside.{onto}
 use Rattle.portal_base.specs.Names.{is_same}
+use Rattle.portal_model.specs.declared.entry.Entry.{Entry}
 use Rattle.portal_model.specs.declared.opening.OpeningState.{OpeningState}
-use Rattle.portal_model.specs.Opening.{opened}
-use Rattle.portal_model.specs.State.{State}
+use Rattle.portal_base.specs.declared.limits.Limits.{Limits}
+use Rattle.portal_model.specs.Opening.{ValidOpening, file_of, opened}
+use Rattle.portal_model.specs.Valid.{Valid}
 use Rattle.portal_model.proofs.Finds.{is_same-eq, is_same-refl}
-use Rattle.portal_core.specs.Story.{Story, state_now}
+use Rattle.portal_core.specs.Story.{Story}
 use Rattle.script_form.specs.declared.script.ScriptLine.{ScriptLine}
 use Rattle.script_form.specs.Lines.{text_of}
-use Rattle.script_form.specs.Opening.{opening}
+use Rattle.script_form.specs.Opening.{HoldsScripts, opening}
 use Rattle.script_form.specs.Order.{IsBuilt}
 use Rattle.docportal.specs.declared.input.InputError.{InputError}
 use Rattle.docportal.specs.declared.input.InputError.TheVariants as input
 use Rattle.docportal.specs.declared.status.Status.{Status}
 use Rattle.docportal.specs.declared.status.Status.TheVariants.{Done, ReadFault, WriteFault, Memory, TooLong, Unbuilt}
 use Rattle.docportal.specs.Inputs.{script_limit, AtEnd, IsWhole, Stops}
-use Rattle.docportal.specs.Outputs.{out_from, built_front, is_built}
-use Rattle.docportal.specs.Lines.{MayPlay, lines_cost}
-use Rattle.docportal.specs.Plays.{PlaysAll, PlaysPart, PlayStops}
-use Rattle.docportal.specs.Runs.{Cause, Ran, Replays, Risen, WroteAll, WroteFront, WroteUpTo, HistoryOf, Out, ended_at, first_unbuilt, opening_state, replay_words, run_limits}
-use Rattle.docportal.proofs.Asking.{onto_none}
+use Rattle.docportal.specs.Plays.{Plays, PlaysAll, PlaysPart, PlayStops, PlaysUpTo}
+use Rattle.docportal.specs.Runs.{Cause, IsReplay, Ran, Replays, Risen, WroteFront, ended_at, replay_words}
+use Rattle.docportal.specs.Scenes.{Scene, first_scene, opening_state, run_limits}
+use Rattle.docportal.specs.Steps.{MayPlay, scene}
 use Rattle.docportal.proofs.Behind.{behind_none}
+use Rattle.docportal.proofs.Oneness.{plays_one}
+use Rattle.docportal.proofs.Playing.{onto_none}
 use Rattle.docportal.proofs.Sounding.{sound}
-use Rattle.docportal.proofs.Costs.{lines_cost_le, lines_seats}
 
 -- ---- the words
 
@@ -55,69 +56,83 @@ word_known words w r l e s =
 abbrev pub Replayed : List ℕ → Option (List (List ℕ)) → Option (List (List ℕ)) → Status → Type 0
 Replayed text told told' status = (pieces : List (List ℕ)) × (told' ≡ onto told pieces) × Replays text pieces status
 
-front_step : (line : ScriptLine) (lines : List ScriptLine) (b : Bool) → (length (built_front lines) ≡ length lines → built_front lines ≡ lines)
-    → length (cond b (line ∷ built_front lines) []) ≡ length (line ∷ lines) → cond b (line ∷ built_front lines) [] ≡ line ∷ lines
-front_step line lines true rest e = ap (λ (x : List ScriptLine). line ∷ x) (rest (omega (arith, e)))
-front_step line lines false rest e = absurd (omega (arith, e))
+is_replay : (lines front : List ScriptLine) (history : List Entry) (out : List (List ℕ)) (last : Scene) → Valid (opening_state lines) → Plays (first_scene lines) front history out last → IsReplay lines front history out last
+is_replay lines front history out last valid plays = record {
+  plays = plays;
+  only = λ h o b p. plays_one front (first_scene lines) b last h history o out p plays;
+  sound = sound lines front history out last valid plays;
+}
 
--- where the lines ahead of the first that is not built are as many as all, they are all
-front_whole : (lines : List ScriptLine) → length (built_front lines) ≡ length lines → built_front lines ≡ lines
-front_whole [] e = refl
-front_whole (line ∷ lines) e = front_step line lines (is_built line) (front_whole lines) e
+-- a text of these lines, whose opening is valid, and a portal that opened so
+module _ (text : List ℕ) (lines : List ScriptLine) (ends : Option ℕ) (script : IsBuilt text lines ends) (valid : Valid (opening_state lines)) (told told' : Option (List (List ℕ))) where
+  played_part : PlaysPart (first_scene lines) lines told told' → (pieces : List (List ℕ)) × (told' ≡ onto told pieces) × WroteFront text pieces
+  played_part p = (
+    p.pieces,
+    p.output,
+    record {
+      lines = lines;
+      ends = ends;
+      script = script;
+      front = p.front;
+      later = p.plays.0;
+      ahead = p.plays.1;
+      history = p.history;
+      out = p.out;
+      last = p.last;
+      replay = is_replay lines p.front p.history p.out p.last valid p.plays.2;
+      output = p.short;
+    },
+  )
 
-first_all : (lines : List ScriptLine) (ends : Option ℕ) → length (built_front lines) ≡ length lines → first_unbuilt lines ends ≡ ends
-first_all lines ends all =
-    let no : nat_lt (length (built_front lines)) (length lines) ≡ false = grind (arith, nat_tests) in
-    ap (λ (b : Bool). if b then Some (length (built_front lines) + 1) else ends) no
+  played_up_to : (number : ℕ) → PlaysUpTo (first_scene lines) lines number told told' → Replayed text told told' (Unbuilt number)
+  played_up_to number p = (
+    p.out,
+    p.output,
+    record {
+      lines = lines;
+      ends = ends;
+      script = script;
+      front = p.front;
+      history = p.history;
+      last = p.last;
+      replay = is_replay lines p.front p.history p.out p.last valid p.plays;
+      first = inr p.stops;
+    },
+  )
 
-first_some : (lines : List ScriptLine) (ends : Option ℕ) → length (built_front lines) < length lines → first_unbuilt lines ends ≡ Some (length (built_front lines) + 1)
-first_some lines ends some =
-    let yes : nat_lt (length (built_front lines)) (length lines) ≡ true = grind (arith, nat_tests) in
-    ap (λ (b : Bool). if b then Some (length (built_front lines) + 1) else ends) yes
+  part_memory : (pieces : List (List ℕ)) × (told' ≡ onto told pieces) × WroteFront text pieces → Replayed text told told' Memory
+  part_memory p = (p.0, p.1, inr p.2)
 
-wrote_all : (text : List ℕ) (lines : List ScriptLine) → IsBuilt text lines None → length (built_front lines) ≡ length lines
-    → WroteAll text (out_from (opening_state lines) (built_front lines))
-wrote_all text lines b all =
-    let whole = front_whole lines all in
-    record { lines = lines; script = b; built = whole; output = ap (λ (x : List ScriptLine). out_from (opening_state lines) x) whole; sound = sound lines lines b.good }
+  stopped : (faults faults' : ℕ) (status : Status) → PlayStops (first_scene lines) lines told faults told' faults' status → Replayed text told told' status
+  stopped faults faults' Done p = absurd p
+  stopped faults faults' ReadFault p = absurd p
+  stopped faults faults' WriteFault p = played_part p.1
+  stopped faults faults' Memory p = part_memory (played_part p)
+  stopped faults faults' TooLong p = absurd p
+  stopped faults faults' (Unbuilt number) p = played_up_to number p
 
-wrote_up_to : (text : List ℕ) (lines : List ScriptLine) (ends : Option ℕ) (n : ℕ) → IsBuilt text lines ends → first_unbuilt lines ends ≡ Some n
-    → WroteUpTo text n (out_from (opening_state lines) (built_front lines))
-wrote_up_to text lines ends n b first = record { lines = lines; ends = ends; script = b; first = first; output = refl; sound = sound lines (built_front lines) b.good }
-
-pub replayed_all : (text : List ℕ) (lines : List ScriptLine) (ends : Option ℕ) (s : State) (told told' : Option (List (List ℕ)))
-    → IsBuilt text lines ends → s ≡ opening_state lines → PlaysAll s lines told told' → Replayed text told told' (ended_at ends)
-replayed_all text lines None s told told' b o p =
-    (out_from (opening_state lines) (built_front lines), p.output ∙ ap (λ (t : State). onto told (out_from t (built_front lines))) o, wrote_all text lines b p.all)
-replayed_all text lines (Some n) s told told' b o p = (
-  out_from (opening_state lines) (built_front lines),
-  p.output ∙ ap (λ (t : State). onto told (out_from t (built_front lines))) o,
-  wrote_up_to text lines (Some n) n b (first_all lines (Some n) p.all),
+ended : (text : List ℕ) (lines : List ScriptLine) (ends : Option ℕ) (told told' : Option (List (List ℕ))) → IsBuilt text lines ends → Valid (opening_state lines) → PlaysAll (first_scene lines) lines told told' → Replayed text told told' (ended_at ends)
+ended text lines None told told' script valid p = (
+  p.out,
+  p.output,
+  record { lines = lines; script = script; history = p.history; last = p.last; replay = is_replay lines lines p.history p.out p.last valid p.plays },
+)
+ended text lines (Some number) told told' script valid p = (
+  p.out,
+  p.output,
+  record {
+    lines = lines;
+    ends = Some number;
+    script = script;
+    front = lines;
+    history = p.history;
+    last = p.last;
+    replay = is_replay lines lines p.history p.out p.last valid p.plays;
+    first = inl (refl, refl);
+  },
 )
 
-part_of : (text : List ℕ) (lines : List ScriptLine) (ends : Option ℕ) (s : State) (told told' : Option (List (List ℕ)))
-    → IsBuilt text lines ends → s ≡ opening_state lines → PlaysPart s lines told told' → (pieces : List (List ℕ)) × (told' ≡ onto told pieces) × WroteFront text pieces
-part_of text lines ends s told told' b o p = (
-  p.0,
-  p.2,
-  record { lines = lines; ends = ends; script = b; output = subst (λ (t : State). Short p.0 (out_from t (built_front lines))) o p.1 },
-)
-
-pub replay_stopped : (text : List ℕ) (lines : List ScriptLine) (ends : Option ℕ) (s : State) (told told' : Option (List (List ℕ))) (faults faults' : ℕ) (status : Status)
-    → IsBuilt text lines ends → s ≡ opening_state lines → PlayStops s lines told faults told' faults' status → Replayed text told told' status
-replay_stopped text lines ends s told told' faults faults' Done b o p = absurd p
-replay_stopped text lines ends s told told' faults faults' ReadFault b o p = absurd p
-replay_stopped text lines ends s told told' faults faults' WriteFault b o p = part_of text lines ends s told told' b o p.1
-replay_stopped text lines ends s told told' faults faults' Memory b o p =
-    let part = part_of text lines ends s told told' b o p in (part.0, part.1, inr part.2)
-replay_stopped text lines ends s told told' faults faults' TooLong b o p = absurd p
-replay_stopped text lines ends s told told' faults faults' (Unbuilt line) b o p = (
-  out_from (opening_state lines) (built_front lines),
-  p.2 ∙ ap (λ (t : State). onto told (out_from t (built_front lines))) o,
-  wrote_up_to text lines ends line b (first_some lines ends p.0 ∙ ap Some (sym p.1)),
-)
-
-pub stopped_risen : (lines : List ScriptLine) (s : State) (told told' : Option (List (List ℕ))) (faults faults' : ℕ) (status : Status)
+pub stopped_risen : (lines : List ScriptLine) (s : Scene) (told told' : Option (List (List ℕ))) (faults faults' : ℕ) (status : Status)
     → PlayStops s lines told faults told' faults' status → Risen status 0 0 faults faults'
 stopped_risen lines s told told' faults faults' Done p = tt
 stopped_risen lines s told told' faults faults' ReadFault p = absurd p
@@ -135,34 +150,50 @@ replayed_none text told = ([], onto_none told, inl refl)
 
 -- ---- over a portal that was just started
 
+holds : HoldsScripts run_limits
+holds = record { documents = omega arith; made = omega arith; made_limit = omega arith; queued_limit = omega arith }
+
+pub valid_opening : (limits : Limits) (o : OpeningState) → limits ≡ run_limits → (HoldsScripts limits → ValidOpening (Some (map file_of o.files)) o) → Valid (opened o)
+valid_opening limits o e h = (h (subst HoldsScripts (sym e) holds)).valid
+
+pub opening_is : (limits : Limits) (lines : List ScriptLine) (o : OpeningState) → limits ≡ run_limits → o ≡ opening limits lines → o ≡ opening run_limits lines
+opening_is limits lines o e h = h ∙ ap (λ (l : Limits). opening l lines) e
+
 abbrev started : OpeningState → Story
 started o = record { opening = o; history = [] }
 
-room_for : (text : List ℕ) (lines : List ScriptLine) (ends : Option ℕ) → length text ≤ script_limit → IsBuilt text lines ends → MayPlay (started (opening run_limits lines)) lines
-room_for text lines ends l b =
-    let cost = lines_cost_le [] lines b.good in
+first_may : (text : List ℕ) (lines : List ScriptLine) (ends : Option ℕ) → length text ≤ script_limit → IsBuilt text lines ends → MayPlay [] (started (opening run_limits lines)) [] lines
+first_may text lines ends l b =
     let cut : length text ≡ length (text_of lines) + length b.rest.0 = ap length b.rest.1 ∙ length-append (text_of lines) b.rest.0 in
-    record { seats = lines_seats [] lines b.good; room = omega (arith, cost, cut, l) }
+    record {
+      stand = b.good;
+      agrees = record { idle = λ n. tt; bound_alike = λ n. refl };
+      closed = λ n h. refl;
+      room = omega arith;
+      space = λ n. tt;
+      short = omega arith;
+    }
 
 pub may_replay : (text : List ℕ) (lines slice : List ScriptLine) (ends : Option ℕ) (o : OpeningState) (p : Story)
-    → length text ≤ script_limit → IsBuilt text lines ends → slice ≡ lines → o ≡ opening run_limits lines → p ≡ started o → MayPlay p slice
+    → length text ≤ script_limit → IsBuilt text lines ends → slice ≡ lines → o ≡ opening run_limits lines → p ≡ started o → MayPlay [] p [] slice
 may_replay text lines slice ends o p l b s oe pe =
-    subst (λ (x : List ScriptLine). MayPlay p x) (sym s) (subst (λ (q : Story). MayPlay q lines) (sym (pe ∙ ap started oe)) (room_for text lines ends l b))
+    subst (λ (x : List ScriptLine). MayPlay [] p [] x) (sym s) (subst (λ (q : Story). MayPlay [] q [] lines) (sym (pe ∙ ap started oe)) (first_may text lines ends l b))
 
-state_is : (lines : List ScriptLine) (o : OpeningState) (p : Story) → o ≡ opening run_limits lines → p ≡ started o → state_now p ≡ opening_state lines
-state_is lines o p oe pe = ap state_now pe ∙ ap opened oe
+scene_is : (lines : List ScriptLine) (o : OpeningState) (p : Story) → o ≡ opening run_limits lines → p ≡ started o → scene p [] ≡ first_scene lines
+scene_is lines o p oe pe = ap (λ (q : Story). scene q []) (pe ∙ ap started oe)
 
 pub replay_stops : (text : List ℕ) (lines slice : List ScriptLine) (ends : Option ℕ) (o : OpeningState) (p : Story) (told told' : Option (List (List ℕ))) (faults faults' : ℕ) (status : Status)
-    → IsBuilt text lines ends → slice ≡ lines → o ≡ opening run_limits lines → p ≡ started o → PlayStops (state_now p) slice told faults told' faults' status → Replayed text told told' status
-replay_stops text lines slice ends o p told told' faults faults' status b s oe pe h =
-    replay_stopped text lines ends (state_now p) told told' faults faults' status b (state_is lines o p oe pe)
-    (subst (λ (x : List ScriptLine). PlayStops (state_now p) x told faults told' faults' status) s h)
+    → IsBuilt text lines ends → Valid (opened o) → slice ≡ lines → o ≡ opening run_limits lines → p ≡ started o → PlayStops (scene p []) slice told faults told' faults' status → Replayed text told told' status
+replay_stops text lines slice ends o p told told' faults faults' status b valid s oe pe h =
+    stopped text lines ends b (subst (λ (x : OpeningState). Valid (opened x)) oe valid) told told' faults faults' status
+    (subst (λ (x : List ScriptLine). PlayStops (first_scene lines) x told faults told' faults' status) s (subst (λ (x : Scene). PlayStops x slice told faults told' faults' status) (scene_is lines o p oe pe) h))
 
 pub replays_all : (text : List ℕ) (lines slice : List ScriptLine) (ends : Option ℕ) (o : OpeningState) (p : Story) (told told' : Option (List (List ℕ))) (status : Status)
-    → IsBuilt text lines ends → slice ≡ lines → o ≡ opening run_limits lines → p ≡ started o → status ≡ ended_at ends → PlaysAll (state_now p) slice told told' → Replayed text told told' status
-replays_all text lines slice ends o p told told' status b s oe pe e h =
+    → IsBuilt text lines ends → Valid (opened o) → slice ≡ lines → o ≡ opening run_limits lines → p ≡ started o → status ≡ ended_at ends → PlaysAll (scene p []) slice told told' → Replayed text told told' status
+replays_all text lines slice ends o p told told' status b valid s oe pe e h =
     subst (λ (x : Status). Replayed text told told' x) (sym e)
-    (replayed_all text lines ends (state_now p) told told' b (state_is lines o p oe pe) (subst (λ (x : List ScriptLine). PlaysAll (state_now p) x told told') s h))
+    (ended text lines ends told told' b (subst (λ (x : OpeningState). Valid (opened x)) oe valid)
+    (subst (λ (x : List ScriptLine). PlaysAll (first_scene lines) x told told') s (subst (λ (x : Scene). PlaysAll x slice told told') (scene_is lines o p oe pe) h)))
 
 -- ---- the whole run
 

@@ -1,59 +1,72 @@
--- The history of a script is legal, and isolates each application.
-use Rattle.std.proofs.Common.{◌≡◌, ℕ, List, [], ◌∷◌, ◌++◌, Option, Some, None, Bool, true, false, refl}
-use Rattle.std.specs.Prelude.{option_to_list}
-use Rattle.portal_base.specs.declared.files.Look.{Look}
+-- The history of lines that are run is legal, and isolates each application.
+use Rattle.std.proofs.Common.{◌≡◌, ℕ, List, [], ◌∷◌, Option, Some, None, refl, sym, ap, ◌∙◌, subst}
 use Rattle.portal_model.specs.declared.entry.Entry.{Entry}
-use Rattle.portal_model.specs.declared.entry.Fault.TheVariants as Fault
 use Rattle.portal_model.specs.declared.request.Request.{Request}
-use Rattle.portal_model.specs.declared.request.Request.TheVariants.{Enter, Node}
-use Rattle.portal_model.specs.History.{EachLawful, Legal}
-use Rattle.portal_model.specs.Lawful.{Lawful, LawfulLooks}
+use Rattle.portal_model.specs.History.{EachLawful, run}
 use Rattle.portal_model.specs.State.{State}
-use Rattle.portal_model.specs.Step.{looks_taken}
+use Rattle.portal_model.specs.Valid.{Valid}
+use Rattle.portal_model.proofs.Histories.{EachLawful-append}
 use Rattle.portal_model.proofs.WorldLaws.{replies_of_trace}
 use Rattle.script_form.specs.declared.script.ScriptLine.{ScriptLine}
-use Rattle.script_form.specs.declared.script.ScriptLine.TheVariants.{File, Doc, Open, Data}
-use Rattle.script_form.specs.Order.{IsScript}
-use Rattle.docportal.specs.declared.frame.FrameAsk.{FrameAsk}
-use Rattle.docportal.specs.Frames.{asked_in}
-use Rattle.docportal.specs.Outputs.{after_line, entry_for, entry_of, frame_entry, history_from}
-use Rattle.docportal.specs.Runs.{IsSound, opening_state}
-use Rattle.docportal.proofs.Soundness.{valid_script}
+use Rattle.script_form.specs.declared.script.ScriptLine.TheVariants.{File, Doc, Open, Data, Close}
+use Rattle.session.specs.declared.served.Rest.{Rest}
+use Rattle.session.specs.declared.served.Rest.TheVariants as rest
+use Rattle.session.specs.Standings.{Standing}
+use Rattle.docportal.specs.Lines.{Comes, CloseDoes, DataDoes, Does, Goes, Passes}
+use Rattle.docportal.specs.Plays.{Plays}
+use Rattle.docportal.specs.Runs.{IsSound}
+use Rattle.docportal.specs.Scenes.{Scene, first_scene, opening_state}
+use Rattle.docportal.proofs.Given.{entries_lawful}
 
-given_looks : (told : Bool) (taken : List Look) → LawfulLooks told taken Fault.None taken
-given_looks true taken = refl
-given_looks false taken = refl
+-- entries are lawful from a scene, and lead to the portal of another
+pub record Leads (a : Scene) (entries : List Entry) (b : Scene) : Type 0 where
+  pub lawful : EachLawful a.portal entries
+  pub portal : b.portal ≡ run a.portal entries
 
-entry_lawful : (s : State) (seat : ℕ) (request : Request) → Lawful s (entry_for s seat request)
-entry_lawful s seat request = record { clock = refl; words = refl; numbers = refl; full = refl; looks = given_looks s.told (looks_taken s seat request) }
+passes_lead : (a b : Scene) (es : List Entry) (out : List (List ℕ)) → Passes a es out b → Leads a es b
+passes_lead a b es out h = record {
+  lawful = subst (EachLawful a.portal) (sym h.0) tt;
+  portal = ap (λ (z : Scene). z.portal) h.2 ∙ ap (run a.portal) (sym h.0);
+}
 
-abbrev MaybeLawful : State → Option Entry → Type 0
-MaybeLawful s None = Unit {0}
-MaybeLawful s (Some e) = Lawful s e
+comes_lead : (a b : Scene) (seat : ℕ) (rs : List Request) (lines : List (List ℕ)) (now : Option Standing) (es : List Entry) (out : List (List ℕ)) → Comes a seat rs lines now es out b → Leads a es b
+comes_lead a b seat rs lines now es out h = record {
+  lawful = subst (EachLawful a.portal) (sym h.entries_are) (entries_lawful rs a.portal seat);
+  portal = ap (λ (z : Scene). z.portal) h.scene;
+}
 
-frame_lawful : (s : State) (seat : ℕ) (o : Option FrameAsk) → MaybeLawful s (frame_entry s seat o)
-frame_lawful s seat None = tt
-frame_lawful s seat (Some f) = entry_lawful s seat (Node f.request)
+goes_lead : (what : Rest) (a b : Scene) (seat : ℕ) (rs : List Request) (ps : List (List ℕ)) (now : Standing) (es : List Entry) (out : List (List ℕ)) → Goes a seat what rs ps now es out b → Leads a es b
+goes_lead rest.More a b seat rs ps now es out h = comes_lead a b seat _ _ _ es out h.1
+goes_lead (rest.Bad rule) a b seat rs ps now es out h = comes_lead a b seat _ _ _ es out h
+goes_lead rest.TooLong a b seat rs ps now es out h = comes_lead a b seat _ _ _ es out h
+goes_lead rest.Unbuilt a b seat rs ps now es out h = absurd h
 
-line_lawful : (s : State) (line : ScriptLine) → MaybeLawful s (entry_of s line)
-line_lawful s (File path content) = tt
-line_lawful s (Doc id reusable path grants) = tt
-line_lawful s (Open seat kind who) = entry_lawful s seat (Enter who kind)
-line_lawful s (Data seat bytes) = frame_lawful s seat (asked_in bytes)
+data_leads : (o : Option Standing) (a b : Scene) (seat : ℕ) (bytes : List ℕ) (es : List Entry) (out : List (List ℕ)) → DataDoes a seat bytes o es out b → Leads a es b
+data_leads None a b seat bytes es out h = passes_lead a b es out h
+data_leads (Some at) a b seat bytes es out h = goes_lead h.0 a b seat h.1 h.2 h.3 es out h.5
 
-goes_on : (s : State) (o : Option Entry) (h : List Entry) → MaybeLawful s o → EachLawful (after_line s o) h → EachLawful s (option_to_list o ++ h)
-goes_on s None h l e = e
-goes_on s (Some x) h l e = (l, e)
+close_leads : (o : Option Standing) (a b : Scene) (seat : ℕ) (es : List Entry) (out : List (List ℕ)) → CloseDoes a seat o es out b → Leads a es b
+close_leads None a b seat es out h = passes_lead a b es out h
+close_leads (Some at) a b seat es out h = comes_lead a b seat _ _ _ es out h
 
-each_lawful : (lines : List ScriptLine) (s : State) → EachLawful s (history_from s lines)
-each_lawful [] s = tt
-each_lawful (line ∷ lines) s = goes_on s (entry_of s line) (history_from (after_line s (entry_of s line)) lines) (line_lawful s line) (each_lawful lines (after_line s (entry_of s line)))
+pub does_lead : (line : ScriptLine) (a b : Scene) (es : List Entry) (out : List (List ℕ)) → Does a line es out b → Leads a es b
+does_lead (File path content) a b es out h = passes_lead a b es out h
+does_lead (Doc id reusable path grants) a b es out h = passes_lead a b es out h
+does_lead (Open seat kind who) a b es out h = comes_lead a b seat _ _ _ es out h
+does_lead (Data seat bytes) a b es out h = data_leads (a.sessions seat) a b seat bytes es out h
+does_lead (Close seat) a b es out h = close_leads (a.sessions seat) a b seat es out h
 
-pub sound : (lines front : List ScriptLine) → IsScript lines → IsSound lines (history_from (opening_state lines) front)
-sound lines front s =
-    let valid = valid_script lines s in
-    let lawful = each_lawful front (opening_state lines) in
+plays_lawful : (lines : List ScriptLine) (a b : Scene) (es : List Entry) (out : List (List ℕ)) → Plays a lines es out b → EachLawful a.portal es
+plays_lawful [] a b es out h = subst (EachLawful a.portal) (sym h.0) tt
+plays_lawful (line ∷ lines) a b es out (first, more, said, later, mid, entries_are, out_is, does, plays) =
+    let leads = does_lead line a mid first said does in
+    let rest = subst (λ (s : State). EachLawful s more) leads.portal (plays_lawful lines mid b more later plays) in
+    subst (EachLawful a.portal) (sym entries_are) (EachLawful-append first more a.portal leads.lawful rest)
+
+pub sound : (lines front : List ScriptLine) (history : List Entry) (out : List (List ℕ)) (last : Scene) → Valid (opening_state lines) → Plays (first_scene lines) front history out last → IsSound lines history
+sound lines front history out last valid plays =
+    let lawful = plays_lawful front (first_scene lines) last history out plays in
     record {
       legal = record { opening = valid; lawful = lawful };
-      isolated = λ app. replies_of_trace (history_from (opening_state lines) front) app (opening_state lines) refl valid lawful;
+      isolated = λ app. replies_of_trace history app (opening_state lines) refl valid lawful;
     }

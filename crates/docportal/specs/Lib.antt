@@ -1,8 +1,10 @@
 pub mod Inputs
-pub mod Frames
-pub mod Replies
-pub mod Outputs
+pub mod Entries
+pub mod Texts
+pub mod Scenes
 pub mod Lines
+pub mod Seats
+pub mod Steps
 pub mod Plays
 pub mod Runs
 pub mod Statuses

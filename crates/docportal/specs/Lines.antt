@@ -1,76 +1,102 @@
--- What running one line comes to.
-use Rattle.std.specs.Prelude.{◌≡◌, ℕ, ◌+◌, ◌≤◌, Bool, true, false, List, [], ◌∷◌, ◌++◌, Option, Some, None, option_to_list}
-use Rattle.portal_base.specs.Outside.{HasRisen, Short, onto}
-use Rattle.portal_core.specs.Story.{Story, state_now, limit_of}
-use Rattle.portal_model.specs.declared.request.Request.TheVariants.{Enter, Node}
-use Rattle.portal_model.specs.History.{cost, cost_of}
+-- What a line of a script does. Bytes that come on a connection are cut into items, and each item that is
+-- whole is answered in order.
+use Rattle.std.specs.Prelude.{◌≡◌, ◌≢◌, ℕ, ◌+◌, List, [], ◌∷◌, ◌++◌, length, map, Option, Some, None}
+use Rattle.portal_model.specs.declared.entry.Entry.{Entry}
+use Rattle.portal_model.specs.declared.request.Request.{Request}
+use Rattle.portal_model.specs.History.{run}
 use Rattle.portal_model.specs.State.{State}
 use Rattle.script_form.specs.declared.script.ScriptLine.{ScriptLine}
-use Rattle.script_form.specs.declared.script.ScriptLine.TheVariants.{File, Doc, Open, Data}
-use Rattle.docportal.specs.declared.frame.FrameAsk.{FrameAsk}
-use Rattle.docportal.specs.declared.line.LineError.{LineError}
-use Rattle.docportal.specs.declared.line.LineError.TheVariants.{Unbuilt, WriteFault, Memory}
-use Rattle.docportal.specs.Frames.{asked_in}
-use Rattle.docportal.specs.Outputs.{entry_of, out_of_line, is_built}
+use Rattle.script_form.specs.declared.script.ScriptLine.TheVariants.{File, Doc, Open, Data, Close}
+use Rattle.session.specs.declared.act.Act.{Act}
+use Rattle.session.specs.declared.served.Rest.{Rest}
+use Rattle.session.specs.declared.served.Rest.TheVariants as rest
+use Rattle.session.specs.declared.served.Served.TheVariants as served
+use Rattle.session.specs.Answers.{Answers}
+use Rattle.session.specs.Asked.{requests_of}
+use Rattle.session.specs.Items.{Items, joined, phase_after}
+use Rattle.session.specs.Sessions.{ending_at, fed_of}
+use Rattle.session.specs.Standings.{Standing, client, fresh}
+use Rattle.docportal.specs.Entries.{entries_for, made_for}
+use Rattle.docportal.specs.Scenes.{Scene, placed, run_settings}
+use Rattle.docportal.specs.Texts.{out_line, end_line}
 
-abbrev pub frame_cost : Option FrameAsk → ℕ
-frame_cost None = 0
-frame_cost (Some frame) = cost_of (Node frame.request)
+-- ---- bytes on a connection
 
--- what the entry of a line costs the history
-abbrev pub line_cost : ScriptLine → ℕ
-line_cost (File path content) = 0
-line_cost (Doc id reusable path grants) = 0
-line_cost (Open seat kind who) = cost_of (Enter who kind)
-line_cost (Data seat bytes) = frame_cost (asked_in bytes)
+-- Bytes come behind the rest of a connection: the items that are whole now ask these requests and are
+-- answered by these pieces, this stands behind them, and the session goes on so.
+pub record Hears (s : State) (seat : ℕ) (at : Standing) (bytes : List ℕ) (what : Rest) (requests : List Request) (pieces : List (List ℕ)) (now : Standing) : Type 0 where
+  pub items : List (List ℕ)
+  pub acts : List Act
+  pub cut : Items at.client at.stage.phase (at.rest ++ bytes) items acts now.rest what
+  pub asked : requests ≡ requests_of acts
+  pub answers : Answers at.stage.serial acts (made_for s seat requests) pieces now.stage.serial
+  pub client : now.client ≡ at.client
+  pub phase : now.stage.phase ≡ phase_after at.client at.stage.phase items
+  pub before : now.before ≡ at.before + length (joined items)
+  pub fed : now.fed ≡ fed_of now.before what
 
--- the seat of a line that asks is a number from 1
-abbrev pub HasSeat : ScriptLine → Type 0
-HasSeat (File path content) = Unit {0}
-HasSeat (Doc id reusable path grants) = Unit {0}
-HasSeat (Open seat kind who) = 1 ≤ seat
-HasSeat (Data seat bytes) = 1 ≤ seat
+-- ---- a line
 
--- the history has room for what the line asks
-pub record MayRun (p : Story) (line : ScriptLine) : Type 0 where
-  pub seat : HasSeat line
-  pub room : cost p.history + line_cost line ≤ limit_of p
+-- nothing is asked or written, and all stays
+abbrev pub Passes : Scene → List Entry → List (List ℕ) → Scene → Type 0
+Passes a entries out b = (entries ≡ []) × (out ≡ []) × (b ≡ a)
 
--- the entry of a line stands at the end of the history
-pub record Asks (old new : Story) (line : ScriptLine) : Type 0 where
-  pub history : new.history ≡ old.history ++ option_to_list (entry_of (state_now old) line)
+-- These requests of a seat are asked, one after another; this is written; and then this stands at its number.
+pub record Comes (a : Scene) (seat : ℕ) (requests : List Request) (lines : List (List ℕ)) (now : Option Standing) (entries : List Entry) (out : List (List ℕ)) (b : Scene) : Type 0 where
+  pub entries_are : entries ≡ entries_for a.portal seat requests
+  pub out_is : out ≡ lines
+  pub scene : b ≡ record { portal = run a.portal entries; sessions = placed a.sessions seat now }
 
--- a line was run: it is built, its entry stands in the history, and its output is written
-pub record Runs (old new : Story) (line : ScriptLine) (told told' : Option (List (List ℕ))) : Type 0 where
-  pub built : is_built line ≡ true
-  pub history : new.history ≡ old.history ++ option_to_list (entry_of (state_now old) line)
-  pub output : told' ≡ onto told (out_of_line (state_now old) line)
+-- A connection whose bytes end between items goes on; one with an item that breaks a rule, or with a line
+-- that is too long, ends by itself and leaves. A request that isn't built isn't asked, and bytes that end
+-- inside an item are no line that is built.
+abbrev pub Goes : Scene → ℕ → Rest → List Request → List (List ℕ) → Standing → List Entry → List (List ℕ) → Scene → Type 0
+Goes a seat rest.More requests pieces now entries out b = (now.rest ≡ []) × Comes a seat requests (map (out_line seat) pieces) (Some now) entries out b
+Goes a seat (rest.Bad rule) requests pieces now entries out b =
+    Comes a seat (requests ++ Request.Leave ∷ []) (map (out_line seat) pieces ++ end_line seat (served.Malformed now.before rule) ∷ []) None entries out b
+Goes a seat rest.TooLong requests pieces now entries out b =
+    Comes a seat (requests ++ Request.Leave ∷ []) (map (out_line seat) pieces ++ end_line seat (served.LineTooLong now.before) ∷ []) None entries out b
+Goes a seat rest.Unbuilt requests pieces now entries out b = ⊥
 
--- the write of a piece failed: a front of it may be written
-abbrev pub WriteFails : List ℕ → Option (List (List ℕ)) → ℕ → Option (List (List ℕ)) → ℕ → LineError → Type 0
-WriteFails piece told faults told' faults' Unbuilt = ⊥
-WriteFails piece told faults told' faults' WriteFault = HasRisen faults faults'
-    × ((pieces : List (List ℕ)) × Short pieces (piece ∷ []) × (told' ≡ onto told pieces))
-WriteFails piece told faults told' faults' Memory = ⊥
+-- Data for a connection that ended by itself is passed over.
+abbrev pub DataDoes : Scene → ℕ → List ℕ → Option Standing → List Entry → List (List ℕ) → Scene → Type 0
+DataDoes a seat bytes None entries out b = Passes a entries out b
+DataDoes a seat bytes (Some at) entries out b =
+    (what : Rest) × (requests : List Request) × (pieces : List (List ℕ)) × (now : Standing)
+    × Hears a.portal seat at bytes what requests pieces now × Goes a seat what requests pieces now entries out b
 
--- why a line was not run: it is not built; the write of its output failed, of which a front may be
--- written; or there was no memory, and nothing is written
-abbrev pub Breaks : Story → ScriptLine → Option (List (List ℕ)) → ℕ → Option (List (List ℕ)) → ℕ → LineError → Type 0
-Breaks old line told faults told' faults' Unbuilt = (is_built line ≡ false) × (told' ≡ told)
-Breaks old line told faults told' faults' WriteFault = HasRisen faults faults' × (is_built line ≡ true)
-    × ((pieces : List (List ℕ)) × Short pieces (out_of_line (state_now old) line) × (told' ≡ onto told pieces))
-Breaks old line told faults told' faults' Memory = (is_built line ≡ true) × (told' ≡ told)
+-- So is the close of one.
+abbrev pub CloseDoes : Scene → ℕ → Option Standing → List Entry → List (List ℕ) → Scene → Type 0
+CloseDoes a seat None entries out b = Passes a entries out b
+CloseDoes a seat (Some at) entries out b = Comes a seat (Request.Leave ∷ []) (end_line seat (ending_at at.rest) ∷ []) None entries out b
 
-abbrev pub AllSeats : List ScriptLine → Type 0
-AllSeats [] = Unit {0}
-AllSeats (line ∷ lines) = HasSeat line × AllSeats lines
+-- A line is run: from one scene to another, with these entries and this output.
+abbrev pub Does : Scene → ScriptLine → List Entry → List (List ℕ) → Scene → Type 0
+Does a (File path content) entries out b = Passes a entries out b
+Does a (Doc id reusable path grants) entries out b = Passes a entries out b
+Does a (Open seat kind who) entries out b = Comes a seat (Request.Enter who kind ∷ []) [] (Some (fresh (client who kind run_settings))) entries out b
+Does a (Data seat bytes) entries out b = DataDoes a seat bytes (a.sessions seat) entries out b
+Does a (Close seat) entries out b = CloseDoes a seat (a.sessions seat) entries out b
 
--- what the entries of lines cost the history
-abbrev pub lines_cost : List ScriptLine → ℕ
-lines_cost [] = 0
-lines_cost (line ∷ lines) = line_cost line + lines_cost lines
+-- ---- a line that isn't built
 
--- the history has room for what the lines ask
-pub record MayPlay (p : Story) (lines : List ScriptLine) : Type 0 where
-  pub seats : AllSeats lines
-  pub room : cost p.history + lines_cost lines ≤ limit_of p
+-- bytes that end inside an item, or at a request that isn't built
+abbrev pub IsUnbuiltRest : Rest → List ℕ → Type 0
+IsUnbuiltRest rest.More left = left ≢ []
+IsUnbuiltRest (rest.Bad rule) left = ⊥
+IsUnbuiltRest rest.TooLong left = ⊥
+IsUnbuiltRest rest.Unbuilt left = Unit {0}
+
+abbrev pub DataIsUnbuilt : List ℕ → Option Standing → Type 0
+DataIsUnbuilt bytes None = ⊥
+DataIsUnbuilt bytes (Some at) =
+    (items : List (List ℕ)) × (acts : List Act) × (left : List ℕ) × (what : Rest)
+    × Items at.client at.stage.phase (at.rest ++ bytes) items acts left what × IsUnbuiltRest what left
+
+-- a line that needs a part which isn't built
+abbrev pub IsUnbuilt : Scene → ScriptLine → Type 0
+IsUnbuilt a (File path content) = ⊥
+IsUnbuilt a (Doc id reusable path grants) = ⊥
+IsUnbuilt a (Open seat kind who) = ⊥
+IsUnbuilt a (Data seat bytes) = DataIsUnbuilt bytes (a.sessions seat)
+IsUnbuilt a (Close seat) = ⊥

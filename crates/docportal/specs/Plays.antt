@@ -1,33 +1,69 @@
 -- What running lines one after another comes to.
-use Rattle.std.specs.Prelude.{◌≡◌, ℕ, ◌+◌, ◌<◌, List, length, Option}
+use Rattle.std.specs.Prelude.{◌≡◌, ℕ, ◌+◌, List, [], ◌∷◌, ◌++◌, length, Option}
 use Rattle.portal_base.specs.Outside.{HasRisen, Short, onto}
-use Rattle.portal_model.specs.State.{State}
+use Rattle.portal_model.specs.declared.entry.Entry.{Entry}
 use Rattle.script_form.specs.declared.script.ScriptLine.{ScriptLine}
 use Rattle.docportal.specs.declared.status.Status.{Status}
 use Rattle.docportal.specs.declared.status.Status.TheVariants.{Done, ReadFault, WriteFault, Memory, TooLong, Unbuilt}
 use Rattle.docportal.specs.declared.line.LineError.{LineError}
 use Rattle.docportal.specs.declared.line.LineError.TheVariants as line
-use Rattle.docportal.specs.Outputs.{out_from, built_front}
+use Rattle.docportal.specs.Lines.{Does, IsUnbuilt}
+use Rattle.docportal.specs.Scenes.{Scene}
 
--- from a state, each line is built, and the output of all is written
-pub record PlaysAll (s : State) (lines : List ScriptLine) (told told' : Option (List (List ℕ))) : Type 0 where
-  pub all : length (built_front lines) ≡ length lines
-  pub output : told' ≡ onto told (out_from s (built_front lines))
+-- Lines are run, each from the scene that the one before it left: these are their entries and their output.
+abbrev pub Plays : Scene → List ScriptLine → List Entry → List (List ℕ) → Scene → Type 0
+Plays a [] entries out b = (entries ≡ []) × (out ≡ []) × (b ≡ a)
+Plays a (line ∷ lines) entries out b =
+    (first : List Entry) × (more : List Entry) × (said : List (List ℕ)) × (later : List (List ℕ)) × (mid : Scene)
+    × (entries ≡ first ++ more) × (out ≡ said ++ later) × Does a line first said mid × Plays mid lines more later b
 
--- a front of the output is written
-abbrev pub PlaysPart : State → List ScriptLine → Option (List (List ℕ)) → Option (List (List ℕ)) → Type 0
-PlaysPart s lines told told' = (pieces : List (List ℕ)) × Short pieces (out_from s (built_front lines)) × (told' ≡ onto told pieces)
+-- a front of the lines is run, with this history and this output, up to this scene
+abbrev pub PlaysFront : Scene → List ScriptLine → List ScriptLine → List Entry → List (List ℕ) → Scene → Type 0
+PlaysFront a lines front history out b = (later : List ScriptLine) × (lines ≡ front ++ later) × Plays a front history out b
 
--- why not all lines are run: one is not built, and the output of those ahead of it is written; a write
--- failed; or there was no memory
-abbrev pub PlayStops : State → List ScriptLine → Option (List (List ℕ)) → ℕ → Option (List (List ℕ)) → ℕ → Status → Type 0
-PlayStops s lines told faults told' faults' Done = ⊥
-PlayStops s lines told faults told' faults' ReadFault = ⊥
-PlayStops s lines told faults told' faults' WriteFault = HasRisen faults faults' × PlaysPart s lines told told'
-PlayStops s lines told faults told' faults' Memory = PlaysPart s lines told told'
-PlayStops s lines told faults told' faults' TooLong = ⊥
-PlayStops s lines told faults told' faults' (Unbuilt line) = (length (built_front lines) < length lines)
-    × (line ≡ length (built_front lines) + 1) × (told' ≡ onto told (out_from s (built_front lines)))
+-- the line of this number, counted from 1, is the first that isn't built, behind a front that is run up to this scene
+abbrev pub StopsAt : List ScriptLine → List ScriptLine → Scene → ℕ → Type 0
+StopsAt lines front b number = (line : ScriptLine) × (later : List ScriptLine) × (lines ≡ front ++ line ∷ later) × IsUnbuilt b line × (number ≡ length front + 1)
+
+-- ---- what was written
+
+-- all lines are run, and their output is written
+pub record PlaysAll (a : Scene) (lines : List ScriptLine) (told told' : Option (List (List ℕ))) : Type 0 where
+  pub history : List Entry
+  pub out : List (List ℕ)
+  pub last : Scene
+  pub plays : Plays a lines history out last
+  pub output : told' ≡ onto told out
+
+-- a front of the output of some of them is written
+pub record PlaysPart (a : Scene) (lines : List ScriptLine) (told told' : Option (List (List ℕ))) : Type 0 where
+  pub front : List ScriptLine
+  pub history : List Entry
+  pub out : List (List ℕ)
+  pub last : Scene
+  pub plays : PlaysFront a lines front history out last
+  pub pieces : List (List ℕ)
+  pub short : Short pieces out
+  pub output : told' ≡ onto told pieces
+
+-- the output of the lines ahead of the first that isn't built is written, which has this number
+pub record PlaysUpTo (a : Scene) (lines : List ScriptLine) (number : ℕ) (told told' : Option (List (List ℕ))) : Type 0 where
+  pub front : List ScriptLine
+  pub history : List Entry
+  pub out : List (List ℕ)
+  pub last : Scene
+  pub plays : Plays a front history out last
+  pub stops : StopsAt lines front last number
+  pub output : told' ≡ onto told out
+
+-- why not all lines are run
+abbrev pub PlayStops : Scene → List ScriptLine → Option (List (List ℕ)) → ℕ → Option (List (List ℕ)) → ℕ → Status → Type 0
+PlayStops a lines told faults told' faults' Done = ⊥
+PlayStops a lines told faults told' faults' ReadFault = ⊥
+PlayStops a lines told faults told' faults' WriteFault = HasRisen faults faults' × PlaysPart a lines told told'
+PlayStops a lines told faults told' faults' Memory = PlaysPart a lines told told'
+PlayStops a lines told faults told' faults' TooLong = ⊥
+PlayStops a lines told faults told' faults' (Unbuilt number) = PlaysUpTo a lines number told told'
 
 -- how a run ends whose line of this index, counted from 0, is not run
 abbrev pub status_at : LineError → ℕ → Status

@@ -1,68 +1,69 @@
 -- What a run of the program comes to.
-use Rattle.std.specs.Prelude.{◌≡◌, ◌≢◌, ◌⊎◌, ℕ, ◌+◌, ◌<◌, ◌≤◌, nat_lt, Bool, true, false, List, [], ◌∷◌, length, Option, Some, None, codes, if◌then◌else◌}
+use Rattle.std.specs.Prelude.{◌≡◌, ◌≢◌, ◌⊎◌, ℕ, ◌<◌, ◌≤◌, List, [], ◌∷◌, ◌++◌, length, Option, Some, None, codes}
 use Rattle.portal_base.specs.Outside.{behind, onto, HasRisen, Short}
-use Rattle.portal_base.specs.declared.limits.Limits.{Limits}
 use Rattle.portal_model.specs.declared.entry.Entry.{Entry}
 use Rattle.portal_model.specs.History.{Legal, replies}
-use Rattle.portal_model.specs.State.{State}
 use Rattle.portal_model.specs.World.{app_run, trace}
 use Rattle.script_form.specs.declared.script.ScriptLine.{ScriptLine}
 use Rattle.script_form.specs.Order.{IsBuilt}
 use Rattle.docportal.specs.declared.status.Status.{Status}
 use Rattle.docportal.specs.declared.status.Status.TheVariants.{Done, ReadFault, WriteFault, Memory, TooLong, Unbuilt}
-use Rattle.docportal.specs.Inputs.{script_limit, AtEnd, IsWhole}
-use Rattle.docportal.specs.Outputs.{history_from, out_from, opened_by, built_front}
-
--- the limits of the portal that a script runs
-abbrev pub run_limits : Limits
-run_limits = record { documents = 65536; made = 1048576; history = 536870912; handles = 1024; queued = 16; file_bytes = 268435456 }
-
--- the state that a script opens with, in a run
-abbrev pub opening_state : List ScriptLine → State
-opening_state lines = opened_by run_limits lines
-
--- the history of a script, and its output in pieces, one for each line that is written
-abbrev pub HistoryOf : List ScriptLine → List Entry
-HistoryOf lines = history_from (opening_state lines) lines
-
-abbrev pub Out : List ScriptLine → List (List ℕ)
-Out lines = out_from (opening_state lines) lines
-
--- the number of the first line that is not built, counted from 1, of these lines and then one of this
--- number that is not of a form that is built
-abbrev pub first_unbuilt : List ScriptLine → Option ℕ → Option ℕ
-first_unbuilt lines unbuilt = if nat_lt (length (built_front lines)) (length lines) then Some (length (built_front lines) + 1) else unbuilt
+use Rattle.docportal.specs.Inputs.{script_limit, AtEnd}
+use Rattle.docportal.specs.Plays.{Plays, StopsAt}
+use Rattle.docportal.specs.Scenes.{Scene, first_scene, opening_state}
 
 -- the history of the lines is legal, and the replies to each application are those of its own machine
 -- over its trace
-pub record IsSound (lines : List ScriptLine) (h : List Entry) : Type 0 where
-  pub legal : Legal (opening_state lines) h
-  pub isolated : (app : List ℕ) → replies app (opening_state lines) h ≡ app_run (trace app (opening_state lines) h)
+pub record IsSound (lines : List ScriptLine) (history : List Entry) : Type 0 where
+  pub legal : Legal (opening_state lines) history
+  pub isolated : (app : List ℕ) → replies app (opening_state lines) history ≡ app_run (trace app (opening_state lines) history)
+
+-- The lines of a front have this history and this output, from the state that the lines open with, and no
+-- others; and the history is sound.
+pub record IsReplay (lines front : List ScriptLine) (history : List Entry) (out : List (List ℕ)) (last : Scene) : Type 0 where
+  pub plays : Plays (first_scene lines) front history out last
+  pub only : (h : List Entry) (o : List (List ℕ)) (b : Scene) → Plays (first_scene lines) front h o b → (h ≡ history) × (o ≡ out) × (b ≡ last)
+  pub sound : IsSound lines history
 
 -- the text is a script, all lines of which are built, and the pieces are its output
 pub record WroteAll (text : List ℕ) (pieces : List (List ℕ)) : Type 0 where
   pub lines : List ScriptLine
   pub script : IsBuilt text lines None
-  pub built : built_front lines ≡ lines
-  pub output : pieces ≡ Out lines
-  pub sound : IsSound lines (HistoryOf lines)
+  pub history : List Entry
+  pub last : Scene
+  pub replay : IsReplay lines lines history pieces last
+
+-- this is the number of the first line that isn't built: of these lines, which are run up to this scene
+-- ahead of it, or of the first behind them all, which is of no form that is built
+abbrev pub IsFirstUnbuilt : List ScriptLine → Option ℕ → List ScriptLine → Scene → ℕ → Type 0
+IsFirstUnbuilt lines ends front last number = ((front ≡ lines) × (ends ≡ Some number)) ⊎ StopsAt lines front last number
 
 -- the pieces are the output of all lines of the text that stand ahead of the first that is not built,
 -- which has this number
-pub record WroteUpTo (text : List ℕ) (unbuilt : ℕ) (pieces : List (List ℕ)) : Type 0 where
+pub record WroteUpTo (text : List ℕ) (number : ℕ) (pieces : List (List ℕ)) : Type 0 where
   pub lines : List ScriptLine
   pub ends : Option ℕ
   pub script : IsBuilt text lines ends
-  pub first : first_unbuilt lines ends ≡ Some unbuilt
-  pub output : pieces ≡ out_from (opening_state lines) (built_front lines)
-  pub sound : IsSound lines (history_from (opening_state lines) (built_front lines))
+  pub front : List ScriptLine
+  pub history : List Entry
+  pub last : Scene
+  pub replay : IsReplay lines front history pieces last
+  pub first : IsFirstUnbuilt lines ends front last number
 
--- the pieces are a front of that output: some whole pieces, and then a front of the next or nothing
+-- the pieces are a front of the output of some of its lines: some whole pieces, and then a front of the next
+-- or nothing
 pub record WroteFront (text : List ℕ) (pieces : List (List ℕ)) : Type 0 where
   pub lines : List ScriptLine
   pub ends : Option ℕ
   pub script : IsBuilt text lines ends
-  pub output : Short pieces (out_from (opening_state lines) (built_front lines))
+  pub front : List ScriptLine
+  pub later : List ScriptLine
+  pub ahead : lines ≡ front ++ later
+  pub history : List Entry
+  pub out : List (List ℕ)
+  pub last : Scene
+  pub replay : IsReplay lines front history out last
+  pub output : Short pieces out
 
 -- the one word of the program
 abbrev pub replay_words : List (List ℕ)

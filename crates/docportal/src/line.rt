@@ -1,20 +1,28 @@
 //! Running one line of a script.
 
-ghost use Rattle.std.specs.Prelude.{◌≡◌, ◌≤◌, IfOk, IfErr, OnOk, OnErr, [], ◌∷◌};
+ghost use Rattle.std.specs.Prelude.{◌≡◌, ◌≤◌, ◌<◌, [], ◌∷◌, Some, map, IfErr, OnOk};
 ghost use Rattle.portal_base.specs.Outside.{onto};
-ghost use Rattle.portal_core.specs.Story.{Answers, cost_with, limit_of};
-ghost use Rattle.docportal.specs.Lines.{MayRun, Asks, Runs, Breaks, WriteFails};
+ghost use Rattle.portal_core.specs.Story.{state_now};
+ghost use Rattle.portal_model.specs.declared.request.Request.{Request};
+ghost use Rattle.portal_model.specs.Opening.{opened};
+ghost use Rattle.portal_model.specs.Seated.{bound};
+ghost use Rattle.session.specs.Sessions.{ending};
+ghost use Rattle.docportal.specs.Scenes.{run_settings};
+ghost use Rattle.docportal.specs.Seats.{Asked};
+ghost use Rattle.docportal.specs.Steps.{MayRun, Opens, Runs, Breaks, WritesShort, binding, scene};
+ghost use Rattle.docportal.specs.Texts.{out_line as line_of_piece, end_line as line_of_ending};
 
-use crate::frame::read_frame;
-use crate::output::write_answer;
+use crate::connections::Connections;
+use crate::output::{end_line, out_line};
+use crate::seats::{begin, end, hear};
+use portal_base::limits::Settings;
 use portal_base::list::ByteList;
-use portal_base::memory::{Replica, WantOfMemory};
+use portal_base::memory::WantOfMemory;
 use portal_base::outside::{Sink, WriteAnswer};
 use portal_base::who::{Kind, Who};
 use portal_core::portal::Portal;
-use portal_model::reply::{Refused, Reply};
-use portal_model::request::Request;
 use script_form::script::ScriptLine;
+use session::session::Session;
 use std::alloc::Global;
 
 /// Why a line is not run.
@@ -39,95 +47,161 @@ impl From<WantOfMemory> for LineError {
     }
 }
 
-/// Runs a line: the portal is asked what the line asks, and the answer is
-/// written as one piece.
+/// Runs a line: a connection is opened or closed at the portal, or bytes come
+/// on one, and each line of output is written as one piece. Nothing is written
+/// of a line that isn't built.
 pub fn run_line<K: Sink>(
     alloc: Global,
     portal: &mut Portal,
+    connections: &mut Connections,
+    settings: &Settings,
     line: &ScriptLine,
     sink: &mut K,
 ) -> Result<(), LineError>
-    requires { MayRun portal.old line.now }
-    ensures opening { portal.new.opening ≡ portal.old.opening }
-    ensures ok { OnOk result (Runs portal.old portal.new line.now (K.told sink.old) (K.told sink.new)) }
+    requires may { MayRun portal.old connections.old line.now }
+    requires settings { settings.now ≡ run_settings }
+    ensures opening { opened portal.new.opening ≡ opened portal.old.opening }
+    ensures ok { OnOk result (Runs portal.old connections.old portal.new connections.new line.now (K.told sink.old) (K.told sink.new)) }
     ensures counts { K.faults sink.old ≤ K.faults sink.new }
-    ensures err { IfErr result (Breaks portal.old line.now (K.told sink.old) (K.faults sink.old) (K.told sink.new) (K.faults sink.new)) }
+    ensures err { IfErr result (Breaks (scene portal.old connections.old) line.now (K.told sink.old) (K.faults sink.old) (K.told sink.new) (K.faults sink.new)) }
 {
     match line {
         ScriptLine::File { .. } => Ok(()),
         ScriptLine::Doc { .. } => Ok(()),
-        ScriptLine::Open { seat, kind, who } => open(alloc, portal, *seat, *kind, who),
-        ScriptLine::Data { seat, bytes } => data(alloc, portal, *seat, bytes, sink),
+        ScriptLine::Open { seat, kind, who } => {
+            open(alloc, portal, connections, settings, *seat, *kind, who)
+        }
+        ScriptLine::Data { seat, bytes } => data(alloc, portal, connections, *seat, bytes, sink),
+        ScriptLine::Close { seat } => close(alloc, portal, connections, *seat, sink),
     }
 }
 
 fn open(
     alloc: Global,
     portal: &mut Portal,
+    connections: &mut Connections,
+    settings: &Settings,
     seat: u32,
     kind: Kind,
     who: &Who,
 ) -> Result<(), LineError>
-    requires { MayRun portal.old (ScriptLine.Open seat kind who.now) }
-    ensures opening { portal.new.opening ≡ portal.old.opening }
-    ensures ok { OnOk result (Asks portal.old portal.new (ScriptLine.Open seat kind who.now)) }
+    requires may { MayRun portal.old connections.old (ScriptLine.Open seat kind who.now) }
+    requires settings { settings.now ≡ run_settings }
+    ensures opening { opened portal.new.opening ≡ opened portal.old.opening }
+    ensures ok { OnOk result (Opens portal.old connections.old portal.new connections.new (ScriptLine.Open seat kind who.now)) }
     ensures err { IfErr result (λ e. e ≡ LineError.Memory) }
 {
-    let who = who.replica(alloc)?;
-    let _ = ask(alloc, portal, seat, Request::Enter { who, kind })?;
+    let session = begin(alloc, portal, seat, who, kind, settings)?;
+    connections.put(seat, session)?;
     Ok(())
 }
 
 fn data<K: Sink>(
     alloc: Global,
     portal: &mut Portal,
+    connections: &mut Connections,
     seat: u32,
     bytes: &ByteList,
     sink: &mut K,
 ) -> Result<(), LineError>
-    requires { MayRun portal.old (ScriptLine.Data seat bytes.now) }
-    ensures opening { portal.new.opening ≡ portal.old.opening }
-    ensures ok { OnOk result (Runs portal.old portal.new (ScriptLine.Data seat bytes.now) (K.told sink.old) (K.told sink.new)) }
+    requires may { MayRun portal.old connections.old (ScriptLine.Data seat bytes.now) }
+    ensures opening { opened portal.new.opening ≡ opened portal.old.opening }
+    ensures ok { OnOk result (Runs portal.old connections.old portal.new connections.new (ScriptLine.Data seat bytes.now) (K.told sink.old) (K.told sink.new)) }
     ensures counts { K.faults sink.old ≤ K.faults sink.new }
-    ensures err { IfErr result (Breaks portal.old (ScriptLine.Data seat bytes.now) (K.told sink.old) (K.faults sink.old) (K.told sink.new) (K.faults sink.new)) }
+    ensures err { IfErr result (Breaks (scene portal.old connections.old) (ScriptLine.Data seat bytes.now) (K.told sink.old) (K.faults sink.old) (K.told sink.new) (K.faults sink.new)) }
 {
-    let Some(frame) = read_frame(bytes.as_slice()) else {
-        return Err(LineError::Unbuilt);
+    let mut session = match connections.take(seat) {
+        Some(session) => session,
+        None => return Ok(()),
     };
-    let reply = ask(alloc, portal, seat, Request::Node(frame.request))?;
-    match write_answer(alloc, seat, frame.unique, &reply.answer)? {
-        Some(line) => write(sink, line.as_slice()),
+    let heard = match hear(alloc, portal, seat, &mut session, bytes.as_slice()) {
+        Ok(heard) => heard,
+        Err(error) => return Err(error),
+    };
+    match write_pieces(alloc, seat, heard.written.pieces().as_slice(), sink) {
+        Ok(()) => {}
+        Err(error) => return Err(error),
+    }
+    if heard.is_over {
+        return leave(alloc, portal, seat, session, sink);
+    }
+    match connections.put(seat, session) {
+        Ok(()) => Ok(()),
+        Err(_) => Err(LineError::Memory),
+    }
+}
+
+fn close<K: Sink>(
+    alloc: Global,
+    portal: &mut Portal,
+    connections: &mut Connections,
+    seat: u32,
+    sink: &mut K,
+) -> Result<(), LineError>
+    requires may { MayRun portal.old connections.old (ScriptLine.Close seat) }
+    ensures opening { opened portal.new.opening ≡ opened portal.old.opening }
+    ensures ok { OnOk result (Runs portal.old connections.old portal.new connections.new (ScriptLine.Close seat) (K.told sink.old) (K.told sink.new)) }
+    ensures counts { K.faults sink.old ≤ K.faults sink.new }
+    ensures err { IfErr result (Breaks (scene portal.old connections.old) (ScriptLine.Close seat) (K.told sink.old) (K.faults sink.old) (K.told sink.new) (K.faults sink.new)) }
+{
+    match connections.take(seat) {
+        Some(session) => leave(alloc, portal, seat, session, sink),
         None => Ok(()),
     }
 }
 
+/// Closes the connection of a session, and writes how it ended.
+fn leave<K: Sink>(
+    alloc: Global,
+    portal: &mut Portal,
+    seat: u32,
+    session: Session,
+    sink: &mut K,
+) -> Result<(), LineError>
+    requires seat { 1 ≤ seat }
+    requires open { bound (state_now portal.old) seat ≡ Some (binding session) }
+    ensures opening { opened portal.new.opening ≡ opened portal.old.opening }
+    ensures left { Asked portal.old portal.new seat (Request.Leave ∷ []) }
+    ensures ok { OnOk result (K.told sink.new ≡ onto (K.told sink.old) (line_of_ending seat (ending session.fed session.rest) ∷ [])) }
+    ensures counts { K.faults sink.old ≤ K.faults sink.new }
+    ensures err { IfErr result (WritesShort (line_of_ending seat (ending session.fed session.rest) ∷ []) (K.told sink.old) (K.faults sink.old) (K.told sink.new) (K.faults sink.new)) }
+{
+    let served = end(alloc, portal, seat, session);
+    let line = end_line(alloc, seat, served)?;
+    write(sink, line.as_slice())
+}
+
+/// Writes a line of output for each piece.
+fn write_pieces<K: Sink>(
+    alloc: Global,
+    seat: u32,
+    pieces: &[ByteList],
+    sink: &mut K,
+) -> Result<(), LineError>
+    ensures ok { OnOk result (K.told sink.new ≡ onto (K.told sink.old) (map (line_of_piece seat) pieces.now)) }
+    ensures counts { K.faults sink.old ≤ K.faults sink.new }
+    ensures err { IfErr result (WritesShort (map (line_of_piece seat) pieces.now) (K.told sink.old) (K.faults sink.old) (K.told sink.new) (K.faults sink.new)) }
+{
+    for piece in pieces {
+        let Ok(line) = out_line(alloc, seat, piece.as_slice()) else {
+            return Err(LineError::Memory);
+        };
+        match write(sink, line.as_slice()) {
+            Ok(()) => {}
+            Err(error) => return Err(error),
+        }
+    }
+    Ok(())
+}
+
+/// Writes one piece.
 fn write<K: Sink>(sink: &mut K, piece: &[u8]) -> Result<(), LineError>
     ensures ok { OnOk result (K.told sink.new ≡ onto (K.told sink.old) (piece.now ∷ [])) }
     ensures counts { K.faults sink.old ≤ K.faults sink.new }
-    ensures err { IfErr result (WriteFails piece.now (K.told sink.old) (K.faults sink.old) (K.told sink.new) (K.faults sink.new)) }
+    ensures err { IfErr result (WritesShort (piece.now ∷ []) (K.told sink.old) (K.faults sink.old) (K.told sink.new) (K.faults sink.new)) }
 {
     match sink.write(piece) {
         WriteAnswer::Done => Ok(()),
         WriteAnswer::Failed => Err(LineError::WriteFault),
-    }
-}
-
-/// Asks the portal, whose history has room for the request.
-fn ask(
-    alloc: Global,
-    portal: &mut Portal,
-    seat: u32,
-    request: Request,
-) -> Result<Reply, WantOfMemory>
-    requires seat { 1 ≤ seat }
-    requires room { cost_with portal.old request ≤ limit_of portal.old }
-    ensures opening { portal.new.opening ≡ portal.old.opening }
-    ensures ok { IfOk result (Answers portal.old portal.new seat request) }
-    ensures err { OnErr result (portal.new ≡ portal.old) }
-{
-    match portal.ask(alloc, seat, request) {
-        Ok(reply) => Ok(reply),
-        Err(Refused::Memory) => Err(WantOfMemory),
-        Err(Refused::Full { .. }) => unreachable!(),
     }
 }

@@ -1,12 +1,14 @@
 //! The document portal and permission store of a desktop, in one program.
 #![tactic(auto)]
 
-mod frame;
+mod connections;
 mod input;
 mod line;
 mod output;
 mod replay;
 mod run;
+mod seats;
+mod settings;
 mod status;
 #[cfg(test)]
 mod tests;

@@ -1,12 +1,14 @@
 //! Running a script.
 
-ghost use Rattle.std.specs.Prelude.{◌≡◌, ◌<◌, ◌-◌, ◌^◌, IfErr, OnOk};
-ghost use Rattle.portal_core.specs.Story.{state_now};
-ghost use Rattle.docportal.specs.Lines.{MayPlay};
+ghost use Rattle.std.specs.Prelude.{◌≡◌, ◌<◌, ◌-◌, ◌^◌, [], IfErr, OnOk};
 ghost use Rattle.docportal.specs.Plays.{PlaysAll, PlayStops, status_at};
+ghost use Rattle.docportal.specs.Scenes.{run_settings};
+ghost use Rattle.docportal.specs.Steps.{MayPlay, scene};
 
+use crate::connections::Connections;
 use crate::line::{LineError, run_line};
 use crate::status::Status;
+use portal_base::limits::Settings;
 use portal_base::outside::Sink;
 use portal_core::portal::Portal;
 use script_form::script::ScriptLine;
@@ -17,15 +19,18 @@ use std::alloc::Global;
 pub fn run_lines<K: Sink>(
     alloc: Global,
     portal: &mut Portal,
+    settings: &Settings,
     lines: &[ScriptLine],
     sink: &mut K,
 ) -> Result<(), Status>
-    requires { MayPlay portal.old lines.now }
-    ensures ok { OnOk result (PlaysAll (state_now portal.old) lines.now (K.told sink.old) (K.told sink.new)) }
-    ensures err { IfErr result (PlayStops (state_now portal.old) lines.now (K.told sink.old) (K.faults sink.old) (K.told sink.new) (K.faults sink.new)) }
+    requires may { MayPlay [] portal.old [] lines.now }
+    requires settings { settings.now ≡ run_settings }
+    ensures ok { OnOk result (PlaysAll (scene portal.old []) lines.now (K.told sink.old) (K.told sink.new)) }
+    ensures err { IfErr result (PlayStops (scene portal.old []) lines.now (K.told sink.old) (K.faults sink.old) (K.told sink.new) (K.faults sink.new)) }
 {
+    let mut connections = Connections::new(alloc);
     for (index, line) in lines.iter().enumerate() {
-        match run_line(alloc, portal, line, sink) {
+        match run_line(alloc, portal, &mut connections, settings, line, sink) {
             Ok(()) => {}
             Err(error) => return Err(status_of(error, index)),
         }

@@ -8,24 +8,14 @@ ghost use Rattle.docportal.specs.Runs.{Ran, Replays, Risen, ended_at, replay_wor
 
 use crate::input::{InputError, read_to_end};
 use crate::replay::run_lines;
+use crate::settings::{limits, settings};
 use crate::status::Status;
-use portal_base::limits::Limits;
 use portal_base::outside::{Sink, Source};
 use portal_base::text::Text;
 use portal_core::portal::Portal;
 use script_form::opening::opening_of;
 use script_form::reader::read_built;
 use std::alloc::Global;
-
-/// The limits of a portal that a script runs.
-const LIMITS: Limits = Limits {
-    documents: 65_536,
-    made: 1_048_576,
-    history: 536_870_912,
-    handles: 1_024,
-    queued: 16,
-    file_bytes: 268_435_456,
-};
 
 /// Runs the program with these words, which are those after its name.
 ///
@@ -75,13 +65,22 @@ fn replay<K: Sink>(alloc: Global, text: &[u8], sink: &mut K) -> Status
     let Ok(built) = read_built(alloc, text) else {
         return Status::Memory;
     };
-    let Ok(opening) = opening_of(alloc, &built.script, LIMITS) else {
+    let Ok(opening) = opening_of(alloc, &built.script, limits()) else {
         return Status::Memory;
     };
     let Ok(mut portal) = Portal::start(alloc, &opening) else {
         return Status::Memory;
     };
-    match run_lines(alloc, &mut portal, built.script.lines.as_slice(), sink) {
+    let Ok(settings) = settings(alloc) else {
+        return Status::Memory;
+    };
+    match run_lines(
+        alloc,
+        &mut portal,
+        &settings,
+        built.script.lines.as_slice(),
+        sink,
+    ) {
         Ok(()) => ended(built.unbuilt),
         Err(status) => status,
     }

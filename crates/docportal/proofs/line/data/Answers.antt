@@ -1,22 +1,43 @@
-use Rattle.std.proofs.Common.{◌≡◌, ℕ, List, [], ◌∷◌, ◌∙◌, sym, ap, Option}
-use Rattle.std.specs.Prelude.{option_to_list}
-use Rattle.portal_base.specs.Outside.{onto}
+use Rattle.std.proofs.Common.{◌∙◌, subst, sym, length, ◌+◌, ◌≤◌, ℕ, List}
+use Rattle.session.specs.Sessions.{longest}
+use Rattle.docportal.proofs.Lining.{all_written, answered_at, data_passes, data_space, if_err, last_breaks, last_runs, on_ok, on_runs, pieces_break}
 use Rattle.docportal.proofs.line.data.Goals as goal
-use Rattle.docportal.proofs.Asking.{data_ran, data_fails, on_ok, if_err, onto_none}
 
-pub returns-in-Some-2-clause-ok : goal.returns-in-Some-2-clause-ok
-returns-in-Some-2-clause-ok g c =
-    on_ok _ _ _ (data_ran _ _ _ _ _ c.in-Some.frame _ _ _ _ c.as_slice.ensures c.in-Some.ensures c.in_ok-reply.ensures.ok
-    (ap (λ (x : List ℕ). x ∷ []) c.as_slice-in-Some-2.ensures ∙ (ap option_to_list (sym c.in-Some-2.is) ∙ c.in_ok-line.ensures)))
-    c.write.ensures.ok
+pub returns-in-None-clause-ok : goal.returns-in-None-clause-ok
+returns-in-None-clause-ok g c = data_passes c.args.portal.now c.args.connections.now c.take.new.self c.args.seat c.args.bytes.now _ c.in-None.ensures.taken c.take.ensures.left
 
-pub returns-in-Some-2-clause-err : goal.returns-in-Some-2-clause-err
-returns-in-Some-2-clause-err g c =
-    if_err _ _ _ (data_fails _ _ _ _ _ c.in-Some.frame _ _ _ _ _ _ c.as_slice.ensures c.in-Some.ensures c.in_ok-reply.ensures.ok
-    (ap (λ (x : List ℕ). x ∷ []) c.as_slice-in-Some-2.ensures ∙ (ap option_to_list (sym c.in-Some-2.is) ∙ c.in_ok-line.ensures)))
-    c.write.ensures.err
+pub hear-requires-clause-space : goal.hear-requires-clause-space
+hear-requires-clause-space g c =
+    subst (λ (z : List ℕ). c.in-Some.session.before + length c.in-Some.session.rest + length z ≤ longest) (sym c.as_slice.ensures)
+    (data_space c.args.portal.now c.args.connections.now c.args.seat c.args.bytes.now c.in-Some.session c.requires.may c.in-Some.ensures.taken)
 
-pub returns-clause-ok : goal.returns-clause-ok
-returns-clause-ok g c =
-    data_ran _ _ _ _ _ c.in-Some.frame _ _ _ [] c.as_slice.ensures c.in-Some.ensures c.in_ok-reply.ensures.ok
-    (ap option_to_list (sym c.in-None.is) ∙ c.in_ok-line.ensures) (onto_none _)
+pub returns-in-Err-write_pieces-clause-err : goal.returns-in-Err-write_pieces-clause-err
+returns-in-Err-write_pieces-clause-err g c =
+    pieces_break c.args.portal.now c.hear.new.portal c.args.connections.now c.args.seat c.in-Some.session c.hear.new.session c.args.bytes.now c.in-Ok.heard.written.pieces c.as_slice-2.result.now c.in-Ok.heard.is_over
+    (answered_at _ _ _ _ _ _ c.as_slice.result.now _ _ _ c.in-Some.ensures.taken c.as_slice.ensures c.in-Ok.ensures.opening c.in-Ok.ensures.ok) (c.as_slice-2.ensures ∙ c.pieces.ensures) _ _ _ _ c.in-Err-write_pieces.error c.in-Err-write_pieces.ensures.err
+
+pub returns-then-heard-clause-ok : goal.returns-then-heard-clause-ok
+returns-then-heard-clause-ok g c =
+    on_ok _ _ _ (last_runs c.args.portal.now c.hear.new.portal c.args.connections.now c.args.seat c.in-Some.session c.hear.new.session c.args.bytes.now c.in-Ok.heard.written.pieces c.as_slice-2.result.now c.in-Ok.heard.is_over
+    (answered_at _ _ _ _ _ _ c.as_slice.result.now _ _ _ c.in-Some.ensures.taken c.as_slice.ensures c.in-Ok.ensures.opening c.in-Ok.ensures.ok) (c.as_slice-2.ensures ∙ c.pieces.ensures)
+    c.if-heard.true c.leave.new.portal c.take.new.self _ _ _ c.leave.ensures.opening c.leave.ensures.left c.take.ensures.left c.in-Ok-write_pieces.ensures.ok)
+    c.leave.ensures.ok
+
+pub returns-then-heard-clause-err : goal.returns-then-heard-clause-err
+returns-then-heard-clause-err g c =
+    if_err _ _ _ (last_breaks c.args.portal.now c.hear.new.portal c.args.connections.now c.args.seat c.in-Some.session c.hear.new.session c.args.bytes.now c.in-Ok.heard.written.pieces c.as_slice-2.result.now c.in-Ok.heard.is_over
+    (answered_at _ _ _ _ _ _ c.as_slice.result.now _ _ _ c.in-Some.ensures.taken c.as_slice.ensures c.in-Ok.ensures.opening c.in-Ok.ensures.ok) (c.as_slice-2.ensures ∙ c.pieces.ensures)
+    c.if-heard.true _ _ _ _ _ _ c.write_pieces.ensures.counts c.in-Ok-write_pieces.ensures.ok)
+    c.leave.ensures.err
+
+pub returns-in-Ok-put-clause-ok : goal.returns-in-Ok-put-clause-ok
+returns-in-Ok-put-clause-ok g c =
+    on_runs c.args.portal.now c.hear.new.portal c.args.connections.now c.args.seat c.in-Some.session c.hear.new.session c.args.bytes.now c.in-Ok.heard.written.pieces c.as_slice-2.result.now c.in-Ok.heard.is_over
+    (answered_at _ _ _ _ _ _ c.as_slice.result.now _ _ _ c.in-Some.ensures.taken c.as_slice.ensures c.in-Ok.ensures.opening c.in-Ok.ensures.ok) (c.as_slice-2.ensures ∙ c.pieces.ensures)
+    c.if-heard.false c.take.new.self c.put.new.self _ _ c.take.ensures.left c.in-Ok-put.ensures c.in-Ok-write_pieces.ensures.ok
+
+pub returns-clause-err : goal.returns-clause-err
+returns-clause-err g c =
+    all_written c.args.portal.now c.hear.new.portal c.args.connections.now c.args.seat c.in-Some.session c.hear.new.session c.args.bytes.now c.in-Ok.heard.written.pieces c.as_slice-2.result.now c.in-Ok.heard.is_over
+    (answered_at _ _ _ _ _ _ c.as_slice.result.now _ _ _ c.in-Some.ensures.taken c.as_slice.ensures c.in-Ok.ensures.opening c.in-Ok.ensures.ok) (c.as_slice-2.ensures ∙ c.pieces.ensures)
+    _ _ 0 0 c.in-Ok-write_pieces.ensures.ok

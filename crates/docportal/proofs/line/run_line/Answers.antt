@@ -1,0 +1,10 @@
+use Rattle.std.proofs.Common.{refl}
+use Rattle.script_form.specs.declared.script.ScriptLine.TheVariants.{File, Doc}
+use Rattle.docportal.proofs.Lining.{opening_runs}
+use Rattle.docportal.proofs.line.run_line.Goals as goal
+
+pub returns-in-File-clause-ok : goal.returns-in-File-clause-ok
+returns-in-File-clause-ok g c = opening_runs c.args.portal.now c.args.connections.now c.args.line.now (File c.in-File.path c.in-File.content) _ c.in-File.is (λ a. (refl, refl, refl))
+
+pub returns-in-Doc-clause-ok : goal.returns-in-Doc-clause-ok
+returns-in-Doc-clause-ok g c = opening_runs c.args.portal.now c.args.connections.now c.args.line.now (Doc c.in-Doc.id c.in-Doc.reusable c.in-Doc.path c.in-Doc.grants) _ c.in-Doc.is (λ a. (refl, refl, refl))

@@ -1,0 +1,46 @@
+-- What a script has come to, between two of its lines.
+use Rattle.std.specs.Prelude.{ℕ, ◌==◌, List, [], ◌∷◌, Option, None, codes, if◌then◌else◌, slice_index_or}
+use Rattle.portal_base.specs.declared.limits.Limits.{Limits}
+use Rattle.portal_base.specs.declared.limits.Settings.{Settings}
+use Rattle.portal_model.specs.Opening.{opened}
+use Rattle.portal_model.specs.State.{State}
+use Rattle.script_form.specs.declared.script.ScriptLine.{ScriptLine}
+use Rattle.script_form.specs.Opening.{opening}
+use Rattle.session.specs.Standings.{Standing}
+
+-- the limits of the portal that a script runs
+abbrev pub run_limits : Limits
+run_limits = record { documents = 65536; made = 1048576; history = 536870912; handles = 1024; queued = 16; file_bytes = 268435456 }
+
+-- and what it is set to
+abbrev pub run_settings : Settings
+run_settings = record {
+  limits = run_limits;
+  mountpoint = codes "/run/doc";
+  guid = 1 ∷ 35 ∷ 69 ∷ 103 ∷ 137 ∷ 171 ∷ 205 ∷ 239 ∷ 1 ∷ 35 ∷ 69 ∷ 103 ∷ 137 ∷ 171 ∷ 205 ∷ 239 ∷ [];
+}
+
+-- the state of the portal, and at each number the session of the connection that is open there
+pub record Scene : Type 0 where
+  pub portal : State
+  pub sessions : ℕ → Option Standing
+
+-- at one number this stands now, and at the others what stood there
+abbrev pub placed : (ℕ → Option Standing) → ℕ → Option Standing → ℕ → Option Standing
+placed sessions seat x n = if n == seat then x else sessions n
+
+-- no connection is open
+abbrev pub no_sessions : ℕ → Option Standing
+no_sessions n = None
+
+-- what stands at each number of a table, which may end before it
+abbrev pub sessions_of : List (Option Standing) → ℕ → Option Standing
+sessions_of table n = slice_index_or table n None
+
+-- the state that a script opens with
+abbrev pub opening_state : List ScriptLine → State
+opening_state lines = opened (opening run_limits lines)
+
+-- and before its first line no connection is open
+abbrev pub first_scene : List ScriptLine → Scene
+first_scene lines = record { portal = opening_state lines; sessions = no_sessions }

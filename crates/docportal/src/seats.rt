@@ -1,0 +1,213 @@
+//! The sessions of a script at the seats of its portal.
+
+ghost use Rattle.std.specs.Prelude.{◌≡◌, ℕ, ◌+◌, ◌≤◌, [], ◌∷◌, length, true, false, Some, IfOk, IfErr};
+ghost use Rattle.portal_core.specs.Lending.{GrowsByOwn, is_faultless};
+ghost use Rattle.portal_core.specs.Story.{cost_with, limit_of, state_now};
+ghost use Rattle.portal_model.specs.declared.request.Request.{Request};
+ghost use Rattle.portal_model.specs.History.{Legal};
+ghost use Rattle.portal_model.specs.Opening.{opened};
+ghost use Rattle.portal_model.specs.Seated.{bound, is_open};
+ghost use Rattle.session.specs.Sessions.{Closes, Feeds, Opens, ending, longest};
+ghost use Rattle.session.specs.Standings.{client, fresh};
+ghost use Rattle.session.specs.declared.served.Fed.TheVariants as fed;
+ghost use Rattle.docportal.specs.Seats.{Asked, HeardAs, HearsNot, IsMet, is_last, known_at, sunk};
+ghost use Rattle.docportal.specs.Steps.{binding};
+
+use crate::line::LineError;
+use portal_base::limits::Settings;
+use portal_base::memory::WantOfMemory;
+use portal_base::outside::MemorySink;
+use portal_base::who::{Kind, Who};
+use portal_core::local_desk::LocalDesk;
+use portal_core::portal::Portal;
+use portal_model::desk::Desk;
+use portal_model::reply::Refused;
+use session::served::{Fed, Served};
+use session::session::Session;
+use std::alloc::Global;
+
+/// What bytes on a connection came to.
+#[derive(Debug, Drop)]
+pub struct Heard {
+    /// The pieces that answer them, in order.
+    pub written: MemorySink,
+    /// Whether the connection ended by itself.
+    pub is_over: bool,
+}
+
+/// Opens a connection at a seat where none is open.
+pub fn begin(
+    alloc: Global,
+    portal: &mut Portal,
+    seat: u32,
+    who: &Who,
+    kind: Kind,
+    settings: &Settings,
+) -> Result<Session, WantOfMemory>
+    requires seat { 1 ≤ seat }
+    requires closed { is_open (state_now portal.old) seat ≡ false }
+    requires room { cost_with portal.old (Request.Enter who.now kind) ≤ limit_of portal.old }
+    ensures opening { opened portal.new.opening ≡ opened portal.old.opening }
+    ensures ok { IfOk result (λ session. (session ≡ fresh (client who.now kind settings.now)) × Asked portal.old portal.new seat (Request.Enter who.now kind ∷ [])) }
+{
+    match begin_at(alloc, portal, seat, who, kind, settings) {
+        Ok(session) => Ok(session),
+        Err(Refused::Memory) => Err(WantOfMemory),
+        Err(Refused::Full { .. }) => unreachable!(),
+    }
+}
+
+/// Begins a session at the desk of a seat.
+fn begin_at(
+    alloc: Global,
+    portal: &mut Portal,
+    seat: u32,
+    who: &Who,
+    kind: Kind,
+    settings: &Settings,
+) -> Result<Session, Refused>
+    requires seat { 1 ≤ seat }
+    requires closed { is_open (state_now portal.old) seat ≡ false }
+    ensures opening { opened portal.new.opening ≡ opened portal.old.opening }
+    ensures own { GrowsByOwn is_faultless seat portal.old.history portal.new.history }
+    ensures legal { Legal (opened portal.new.opening) portal.new.history }
+    ensures opens { (count : ℕ) × Opens (client who.now kind settings.now) (known_at portal.old seat 0) result (known_at portal.new seat count) }
+{
+    let mut desk = LocalDesk::new(portal, seat);
+    let begun = Session::begin(alloc, &mut desk, who, kind, settings);
+    desk.known();
+    begun
+}
+
+/// What bytes came to at the desk of a seat.
+#[derive(Clone, Copy, Debug, PartialEq, Eq)]
+struct Feeding {
+    /// What the session made of them.
+    fed: Fed,
+    /// How many of their requests were refused.
+    refusals: u64,
+}
+
+/// Feeds bytes to a session at the desk of a seat, and gathers its answers.
+fn feed_at(
+    alloc: Global,
+    portal: &mut Portal,
+    seat: u32,
+    session: &mut Session,
+    bytes: &[u8],
+    written: &mut MemorySink,
+) -> Feeding
+    requires seat { 1 ≤ seat }
+    ensures opening { opened portal.new.opening ≡ opened portal.old.opening }
+    ensures stays_open { bound (state_now portal.old) seat ≡ Some (binding session.old) → bound (state_now portal.new) seat ≡ Some (binding session.old) }
+    ensures own { GrowsByOwn is_faultless seat portal.old.history portal.new.history }
+    ensures legal { Legal (opened portal.new.opening) portal.new.history }
+    ensures feeds { Feeds session.old.fed session.old (sunk (known_at portal.old seat 0) written.old) bytes.now result.fed session.new (sunk (known_at portal.new seat result.refusals) written.new) }
+{
+    let mut desk = LocalDesk::new(portal, seat);
+    let fed = session.feed(alloc, &mut desk, bytes, written);
+    desk.known();
+    Feeding {
+        fed,
+        refusals: desk.refusals(),
+    }
+}
+
+/// The same, where no request is refused. One that is refused wants memory.
+fn feed(
+    alloc: Global,
+    portal: &mut Portal,
+    seat: u32,
+    session: &mut Session,
+    bytes: &[u8],
+    written: &mut MemorySink,
+) -> Result<Fed, WantOfMemory>
+    requires seat { 1 ≤ seat }
+    ensures opening { opened portal.new.opening ≡ opened portal.old.opening }
+    ensures stays_open { bound (state_now portal.old) seat ≡ Some (binding session.old) → bound (state_now portal.new) seat ≡ Some (binding session.old) }
+    ensures own { GrowsByOwn is_faultless seat portal.old.history portal.new.history }
+    ensures legal { Legal (opened portal.new.opening) portal.new.history }
+    ensures ok { IfOk result (λ fed. (count : ℕ) × (count ≡ 0) × Feeds session.old.fed session.old (sunk (known_at portal.old seat 0) written.old) bytes.now fed session.new (sunk (known_at portal.new seat count) written.new)) }
+{
+    let Feeding { fed, refusals } = feed_at(alloc, portal, seat, session, bytes, written);
+    if refusals > 0 {
+        return Err(WantOfMemory);
+    }
+    Ok(fed)
+}
+
+/// Feeds bytes to a session that goes on. Where the bytes end inside an item,
+/// or at a request that isn't built, they aren't built.
+pub fn hear(
+    alloc: Global,
+    portal: &mut Portal,
+    seat: u32,
+    session: &mut Session,
+    bytes: &[u8],
+) -> Result<Heard, LineError>
+    requires seat { 1 ≤ seat }
+    requires goes_on { session.old.fed ≡ fed.More }
+    requires space { session.old.before + length session.old.rest + length bytes.now ≤ longest }
+    ensures opening { opened portal.new.opening ≡ opened portal.old.opening }
+    ensures stays_open { bound (state_now portal.old) seat ≡ Some (binding session.old) → bound (state_now portal.new) seat ≡ Some (binding session.old) }
+    ensures ok { IfOk result (λ heard. HeardAs heard.is_over portal.old portal.new seat session.old bytes.now heard.written.pieces session.new) }
+    ensures err { IfErr result (HearsNot session.old bytes.now) }
+{
+    let mut written = MemorySink::new(alloc, 0);
+    match feed(alloc, portal, seat, session, bytes, &mut written)? {
+        Fed::More if session.held() > 0 => Err(LineError::Unbuilt),
+        Fed::More => Ok(Heard {
+            written,
+            is_over: false,
+        }),
+        Fed::Over(served) => heard_last(served, written),
+        Fed::WriteFault => Err(LineError::Memory),
+        Fed::Memory => Err(LineError::Memory),
+    }
+}
+
+/// What bytes came to with which a connection ends by itself.
+fn heard_last(served: Served, written: MemorySink) -> Result<Heard, LineError>
+    requires { IsMet served }
+    ensures ok { IfOk result (λ heard. (heard.written ≡ written) × (heard.is_over ≡ true) × (is_last served ≡ true)) }
+    ensures err { IfErr result (λ e. (e ≡ LineError.Unbuilt) × (is_last served ≡ false)) }
+{
+    match served {
+        Served::Malformed { .. } => Ok(Heard {
+            written,
+            is_over: true,
+        }),
+        Served::LineTooLong { .. } => Ok(Heard {
+            written,
+            is_over: true,
+        }),
+        Served::Unbuilt { .. } => Err(LineError::Unbuilt),
+        _ => unreachable!(),
+    }
+}
+
+/// Closes the connection of a session, and says how it ended.
+pub fn end(alloc: Global, portal: &mut Portal, seat: u32, session: Session) -> Served
+    requires seat { 1 ≤ seat }
+    requires open { bound (state_now portal.old) seat ≡ Some (binding session) }
+    ensures opening { opened portal.new.opening ≡ opened portal.old.opening }
+    ensures left { Asked portal.old portal.new seat (Request.Leave ∷ []) }
+    ensures ended { result ≡ ending session.fed session.rest }
+{
+    end_at(alloc, portal, seat, session)
+}
+
+/// Ends a session at the desk of a seat.
+fn end_at(alloc: Global, portal: &mut Portal, seat: u32, session: Session) -> Served
+    requires seat { 1 ≤ seat }
+    requires open { bound (state_now portal.old) seat ≡ Some (binding session) }
+    ensures opening { opened portal.new.opening ≡ opened portal.old.opening }
+    ensures own { GrowsByOwn is_faultless seat portal.old.history portal.new.history }
+    ensures legal { Legal (opened portal.new.opening) portal.new.history }
+    ensures closes { (count : ℕ) × Closes session (known_at portal.old seat 0) result (known_at portal.new seat count) }
+{
+    let mut desk = LocalDesk::new(portal, seat);
+    let served = session.end(alloc, &mut desk);
+    desk.known();
+    served
+}
