@@ -1,11 +1,18 @@
 //! Connections with their outputs, worked by hand from the D-Bus Specification
 //! ("Message Format", "Authentication Protocol") and from `fuse.h`.
 
+ghost use Rattle.std.specs.Prelude.{◌≡◌, false};
+ghost use Rattle.portal_model.specs.Seated.{is_open, state_seen};
+
 use crate::devices::{Counting, Drip, Waiting};
-use crate::portal::{PLENTY, bytes, joined, serve};
+use crate::portal::{PLENTY, bytes, joined, serve, settings, started};
+use portal_base::limits::Settings;
 use portal_base::list::{ByteList, List};
 use portal_base::outside::MemorySink;
-use portal_base::who::Kind;
+use portal_base::who::{Kind, Who};
+use portal_core::local_desk::LocalDesk;
+use portal_model::desk::Desk;
+use session::session::Session;
 use std::alloc::Global;
 use std::cell::Cell;
 use std::process::Abort;
@@ -51,6 +58,7 @@ no_space 10000000e4ffffff0100000000000000
 const ROWS: &str = "\
 host bus|Ended 3 2|handshake ping|ok return_1
 host bus|Ended 2 0||
+host bus|Ended 2 1|handshake|ok
 host bus|Ended 3 4|00415554482045585445524e414c0d0a 444154410d0a 4e45474f54494154455f554e49585f46440d0a 424547494e0d0a ping|444154410d0a ok 4552524f520d0a return_1
 host bus|Ended 5 4|handshake ping signal ping_2 nobody|ok return_1 return_2 no_object
 org.ed bus|Ended 2 2|handshake quiet_ping big_ping|ok return_7
@@ -308,5 +316,68 @@ fn a_full_history_refuses_requests(rt: HostRuntime) -> Result<(), Fail> {
     ] {
         expect_row(&rt, rt.alloc(), history, row, 4096)?;
     }
+    Ok(())
+}
+
+/// What a session of the host answers to three pieces one after another, and
+/// in the end.
+fn fed<D: Desk>(
+    alloc: Global,
+    desk: &mut D,
+    settings: &Settings,
+    first: &[u8],
+    second: &[u8],
+    third: &[u8],
+    sink: &mut MemorySink,
+) -> Result<String, Fail>
+    requires { is_open (state_seen (D.seated desk.old)) (D.seated desk.old).seat ≡ false }
+{
+    let mut session = Session::begin(alloc, desk, &Who::Host, Kind::Bus, settings)?;
+    let open = session.feed(alloc, desk, first, sink);
+    let over = session.feed(alloc, desk, second, sink);
+    let again = session.feed(alloc, desk, third, sink);
+    let served = session.end(alloc, desk);
+    Ok(format!(in alloc; "{open:?}, {over:?}, {again:?}, {served:?}")?)
+}
+
+/// The same over a portal, with the number of entries that its history has then.
+fn fed_of_portal(
+    alloc: Global,
+    first: &[u8],
+    second: &[u8],
+    third: &[u8],
+    sink: &mut MemorySink,
+) -> Result<String, Fail> {
+    let settings = settings(alloc)?;
+    let (told, entries) = {
+        let mut portal = started(alloc, PLENTY)?;
+        let mut desk = LocalDesk::new(&mut portal, 1);
+        let told = fed(alloc, &mut desk, &settings, first, second, third, sink);
+        (told, portal.history().len())
+    };
+    Ok(format!(in alloc; "{told}, {entries}", told = told?)?)
+}
+
+#[test]
+fn a_session_that_is_over_stays_over(rt: HostRuntime) -> Result<(), Fail> {
+    let alloc = rt.alloc();
+    // Its first byte names no order of bytes.
+    let malformed = bytes(alloc, "5801000100000000010000004500000000")?;
+    let handshake = bytes(alloc, piece("handshake"))?;
+    let ping = bytes(alloc, piece("ping"))?;
+    let mut sink = MemorySink::new(alloc, 0);
+    let told = fed_of_portal(
+        alloc,
+        handshake.as_slice(),
+        malformed.as_slice(),
+        ping.as_slice(),
+        &mut sink,
+    )?;
+    // Enter and Leave are asked, and nothing else; OK is written, and no answer.
+    assert_eq!(rt;
+        told.as_str(),
+        "More, Over(Malformed { at: 32, rule: 1 }), Over(Malformed { at: 32, rule: 1 }), Malformed { at: 32, rule: 1 }, 2"
+    );
+    assert_eq!(rt; sink.pieces().len(), 1);
     Ok(())
 }
