@@ -19,3 +19,4 @@ pub mod Asking
 pub mod Enclosing
 pub mod Hearing
 pub mod Completing
+pub mod Weighing

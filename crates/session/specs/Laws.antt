@@ -1,6 +1,8 @@
 -- Laws of cutting and of answers, which the public functions of src/laws.rt state.
-use Rattle.std.specs.Prelude.{◌≡◌, ◌⊎◌, ℕ, ◌<◌, ◌≤◌, List, [], ◌∷◌, ◌++◌, length, map, Some}
+use Rattle.std.specs.Prelude.{◌≡◌, ◌⊎◌, ℕ, ◌*◌, ◌<◌, ◌≤◌, List, [], ◌∷◌, ◌++◌, length, map, Some}
+use Rattle.std.specs.List.{sum_by}
 use Rattle.portal_base.specs.Outside.{Short, last_count}
+use Rattle.portal_model.specs.History.{cost_of}
 use Rattle.portal_model.specs.Seated.{Exchange}
 use Rattle.session.specs.declared.act.Act.{Act}
 use Rattle.session.specs.declared.act.Client.{Client}
@@ -10,7 +12,7 @@ use Rattle.session.specs.declared.served.Rest.TheVariants as rest
 use Rattle.session.specs.declared.served.Served.{Served}
 use Rattle.session.specs.declared.served.Served.TheVariants as served
 use Rattle.session.specs.Asked.{asked, requests_of}
-use Rattle.session.specs.Items.{Items, joined, phase_after}
+use Rattle.session.specs.Items.{AreItems, Items, joined, phase_after}
 use Rattle.session.specs.Answers.{Answers, Outcome, AreOf, told_as}
 use Rattle.session.specs.Connections.{Encloses, Serves, between}
 use Rattle.session.specs.Cuts.{first_phase}
@@ -66,3 +68,7 @@ Begins whole front = (more : List ℕ) × (whole ≡ front ++ more)
 -- what is written in part is a prefix
 abbrev pub ShortBegins : Type 0
 ShortBegins = (ws ps : List (List ℕ)) → Short ws ps → Begins (joined ps) (joined ws)
+
+-- what items ask costs the history at most eight times the bytes of the items
+abbrev pub CostLittle : Type 0
+CostLittle = (c : Client) (p : Phase) (items : List (List ℕ)) (acts : List Act) → AreItems c p items acts → sum_by cost_of (requests_of acts) ≤ 8 * length (joined items)

@@ -2,7 +2,7 @@
 //!
 //! Each function does nothing; its contract is the law.
 
-ghost use Rattle.session.specs.Laws.{AreOne, AreCutAlike, AnswerAsked, SayAlike, ShortBegins, WholeInputsEnd};
+ghost use Rattle.session.specs.Laws.{AreOne, AreCutAlike, AnswerAsked, CostLittle, SayAlike, ShortBegins, WholeInputsEnd};
 
 /// The whole items of a stream, what they ask and the rest behind them are
 /// one.
@@ -39,4 +39,10 @@ pub fn a_part_is_a_prefix()
 /// have, is served to its end, unless there is no memory.
 pub fn whole_inputs_are_served_to_their_end()
     ensures { WholeInputsEnd }
+{}
+
+/// What items ask costs the history at most eight times the bytes of the
+/// items.
+pub fn items_cost_little()
+    ensures { CostLittle }
 {}
