@@ -1,54 +1,25 @@
 -- What the entries of lines cost the history: at most eight times the bytes of their text.
-use Rattle.std.proofs.Common.{◌≡◌, ℕ, ◌+◌, ◌*◌, ◌-◌, ◌^◌, ◌<◌, ◌≤◌, min, List, [], ◌∷◌, ◌++◌, length, Bool, true, false, refl, sym, ap, ◌∙◌, arith, length-append}
-use Rattle.std.specs.Prelude.{nat_lt, codes, if◌then◌else◌, Result, Ok}
+use Rattle.std.proofs.Common.{◌≡◌, ℕ, ◌+◌, ◌*◌, ◌-◌, ◌^◌, ◌<◌, ◌≤◌, min, List, [], ◌∷◌, ◌++◌, length, refl, sym, ap, ◌∙◌, arith, length-append}
+use Rattle.std.specs.Prelude.{codes}
 use Rattle.std.specs.Fmt.{decimal}
-use Rattle.std.specs.List.{sum_by}
-use Rattle.std.proofs.lemmas.Bool.Decides.{nat_tests}
 use Rattle.std.proofs.lemmas.Fmt.{decimal_nonempty}
-use Rattle.std.proofs.lemmas.List.Sums.{sum_by-append}
-use Rattle.dbus_auth.specs.declared.handshake.AuthAnswer.{AuthAnswer}
-use Rattle.dbus_auth.specs.declared.handshake.AuthAnswer.TheVariants.{Say, Begin, Early}
-use Rattle.dbus_auth.specs.Handshake.{step}
-use Rattle.dbus_message.specs.Messages.{IsSplit}
-use Rattle.fuse_wire.specs.Frames.{split_of, header_of, is_bad_len}
 use Rattle.hex.specs.Hex.{lower_digits}
 use Rattle.hex.proofs.HexLemmas.{length-encode_with}
-use Rattle.portal_base.specs.declared.split.Split.{Split}
-use Rattle.portal_base.specs.declared.split.Split.TheVariants.{More, Bad, Whole}
 use Rattle.portal_base.specs.declared.who.Kind.{Kind}
 use Rattle.portal_base.specs.declared.who.Kind.TheVariants.{Bus, Mount}
 use Rattle.portal_base.specs.declared.who.Who.{Who}
 use Rattle.portal_base.specs.declared.who.Who.TheVariants.{Host, App}
-use Rattle.portal_model.specs.declared.request.NodeOp.{NodeOp}
-use Rattle.portal_model.specs.declared.request.NodeOp.TheVariants.{GetAttr}
-use Rattle.portal_model.specs.declared.request.NodeRequest.{NodeRequest}
 use Rattle.portal_model.specs.declared.request.Request.{Request}
 use Rattle.portal_model.specs.declared.request.Request.TheVariants as request
-use Rattle.portal_model.specs.History.{cost, cost_of, node_bytes}
+use Rattle.portal_model.specs.History.{cost, cost_of}
 use Rattle.portal_model.specs.State.{State}
 use Rattle.portal_model.specs.Step.{after}
 use Rattle.portal_model.proofs.Histories.{cost-append}
 use Rattle.script_form.specs.declared.script.ScriptLine.{ScriptLine}
 use Rattle.script_form.specs.declared.script.ScriptLine.TheVariants.{Open, Data}
 use Rattle.script_form.specs.Lines.{hex_text, line_text, text_of}
-use Rattle.session.specs.declared.act.Act.{Act}
-use Rattle.session.specs.declared.act.Act.TheVariants.{Nothing, Line, Call, Node}
-use Rattle.session.specs.declared.act.Client.{Client}
-use Rattle.session.specs.declared.act.ItemError.{ItemError}
-use Rattle.session.specs.declared.phase.Cut.TheVariants as cut
-use Rattle.session.specs.declared.phase.Phase.{Phase}
-use Rattle.session.specs.declared.phase.Phase.TheVariants as due
-use Rattle.session.specs.Asked.{asked_by, collect_requests, line_act, requests_of}
-use Rattle.session.specs.Cuts.{cut_of, line_of, next_phase}
-use Rattle.session.specs.Items.{AreItems, IsItem, joined}
+use Rattle.session.proofs.Weighing.{costs, costs-append}
 use Rattle.docportal.specs.Entries.{entries_for, entry_for}
-
--- what requests cost
-abbrev pub costs : List Request → ℕ
-costs rs = sum_by cost_of rs
-
-pub costs-append : (rs qs : List Request) → costs (rs ++ qs) ≡ costs rs + costs qs
-costs-append rs qs = sum_by-append cost_of rs qs
 
 pub entries_cost : (rs : List Request) (s : State) (seat : ℕ) → cost (entries_for s seat rs) ≡ costs rs
 entries_cost [] s seat = refl
@@ -56,72 +27,10 @@ entries_cost (r ∷ rs) s seat =
     let e = entry_for s seat r in
     cost-append (e ∷ []) (entries_for (after s e) seat rs) ∙ (ap (λ (n : ℕ). cost (e ∷ []) + n) (entries_cost rs (after s e) seat) ∙ sym (costs-append (r ∷ []) rs))
 
--- ---- what an item asks costs at most eight times its length
+-- ---- the length of a line
 
 min_left : (a b : ℕ) → min a b ≤ a
 min_left a b = omega arith
-
-op_free : (op : NodeOp) → node_bytes op ≡ 0
-op_free (GetAttr flags fh) = refl
-
-node_cost : (r : NodeRequest) → cost_of (request.Node r) ≤ 128
-node_cost r = let free = op_free r.op in let least = min_left (128 + node_bytes r.op) (2 ^ 64 - 1) in omega arith
-
-collect_cost : (b : Bool) → costs (collect_requests b) ≤ 128
-collect_cost true = omega arith
-collect_cost false = omega arith
-
-act_cost : (act : Act) → costs (asked_by act) ≤ 128
-act_cost Nothing = omega arith
-act_cost (Line reply) = omega arith
-act_cost (Call reply collects) = collect_cost collects
-act_cost (Node unique r) = let least = node_cost r in omega arith
-
--- a message has at least 16 bytes, a frame 40
-whole_message : (split : Split) (i : List ℕ) (n : ℕ) → IsSplit i split → cut.Whole n ≡ cut_of split → 16 ≤ length i
-whole_message More i n h e = absurd (cc)
-whole_message (Whole len) i n h e = h.0
-whole_message (Bad rule) i n h e = absurd (cc)
-
-short_frame : (i : List ℕ) → nat_lt (length i) 40 ≡ true → split_of i ≡ More
-short_frame i h = ap (λ (b : Bool). if b then More else if is_bad_len (header_of i).len then Bad 14 else if nat_lt (length i) (header_of i).len then More else Whole (header_of i).len) h
-
-not_more : (split : Split) (n : ℕ) → split ≡ More → cut.Whole n ≡ cut_of split → ⊥
-not_more More n s e = cc
-not_more (Whole len) n s e = cc
-not_more (Bad rule) n s e = cc
-
-whole_frame : (b : Bool) (i : List ℕ) (n : ℕ) → nat_lt (length i) 40 ≡ b → cut.Whole n ≡ cut_of (split_of i) → 16 ≤ length i
-whole_frame true i n h e = absurd (not_more (split_of i) n (short_frame i h) e)
-whole_frame false i n h e = grind (arith, nat_tests)
-
-line_asks : (answer : AuthAnswer) (act : Act) → Ok act ≡ line_act answer → asked_by act ≡ []
-line_asks (Say reply) act e = let is : act ≡ Line reply = cc in ap asked_by is
-line_asks Begin act e = let is : act ≡ Nothing = cc in ap asked_by is
-line_asks Early act e = absurd (cc)
-
-zero_asks : (act : Act) (found : Result Act ItemError) → found ≡ Ok act → found ≡ Ok Nothing → asked_by act ≡ []
-zero_asks act found e h = let is : act ≡ Nothing = cc in ap asked_by is
-
-free : (rs : List Request) (n : ℕ) → rs ≡ [] → costs rs ≤ n
-free rs n h = let none = ap costs h in omega arith
-
-item_cost : (p : Phase) (c : Client) (i : List ℕ) (act : Act) → IsItem c p i act → costs (asked_by act) ≤ 8 * length i
-item_cost due.ZeroByte c i act h = free (asked_by act) (8 * length i) (zero_asks act (Ok act) refl h.1)
-item_cost (due.Handshake a) c i act h = free (asked_by act) (8 * length i) (line_asks (step a (line_of i)).0 act h.1)
-item_cost due.Messages c i act h = let long = whole_message h.0.0 i (length i) h.0.1 h.0.2 in let most = act_cost act in omega arith
-item_cost due.Frames c i act h = let long = whole_frame (nat_lt (length i) 40) i (length i) refl h.0 in let most = act_cost act in omega arith
-
-pub items_cost : (is : List (List ℕ)) (c : Client) (p : Phase) (acts : List Act) → AreItems c p is acts → costs (requests_of acts) ≤ 8 * length (joined is)
-items_cost [] c p acts h = free (requests_of acts) 0 (ap requests_of h)
-items_cost (i ∷ is) c p acts (act, later, acts_are, item, more) =
-    let one = item_cost p c i act item in
-    let others = items_cost is c (next_phase c p i) later more in
-    let both : costs (requests_of acts) ≡ costs (asked_by act) + costs (requests_of later) = ap (λ (z : List Act). costs (requests_of z)) acts_are ∙ costs-append (asked_by act) (requests_of later) in
-    let bytes = length-append i (joined is) in
-    omega arith
-
--- ---- the length of a line
 
 hex_long : (bytes : List ℕ) → 2 * length bytes ≤ length (hex_text bytes)
 hex_long [] = omega arith

@@ -31,7 +31,8 @@ use Rattle.docportal.specs.Lines.{Comes, CloseDoes, DataDoes, Does, Goes, Hears,
 use Rattle.docportal.specs.Scenes.{Scene, placed, run_settings}
 use Rattle.docportal.specs.Steps.{Agrees, HaveRoom, IsIdle, IsNew, binding}
 use Rattle.docportal.specs.Texts.{out_line}
-use Rattle.docportal.proofs.Costs.{costs, costs-append, data_long, enter_cost, entries_cost, items_cost}
+use Rattle.session.proofs.Weighing.{costs, costs-append, items_cost}
+use Rattle.docportal.proofs.Costs.{data_long, enter_cost, entries_cost}
 
 -- ---- the entries of a seat, by the seat
 

@@ -86,10 +86,10 @@ fn spelled(alloc: Global, lines: &str) -> Result<ByteList, WantOfMemory> {
         return Ok(text);
     }
     for line in lines.split(';') {
-        let mut gap = "";
+        let mut gap: &[u8] = b"";
         for word in line.split(' ') {
-            text.extend_from_slice(gap.as_bytes())?;
-            gap = " ";
+            text.extend_from_slice(gap)?;
+            gap = b" ";
             for name in word.split('+') {
                 text.extend_from_slice(part(name).as_bytes())?;
             }
