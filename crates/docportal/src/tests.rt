@@ -53,7 +53,7 @@ done|a_file;for_other;open 1 mount app:org.ed;data 1 getattr|out 1 missing
 done|a_file;open 1 mount app:org.ed;data 1 getattr+getattr|out 1 missing;out 1 missing
 done|open 1 bus host;data 1 handshake;data 1 ping|out 1 ok;out 1 return_1
 done|open 7 bus app:org.ed;data 7 external;data 7 no_data;data 7 negotiate;data 7 begin;data 7 ping;close 7|out 7 no_data;out 7 ok;out 7 error;out 7 return_1;end 7 ended
-done|open 1 bus host;data 1 00;data 1 -;close 1|end 1 ended
+done|open 1 bus host;data 1 handshake;data 1 -;close 1|out 1 ok;end 1 ended
 done|open 1 bus host;data 1 handshake+ping+quiet_ping+mount_point;close 1|out 1 ok;out 1 return_1;out 1 run_doc;end 1 ended
 done|open 1 bus host;data 1 handshake;data 1 bad_ping;data 1 ping;close 1|out 1 ok;end 1 malformed 32 6
 done|open 1 bus host;data 1 handshake+ping+bad_ping+ping|out 1 ok;out 1 return_1;end 1 malformed 120 6
