@@ -12,6 +12,4 @@ pub mod laws;
 mod put;
 pub mod read;
 mod signature;
-#[cfg(test)]
-mod tests;
 pub mod write;

@@ -6,5 +6,5 @@ pub mod Fitting
 pub mod Again
 pub mod Stops
 pub mod Whole
+pub mod Single
 pub mod Extending
-pub mod Within

@@ -6,19 +6,11 @@
 #![tactic(auto)]
 
 pub mod copies;
-pub mod equal;
 pub mod errors;
-pub mod keeping;
 pub mod layout;
 pub mod message;
 pub mod names;
-pub mod nesting;
 pub mod roles;
-pub mod rules;
 pub mod signature;
-#[cfg(test)]
-mod tests;
 pub mod types;
-#[cfg(test)]
-mod value_tests;
 pub mod write;
