@@ -4,7 +4,6 @@
 //! Source: D-Bus Specification, "Marshaling (Wire Format)".
 #![tactic(auto)]
 
-mod align;
 pub mod error;
 mod fields;
 mod flat;

@@ -12,7 +12,7 @@ ghost use Rattle.dbus_marshal.specs.Spelling.{Extends, spelled, signature_body};
 use crate::error::ReadError;
 use crate::put::overwrite_byte;
 use dbus_types::errors::SignatureError;
-use dbus_types::signature::read_list;
+use dbus_types::signature::{read_list, read_single};
 use dbus_types::types::{Value, WireType};
 use dbus_types::write::put_type;
 use portal_base::list::{ByteList, List};
@@ -39,26 +39,21 @@ pub(crate) fn types_at(alloc: Global, text: &[u8], at: usize) -> Result<List<Wir
 }
 
 /// The one type of a variant's signature that begins at a place.
+#[tactic(auto, unfolding(crate::specs::Reads::type_in))]
 pub(crate) fn type_at(alloc: Global, text: &[u8], at: usize) -> Result<WireType, ReadError>
     requires short { length text.now ≤ 255 }
     requires place { at ≤ 2 ^ 63 }
     ensures { Gives (λ kind. kind) result (type_in at text.now) }
 {
-    let mut types = types_at(alloc, text, at)?;
-    match types.as_slice() {
-        [] => return Err(ReadError::BadSignature { at }),
-        [_] => {}
-        [first, ..] => {
-            let mut front = List::new(alloc);
-            put_type(&mut front, first)?;
-            return Err(ReadError::BadSignature {
-                at: at + front.len(),
-            });
-        }
-    }
-    match types.pop() {
-        Some(kind) => Ok(kind),
-        None => Err(ReadError::BadSignature { at }),
+    match read_single(alloc, text) {
+        Ok(kind) => Ok(kind),
+        Err(SignatureError::BadSignature { at: stop }) => Err(ReadError::BadSignature {
+            at: at + stop as usize,
+        }),
+        Err(SignatureError::TooDeep { at: stop }) => Err(ReadError::TooDeep {
+            at: at + stop as usize,
+        }),
+        Err(SignatureError::Memory) => Err(ReadError::Memory),
     }
 }
 
