@@ -7,4 +7,5 @@ pub mod Again
 pub mod Stops
 pub mod Whole
 pub mod Single
+pub mod Ascii
 pub mod Extending
