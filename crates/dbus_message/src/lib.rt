@@ -10,7 +10,6 @@ mod fields;
 mod header;
 pub mod laws;
 pub mod read;
-mod signature;
 pub mod split;
 #[cfg(test)]
 mod tests;

@@ -131,7 +131,7 @@ pub fn write_signature(alloc: Global, kinds: &[WireType]) -> Result<ByteList, Wa
 }
 
 /// The signature of values: the texts of their types, one after the other.
-pub fn signature_of(alloc: Global, values: &[Value]) -> Result<Text, WantOfMemory>
+pub fn signature_text(alloc: Global, values: &[Value]) -> Result<Text, WantOfMemory>
     ensures { IfOk result (λ text. text ≡ types_text (map type_of values.now)) }
 {
     let mut codes = List::new(alloc);

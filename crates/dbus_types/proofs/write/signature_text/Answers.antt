@@ -3,7 +3,7 @@ use Rattle.std.specs.Prelude.{IsUtf8}
 use Rattle.dbus_types.specs.Types.{types_text}
 use Rattle.dbus_types.specs.Values.{type_of}
 use Rattle.dbus_types.proofs.Ascii.{utf8_types}
-use Rattle.dbus_types.proofs.write.signature_of.Goals as goal
+use Rattle.dbus_types.proofs.write.signature_text.Goals as goal
 
 pub returns : goal.returns
 returns c =
