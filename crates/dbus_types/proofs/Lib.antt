@@ -9,3 +9,4 @@ pub mod Whole
 pub mod Single
 pub mod Ascii
 pub mod Extending
+pub mod Within

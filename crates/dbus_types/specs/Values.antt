@@ -1,11 +1,11 @@
 -- What the D-Bus Specification says of values ("Type System").
-use Rattle.std.specs.Prelude.{◌≡◌, ℕ, zero, suc, ◌<◌, ◌^◌, List, IsTrue, IsUtf8, All, FitsSigned}
+use Rattle.std.specs.Prelude.{◌≡◌, ℕ, zero, suc, ◌+◌, ◌<◌, ◌^◌, max, List, [], ◌∷◌, IsTrue, IsUtf8, All, FitsSigned}
 use Rattle.std.specs.Int.{w16, w32, w64}
 use Rattle.dbus_types.specs.declared.types.WireType.{WireType}
 use Rattle.dbus_types.specs.declared.types.WireType.TheVariants as W
 use Rattle.dbus_types.specs.declared.types.Value.{Value, out-Value, fold-Value}
 use Rattle.dbus_types.specs.declared.types.Value.TheOpen.{Value-F}
-use Rattle.dbus_types.specs.Types.{IsValidType, IsVariantType, IsSignature}
+use Rattle.dbus_types.specs.Types.{greatest, IsValidType, IsVariantType, IsSignature}
 use Rattle.dbus_types.specs.Names.{is_path}
 
 abbrev pub type_step : Value-F WireType → WireType
@@ -78,3 +78,20 @@ KeepsWithin (suc depth) v = ValueKeeps (KeepsWithin depth) (out-Value v)
 -- each stands in at most 64 arrays, structs, dict entries and variants, itself not counted.
 abbrev pub KeepsRules : Value → Type 0
 KeepsRules v = IsValidType (type_of v) × KeepsWithin 64 v
+
+-- the greatest of the numbers of those inside, and one more for what they stand in
+abbrev pub one_around : List ℕ → ℕ
+one_around [] = 0
+one_around (n ∷ ns) = greatest (n ∷ ns) + 1
+
+abbrev pub nesting_step : Value-F ℕ → ℕ
+nesting_step (Value-F.Variant n) = n + 1
+nesting_step (Value-F.Array t ns) = one_around ns
+nesting_step (Value-F.Struct ns) = one_around ns
+nesting_step (Value-F.DictEntry k v) = max k v + 1
+nesting_step _ = 0
+
+-- in how many arrays, structs, dict entries and variants of a value the innermost of those inside it
+-- stands: in none where nothing is inside, as in an empty array
+abbrev pub nesting : Value → ℕ
+nesting = fold-Value ℕ nesting_step

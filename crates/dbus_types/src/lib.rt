@@ -6,11 +6,16 @@
 #![tactic(auto)]
 
 pub mod copies;
+pub mod equal;
 pub mod errors;
+pub mod keeping;
 pub mod layout;
 pub mod message;
 pub mod names;
+pub mod nesting;
 pub mod roles;
+pub mod rules;
 pub mod signature;
 pub mod types;
+pub mod typing;
 pub mod write;
