@@ -20,3 +20,4 @@ pub mod Enclosing
 pub mod Hearing
 pub mod Completing
 pub mod Weighing
+pub mod Rooming

@@ -24,11 +24,11 @@ use Rattle.session.proofs.Doing.{items-append, joined-append, phase-append}
 
 -- ---- outcomes
 
-of-append : (rs ss : List Request) (os us : List Outcome) → AreOf rs os → AreOf ss us → AreOf (rs ++ ss) (os ++ us)
+pub of-append : (rs ss : List Request) (os us : List Outcome) → AreOf rs os → AreOf ss us → AreOf (rs ++ ss) (os ++ us)
 of-append [] ss os us a b = subst (λ (z : List Outcome). AreOf ss (z ++ us)) (sym a) b
 of-append (r ∷ rs) ss os us (o, more, e, is, are) b = (o, more ++ us, ap (λ (z : List Outcome). z ++ us) e, is, of-append rs ss more us are b)
 
-asked_go : (acts : List Act) (serial last : ℕ) (os : List Outcome) (ps : List (List ℕ)) → Answers serial acts os ps last → AreOf (requests_of acts) os
+pub asked_go : (acts : List Act) (serial last : ℕ) (os : List Outcome) (ps : List (List ℕ)) → Answers serial acts os ps last → AreOf (requests_of acts) os
 asked_go [] serial last os ps a = a.0
 asked_go (x ∷ xs) serial last os ps (o1, o2, p1, p2, mid, oe, pe, gives, more) =
     subst (λ (z : List Outcome). AreOf (asked_by x ++ requests_of xs) z) (sym oe) (of-append (asked_by x) (requests_of xs) o1 o2 gives.asked (asked_go xs mid last o2 p2 more))

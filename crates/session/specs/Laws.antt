@@ -1,24 +1,30 @@
 -- Laws of cutting and of answers, which the public functions of src/laws.rt state.
-use Rattle.std.specs.Prelude.{◌≡◌, ◌⊎◌, ℕ, ◌*◌, ◌<◌, ◌≤◌, List, [], ◌∷◌, ◌++◌, length, map, Some}
-use Rattle.std.specs.List.{sum_by}
+use Rattle.std.specs.Prelude.{◌≡◌, ◌⊎◌, ℕ, ◌+◌, ◌*◌, ◌<◌, ◌≤◌, List, [], ◌∷◌, ◌++◌, length, map, Some}
+use Rattle.std.specs.List.{All, sum_by}
 use Rattle.portal_base.specs.Outside.{Short, last_count}
-use Rattle.portal_model.specs.History.{cost_of}
-use Rattle.portal_model.specs.Seated.{Exchange}
+use Rattle.portal_model.specs.declared.entry.Entry.{Entry}
+use Rattle.portal_model.specs.declared.reply.Refused.TheVariants as refused
+use Rattle.portal_model.specs.declared.request.Request.{Request}
+use Rattle.portal_model.specs.History.{cost, cost_of}
+use Rattle.portal_model.specs.Seated.{Exchange, Seated, exchanges}
 use Rattle.session.specs.declared.act.Act.{Act}
 use Rattle.session.specs.declared.act.Client.{Client}
 use Rattle.session.specs.declared.phase.Phase.{Phase}
+use Rattle.session.specs.declared.served.Fed.{Fed}
+use Rattle.session.specs.declared.served.Fed.TheVariants as fed
 use Rattle.session.specs.declared.served.Rest.{Rest}
 use Rattle.session.specs.declared.served.Rest.TheVariants as rest
 use Rattle.session.specs.declared.served.Served.{Served}
 use Rattle.session.specs.declared.served.Served.TheVariants as served
 use Rattle.session.specs.Asked.{asked, requests_of}
 use Rattle.session.specs.Items.{AreItems, Items, joined, phase_after}
-use Rattle.session.specs.Answers.{Answers, Outcome, AreOf, told_as}
+use Rattle.session.specs.Answers.{Answers, AreOf, Denied, Made, Outcome, told_as}
 use Rattle.session.specs.Connections.{Encloses, Serves, between}
 use Rattle.session.specs.Cuts.{first_phase}
-use Rattle.session.specs.Ledger.{World}
+use Rattle.session.specs.Ledger.{Grew, World}
 use Rattle.session.specs.Pumps.{Spring}
-use Rattle.session.specs.Sessions.{longest}
+use Rattle.session.specs.Sessions.{Feeds, longest}
+use Rattle.session.specs.Standings.{Standing}
 
 -- the items of a stream are one list, they ask one list, and the rest is one
 abbrev pub AreOne : Type 0
@@ -72,3 +78,32 @@ ShortBegins = (ws ps : List (List ℕ)) → Short ws ps → Begins (joined ps) (
 -- what items ask costs the history at most eight times the bytes of the items
 abbrev pub CostLittle : Type 0
 CostLittle = (c : Client) (p : Phase) (items : List (List ℕ)) (acts : List Act) → AreItems c p items acts → sum_by cost_of (requests_of acts) ≤ 8 * length (joined items)
+
+-- ---- room in the history
+
+-- The items that come with a piece ask these requests, each once, and they cost at most eight times the bytes that
+-- were held and the piece.
+abbrev pub FeedsCostLittle : Type 0
+FeedsCostLittle = (s : Standing) (v w : World) (piece : List ℕ) (r : Fed) (t : Standing) → Feeds fed.More s v piece r t w
+    → (requests : List Request) × (outcomes : List Outcome) × AreOf requests outcomes × Grew v.seated outcomes w.seated × (sum_by cost_of requests ≤ 8 * length (s.rest ++ piece))
+
+-- what is the seat's own is what it made in the history
+abbrev pub IsOwn : Seated → Type 0
+IsOwn d = exchanges d.seat d.opening d.seen ≡ d.mine
+
+-- what is new in the history is the seat's own
+abbrev pub AskedAlone : Seated → Seated → Type 0
+AskedAlone v w = (more : List Entry) × (w.seen ≡ v.seen ++ more) × All (λ e. e.seat ≡ v.seat) more
+
+-- no request is refused for a full history
+abbrev pub NoneIsFull : List Outcome → Type 0
+NoneIsFull [] = Unit {0}
+NoneIsFull (Made x ∷ os) = NoneIsFull os
+NoneIsFull (Denied request refused.Memory ∷ os) = NoneIsFull os
+NoneIsFull (Denied request (refused.Full now limit) ∷ os) = ⊥
+
+-- Where no other seat asks, and the history has room for all of these requests, none of them is refused for a full
+-- history, and it grows by no more than they cost.
+abbrev pub RoomIsEnough : Type 0
+RoomIsEnough = (v w : Seated) (requests : List Request) (os : List Outcome) → AreOf requests os → Grew v os w → IsOwn v → IsOwn w → AskedAlone v w
+    → cost v.seen + sum_by cost_of requests ≤ v.opening.limits.history → NoneIsFull os × (cost w.seen ≤ cost v.seen + sum_by cost_of requests)

@@ -2,7 +2,7 @@
 //!
 //! Each function does nothing; its contract is the law.
 
-ghost use Rattle.session.specs.Laws.{AreOne, AreCutAlike, AnswerAsked, CostLittle, SayAlike, ShortBegins, WholeInputsEnd};
+ghost use Rattle.session.specs.Laws.{AreOne, AreCutAlike, AnswerAsked, CostLittle, FeedsCostLittle, RoomIsEnough, SayAlike, ShortBegins, WholeInputsEnd};
 
 /// The whole items of a stream, what they ask and the rest behind them are
 /// one.
@@ -45,4 +45,17 @@ pub fn whole_inputs_are_served_to_their_end()
 /// items.
 pub fn items_cost_little()
     ensures { CostLittle }
+{}
+
+/// The items that come with a piece ask requests, each once, that cost the
+/// history at most eight times the bytes held and the piece.
+pub fn feeds_cost_little()
+    ensures { FeedsCostLittle }
+{}
+
+/// Where no other seat asks, and the history has room for all that is asked,
+/// nothing is refused for a full history, and it grows by no more than that
+/// costs.
+pub fn room_is_enough()
+    ensures { RoomIsEnough }
 {}
