@@ -11,6 +11,4 @@ mod header;
 pub mod laws;
 pub mod read;
 pub mod split;
-#[cfg(test)]
-mod tests;
 pub mod write;
