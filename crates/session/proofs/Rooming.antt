@@ -1,5 +1,5 @@
 -- Where the history has room for all that is asked, nothing is refused for a full history.
-use Rattle.std.proofs.Common.{◌≡◌, inl, inr, ℕ, ◌+◌, ◌*◌, ◌≤◌, List, [], ◌∷◌, ◌++◌, length, drop, map, Bool, true, cond, refl, sym, ap, ◌∙◌, subst, arith, length-append}
+use Rattle.std.proofs.Common.{◌≡◌, inl, inr, ℕ, ◌+◌, ◌*◌, ◌≤◌, List, [], ◌∷◌, ◌++◌, length, drop, Bool, true, cond, refl, sym, ap, ◌∙◌, subst, arith, length-append}
 use Rattle.std.specs.List.{All}
 use Rattle.std.proofs.Math.Seq.{drop-append_seam}
 use Rattle.std.proofs.lemmas.Bool.Decides.{nat_tests}
@@ -7,7 +7,6 @@ use Rattle.std.proofs.lemmas.List.Elements.{All-head, All-tail}
 use Rattle.std.proofs.lemmas.List.Sums.{sum_by-append, sum_by-cons}
 use Rattle.std.specs.Prelude.{◌==◌}
 use Rattle.portal_model.specs.declared.entry.Entry.{Entry}
-use Rattle.portal_model.specs.declared.reply.Refused.{Refused}
 use Rattle.portal_model.specs.declared.reply.Refused.TheVariants as refused
 use Rattle.portal_model.specs.declared.request.Request.{Request}
 use Rattle.portal_model.specs.History.{cost, cost_of, of_seat, run}
@@ -21,9 +20,8 @@ use Rattle.session.specs.declared.served.Fed.TheVariants as fed
 use Rattle.session.specs.declared.served.Rest.{Rest}
 use Rattle.session.specs.declared.served.Served.{Served}
 use Rattle.session.specs.declared.served.Served.TheVariants as served
-use Rattle.session.specs.Answers.{Answers, AreOf, Denied, IsOf, Made, Outcome, kept}
+use Rattle.session.specs.Answers.{AreOf, Denied, IsOf, Made, Outcome, kept}
 use Rattle.session.specs.Asked.{asked_by, requests_of}
-use Rattle.session.specs.Items.{joined}
 use Rattle.session.specs.Laws.{AskedAlone, FeedsCostLittle, IsOwn, NoneIsFull, RoomIsEnough}
 use Rattle.session.specs.Ledger.{AreCaused, Began, Broke, Did, Grew, World}
 use Rattle.session.specs.Sessions.{FeedsOpen, FeedsOver, TakesUpTo}
@@ -71,14 +69,14 @@ own_all seat (e ∷ es) a =
 new_kept : (v w : Seated) (os : List Outcome) → Grew v os w → IsOwn v → IsOwn w → (alone : AskedAlone v w) → entries_of (kept os) ≡ alone.0
 new_kept v w os g a b (more, is, own) =
     let then : exchanges v.seat v.opening (v.seen ++ more) ≡ w.mine =
-        ap (exchanges v.seat v.opening) (sym is)
-        ∙ (ap (λ (s : State). exchanges v.seat s w.seen) (sym g.moved.opening)
-        ∙ (ap (λ (n : ℕ). exchanges n w.opening w.seen) (sym g.moved.seat) ∙ b)) in
+    ap (exchanges v.seat v.opening) (sym is)
+    ∙ (ap (λ (s : State). exchanges v.seat s w.seen) (sym g.moved.opening)
+    ∙ (ap (λ (n : ℕ). exchanges n w.opening w.seen) (sym g.moved.seat) ∙ b)) in
     let both : v.mine ++ exchanges v.seat (run v.opening v.seen) more ≡ v.mine ++ kept os =
-        ap (λ (z : List Exchange). z ++ exchanges v.seat (run v.opening v.seen) more) (sym a)
-        ∙ (sym (exchanges-append v.seat v.seen more v.opening) ∙ (then ∙ g.mine)) in
+    ap (λ (z : List Exchange). z ++ exchanges v.seat (run v.opening v.seen) more) (sym a)
+    ∙ (sym (exchanges-append v.seat v.seen more v.opening) ∙ (then ∙ g.mine)) in
     let same : exchanges v.seat (run v.opening v.seen) more ≡ kept os =
-        sym (drop-append_seam v.mine (exchanges v.seat (run v.opening v.seen) more)) ∙ (ap (drop (length v.mine)) both ∙ drop-append_seam v.mine (kept os)) in
+    sym (drop-append_seam v.mine (exchanges v.seat (run v.opening v.seen) more)) ∙ (ap (drop (length v.mine)) both ∙ drop-append_seam v.mine (kept os)) in
     ap entries_of (sym same) ∙ (exchanges-entries v.seat more (run v.opening v.seen) ∙ own_all v.seat more own)
 
 new_cost : (v w : Seated) (os : List Outcome) → Grew v os w → IsOwn v → IsOwn w → AskedAlone v w → cost w.seen ≡ cost v.seen + cost (entries_of (kept os))
@@ -158,8 +156,9 @@ fed_costs : (r : Fed) (s : Standing) (v : World) (piece : List ℕ) (t : Standin
 fed_costs fed.More s v piece t w h = takes_costs _ s v piece t w h.0
 fed_costs (fed.Over met) s v piece t w h = over_costs met s v piece t w h.0
 fed_costs fed.WriteFault s v piece t w h = broke_costs s.client s.stage v w (s.rest ++ piece) h.0
-fed_costs fed.Memory s v piece t w (inl h, keeps, room) = began_costs s.client s.stage v w (s.rest ++ piece) h
-fed_costs fed.Memory s v piece t w (inr h, keeps, room) = broke_costs s.client s.stage v w (s.rest ++ piece) h
+fed_costs fed.Memory s v piece t w (inl h, keeps, room) = none_costs v w (length (s.rest ++ piece)) h.0
+fed_costs fed.Memory s v piece t w (inr (inl h, holds), keeps, room) = began_costs s.client s.stage v w (s.rest ++ piece) h
+fed_costs fed.Memory s v piece t w (inr (inr h, holds), keeps, room) = broke_costs s.client s.stage v w (s.rest ++ piece) h.0
 
 pub feeds_cost : FeedsCostLittle
 feeds_cost s v w piece r t h = fed_costs r s v piece t w h
