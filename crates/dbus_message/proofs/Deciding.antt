@@ -60,15 +60,15 @@ BeginsNot e t at bytes = (v : Value) (text rest : List ℕ) → Spells e at t v 
 not_ok : {A B : Type 0} (d : B) (x : A) → Err d ≡ Ok x → ⊥
 not_ok d x e = absurd (cc)
 
-begins_read : (e : Endian) (t : WireType) (at : ℕ) (bytes : List ℕ) (r : Read Value) → IsBytes bytes → reads 64 e t at bytes ≡ r → Begins e t at bytes ⊎ BeginsNot e t at bytes
+begins_read : (e : Endian) (t : WireType) (at : ℕ) (bytes : List ℕ) (r : Read Value) → IsBytes bytes → reads 65 e t at bytes ≡ r → Begins e t at bytes ⊎ BeginsNot e t at bytes
 begins_read e t at bytes (Ok x) fits is =
     let k : Took (Spells e at t x.0) at bytes x.1 x.2 = IfOk-at_ok (λ y. Took (Spells e at t y.0) at bytes y.1 y.2) is (reads_took 64 e t at bytes fits) in
     inl (x.0, k.text, x.2, k.holds, k.parts, k.fits)
 begins_read e t at bytes (Err d) fits is =
-    inr (λ v text rest h parts. not_ok d (v, at + length text, rest) (sym is ∙ (ap (reads 64 e t at) parts ∙ reads_again 64 e t at v text rest h)))
+    inr (λ v text rest h parts. not_ok d (v, at + length text, rest) (sym is ∙ (ap (reads 65 e t at) parts ∙ reads_again 64 e t at v text rest h)))
 
 begins : (e : Endian) (t : WireType) (at : ℕ) (bytes : List ℕ) → IsBytes bytes → Begins e t at bytes ⊎ BeginsNot e t at bytes
-begins e t at bytes fits = begins_read e t at bytes (reads 64 e t at bytes) fits refl
+begins e t at bytes fits = begins_read e t at bytes (reads 65 e t at bytes) fits refl
 
 same_start : (e : Endian) (t : WireType) (at : ℕ) (v w : Value) (text a rest x : List ℕ) → Spells e at t v text → Spells e at t w a → text ++ rest ≡ a ++ x → (v ≡ w) × (text ≡ a) × (rest ≡ x)
 same_start e t at v w text a rest x h k parts = one_spelling 64 e t at v w text a rest x h k parts
