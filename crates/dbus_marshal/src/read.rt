@@ -226,9 +226,8 @@ pub struct ReadValue {
 /// The error is that of the first break from the left. A field that the bytes
 /// end in is `Short` at its first byte. Of an array, its length comes first,
 /// then the padding ahead of its elements, then whether as many bytes are
-/// there as the length says, and then the elements; memory is taken only for
-/// elements whose bytes are there. Of a text, its bytes come before the zero
-/// byte behind it.
+/// there as the length says, and then the elements. Of a text, its bytes come
+/// before the zero byte behind it.
 pub fn read_value(
     alloc: Global,
     endian: Endian,

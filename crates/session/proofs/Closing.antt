@@ -12,7 +12,7 @@ use Rattle.session.specs.declared.served.Rest.TheVariants as rest
 use Rattle.session.specs.declared.served.Served.{Served}
 use Rattle.session.specs.declared.served.Served.TheVariants as served
 use Rattle.session.specs.Answers.{Outcome, Made}
-use Rattle.session.specs.Connections.{Encloses, EndsAs, Front, Half, HalfUnsaid, Serves, Whole, between}
+use Rattle.session.specs.Connections.{CountsReads, Encloses, EndsAs, Front, Half, HalfUnsaid, Serves, Whole, between}
 use Rattle.session.specs.Items.{IsItem}
 use Rattle.session.specs.Ledger.{Began, Broke, BrokeUnsaid, Grows, World}
 use Rattle.session.specs.Pumps.{CameLast, IsDry, Kept, Pumps, PumpsInto, PumpsOver, Spring}
@@ -25,7 +25,7 @@ enclosed : (u v w x : World) (e l : Exchange) (os : List Outcome) (ps : List (Li
 enclosed u v w x e l os ps a b c =
     subst (λ (z : List (List ℕ)). Grows u (between e os l) z x) (append-nil ps) (grows_on u w x (Made e ∷ os) (Made l ∷ []) ps [] (grows_on u v w (Made e ∷ []) os [] ps a b) c)
 
-module _ (c : Client) (u v w x : World) (entered leaving : Exchange) (encloses : Encloses c entered leaving) (a : Grows u (Made entered ∷ []) [] v) (z : Grows w (Made leaving ∷ []) [] x) where
+module _ (c : Client) (u v w x : World) (entered leaving : Exchange) (encloses : Encloses c entered leaving) (a : Grows u (Made entered ∷ []) [] v) (z : Grows w (Made leaving ∷ []) [] x) (p : v.faults ≡ u.faults) (q : x.faults ≡ w.faults) where
   pub whole : (read : List ℕ) (what : Rest) (s : Standing) → Kept c read what v s w → Whole c read s.rest what u x
   whole read what s k = record {
     room = k.room;
@@ -40,6 +40,7 @@ module _ (c : Client) (u v w x : World) (entered leaving : Exchange) (encloses :
     answers = k.did.answers;
     encloses = encloses;
     grows = enclosed u v w x entered leaving k.did.outcomes k.did.pieces a k.did.grows z;
+    sound = q ∙ (k.did.sound ∙ p);
   }
 
   front : (read : List ℕ) → length read ≤ longest → Began c (first_stage c) v read w → Front c read u x
@@ -58,6 +59,7 @@ module _ (c : Client) (u v w x : World) (entered leaving : Exchange) (encloses :
     answers = b.did.answers;
     encloses = encloses;
     grows = enclosed u v w x entered leaving b.did.outcomes b.did.pieces a b.did.grows z;
+    sound = q ∙ (b.did.sound ∙ p);
   }
 
   half : (read : List ℕ) → length read ≤ longest → Broke c (first_stage c) v read w → Half c read u x
@@ -92,7 +94,7 @@ module _ (c : Client) (u v w x : World) (entered leaving : Exchange) (encloses :
 
   half_unsaid : (read : List ℕ) → length read ≤ longest → BrokeUnsaid c (first_stage c) v read w → HalfUnsaid c read u x
   unfolding half
-  half_unsaid read room b = (half read room b.0, b.1)
+  half_unsaid read room b = (half read room b.0, b.1, q ∙ (b.2 ∙ p))
 
   at_end : (left read : List ℕ) (i j : Spring) → IsDry j → Whole c read left rest.More u x → EndsAs c (ending_at left) read i j u x
   at_end [] read i j dry k = (dry, k)
@@ -113,18 +115,31 @@ module _ (c : Client) (u v w x : World) (entered leaving : Exchange) (encloses :
   over_into (served.Full cost limit) read s i j h last = absurd h
   over_into served.Memory read s i j h last = absurd h
 
-  over_at : (o : Fed) (left read : List ℕ) (s : Standing) (i j : Spring) → u.faults ≤ v.faults → w.faults ≤ x.faults → PumpsOver c o read v s w → CameLast c read → EndsAs c (ending o left) read i j u x
-  over_at fed.More left read s i j p q h last = absurd h
-  over_at (fed.Over met) left read s i j p q h last = over_into met read s i j h last
-  over_at fed.WriteFault left read s i j p q h last = (let r = h.1 in omega arith, half read h.2 h.0, last)
-  over_at fed.Memory left read s i j p q (inl h, room) last = inr (inl (front read room h), last)
-  over_at fed.Memory left read s i j p q (inr h, room) last = inr (inr (half_unsaid read room h), last)
+  over_at : (o : Fed) (left read : List ℕ) (s : Standing) (i j : Spring) → PumpsOver c o read v s w → CameLast c read → EndsAs c (ending o left) read i j u x
+  over_at fed.More left read s i j h last = absurd h
+  over_at (fed.Over met) left read s i j h last = over_into met read s i j h last
+  over_at fed.WriteFault left read s i j h last = (let r = h.1 in omega (arith, r, p, q), half read h.2 h.0, last)
+  over_at fed.Memory left read s i j (inl h, room) last = inr (inl (front read room h), last)
+  over_at fed.Memory left read s i j (inr h, room) last = inr (inr (half_unsaid read room h), last)
+
+  -- an ending at which no read failed
+  counts_none : (r : Served) (i j : Spring) → j.faults ≡ i.faults → CountsReads r i j
+  counts_none served.Ended i j e = e
+  counts_none (served.Cut n) i j e = e
+  counts_none (served.Malformed at rule) i j e = e
+  counts_none (served.LineTooLong at) i j e = e
+  counts_none served.ReadFault i j e = omega (arith, e)
+  counts_none served.WriteFault i j e = e
+  counts_none served.Spent i j e = e
+  counts_none (served.Full cost limit) i j e = e
+  counts_none served.Memory i j e = e
+  counts_none (served.Unbuilt at) i j e = e
 
   -- the pieces ended, or the session was over
-  pub closed : (r : Pumped) (i j : Spring) (s : Standing) → r ≢ pumped.Fault → u.faults ≤ v.faults → w.faults ≤ x.faults → Pumps c r i j v s w → Serves c (ending s.fed s.rest) i j u x
-  closed pumped.Fault i j s ne p q h = absurd (ne refl)
-  closed pumped.End i j s ne p q h = (h.0, h.1, h.2, subst (λ (o : Fed). EndsAs c (ending o s.rest) h.0 i j u x) (sym h.4.1) (at_end s.rest h.0 i j h.4.2 (whole h.0 rest.More s h.4.0)))
-  closed pumped.Over i j s ne p q h = (h.0, h.1, h.2, over_at s.fed s.rest h.0 s i j p q h.4.0 h.4.1)
+  pub closed : (r : Pumped) (i j : Spring) (s : Standing) → r ≢ pumped.Fault → Pumps c r i j v s w → Serves c (ending s.fed s.rest) i j u x
+  closed pumped.Fault i j s ne h = absurd (ne refl)
+  closed pumped.End i j s ne h = (h.0, h.1, counts_none (ending s.fed s.rest) i j h.4.3, subst (λ (o : Fed). EndsAs c (ending o s.rest) h.0 i j u x) (sym h.4.1) (at_end s.rest h.0 i j h.4.2 (whole h.0 rest.More s h.4.0)))
+  closed pumped.Over i j s ne h = (h.0, h.1, counts_none (ending s.fed s.rest) i j h.4.2, over_at s.fed s.rest h.0 s i j h.4.0 h.4.1)
 
   -- a read failed
   pub faulted : (i j : Spring) (s : Standing) → Pumps c pumped.Fault i j v s w → Serves c served.ReadFault i j u x

@@ -1,5 +1,5 @@
 -- A connection over a source: what is read of it, and how it ends.
-use Rattle.std.proofs.Common.{◌≡◌, ◌≢◌, inl, inr, ℕ, List, [], ◌∷◌, ◌++◌, Option, IfSome, Ok, Err, refl, sym, ap, ◌∙◌, subst, arith}
+use Rattle.std.proofs.Common.{◌≡◌, ◌≢◌, inl, inr, ℕ, List, [], ◌∷◌, ◌++◌, Option, IfSome, Ok, Err, refl, sym, ap, ◌∙◌, subst}
 use Rattle.std.specs.Prelude.{◌⊎◌}
 use Rattle.portal_base.specs.Outside.{behind}
 use Rattle.portal_model.specs.declared.reply.Refused.{Refused}
@@ -52,10 +52,10 @@ begun_fresh c x h = subst (λ (s : Standing). s ≡ fresh s.client) (sym h) refl
 -- Enter was not made
 pub serves_refused : (c : Client) (why : Refused) (d e : Seated) (i : Spring) (o : Option (List (List ℕ))) (f : ℕ)
     → ((why ≡ refused.Memory) × (e ≡ d)) ⊎ Asks d (enter c) (Err why) e → Serves c (served_by why) i i (world d o f) (world e o f)
-serves_refused c refused.Memory d e i o f (inl h) = ([], behind_none i.left, omega arith, inl (inl ((refl, refl, refl, refl), h.1)))
-serves_refused c refused.Memory d e i o f (inr a) = ([], behind_none i.left, omega arith, inl (inr ((refl, refl, refl, refl), grows_silent d e (Denied (enter c) refused.Memory ∷ []) o f (asked_err d e (enter c) refused.Memory a), a.answered.cause)))
+serves_refused c refused.Memory d e i o f (inl h) = ([], behind_none i.left, refl, inl (inl ((refl, refl, refl, refl), h.1)))
+serves_refused c refused.Memory d e i o f (inr a) = ([], behind_none i.left, refl, inl (inr ((refl, refl, refl, refl), grows_silent d e (Denied (enter c) refused.Memory ∷ []) o f (asked_err d e (enter c) refused.Memory a), a.answered.cause)))
 serves_refused c (refused.Full now limit) d e i o f (inl h) = (let never : refused.Full now limit ≡ refused.Memory = h.0 in absurd (cc))
-serves_refused c (refused.Full now limit) d e i o f (inr a) = ([], behind_none i.left, omega arith, ((refl, refl, refl, refl), grows_silent d e (Denied (enter c) (refused.Full now limit) ∷ []) o f (asked_err d e (enter c) (refused.Full now limit) a), a.answered.cause))
+serves_refused c (refused.Full now limit) d e i o f (inr a) = ([], behind_none i.left, refl, ((refl, refl, refl, refl), grows_silent d e (Denied (enter c) (refused.Full now limit) ∷ []) o f (asked_err d e (enter c) (refused.Full now limit) a), a.answered.cause))
 
 module _ (c : Client) (x t : Standing) (d0 d1 d2 d3 : Seated) (i j : Spring) (o n : Option (List (List ℕ))) (f k : ℕ) (met : Served) (a : Enters {X = Standing} c.who c.kind d0 (Ok x) d1) (new : x ≡ fresh c) (z : Closes t d2 met d3) where
   pumps_of : (r : Pumped) → Pumps x.client r i j (world d1 o f) t (world d2 n k) → Pumps c r i j (world d1 o f) t (world d2 n k)
@@ -66,10 +66,10 @@ module _ (c : Client) (x t : Standing) (d0 d1 d2 d3 : Seated) (i j : Spring) (o 
       let e = asked_ok d0 d1 (enter c) a.0 a.1 in
       let l = asked_ok d2 d3 Request.Leave z.1.0 z.1.1 in
       subst (λ (y : Served). Serves c y i j (world d0 o f) (world d3 n k)) (sym z.0)
-      (closed c (world d0 o f) (world d1 o f) (world d2 n k) (world d3 n k) e.0 l.0 (e.1, l.1) (grows_silent d0 d1 (Made e.0 ∷ []) o f e.3) (grows_silent d2 d3 (Made l.0 ∷ []) n k l.3) r i j t ne (omega arith) (omega arith) (pumps_of r p))
+      (closed c (world d0 o f) (world d1 o f) (world d2 n k) (world d3 n k) e.0 l.0 (e.1, l.1) (grows_silent d0 d1 (Made e.0 ∷ []) o f e.3) (grows_silent d2 d3 (Made l.0 ∷ []) n k l.3) refl refl r i j t ne (pumps_of r p))
 
   pub serves_faulted : Pumps x.client pumped.Fault i j (world d1 o f) t (world d2 n k) → Serves c served.ReadFault i j (world d0 o f) (world d3 n k)
   serves_faulted p =
       let e = asked_ok d0 d1 (enter c) a.0 a.1 in
       let l = asked_ok d2 d3 Request.Leave z.1.0 z.1.1 in
-      faulted c (world d0 o f) (world d1 o f) (world d2 n k) (world d3 n k) e.0 l.0 (e.1, l.1) (grows_silent d0 d1 (Made e.0 ∷ []) o f e.3) (grows_silent d2 d3 (Made l.0 ∷ []) n k l.3) i j t (pumps_of pumped.Fault p)
+      faulted c (world d0 o f) (world d1 o f) (world d2 n k) (world d3 n k) e.0 l.0 (e.1, l.1) (grows_silent d0 d1 (Made e.0 ∷ []) o f e.3) (grows_silent d2 d3 (Made l.0 ∷ []) n k l.3) refl refl i j t (pumps_of pumped.Fault p)

@@ -47,7 +47,7 @@ answers-append (x ∷ xs) ys s m n os us ps qs (o1, o2, p1, p2, mid, oe, pe, giv
 -- ---- done
 
 pub did_none : (c : Client) (s : Stage) (w : World) → Did c s w [] s w
-did_none c s w = record { items = []; acts = []; outcomes = []; pieces = []; bytes_are = refl; each = refl; phase = refl; answers = (refl, refl, refl); grows = grows_none w }
+did_none c s w = record { items = []; acts = []; outcomes = []; pieces = []; bytes_are = refl; each = refl; phase = refl; answers = (refl, refl, refl); grows = grows_none w; sound = refl }
 
 pub did_on : (c : Client) (s t x : Stage) (u v w : World) (b1 b2 : List ℕ) → Did c s u b1 t v → Did c t v b2 x w → Did c s u (b1 ++ b2) x w
 did_on c s t x u v w b1 b2 a b = record {
@@ -60,11 +60,12 @@ did_on c s t x u v w b1 b2 a b = record {
   phase = b.phase ∙ (ap (λ (p : Phase). phase_after c p b.items) a.phase ∙ sym (phase-append a.items b.items c s.phase));
   answers = answers-append a.acts b.acts s.serial t.serial x.serial a.outcomes b.outcomes a.pieces b.pieces a.answers b.answers;
   grows = grows_on u v w a.outcomes b.outcomes a.pieces b.pieces a.grows b.grows;
+  sound = b.sound ∙ a.sound;
 }
 
 pub did_one : (c : Client) (s t : Stage) (v w : World) (item : List ℕ) (act : Act) (os : List Outcome) (ps : List (List ℕ)) → IsItem c s.phase item act → t.phase ≡ next_phase c s.phase item
-    → Gives act s.serial os ps t.serial → Grows v os ps w → Did c s v item t w
-did_one c s t v w item act os ps is phase gives grows = record {
+    → Gives act s.serial os ps t.serial → Grows v os ps w → w.faults ≡ v.faults → Did c s v item t w
+did_one c s t v w item act os ps is phase gives grows sound = record {
   items = item ∷ [];
   acts = act ∷ [];
   outcomes = os;
@@ -74,17 +75,18 @@ did_one c s t v w item act os ps is phase gives grows = record {
   phase = phase;
   answers = (os, [], ps, [], t.serial, sym (append-nil os), sym (append-nil ps), gives, (refl, refl, refl));
   grows = grows;
+  sound = sound;
 }
 
 -- ---- ends of one act
 
 module _ (act : Act) (serial : ℕ) (os : List Outcome) (v w : Seated) (grew : Grew v os w) (o n : Option (List (List ℕ))) (a b : ℕ) where
   pub act_sent : (ps : List (List ℕ)) (last : ℕ) → Gives act serial os ps last → Sends {X = ℕ} ps (Ok last) o a n b → ActEnds (Ok last) act serial (world v o a) (world w n b)
-  act_sent ps last gives h = (os, ps, gives, record { desk = grew; told = h.0; faults = h.1 })
+  act_sent ps last gives h = (os, ps, gives, record { desk = grew; told = h.0; faults = let same = h.1 in omega arith }, h.1)
 
   pub act_halted : (halt : Halt) (ps : List (List ℕ)) (last : ℕ) → Gives act serial os ps last → SendsPart ps halt o a n b → ActEnds (Err halt) act serial (world v o a) (world w n b)
   act_halted WriteFault ps last gives h = (record { outcomes = os; pieces = ps; written = h.0; last = last; gives = gives; grows = record { desk = grew; told = h.2; faults = h.3 }; short = h.1 }, h.4)
-  act_halted Memory ps last gives h = (record { outcomes = os; pieces = ps; written = []; last = last; gives = gives; grows = record { desk = grew; told = h.0 ∙ onto_none o; faults = let same = h.1 in omega arith }; short = tt }, refl)
+  act_halted Memory ps last gives h = (record { outcomes = os; pieces = ps; written = []; last = last; gives = gives; grows = record { desk = grew; told = h.0 ∙ onto_none o; faults = let same = h.1 in omega arith }; short = tt }, refl, h.1)
 
   -- how pieces that are told ended, and the last serial
   pub act_ends : (r : Result ℕ Halt) (ps : List (List ℕ)) → AreOf (asked_by act) os → ps ≡ pieces_of act serial os → Sends ps r o a n b → IfOk r (λ last. last ≡ serial_past act serial) → ActEnds r act serial (world v o a) (world w n b)
@@ -109,7 +111,7 @@ broke_on c s t u v w b1 b2 a b = record {
 
 pub unsaid_on : (c : Client) (s t : Stage) (u v w : World) (b1 b2 : List ℕ) → Did c s u b1 t v → BrokeUnsaid c t v b2 w → BrokeUnsaid c s u (b1 ++ b2) w
 unfolding broke_on
-unsaid_on c s t u v w b1 b2 a b = (broke_on c s t u v w b1 b2 a b.0, b.1)
+unsaid_on c s t u v w b1 b2 a b = (broke_on c s t u v w b1 b2 a b.0, b.1, b.2 ∙ a.sound)
 
 pub began_on : (c : Client) (s t : Stage) (u v w : World) (b1 b2 : List ℕ) → Did c s u b1 t v → Began c t v b2 w → Began c s u (b1 ++ b2) w
 began_on c s t u v w b1 b2 a b = record {

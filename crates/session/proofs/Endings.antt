@@ -32,6 +32,7 @@ module _ (c : Client) (a b : Spring) (v w : World) (stream read more : List ℕ)
     answers = k.answers;
     encloses = k.encloses;
     grows = k.grows;
+    sound = k.sound;
   })
 
   at_stream : (at : ℕ) (left : List ℕ) → at + length left ≡ length read → at + length (left ++ more) ≡ length stream

@@ -1,6 +1,9 @@
 -- A stream in pieces has the items of the whole.
-use Rattle.std.proofs.Common.{◌≡◌, inl, inr, ℕ, List, [], ◌∷◌, ◌++◌, refl, sym, ap, ◌∙◌, subst}
+use Rattle.std.proofs.Common.{◌≡◌, inl, inr, ℕ, ◌<◌, List, [], ◌∷◌, ◌++◌, length, take, drop, refl, sym, ap, ◌∙◌, subst}
+use Rattle.std.proofs.Math.Seq.{drop-append_seam, take-append_seam}
 use Rattle.std.proofs.lemmas.List.{append-nil, append_assoc}
+use Rattle.std.proofs.lemmas.List.Elements.{All-drop, All-take}
+use Rattle.std.specs.List.{All}
 use Rattle.session.specs.declared.act.Act.{Act}
 use Rattle.session.specs.declared.act.Client.{Client}
 use Rattle.session.specs.declared.phase.Phase.{Phase}
@@ -9,6 +12,7 @@ use Rattle.session.specs.declared.served.Rest.TheVariants as rest
 use Rattle.session.specs.Items.{Items, Remains, joined, phase_after}
 use Rattle.session.specs.Laws.{AreCutAlike, CutBy}
 use Rattle.session.proofs.Doing.{items-append, joined-append, phase-append}
+use Rattle.session.proofs.Finding.{are_found}
 use Rattle.session.proofs.Following.{ends_stay}
 use Rattle.session.proofs.Oneness.{are_one}
 use Rattle.session.proofs.Proving.{nothing}
@@ -41,8 +45,37 @@ cut_on (piece ∷ pieces) c p stream mid left is js xs ys what unseen a (inr (fi
 cut_whole : (c : Client) (p : Phase) (pieces items : List (List ℕ)) (acts : List Act) (left : List ℕ) (what : Rest) (unseen : List (List ℕ)) → CutBy c p [] pieces items acts left what unseen → Items c p (joined pieces) items acts (left ++ joined unseen) what
 cut_whole c p pieces items acts left what unseen h = cut_on pieces c p [] [] left [] items [] acts what unseen (record { bytes = refl; each = refl; remains = nothing p }) h
 
+-- ---- pieces are cut in some way
+
+abbrev Fits : List ℕ → Type 0
+Fits b = All (λ x. x < 256) b
+
+fits_front : (b x y : List ℕ) → b ≡ x ++ y → Fits b → Fits x
+fits_front b x y e h = subst Fits (ap (take (length x)) e ∙ take-append_seam x y) (All-take (λ z. z < 256) (length x) b h)
+
+fits_left : (b x y : List ℕ) → b ≡ x ++ y → Fits b → Fits y
+fits_left b x y e h = subst Fits (ap (drop (length x)) e ∙ drop-append_seam x y) (All-drop (λ z. z < 256) (length x) b h)
+
+abbrev Cutting : Client → Phase → List ℕ → List (List ℕ) → Type 0
+Cutting c p held pieces = (items : List (List ℕ)) × (acts : List Act) × (left : List ℕ) × (what : Rest) × (unseen : List (List ℕ)) × CutBy c p held pieces items acts left what unseen
+
+some_at : (what : Rest) (c : Client) (p : Phase) (held piece : List ℕ) (pieces items : List (List ℕ)) (acts : List Act) (left : List ℕ) → Items c p (held ++ piece) items acts left what → Cutting c (phase_after c p items) left pieces → Cutting c p held (piece ∷ pieces)
+some_at rest.More c p held piece pieces items acts left cut next = (items ++ next.0, acts ++ next.1, next.2, next.3, next.4, inr (items, next.0, acts, next.1, left, refl, refl, cut, next.5))
+some_at (rest.Bad rule) c p held piece pieces items acts left cut next = (items, acts, left, rest.Bad rule, pieces, inl (cut, tt, refl))
+some_at rest.TooLong c p held piece pieces items acts left cut next = (items, acts, left, rest.TooLong, pieces, inl (cut, tt, refl))
+some_at rest.Unbuilt c p held piece pieces items acts left cut next = (items, acts, left, rest.Unbuilt, pieces, inl (cut, tt, refl))
+
+some_on : (pieces : List (List ℕ)) (c : Client) (p : Phase) (held : List ℕ) → Fits (held ++ joined pieces) → Cutting c p held pieces
+some_on [] c p held fits = ([], [], held, rest.More, [], (refl, refl, refl, refl, refl))
+some_on (piece ∷ pieces) c p held fits =
+    let whole : (held ++ piece) ++ joined pieces ≡ held ++ (piece ++ joined pieces) = append_assoc held piece (joined pieces) in
+    let f = are_found c p (held ++ piece) (fits_front _ (held ++ piece) (joined pieces) (sym whole) fits) in
+    let parts : held ++ (piece ++ joined pieces) ≡ joined f.0 ++ (f.2 ++ joined pieces) = sym whole ∙ (ap (λ (z : List ℕ). z ++ joined pieces) f.4.bytes ∙ append_assoc (joined f.0) f.2 (joined pieces)) in
+    some_at f.3 c p held piece pieces f.0 f.1 f.2 f.4 (some_on pieces c (phase_after c p f.0) f.2 (fits_left _ (joined f.0) (f.2 ++ joined pieces) parts fits))
+
 pub cut_alike : AreCutAlike
 cut_alike = record {
+  some = λ c p pieces fits. some_on pieces c p [] fits;
   whole = cut_whole;
   alike = λ c p ps qs is js xs ys q r x y l m e a b.
       let first = cut_whole c p ps is xs q x l a in

@@ -33,7 +33,7 @@ asked_one v w request (Err why) a = (Denied request why ∷ [], (Denied request 
 
 -- nothing is to be written
 pub sends_all : {X : Type 0} (x : X) (o : Option (List (List ℕ))) (f : ℕ) → Sends [] (Ok x) o f o f
-sends_all x o f = (onto_none o, omega arith)
+sends_all x o f = (onto_none o, refl)
 
 after_at : (b : Bool) (n : ℕ) → cond b 1 (n + 1) ≢ 0
 after_at true n = λ z. absurd (omega arith)

@@ -29,7 +29,7 @@ module _ (c : Client) (s t : Stage) (v m w : World) (bytes : List ℕ) (used n :
   -- one item further
   pub stepped : (x : Stage) → ItemEnds c (Ok None) t m (take n (drop used bytes)) x w → Did c s v (take (used + n) bytes) x w
   stepped x (act, means, phase, ends) =
-      let one = did_one c t x m w (take n (drop used bytes)) act ends.0 ends.1 (whole_alone t.phase (drop used bytes) n is, means) phase ends.2 ends.3 in
+      let one = did_one c t x m w (take n (drop used bytes)) act ends.0 ends.1 (whole_alone t.phase (drop used bytes) n is, means) phase ends.2 ends.3 ends.4 in
       subst (λ (b : List ℕ). Did c s v b x w) (sym (take-add used n bytes)) (did_on c s t x v m w (take used bytes) (take n (drop used bytes)) did one)
 
   cut_bytes : bytes ≡ take used bytes ++ (take n (drop used bytes) ++ drop n (drop used bytes))
@@ -52,7 +52,7 @@ module _ (c : Client) (s t : Stage) (v m w : World) (bytes : List ℕ) (used n :
 
   pub broke_unsaid : (act : Act) → Means c t.phase (take n (drop used bytes)) (Ok act) → Unsaid act t.serial m w → BrokeUnsaid c s v bytes w
   unfolding broke
-  broke_unsaid act means h = (broke act means h.0, h.1)
+  broke_unsaid act means h = (broke act means h.0, h.1, h.2 ∙ did.sound)
 
 -- a front, and nothing more
 pub began : (c : Client) (s t : Stage) (v w : World) (bytes : List ℕ) (used : ℕ) → Did c s v (take used bytes) t w → Began c s v bytes w

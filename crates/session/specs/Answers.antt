@@ -1,6 +1,5 @@
 -- What items are answered. A call that dispatch answers itself is answered so, whatever the portal was
--- asked ahead of it; what a host wasn't told yet, which would stand ahead of the answer, is nothing until
--- the permission store is built.
+-- asked; what a host wasn't told yet is nothing until the permission store is built.
 use Rattle.std.specs.Prelude.{◌≡◌, ℕ, ◌+◌, ◌==◌, List, [], ◌∷◌, ◌++◌, if◌then◌else◌, option_to_list, Result, Ok, Err}
 use Rattle.std.specs.List.{flat_map}
 use Rattle.portal_model.specs.declared.reply.Refused.{Refused}

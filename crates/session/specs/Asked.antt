@@ -44,8 +44,8 @@ is_host (Who.App name) = false
 abbrev pub reply_to : Message → OutMessage → Option OutMessage
 reply_to call answer = if expects_reply call then Some answer else None
 
--- A call that dispatch answers itself asks nothing of the portal; a host asks ahead of it for what it was
--- not told yet, also where no reply is expected. What is no call is passed over.
+-- A call that dispatch answers itself asks nothing of the portal; a host's asks for what it was not told yet,
+-- also where no reply is expected. What is no call is passed over.
 abbrev pub act_of_ask : Client → Message → Ask → Result Act ItemError
 act_of_ask c message (ask.Local answer) = Ok (Call (reply_to message answer) (is_host c.who))
 act_of_ask c message ask.Ignore = Ok Nothing

@@ -27,7 +27,7 @@ abbrev pub Encloses : Client → Exchange → Exchange → Type 0
 Encloses c entered left = (entered.entry.request ≡ enter c) × (left.entry.request ≡ Request.Leave)
 
 -- Between Enter and Leave all whole items of what was read, no more bytes than a connection may have, are
--- asked and answered, and behind them stands the rest, which is this.
+-- asked and answered, and behind them stands the rest, which is this. No write failed.
 pub record Whole (c : Client) (read left : List ℕ) (what : Rest) (v w : World) : Type 0 where
   pub room : length read ≤ longest
   pub entered : Exchange
@@ -41,8 +41,9 @@ pub record Whole (c : Client) (read left : List ℕ) (what : Rest) (v w : World)
   pub answers : Answers 0 acts outcomes pieces last
   pub encloses : Encloses c entered leaving
   pub grows : Grows v (between entered outcomes leaving) pieces w
+  pub sound : w.faults ≡ v.faults
 
--- Between Enter and Leave some items of what was read are asked and answered, and nothing more is done.
+-- Between Enter and Leave some items of what was read are asked and answered, and nothing more is done. No write failed.
 pub record Front (c : Client) (read : List ℕ) (v w : World) : Type 0 where
   pub room : length read ≤ longest
   pub entered : Exchange
@@ -58,6 +59,7 @@ pub record Front (c : Client) (read : List ℕ) (v w : World) : Type 0 where
   pub answers : Answers 0 acts outcomes pieces last
   pub encloses : Encloses c entered leaving
   pub grows : Grows v (between entered outcomes leaving) pieces w
+  pub sound : w.faults ≡ v.faults
 
 -- Between Enter and Leave some items of what was read are asked and answered, and then one more is asked,
 -- and answered in part.
@@ -86,9 +88,9 @@ pub record Half (c : Client) (read : List ℕ) (v w : World) : Type 0 where
   pub encloses : Encloses c entered leaving
   pub grows : Grows v (between entered (outcomes ++ last_outcomes) leaving) (pieces ++ written) w
 
--- The same, and nothing of the last answer is written.
+-- The same, and nothing of the last answer is written, and no write failed.
 abbrev pub HalfUnsaid : Client → List ℕ → World → World → Type 0
-HalfUnsaid c read v w = (h : Half c read v w) × (h.written ≡ [])
+HalfUnsaid c read v w = (h : Half c read v w) × (h.written ≡ []) × (w.faults ≡ v.faults)
 
 -- Nothing was read or written, and no read or write failed.
 abbrev pub IsUntouched : List ℕ → Spring → Spring → World → World → Type 0
@@ -99,7 +101,7 @@ abbrev pub IsRefused : Client → Refused → List ℕ → Spring → Spring →
 IsRefused c why read a b v w = IsUntouched read a b v w × Grows v (Denied (enter c) why ∷ []) [] w × HasCause w.seated (enter c) why
 
 -- What each ending means: of what was read, of the source before and after, and of the desk and the sink
--- before and after. Once the session is over no further piece is read.
+-- before and after. Where the session is over, it wasn't so ahead of the last piece.
 abbrev pub EndsAs : Client → Served → List ℕ → Spring → Spring → World → World → Type 0
 -- the input ended between items
 EndsAs c served.Ended read a b v w = IsDry b × Whole c read [] rest.More v w
@@ -122,9 +124,22 @@ EndsAs c (served.Full cost limit) read a b v w = IsRefused c (refused.Full cost 
 -- there was no memory: to ask Enter, for Enter, ahead of an item, or for its answer
 EndsAs c served.Memory read a b v w = ((IsUntouched read a b v w × (w.seated ≡ v.seated)) ⊎ IsRefused c refused.Memory read a b v w) ⊎ ((Front c read v w ⊎ HalfUnsaid c read v w) × CameLast c read)
 
+-- A read that failed is told: at any other ending none did.
+abbrev pub CountsReads : Served → Spring → Spring → Type 0
+CountsReads served.Ended a b = b.faults ≡ a.faults
+CountsReads (served.Cut n) a b = b.faults ≡ a.faults
+CountsReads (served.Malformed at rule) a b = b.faults ≡ a.faults
+CountsReads (served.LineTooLong at) a b = b.faults ≡ a.faults
+CountsReads served.ReadFault a b = a.faults ≤ b.faults
+CountsReads served.WriteFault a b = b.faults ≡ a.faults
+CountsReads served.Spent a b = b.faults ≡ a.faults
+CountsReads (served.Full cost limit) a b = b.faults ≡ a.faults
+CountsReads served.Memory a b = b.faults ≡ a.faults
+CountsReads (served.Unbuilt at) a b = b.faults ≡ a.faults
+
 -- What was read stood ahead of what is left, and the ending means what it says of it.
 abbrev pub Serves : Client → Served → Spring → Spring → World → World → Type 0
-Serves c r a b v w = (read : List ℕ) × (a.left ≡ behind read b.left) × (a.faults ≤ b.faults) × EndsAs c r read a b v w
+Serves c r a b v w = (read : List ℕ) × (a.left ≡ behind read b.left) × CountsReads r a b × EndsAs c r read a b v w
 
 abbrev pub served_by : Refused → Served
 served_by refused.Memory = served.Memory

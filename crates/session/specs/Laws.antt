@@ -61,9 +61,12 @@ CutBy c p held (piece ∷ pieces) items acts left what unseen =
     × (items ≡ first ++ others) × (acts ≡ first_acts ++ other_acts)
     × Items c p (held ++ piece) first first_acts mid rest.More × CutBy c (phase_after c p first) mid pieces others other_acts left what unseen)
 
--- What is cut piece by piece are the items of all the pieces, seen or not, and no others. So however one stream comes
--- in pieces, its items are the same, they ask the same, and the same stands behind them.
+-- Pieces of bytes are cut in some way. What is cut piece by piece are the items of all the pieces, seen or not, and no
+-- others. So however one stream comes in pieces, its items are the same, they ask the same, and the same stands behind
+-- them.
 pub record AreCutAlike : Type 0 where
+  pub some : (c : Client) (p : Phase) (pieces : List (List ℕ)) → All (λ b. b < 256) (joined pieces)
+      → (items : List (List ℕ)) × (acts : List Act) × (left : List ℕ) × (what : Rest) × (unseen : List (List ℕ)) × CutBy c p [] pieces items acts left what unseen
   pub whole : (c : Client) (p : Phase) (pieces items : List (List ℕ)) (acts : List Act) (left : List ℕ) (what : Rest) (unseen : List (List ℕ))
       → CutBy c p [] pieces items acts left what unseen → Items c p (joined pieces) items acts (left ++ joined unseen) what
   pub alike : (c : Client) (p : Phase) (ps qs is js : List (List ℕ)) (xs ys : List Act) (q r : List ℕ) (x y : Rest) (l m : List (List ℕ))

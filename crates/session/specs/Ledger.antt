@@ -66,7 +66,7 @@ SendsPart pieces Memory told faults told' faults' = (told' ≡ told) × (faults'
 
 -- how writing these pieces ended
 abbrev pub Sends : {X : Type 0} → List (List ℕ) → Result X Halt → Option (List (List ℕ)) → ℕ → Option (List (List ℕ)) → ℕ → Type 0
-Sends pieces (Ok x) told faults told' faults' = (told' ≡ onto told pieces) × (faults ≤ faults')
+Sends pieces (Ok x) told faults told' faults' = (told' ≡ onto told pieces) × (faults' ≡ faults)
 Sends pieces (Err halt) told faults told' faults' = SendsPart pieces halt told faults told' faults'
 
 -- these requests, and no others, were asked at a desk
@@ -85,13 +85,13 @@ pub record Halted (act : Act) (serial : ℕ) (v w : World) : Type 0 where
   pub grows : Grows v outcomes written w
   pub short : Short written pieces
 
--- The same, where there was no memory for the answer: nothing of it is written.
+-- The same, where there was no memory for the answer: nothing of it is written, and no write failed.
 abbrev pub Unsaid : Act → ℕ → World → World → Type 0
-Unsaid act serial v w = (h : Halted act serial v w) × (h.written ≡ [])
+Unsaid act serial v w = (h : Halted act serial v w) × (h.written ≡ []) × (w.faults ≡ v.faults)
 
 -- how asking and answering ended
 abbrev pub ActEnds : Result ℕ Halt → Act → ℕ → World → World → Type 0
-ActEnds (Ok last) act serial v w = (outcomes : List Outcome) × (pieces : List (List ℕ)) × Gives act serial outcomes pieces last × Grows v outcomes pieces w
+ActEnds (Ok last) act serial v w = (outcomes : List Outcome) × (pieces : List (List ℕ)) × Gives act serial outcomes pieces last × Grows v outcomes pieces w × (w.faults ≡ v.faults)
 ActEnds (Err WriteFault) act serial v w = Halted act serial v w × HasRisen v.faults w.faults
 ActEnds (Err Memory) act serial v w = Unsaid act serial v w
 
@@ -115,7 +115,7 @@ ItemEnds c (Err Memory) s v item t w = (w ≡ v) ⊎ HaltsAt c Memory s v item w
 
 -- ---- items
 
--- These bytes were items, and each is asked and answered.
+-- These bytes were items, and each is asked and answered. No write failed.
 pub record Did (c : Client) (s : Stage) (v : World) (bytes : List ℕ) (t : Stage) (w : World) : Type 0 where
   pub items : List (List ℕ)
   pub acts : List Act
@@ -126,6 +126,7 @@ pub record Did (c : Client) (s : Stage) (v : World) (bytes : List ℕ) (t : Stag
   pub phase : t.phase ≡ phase_after c s.phase items
   pub answers : Answers s.serial acts outcomes pieces t.serial
   pub grows : Grows v outcomes pieces w
+  pub sound : w.faults ≡ v.faults
 
 -- These bytes begin with items that are asked and answered, and then one that is asked, and answered in part.
 pub record Broke (c : Client) (s : Stage) (v : World) (bytes : List ℕ) (w : World) : Type 0 where
@@ -140,9 +141,9 @@ pub record Broke (c : Client) (s : Stage) (v : World) (bytes : List ℕ) (w : Wo
   pub is_item : IsItem c mid.phase item act
   pub halted : Halted act mid.serial then w
 
--- The same, and nothing of the last answer is written.
+-- The same, and nothing of the last answer is written, and no write failed.
 abbrev pub BrokeUnsaid : Client → Stage → World → List ℕ → World → Type 0
-BrokeUnsaid c s v bytes w = (b : Broke c s v bytes w) × (b.halted.written ≡ [])
+BrokeUnsaid c s v bytes w = (b : Broke c s v bytes w) × (b.halted.written ≡ []) × (w.faults ≡ v.faults)
 
 -- These bytes begin with items that are asked and answered, and nothing more is done.
 pub record Began (c : Client) (s : Stage) (v : World) (bytes : List ℕ) (w : World) : Type 0 where

@@ -39,7 +39,7 @@ pub record Kept (c : Client) (read : List ℕ) (what : Rest) (v : World) (s : St
   pub remains : Remains c s.stage.phase s.rest what
   pub room : length read ≤ longest
 
--- how many bytes are read at a time, at most
+-- how many bytes the last piece has, at most
 abbrev pub longest_piece : ℕ
 longest_piece = 4096
 
@@ -73,9 +73,9 @@ PumpsOver c fed.WriteFault read v s w = Broke c (first_stage c) v read w × HasR
 PumpsOver c fed.Memory read v s w = (Began c (first_stage c) v read w ⊎ BrokeUnsaid c (first_stage c) v read w) × (length read ≤ longest)
 
 abbrev pub PumpsUpTo : Client → Pumped → List ℕ → Spring → Spring → World → Standing → World → Type 0
-PumpsUpTo c pumped.End read a b v s w = Kept c read rest.More v s w × (s.fed ≡ fed.More) × IsDry b
+PumpsUpTo c pumped.End read a b v s w = Kept c read rest.More v s w × (s.fed ≡ fed.More) × IsDry b × (b.faults ≡ a.faults)
 PumpsUpTo c pumped.Fault read a b v s w = Kept c read rest.More v s w × (s.fed ≡ fed.More) × HasRisen a.faults b.faults
-PumpsUpTo c pumped.Over read a b v s w = PumpsOver c s.fed read v s w × CameLast c read
+PumpsUpTo c pumped.Over read a b v s w = PumpsOver c s.fed read v s w × CameLast c read × (b.faults ≡ a.faults)
 
 abbrev pub Pumps : Client → Pumped → Spring → Spring → World → Standing → World → Type 0
 Pumps c r a b v s w = (read : List ℕ) × (a.left ≡ behind read b.left) × (a.faults ≤ b.faults) × (s.client ≡ c) × PumpsUpTo c r read a b v s w

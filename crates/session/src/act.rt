@@ -33,7 +33,7 @@ pub enum Act {
     Call {
         /// The answer, where the call expects one.
         reply: Option<OutMessage>,
-        /// Whether what the host wasn't told yet is asked for ahead of it.
+        /// Whether what the host wasn't told yet is asked for too.
         collects: bool,
     },
     /// A request on a node.

@@ -34,7 +34,7 @@ pub enum Pumped {
     Over,
 }
 
-/// Feeds each piece to the session as it comes, before the next is read.
+/// Feeds the pieces of the source to the session, one after another.
 fn pump<D: Desk, S: Source, K: Sink>(
     alloc: Global,
     session: &mut Session,
@@ -63,8 +63,9 @@ fn pump<D: Desk, S: Source, K: Sink>(
 /// Serves one connection from Enter to Leave.
 ///
 /// Every item is asked and answered as soon as it is whole: an answer is
-/// written before the next piece is read. The desk's seat has no open
-/// connection.
+/// written before the next piece is read, as the test
+/// `an_answer_is_written_before_more_is_read` of `session_tests` shows. The
+/// desk's seat has no open connection.
 pub fn serve_connection<D: Desk, S: Source, K: Sink>(
     alloc: Global,
     desk: &mut D,

@@ -27,8 +27,8 @@ pub fn ends_stay()
     ensures { EndsStay }
 {}
 
-/// What is cut piece by piece, each behind the rest of those before, are the
-/// items of all pieces together, and no others, also where the last of them
+/// Bytes that come in pieces are cut in some way, each piece behind the rest of
+/// those before, and what is cut so are the items of all pieces together, and no others, also where the last of them
 /// aren't looked at. However one stream comes in pieces, its items are the
 /// same, they ask the same, and the same stands behind them.
 pub fn pieces_cut_alike()

@@ -3,8 +3,7 @@
 //! A stream is cut into items: on a bus the zero byte, the lines of the
 //! handshake and then messages (D-Bus Specification, "Authentication Protocol"
 //! and "Message Protocol"), on a mount frames (`include/uapi/linux/fuse.h`).
-//! Each item is asked of a desk, and its answer written, before the next is
-//! looked at.
+//! Each item is asked of a desk and answered, in order.
 #![tactic(auto)]
 
 pub mod act;

@@ -16,7 +16,7 @@ pieces-init g c =
     record {
       long = refl;
       so_far = ([], behind_none _, subst (λ (s : Standing). Kept who [] rest.More v s v) (sym c.requires) (kept_none who v));
-      faults = omega arith;
+      faults = refl;
       still = ap (λ (s : Standing). s.fed) c.requires;
       client_is = refl;
       stays = λ h. h;
@@ -48,7 +48,7 @@ pieces-preserved g c =
     record {
       long = omega arith;
       so_far = (i.so_far.0 ++ piece, left_later i.so_far.0 _ piece _ _ _ i.so_far.1 r.2 c.front.ensures, kept_on who i.so_far.0 piece v m w s c.feed.new.self i.so_far.2 i.client_is rest.More f.0);
-      faults = omega (arith, i.faults, n);
+      faults = n ∙ i.faults;
       still = f.1.0;
       client_is = client_on who i.so_far.0 piece v m w s c.feed.new.self i.so_far.2 i.client_is fed.More f;
       stays = λ h. opens_on s.client who (g.D.Desk.seated c.pieces.desk) (g.D.Desk.seated c.feed.new.desk) i.client_is c.in-More.ensures.stays_open (i.stays h);
@@ -61,7 +61,7 @@ returns-in-End g c =
     let r = c.in-End.ensures.reads in
     let n = c.in-End.ensures.counts in
     record {
-      pumps = (i.so_far.0, left_same i.so_far.0 _ _ _ i.so_far.1 r.0, omega (arith, i.faults, n), i.client_is, (i.so_far.2, i.still, dry_still _ _ r.0 r.1));
+      pumps = (i.so_far.0, left_same i.so_far.0 _ _ _ i.so_far.1 r.0, omega (arith, i.faults, n), i.client_is, (i.so_far.2, i.still, dry_still _ _ r.0 r.1, n ∙ i.faults));
       stays_open = i.stays;
       goes = i.goes;
     }
@@ -91,7 +91,7 @@ returns-in_default g c =
     let few : length piece ≤ 4096 = omega (arith, ap length c.front.ensures, length-take c.in-Got.len c.read.new.buffer, r.1, i.long) in
     let n = c.in-Got.ensures.counts in
     record {
-      pumps = (i.so_far.0 ++ piece, left_later i.so_far.0 _ piece _ _ _ i.so_far.1 r.2 c.front.ensures, omega (arith, i.faults, n), client_on who i.so_far.0 piece v m w s c.feed.new.self i.so_far.2 i.client_is c.feed.result f, (over_on who i.so_far.0 piece v m w s c.feed.new.self i.so_far.2 i.client_is few c.feed.result c.in_default.not-More f, came_last who i.so_far.0 piece v m w s c.feed.new.self i.so_far.2 i.client_is few));
+      pumps = (i.so_far.0 ++ piece, left_later i.so_far.0 _ piece _ _ _ i.so_far.1 r.2 c.front.ensures, omega (arith, i.faults, n), client_on who i.so_far.0 piece v m w s c.feed.new.self i.so_far.2 i.client_is c.feed.result f, (over_on who i.so_far.0 piece v m w s c.feed.new.self i.so_far.2 i.client_is few c.feed.result c.in_default.not-More f, came_last who i.so_far.0 piece v m w s c.feed.new.self i.so_far.2 i.client_is few, n ∙ i.faults));
       stays_open = λ h. opens_on s.client who (g.D.Desk.seated c.pieces.desk) (g.D.Desk.seated c.feed.new.desk) i.client_is c.feed.ensures.stays_open (i.stays h);
       goes = g.met.D.Desk.follows _ _ _ i.goes c.feed.ensures.goes;
     }
