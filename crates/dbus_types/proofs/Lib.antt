@@ -7,5 +7,6 @@ pub mod Again
 pub mod Stops
 pub mod Whole
 pub mod Single
+pub mod Once
 pub mod Ascii
 pub mod Extending
