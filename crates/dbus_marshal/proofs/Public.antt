@@ -1,5 +1,5 @@
 -- What is read is what is spelled.
-use Rattle.std.proofs.Common.{◌≡◌, ℕ, ◌+◌, ◌-◌, ◌≤◌, List, ◌++◌, length, take, drop, Ok, Err, sym, ap, subst, ◌∙◌, arith}
+use Rattle.std.proofs.Common.{◌≡◌, ℕ, ◌+◌, ◌-◌, ◌≤◌, List, ◌++◌, length, take, drop, Result, Ok, Err, sym, ap, subst, ◌∙◌, arith}
 use Rattle.std.proofs.lemmas.Result.{IfOk-at_ok}
 use Rattle.std.proofs.lemmas.List.{take_at}
 use Rattle.dbus_types.specs.declared.types.Endian.{Endian}
@@ -8,10 +8,13 @@ use Rattle.dbus_types.specs.declared.types.Value.{Value}
 use Rattle.dbus_marshal.specs.declared.error.ReadError.{ReadError}
 use Rattle.dbus_marshal.specs.declared.error.ReadError.TheVariants.{Short, Padding, BadBool, BadText, TooLong, BadSignature, TooDeep, BadArray, Memory}
 use Rattle.dbus_marshal.specs.Spells.{Spells}
-use Rattle.dbus_marshal.specs.Reads.{Fails, IsRead, after, reads}
+use Rattle.dbus_marshal.specs.Breaks.{Breaks}
+use Rattle.dbus_marshal.specs.Reads.{Fails, IsRead, IsStopped, IsRefused, after, reads}
 use Rattle.dbus_marshal.proofs.Took.{IsBytes, bytes_after, Took}
 use Rattle.dbus_marshal.proofs.Sound.{reads_took}
 use Rattle.dbus_marshal.proofs.Whole.{reads_again, ok_is}
+use Rattle.dbus_marshal.proofs.Exact.{not_ok, err_is}
+use Rattle.dbus_marshal.proofs.First.{reads_exact}
 use Rattle.std.proofs.lemmas.List.{take-append-drop}
 
 pub is_found : (e : Endian) (t : WireType) (bytes : List ℕ) (at : ℕ) (v : Value) (next : ℕ) → IsBytes bytes → reads 65 e t at (drop at bytes) ≡ Ok (after bytes (v, next))
@@ -44,3 +47,22 @@ pub is_no_error : {X : Type 0} (e : Endian) (t : WireType) (bytes : List ℕ) (a
     → (w : Value) (text rest : List ℕ) → Spells e at t w text → drop at bytes ≡ text ++ rest → (P : X → Type 0) → IsRead (Err d) P
 is_no_error e t bytes at d fails w text rest h parts P =
     never d (w, at + length text, rest) P (subst (Fails d) (ap (reads 65 e t at) parts ∙ reads_again 64 e t at w text rest h) fails)
+
+-- ---- where it goes wrong
+
+tail_bytes : (at : ℕ) (bytes : List ℕ) → IsBytes bytes → IsBytes (drop at bytes)
+tail_bytes at bytes fits = bytes_after (take at bytes) (drop at bytes) (subst IsBytes (sym (take-append-drop at bytes)) fits)
+
+pub is_broken : (X : Type 0) (e : Endian) (t : WireType) (bytes : List ℕ) (at : ℕ) (d : ReadError) → IsBytes bytes → Fails d (reads 65 e t at (drop at bytes)) → IsStopped {X = X} (Err d) (λ error. Breaks e at t (drop at bytes) error)
+is_broken X e t bytes at Memory fits h = tt
+is_broken X e t bytes at d fits h = (reads_exact 64 e t at (drop at bytes) (tail_bytes at bytes fits) d).0 h
+
+pub is_none : (e : Endian) (t : WireType) (bytes : List ℕ) (at : ℕ) (x : Value × ℕ × List ℕ) → IsBytes bytes → reads 65 e t at (drop at bytes) ≡ Ok x → (error : ReadError) → Breaks e at t (drop at bytes) error → ⊥
+is_none e t bytes at x fits is error h = not_ok x error (sym is ∙ (reads_exact 64 e t at (drop at bytes) (tail_bytes at bytes fits) error).1 h)
+
+refused : {Y : Type 0} (X : Type 0) (d error : ReadError) (r : Result Y ReadError) → Fails d r → r ≡ Err error → IsRefused {X = X} error (Err d)
+refused X Memory error r h is = tt
+refused {Y = Y} X d error r h is = err_is {A = Y} d error (sym h ∙ is)
+
+pub is_first : (X : Type 0) (e : Endian) (t : WireType) (bytes : List ℕ) (at : ℕ) (d : ReadError) → IsBytes bytes → Fails d (reads 65 e t at (drop at bytes)) → (error : ReadError) → Breaks e at t (drop at bytes) error → IsRefused {X = X} error (Err d)
+is_first X e t bytes at d fits h error b = refused X d error (reads 65 e t at (drop at bytes)) h ((reads_exact 64 e t at (drop at bytes) (tail_bytes at bytes fits) error).1 b)

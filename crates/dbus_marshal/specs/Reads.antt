@@ -18,7 +18,7 @@ use Rattle.dbus_types.specs.Reading.{whole_at, single_at}
 use Rattle.dbus_types.specs.Types.{alignment}
 use Rattle.dbus_marshal.specs.Spells.{gap}
 pub use Rattle.dbus_marshal.specs.Breaks.{array_error}
-pub use Rattle.dbus_marshal.specs.Reading.{◌>>=◌, Fails, Gives, IsRead, Read, after, place}
+pub use Rattle.dbus_marshal.specs.Reading.{◌>>=◌, Fails, Gives, IsRead, IsStopped, IsRefused, Read, after, place}
 
 -- so many zero bytes
 unfoldable pub zeros : ℕ → ℕ → List ℕ → Result (ℕ × List ℕ) ReadError
