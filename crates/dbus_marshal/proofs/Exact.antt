@@ -1,5 +1,5 @@
 -- Where a step of reading stops is where the bytes go wrong, for the pieces that values are spelled with.
-use Rattle.std.proofs.Common.{◌≡◌, ℕ, zero, suc, ◌+◌, ◌^◌, ◌<◌, ◌≤◌, Bool, true, false, cond, ltb, List, [], ◌∷◌, ◌++◌, length, take, drop, replicate, Result, Ok, Err, refl, sym, ap, subst, ◌∙◌, arith, inl, inr}
+use Rattle.std.proofs.Common.{◌≡◌, ℕ, zero, suc, ◌+◌, ◌^◌, ◌<◌, Bool, true, false, cond, ltb, List, [], ◌∷◌, ◌++◌, length, take, drop, replicate, Result, Ok, Err, refl, sym, ap, subst, ◌∙◌, arith, inl, inr}
 use Rattle.std.specs.Prelude.{◌⊎◌}
 use Rattle.std.proofs.lemmas.Result.{IfOk-at_ok}
 use Rattle.std.proofs.lemmas.Bool.{ltb-true, lt-ltb}
@@ -60,11 +60,14 @@ zeros_halt (suc n) at [] d eq =
     (0, omega arith, inl (refl, sym (err_is {A = ℕ × List ℕ} (Short at) d eq) ∙ ap Short p))
 zeros_halt (suc n) at (zero ∷ bytes) d eq =
     let h = zeros_halt n (at + 1) bytes d eq in
-    let p : at + 1 + h.0 ≡ at + suc h.0 = omega arith in
-    (suc h.0, omega (arith, h.1), elim h.2 [
-      | inl e ↦ inl (ap (λ (w : List ℕ). 0 ∷ w) e.0, e.1 ∙ ap Short p)
-      | inr b ↦ inr (b.0, b.1, ap (λ (w : List ℕ). 0 ∷ w) b.2, b.3 ∙ ap Padding p)
-    ])
+    let p : at + 1 + h.0 ≡ at + suc h.0 = omega arith in (
+      suc h.0,
+      omega (arith, h.1),
+      elim h.2 [
+        | inl e ↦ inl (ap (λ (w : List ℕ). 0 ∷ w) e.0, e.1 ∙ ap Short p)
+        | inr b ↦ inr (b.0, b.1, ap (λ (w : List ℕ). 0 ∷ w) b.2, b.3 ∙ ap Padding p)
+      ],
+    )
 zeros_halt (suc n) at (suc b ∷ bytes) d eq =
     let p : at ≡ at + 0 = omega arith in
     (0, omega arith, inr (b, bytes, refl, sym (err_is {A = ℕ × List ℕ} (Padding at) d eq) ∙ ap Padding p))

@@ -3,7 +3,7 @@ use Rattle.std.proofs.Common.{◌≡◌, ℕ, zero, suc, ◌+◌, ◌<◌, ◌�
 use Rattle.std.specs.Prelude.{◌⊎◌, IfOk}
 use Rattle.std.specs.Int.{w16, w32, w64, cast_signed}
 use Rattle.std.proofs.lemmas.Result.{IfOk-at_ok}
-use Rattle.std.proofs.lemmas.Bool.{ltb-true, ltb-false, lt-ltb, le-ltb, cases_Bool}
+use Rattle.std.proofs.lemmas.Bool.{ltb-true, ltb-false, lt-ltb, le-ltb}
 use Rattle.std.proofs.lemmas.List.{length-append}
 use Rattle.dbus_types.specs.declared.types.Endian.{Endian}
 use Rattle.dbus_types.specs.declared.types.WireType.{WireType, out-WireType}
@@ -22,7 +22,7 @@ use Rattle.dbus_marshal.specs.declared.error.ReadError.{ReadError}
 use Rattle.dbus_marshal.specs.declared.error.ReadError.TheVariants.{BadBool, BadText, TooLong, BadSignature, TooDeep}
 use Rattle.dbus_marshal.specs.Spells.{IsPath, Elements, NoneInside, SpellsWithin}
 use Rattle.dbus_marshal.specs.Breaks.{Break, Never, Ends, Behind, AlignedBreaks, BytesBreak, ZeroBreaks, BoolBreaks, TextBreaks, IsNoSignature, IsNoType, SignatureBreaks, VariantBreaks, MembersBreak, array_error, ElementsBreak, ArrayBreaks, RowBreaks, TooDeepInside, BreaksWithin}
-use Rattle.dbus_marshal.specs.Reads.{◌>>=◌, Read, moved, types_in, type_in, padded, number_at, ended, truth, is_text, is_path_text, ended_with, text_at, numbered, texted, signature_with, signature_at, members, joined, elements, listed, within_array, fixed, flat, layer, reads}
+use Rattle.dbus_marshal.specs.Reads.{◌>>=◌, Read, moved, types_in, type_in, padded, number_at, ended, is_text, is_path_text, ended_with, text_at, numbered, texted, signature_with, signature_at, members, joined, elements, listed, within_array, fixed, flat, layer, reads}
 use Rattle.dbus_marshal.proofs.Took.{Wide, two, four, eight, width, size, IsBytes, bytes_after, Took}
 use Rattle.dbus_marshal.proofs.Plain.{signature_text}
 use Rattle.dbus_marshal.proofs.Words.{text_is, is_text_of, path_is, is_path_of}

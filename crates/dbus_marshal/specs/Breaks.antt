@@ -1,6 +1,6 @@
 -- Where bytes that spell no value of a type from an offset go wrong, and how: D-Bus Specification, "Marshaling (Wire Format)". The fields are looked at from the left: those ahead of the break are spelled, and here one isn't.
 use Rattle.std.specs.Prelude.{◌≡◌, ℕ, zero, suc, ◌+◌, ◌^◌, ◌<◌, ◌≤◌, ◌⊎◌, List, [], ◌∷◌, ◌++◌, length, replicate}
-use Rattle.std.specs.Int.{Width, w16, w32, w64, byte_len}
+use Rattle.std.specs.Int.{Width, w32, byte_len}
 use mir.Val.{bits}
 use Rattle.dbus_types.specs.declared.types.Endian.{Endian}
 use Rattle.dbus_types.specs.declared.types.WireType.{WireType, out-WireType}

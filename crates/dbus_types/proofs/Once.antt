@@ -7,7 +7,7 @@ use Rattle.dbus_types.specs.declared.errors.SignatureError.{SignatureError}
 use Rattle.dbus_types.specs.declared.errors.SignatureError.TheVariants.{BadSignature, TooDeep, Memory}
 use Rattle.dbus_types.specs.Types.{type_text, IsComplete, IsValidType}
 use Rattle.dbus_types.specs.Reading.{whole_at, single_at}
-use Rattle.dbus_types.specs.Breaks.{Begins, BeginsOne, IsBadAt, IsTooDeepAt, IsNoTypeAt, IsTypeTooDeepAt, IsChecked, IsSingleReading}
+use Rattle.dbus_types.specs.Breaks.{Begins, BeginsOne, IsBadAt, IsTooDeepAt, IsNoTypeAt, IsTypeTooDeepAt, IsChecked}
 use Rattle.dbus_types.proofs.Stops.{Kinds, error_place}
 use Rattle.dbus_types.proofs.Whole.{begins_as, checked_none, short_reading, reading_checked, stops_no_memory}
 use Rattle.dbus_types.proofs.Single.{single_reading, single_no_memory}
@@ -38,10 +38,13 @@ module _ (text : List ℕ) (short : length text ≤ 255) where
   )
 
   goes_to : (e : SignatureError) → IsChecked text (Err e) → Begins IsValidType (take (error_place e) text) × (error_place e ≤ length text)
-  goes_to (BadSignature k) h = (h.0, elim h.1 [
-    | inl long ↦ absurd (omega (arith, long.1, short))
-    | inr x ↦ elim x [ inl end ↦ omega (arith, end.0) | inr byte ↦ omega (arith, byte.0) ]
-  ])
+  goes_to (BadSignature k) h = (
+    h.0,
+    elim h.1 [
+      | inl long ↦ absurd (omega (arith, long.1, short))
+      | inr x ↦ elim x [ inl end ↦ omega (arith, end.0) | inr byte ↦ omega (arith, byte.0) ]
+    ],
+  )
   goes_to (TooDeep k) h = (h.2, omega (arith, h.0))
   goes_to Memory h = absurd h
 
