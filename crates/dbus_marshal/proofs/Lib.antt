@@ -14,3 +14,5 @@ pub mod Keeps
 pub mod Plain
 pub mod Every
 pub mod SpelledType
+pub mod Exact
+pub mod First

@@ -1,14 +1,12 @@
 -- Signatures in values.
-use Rattle.std.proofs.Common.{◌≡◌, ℕ, ◌≤◌, List, [], ◌∷◌, length, Result, Ok, Err, refl, sym, subst, ◌∙◌, append-nil}
+use Rattle.std.proofs.Common.{◌≡◌, ℕ, ◌≤◌, List, length, Result, Ok, Err, refl, subst}
 use Rattle.std.specs.Prelude.{IfOk}
-use Rattle.std.proofs.lemmas.List.Elements.{All-head, All-cons, All-nil}
 use Rattle.dbus_types.specs.declared.errors.SignatureError.{SignatureError}
 use Rattle.dbus_types.specs.declared.types.WireType.{WireType}
 use Rattle.dbus_types.specs.Reading.{whole_at, single_at}
-use Rattle.dbus_types.specs.Types.{type_text, IsValidType, IsVariantType, IsSignature}
+use Rattle.dbus_types.specs.Types.{type_text, IsVariantType, IsSignature}
 use Rattle.dbus_types.proofs.Whole.{short_reading, whole_again}
 use Rattle.dbus_types.proofs.Single.{single_reading, single_again}
-use Rattle.dbus_marshal.specs.declared.error.ReadError.{ReadError}
 use Rattle.dbus_marshal.specs.Reads.{moved, types_in, type_in}
 
 listed_is : (text : List ℕ) (ts : List WireType) → whole_at 32 32 text ≡ Ok ts → length text ≤ 255 → IsSignature ts text

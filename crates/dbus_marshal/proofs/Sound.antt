@@ -202,7 +202,7 @@ module _ (r : WireType → ℕ → List ℕ → Read Value) (S : WireType → �
   layer_took e WireType-F.Variant at bytes fits = variant_took e at bytes fits
   layer_took e t at bytes fits = flat_took e t at bytes fits
 
-none_took : (e : Endian) (t : WireType) (at : ℕ) (bytes : List ℕ) → IfOk (reads 0 e t at bytes) (λ x. Took (NoneInside t at x.0) at bytes x.1 x.2)
+pub none_took : (e : Endian) (t : WireType) (at : ℕ) (bytes : List ℕ) → IfOk (reads 0 e t at bytes) (λ x. Took (NoneInside t at x.0) at bytes x.1 x.2)
 unfolding reads
 none_took e t at bytes = tt
 

@@ -155,7 +155,7 @@ number_below Big two bytes fits = omega (arith, fits 0, fits 1)
 number_below Big four bytes fits = omega (arith, fits 0, fits 1, fits 2, fits 3)
 number_below Big eight bytes fits = omega (arith, fits 0, fits 1, fits 2, fits 3, fits 4, fits 5, fits 6, fits 7)
 
-len_is : (k : Wide) → byte_len (width k) ≡ size k
+pub len_is : (k : Wide) → byte_len (width k) ≡ size k
 len_is two = refl
 len_is four = refl
 len_is eight = refl

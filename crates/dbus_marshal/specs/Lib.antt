@@ -1,4 +1,5 @@
 pub mod Reading
 pub mod Spells
+pub mod Breaks
 pub mod Reads
 pub mod Spelling

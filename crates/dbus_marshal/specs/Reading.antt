@@ -25,6 +25,18 @@ IsRead (Ok x) P = P x
 IsRead (Err Memory) P = Unit {0}
 IsRead (Err e) P = ⊥
 
+-- What was answered is such an error, unless something was read or memory ran out.
+abbrev pub IsStopped : {X : Type 0} → Result X ReadError → (ReadError → Type 0) → Type 0
+IsStopped (Ok x) P = Unit {0}
+IsStopped (Err Memory) P = Unit {0}
+IsStopped (Err e) P = P e
+
+-- This error was answered, unless memory ran out.
+abbrev pub IsRefused : {X : Type 0} → ReadError → Result X ReadError → Type 0
+IsRefused error (Ok x) = ⊥
+IsRefused error (Err Memory) = Unit {0}
+IsRefused error (Err e) = e ≡ error
+
 -- a reader's answer: what was read, the offset after it, and the bytes from there on
 abbrev pub Read : Type 0 → Type 0
 Read X = Result (X × ℕ × List ℕ) ReadError

@@ -10,14 +10,15 @@ use Rattle.dbus_types.specs.declared.types.WireType.TheOpen.{WireType-F}
 use Rattle.dbus_types.specs.declared.types.Value.{Value}
 use Rattle.dbus_types.specs.declared.types.Value.TheVariants as V
 use Rattle.dbus_marshal.specs.declared.error.ReadError.{ReadError}
-use Rattle.dbus_marshal.specs.declared.error.ReadError.TheVariants.{Short, Padding, BadBool, BadText, TooLong, BadSignature, TooDeep, BadArray, Memory}
+use Rattle.dbus_marshal.specs.declared.error.ReadError.TheVariants.{Short, Padding, BadBool, BadText, TooLong, BadSignature, TooDeep, Memory}
 use Rattle.dbus_types.specs.declared.errors.SignatureError.{SignatureError}
 use Rattle.dbus_types.specs.declared.errors.SignatureError.TheVariants as Stop
 use Rattle.dbus_types.specs.Names.{is_path}
 use Rattle.dbus_types.specs.Reading.{whole_at, single_at}
 use Rattle.dbus_types.specs.Types.{alignment}
 use Rattle.dbus_marshal.specs.Spells.{gap}
-pub use Rattle.dbus_marshal.specs.Reading.{◌>>=◌, Fails, Gives, IsRead, Read, after, place}
+pub use Rattle.dbus_marshal.specs.Breaks.{array_error}
+pub use Rattle.dbus_marshal.specs.Reading.{◌>>=◌, Fails, Gives, IsRead, IsStopped, IsRefused, Read, after, place}
 
 -- so many zero bytes
 unfoldable pub zeros : ℕ → ℕ → List ℕ → Result (ℕ × List ℕ) ReadError
@@ -149,11 +150,6 @@ elements zero r at (b ∷ bytes) = Err (Short at)
 elements (suc n) r at (b ∷ bytes) = do
   first ← r at (b ∷ bytes)
   listed (first.0 ∷ []) (elements n r first.1 first.2)
-
--- Where the bytes end inside an array, they end at its length.
-abbrev pub array_error : ReadError → ReadError
-array_error (Short at) = BadArray at
-array_error e = e
 
 abbrev pub within_array : {X : Type 0} → Result X ReadError → Result X ReadError
 within_array (Ok x) = Ok x

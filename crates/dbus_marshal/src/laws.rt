@@ -2,10 +2,13 @@
 //!
 //! Source: D-Bus Specification, "Marshaling (Wire Format)".
 
-ghost use Rattle.std.specs.Prelude.{◌≤◌, ℕ, length};
+ghost use Rattle.std.specs.Prelude.{◌≡◌, ◌<◌, ◌≤◌, ◌⊎◌, ℕ, List, ◌++◌, All, length};
 ghost use Rattle.dbus_types.specs.declared.types.Value.{Value as Value'};
 ghost use Rattle.dbus_types.specs.declared.types.Endian.{Endian as Endian'};
+ghost use Rattle.dbus_types.specs.declared.types.WireType.{WireType as WireType'};
 ghost use Rattle.dbus_types.specs.Values.{type_of, KeepsRules};
+ghost use Rattle.dbus_marshal.specs.declared.error.ReadError.{ReadError as ReadError'};
+ghost use Rattle.dbus_marshal.specs.Breaks.{Breaks};
 ghost use Rattle.dbus_marshal.specs.Spells.{Spells};
 ghost use Rattle.dbus_marshal.specs.Spelling.{spelling};
 
@@ -15,4 +18,15 @@ ghost use Rattle.dbus_marshal.specs.Spelling.{spelling};
 pub fn every_value_is_spelled()
     ensures { (endian : Endian') (at : ℕ) (value : Value') → KeepsRules value → length (spelling endian at value) ≤ 67_108_864
         → Spells endian at (type_of value) value (spelling endian at value) }
+{}
+
+/// Bytes begin with the spelling of a value of a type, or go wrong first in
+/// one way, and not both, from each offset and in either order of bytes.
+pub fn bytes_are_spelled_or_break()
+    ensures either { (endian : Endian') (at : ℕ) (kind : WireType') (bytes : List ℕ) → All (λ b. b < 256) bytes
+        → ((value : Value') × (text rest : List ℕ) × (bytes ≡ text ++ rest) × Spells endian at kind value text) ⊎ ((error : ReadError') × Breaks endian at kind bytes error) }
+    ensures once { (endian : Endian') (at : ℕ) (kind : WireType') (bytes : List ℕ) (error other : ReadError') → All (λ b. b < 256) bytes
+        → Breaks endian at kind bytes error → Breaks endian at kind bytes other → error ≡ other }
+    ensures not_both { (endian : Endian') (at : ℕ) (kind : WireType') (value : Value') (text rest : List ℕ) (error : ReadError') → All (λ b. b < 256) (text ++ rest)
+        → Spells endian at kind value text → Breaks endian at kind (text ++ rest) error → ⊥ }
 {}

@@ -8,8 +8,10 @@ ghost use Rattle.dbus_types.specs.declared.types.WireType.{out-WireType};
 ghost use Rattle.dbus_types.specs.declared.types.WireType.TheOpen.{WireType-F};
 ghost use Rattle.dbus_types.specs.Types.{IsValidType};
 ghost use Rattle.dbus_types.specs.Values.{type_of, KeepsRules};
+ghost use Rattle.dbus_marshal.specs.declared.error.ReadError.{ReadError as ReadError'};
 ghost use Rattle.dbus_marshal.specs.Spells.{Spells};
-ghost use Rattle.dbus_marshal.specs.Reads.{Gives, IsRead, after, layer, members, elements, reads};
+ghost use Rattle.dbus_marshal.specs.Breaks.{Breaks};
+ghost use Rattle.dbus_marshal.specs.Reads.{Gives, IsRead, IsStopped, IsRefused, after, layer, members, elements, reads};
 
 use crate::error::ReadError;
 use crate::fields::{array_error, byte_at, ended, number_32, skip_padding, taken};
@@ -244,8 +246,10 @@ pub fn read_value(
         → IsRead result (λ r. (r.value ≡ value) × (r.next ≡ at + length text)) }
     // What is read has the type, and keeps the rules of values: each stands in at most 64 others, among them.
     ensures keeps { IsValidType kind.now → IfOk result (λ r. (type_of r.value ≡ kind.now) × KeepsRules r.value) }
-    // Which break it is.
-    ensures exact { Gives (λ r. after bytes.now (r.value, r.next)) result (reads 65 endian kind.now at (drop at bytes.now)) }
+    // What is refused goes wrong so.
+    ensures broken { IsStopped result (λ error. Breaks endian at kind.now (drop at bytes.now) error) }
+    // What goes wrong so is refused for just this, unless memory runs out.
+    ensures first { (error : ReadError') → Breaks endian at kind.now (drop at bytes.now) error → IsRefused error result }
 {
     let (value, next) = read_within(alloc, endian, bytes, at, kind, MOST_VALUES)?;
     Ok(ReadValue { value, next })

@@ -7,6 +7,7 @@ pub mod Again
 pub mod Stops
 pub mod Whole
 pub mod Single
+pub mod Once
 pub mod Ascii
 pub mod Extending
 pub mod Within

@@ -1,5 +1,5 @@
 -- What the text of one type is read as, and where the reading stops.
-use Rattle.std.proofs.Common.{◌≡◌, ℕ, ◌+◌, ◌<◌, ◌≤◌, List, [], ◌∷◌, ◌++◌, length, get_or, drop, Result, Ok, Err, refl, sym, ap, subst, ◌∙◌, append_assoc, append-nil, drop-cons, arith, inl, inr}
+use Rattle.std.proofs.Common.{◌≡◌, ℕ, ◌+◌, ◌<◌, ◌≤◌, List, [], ◌∷◌, ◌++◌, length, drop, Result, Ok, Err, refl, sym, ap, subst, ◌∙◌, append_assoc, append-nil, drop-cons, arith, inl, inr}
 use Rattle.std.proofs.lemmas.List.{length-append}
 use Rattle.std.proofs.Math.ListN.{drop_of_length-le}
 use Rattle.dbus_types.specs.declared.types.WireType.{WireType}
@@ -84,6 +84,28 @@ single_reading text r is = subst (IsSingleReading text) is (through (Outcome (Fi
     last : (t : WireType) (next : ℕ) (rest : List ℕ) → Took (Fits 32 32) 0 text t next rest → single_at 32 32 text ≡ alone t next rest → IsSingleReading text (alone t next rest)
     last t next [] tk eq = (tk.holds, tk.parts ∙ append-nil (type_text t))
     last t next (b ∷ r) tk eq = second_stops text t next b r tk
+
+abbrev failed : SignatureError → Result WireType SignatureError
+failed e = Err e
+
+pub single_no_memory : (text : List ℕ) → single_at 32 32 text ≡ Err Memory → ⊥
+single_no_memory text is = through (Outcome (Fits 32 32) Any 0 text) (λ x. x ≡ Err Memory → ⊥) (type_at 32 32 0 text) (λ t. alone t.0 t.1 t.2) (type_out 32 32 0 text)
+    (λ t tk. behind t.0 t.1 t.2)
+    (λ e s eq. halts e s.front s.rest s.ends eq) is
+  where
+    NoMemory : Result WireType SignatureError → Type 0
+    NoMemory (Err Memory) = ⊥
+    NoMemory r = Unit {0}
+
+    behind : (t : WireType) (next : ℕ) (rest : List ℕ) → alone t next rest ≡ Err Memory → ⊥
+    behind t next [] eq = subst NoMemory eq tt
+    behind t next (b ∷ r) eq = subst NoMemory eq tt
+
+    halts : (e : SignatureError) (front rest : List ℕ) → After e (Fits 32 32) Any front rest → failed e ≡ Err Memory → ⊥
+    halts (BadSignature at) front rest h eq = subst NoMemory eq tt
+    halts (TooDeep at) front rest h eq = subst NoMemory eq tt
+    halts Memory front [] h eq = h
+    halts Memory front (b ∷ r) h eq = h.0
 
 -- ---- the reader
 

@@ -130,7 +130,7 @@ any_complete t h = h.2.0
 pub complete_any : (t : WireType) → IsComplete t → Any t
 complete_any t h = (arrays_deep t, brackets_deep t, (h, omega arith, omega arith))
 
-begins_as : (P Q : Kinds) (front : List ℕ) → ((t : WireType) → P t → Q t) → Begins P front → Begins Q front
+pub begins_as : (P Q : Kinds) (front : List ℕ) → ((t : WireType) → P t → Q t) → Begins P front → Begins Q front
 begins_as P Q front f h = (h.0, h.1, (λ k u lt. f _ (h.2 k u lt)), h.3)
 
 pub front_taken : (text front rest : List ℕ) (at : ℕ) → text ≡ front ++ rest → at ≡ length front → take at text ≡ front
@@ -234,12 +234,12 @@ checked_reading text Memory h = absurd h
 
 -- ---- the check
 
-reading_checked : (text : List ℕ) (e : SignatureError) → (e ≡ Memory → ⊥) → IsReading text (Err e) → IsChecked text (Err e)
+pub reading_checked : (text : List ℕ) (e : SignatureError) → (e ≡ Memory → ⊥) → IsReading text (Err e) → IsChecked text (Err e)
 reading_checked text (BadSignature at) no_memory h = h
 reading_checked text (TooDeep at) no_memory h = h
 reading_checked text Memory no_memory h = absurd (no_memory refl)
 
-stops_no_memory : (text : List ℕ) (e : SignatureError) → whole_at 32 32 text ≡ Err e → e ≡ Memory → ⊥
+pub stops_no_memory : (text : List ℕ) (e : SignatureError) → whole_at 32 32 text ≡ Err e → e ≡ Memory → ⊥
 stops_no_memory text e is m = go (subst (ListOut 32 32 text []) (is ∙ ap (λ (d : SignatureError). Err d) m) (whole_out text))
   where
     go : ListStops Memory text (Fits 32 32) Any → ⊥
