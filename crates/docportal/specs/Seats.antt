@@ -1,10 +1,11 @@
 -- What the sessions of a script ask of its portal.
 use Rattle.std.specs.Prelude.{◌≡◌, ℕ, ◌+◌, ◌*◌, ◌≤◌, Bool, true, false, List, [], ◌++◌, length, Some}
+use Rattle.std.specs.List.{sum_by}
 use Rattle.portal_base.specs.Devices.{SinkState}
 use Rattle.portal_core.specs.Lending.{seated_at}
 use Rattle.portal_core.specs.Story.{Story, state_now}
 use Rattle.portal_model.specs.declared.request.Request.{Request}
-use Rattle.portal_model.specs.History.{cost}
+use Rattle.portal_model.specs.History.{cost, cost_of}
 use Rattle.portal_model.specs.Opening.{opened}
 use Rattle.portal_model.specs.Seated.{Seated}
 use Rattle.session.specs.declared.served.Rest.{Rest}
@@ -37,15 +38,12 @@ abbrev pub HearsAt : Story → Story → ℕ → Standing → List ℕ → Rest 
 HearsAt old new seat at bytes what pieces now =
     (requests : List Request) × Hears (state_now old) seat at bytes what requests pieces now × Asked old new seat requests
 
--- From the one portal to the other the seat asked these requests, of which so many were refused, and no others.
--- None is refused for a full history, and what is new in it costs at most eight times these bytes.
-pub record Unfilled (old new : Story) (seat refusals : ℕ) (bytes : List ℕ) : Type 0 where
-  pub requests : List Request
-  pub outcomes : List Outcome
-  pub asked : AreOf requests outcomes
-  pub grew : Grew (known_at old seat 0) outcomes (known_at new seat refusals)
-  pub none_full : NoneIsFull outcomes
+-- The seat asked what these bytes ask: what is new in the history costs at most eight times the bytes, and whatever
+-- became of requests that cost no more than that, none is refused for a full history.
+pub record Unfilled (old new : Story) (seat : ℕ) (bytes : List ℕ) : Type 0 where
   pub grown : cost new.history ≤ cost old.history + 8 * length bytes
+  pub none_full : (refusals : ℕ) (requests : List Request) (outcomes : List Outcome) → AreOf requests outcomes → sum_by cost_of requests ≤ 8 * length bytes
+      → Grew (known_at old seat 0) outcomes (known_at new seat refusals) → NoneIsFull outcomes
 
 -- an item that breaks a rule, or a line that is too long
 abbrev pub IsEnd : Rest → Type 0
