@@ -1,9 +1,10 @@
 -- One level of reading.
-use Rattle.std.proofs.Common.{◌≡◌, ℕ, zero, suc, ◌-◌, List, refl, sym, ap, ◌∙◌, arith}
+use Rattle.std.proofs.Common.{◌≡◌, ℕ, zero, suc, ◌-◌, List, Err, refl, sym, ap, ◌∙◌, arith}
 use Rattle.dbus_types.specs.declared.types.Endian.{Endian}
 use Rattle.dbus_types.specs.declared.types.WireType.{WireType, out-WireType, roll-WireType, the_lemmas}
 use Rattle.dbus_types.specs.declared.types.WireType.TheOpen.{WireType-F}
 use Rattle.dbus_types.specs.declared.types.WireType.TheVariants as W
+use Rattle.dbus_marshal.specs.declared.error.ReadError.TheVariants.{TooDeep}
 use Rattle.dbus_marshal.specs.Reads.{fixed, flat, layer, reads}
 
 roll_out : (t : WireType) → roll-WireType (out-WireType t) ≡ t
@@ -39,9 +40,9 @@ pub flat_fixed : (e : Endian) (t : WireType) (at : ℕ) (bytes : List ℕ) → (
     → flat e (out-WireType t) at bytes ≡ fixed e (out-WireType t) at bytes
 flat_fixed e t at bytes a b c d g = other_layer e (out-WireType t) at bytes (λ h. a (sym (roll_out t) ∙ h)) (λ h. b (sym (roll_out t) ∙ h)) (λ h. c (sym (roll_out t) ∙ h)) (λ h. d (sym (roll_out t) ∙ h)) (λ h. g (sym (roll_out t) ∙ h))
 
-pub reads_flat : (n : ℕ) (e : Endian) (t : WireType) (at : ℕ) (bytes : List ℕ) → n ≡ 0 → reads n e t at bytes ≡ flat e (out-WireType t) at bytes
+pub reads_none : (n : ℕ) (e : Endian) (t : WireType) (at : ℕ) (bytes : List ℕ) → n ≡ 0 → reads n e t at bytes ≡ Err (TooDeep at)
 unfolding reads
-reads_flat n e t at bytes is = rw is refl
+reads_none n e t at bytes is = rw is refl
 
 pub reads_more : (n : ℕ) (e : Endian) (t : WireType) (at : ℕ) (bytes : List ℕ) → (n ≡ 0 → ⊥) → reads n e t at bytes ≡ layer (reads (n - 1) e) e (out-WireType t) at bytes
 unfolding reads

@@ -18,7 +18,7 @@ use Rattle.dbus_types.specs.declared.roles.Role.{Role}
 use Rattle.dbus_types.specs.Types.{role, alignment, type_text, arrays_deep, brackets_deep, Fits, IsVariantType}
 use Rattle.dbus_types.specs.Values.{type_of, IsText, LeafKeeps, ValueKeeps, KeepsWithin, KeepsRules}
 use Rattle.dbus_types.proofs.Fitting.{Stands, ElementFits, fits_element, fits_array, fits_struct, element_entry, element_fits, array_complete, struct_complete}
-use Rattle.dbus_marshal.specs.Spells.{number, gap, bit, IsPath, Aligned, BoolRow, NumberRow, TextRow, ArrayRow, StructRow, EntryRow, Members, Elements, Flat, Row, SpellsWithin, Spells}
+use Rattle.dbus_marshal.specs.Spells.{number, gap, bit, IsPath, Aligned, BoolRow, NumberRow, TextRow, ArrayRow, StructRow, EntryRow, Members, Elements, Flat, Row, NoneInside, SpellsWithin, Spells}
 use Rattle.dbus_marshal.specs.Spelling.{aligned, in_row, text_body, array_body, Spelled, spell_step, spelled, spelling, spellings}
 use Rattle.dbus_marshal.proofs.Keeps.{type_byte, type_bool, type_i16, type_u16, type_i32, type_u32, type_i64, type_u64, type_double, type_handle, type_str, type_path, type_signature, type_variant, type_array, type_struct, type_entry, rolls_struct, rolls_entry}
 use Rattle.dbus_marshal.proofs.Same.{roll_byte, roll_bool, roll_i16, roll_u16, roll_i32, roll_u32, roll_i64, roll_u64, roll_double, roll_handle, roll_str, roll_path, roll_signature, roll_variant, roll_array, roll_struct, roll_entry, one_byte, spells_same}
@@ -265,7 +265,7 @@ roll_out v = let e : roll-Value (out-Value v) ≡ v = search the_lemmas in sym e
 
 within_has : (n : ℕ) (e : Endian) (at : ℕ) (v : Value) → KeepsWithin n v → Stands (role (type_of v)) → Small (spelling e at v) → SpellsWithin n e (type_of v) at v (spelling e at v)
 unfolding KeepsWithin SpellsWithin
-within_has zero e at v h k small = flat_has e at v (out-Value v) (roll_out v) h small
+within_has zero e at v h k small = value_has NoneInside (λ inside. ⊥) e (λ at v h. absurd h) (λ t at v text h. absurd h) at v (out-Value v) (roll_out v) h k small
 within_has (suc n) e at v h k small = value_has (SpellsWithin n e) (KeepsWithin n) e (within_has n e) (λ t at v text h. (spells_same n e t at v text h).1) at v (out-Value v) (roll_out v) h k small
 
 pub every_spelled : (e : Endian) (at : ℕ) (v : Value) → KeepsRules v → Small (spelling e at v) → Spells e at (type_of v) v (spelling e at v)

@@ -13,7 +13,7 @@ use Rattle.dbus_types.specs.declared.types.Value.TheOpen.{Value-F}
 use Rattle.dbus_types.specs.declared.types.Value.TheVariants as V
 use Rattle.dbus_types.specs.Types.{IsValidType, IsVariantType}
 use Rattle.dbus_types.specs.Values.{type_of, LeafKeeps, ValueKeeps, KeepsWithin, KeepsRules}
-use Rattle.dbus_marshal.specs.Spells.{Members, Elements, Flat, Row, SpellsWithin, Spells}
+use Rattle.dbus_marshal.specs.Spells.{Members, Elements, Flat, Row, NoneInside, SpellsWithin, Spells}
 
 out_byte : (n : ℕ) → out-Value (V.Byte n) ≡ Value-F.Byte n
 out_byte n = search the_lemmas
@@ -192,7 +192,7 @@ module _ (S : WireType → ℕ → Value → List ℕ → Type 0) (Inside : Valu
 
 within_keeps : (n : ℕ) (e : Endian) (t : WireType) (at : ℕ) (v : Value) (text : List ℕ) → SpellsWithin n e t at v text → KeepsWithin n v × (type_of v ≡ t)
 unfolding SpellsWithin KeepsWithin
-within_keeps zero e t at v text h = let a = flat_keeps e (out-WireType t) at v text h in (a.0, a.1 ∙ roll_out t)
+within_keeps zero e t at v text h = let a = row_keeps NoneInside (λ inside. ⊥) (λ t at v text h. absurd h) e (out-WireType t) at v text h in (a.0, a.1 ∙ roll_out t)
 within_keeps (suc n) e t at v text h = let a = row_keeps (SpellsWithin n e) (KeepsWithin n) (within_keeps n e) e (out-WireType t) at v text h in (a.0, a.1 ∙ roll_out t)
 
 -- What is spelled keeps the rules of values, where its type keeps those of types.

@@ -13,3 +13,4 @@ pub mod Same
 pub mod Keeps
 pub mod Plain
 pub mod Every
+pub mod SpelledType

@@ -14,7 +14,7 @@ use Rattle.dbus_marshal.proofs.Sound.{reads_took}
 use Rattle.dbus_marshal.proofs.Whole.{reads_again, ok_is}
 use Rattle.std.proofs.lemmas.List.{take-append-drop}
 
-pub is_found : (e : Endian) (t : WireType) (bytes : List ℕ) (at : ℕ) (v : Value) (next : ℕ) → IsBytes bytes → reads 64 e t at (drop at bytes) ≡ Ok (after bytes (v, next))
+pub is_found : (e : Endian) (t : WireType) (bytes : List ℕ) (at : ℕ) (v : Value) (next : ℕ) → IsBytes bytes → reads 65 e t at (drop at bytes) ≡ Ok (after bytes (v, next))
     → (at ≤ next) × Spells e at t v (take (next - at) (drop at bytes))
 is_found e t bytes at v next fits is =
     let tail : IsBytes (drop at bytes) = bytes_after (take at bytes) (drop at bytes) (subst IsBytes (sym (take-append-drop at bytes)) fits) in
@@ -23,10 +23,10 @@ is_found e t bytes at v next fits is =
     let front : take (next - at) (drop at bytes) ≡ k.text = ap (λ (w : List ℕ). take (next - at) w) k.parts ∙ take_at k.text (drop next bytes) (next - at) len in
     (omega (arith, k.place), subst (Spells e at t v) (sym front) k.holds)
 
-pub is_only : (e : Endian) (t : WireType) (bytes : List ℕ) (at : ℕ) (v : Value) (next : ℕ) → reads 64 e t at (drop at bytes) ≡ Ok (after bytes (v, next))
+pub is_only : (e : Endian) (t : WireType) (bytes : List ℕ) (at : ℕ) (v : Value) (next : ℕ) → reads 65 e t at (drop at bytes) ≡ Ok (after bytes (v, next))
     → (w : Value) (text rest : List ℕ) → Spells e at t w text → drop at bytes ≡ text ++ rest → (v ≡ w) × (next ≡ at + length text)
 is_only e t bytes at v next is w text rest h parts =
-    let pair = ok_is (after bytes (v, next)) (w, at + length text, rest) (sym is ∙ (ap (reads 64 e t at) parts ∙ reads_again 64 e t at w text rest h)) in
+    let pair = ok_is (after bytes (v, next)) (w, at + length text, rest) (sym is ∙ (ap (reads 65 e t at) parts ∙ reads_again 64 e t at w text rest h)) in
     (ap (λ (p : Value × ℕ × List ℕ). p.0) pair, ap (λ (p : Value × ℕ × List ℕ). p.1) pair)
 
 never : {X Y : Type 0} (e : ReadError) (x : Y) (P : X → Type 0) → Fails e (Ok x) → IsRead (Err e) P
@@ -40,7 +40,7 @@ never (BadSignature at) x P h = absurd cc
 never (TooDeep at) x P h = absurd cc
 never (BadArray at) x P h = absurd cc
 
-pub is_no_error : {X : Type 0} (e : Endian) (t : WireType) (bytes : List ℕ) (at : ℕ) (d : ReadError) → Fails d (reads 64 e t at (drop at bytes))
+pub is_no_error : {X : Type 0} (e : Endian) (t : WireType) (bytes : List ℕ) (at : ℕ) (d : ReadError) → Fails d (reads 65 e t at (drop at bytes))
     → (w : Value) (text rest : List ℕ) → Spells e at t w text → drop at bytes ≡ text ++ rest → (P : X → Type 0) → IsRead (Err d) P
 is_no_error e t bytes at d fails w text rest h parts P =
-    never d (w, at + length text, rest) P (subst (Fails d) (ap (reads 64 e t at) parts ∙ reads_again 64 e t at w text rest h) fails)
+    never d (w, at + length text, rest) P (subst (Fails d) (ap (reads 65 e t at) parts ∙ reads_again 64 e t at w text rest h) fails)

@@ -12,7 +12,7 @@ use Rattle.dbus_types.specs.declared.types.Value.{Value, the_lemmas}
 use Rattle.dbus_types.specs.declared.types.Value.TheOpen.{Value-F}
 use Rattle.dbus_types.specs.declared.types.Value.TheVariants as V
 use Rattle.dbus_types.specs.Types.{alignment, type_text}
-use Rattle.dbus_marshal.specs.Spells.{number, gap, Aligned, NumberRow, TextRow, Members, Elements, Flat, Row, SpellsWithin}
+use Rattle.dbus_marshal.specs.Spells.{number, gap, Aligned, NumberRow, TextRow, Members, Elements, Flat, Row, NoneInside, SpellsWithin}
 use Rattle.dbus_marshal.specs.Spelling.{aligned, text_body, Spelled, spell_step, spelled, spelling, spellings, signature_body, variant_body}
 
 pub roll_byte : (e : Endian) (n : ℕ) → spelled e (V.Byte n) ≡ spell_step e (Value-F.Byte n)
@@ -202,7 +202,7 @@ module _ (S : WireType → ℕ → Value → List ℕ → Type 0) (e : Endian)
 -- What spells a value is its spelling, and its type is the type.
 pub spells_same : (n : ℕ) (e : Endian) (t : WireType) (at : ℕ) (v : Value) (text : List ℕ) → SpellsWithin n e t at v text → (text ≡ spelling e at v) × ((spelled e v).0 ≡ t)
 unfolding SpellsWithin
-spells_same zero e t at v text h = let a = flat_same e (out-WireType t) at v text h in (a.0, a.1 ∙ roll_out t)
+spells_same zero e t at v text h = let a = row_same NoneInside e (λ t at v text h. absurd h) (out-WireType t) at v text h in (a.0, a.1 ∙ roll_out t)
 spells_same (suc n) e t at v text h = let a = row_same (SpellsWithin n e) e (spells_same n e) (out-WireType t) at v text h in (a.0, a.1 ∙ roll_out t)
 
 pub variant_whole : (e : Endian) (out one two : List ℕ) (v x : Value) → v ≡ V.Variant x → one ≡ out ++ signature_body (type_text (spelled e x).0) → two ≡ one ++ spelling e (length one) x → two ≡ out ++ spelling e (length out) v

@@ -14,7 +14,7 @@ use Rattle.dbus_marshal.specs.declared.error.ReadError.{ReadError}
 use Rattle.dbus_marshal.specs.declared.error.ReadError.TheVariants.{BadText, TooLong, BadSignature}
 use Rattle.dbus_types.specs.Types.{alignment}
 use Rattle.dbus_types.specs.Values.{IsText, IsSignatureText}
-use Rattle.dbus_marshal.specs.Spells.{number, gap, Aligned, IsPath, bit, Members, Elements, BoolRow, NumberRow, TextRow, ArrayRow, StructRow, EntryRow, Flat, Row, SpellsWithin}
+use Rattle.dbus_marshal.specs.Spells.{number, gap, Aligned, IsPath, bit, Members, Elements, BoolRow, NumberRow, TextRow, ArrayRow, StructRow, EntryRow, Flat, Row, NoneInside, SpellsWithin}
 use Rattle.dbus_marshal.specs.Reads.{◌>>=◌, Read, padded, taken, numbered, number_at, byte_at, ended, truth, is_text, is_path_text, text_at, texted, types_in, type_in, signature_at, joined, members, listed, elements, within_array, fixed, flat, layer, reads}
 use Rattle.dbus_marshal.proofs.Signatures.{types_took, type_took}
 use Rattle.dbus_marshal.proofs.Words.{text_is, path_is}
@@ -202,7 +202,11 @@ module _ (r : WireType → ℕ → List ℕ → Read Value) (S : WireType → �
   layer_took e WireType-F.Variant at bytes fits = variant_took e at bytes fits
   layer_took e t at bytes fits = flat_took e t at bytes fits
 
-pub reads_took : (n : ℕ) (e : Endian) (t : WireType) (at : ℕ) (bytes : List ℕ) → IsBytes bytes → IfOk (reads n e t at bytes) (λ x. Took (SpellsWithin n e t at x.0) at bytes x.1 x.2)
+none_took : (e : Endian) (t : WireType) (at : ℕ) (bytes : List ℕ) → IfOk (reads 0 e t at bytes) (λ x. Took (NoneInside t at x.0) at bytes x.1 x.2)
+unfolding reads
+none_took e t at bytes = tt
+
+pub reads_took : (n : ℕ) (e : Endian) (t : WireType) (at : ℕ) (bytes : List ℕ) → IsBytes bytes → IfOk (reads (suc n) e t at bytes) (λ x. Took (SpellsWithin n e t at x.0) at bytes x.1 x.2)
 unfolding reads SpellsWithin
-reads_took zero e t at bytes fits = flat_took e (out-WireType t) at bytes fits
-reads_took (suc n) e t at bytes fits = layer_took (reads n e) (SpellsWithin n e) (reads_took n e) e (out-WireType t) at bytes fits
+reads_took zero e t at bytes fits = layer_took (reads 0 e) NoneInside (λ t at bytes fits. none_took e t at bytes) e (out-WireType t) at bytes fits
+reads_took (suc n) e t at bytes fits = layer_took (reads (suc n) e) (SpellsWithin n e) (reads_took n e) e (out-WireType t) at bytes fits

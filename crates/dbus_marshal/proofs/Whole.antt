@@ -12,7 +12,7 @@ use Rattle.dbus_marshal.specs.declared.error.ReadError.{ReadError}
 use Rattle.dbus_marshal.specs.declared.error.ReadError.TheVariants.{BadText, BadSignature}
 use Rattle.dbus_types.specs.Types.{alignment, type_text}
 use Rattle.dbus_types.specs.Values.{IsText, IsSignatureText}
-use Rattle.dbus_marshal.specs.Spells.{number, gap, Aligned, IsPath, bit, Members, Elements, BoolRow, NumberRow, TextRow, ArrayRow, StructRow, EntryRow, Flat, Row, SpellsWithin}
+use Rattle.dbus_marshal.specs.Spells.{number, gap, Aligned, IsPath, bit, Members, Elements, BoolRow, NumberRow, TextRow, ArrayRow, StructRow, EntryRow, Flat, Row, NoneInside, SpellsWithin}
 use Rattle.dbus_marshal.specs.Reads.{◌>>=◌, Read, padded, number_at, byte_at, ended, truth, is_text, is_path_text, text_at, numbered, texted, signature_at, members, elements, fixed, flat, layer, reads}
 use Rattle.dbus_marshal.proofs.Signatures.{types_again, type_again}
 use Rattle.dbus_marshal.proofs.Words.{is_text_of, is_path_of}
@@ -232,18 +232,18 @@ module _ (S : WireType → ℕ → Value → List ℕ → Type 0)
 
 pub spells_fills : (n : ℕ) (e : Endian) (t : WireType) (at : ℕ) (v : Value) (text : List ℕ) → SpellsWithin n e t at v text → 0 < length text
 unfolding SpellsWithin
-spells_fills zero e t at v text h = flat_fills e (out-WireType t) at v text h
+spells_fills zero e t at v text h = row_fills NoneInside (λ t at v text h. absurd h) e (out-WireType t) at v text h
 spells_fills (suc n) e t at v text h = row_fills (SpellsWithin n e) (spells_fills n e) e (out-WireType t) at v text h
 
-pub reads_again : (n : ℕ) (e : Endian) (t : WireType) (at : ℕ) (v : Value) (text rest : List ℕ) → SpellsWithin n e t at v text → reads n e t at (text ++ rest) ≡ Ok (v, at + length text, rest)
+pub reads_again : (n : ℕ) (e : Endian) (t : WireType) (at : ℕ) (v : Value) (text rest : List ℕ) → SpellsWithin n e t at v text → reads (suc n) e t at (text ++ rest) ≡ Ok (v, at + length text, rest)
 unfolding reads SpellsWithin
-reads_again zero e t at v text rest h = flat_again e (out-WireType t) at v text rest h
-reads_again (suc n) e t at v text rest h = layer_again (reads n e) (SpellsWithin n e) (reads_again n e) (spells_fills n e) e (out-WireType t) at v text rest h
+reads_again zero e t at v text rest h = layer_again (reads 0 e) NoneInside (λ t at v text rest h. absurd h) (λ t at v text h. absurd h) e (out-WireType t) at v text rest h
+reads_again (suc n) e t at v text rest h = layer_again (reads (suc n) e) (SpellsWithin n e) (reads_again n e) (spells_fills n e) e (out-WireType t) at v text rest h
 
 -- No spelling begins another of the same type at the same offset: both are what is read there.
 pub one_spelling : (n : ℕ) (e : Endian) (t : WireType) (at : ℕ) (v w : Value) (a b x y : List ℕ) → SpellsWithin n e t at v a → SpellsWithin n e t at w b → a ++ x ≡ b ++ y → (v ≡ w) × (a ≡ b) × (x ≡ y)
 one_spelling n e t at v w a b x y p q same =
-    let r : ok v (at + length a) x ≡ ok w (at + length b) y = sym (reads_again n e t at v a x p) ∙ (ap (reads n e t at) same ∙ reads_again n e t at w b y q) in
+    let r : ok v (at + length a) x ≡ ok w (at + length b) y = sym (reads_again n e t at v a x p) ∙ (ap (reads (suc n) e t at) same ∙ reads_again n e t at w b y q) in
     let pair = ok_is (v, at + length a, x) (w, at + length b, y) r in
     let z : x ≡ y = ap (λ (p : Value × ℕ × List ℕ). p.2) pair in
     let u : v ≡ w = ap (λ (p : Value × ℕ × List ℕ). p.0) pair in

@@ -14,8 +14,8 @@ use Rattle.dbus_marshal.specs.declared.error.ReadError.TheVariants.{Short, Paddi
 use Rattle.dbus_types.specs.declared.errors.SignatureError.{SignatureError}
 use Rattle.dbus_types.specs.declared.errors.SignatureError.TheVariants as Stop
 use Rattle.dbus_types.specs.Names.{is_path}
-use Rattle.dbus_types.specs.Reading.{whole_at}
-use Rattle.dbus_types.specs.Types.{alignment, type_text}
+use Rattle.dbus_types.specs.Reading.{whole_at, single_at}
+use Rattle.dbus_types.specs.Types.{alignment}
 use Rattle.dbus_marshal.specs.Spells.{gap}
 pub use Rattle.dbus_marshal.specs.Reading.{◌>>=◌, Fails, Gives, IsRead, Read, after, place}
 
@@ -89,16 +89,9 @@ moved at (Err Stop.Memory) = Err Memory
 unfoldable pub types_in : ℕ → List ℕ → Result (List WireType) ReadError
 types_in at text = moved at (whole_at 32 32 text)
 
--- the one type of a variant's signature; what stands after the first type breaks it
-abbrev pub only_type : ℕ → List WireType → Result WireType ReadError
-only_type at [] = Err (BadSignature at)
-only_type at (t ∷ []) = Ok t
-only_type at (t ∷ u ∷ ts) = Err (BadSignature (at + length (type_text t)))
-
-abbrev pub type_in : ℕ → List ℕ → Result WireType ReadError
-type_in at text = do
-  ts ← types_in at text
-  only_type at ts
+-- the one type of a variant's signature
+unfoldable pub type_in : ℕ → List ℕ → Result WireType ReadError
+type_in at text = moved at (single_at 32 32 text)
 
 -- a signature, and the zero byte behind it
 abbrev pub signature_with : List ℕ → ℕ → List ℕ → Read (List ℕ)
@@ -223,7 +216,7 @@ layer r e WireType-F.Variant at bytes = do
   Ok (V.Variant x.0, x.1, x.2)
 layer r e t at bytes = flat e t at bytes
 
--- a value in which at most so many arrays, structs, dict entries and variants stand in each other
+-- a value with at most so many values in each other, itself counted
 unfoldable pub reads : ℕ → Endian → WireType → ℕ → List ℕ → Read Value
-reads zero e t at bytes = flat e (out-WireType t) at bytes
+reads zero e t at bytes = Err (TooDeep at)
 reads (suc n) e t at bytes = layer (reads n e) e (out-WireType t) at bytes

@@ -109,11 +109,15 @@ Row S e (WireType-F.DictEntry t u) at v bytes = Aligned 8 at (EntryRow S t u v) 
 Row S e WireType-F.Variant at v bytes = VariantRow S at v bytes
 Row S e t at v bytes = Flat e t at v bytes
 
--- a spelling that goes at most so many arrays, structs, dict entries and variants deep
+-- nothing spells a value inside
+abbrev pub NoneInside : WireType → ℕ → Value → List ℕ → Type 0
+NoneInside t at v bytes = ⊥
+
+-- a spelling in which each value stands in at most so many arrays, structs, dict entries and variants: in none where nothing is inside, as in an empty array
 unfoldable pub SpellsWithin : ℕ → Endian → WireType → ℕ → Value → List ℕ → Type 0
-SpellsWithin zero e t at v bytes = Flat e (out-WireType t) at v bytes
+SpellsWithin zero e t at v bytes = Row NoneInside e (out-WireType t) at v bytes
 SpellsWithin (suc n) e t at v bytes = Row (SpellsWithin n e) e (out-WireType t) at v bytes
 
--- From the offset the bytes spell the value of the type.
+-- From the offset the bytes spell the value of the type: it, and each value inside, stands in at most 64 arrays, structs, dict entries and variants, itself not counted.
 abbrev pub Spells : Endian → ℕ → WireType → Value → List ℕ → Type 0
 Spells e at t v bytes = SpellsWithin 64 e t at v bytes

@@ -145,6 +145,7 @@ pub(crate) fn array_error(error: ReadError) -> ReadError
     }
 }
 
+/// Says whether a text has a zero byte.
 pub(crate) fn has_zero(text: &[u8]) -> bool
     ensures { result ≡ list_any (λ b. b == 0) text.now }
 {

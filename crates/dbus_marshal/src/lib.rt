@@ -4,7 +4,6 @@
 //! Source: D-Bus Specification, "Marshaling (Wire Format)".
 #![tactic(auto)]
 
-mod align;
 pub mod error;
 mod fields;
 mod flat;
@@ -12,6 +11,4 @@ pub mod laws;
 mod put;
 pub mod read;
 mod signature;
-#[cfg(test)]
-mod tests;
 pub mod write;

@@ -11,11 +11,11 @@ ghost use Rattle.dbus_types.specs.Values.{type_of, KeepsRules};
 ghost use Rattle.dbus_marshal.specs.Spells.{Spells};
 ghost use Rattle.dbus_marshal.specs.Reads.{Gives, IsRead, after, layer, members, elements, reads};
 
-use crate::align::alignment_of;
 use crate::error::ReadError;
 use crate::fields::{array_error, byte_at, ended, number_32, skip_padding, taken};
 use crate::flat::read_flat;
 use crate::signature::type_at;
+use dbus_types::layout::alignment_of;
 use dbus_types::types::{Endian, Value, WireType};
 use portal_base::boxed::Boxed;
 use portal_base::list::List;
@@ -25,12 +25,13 @@ use std::alloc::Global;
 /// The greatest length of an array in bytes.
 const LONGEST_ARRAY: u32 = 67_108_864;
 
-/// How many arrays, structs, dict entries and variants may stand in each other.
-const DEEPEST: u32 = 64;
+/// How many values may stand in each other: each in at most 64 arrays, structs,
+/// dict entries and variants, itself not counted.
+const MOST_VALUES: u32 = 65;
 
-/// The value of a type at a place, within a depth.
+/// The value of a type at a place, with at most so many values in each other.
 #[cycle(read)]
-#[tactic(auto, unfolding(crate::specs::Reads::layer), using(crate::proofs::Depths::reads_flat, crate::proofs::Depths::reads_more))]
+#[tactic(auto, unfolding(crate::specs::Reads::layer), using(crate::proofs::Depths::reads_none, crate::proofs::Depths::reads_more))]
 fn read_within(
     alloc: Global,
     endian: Endian,
@@ -44,7 +45,7 @@ fn read_within(
     ensures within { IfOk result (λ r. (at < r.1) × (r.1 ≤ length bytes.now)) }
 {
     if depth == 0 {
-        return read_flat(alloc, endian, bytes, at, kind);
+        return Err(ReadError::TooDeep { at });
     }
     match kind {
         WireType::Array(element) => {
@@ -242,11 +243,11 @@ pub fn read_value(
     // What is spelled there is read, unless memory runs out.
     ensures only { (value : Value') (text rest : List ℕ) → Spells endian at kind.now value text → drop at bytes.now ≡ text ++ rest
         → IsRead result (λ r. (r.value ≡ value) × (r.next ≡ at + length text)) }
-    // What is read has the type, and keeps the rules of values: it stands in at most 64 others, among them.
+    // What is read has the type, and keeps the rules of values: each stands in at most 64 others, among them.
     ensures keeps { IsValidType kind.now → IfOk result (λ r. (type_of r.value ≡ kind.now) × KeepsRules r.value) }
     // Which break it is.
-    ensures exact { Gives (λ r. after bytes.now (r.value, r.next)) result (reads 64 endian kind.now at (drop at bytes.now)) }
+    ensures exact { Gives (λ r. after bytes.now (r.value, r.next)) result (reads 65 endian kind.now at (drop at bytes.now)) }
 {
-    let (value, next) = read_within(alloc, endian, bytes, at, kind, DEEPEST)?;
+    let (value, next) = read_within(alloc, endian, bytes, at, kind, MOST_VALUES)?;
     Ok(ReadValue { value, next })
 }

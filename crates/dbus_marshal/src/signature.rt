@@ -2,19 +2,19 @@
 //!
 //! Source: D-Bus Specification, "Type System".
 
-ghost use Rattle.std.specs.Prelude.{◌≡◌, ◌+◌, ◌<◌, ◌≤◌, ◌^◌, ◌++◌, OnOk, OnErr, length, take, drop, map};
-ghost use Rattle.dbus_types.specs.declared.types.Endian.TheVariants.{Little};
+ghost use Rattle.std.specs.Prelude.{◌≡◌, ◌+◌, ◌<◌, ◌≤◌, ◌^◌, ◌++◌, OnOk, OnErr, length, take, drop};
 ghost use Rattle.dbus_types.specs.Reading.{whole_at};
 ghost use Rattle.dbus_marshal.specs.Reads.{Gives, types_in, type_in};
-ghost use Rattle.dbus_types.specs.Types.{type_text, joined};
-ghost use Rattle.dbus_marshal.specs.Spelling.{Extends, spelled, signature_body};
+ghost use Rattle.dbus_types.specs.Types.{type_text};
+ghost use Rattle.dbus_types.specs.Values.{type_of};
+ghost use Rattle.dbus_marshal.specs.Spelling.{Extends, signature_body};
 
 use crate::error::ReadError;
 use crate::put::overwrite_byte;
 use dbus_types::errors::SignatureError;
-use dbus_types::signature::read_list;
+use dbus_types::signature::{read_list, read_single};
 use dbus_types::types::{Value, WireType};
-use dbus_types::write::put_type;
+use dbus_types::write::put_type_of;
 use portal_base::list::{ByteList, List};
 use portal_base::memory::WantOfMemory;
 use std::alloc::Global;
@@ -39,85 +39,28 @@ pub(crate) fn types_at(alloc: Global, text: &[u8], at: usize) -> Result<List<Wir
 }
 
 /// The one type of a variant's signature that begins at a place.
+#[tactic(auto, unfolding(crate::specs::Reads::type_in))]
 pub(crate) fn type_at(alloc: Global, text: &[u8], at: usize) -> Result<WireType, ReadError>
     requires short { length text.now ≤ 255 }
     requires place { at ≤ 2 ^ 63 }
     ensures { Gives (λ kind. kind) result (type_in at text.now) }
 {
-    let mut types = types_at(alloc, text, at)?;
-    match types.as_slice() {
-        [] => return Err(ReadError::BadSignature { at }),
-        [_] => {}
-        [first, ..] => {
-            let mut front = List::new(alloc);
-            put_type(&mut front, first)?;
-            return Err(ReadError::BadSignature {
-                at: at + front.len(),
-            });
-        }
+    match read_single(alloc, text) {
+        Ok(kind) => Ok(kind),
+        Err(SignatureError::BadSignature { at: stop }) => Err(ReadError::BadSignature {
+            at: at + stop as usize,
+        }),
+        Err(SignatureError::TooDeep { at: stop }) => Err(ReadError::TooDeep {
+            at: at + stop as usize,
+        }),
+        Err(SignatureError::Memory) => Err(ReadError::Memory),
     }
-    match types.pop() {
-        Some(kind) => Ok(kind),
-        None => Err(ReadError::BadSignature { at }),
-    }
-}
-
-/// The text of a value's type.
-#[cycle(put_of)]
-#[tactic(auto, using(crate::proofs::Extending::extends_refl, crate::proofs::Extending::extends_append, crate::proofs::Extending::extends_trans))]
-fn put_type_of(out: &mut ByteList, value: &Value) -> Result<(), WantOfMemory>
-    ensures ok { OnOk result (out.new ≡ out.old ++ type_text (spelled Little value.now).0) }
-    ensures err { OnErr result (Extends out.old out.new) }
-{
-    match value {
-        Value::Byte(_) => out.push(b'y'),
-        Value::Bool(_) => out.push(b'b'),
-        Value::I16(_) => out.push(b'n'),
-        Value::U16(_) => out.push(b'q'),
-        Value::I32(_) => out.push(b'i'),
-        Value::U32(_) => out.push(b'u'),
-        Value::I64(_) => out.push(b'x'),
-        Value::U64(_) => out.push(b't'),
-        Value::Double(_) => out.push(b'd'),
-        Value::Str(_) => out.push(b's'),
-        Value::ObjectPath(_) => out.push(b'o'),
-        Value::Signature(_) => out.push(b'g'),
-        Value::Handle(_) => out.push(b'h'),
-        Value::Variant(_) => out.push(b'v'),
-        Value::Array { element, .. } => {
-            out.push(b'a')?;
-            put_type(out, element)
-        }
-        Value::Struct(members) => {
-            out.push(b'(')?;
-            put_types_of(out, members.as_slice())?;
-            out.push(b')')
-        }
-        Value::DictEntry { key, value } => {
-            out.push(b'{')?;
-            put_type_of(out, key.get())?;
-            put_type_of(out, value.get())?;
-            out.push(b'}')
-        }
-    }
-}
-
-#[cycle(put_of)]
-#[tactic(auto, using(crate::proofs::Extending::extends_refl, crate::proofs::Extending::extends_append, crate::proofs::Extending::extends_trans))]
-fn put_types_of(out: &mut ByteList, values: &[Value]) -> Result<(), WantOfMemory>
-    ensures ok { OnOk result (out.new ≡ out.old ++ joined (map type_text (map (λ s. s.0) (map (spelled Little) values.now)))) }
-    ensures err { OnErr result (Extends out.old out.new) }
-{
-    for value in values {
-        put_type_of(out, value)?;
-    }
-    Ok(())
 }
 
 /// The signature of a value's type.
 #[tactic(auto, using(crate::proofs::Extending::extends_refl, crate::proofs::Extending::extends_append, crate::proofs::Extending::extends_trans))]
 pub(crate) fn put_signature(out: &mut ByteList, value: &Value) -> Result<(), WantOfMemory>
-    ensures ok { OnOk result (out.new ≡ out.old ++ signature_body (type_text (spelled Little value.now).0)) }
+    ensures ok { OnOk result (out.new ≡ out.old ++ signature_body (type_text (type_of value.now))) }
     ensures err { OnErr result (Extends out.old out.new) }
 {
     let hole = out.len();

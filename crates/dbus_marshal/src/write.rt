@@ -11,11 +11,11 @@ ghost use Rattle.dbus_types.specs.declared.types.Endian.TheVariants.{Little};
 ghost use Rattle.dbus_marshal.specs.Spells.{Spells, gap};
 ghost use Rattle.dbus_marshal.specs.Spelling.{Extends, aligned, spelled, spelling, spellings, signature_body, text_body, array_body};
 
-use crate::align::alignment_of;
 use crate::put::{
     overwrite_length, pad, put_16, put_32, put_64, put_length, put_short_text, put_text,
 };
 use crate::signature::put_signature;
+use dbus_types::layout::alignment_of;
 use dbus_types::types::Value;
 use portal_base::list::ByteList;
 use portal_base::memory::WantOfMemory;

@@ -11,3 +11,4 @@ pub mod Ascii
 pub mod Spelling
 pub mod Sent
 pub mod Bare
+pub mod Deciding

@@ -28,7 +28,7 @@ use Rattle.dbus_message.proofs.Reading.{same_message}
 -- ---- what bytes say
 
 -- a text spells one list of values of these types, one after another
-one_row : (e : Endian) (ts : List WireType) (vs ws : List Value) (at : ℕ) (text : List ℕ) → Members (Spelled e) ts vs at text → Members (Spelled e) ts ws at text → vs ≡ ws
+pub one_row : (e : Endian) (ts : List WireType) (vs ws : List Value) (at : ℕ) (text : List ℕ) → Members (Spelled e) ts vs at text → Members (Spelled e) ts ws at text → vs ≡ ws
 one_row e [] [] [] at text h k = refl
 one_row e [] [] (w ∷ ws) at text h k = absurd k
 one_row e [] (v ∷ vs) ws at text h k = absurd h
@@ -41,7 +41,7 @@ one_row e (t ∷ ts) (v ∷ vs) (w ∷ ws) at text h k =
     ap (λ (x : Value). x ∷ vs) o.0 ∙ ap (λ (xs : List Value). w ∷ xs) (one_row e ts vs ws (at + length h.0) h.1 h.4 behind)
 
 -- a signature is of one list of types
-one_signature : (text : List ℕ) (ts us : List WireType) → IsSignature ts text → IsSignature us text → ts ≡ us
+pub one_signature : (text : List ℕ) (ts us : List WireType) → IsSignature ts text → IsSignature us text → ts ≡ us
 one_signature text ts us h k = ok_is ts us (sym (types_again 0 text ts h) ∙ types_again 0 text us k)
 
 one_content : (e : Endian) (signature : Option (List ℕ)) (bytes : List ℕ) (c d : Content) → IsContent e signature c.types c.values bytes → IsContent e signature d.types d.values bytes → c ≡ d

@@ -5,7 +5,8 @@
 ghost use Rattle.dbus_message.specs.Laws.{FrontsAreOne, FrontsAreWhole, FrontsStand, ReadingsAreOne, WrittenAreOne};
 
 /// A whole message at the front of bytes stands at the front of each list that
-/// begins with it: alone, and with more behind.
+/// begins with it: alone, and with more behind. A header that breaks a rule
+/// breaks it whatever follows.
 pub fn fronts_stand()
     ensures { FrontsStand }
 {}
@@ -16,13 +17,13 @@ pub fn fronts_are_whole()
     ensures { FrontsAreWhole }
 {}
 
-/// What stands at the front of bytes is one.
+/// Something stands at the front of bytes, and it is one.
 pub fn fronts_are_one()
     ensures { FrontsAreOne }
 {}
 
-/// Bytes are one message, or one rule is the first that they break, and not
-/// both.
+/// Bytes as long as their header states are one message, or one rule is the
+/// first that they break, and not both.
 pub fn readings_are_one()
     ensures { ReadingsAreOne }
 {}

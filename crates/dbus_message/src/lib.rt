@@ -10,8 +10,5 @@ mod fields;
 mod header;
 pub mod laws;
 pub mod read;
-mod signature;
 pub mod split;
-#[cfg(test)]
-mod tests;
 pub mod write;

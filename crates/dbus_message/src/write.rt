@@ -17,10 +17,10 @@ ghost use Rattle.dbus_message.specs.Written.{field as field_with, signature_fiel
 
 use crate::fields::{ERROR_NAME, INTERFACE, MEMBER, PATH, REPLY_SERIAL, SIGNATURE};
 use crate::read::field_type;
-use crate::signature::signature_text;
 use dbus_marshal::write::write_value;
 use dbus_types::message::OutMessage;
 use dbus_types::types::Value;
+use dbus_types::write::signature_text;
 use portal_base::boxed::Boxed;
 use portal_base::list::{ByteList, List};
 use portal_base::memory::{Replica, WantOfMemory};

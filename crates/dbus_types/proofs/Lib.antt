@@ -6,5 +6,7 @@ pub mod Fitting
 pub mod Again
 pub mod Stops
 pub mod Whole
+pub mod Single
+pub mod Ascii
 pub mod Extending
 pub mod Within

@@ -34,7 +34,7 @@ pub record ListStops (e : SignatureError) (text : List ℕ) (F G : Kinds) : Type
 all_any : (a b : ℕ) (ts : List WireType) → All (Fits a b) ts → All Any ts
 all_any a b ts h = λ k u lt. (a, b, h k u lt)
 
-nothing_else : (b : ℕ) (y : List ℕ) → [] ≡ b ∷ y → ⊥
+pub nothing_else : (b : ℕ) (y : List ℕ) → [] ≡ b ∷ y → ⊥
 nothing_else b y e = omega (arith, ap length e)
 
 -- the types that were read are the first of those whose texts go on behind them
@@ -124,19 +124,19 @@ whole_again ts text h e = ap (whole_at 32 32) e ∙ list_again (type_at 32 32) I
 
 -- ---- what the definitions say of it
 
-any_complete : (t : WireType) → Any t → IsComplete t
+pub any_complete : (t : WireType) → Any t → IsComplete t
 any_complete t h = h.2.0
 
-complete_any : (t : WireType) → IsComplete t → Any t
+pub complete_any : (t : WireType) → IsComplete t → Any t
 complete_any t h = (arrays_deep t, brackets_deep t, (h, omega arith, omega arith))
 
 begins_as : (P Q : Kinds) (front : List ℕ) → ((t : WireType) → P t → Q t) → Begins P front → Begins Q front
 begins_as P Q front f h = (h.0, h.1, (λ k u lt. f _ (h.2 k u lt)), h.3)
 
-front_taken : (text front rest : List ℕ) (at : ℕ) → text ≡ front ++ rest → at ≡ length front → take at text ≡ front
+pub front_taken : (text front rest : List ℕ) (at : ℕ) → text ≡ front ++ rest → at ≡ length front → take at text ≡ front
 front_taken text front rest at e p = ap (take at) e ∙ take_at front rest at (sym p)
 
-more_taken : (text front : List ℕ) (b : ℕ) (r : List ℕ) (at : ℕ) → text ≡ front ++ b ∷ r → at ≡ length front → take (at + 1) text ≡ front ++ b ∷ []
+pub more_taken : (text front : List ℕ) (b : ℕ) (r : List ℕ) (at : ℕ) → text ≡ front ++ b ∷ r → at ≡ length front → take (at + 1) text ≡ front ++ b ∷ []
 more_taken text front b r at e p = ap (take (at + 1)) (e ∙ sym (append_assoc front (b ∷ []) r)) ∙ take_at (front ++ b ∷ []) r (at + 1) (omega (arith, p, length-append front (b ∷ [])))
 
 module _ (text front : List ℕ) (b : ℕ) (r : List ℕ) (parts : text ≡ front ++ b ∷ r) (short : length front < 255) (begins : Begins IsValidType front) where

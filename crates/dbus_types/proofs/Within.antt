@@ -1,5 +1,5 @@
 -- What a value keeps at each outer layer, and how long the texts of types are.
-use Rattle.std.proofs.Common.{◌≡◌, ℕ, zero, suc, ◌+◌, ◌<◌, ◌≤◌, ◌↔◌, Bool, true, false, Option, None, Some, List, [], ◌∷◌, ◌++◌, length, take, get_or, Result, Ok, Err, refl, sym, ap, subst, ◌∙◌, arith}
+use Rattle.std.proofs.Common.{◌≡◌, ℕ, zero, suc, ◌+◌, ◌<◌, ◌≤◌, ◌↔◌, Bool, true, false, Option, None, Some, List, [], ◌∷◌, ◌++◌, length, take, get_or, Result, Ok, Err, refl, sym, ap, subst, ◌∙◌, arith, rules}
 use Rattle.std.specs.Prelude.{IsTrue, MatchOption, All, is_ok}
 use Rattle.std.proofs.lemmas.Bool.{true≢false}
 use Rattle.std.proofs.lemmas.List.{length-append, take_all}
@@ -90,10 +90,22 @@ out_struct vs = search the_lemmas
 out_entry : (k v : Value) → out-Value (V.DictEntry k v) ≡ Value-F.DictEntry k v
 out_entry k v = search the_lemmas
 
-none_inside : (n : ℕ) (w : Value) (f : Value-F Value) → n ≡ 0 → out-Value w ≡ f → (LeafKeeps f → ⊥) → IsTrue false ↔ KeepsWithin n w
+-- nothing keeps the rules where nothing is inside
+abbrev pub Nothing : Value → Type 0
+Nothing v = ⊥
+
+none_inside : (r : Bool) (n : ℕ) (w : Value) (f : Value-F Value) → n ≡ 0 → out-Value w ≡ f → IsTrue r ↔ ValueKeeps Nothing f → IsTrue r ↔ KeepsWithin n w
 unfolding KeepsWithin
-none_inside zero w f p e never = ((λ k. absurd (true≢false (sym k))), (λ h. absurd (never (subst (λ (g : Value-F Value). LeafKeeps g) e h))))
-none_inside (suc n) w f p e never = absurd (omega arith)
+none_inside r zero w f p e h = subst (λ (g : Value-F Value). IsTrue r ↔ ValueKeeps Nothing g) (sym e) h
+none_inside r (suc n) w f p e h = absurd (omega arith)
+
+never : (P : Type 0) → (P → ⊥) → IsTrue false ↔ P
+never P none = ((λ k. absurd (true≢false (sym k))), (λ h. absurd (none h)))
+
+-- each of a list keeps what nothing keeps, exactly where the list is empty
+empty_all : (r : Bool) (P : Value → Type 0) (xs : List Value) → ((v : Value) → P v → ⊥) → IsTrue r ↔ (xs ≡ []) → IsTrue r ↔ All P xs
+empty_all r P [] none h = ((λ k. search rules), (λ k. h.1 refl))
+empty_all r P (x ∷ xs) none h = ((λ k. absurd (omega (arith, ap length (h.0 k)))), (λ k. absurd (none x (All-get_or P (x ∷ xs) 0 x (omega arith) k))))
 
 layer : (n m : ℕ) (w : Value) (f : Value-F Value) → m + 1 ≡ n → out-Value w ≡ f → KeepsWithin n w ↔ ValueKeeps (KeepsWithin m) f
 unfolding KeepsWithin
@@ -113,16 +125,18 @@ pub and_on : (a r : Bool) (P Q : Type 0) → a ≡ true → IsTrue a ↔ P → I
 and_on a r P Q e h q = ((λ k. (h.0 e, q.0 k)), (λ k. q.1 k.1))
 
 pub variant_deep : (n : ℕ) (w v : Value) → n ≡ 0 → w ≡ V.Variant v → IsTrue false ↔ KeepsWithin n w
-variant_deep n w v p e = none_inside n w (Value-F.Variant v) p (ap out-Value e ∙ out_variant v) (λ h. h)
+variant_deep n w v p e = none_inside false n w (Value-F.Variant v) p (ap out-Value e ∙ out_variant v) (never (IsVariantType (type_of v) × Nothing v) (λ h. h.1))
 
-pub array_deep : (n : ℕ) (w : Value) (t : WireType) (vs : List Value) → n ≡ 0 → w ≡ V.Array t vs → IsTrue false ↔ KeepsWithin n w
-array_deep n w t vs p e = none_inside n w (Value-F.Array t vs) p (ap out-Value e ∙ out_array t vs) (λ h. h)
+pub array_deep : (r : Bool) (n : ℕ) (w : Value) (t : WireType) (vs us : List Value) → n ≡ 0 → w ≡ V.Array t vs → us ≡ vs → IsTrue r ↔ (us ≡ []) → IsTrue r ↔ KeepsWithin n w
+array_deep r n w t vs us p e s h = none_inside r n w (Value-F.Array t vs) p (ap out-Value e ∙ out_array t vs)
+    (empty_all r (λ v. (type_of v ≡ t) × Nothing v) vs (λ v k. k.1) (subst (λ (xs : List Value). IsTrue r ↔ (xs ≡ [])) s h))
 
-pub struct_deep : (n : ℕ) (w : Value) (vs : List Value) → n ≡ 0 → w ≡ V.Struct vs → IsTrue false ↔ KeepsWithin n w
-struct_deep n w vs p e = none_inside n w (Value-F.Struct vs) p (ap out-Value e ∙ out_struct vs) (λ h. h)
+pub struct_deep : (r : Bool) (n : ℕ) (w : Value) (vs us : List Value) → n ≡ 0 → w ≡ V.Struct vs → us ≡ vs → IsTrue r ↔ (us ≡ []) → IsTrue r ↔ KeepsWithin n w
+struct_deep r n w vs us p e s h = none_inside r n w (Value-F.Struct vs) p (ap out-Value e ∙ out_struct vs)
+    (empty_all r Nothing vs (λ v k. k) (subst (λ (xs : List Value). IsTrue r ↔ (xs ≡ [])) s h))
 
 pub entry_deep : (n : ℕ) (w k v : Value) → n ≡ 0 → w ≡ V.DictEntry k v → IsTrue false ↔ KeepsWithin n w
-entry_deep n w k v p e = none_inside n w (Value-F.DictEntry k v) p (ap out-Value e ∙ out_entry k v) (λ h. h)
+entry_deep n w k v p e = none_inside false n w (Value-F.DictEntry k v) p (ap out-Value e ∙ out_entry k v) (never (Nothing k × Nothing v) (λ h. h.0))
 
 pub variant_on : (r : Bool) (n m : ℕ) (w v u : Value) → m + 1 ≡ n → w ≡ V.Variant v → u ≡ v → IsTrue r ↔ (IsVariantType (type_of u) × KeepsWithin m u) → IsTrue r ↔ KeepsWithin n w
 variant_on r n m w v u p e s h = either (IsTrue r) (IsVariantType (type_of v) × KeepsWithin m v) (KeepsWithin n w)
@@ -167,7 +181,9 @@ same_layer I w (Value-F.DictEntry k v) e a b c d = absurd (d k v (rolled w (Valu
 
 pub leaf_within : (r : Bool) (n : ℕ) (w : Value) → ((v : Value) → w ≡ V.Variant v → ⊥) → ((t : WireType) (vs : List Value) → w ≡ V.Array t vs → ⊥) → ((vs : List Value) → w ≡ V.Struct vs → ⊥) → ((k v : Value) → w ≡ V.DictEntry k v → ⊥) → IsTrue r ↔ LeafKeeps (out-Value w) → IsTrue r ↔ KeepsWithin n w
 unfolding KeepsWithin
-leaf_within r zero w a b c d h = h
+leaf_within r zero w a b c d h =
+    let s = same_layer Nothing w (out-Value w) refl a b c d in
+    ((λ k. s.0 (h.0 k)), (λ k. h.1 (s.1 k)))
 leaf_within r (suc n) w a b c d h =
     let s = same_layer (KeepsWithin n) w (out-Value w) refl a b c d in
     ((λ k. s.0 (h.0 k)), (λ k. h.1 (s.1 k)))

@@ -114,6 +114,15 @@ list_at (suc n) r at (c ∷ rest) = r at (c ∷ rest) >>= λ t. with_first t.0 (
 abbrev pub whole_at : ℕ → ℕ → List ℕ → Result (List WireType) SignatureError
 whole_at arrays brackets text = list_at (length text) (type_at arrays brackets) 0 text
 
+-- a type that was read, where nothing stands after it
+abbrev pub alone : WireType → ℕ → List ℕ → Result WireType SignatureError
+alone t at [] = Ok t
+alone t at (c ∷ rest) = Err (BadSignature at)
+
+-- the one type of a whole text
+abbrev pub single_at : ℕ → ℕ → List ℕ → Result WireType SignatureError
+single_at arrays brackets text = type_at arrays brackets 0 text >>= λ t. alone t.0 t.1 t.2
+
 -- the place after what was read, and what is left
 abbrev pub placed : {X : Type 0} → Read X → Result (ℕ × List ℕ) SignatureError
 placed (Ok x) = Ok (x.1, x.2)

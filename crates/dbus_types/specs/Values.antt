@@ -1,5 +1,5 @@
 -- What the D-Bus Specification says of values ("Type System").
-use Rattle.std.specs.Prelude.{◌≡◌, ℕ, zero, suc, ◌+◌, ◌<◌, ◌^◌, max, List, IsTrue, IsUtf8, All, FitsSigned}
+use Rattle.std.specs.Prelude.{◌≡◌, ℕ, zero, suc, ◌+◌, ◌<◌, ◌^◌, max, List, [], ◌∷◌, IsTrue, IsUtf8, All, FitsSigned}
 use Rattle.std.specs.Int.{w16, w32, w64}
 use Rattle.dbus_types.specs.declared.types.WireType.{WireType}
 use Rattle.dbus_types.specs.declared.types.WireType.TheVariants as W
@@ -68,24 +68,30 @@ ValueKeeps Inside (Value-F.Struct vs) = All Inside vs
 ValueKeeps Inside (Value-F.DictEntry k v) = Inside k × Inside v
 ValueKeeps Inside leaf = LeafKeeps leaf
 
--- A value and those inside it keep the rules, and at most so many arrays, structs, dict entries and
--- variants stand in each other.
+-- A value and those inside it keep the rules, and each of these stands in at most so many arrays,
+-- structs, dict entries and variants of it: in none where nothing is inside, as in an empty array.
 unfoldable pub KeepsWithin : ℕ → Value → Type 0
-KeepsWithin zero v = LeafKeeps (out-Value v)
+KeepsWithin zero v = ValueKeeps (λ inside. ⊥) (out-Value v)
 KeepsWithin (suc depth) v = ValueKeeps (KeepsWithin depth) (out-Value v)
 
--- A value that keeps the rules: its type keeps those of types, the values inside keep theirs, and at
--- most 64 arrays, structs, dict entries and variants stand in each other.
+-- A value that keeps the rules: its type keeps those of types, the values inside keep theirs, and
+-- each stands in at most 64 arrays, structs, dict entries and variants, itself not counted.
 abbrev pub KeepsRules : Value → Type 0
 KeepsRules v = IsValidType (type_of v) × KeepsWithin 64 v
 
+-- the greatest of the numbers of those inside, and one more for what they stand in
+abbrev pub one_around : List ℕ → ℕ
+one_around [] = 0
+one_around (n ∷ ns) = greatest (n ∷ ns) + 1
+
 abbrev pub nesting_step : Value-F ℕ → ℕ
 nesting_step (Value-F.Variant n) = n + 1
-nesting_step (Value-F.Array t ns) = greatest ns + 1
-nesting_step (Value-F.Struct ns) = greatest ns + 1
+nesting_step (Value-F.Array t ns) = one_around ns
+nesting_step (Value-F.Struct ns) = one_around ns
 nesting_step (Value-F.DictEntry k v) = max k v + 1
 nesting_step _ = 0
 
--- how many arrays, structs, dict entries and variants stand in each other
+-- in how many arrays, structs, dict entries and variants of a value the innermost of those inside it
+-- stands: in none where nothing is inside, as in an empty array
 abbrev pub nesting : Value → ℕ
 nesting = fold-Value ℕ nesting_step

@@ -7,12 +7,12 @@ ghost use Rattle.dbus_types.specs.Types.{role, members_role, greatest, arrays_de
 ghost use Rattle.dbus_types.specs.Values.{type_of, IsText, IsSignatureText, LeafKeeps, KeepsWithin, KeepsRules};
 ghost use Rattle.dbus_types.specs.declared.types.Value.{out-Value};
 
-use crate::layout::has_type;
 use crate::names::is_object_path;
 use crate::roles::Role;
 use crate::rules::{arrays_within, brackets_within, is_single, role_of};
 use crate::signature::check_signature;
 use crate::types::{Value, WireType};
+use crate::typing::has_type;
 
 /// Where the type of a value may stand.
 #[cycle(roles)]
@@ -237,8 +237,9 @@ fn leaf_keeps(value: &Value) -> bool
     }
 }
 
-/// Says whether a value and those inside it keep the rules, and at most so
-/// many arrays, structs, dict entries and variants stand in each other.
+/// Says whether a value and those inside it keep the rules, and each of these
+/// stands in at most so many arrays, structs, dict entries and variants of it:
+/// in none where nothing is inside, as in an empty array.
 #[cycle(keeps)]
 fn keeps_within(value: &Value, depth: u32) -> bool
     ensures { IsTrue result ↔ KeepsWithin depth value.now }
@@ -256,13 +257,13 @@ fn keeps_within(value: &Value, depth: u32) -> bool
         }
         Value::Array { element, items } => {
             if depth == 0 {
-                return false;
+                return items.is_empty();
             }
             items_keep(items.as_slice(), element, depth - 1)
         }
         Value::Struct(members) => {
             if depth == 0 {
-                return false;
+                return members.is_empty();
             }
             members_keep(members.as_slice(), depth - 1)
         }
@@ -309,8 +310,8 @@ fn members_keep(members: &[Value], depth: u32) -> bool
 /// Says whether a value keeps the rules: its type is a single complete type
 /// within the limits; texts hold no zero byte, paths and signatures have
 /// their form; each item of an array has the type of its elements, and a
-/// variant can carry the type of its value; at most 64 arrays, structs, dict
-/// entries and variants stand in each other.
+/// variant can carry the type of its value; and each value inside stands in at
+/// most 64 arrays, structs, dict entries and variants.
 ///
 /// Source: D-Bus Specification, "Type System", "Valid Signatures".
 pub fn keeps_rules(value: &Value) -> bool

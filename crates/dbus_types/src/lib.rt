@@ -16,9 +16,6 @@ pub mod nesting;
 pub mod roles;
 pub mod rules;
 pub mod signature;
-#[cfg(test)]
-mod tests;
 pub mod types;
-#[cfg(test)]
-mod value_tests;
+pub mod typing;
 pub mod write;

@@ -4,25 +4,37 @@
 
 ghost use Rattle.std.specs.Prelude.{◌≡◌, map, min};
 ghost use Rattle.dbus_types.specs.Types.{greatest};
-ghost use Rattle.dbus_types.specs.Values.{nesting as nesting_in};
+ghost use Rattle.dbus_types.specs.Values.{nesting as nesting_in, one_around};
 
 use crate::types::Value;
 
-/// How many arrays, structs, dict entries and variants of a value stand in
-/// each other, or 4,294,967,295 where more do.
+/// In how many arrays, structs, dict entries and variants of a value the
+/// innermost of those inside it stands, or 4,294,967,295 where it stands in
+/// more: 0 where nothing is inside, as in an empty array.
 #[cycle(nesting)]
 pub fn nesting(value: &Value) -> u32
     ensures { result ≡ min (nesting_in value.now) 4_294_967_295 }
 {
     match value {
         Value::Variant(inner) => nesting(inner.get()).saturating_add(1),
-        Value::Array { items, .. } => deepest(items.as_slice()).saturating_add(1),
-        Value::Struct(members) => deepest(members.as_slice()).saturating_add(1),
+        Value::Array { items, .. } => around(items.as_slice()),
+        Value::Struct(members) => around(members.as_slice()),
         Value::DictEntry { key, value } => nesting(key.get())
             .max(nesting(value.get()))
             .saturating_add(1),
         _ => 0,
     }
+}
+
+/// How deep a container of some values goes, or 4,294,967,295.
+#[cycle(nesting)]
+fn around(values: &[Value]) -> u32
+    ensures { result ≡ min (one_around (map nesting_in values.now)) 4_294_967_295 }
+{
+    if values.is_empty() {
+        return 0;
+    }
+    deepest(values).saturating_add(1)
 }
 
 /// How deep the deepest of some values goes, or 4,294,967,295.

@@ -1,9 +1,9 @@
-//! Whether a type, or a value, keeps the rules. Nothing here takes memory.
+//! Where a type may stand, and how deep it goes. Nothing here takes memory.
 //!
 //! Source: D-Bus Specification, "Type System".
 
 ghost use Rattle.std.specs.Prelude.{◌≡◌, ◌≤◌, IsTrue, ◌↔◌, map};
-ghost use Rattle.dbus_types.specs.Types.{role, is_single as stands_alone, members_role, greatest, arrays_deep, brackets_deep, IsValidType};
+ghost use Rattle.dbus_types.specs.Types.{role, is_single as stands_alone, members_role, greatest, arrays_deep, brackets_deep};
 
 use crate::roles::Role;
 use crate::types::WireType;
@@ -104,16 +104,9 @@ fn all_brackets_within(kinds: &[WireType], limit: u32) -> bool
     true
 }
 
+/// Says whether a type of this role stands alone, as a single complete type.
 pub(crate) fn is_single(role: Role) -> bool
     ensures { result ≡ stands_alone role }
 {
     matches!(role, Role::Basic | Role::Single)
-}
-
-/// Says whether a type keeps the rules: it is a single complete type within
-/// 32 arrays and within 32 parentheses and braces.
-pub fn is_valid_type(kind: &WireType) -> bool
-    ensures { IsTrue result ↔ IsValidType kind.now }
-{
-    is_single(role_of(kind)) && arrays_within(kind, 32) && brackets_within(kind, 32)
 }

@@ -4,9 +4,9 @@
 
 ghost use Rattle.std.specs.Prelude.{◌≡◌, ◌+◌, ◌<◌, ◌≤◌, List, length, drop, IfOk};
 ghost use Rattle.dbus_types.specs.declared.errors.SignatureError.TheVariants.{BadSignature};
-ghost use Rattle.dbus_types.specs.Reading.{Gives, Tells, after, place, coded as coded_in, code_at, key_at, closed as closed_in, members_at, element_at, placed, passed, type_at, whole_at};
-ghost use Rattle.dbus_types.specs.Breaks.{IsReading, IsReadAs, IsChecked};
-ghost use Rattle.dbus_types.specs.Types.{IsSignature};
+ghost use Rattle.dbus_types.specs.Reading.{Gives, Tells, after, place, coded as coded_in, code_at, key_at, closed as closed_in, members_at, element_at, placed, passed, type_at, whole_at, single_at};
+ghost use Rattle.dbus_types.specs.Breaks.{IsReading, IsReadAs, IsSingleReading, IsSingleReadAs, IsChecked};
+ghost use Rattle.dbus_types.specs.Types.{type_text, IsValidType, IsSignature};
 ghost use Rattle.dbus_types.specs.declared.types.WireType.{WireType as TheType};
 
 use crate::errors::SignatureError;
@@ -215,6 +215,30 @@ pub fn read_list(alloc: Global, text: &[u8]) -> Result<List<WireType>, Signature
         }
     }
     Ok(kinds)
+}
+
+/// Reads the one type of a text of at most 255 bytes, as a variant has it.
+///
+/// The errors are those of `read_signature`; where a second type begins,
+/// nothing goes on as the text does, whatever stands there.
+///
+/// Source: D-Bus Specification, "Marshaling (Wire Format)", of variants.
+pub fn read_single(alloc: Global, text: &[u8]) -> Result<WireType, SignatureError>
+    requires { length text.now ≤ 255 }
+    ensures reading { IsSingleReading text.now result }
+    ensures only { (t : TheType) → IsValidType t → text.now ≡ type_text t → IsSingleReadAs t result }
+    // The place where it goes wrong is the one where reading from the left stops.
+    ensures from_left { Gives (λ t. t) result (single_at 32 32 text.now) }
+{
+    match read_type(alloc, text, 0, MOST_ARRAYS, MOST_BRACKETS) {
+        Ok((kind, end)) => {
+            if end < text.len() {
+                return Err(SignatureError::BadSignature { at: end as u32 });
+            }
+            Ok(kind)
+        }
+        Err(error) => Err(error),
+    }
 }
 
 #[cycle(check)]

@@ -10,13 +10,14 @@ ghost use Rattle.dbus_types.specs.Extends.{Extends};
 use crate::types::{Value, WireType};
 use portal_base::list::{ByteList, List};
 use portal_base::memory::WantOfMemory;
+use portal_base::text::Text;
 use std::alloc::Global;
 
 /// Puts the text of a type at the end; where memory runs out, a part of it
 /// may stand there.
 #[cycle(put)]
 #[tactic(auto, using(crate::proofs::Extending::extends_refl, crate::proofs::Extending::extends_append, crate::proofs::Extending::extends_trans, crate::proofs::Layers::text_struct))]
-pub fn put_type(out: &mut List<u8>, kind: &WireType) -> Result<(), WantOfMemory>
+fn put_type(out: &mut List<u8>, kind: &WireType) -> Result<(), WantOfMemory>
     ensures ok { OnOk result (out.new ≡ out.old ++ type_text kind.now) }
     ensures err { OnErr result (Extends out.old out.new) }
 {
@@ -56,7 +57,7 @@ pub fn put_type(out: &mut List<u8>, kind: &WireType) -> Result<(), WantOfMemory>
 /// Puts the texts of types at the end, one after the other.
 #[cycle(put)]
 #[tactic(auto, using(crate::proofs::Extending::extends_refl, crate::proofs::Extending::extends_append, crate::proofs::Extending::extends_trans))]
-pub fn put_types(out: &mut List<u8>, kinds: &[WireType]) -> Result<(), WantOfMemory>
+fn put_types(out: &mut List<u8>, kinds: &[WireType]) -> Result<(), WantOfMemory>
     ensures ok { OnOk result (out.new ≡ out.old ++ types_text kinds.now) }
     ensures err { OnErr result (Extends out.old out.new) }
 {
@@ -109,7 +110,7 @@ pub fn put_type_of(out: &mut List<u8>, value: &Value) -> Result<(), WantOfMemory
 /// Puts the texts of values' types at the end, one after the other.
 #[cycle(put_of)]
 #[tactic(auto, using(crate::proofs::Extending::extends_refl, crate::proofs::Extending::extends_append, crate::proofs::Extending::extends_trans))]
-pub fn put_types_of(out: &mut List<u8>, values: &[Value]) -> Result<(), WantOfMemory>
+fn put_types_of(out: &mut List<u8>, values: &[Value]) -> Result<(), WantOfMemory>
     ensures ok { OnOk result (out.new ≡ out.old ++ types_text (map type_of values.now)) }
     ensures err { OnErr result (Extends out.old out.new) }
 {
@@ -127,4 +128,15 @@ pub fn write_signature(alloc: Global, kinds: &[WireType]) -> Result<ByteList, Wa
     let mut text = List::new(alloc);
     put_types(&mut text, kinds)?;
     Ok(text)
+}
+
+/// The signature of values: the texts of their types, one after the other.
+pub fn signature_text(alloc: Global, values: &[Value]) -> Result<Text, WantOfMemory>
+    ensures { IfOk result (λ text. text ≡ types_text (map type_of values.now)) }
+{
+    let mut codes = List::new(alloc);
+    put_types_of(&mut codes, values)?;
+    // Codes are ASCII, of which nothing is replaced.
+    let text = String::from_utf8_lossy(alloc, codes.as_slice())?;
+    Ok(Text::from_string(text))
 }

@@ -2,6 +2,7 @@ pub mod Behind
 pub mod Given
 pub mod Made
 pub mod Hearing
+pub mod Rooming
 pub mod Entering
 pub mod Sounding
 pub mod Tables

@@ -1,5 +1,5 @@
 -- What a line comes to, by what was asked of the portal and what was written.
-use Rattle.std.proofs.Common.{◌≡◌, ℕ, ◌+◌, ◌<◌, ◌≤◌, ◌==◌, List, [], ◌∷◌, ◌++◌, length, take, drop, get_or, Option, Some, None, Bool, true, false, Result, Ok, Err, refl, sym, ap, ◌∙◌, subst, inl, inr, add-one, arith}
+use Rattle.std.proofs.Common.{◌≡◌, ℕ, ◌+◌, ◌*◌, ◌<◌, ◌≤◌, ◌==◌, List, [], ◌∷◌, ◌++◌, length, take, drop, get_or, Option, Some, None, Bool, true, false, Result, Ok, Err, refl, sym, ap, ◌∙◌, subst, inl, inr, add-one, arith}
 use Rattle.std.specs.Prelude.{if◌then◌else◌, is_some, map, IfErr, IfSome, OnOk}
 use Rattle.std.specs.Option.{option_map}
 use Rattle.std.proofs.Math.Path.{fun_ext}
@@ -14,7 +14,7 @@ use Rattle.portal_core.specs.Story.{Story, cost_with, limit_of, state_now}
 use Rattle.portal_model.specs.declared.entry.Entry.{Entry}
 use Rattle.portal_model.specs.declared.request.Request.{Request}
 use Rattle.portal_model.specs.declared.state.Connection.{Connection}
-use Rattle.portal_model.specs.History.{run}
+use Rattle.portal_model.specs.History.{cost, run}
 use Rattle.portal_model.specs.Opening.{opened}
 use Rattle.portal_model.specs.Seated.{binding_of, bound, is_open}
 use Rattle.portal_model.specs.State.{State, connection_of}
@@ -150,6 +150,14 @@ data_space p table seat bytes at m e =
     let long = data_long seat bytes in
     omega arith
 
+pub data_room : (p : Story) (table : List (Option Standing)) (seat : ℕ) (bytes : List ℕ) (at : Standing) → MayRun p table (Data seat bytes) → Some at ≡ sessions_of table seat → cost p.history + 8 * length (at.rest ++ bytes) ≤ limit_of p
+data_room p table seat bytes at m e =
+    let idle = stands_idle (scene p table) seat at m.agrees e in
+    let same : length (at.rest ++ bytes) ≡ length bytes = ap (λ (z : List ℕ). length (z ++ bytes)) idle.between in
+    let room = m.room in
+    let long = data_long seat bytes in
+    omega arith
+
 pub binding_now : (at now : Standing) → now.client ≡ at.client → binding now ≡ binding at
 binding_now at now e = ap (λ (c : Client). record { who = c.who; kind = c.kind }) e
 
@@ -260,18 +268,18 @@ module _ (p q : Story) (table : List (Option Standing)) (seat : ℕ) (at : Stand
 
 pub breaks_heard : (p : Story) (table : List (Option Standing)) (seat : ℕ) (at : Standing) (bytes : List ℕ) (told : Option (List (List ℕ))) (faults : ℕ) → Some at ≡ sessions_of table seat → (e : LineError) → HearsNot at bytes e
     → Breaks (scene p table) (Data seat bytes) told faults told faults e
-breaks_heard p table seat at bytes told faults here stop.Unbuilt h = (subst (λ (o : Option Standing). DataIsUnbuilt bytes o) here h, refl)
+breaks_heard p table seat at bytes told faults here stop.Unbuilt h = (refl, subst (λ (o : Option Standing). DataIsUnbuilt bytes o) here h, refl)
 breaks_heard p table seat at bytes told faults here stop.WriteFault h = absurd h
-breaks_heard p table seat at bytes told faults here stop.Memory h = inl refl
+breaks_heard p table seat at bytes told faults here stop.Memory h = (refl, inl refl)
 
-risen_later : (a b c : ℕ) → a ≤ b → HasRisen b c → HasRisen a c
+risen_later : (a b c : ℕ) → b ≡ a → HasRisen b c → HasRisen a c
 risen_later a b c h k = omega arith
 
-pub breaks_written : (a : Scene) (line : ScriptLine) (said : List (List ℕ)) (told mid told' : Option (List (List ℕ))) (faults later faults' : ℕ) → faults ≤ later → ((ws : List (List ℕ)) → Short ws said → told' ≡ onto mid ws → WritesPart a line told told')
+pub breaks_written : (a : Scene) (line : ScriptLine) (said : List (List ℕ)) (told mid told' : Option (List (List ℕ))) (faults later faults' : ℕ) → later ≡ faults → ((ws : List (List ℕ)) → Short ws said → told' ≡ onto mid ws → WritesPart a line told told')
     → (e : LineError) → WritesShort said mid later told' faults' e → Breaks a line told faults told' faults' e
 breaks_written a line said told mid told' faults later faults' le part stop.Unbuilt h = absurd h
 breaks_written a line said told mid told' faults later faults' le part stop.WriteFault h = (risen_later faults later faults' le h.0, part h.1.0 h.1.1 h.1.2)
-breaks_written a line said told mid told' faults later faults' le part stop.Memory h = inr (part h.0 h.1 h.2)
+breaks_written a line said told mid told' faults later faults' le part stop.Memory h = (h.0 ∙ le, inr (part h.1.0 h.1.1 h.1.2))
 
 -- ---- lines that are written one after another
 
@@ -293,8 +301,8 @@ module _ (seat : ℕ) (xs : List (List ℕ)) (i : ℕ) where
       (subst (λ (z : List (List ℕ)). Short written z) (sym (map-append (out_line seat) (take i xs) (drop i xs))) (short_more written written (map (out_line seat) (drop i xs)) (short_whole written)))
 
   -- there was no memory for the next line
-  pub no_line : (told mid : Option (List (List ℕ))) (faults faults' : ℕ) → mid ≡ onto told written → WritesShort (map (out_line seat) xs) told faults mid faults' stop.Memory
-  no_line told mid faults faults' h = (written, some_written, h)
+  pub no_line : (told mid : Option (List (List ℕ))) (faults faults' : ℕ) → faults' ≡ faults → mid ≡ onto told written → WritesShort (map (out_line seat) xs) told faults mid faults' stop.Memory
+  no_line told mid faults faults' same h = (same, (written, some_written, h))
 
   module _ (x : List ℕ) (inside : i < length xs) (is : x ≡ get_or xs i x) where
     next_written : map (out_line seat) (take (i + 1) xs) ≡ written ++ out_line seat x ∷ []
@@ -320,11 +328,11 @@ module _ (seat : ℕ) (xs : List (List ℕ)) (i : ℕ) where
     )
 
     -- the next line was not written whole
-    pub line_broke : (line : List ℕ) (told mid told' : Option (List (List ℕ))) (faults later faults' : ℕ) → line ≡ out_line seat x → mid ≡ onto told written → faults ≤ later
+    pub line_broke : (line : List ℕ) (told mid told' : Option (List (List ℕ))) (faults later faults' : ℕ) → line ≡ out_line seat x → mid ≡ onto told written → later ≡ faults
         → (e : LineError) → WritesShort (line ∷ []) mid later told' faults' e → WritesShort (map (out_line seat) xs) told faults told' faults' e
     line_broke line told mid told' faults later faults' e m le stop.Unbuilt h = absurd h
     line_broke line told mid told' faults later faults' e m le stop.WriteFault h = (risen_later faults later faults' le h.0, line_part line told mid told' e m h.1)
-    line_broke line told mid told' faults later faults' e m le stop.Memory h = line_part line told mid told' e m h
+    line_broke line told mid told' faults later faults' e m le stop.Memory h = (h.0 ∙ le, line_part line told mid told' e m h.1)
 
 -- ---- bytes of a data line, from first to last
 
@@ -341,7 +349,7 @@ answered_at p q table seat at now lent bytes pieces b here e same h = record { h
 module _ (p q : Story) (table : List (Option Standing)) (seat : ℕ) (at now : Standing) (bytes : List ℕ) (pieces lent : List (List ℕ)) (b : Bool) (a : Answered p q table seat at now bytes pieces b) (e : lent ≡ pieces) where
   pub pieces_break : (told told' : Option (List (List ℕ))) (faults faults' : ℕ) (error : LineError) → WritesShort (map (out_line seat) lent) told faults told' faults' error → Breaks (scene p table) (Data seat bytes) told faults told' faults' error
   pieces_break told told' faults faults' error h =
-      breaks_written (scene p table) (Data seat bytes) (map (out_line seat) pieces) told told told' faults faults faults' (omega arith) (λ ws short wrote. part p q table seat at now bytes pieces a.here b told told' ws a.heard short wrote) error
+      breaks_written (scene p table) (Data seat bytes) (map (out_line seat) pieces) told told told' faults faults faults' refl (λ ws short wrote. part p q table seat at now bytes pieces a.here b told told' ws a.heard short wrote) error
       (subst (λ (z : List (List ℕ)). WritesShort (map (out_line seat) z) told faults told' faults' error) e h)
 
   wrote_is : (told mid : Option (List (List ℕ))) → mid ≡ onto told (map (out_line seat) lent) → mid ≡ onto told (map (out_line seat) pieces)
@@ -357,7 +365,7 @@ module _ (p q : Story) (table : List (Option Standing)) (seat : ℕ) (at now : S
       → mid ≡ onto told (map (out_line seat) lent) → told' ≡ onto mid (end_line seat (ending now.fed now.rest) ∷ []) → Runs p table r table' (Data seat bytes) told told'
   last_runs t r table' told mid told' also left took wrote ended = end_runs p q table seat at now bytes pieces a.here r table' told mid told' (over t) a.same also left took (wrote_is told mid wrote) ended
 
-  pub last_breaks : b ≡ true → (told mid told' : Option (List (List ℕ))) (faults later faults' : ℕ) → faults ≤ later → mid ≡ onto told (map (out_line seat) lent)
+  pub last_breaks : b ≡ true → (told mid told' : Option (List (List ℕ))) (faults later faults' : ℕ) → later ≡ faults → mid ≡ onto told (map (out_line seat) lent)
       → (error : LineError) → WritesShort (end_line seat (ending now.fed now.rest) ∷ []) mid later told' faults' error → Breaks (scene p table) (Data seat bytes) told faults told' faults' error
   last_breaks t told mid told' faults later faults' le wrote error h =
       breaks_written (scene p table) (Data seat bytes) (end_line seat (ending now.fed now.rest) ∷ []) told mid told' faults later faults' le
@@ -369,8 +377,8 @@ module _ (p q : Story) (table : List (Option Standing)) (seat : ℕ) (at now : S
       more_runs p q table seat at now bytes pieces a.here table' told told' (on t) a.same (put_back table taken table' seat (Some now) took put) (wrote_is told told' wrote)
 
   -- all was written, and there is no memory to go on
-  pub all_written : (told told' : Option (List (List ℕ))) (faults faults' : ℕ) → told' ≡ onto told (map (out_line seat) lent) → Breaks (scene p table) (Data seat bytes) told faults told' faults' stop.Memory
-  all_written told told' faults faults' wrote = inr (part p q table seat at now bytes pieces a.here b told told' (map (out_line seat) pieces) a.heard (short_whole _) (wrote_is told told' wrote))
+  pub all_written : (told told' : Option (List (List ℕ))) (faults faults' : ℕ) → faults' ≡ faults → told' ≡ onto told (map (out_line seat) lent) → Breaks (scene p table) (Data seat bytes) told faults told' faults' stop.Memory
+  all_written told told' faults faults' same wrote = (same, inr (part p q table seat at now bytes pieces a.here b told told' (map (out_line seat) pieces) a.heard (short_whole _) (wrote_is told told' wrote)))
 
 -- ---- lines of the opening
 

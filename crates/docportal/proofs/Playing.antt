@@ -1,6 +1,5 @@
 -- Lines run one after another.
-use Rattle.std.proofs.Common.{◌≡◌, ℕ, suc, ◌+◌, ◌<◌, ◌≤◌, List, [], ◌∷◌, ◌++◌, length, take, drop, get_or, Option, Some, None, Bool, true, false, not, refl, sym, ap, ◌∙◌, subst, inl, inr, append_assoc, add-one, arith, drop-cons, length-take}
-use Rattle.std.specs.List.{list_any}
+use Rattle.std.proofs.Common.{◌≡◌, ℕ, suc, ◌+◌, ◌*◌, ◌<◌, ◌≤◌, List, [], ◌∷◌, ◌++◌, length, take, drop, get_or, Option, Some, None, Bool, true, false, not, refl, sym, ap, ◌∙◌, subst, inl, inr, append_assoc, add-one, arith, drop-cons, length-take}
 use Rattle.std.proofs.Math.Seq.{take-suc}
 use Rattle.std.proofs.lemmas.List.{append-nil, take-append-drop, take_all}
 use Rattle.portal_base.specs.Outside.{HasRisen, Short, onto}
@@ -13,16 +12,16 @@ use Rattle.portal_model.proofs.Histories.{cost-append}
 use Rattle.script_form.specs.declared.script.ScriptLine.{ScriptLine}
 use Rattle.script_form.specs.declared.script.ScriptLine.TheVariants.{File, Doc, Open, Data, Close}
 use Rattle.script_form.specs.Lines.{line_text, text_of}
-use Rattle.script_form.specs.Order.{goes_with, opens}
+use Rattle.script_form.specs.Order.{StandBehind, goes_with}
 use Rattle.session.specs.Standings.{Standing}
 use Rattle.docportal.specs.declared.line.LineError.{LineError}
 use Rattle.docportal.specs.declared.line.LineError.TheVariants as stop
 use Rattle.docportal.specs.Lines.{Does}
 use Rattle.docportal.specs.Plays.{Plays, PlaysAll, PlaysPart, PlayStops, status_at}
 use Rattle.docportal.specs.Scenes.{Scene, sessions_of}
-use Rattle.docportal.specs.Steps.{Breaks, HaveRoom, IsNew, MayPlay, MayRun, Runs, WritesPart, scene}
+use Rattle.docportal.specs.Steps.{Agrees, Breaks, HaveRoom, IsNew, MayPlay, MayRun, Runs, WritesPart, scene}
 use Rattle.docportal.proofs.Costs.{text_more}
-use Rattle.docportal.proofs.Staying.{does_agree, does_close, does_cost, does_room, holds_less}
+use Rattle.docportal.proofs.Staying.{AreClosed, does_agree, does_close, does_cost, does_room, holds_less}
 
 -- ---- what is told
 
@@ -65,15 +64,16 @@ plays_on (x ∷ front) a b c line es fs out said (first, more, here, later, mid,
   plays_on front mid b c line more fs later said plays d,
 )
 
--- the lines up to this index were run, and their output written
-pub record Played (first : Scene) (lines : List ScriptLine) (told told' : Option (List (List ℕ))) (index : ℕ) (now : Scene) : Type 0 where
+-- the lines up to this index were run, their history is stored, and their output is written
+pub record Played (old : Story) (lines : List ScriptLine) (told told' : Option (List (List ℕ))) (index : ℕ) (now : Story) (table : List (Option Standing)) : Type 0 where
   pub history : List Entry
   pub out : List (List ℕ)
-  pub plays : Plays first (take index lines) history out now
+  pub plays : Plays (scene old []) (take index lines) history out (scene now table)
+  pub stored : now.history ≡ old.history ++ history
   pub wrote : told' ≡ onto told out
 
-pub played_none : (s : Scene) (lines : List ScriptLine) (told : Option (List (List ℕ))) → Played s lines told told 0 s
-played_none s lines told = record { history = []; out = []; plays = (refl, refl, refl); wrote = onto_none told }
+pub played_none : (p : Story) (lines : List ScriptLine) (told : Option (List (List ℕ))) → Played p lines told told 0 p []
+played_none p lines told = record { history = []; out = []; plays = (refl, refl, refl); stored = sym (append-nil p.history); wrote = onto_none told }
 
 rest_is : (lines : List ScriptLine) (index : ℕ) (line : ScriptLine) → index < length lines → line ≡ get_or lines index line → drop index lines ≡ line ∷ drop (index + 1) lines
 rest_is lines index line h is = rw (add-one, drop-cons lines index line) (ap (λ (x : ScriptLine). x ∷ drop (suc index) lines) (sym is))
@@ -84,31 +84,34 @@ front_is lines index line h is = rw (add-one, take-suc lines index line) (ap (λ
 whole_is : (lines : List ScriptLine) (index : ℕ) (line : ScriptLine) → index < length lines → line ≡ get_or lines index line → lines ≡ take index lines ++ line ∷ drop (index + 1) lines
 whole_is lines index line h is = sym (take-append-drop index lines) ∙ ap (λ (z : List ScriptLine). take index lines ++ z) (rest_is lines index line h is)
 
-pub played_on : (first : Scene) (lines : List ScriptLine) (told told' told'' : Option (List (List ℕ))) (index : ℕ) (p q : Story) (table table' : List (Option Standing)) (line : ScriptLine)
-    → index < length lines → line ≡ get_or lines index line → Played first lines told told' index (scene p table) → Runs p table q table' line told' told'' → Played first lines told told'' (index + 1) (scene q table')
+pub played_on : (first : Story) (lines : List ScriptLine) (told told' told'' : Option (List (List ℕ))) (index : ℕ) (p q : Story) (table table' : List (Option Standing)) (line : ScriptLine)
+    → index < length lines → line ≡ get_or lines index line → Played first lines told told' index p table → Runs p table q table' line told' told'' → Played first lines told told'' (index + 1) q table'
 played_on first lines told told' told'' index p q table table' line h is before r = record {
   history = before.history ++ r.entries;
   out = before.out ++ r.out;
-  plays = subst (λ (z : List ScriptLine). Plays first z (before.history ++ r.entries) (before.out ++ r.out) (scene q table')) (sym (front_is lines index line h is))
-      (plays_on (take index lines) first (scene p table) (scene q table') line before.history r.entries before.out r.out before.plays r.does);
+  plays = subst (λ (z : List ScriptLine). Plays (scene first []) z (before.history ++ r.entries) (before.out ++ r.out) (scene q table')) (sym (front_is lines index line h is))
+      (plays_on (take index lines) (scene first []) (scene p table) (scene q table') line before.history r.entries before.out r.out before.plays r.does);
+  stored = r.history ∙ (ap (λ (z : List Entry). z ++ r.entries) before.stored ∙ append_assoc first.history before.history r.entries);
   wrote = r.output ∙ (ap (λ (z : Option (List (List ℕ))). onto z r.out) before.wrote ∙ onto_more told before.out r.out);
 }
 
-pub played_all : (first : Scene) (lines : List ScriptLine) (told told' : Option (List (List ℕ))) (index : ℕ) (s : Scene) → length lines ≡ index → Played first lines told told' index s → PlaysAll first lines told told'
-played_all first lines told told' index s all p = record {
+pub played_all : (first now : Story) (table : List (Option Standing)) (lines : List ScriptLine) (told told' : Option (List (List ℕ))) (index : ℕ) → length lines ≡ index → Played first lines told told' index now table → PlaysAll first now lines told told'
+played_all first now table lines told told' index all p = record {
   history = p.history;
   out = p.out;
-  last = s;
-  plays = subst (λ (z : List ScriptLine). Plays first z p.history p.out s) (take_all index lines (omega arith)) p.plays;
+  last = scene now table;
+  plays = subst (λ (z : List ScriptLine). Plays (scene first []) z p.history p.out (scene now table)) (take_all index lines (omega arith)) p.plays;
+  stored = p.stored;
+  state = refl;
   output = p.wrote;
 }
 
-later : (first last faults : ℕ) → first ≤ faults → HasRisen faults last → HasRisen first last
+later : (first last faults : ℕ) → faults ≡ first → HasRisen faults last → HasRisen first last
 later first last faults h r = omega arith
 
 -- a front of a line's output was written behind that of the lines before it
-part_on : (first : Scene) (lines : List ScriptLine) (told told' told'' : Option (List (List ℕ))) (index : ℕ) (p : Story) (table : List (Option Standing)) (line : ScriptLine)
-    → index < length lines → line ≡ get_or lines index line → Played first lines told told' index (scene p table) → WritesPart (scene p table) line told' told'' → PlaysPart first lines told told''
+part_on : (first : Story) (lines : List ScriptLine) (told told' told'' : Option (List (List ℕ))) (index : ℕ) (p : Story) (table : List (Option Standing)) (line : ScriptLine)
+    → index < length lines → line ≡ get_or lines index line → Played first lines told told' index p table → WritesPart (scene p table) line told' told'' → PlaysPart (scene first []) lines told told''
 part_on first lines told told' told'' index p table line h is before (entries, out, b, pieces, does, short, wrote) = record {
   front = take index lines ++ line ∷ [];
   history = before.history ++ entries;
@@ -117,7 +120,7 @@ part_on first lines told told' told'' index p table line h is before (entries, o
   plays = (
     drop (index + 1) lines,
     whole_is lines index line h is ∙ sym (append_assoc (take index lines) (line ∷ []) (drop (index + 1) lines)),
-    plays_on (take index lines) first (scene p table) b line before.history entries before.out out before.plays does,
+    plays_on (take index lines) (scene first []) (scene p table) b line before.history entries before.out out before.plays does,
   );
   pieces = before.out ++ pieces;
   short = short_after before.out pieces out short;
@@ -125,33 +128,36 @@ part_on first lines told told' told'' index p table line h is before (entries, o
 }
 
 -- nothing of the line was written
-none_on : (first : Scene) (lines : List ScriptLine) (told told' told'' : Option (List (List ℕ))) (index : ℕ) (s : Scene) → Played first lines told told' index s → told'' ≡ told' → PlaysPart first lines told told''
-none_on first lines told told' told'' index s before same = record {
+none_on : (first : Story) (lines : List ScriptLine) (told told' told'' : Option (List (List ℕ))) (index : ℕ) (p : Story) (table : List (Option Standing)) → Played first lines told told' index p table → told'' ≡ told' → PlaysPart (scene first []) lines told told''
+none_on first lines told told' told'' index p table before same = record {
   front = take index lines;
   history = before.history;
   out = before.out;
-  last = s;
+  last = scene p table;
   plays = (drop index lines, sym (take-append-drop index lines), before.plays);
   pieces = before.out;
   short = short_whole before.out;
   output = same ∙ before.wrote;
 }
 
-pub play_stops : (first : Scene) (lines : List ScriptLine) (told told' told'' : Option (List (List ℕ))) (faults faults' faults'' : ℕ) (index : ℕ) (p : Story) (table : List (Option Standing)) (line : ScriptLine)
-    → index < length lines → line ≡ get_or lines index line → faults ≤ faults' → Played first lines told told' index (scene p table)
-    → (e : LineError) → Breaks (scene p table) line told' faults' told'' faults'' e → PlayStops first lines told faults told'' faults'' (status_at e index)
-play_stops first lines told told' told'' faults faults' faults'' index p table line h is le before stop.Unbuilt b = record {
-  front = take index lines;
-  history = before.history;
-  out = before.out;
-  last = scene p table;
-  plays = before.plays;
-  stops = (line, drop (index + 1) lines, whole_is lines index line h is, b.0, let long = length-take index lines in omega arith);
-  output = b.1 ∙ before.wrote;
-}
-play_stops first lines told told' told'' faults faults' faults'' index p table line h is le before stop.WriteFault b = (later faults faults'' faults' le b.0, part_on first lines told told' told'' index p table line h is before b.1)
-play_stops first lines told told' told'' faults faults' faults'' index p table line h is le before stop.Memory (inl same) = none_on first lines told told' told'' index (scene p table) before same
-play_stops first lines told told' told'' faults faults' faults'' index p table line h is le before stop.Memory (inr part) = part_on first lines told told' told'' index p table line h is before part
+pub play_stops : (first : Story) (lines : List ScriptLine) (told told' told'' : Option (List (List ℕ))) (faults faults' faults'' : ℕ) (index : ℕ) (p : Story) (table : List (Option Standing)) (line : ScriptLine)
+    → index < length lines → line ≡ get_or lines index line → faults' ≡ faults → Played first lines told told' index p table
+    → (e : LineError) → Breaks (scene p table) line told' faults' told'' faults'' e → PlayStops (scene first []) lines told faults told'' faults'' (status_at e index)
+play_stops first lines told told' told'' faults faults' faults'' index p table line h is same before stop.Unbuilt b = (
+  b.0 ∙ same,
+  record {
+    front = take index lines;
+    history = before.history;
+    out = before.out;
+    last = scene p table;
+    plays = before.plays;
+    stops = (line, drop (index + 1) lines, whole_is lines index line h is, b.1, let long = length-take index lines in omega arith);
+    output = b.2 ∙ before.wrote;
+  },
+)
+play_stops first lines told told' told'' faults faults' faults'' index p table line h is same before stop.WriteFault b = (later faults faults'' faults' same b.0, part_on first lines told told' told'' index p table line h is before b.1)
+play_stops first lines told told' told'' faults faults' faults'' index p table line h is same before stop.Memory (counts, inl unwritten) = (counts ∙ same, none_on first lines told told' told'' index p table before unwritten)
+play_stops first lines told told' told'' faults faults' faults'' index p table line h is same before stop.Memory (counts, inr part) = (counts ∙ same, part_on first lines told told' told'' index p table line h is before part)
 
 -- ---- what the lines need
 
@@ -159,16 +165,37 @@ no_true : (b : Bool) → not b ≡ true → b ≡ false
 no_true true h = cc
 no_true false h = refl
 
-line_new : (line : ScriptLine) (earlier : List ScriptLine) (p : Story) (table : List (Option Standing)) → goes_with earlier line ≡ true → ((n : ℕ) → list_any (opens n) earlier ≡ false → sessions_of table n ≡ None) → IsNew (scene p table) line
-line_new (File path content) earlier p table order closed = tt
-line_new (Doc id reusable path grants) earlier p table order closed = tt
-line_new (Open seat kind who) earlier p table order closed = closed seat (no_true _ order)
-line_new (Data seat bytes) earlier p table order closed = tt
-line_new (Close seat) earlier p table order closed = tt
+line_new : (line : ScriptLine) (earlier : List ScriptLine) (a : Scene) → goes_with earlier line ≡ true → AreClosed earlier a → IsNew a line
+line_new (File path content) earlier a order closed = tt
+line_new (Doc id reusable path grants) earlier a order closed = tt
+line_new (Open seat kind who) earlier a order closed = closed seat (no_true _ order)
+line_new (Data seat bytes) earlier a order closed = tt
+line_new (Close seat) earlier a order closed = tt
+
+-- what lines ask costs at most eight times their text
+pub plays_cost : (front later earlier : List ScriptLine) (a b : Scene) (history : List Entry) (out : List (List ℕ)) → StandBehind earlier (front ++ later) → Agrees a → AreClosed earlier a → Plays a front history out b
+    → cost history ≤ 8 * length (text_of front)
+plays_cost [] later earlier a b history out stand agrees closed h = let none = ap cost h.0 in omega arith
+plays_cost (line ∷ front) later earlier a b history out stand agrees closed (first, more, said, rest, mid, entries_are, out_is, does, plays) =
+    let new = line_new line earlier a stand.0.order closed in
+    let here = does_cost line a mid first said agrees stand.0.itself does in
+    let there = plays_cost front later (earlier ++ line ∷ []) mid b more rest stand.1 (does_agree line a mid first said agrees new does) (does_close line a mid first said earlier closed does) plays in
+    let both : cost history ≡ cost first + cost more = ap cost entries_are ∙ cost-append first more in
+    let text = text_more line front in
+    omega arith
+
+pub text_joined : (front later : List ScriptLine) → length (text_of (front ++ later)) ≡ length (text_of front) + length (text_of later)
+unfolding text_of
+text_joined [] later = omega arith
+text_joined (line ∷ front) later =
+    let rest = text_joined front later in
+    let whole = text_more line (front ++ later) in
+    let part = text_more line front in
+    omega arith
 
 module _ (earlier lines : List ScriptLine) (p : Story) (table : List (Option Standing)) (line : ScriptLine) (m : MayPlay earlier p table (line ∷ lines)) where
   is_new : IsNew (scene p table) line
-  is_new = line_new line earlier p table m.stand.0.order m.closed
+  is_new = line_new line earlier (scene p table) m.stand.0.order m.closed
 
   next_may_run : MayRun p table line
   next_may_run =

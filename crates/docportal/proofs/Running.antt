@@ -1,11 +1,12 @@
 -- A text replayed, and a run of the program.
-use Rattle.std.proofs.Common.{◌≡◌, ℕ, ◌+◌, ◌≤◌, List, [], ◌∷◌, length, Option, Some, None, Bool, false, refl, sym, ap, ◌∙◌, subst, inl, inr, ◌⊎◌, get_or, arith, length-append, map}
+use Rattle.std.proofs.Common.{◌≡◌, ℕ, ◌+◌, ◌*◌, ◌≤◌, List, [], ◌∷◌, ◌++◌, length, Option, Some, None, Bool, false, refl, sym, ap, ◌∙◌, subst, inl, inr, ◌⊎◌, get_or, arith, length-append, map}
 use Rattle.std.specs.Prelude.{◌≢◌, IsTrue, codes}
 use Rattle.portal_base.specs.Outside.{onto}
 use Rattle.portal_base.specs.Names.{is_same}
 use Rattle.portal_model.specs.declared.entry.Entry.{Entry}
 use Rattle.portal_model.specs.declared.opening.OpeningState.{OpeningState}
 use Rattle.portal_base.specs.declared.limits.Limits.{Limits}
+use Rattle.portal_model.specs.History.{cost}
 use Rattle.portal_model.specs.Opening.{ValidOpening, file_of, opened}
 use Rattle.portal_model.specs.Valid.{Valid}
 use Rattle.portal_model.proofs.Finds.{is_same-eq, is_same-refl}
@@ -13,7 +14,7 @@ use Rattle.portal_core.specs.Story.{Story}
 use Rattle.script_form.specs.declared.script.ScriptLine.{ScriptLine}
 use Rattle.script_form.specs.Lines.{text_of}
 use Rattle.script_form.specs.Opening.{HoldsScripts, opening}
-use Rattle.script_form.specs.Order.{IsBuilt}
+use Rattle.script_form.specs.Order.{IsBuilt, StandBehind}
 use Rattle.docportal.specs.declared.input.InputError.{InputError}
 use Rattle.docportal.specs.declared.input.InputError.TheVariants as input
 use Rattle.docportal.specs.declared.status.Status.{Status}
@@ -25,7 +26,7 @@ use Rattle.docportal.specs.Scenes.{Scene, first_scene, opening_state, run_limits
 use Rattle.docportal.specs.Steps.{MayPlay, scene}
 use Rattle.docportal.proofs.Behind.{behind_none}
 use Rattle.docportal.proofs.Oneness.{plays_one}
-use Rattle.docportal.proofs.Playing.{onto_none}
+use Rattle.docportal.proofs.Playing.{onto_none, plays_cost, text_joined}
 use Rattle.docportal.proofs.Sounding.{sound}
 
 -- ---- the words
@@ -56,15 +57,25 @@ word_known words w r l e s =
 abbrev pub Replayed : List ℕ → Option (List (List ℕ)) → Option (List (List ℕ)) → Status → Type 0
 Replayed text told told' status = (pieces : List (List ℕ)) × (told' ≡ onto told pieces) × Replays text pieces status
 
-is_replay : (lines front : List ScriptLine) (history : List Entry) (out : List (List ℕ)) (last : Scene) → Valid (opening_state lines) → Plays (first_scene lines) front history out last → IsReplay lines front history out last
-is_replay lines front history out last valid plays = record {
+front_room : (text : List ℕ) (lines front later : List ScriptLine) (ends : Option ℕ) (history : List Entry) (out : List (List ℕ)) (last : Scene) → length text ≤ script_limit → IsBuilt text lines ends
+    → Plays (first_scene lines) front history out last → lines ≡ front ++ later → cost history + 8 * length (text_of later) ≤ run_limits.history
+front_room text lines front later ends history out last short script plays e =
+    let most = plays_cost front later [] (first_scene lines) last history out (subst (StandBehind []) e script.good) (record { idle = λ n. tt; bound_alike = λ n. refl }) (λ n h. refl) plays in
+    let cut : length text ≡ length (text_of lines) + length script.rest.0 = ap length script.rest.1 ∙ length-append (text_of lines) script.rest.0 in
+    let both : length (text_of lines) ≡ length (text_of front) + length (text_of later) = ap (λ (z : List ScriptLine). length (text_of z)) e ∙ text_joined front later in
+    omega arith
+
+is_replay : (text : List ℕ) (lines front : List ScriptLine) (ends : Option ℕ) (history : List Entry) (out : List (List ℕ)) (last : Scene) → length text ≤ script_limit → IsBuilt text lines ends → Valid (opening_state lines)
+    → Plays (first_scene lines) front history out last → IsReplay lines front history out last
+is_replay text lines front ends history out last short script valid plays = record {
   plays = plays;
   only = λ h o b p. plays_one front (first_scene lines) b last h history o out p plays;
   sound = sound lines front history out last valid plays;
+  room = λ later e. front_room text lines front later ends history out last short script plays e;
 }
 
 -- a text of these lines, whose opening is valid, and a portal that opened so
-module _ (text : List ℕ) (lines : List ScriptLine) (ends : Option ℕ) (script : IsBuilt text lines ends) (valid : Valid (opening_state lines)) (told told' : Option (List (List ℕ))) where
+module _ (text : List ℕ) (lines : List ScriptLine) (ends : Option ℕ) (size : length text ≤ script_limit) (script : IsBuilt text lines ends) (valid : Valid (opening_state lines)) (told told' : Option (List (List ℕ))) where
   played_part : PlaysPart (first_scene lines) lines told told' → (pieces : List (List ℕ)) × (told' ≡ onto told pieces) × WroteFront text pieces
   played_part p = (
     p.pieces,
@@ -79,7 +90,7 @@ module _ (text : List ℕ) (lines : List ScriptLine) (ends : Option ℕ) (script
       history = p.history;
       out = p.out;
       last = p.last;
-      replay = is_replay lines p.front p.history p.out p.last valid p.plays.2;
+      replay = is_replay text lines p.front ends p.history p.out p.last size script valid p.plays.2;
       output = p.short;
     },
   )
@@ -95,7 +106,7 @@ module _ (text : List ℕ) (lines : List ScriptLine) (ends : Option ℕ) (script
       front = p.front;
       history = p.history;
       last = p.last;
-      replay = is_replay lines p.front p.history p.out p.last valid p.plays;
+      replay = is_replay text lines p.front ends p.history p.out p.last size script valid p.plays;
       first = inr p.stops;
     },
   )
@@ -107,43 +118,44 @@ module _ (text : List ℕ) (lines : List ScriptLine) (ends : Option ℕ) (script
   stopped faults faults' Done p = absurd p
   stopped faults faults' ReadFault p = absurd p
   stopped faults faults' WriteFault p = played_part p.1
-  stopped faults faults' Memory p = part_memory (played_part p)
+  stopped faults faults' Memory p = part_memory (played_part p.1)
   stopped faults faults' TooLong p = absurd p
-  stopped faults faults' (Unbuilt number) p = played_up_to number p
+  stopped faults faults' (Unbuilt number) p = played_up_to number p.1
 
-ended : (text : List ℕ) (lines : List ScriptLine) (ends : Option ℕ) (told told' : Option (List (List ℕ))) → IsBuilt text lines ends → Valid (opening_state lines) → PlaysAll (first_scene lines) lines told told' → Replayed text told told' (ended_at ends)
-ended text lines None told told' script valid p = (
-  p.out,
-  p.output,
-  record { lines = lines; script = script; history = p.history; last = p.last; replay = is_replay lines lines p.history p.out p.last valid p.plays },
+ended : (text : List ℕ) (lines : List ScriptLine) (ends : Option ℕ) (told told' : Option (List (List ℕ))) (history : List Entry) (out : List (List ℕ)) (last : Scene)
+    → length text ≤ script_limit → IsBuilt text lines ends → Valid (opening_state lines) → Plays (first_scene lines) lines history out last → told' ≡ onto told out → Replayed text told told' (ended_at ends)
+ended text lines None told told' history out last size script valid plays output = (
+  out,
+  output,
+  record { lines = lines; script = script; history = history; last = last; replay = is_replay text lines lines None history out last size script valid plays },
 )
-ended text lines (Some number) told told' script valid p = (
-  p.out,
-  p.output,
+ended text lines (Some number) told told' history out last size script valid plays output = (
+  out,
+  output,
   record {
     lines = lines;
     ends = Some number;
     script = script;
     front = lines;
-    history = p.history;
-    last = p.last;
-    replay = is_replay lines lines p.history p.out p.last valid p.plays;
+    history = history;
+    last = last;
+    replay = is_replay text lines lines (Some number) history out last size script valid plays;
     first = inl (refl, refl);
   },
 )
 
 pub stopped_risen : (lines : List ScriptLine) (s : Scene) (told told' : Option (List (List ℕ))) (faults faults' : ℕ) (status : Status)
     → PlayStops s lines told faults told' faults' status → Risen status 0 0 faults faults'
-stopped_risen lines s told told' faults faults' Done p = tt
+stopped_risen lines s told told' faults faults' Done p = absurd p
 stopped_risen lines s told told' faults faults' ReadFault p = absurd p
-stopped_risen lines s told told' faults faults' WriteFault p = p.0
-stopped_risen lines s told told' faults faults' Memory p = tt
-stopped_risen lines s told told' faults faults' TooLong p = tt
-stopped_risen lines s told told' faults faults' (Unbuilt line) p = tt
+stopped_risen lines s told told' faults faults' WriteFault p = (refl, p.0)
+stopped_risen lines s told told' faults faults' Memory p = (refl, p.0)
+stopped_risen lines s told told' faults faults' TooLong p = absurd p
+stopped_risen lines s told told' faults faults' (Unbuilt line) p = (refl, p.0)
 
-pub ended_risen : (ends : Option ℕ) (faults faults' : ℕ) → Risen (ended_at ends) 0 0 faults faults'
-ended_risen None faults faults' = tt
-ended_risen (Some n) faults faults' = tt
+pub ended_risen : (ends : Option ℕ) (faults faults' : ℕ) → faults' ≡ faults → Risen (ended_at ends) 0 0 faults faults'
+ended_risen None faults faults' same = (refl, same)
+ended_risen (Some n) faults faults' same = (refl, same)
 
 pub replayed_none : (text : List ℕ) (told : Option (List (List ℕ))) → Replayed text told told Memory
 replayed_none text told = ([], onto_none told, inl refl)
@@ -183,17 +195,18 @@ scene_is : (lines : List ScriptLine) (o : OpeningState) (p : Story) → o ≡ op
 scene_is lines o p oe pe = ap (λ (q : Story). scene q []) (pe ∙ ap started oe)
 
 pub replay_stops : (text : List ℕ) (lines slice : List ScriptLine) (ends : Option ℕ) (o : OpeningState) (p : Story) (told told' : Option (List (List ℕ))) (faults faults' : ℕ) (status : Status)
-    → IsBuilt text lines ends → Valid (opened o) → slice ≡ lines → o ≡ opening run_limits lines → p ≡ started o → PlayStops (scene p []) slice told faults told' faults' status → Replayed text told told' status
-replay_stops text lines slice ends o p told told' faults faults' status b valid s oe pe h =
-    stopped text lines ends b (subst (λ (x : OpeningState). Valid (opened x)) oe valid) told told' faults faults' status
+    → length text ≤ script_limit → IsBuilt text lines ends → Valid (opened o) → slice ≡ lines → o ≡ opening run_limits lines → p ≡ started o → PlayStops (scene p []) slice told faults told' faults' status → Replayed text told told' status
+replay_stops text lines slice ends o p told told' faults faults' status size b valid s oe pe h =
+    stopped text lines ends size b (subst (λ (x : OpeningState). Valid (opened x)) oe valid) told told' faults faults' status
     (subst (λ (x : List ScriptLine). PlayStops (first_scene lines) x told faults told' faults' status) s (subst (λ (x : Scene). PlayStops x slice told faults told' faults' status) (scene_is lines o p oe pe) h))
 
-pub replays_all : (text : List ℕ) (lines slice : List ScriptLine) (ends : Option ℕ) (o : OpeningState) (p : Story) (told told' : Option (List (List ℕ))) (status : Status)
-    → IsBuilt text lines ends → Valid (opened o) → slice ≡ lines → o ≡ opening run_limits lines → p ≡ started o → status ≡ ended_at ends → PlaysAll (scene p []) slice told told' → Replayed text told told' status
-replays_all text lines slice ends o p told told' status b valid s oe pe e h =
+pub replays_all : (text : List ℕ) (lines slice : List ScriptLine) (ends : Option ℕ) (o : OpeningState) (p q : Story) (told told' : Option (List (List ℕ))) (status : Status)
+    → length text ≤ script_limit → IsBuilt text lines ends → Valid (opened o) → slice ≡ lines → o ≡ opening run_limits lines → p ≡ started o → status ≡ ended_at ends → PlaysAll p q slice told told' → Replayed text told told' status
+replays_all text lines slice ends o p q told told' status size b valid s oe pe e h =
+    let plays : Plays (first_scene lines) lines h.history h.out h.last =
+    subst (λ (x : List ScriptLine). Plays (first_scene lines) x h.history h.out h.last) s (subst (λ (x : Scene). Plays x slice h.history h.out h.last) (scene_is lines o p oe pe) h.plays) in
     subst (λ (x : Status). Replayed text told told' x) (sym e)
-    (ended text lines ends told told' b (subst (λ (x : OpeningState). Valid (opened x)) oe valid)
-    (subst (λ (x : List ScriptLine). PlaysAll (first_scene lines) x told told') s (subst (λ (x : Scene). PlaysAll x slice told told') (scene_is lines o p oe pe) h)))
+    (ended text lines ends told told' h.history h.out h.last size b (subst (λ (x : OpeningState). Valid (opened x)) oe valid) plays h.output)
 
 -- ---- the whole run
 
@@ -211,13 +224,13 @@ pub ran_whole : (words : List (List ℕ)) (text : List ℕ) (left left' : Option
 ran_whole words text left left' told told' status w whole r =
     record { text = text; pieces = r.0; read = whole.read; wrote = r.1; cause = cause_of words text left' r.0 status w whole.within whole.ended r.2 }
 
-pub risen_whole : (status : Status) (text : List ℕ) (pieces : List (List ℕ)) (reads reads' writes writes' : ℕ) → Replays text pieces status → Risen status 0 0 writes writes' → Risen status reads reads' writes writes'
-risen_whole Done text pieces reads reads' writes writes' r h = tt
-risen_whole ReadFault text pieces reads reads' writes writes' r h = absurd r
-risen_whole WriteFault text pieces reads reads' writes writes' r h = h
-risen_whole Memory text pieces reads reads' writes writes' r h = tt
-risen_whole TooLong text pieces reads reads' writes writes' r h = tt
-risen_whole (Unbuilt line) text pieces reads reads' writes writes' r h = tt
+pub risen_whole : (status : Status) (text : List ℕ) (pieces : List (List ℕ)) (reads reads' writes writes' : ℕ) → reads' ≡ reads → Replays text pieces status → Risen status 0 0 writes writes' → Risen status reads reads' writes writes'
+risen_whole Done text pieces reads reads' writes writes' same r h = (same, h.1)
+risen_whole ReadFault text pieces reads reads' writes writes' same r h = absurd r
+risen_whole WriteFault text pieces reads reads' writes writes' same r h = (same, h.1)
+risen_whole Memory text pieces reads reads' writes writes' same r h = (same, h.1)
+risen_whole TooLong text pieces reads reads' writes writes' same r h = (same, h.1)
+risen_whole (Unbuilt line) text pieces reads reads' writes writes' same r h = (same, h.1)
 
 -- how a run ends whose input is not read whole
 abbrev pub status_of : InputError → Status
@@ -228,8 +241,8 @@ status_of input.Memory = Memory
 pub ran_not : (words : List (List ℕ)) (left left' : Option (List ℕ)) (told : Option (List (List ℕ))) (faults faults' : ℕ) (e : InputError)
     → words ≡ replay_words → Stops left faults left' faults' e → Ran words left left' told told (status_of e)
 ran_not words left left' told faults faults' input.Failed w s = record { text = s.1.0; pieces = []; read = s.1.1; wrote = onto_none told; cause = (w, s.1.2, refl) }
-ran_not words left left' told faults faults' input.TooLong w s = record { text = s.0; pieces = []; read = s.1; wrote = onto_none told; cause = (w, s.2, refl) }
-ran_not words left left' told faults faults' input.Memory w s = record { text = s.0; pieces = []; read = s.1; wrote = onto_none told; cause = (w, inl refl) }
+ran_not words left left' told faults faults' input.TooLong w s = record { text = s.1.0; pieces = []; read = s.1.1; wrote = onto_none told; cause = (w, s.1.2, refl) }
+ran_not words left left' told faults faults' input.Memory w s = record { text = s.1.0; pieces = []; read = s.1.1; wrote = onto_none told; cause = (w, inl refl) }
 
 pub ran_unknown : (words : List (List ℕ)) (left : Option (List ℕ)) (told : Option (List (List ℕ))) → words ≢ replay_words → Ran words left left told told (Unbuilt 0)
 ran_unknown words left told n = record { text = []; pieces = []; read = behind_none left; wrote = onto_none told; cause = inl (n, refl, refl, refl) }

@@ -20,8 +20,8 @@ pub record IsWhole (old : Option (List ℕ)) (text : List ℕ) (new : Option (Li
 
 -- why no whole text was read, of a source with these bytes left and this count of faults before
 -- and after: a read failed behind bytes that a script may have, more bytes came than that, or there
--- was no memory
+-- was no memory. Only a fault is counted
 abbrev pub Stops : Option (List ℕ) → ℕ → Option (List ℕ) → ℕ → InputError → Type 0
 Stops old faults new faults' Failed = HasRisen faults faults' × ((text : List ℕ) × (old ≡ behind text new) × (length text ≤ script_limit))
-Stops old faults new faults' TooLong = (text : List ℕ) × (old ≡ behind text new) × (script_limit < length text)
-Stops old faults new faults' Memory = (text : List ℕ) × (old ≡ behind text new)
+Stops old faults new faults' TooLong = (faults' ≡ faults) × ((text : List ℕ) × (old ≡ behind text new) × (script_limit < length text))
+Stops old faults new faults' Memory = (faults' ≡ faults) × ((text : List ℕ) × (old ≡ behind text new))

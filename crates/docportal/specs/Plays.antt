@@ -1,6 +1,7 @@
 -- What running lines one after another comes to.
 use Rattle.std.specs.Prelude.{◌≡◌, ℕ, ◌+◌, List, [], ◌∷◌, ◌++◌, length, Option}
 use Rattle.portal_base.specs.Outside.{HasRisen, Short, onto}
+use Rattle.portal_core.specs.Story.{Story, state_now}
 use Rattle.portal_model.specs.declared.entry.Entry.{Entry}
 use Rattle.script_form.specs.declared.script.ScriptLine.{ScriptLine}
 use Rattle.docportal.specs.declared.status.Status.{Status}
@@ -9,6 +10,7 @@ use Rattle.docportal.specs.declared.line.LineError.{LineError}
 use Rattle.docportal.specs.declared.line.LineError.TheVariants as line
 use Rattle.docportal.specs.Lines.{Does, IsUnbuilt}
 use Rattle.docportal.specs.Scenes.{Scene}
+use Rattle.docportal.specs.Steps.{scene}
 
 -- Lines are run, each from the scene that the one before it left: these are their entries and their output.
 abbrev pub Plays : Scene → List ScriptLine → List Entry → List (List ℕ) → Scene → Type 0
@@ -27,12 +29,15 @@ StopsAt lines front b number = (line : ScriptLine) × (later : List ScriptLine) 
 
 -- ---- what was written
 
--- all lines are run, and their output is written
-pub record PlaysAll (a : Scene) (lines : List ScriptLine) (told told' : Option (List (List ℕ))) : Type 0 where
+-- All lines are run at a portal with no connection open, and their output is written. The portal has stored
+-- their history behind its own, and is in the state after it.
+pub record PlaysAll (old new : Story) (lines : List ScriptLine) (told told' : Option (List (List ℕ))) : Type 0 where
   pub history : List Entry
   pub out : List (List ℕ)
   pub last : Scene
-  pub plays : Plays a lines history out last
+  pub plays : Plays (scene old []) lines history out last
+  pub stored : new.history ≡ old.history ++ history
+  pub state : state_now new ≡ last.portal
   pub output : told' ≡ onto told out
 
 -- a front of the output of some of them is written
@@ -56,14 +61,14 @@ pub record PlaysUpTo (a : Scene) (lines : List ScriptLine) (number : ℕ) (told 
   pub stops : StopsAt lines front last number
   pub output : told' ≡ onto told out
 
--- why not all lines are run
+-- why not all lines are run; only a fault is counted
 abbrev pub PlayStops : Scene → List ScriptLine → Option (List (List ℕ)) → ℕ → Option (List (List ℕ)) → ℕ → Status → Type 0
 PlayStops a lines told faults told' faults' Done = ⊥
 PlayStops a lines told faults told' faults' ReadFault = ⊥
 PlayStops a lines told faults told' faults' WriteFault = HasRisen faults faults' × PlaysPart a lines told told'
-PlayStops a lines told faults told' faults' Memory = PlaysPart a lines told told'
+PlayStops a lines told faults told' faults' Memory = (faults' ≡ faults) × PlaysPart a lines told told'
 PlayStops a lines told faults told' faults' TooLong = ⊥
-PlayStops a lines told faults told' faults' (Unbuilt number) = PlaysUpTo a lines number told told'
+PlayStops a lines told faults told' faults' (Unbuilt number) = (faults' ≡ faults) × PlaysUpTo a lines number told told'
 
 -- how a run ends whose line of this index, counted from 0, is not run
 abbrev pub status_at : LineError → ℕ → Status

@@ -1,16 +1,17 @@
 -- What a run of the program comes to.
-use Rattle.std.specs.Prelude.{◌≡◌, ◌≢◌, ◌⊎◌, ℕ, ◌<◌, ◌≤◌, List, [], ◌∷◌, ◌++◌, length, Option, Some, None, codes}
+use Rattle.std.specs.Prelude.{◌≡◌, ◌≢◌, ◌⊎◌, ℕ, ◌+◌, ◌*◌, ◌<◌, ◌≤◌, List, [], ◌∷◌, ◌++◌, length, Option, Some, None, codes}
 use Rattle.portal_base.specs.Outside.{behind, onto, HasRisen, Short}
 use Rattle.portal_model.specs.declared.entry.Entry.{Entry}
-use Rattle.portal_model.specs.History.{Legal, replies}
+use Rattle.portal_model.specs.History.{Legal, cost, replies}
 use Rattle.portal_model.specs.World.{app_run, trace}
 use Rattle.script_form.specs.declared.script.ScriptLine.{ScriptLine}
+use Rattle.script_form.specs.Lines.{text_of}
 use Rattle.script_form.specs.Order.{IsBuilt}
 use Rattle.docportal.specs.declared.status.Status.{Status}
 use Rattle.docportal.specs.declared.status.Status.TheVariants.{Done, ReadFault, WriteFault, Memory, TooLong, Unbuilt}
 use Rattle.docportal.specs.Inputs.{script_limit, AtEnd}
 use Rattle.docportal.specs.Plays.{Plays, StopsAt}
-use Rattle.docportal.specs.Scenes.{Scene, first_scene, opening_state}
+use Rattle.docportal.specs.Scenes.{Scene, first_scene, opening_state, run_limits}
 
 -- the history of the lines is legal, and the replies to each application are those of its own machine
 -- over its trace
@@ -19,11 +20,13 @@ pub record IsSound (lines : List ScriptLine) (history : List Entry) : Type 0 whe
   pub isolated : (app : List ℕ) → replies app (opening_state lines) history ≡ app_run (trace app (opening_state lines) history)
 
 -- The lines of a front have this history and this output, from the state that the lines open with, and no
--- others; and the history is sound.
+-- others; the history is sound, and within its limit with all that the lines behind can ask, at eight times
+-- the bytes of their text.
 pub record IsReplay (lines front : List ScriptLine) (history : List Entry) (out : List (List ℕ)) (last : Scene) : Type 0 where
   pub plays : Plays (first_scene lines) front history out last
   pub only : (h : List Entry) (o : List (List ℕ)) (b : Scene) → Plays (first_scene lines) front h o b → (h ≡ history) × (o ≡ out) × (b ≡ last)
   pub sound : IsSound lines history
+  pub room : (later : List ScriptLine) → lines ≡ front ++ later → cost history + 8 * length (text_of later) ≤ run_limits.history
 
 -- the text is a script, all lines of which are built, and the pieces are its output
 pub record WroteAll (text : List ℕ) (pieces : List (List ℕ)) : Type 0 where
@@ -90,14 +93,14 @@ pub record Ran (words : List (List ℕ)) (left left' : Option (List ℕ)) (told 
   pub wrote : told' ≡ onto told pieces
   pub cause : Cause words text left' pieces status
 
--- a fault of reading or writing comes only where that count rose
+-- Each fault of reading or writing is told: the counts of both rise where the status says so, and only there.
 abbrev pub Risen : Status → ℕ → ℕ → ℕ → ℕ → Type 0
-Risen Done reads reads' writes writes' = Unit {0}
-Risen ReadFault reads reads' writes writes' = HasRisen reads reads'
-Risen WriteFault reads reads' writes writes' = HasRisen writes writes'
-Risen Memory reads reads' writes writes' = Unit {0}
-Risen TooLong reads reads' writes writes' = Unit {0}
-Risen (Unbuilt line) reads reads' writes writes' = Unit {0}
+Risen Done reads reads' writes writes' = (reads' ≡ reads) × (writes' ≡ writes)
+Risen ReadFault reads reads' writes writes' = HasRisen reads reads' × (writes' ≡ writes)
+Risen WriteFault reads reads' writes writes' = (reads' ≡ reads) × HasRisen writes writes'
+Risen Memory reads reads' writes writes' = (reads' ≡ reads) × (writes' ≡ writes)
+Risen TooLong reads reads' writes writes' = (reads' ≡ reads) × (writes' ≡ writes)
+Risen (Unbuilt line) reads reads' writes writes' = (reads' ≡ reads) × (writes' ≡ writes)
 
 -- how a text of allowed length is replayed, with these pieces written
 abbrev pub Replays : List ℕ → List (List ℕ) → Status → Type 0

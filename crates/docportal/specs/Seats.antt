@@ -1,16 +1,19 @@
 -- What the sessions of a script ask of its portal.
-use Rattle.std.specs.Prelude.{◌≡◌, ℕ, Bool, true, false, List, [], ◌++◌, Some}
+use Rattle.std.specs.Prelude.{◌≡◌, ℕ, ◌+◌, ◌*◌, ◌≤◌, Bool, true, false, List, [], ◌++◌, length, Some}
 use Rattle.portal_base.specs.Devices.{SinkState}
 use Rattle.portal_core.specs.Lending.{seated_at}
 use Rattle.portal_core.specs.Story.{Story, state_now}
 use Rattle.portal_model.specs.declared.request.Request.{Request}
+use Rattle.portal_model.specs.History.{cost}
 use Rattle.portal_model.specs.Opening.{opened}
 use Rattle.portal_model.specs.Seated.{Seated}
 use Rattle.session.specs.declared.served.Rest.{Rest}
 use Rattle.session.specs.declared.served.Rest.TheVariants as rest
 use Rattle.session.specs.declared.served.Served.{Served}
 use Rattle.session.specs.declared.served.Served.TheVariants as served
-use Rattle.session.specs.Ledger.{World, world}
+use Rattle.session.specs.Answers.{AreOf, Outcome}
+use Rattle.session.specs.Laws.{NoneIsFull}
+use Rattle.session.specs.Ledger.{Grew, World, world}
 use Rattle.session.specs.Standings.{Standing}
 use Rattle.docportal.specs.declared.line.LineError.{LineError}
 use Rattle.docportal.specs.declared.line.LineError.TheVariants as stop
@@ -33,6 +36,16 @@ Asked old new seat requests = new.history ≡ old.history ++ entries_for (state_
 abbrev pub HearsAt : Story → Story → ℕ → Standing → List ℕ → Rest → List (List ℕ) → Standing → Type 0
 HearsAt old new seat at bytes what pieces now =
     (requests : List Request) × Hears (state_now old) seat at bytes what requests pieces now × Asked old new seat requests
+
+-- From the one portal to the other the seat asked these requests, of which so many were refused, and no others.
+-- None is refused for a full history, and what is new in it costs at most eight times these bytes.
+pub record Unfilled (old new : Story) (seat refusals : ℕ) (bytes : List ℕ) : Type 0 where
+  pub requests : List Request
+  pub outcomes : List Outcome
+  pub asked : AreOf requests outcomes
+  pub grew : Grew (known_at old seat 0) outcomes (known_at new seat refusals)
+  pub none_full : NoneIsFull outcomes
+  pub grown : cost new.history ≤ cost old.history + 8 * length bytes
 
 -- an item that breaks a rule, or a line that is too long
 abbrev pub IsEnd : Rest → Type 0

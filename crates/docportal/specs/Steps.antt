@@ -84,11 +84,12 @@ pub record Opens (old : Story) (table : List (Option Standing)) (new : Story) (t
   pub does : Does (scene old table) line entries [] (scene new table')
   pub history : new.history ≡ old.history ++ entries
 
--- writing these lines broke off: some of them are written, and a front of the next or nothing
+-- writing these lines broke off: some of them are written, and a front of the next or nothing; only a fault is
+-- counted
 abbrev pub WritesShort : List (List ℕ) → Option (List (List ℕ)) → ℕ → Option (List (List ℕ)) → ℕ → LineError → Type 0
 WritesShort lines told faults told' faults' Unbuilt = ⊥
 WritesShort lines told faults told' faults' WriteFault = HasRisen faults faults' × ((pieces : List (List ℕ)) × Short pieces lines × (told' ≡ onto told pieces))
-WritesShort lines told faults told' faults' Memory = (pieces : List (List ℕ)) × Short pieces lines × (told' ≡ onto told pieces)
+WritesShort lines told faults told' faults' Memory = (faults' ≡ faults) × ((pieces : List (List ℕ)) × Short pieces lines × (told' ≡ onto told pieces))
 
 -- a front of a line's output is written
 abbrev pub WritesPart : Scene → ScriptLine → Option (List (List ℕ)) → Option (List (List ℕ)) → Type 0
@@ -96,8 +97,8 @@ WritesPart a line told told' = (entries : List Entry) × (out : List (List ℕ))
     × Does a line entries out b × Short pieces out × (told' ≡ onto told pieces)
 
 -- why a line was not run: it is not built, and nothing is written; a write of its output failed; or there was no
--- memory
+-- memory. Only a fault is counted
 abbrev pub Breaks : Scene → ScriptLine → Option (List (List ℕ)) → ℕ → Option (List (List ℕ)) → ℕ → LineError → Type 0
-Breaks a line told faults told' faults' Unbuilt = IsUnbuilt a line × (told' ≡ told)
+Breaks a line told faults told' faults' Unbuilt = (faults' ≡ faults) × IsUnbuilt a line × (told' ≡ told)
 Breaks a line told faults told' faults' WriteFault = HasRisen faults faults' × WritesPart a line told told'
-Breaks a line told faults told' faults' Memory = (told' ≡ told) ⊎ WritesPart a line told told'
+Breaks a line told faults told' faults' Memory = (faults' ≡ faults) × ((told' ≡ told) ⊎ WritesPart a line told told')

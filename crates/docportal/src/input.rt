@@ -1,6 +1,6 @@
 //! The input, read to its end.
 
-ghost use Rattle.std.specs.Prelude.{◌≡◌, ◌<◌, ◌≤◌, length, IfOk, IfErr, take};
+ghost use Rattle.std.specs.Prelude.{◌≡◌, ◌<◌, ◌≤◌, length, IfOk, IfErr, OnOk, take};
 ghost use Rattle.docportal.specs.Inputs.{IsWhole, Stops};
 
 use portal_base::list::{ByteList, List};
@@ -39,6 +39,7 @@ impl From<WantOfMemory> for InputError {
 /// Reads a source to its end.
 pub fn read_to_end<S: Source>(alloc: Global, source: &mut S) -> Result<ByteList, InputError>
     ensures ok { IfOk result (λ text. IsWhole (S.left source.old) text (S.left source.new)) }
+    ensures counts { OnOk result (S.faults source.new ≡ S.faults source.old) }
     ensures err { IfErr result (Stops (S.left source.old) (S.faults source.old) (S.left source.new) (S.faults source.new)) }
 {
     let mut text = List::new(alloc);

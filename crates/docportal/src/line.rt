@@ -62,7 +62,7 @@ pub fn run_line<K: Sink>(
     requires settings { settings.now ≡ run_settings }
     ensures opening { opened portal.new.opening ≡ opened portal.old.opening }
     ensures ok { OnOk result (Runs portal.old connections.old portal.new connections.new line.now (K.told sink.old) (K.told sink.new)) }
-    ensures counts { K.faults sink.old ≤ K.faults sink.new }
+    ensures counts { OnOk result (K.faults sink.new ≡ K.faults sink.old) }
     ensures err { IfErr result (Breaks (scene portal.old connections.old) line.now (K.told sink.old) (K.faults sink.old) (K.told sink.new) (K.faults sink.new)) }
 {
     match line {
@@ -107,7 +107,7 @@ fn data<K: Sink>(
     requires may { MayRun portal.old connections.old (ScriptLine.Data seat bytes.now) }
     ensures opening { opened portal.new.opening ≡ opened portal.old.opening }
     ensures ok { OnOk result (Runs portal.old connections.old portal.new connections.new (ScriptLine.Data seat bytes.now) (K.told sink.old) (K.told sink.new)) }
-    ensures counts { K.faults sink.old ≤ K.faults sink.new }
+    ensures counts { OnOk result (K.faults sink.new ≡ K.faults sink.old) }
     ensures err { IfErr result (Breaks (scene portal.old connections.old) (ScriptLine.Data seat bytes.now) (K.told sink.old) (K.faults sink.old) (K.told sink.new) (K.faults sink.new)) }
 {
     let mut session = match connections.take(seat) {
@@ -141,7 +141,7 @@ fn close<K: Sink>(
     requires may { MayRun portal.old connections.old (ScriptLine.Close seat) }
     ensures opening { opened portal.new.opening ≡ opened portal.old.opening }
     ensures ok { OnOk result (Runs portal.old connections.old portal.new connections.new (ScriptLine.Close seat) (K.told sink.old) (K.told sink.new)) }
-    ensures counts { K.faults sink.old ≤ K.faults sink.new }
+    ensures counts { OnOk result (K.faults sink.new ≡ K.faults sink.old) }
     ensures err { IfErr result (Breaks (scene portal.old connections.old) (ScriptLine.Close seat) (K.told sink.old) (K.faults sink.old) (K.told sink.new) (K.faults sink.new)) }
 {
     match connections.take(seat) {
@@ -163,7 +163,7 @@ fn leave<K: Sink>(
     ensures opening { opened portal.new.opening ≡ opened portal.old.opening }
     ensures left { Asked portal.old portal.new seat (Request.Leave ∷ []) }
     ensures ok { OnOk result (K.told sink.new ≡ onto (K.told sink.old) (line_of_ending seat (ending session.fed session.rest) ∷ [])) }
-    ensures counts { K.faults sink.old ≤ K.faults sink.new }
+    ensures counts { OnOk result (K.faults sink.new ≡ K.faults sink.old) }
     ensures err { IfErr result (WritesShort (line_of_ending seat (ending session.fed session.rest) ∷ []) (K.told sink.old) (K.faults sink.old) (K.told sink.new) (K.faults sink.new)) }
 {
     let served = end(alloc, portal, seat, session);
@@ -179,7 +179,7 @@ fn write_pieces<K: Sink>(
     sink: &mut K,
 ) -> Result<(), LineError>
     ensures ok { OnOk result (K.told sink.new ≡ onto (K.told sink.old) (map (line_of_piece seat) pieces.now)) }
-    ensures counts { K.faults sink.old ≤ K.faults sink.new }
+    ensures counts { OnOk result (K.faults sink.new ≡ K.faults sink.old) }
     ensures err { IfErr result (WritesShort (map (line_of_piece seat) pieces.now) (K.told sink.old) (K.faults sink.old) (K.told sink.new) (K.faults sink.new)) }
 {
     for piece in pieces {
@@ -197,7 +197,7 @@ fn write_pieces<K: Sink>(
 /// Writes one piece.
 fn write<K: Sink>(sink: &mut K, piece: &[u8]) -> Result<(), LineError>
     ensures ok { OnOk result (K.told sink.new ≡ onto (K.told sink.old) (piece.now ∷ [])) }
-    ensures counts { K.faults sink.old ≤ K.faults sink.new }
+    ensures counts { OnOk result (K.faults sink.new ≡ K.faults sink.old) }
     ensures err { IfErr result (WritesShort (piece.now ∷ []) (K.told sink.old) (K.faults sink.old) (K.told sink.new) (K.faults sink.new)) }
 {
     match sink.write(piece) {

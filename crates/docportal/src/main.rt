@@ -10,8 +10,6 @@ mod run;
 mod seats;
 mod settings;
 mod status;
-#[cfg(test)]
-mod tests;
 
 use crate::run::run;
 use crate::status::Status;

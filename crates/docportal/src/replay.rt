@@ -25,7 +25,8 @@ pub fn run_lines<K: Sink>(
 ) -> Result<(), Status>
     requires may { MayPlay [] portal.old [] lines.now }
     requires settings { settings.now ≡ run_settings }
-    ensures ok { OnOk result (PlaysAll (scene portal.old []) lines.now (K.told sink.old) (K.told sink.new)) }
+    ensures ok { OnOk result (PlaysAll portal.old portal.new lines.now (K.told sink.old) (K.told sink.new)) }
+    ensures counts { OnOk result (K.faults sink.new ≡ K.faults sink.old) }
     ensures err { IfErr result (PlayStops (scene portal.old []) lines.now (K.told sink.old) (K.faults sink.old) (K.told sink.new) (K.faults sink.new)) }
 {
     let mut connections = Connections::new(alloc);

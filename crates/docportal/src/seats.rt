@@ -1,16 +1,16 @@
 //! The sessions of a script at the seats of its portal.
 
-ghost use Rattle.std.specs.Prelude.{◌≡◌, ℕ, ◌+◌, ◌≤◌, [], ◌∷◌, length, true, false, Some, IfOk, IfErr};
+ghost use Rattle.std.specs.Prelude.{◌≡◌, ℕ, ◌+◌, ◌*◌, ◌≤◌, [], ◌∷◌, ◌++◌, length, true, false, Some, IfOk, IfErr};
 ghost use Rattle.portal_core.specs.Lending.{GrowsByOwn, is_faultless};
 ghost use Rattle.portal_core.specs.Story.{cost_with, limit_of, state_now};
 ghost use Rattle.portal_model.specs.declared.request.Request.{Request};
-ghost use Rattle.portal_model.specs.History.{Legal};
+ghost use Rattle.portal_model.specs.History.{Legal, cost};
 ghost use Rattle.portal_model.specs.Opening.{opened};
 ghost use Rattle.portal_model.specs.Seated.{bound, is_open};
 ghost use Rattle.session.specs.Sessions.{Closes, Feeds, Opens, ending, longest};
 ghost use Rattle.session.specs.Standings.{client, fresh};
 ghost use Rattle.session.specs.declared.served.Fed.TheVariants as fed;
-ghost use Rattle.docportal.specs.Seats.{Asked, HeardAs, HearsNot, IsMet, is_last, known_at, sunk};
+ghost use Rattle.docportal.specs.Seats.{Asked, HeardAs, HearsNot, IsMet, Unfilled, is_last, known_at, sunk};
 ghost use Rattle.docportal.specs.Steps.{binding};
 
 use crate::line::LineError;
@@ -113,7 +113,8 @@ fn feed_at(
     }
 }
 
-/// The same, where no request is refused. One that is refused wants memory.
+/// The same, where no request is refused. One that is refused wants memory,
+/// since the history has room for all of them.
 fn feed(
     alloc: Global,
     portal: &mut Portal,
@@ -123,10 +124,13 @@ fn feed(
     written: &mut MemorySink,
 ) -> Result<Fed, WantOfMemory>
     requires seat { 1 ≤ seat }
+    requires goes_on { session.old.fed ≡ fed.More }
+    requires room { cost portal.old.history + 8 * length (session.old.rest ++ bytes.now) ≤ limit_of portal.old }
     ensures opening { opened portal.new.opening ≡ opened portal.old.opening }
     ensures stays_open { bound (state_now portal.old) seat ≡ Some (binding session.old) → bound (state_now portal.new) seat ≡ Some (binding session.old) }
     ensures own { GrowsByOwn is_faultless seat portal.old.history portal.new.history }
     ensures legal { Legal (opened portal.new.opening) portal.new.history }
+    ensures unfilled { (count : ℕ) × Unfilled portal.old portal.new seat count (session.old.rest ++ bytes.now) }
     ensures ok { IfOk result (λ fed. (count : ℕ) × (count ≡ 0) × Feeds session.old.fed session.old (sunk (known_at portal.old seat 0) written.old) bytes.now fed session.new (sunk (known_at portal.new seat count) written.new)) }
 {
     let Feeding { fed, refusals } = feed_at(alloc, portal, seat, session, bytes, written);
@@ -137,7 +141,8 @@ fn feed(
 }
 
 /// Feeds bytes to a session that goes on. Where the bytes end inside an item,
-/// or at a request that isn't built, they aren't built.
+/// or at a request that isn't built, they aren't built. The history has room
+/// for what they ask, and nothing is refused for its limit.
 pub fn hear(
     alloc: Global,
     portal: &mut Portal,
@@ -147,9 +152,11 @@ pub fn hear(
 ) -> Result<Heard, LineError>
     requires seat { 1 ≤ seat }
     requires goes_on { session.old.fed ≡ fed.More }
+    requires room { cost portal.old.history + 8 * length (session.old.rest ++ bytes.now) ≤ limit_of portal.old }
     requires space { session.old.before + length session.old.rest + length bytes.now ≤ longest }
     ensures opening { opened portal.new.opening ≡ opened portal.old.opening }
     ensures stays_open { bound (state_now portal.old) seat ≡ Some (binding session.old) → bound (state_now portal.new) seat ≡ Some (binding session.old) }
+    ensures unfilled { (count : ℕ) × Unfilled portal.old portal.new seat count (session.old.rest ++ bytes.now) }
     ensures ok { IfOk result (λ heard. HeardAs heard.is_over portal.old portal.new seat session.old bytes.now heard.written.pieces session.new) }
     ensures err { IfErr result (HearsNot session.old bytes.now) }
 {

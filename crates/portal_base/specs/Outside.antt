@@ -44,8 +44,9 @@ abbrev pub Writes : Option (List (List ℕ)) → List ℕ → WriteAnswer → Op
 Writes old bytes Done new = new ≡ onto old (bytes ∷ [])
 Writes old bytes Failed new = (written : List (List ℕ)) × Short written (bytes ∷ []) × (new ≡ onto old written)
 
+-- only a fault is counted
 abbrev pub WriteCounts : ℕ → WriteAnswer → ℕ → Type 0
-WriteCounts old Done new = old ≤ new
+WriteCounts old Done new = new ≡ old
 WriteCounts old Failed new = (old ≤ new) × HasRisen old new
 
 -- What a read does to what is left: the bytes got stand at the buffer's front and were the next;
@@ -55,9 +56,10 @@ Reads old buffer (read.Got n) new = (1 ≤ n) × (n ≤ length buffer) × (old �
 Reads old buffer read.End new = (new ≡ old) × IfSome old (λ left. left ≡ [])
 Reads old buffer read.Failed new = new ≡ old
 
+-- only a fault is counted
 abbrev pub ReadCounts : ℕ → ReadAnswer → ℕ → Type 0
-ReadCounts old (read.Got n) new = old ≤ new
-ReadCounts old read.End new = old ≤ new
+ReadCounts old (read.Got n) new = new ≡ old
+ReadCounts old read.End new = new ≡ old
 ReadCounts old read.Failed new = (old ≤ new) × HasRisen old new
 
 -- A clock that tells answers its value, and keeps it.

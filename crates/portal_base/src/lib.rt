@@ -10,7 +10,5 @@ pub mod memory;
 pub mod names;
 pub mod outside;
 pub mod split;
-#[cfg(test)]
-mod tests;
 pub mod text;
 pub mod who;

@@ -6,6 +6,8 @@
 ghost use Rattle.std.specs.Prelude.{◌≡◌, ℕ, ◌+◌, ◌-◌, ◌<◌, ◌≤◌, List, [], ◌∷◌, ◌++◌, length, IfOk, OnOk, OnErr, IfSome, IsTrue, ◌↔◌, slice_get, option_copied, MatchOption, take, drop, slice_set, remove, Some};
 ghost use Rattle.std.specs.List.{AllZip};
 ghost use Rattle.std.specs.Cmp.Lexicographic.{pointwise, lists_per, lists_equiv};
+ghost use Rattle.std.specs.Iterator.Adapters.{IterYieldsInOrder, IterYieldsInReverse};
+ghost use Rattle.std.specs.Slice.Iter.{iter_rest};
 
 use crate::memory::{Replica, WantOfMemory};
 use std::alloc::{AllocError, Global};
@@ -97,7 +99,11 @@ impl<T> List<T> {
     }
 
     /// The items, one after another.
-    pub fn iter(&self) -> slice::Iter<'_, T> {
+    pub fn iter(&self) -> slice::Iter<'_, T>
+        ensures rest { iter_rest result ≡ self.now }
+        ensures runs { IterYieldsInOrder T }
+        ensures runs_back { IterYieldsInReverse T }
+    {
         self.inner.iter()
     }
 
@@ -147,9 +153,11 @@ impl<T: Drop> List<T> {
         self.inner.truncate(len);
     }
 
-    /// Moves the items of `more` to the end, where there is memory.
+    /// Moves the items of `more` to the end, or leaves the list and drops
+    /// `more` where there is no memory.
     pub fn append(&mut self, more: List<T>) -> Result<(), WantOfMemory>
-        ensures { OnOk result (self.new ≡ self.old ++ more) }
+        ensures ok { OnOk result (self.new ≡ self.old ++ more) }
+        ensures err { OnErr result (self.new ≡ self.old) }
     {
         let List { mut inner } = more;
         self.inner.append(&mut inner)?;

@@ -7,8 +7,6 @@ pub mod app_id;
 pub mod doc_id;
 pub mod host_path;
 mod path_reader;
-#[cfg(test)]
-mod tests;
 
 pub use app_id::AppId;
 pub use doc_id::DocId;

@@ -1,16 +1,14 @@
 //! The outside, as the portal and its sessions see it.
 //!
 //! An implementation may tell contracts what it holds: one in memory does, a
-//! real one doesn't. Each count of faults never falls and stops at the greatest
-//! `u64`; a count that stands there counts as risen.
+//! real one doesn't. A count of faults rises at each fault and at nothing else;
+//! it stops at the greatest `u64`, and one that stands there counts as risen.
 
 ghost use Rattle.std.specs.Prelude.{◌≡◌, ℕ, ◌<◌, List, Option, length};
 ghost use Rattle.portal_base.specs.Outside.{Writes, WriteCounts, Reads, ReadCounts, Shows, Draws};
 
 mod in_memory;
 mod real;
-#[cfg(test)]
-mod tests;
 
 pub use in_memory::{ListWords, MemorySink, MemorySource, SetClock};
 pub use real::{StdSink, StdSource};

@@ -4,5 +4,4 @@ pub mod NameLemmas
 pub mod Loops
 pub mod ValidNames
 pub mod Steps
-pub mod ExampleLemmas
 pub mod Desks

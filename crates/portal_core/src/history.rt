@@ -4,7 +4,7 @@
 //! the whole has a limit, and memory for further entries can be taken ahead,
 //! so that an entry is stored by a call that can't fail.
 
-ghost use Rattle.std.specs.Prelude.{◌≡◌, ◌+◌, ◌-◌, ◌<◌, ◌≤◌, ◌^◌, [], ◌∷◌, ◌++◌, length, OnOk, OnErr, option_copied, slice_get};
+ghost use Rattle.std.specs.Prelude.{◌≡◌, ◌+◌, ◌-◌, ◌<◌, ◌≤◌, ◌^◌, [], ◌∷◌, ◌++◌, length, OnOk, OnErr};
 ghost use Rattle.portal_core.specs.Stored.{Stored};
 ghost use Rattle.portal_model.specs.History.{cost, cost_of as request_cost, who_bytes};
 
@@ -99,32 +99,8 @@ impl History {
         self.limit
     }
 
-    /// The entry at a place, counted from 0.
-    pub fn entry(&self, place: u64) -> Option<&Entry>
-        ensures { option_copied result ≡ slice_get self.now.entries place }
-    {
-        self.entries.get(place as usize)
-    }
-
-    /// For how many entries room was taken ahead.
-    pub fn spare(&self) -> u64
-        ensures { result ≡ self.now.spare }
-    {
-        (self.entries.capacity() - self.entries.len()) as u64
-    }
-
     /// Takes room for `count` more entries, where there isn't as much.
-    pub fn reserve(&mut self, count: u32) -> Result<(), WantOfMemory>
-        ensures ok { OnOk result (count ≤ self.new.spare) }
-        ensures err { OnErr result (self.new ≡ self.old) }
-        ensures entries { self.new.entries ≡ self.old.entries }
-        ensures limit { self.new.limit ≡ self.old.limit }
-    {
-        self.reserve_places(count as usize)
-    }
-
-    /// The same, for any count.
-    pub fn reserve_places(&mut self, count: usize) -> Result<(), WantOfMemory>
+    pub fn reserve(&mut self, count: usize) -> Result<(), WantOfMemory>
         ensures ok { OnOk result (count ≤ self.new.spare) }
         ensures err { OnErr result (self.new ≡ self.old) }
         ensures entries { self.new.entries ≡ self.old.entries }

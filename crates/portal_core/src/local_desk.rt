@@ -72,6 +72,3 @@ impl<'a, S: Storied> Desk for LocalDesk<'a, S> {
 
     ghost follows = { λ d e f h k. (k.0 ∙ h.0, goes_further S.says _ _ _ h.1 k.1) };
 }
-
-#[cfg(test)]
-mod tests;

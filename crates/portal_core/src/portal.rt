@@ -70,13 +70,6 @@ impl Portal {
         })
     }
 
-    /// The opening state of the history.
-    pub fn opening(&self) -> &OpeningState
-        ensures { result.now ≡ self.now.opening }
-    {
-        &self.opening
-    }
-
     /// The history: every request that was answered, in order.
     pub fn history(&self) -> &History
         ensures entries { result.now.entries ≡ self.now.history }
@@ -180,8 +173,7 @@ impl Portal {
         let entry = entry_made(alloc, seat, request, List::new(alloc));
         // Besides the Leaves of the connections that are there, for this entry
         // and for the Leave of the new one.
-        self.history
-            .reserve_places(self.connections.as_slice().len() + 2)?;
+        self.history.reserve(self.connections.as_slice().len() + 2)?;
         if is_here {
             self.history.push(entry);
             return Ok(silent_reply(alloc, Answer::Refused(Code::NotHere)));
@@ -206,8 +198,7 @@ impl Portal {
         let NodeDone { answer, look } = self.serve(seat, &request);
         let looks = looks_made(alloc, look)?;
         let entry = entry_made(alloc, seat, Request::Node(request), looks);
-        self.history
-            .reserve_places(self.connections.as_slice().len() + 1)?;
+        self.history.reserve(self.connections.as_slice().len() + 1)?;
         self.history.push(entry);
         Ok(silent_reply(alloc, answer))
     }
@@ -221,8 +212,7 @@ impl Portal {
         let is_here = connection_of(self.connections.as_slice(), seat).is_some();
         let entry = entry_made(alloc, seat, Request::Leave, List::new(alloc));
         if !is_here {
-            self.history
-                .reserve_places(self.connections.as_slice().len() + 1)?;
+            self.history.reserve(self.connections.as_slice().len() + 1)?;
             self.history.push(entry);
             return Ok(silent_reply(alloc, Answer::Refused(Code::NotHere)));
         }
@@ -240,8 +230,7 @@ impl Portal {
     {
         let answer = collect_answer(bus_of(self.connections.as_slice(), seat));
         let entry = entry_made(alloc, seat, Request::Collect, List::new(alloc));
-        self.history
-            .reserve_places(self.connections.as_slice().len() + 1)?;
+        self.history.reserve(self.connections.as_slice().len() + 1)?;
         self.history.push(entry);
         Ok(silent_reply(alloc, answer))
     }
@@ -326,6 +315,3 @@ fn silent_reply(alloc: Global, answer: Answer) -> Reply
         answer,
     }
 }
-
-#[cfg(test)]
-mod tests;

@@ -32,8 +32,9 @@ pub trait Storied {
     /// The reply is that of one step of the sequential portal, from the state
     /// after the history, which grows by this request. A refusal leaves the
     /// history as it was. `Full` comes exactly where the history with this
-    /// request would cost more than its limit. The Leave of an open connection
-    /// is never refused.
+    /// request would cost more than its limit, and whatever is answered, the
+    /// history costs no more than that. The Leave of an open connection is
+    /// never refused.
     fn ask(&mut self, alloc: Global, seat: u32, request: Request) -> Result<Reply, Refused>
         requires { 1 ≤ seat }
 
@@ -49,15 +50,18 @@ pub trait Storied {
 
         // Whatever it answers.
         ensures legal { Legal (opening self.new) (entries self.new) }
+        ensures within { cost (entries self.new) ≤ (opening self.new).limits.history }
         ensures short { length (entries self.new) < 2 ^ 64 };
 
     /// The number of entries.
     fn entry_count(&self) -> u64
         ensures { result ≡ length (entries self.now) };
 
-    /// What is true at each moment: the history is legal and countable.
+    /// What is true at each moment: the history is legal, within its limit and
+    /// countable.
     fn known(&self)
         ensures legal { Legal (opening self.now) (entries self.now) }
+        ensures within { cost (entries self.now) ≤ (opening self.now).limits.history }
         ensures short { length (entries self.now) < 2 ^ 64 };
 }
 

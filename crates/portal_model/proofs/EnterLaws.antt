@@ -11,7 +11,7 @@ use Rattle.portal_model.specs.History.{made_by}
 use Rattle.portal_model.specs.State.{State, connection_of}
 use Rattle.portal_model.specs.View.{view, is_app, own_connections}
 use Rattle.portal_model.proofs.Finds.{find-filter-none, find-filter-some}
-use Rattle.portal_model.proofs.ViewLaws.{view-frame}
+use Rattle.portal_model.proofs.ViewLaws.{view-connections}
 
 -- the connections of the view, and those after an Enter
 
@@ -44,4 +44,4 @@ enter_own app s seat who kind h = λ i. (
 pub enter_other : (app : List ℕ) (s : State) (seat : ℕ) (who : Who) (kind : Kind) → made_by app (connection_of s.connections seat) (Request.Enter who kind) ≡ false →
     view s app ≡ view (enter s seat who kind).0 app
 enter_other app s seat who kind h =
-    view-frame app s (enter s seat who kind).0 refl refl refl refl (sym (other_entered app seat who kind s.connections (connection_of s.connections seat) h))
+    view-connections app s (entered seat who kind s.connections (connection_of s.connections seat)) (sym (other_entered app seat who kind s.connections (connection_of s.connections seat) h))

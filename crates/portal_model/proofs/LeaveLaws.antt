@@ -10,7 +10,7 @@ use Rattle.portal_model.specs.State.{State, connection_of}
 use Rattle.portal_model.specs.Valid.{Valid}
 use Rattle.portal_model.specs.View.{view, is_app, own_connections}
 use Rattle.portal_model.proofs.Finds.{filters-swap, find-filter-some}
-use Rattle.portal_model.proofs.ViewLaws.{view-frame}
+use Rattle.portal_model.proofs.ViewLaws.{view-connections}
 
 -- the connections of the view, and those after a Leave
 
@@ -63,4 +63,4 @@ leave_own app s seat h = λ i. (
 -- another's leaves the view
 pub leave_other : (app : List ℕ) (s : State) (seat : ℕ) → Valid s → made_by app (connection_of s.connections seat) Request.Leave ≡ false → view s app ≡ view (leave s seat).0 app
 leave_other app s seat v h =
-    view-frame app s (leave s seat).0 refl refl refl refl (sym (other_left app seat s.connections (connection_of s.connections seat) refl h v.seats_differ))
+    view-connections app s (left seat s.connections (connection_of s.connections seat)) (sym (other_left app seat s.connections (connection_of s.connections seat) refl h v.seats_differ))

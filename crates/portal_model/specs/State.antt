@@ -63,7 +63,3 @@ who_has rights (Who.App app) number right = app_has rights app number right
 
 abbrev pub has : State → Who → ℕ → Right → Bool
 has s who number right = is_some (document_of s.documents number) && who_has s.rights who number right
-
--- the document is live, and the caller has this right in it
-abbrev pub Has : State → Who → ℕ → Right → Type 0
-Has s who number right = has s who number right ≡ true

@@ -1,6 +1,6 @@
 -- What the portal is to one application. It holds nothing of other applications' rights, documents, numbers or connections.
-use Rattle.std.specs.Prelude.{ℕ, ◌==◌, nat_le, List, [], ◌∷◌, Bool, false, ◌||◌, map, cond, Option}
-use Rattle.std.specs.List.{filter, find}
+use Rattle.std.specs.Prelude.{◌≡◌, ℕ, ◌==◌, nat_le, List, [], ◌∷◌, Bool, false, ◌||◌, map, cond, Option}
+use Rattle.std.specs.List.{All, filter, find}
 use Rattle.portal_base.specs.Names.{is_same}
 use Rattle.portal_base.specs.declared.who.Who.{Who}
 use Rattle.portal_model.specs.declared.rights.Right.TheVariants.{Read, Write, GrantPermissions, Delete}
@@ -66,8 +66,12 @@ abbrev pub in_order : List Seen → List Seen
 in_order [] = []
 in_order (d ∷ ds) = put_in_order d (in_order ds)
 
+-- the documents in which the application has a right
+abbrev pub own_documents : List Document → List Triple → List ℕ → List Document
+own_documents documents rights app = filter (λ d. holds_any (held_of rights app d.id.number)) documents
+
 abbrev pub seen_documents : State → List ℕ → List Seen
-seen_documents s app = in_order (map (seen_of s app) (filter (λ d. holds_any (held_of s.rights app d.id.number)) s.documents))
+seen_documents s app = in_order (map (seen_of s app) (own_documents s.documents s.rights app))
 
 abbrev pub is_app : List ℕ → Who → Bool
 is_app app Who.Host = false
@@ -88,3 +92,14 @@ view s app = record {
 -- the document of a number in the view
 abbrev pub seen_document : View → ℕ → Option Seen
 seen_document v number = find (λ d. d.number == number) v.documents
+
+-- What the view takes from the state is the same in both: the limits that the application meets, its
+-- connections, the documents in which it has a right, its rights in each, and what is at each path.
+pub record TakesAlike (app : List ℕ) (s t : State) : Type 0 where
+  pub handles : s.limits.handles ≡ t.limits.handles
+  pub queued : s.limits.queued ≡ t.limits.queued
+  pub file_bytes : s.limits.file_bytes ≡ t.limits.file_bytes
+  pub connections : own_connections s.connections app ≡ own_connections t.connections app
+  pub documents : own_documents s.documents s.rights app ≡ own_documents t.documents t.rights app
+  pub rights : All (λ d. held_of s.rights app d.id.number ≡ held_of t.rights app d.id.number) (own_documents s.documents s.rights app)
+  pub contents : All (λ d. content_at s.files d.path ≡ content_at t.files d.path) (own_documents s.documents s.rights app)

@@ -45,6 +45,3 @@ pub trait Desk {
     /// third.
     ghost follows: { (d e f : Self) → goes d e → goes e f → goes d f };
 }
-
-#[cfg(test)]
-mod tests;

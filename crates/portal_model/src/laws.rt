@@ -66,7 +66,8 @@ pub fn states_stay_valid()
 {}
 
 /// A step that leaves equal what a view takes from the state leaves the view
-/// equal.
+/// equal: so does one that gives another application a right, or adds a
+/// document in which the application has none.
 pub fn views_are_framed()
     ensures { ViewsFramed }
 {}

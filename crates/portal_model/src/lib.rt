@@ -13,5 +13,3 @@ pub mod reply;
 pub mod request;
 pub mod rights;
 pub mod state;
-#[cfg(test)]
-mod tests;

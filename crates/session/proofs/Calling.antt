@@ -1,5 +1,5 @@
 -- What the calls of a session come to.
-use Rattle.std.proofs.Common.{◌≡◌, inl, ℕ, ◌+◌, ◌≤◌, List, [], ◌++◌, length, drop, true, false, Result, Ok, Err, refl, sym, subst}
+use Rattle.std.proofs.Common.{◌≡◌, inl, ℕ, ◌+◌, ◌≤◌, List, [], ◌++◌, length, drop, true, false, Result, Ok, Err, refl, sym, subst, inr}
 use Rattle.std.specs.Prelude.{OnErr}
 use Rattle.portal_base.specs.declared.who.Kind.{Kind}
 use Rattle.portal_base.specs.declared.who.Who.{Who}
@@ -15,7 +15,7 @@ use Rattle.session.specs.declared.served.Fed.TheVariants as fed
 use Rattle.session.specs.declared.served.Halt.{Halt}
 use Rattle.session.specs.declared.served.Halt.TheVariants as halt
 use Rattle.session.specs.Ledger.{Began, Stops, World}
-use Rattle.session.specs.Sessions.{Feeds, FeedsOpen, HasRoom, IsBound, IsOpen, fed_of, halted, longest}
+use Rattle.session.specs.Sessions.{Feeds, FeedsOpen, HasRoom, HoldsBoth, IsBound, IsOpen, StaysAt, fed_of, halted, longest}
 use Rattle.session.specs.Standings.{Standing}
 use Rattle.session.proofs.Doing.{did_none}
 use Rattle.session.proofs.Feeding.{feeds_rest, takes}
@@ -53,8 +53,8 @@ pub began_none : (c : Client) (s : Stage) (v : World) (bytes : List ℕ) → Beg
 began_none c s v bytes = record { front = []; after = bytes; mid = s; bytes_are = refl; did = did_none c s v }
 
 -- where there is no memory for the piece
-pub fed_none : (s : Standing) (v : World) (piece : List ℕ) (t : Standing) → t.fed ≡ fed.Memory → t.client ≡ s.client → HasRoom s piece → FeedsOpen s v piece fed.Memory t v
-fed_none s v piece t is client room = (inl (began_none s.client s.stage v (s.rest ++ piece)), (is, client), room)
+pub fed_none : (s : Standing) (v : World) (piece : List ℕ) (t : Standing) → t.fed ≡ fed.Memory → t.client ≡ s.client → HasRoom s piece → StaysAt s t → FeedsOpen s v piece fed.Memory t v
+fed_none s v piece t is client room stays = (inl (refl, stays), (is, client), room)
 
 -- a run over the rest and the piece, which was whole
 pub fed_ok : (s : Standing) (v w : World) (piece bytes : List ℕ) (run : Run) (t : Standing)
@@ -65,14 +65,14 @@ fed_ok s v w piece bytes run t is room stops before left client came =
     subst (λ (r : Fed). FeedsOpen s v piece r t w) (sym came) (feeds_rest run.rest s v piece t w h came)
 
 -- the same, halted
-halt_opens : (why : Halt) (s : Standing) (v w : World) (piece : List ℕ) (t : Standing) → Stops s.client (Err why) s.stage v (s.rest ++ piece) t.stage w → t.client ≡ s.client → t.fed ≡ halted why → HasRoom s piece → FeedsOpen s v piece (halted why) t w
-halt_opens halt.WriteFault s v w piece t stops client came room = (stops.0, stops.1, (came, client), room)
-halt_opens halt.Memory s v w piece t stops client came room = (stops, (came, client), room)
+halt_opens : (why : Halt) (s : Standing) (v w : World) (piece : List ℕ) (t : Standing) → Stops s.client (Err why) s.stage v (s.rest ++ piece) t.stage w → t.client ≡ s.client → t.fed ≡ halted why → HasRoom s piece → HoldsBoth s piece t → FeedsOpen s v piece (halted why) t w
+halt_opens halt.WriteFault s v w piece t stops client came room holds = (stops.0, stops.1, (came, client), room, holds)
+halt_opens halt.Memory s v w piece t stops client came room holds = (inr (stops, holds), (came, client), room)
 
-pub fed_err : (why : Halt) (s : Standing) (v w : World) (piece bytes : List ℕ) (t : Standing) → bytes ≡ s.rest ++ piece → Stops s.client (Err why) s.stage v bytes t.stage w → t.client ≡ s.client → t.fed ≡ halted why → HasRoom s piece → FeedsOpen s v piece t.fed t w
-fed_err why s v w piece bytes t is stops client came room =
+pub fed_err : (why : Halt) (s : Standing) (v w : World) (piece bytes : List ℕ) (t : Standing) → bytes ≡ s.rest ++ piece → Stops s.client (Err why) s.stage v bytes t.stage w → t.client ≡ s.client → t.fed ≡ halted why → HasRoom s piece → HoldsBoth s piece t → FeedsOpen s v piece t.fed t w
+fed_err why s v w piece bytes t is stops client came room holds =
     subst (λ (r : Fed). FeedsOpen s v piece r t w) (sym came)
-    (halt_opens why s v w piece t (subst (λ (b : List ℕ). Stops s.client (Err why) s.stage v b t.stage w) is stops) client came room)
+    (halt_opens why s v w piece t (subst (λ (b : List ℕ). Stops s.client (Err why) s.stage v b t.stage w) is stops) client came room holds)
 
 pub fed_stays : (s : Standing) (v w : World) (piece : List ℕ) (r : Fed) (t : Standing) → Known v.seated → Known w.seated → FeedsOpen s v piece r t w → IsOpen s.client v.seated → IsOpen s.client w.seated
 fed_stays s v w piece r t a b h is = stays_open s.client v.seated w.seated a b (feeds_let r s v piece t w h) is

@@ -12,9 +12,9 @@ use Rattle.session.specs.declared.served.Rest.TheVariants as rest
 use Rattle.session.specs.declared.served.Served.{Served}
 use Rattle.session.specs.declared.served.Served.TheVariants as served
 use Rattle.session.specs.Answers.{Outcome, Made}
-use Rattle.session.specs.Connections.{Encloses, EndsAs, Front, Half, Serves, Whole, between}
+use Rattle.session.specs.Connections.{Encloses, EndsAs, Front, Half, HalfUnsaid, Serves, Whole, between}
 use Rattle.session.specs.Items.{IsItem}
-use Rattle.session.specs.Ledger.{Began, Broke, Grows, World}
+use Rattle.session.specs.Ledger.{Began, Broke, BrokeUnsaid, Grows, World}
 use Rattle.session.specs.Pumps.{CameLast, IsDry, Kept, Pumps, PumpsInto, PumpsOver, Spring}
 use Rattle.session.specs.Sessions.{ending, ending_at, longest}
 use Rattle.session.specs.Standings.{Standing, first_stage}
@@ -90,6 +90,10 @@ module _ (c : Client) (u v w x : World) (entered leaving : Exchange) (encloses :
             (grows_on v b.then w b.did.outcomes h.outcomes b.did.pieces h.written b.did.grows h.grows) z;
       }
 
+  half_unsaid : (read : List ℕ) → length read ≤ longest → BrokeUnsaid c (first_stage c) v read w → HalfUnsaid c read u x
+  unfolding half
+  half_unsaid read room b = (half read room b.0, b.1)
+
   at_end : (left read : List ℕ) (i j : Spring) → IsDry j → Whole c read left rest.More u x → EndsAs c (ending_at left) read i j u x
   at_end [] read i j dry k = (dry, k)
   at_end (b ∷ bs) read i j dry k = (dry, omega arith, (b ∷ bs, refl, k))
@@ -114,7 +118,7 @@ module _ (c : Client) (u v w x : World) (entered leaving : Exchange) (encloses :
   over_at (fed.Over met) left read s i j p q h last = over_into met read s i j h last
   over_at fed.WriteFault left read s i j p q h last = (let r = h.1 in omega arith, half read h.2 h.0, last)
   over_at fed.Memory left read s i j p q (inl h, room) last = inr (inl (front read room h), last)
-  over_at fed.Memory left read s i j p q (inr h, room) last = inr (inr (half read room h), last)
+  over_at fed.Memory left read s i j p q (inr h, room) last = inr (inr (half_unsaid read room h), last)
 
   -- the pieces ended, or the session was over
   pub closed : (r : Pumped) (i j : Spring) (s : Standing) → r ≢ pumped.Fault → u.faults ≤ v.faults → w.faults ≤ x.faults → Pumps c r i j v s w → Serves c (ending s.fed s.rest) i j u x

@@ -126,7 +126,7 @@ breaks_nowhere (i ∷ is) (j ∷ js) c p xs ys left more what e a b h =
 -- ---- the ending
 
 -- what was read is a front of what the source told
-read_of : (stream read : List ℕ) (a b : Option (List ℕ)) → a ≡ Some stream → a ≡ behind read b → (more : List ℕ) × (b ≡ Some more) × (stream ≡ read ++ more)
+pub read_of : (stream read : List ℕ) (a b : Option (List ℕ)) → a ≡ Some stream → a ≡ behind read b → (more : List ℕ) × (b ≡ Some more) × (stream ≡ read ++ more)
 read_of stream read a None e h = let never : Some stream ≡ None = sym e ∙ h in absurd (cc)
 read_of stream read a (Some more) e h = let same : Some stream ≡ Some (read ++ more) = sym e ∙ h in (more, refl, cc)
 

@@ -1,5 +1,5 @@
 -- Items that are asked and answered, one part after another.
-use Rattle.std.proofs.Common.{◌≡◌, ℕ, List, [], ◌∷◌, ◌++◌, Option, Result, Ok, Err, IfOk, refl, sym, ap, ◌∙◌, subst}
+use Rattle.std.proofs.Common.{◌≡◌, ℕ, arith, List, [], ◌∷◌, ◌++◌, Option, Result, Ok, Err, IfOk, refl, sym, ap, ◌∙◌, subst}
 use Rattle.std.proofs.lemmas.List.{append-nil, append_assoc}
 use Rattle.portal_model.specs.Seated.{Seated}
 use Rattle.session.specs.declared.act.Act.{Act}
@@ -12,8 +12,8 @@ use Rattle.session.specs.Cuts.{next_phase}
 use Rattle.session.specs.Items.{AreItems, IsItem, joined, phase_after}
 use Rattle.session.specs.Answers.{Answers, AreOf, Gives, Outcome, pieces_of, serial_past}
 use Rattle.session.specs.Asked.{asked_by}
-use Rattle.session.specs.Ledger.{ActEnds, Began, Broke, Did, Grew, Grows, Sends, SendsPart, World, world}
-use Rattle.session.proofs.Growing.{grows_none, grows_on}
+use Rattle.session.specs.Ledger.{ActEnds, Began, Broke, BrokeUnsaid, Did, Grew, Grows, Sends, SendsPart, World, world}
+use Rattle.session.proofs.Growing.{grows_none, grows_on, onto_none}
 
 -- ---- items
 
@@ -84,7 +84,7 @@ module _ (act : Act) (serial : ℕ) (os : List Outcome) (v w : Seated) (grew : G
 
   pub act_halted : (halt : Halt) (ps : List (List ℕ)) (last : ℕ) → Gives act serial os ps last → SendsPart ps halt o a n b → ActEnds (Err halt) act serial (world v o a) (world w n b)
   act_halted WriteFault ps last gives h = (record { outcomes = os; pieces = ps; written = h.0; last = last; gives = gives; grows = record { desk = grew; told = h.2; faults = h.3 }; short = h.1 }, h.4)
-  act_halted Memory ps last gives h = record { outcomes = os; pieces = ps; written = h.0; last = last; gives = gives; grows = record { desk = grew; told = h.2; faults = h.3 }; short = h.1 }
+  act_halted Memory ps last gives h = (record { outcomes = os; pieces = ps; written = []; last = last; gives = gives; grows = record { desk = grew; told = h.0 ∙ onto_none o; faults = let same = h.1 in omega arith }; short = tt }, refl)
 
   -- how pieces that are told ended, and the last serial
   pub act_ends : (r : Result ℕ Halt) (ps : List (List ℕ)) → AreOf (asked_by act) os → ps ≡ pieces_of act serial os → Sends ps r o a n b → IfOk r (λ last. last ≡ serial_past act serial) → ActEnds r act serial (world v o a) (world w n b)
@@ -106,6 +106,10 @@ broke_on c s t u v w b1 b2 a b = record {
   is_item = b.is_item;
   halted = b.halted;
 }
+
+pub unsaid_on : (c : Client) (s t : Stage) (u v w : World) (b1 b2 : List ℕ) → Did c s u b1 t v → BrokeUnsaid c t v b2 w → BrokeUnsaid c s u (b1 ++ b2) w
+unfolding broke_on
+unsaid_on c s t u v w b1 b2 a b = (broke_on c s t u v w b1 b2 a b.0, b.1)
 
 pub began_on : (c : Client) (s t : Stage) (u v w : World) (b1 b2 : List ℕ) → Did c s u b1 t v → Began c t v b2 w → Began c s u (b1 ++ b2) w
 began_on c s t u v w b1 b2 a b = record {

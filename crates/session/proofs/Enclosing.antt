@@ -87,7 +87,7 @@ ends_connect c (served.Full now limit) read i j v w h = refused_connects c (refu
 ends_connect c served.Memory read i j v w (inl (inl h)) = none_connects c v w h.1
 ends_connect c served.Memory read i j v w (inl (inr h)) = refused_connects c refused.Memory read i j v w h
 ends_connect c served.Memory read i j v w (inr (inl h, last)) = front_connects c read v w h
-ends_connect c served.Memory read i j v w (inr (inr h, last)) = half_connects c read v w h
+ends_connect c served.Memory read i j v w (inr (inr h, last)) = half_connects c read v w h.0
 
 pub serves_connect : (c : Client) (r : Served) (i j : Spring) (v w : World) → Serves c r i j v w → Connects c v.seated w.seated
 serves_connect c r i j v w h = ends_connect c r h.0 i j v w h.3

@@ -20,3 +20,8 @@ pub mod Enclosing
 pub mod Hearing
 pub mod Completing
 pub mod Weighing
+pub mod Rooming
+pub mod Following
+pub mod Finding
+pub mod Pieces
+pub mod Endings

@@ -1,4 +1,4 @@
--- The laws of cutting and of answers.
+-- The laws of answers.
 use Rattle.std.proofs.Common.{◌≡◌, inl, inr, ℕ, List, [], ◌∷◌, ◌++◌, map, take, drop, Result, Ok, Err, refl, sym, ap, ◌∙◌, subst, arith}
 use Rattle.std.specs.List.{flat_map}
 use Rattle.std.proofs.lemmas.List.{append-nil, append_assoc, take-append-drop}
@@ -8,27 +8,23 @@ use Rattle.portal_model.specs.declared.reply.Reply.{Reply}
 use Rattle.portal_model.specs.declared.request.Request.{Request}
 use Rattle.session.specs.declared.act.Act.{Act}
 use Rattle.session.specs.declared.act.Act.TheVariants.{Nothing, Line, Call, Node}
-use Rattle.session.specs.declared.act.Client.{Client}
 use Rattle.session.specs.declared.phase.Cut.TheVariants as cut
 use Rattle.session.specs.declared.phase.Phase.{Phase}
 use Rattle.session.specs.declared.phase.Phase.TheVariants as due
-use Rattle.session.specs.declared.served.Rest.{Rest}
-use Rattle.session.specs.declared.served.Rest.TheVariants as rest
 use Rattle.session.specs.Answers.{Answers, AreOf, Denied, Made, Outcome, frames_for, pieces_of, told_as}
 use Rattle.session.specs.Asked.{asked_by, requests_of}
 use Rattle.session.specs.Cuts.{Cuts}
 use Rattle.session.specs.Frames.{answer_frames, refusal_frames}
-use Rattle.session.specs.Items.{Items, Remains, joined, phase_after}
-use Rattle.session.specs.Laws.{AnswerAsked, AreCutAlike, CutBy, SayAlike, ShortBegins}
-use Rattle.session.proofs.Doing.{items-append, joined-append, phase-append}
+use Rattle.session.specs.Items.{joined}
+use Rattle.session.specs.Laws.{AnswerAsked, SayAlike, ShortBegins}
 
 -- ---- outcomes
 
-of-append : (rs ss : List Request) (os us : List Outcome) → AreOf rs os → AreOf ss us → AreOf (rs ++ ss) (os ++ us)
+pub of-append : (rs ss : List Request) (os us : List Outcome) → AreOf rs os → AreOf ss us → AreOf (rs ++ ss) (os ++ us)
 of-append [] ss os us a b = subst (λ (z : List Outcome). AreOf ss (z ++ us)) (sym a) b
 of-append (r ∷ rs) ss os us (o, more, e, is, are) b = (o, more ++ us, ap (λ (z : List Outcome). z ++ us) e, is, of-append rs ss more us are b)
 
-asked_go : (acts : List Act) (serial last : ℕ) (os : List Outcome) (ps : List (List ℕ)) → Answers serial acts os ps last → AreOf (requests_of acts) os
+pub asked_go : (acts : List Act) (serial last : ℕ) (os : List Outcome) (ps : List (List ℕ)) → Answers serial acts os ps last → AreOf (requests_of acts) os
 asked_go [] serial last os ps a = a.0
 asked_go (x ∷ xs) serial last os ps (o1, o2, p1, p2, mid, oe, pe, gives, more) =
     subst (λ (z : List Outcome). AreOf (asked_by x ++ requests_of xs) z) (sym oe) (of-append (asked_by x) (requests_of xs) o1 o2 gives.asked (asked_go xs mid last o2 p2 more))
@@ -45,37 +41,14 @@ answer_asked = record {
   );
 }
 
--- ---- pieces
+-- ---- the empty stream
 
--- what a stream's items are, once more of it has come
-items_more : (c : Client) (p : Phase) (stream piece mid left : List ℕ) (is js : List (List ℕ)) (xs ys : List Act) (what : Rest) → Items c p stream is xs mid rest.More → Items c (phase_after c p is) (mid ++ piece) js ys left what
-    → Items c p (stream ++ piece) (is ++ js) (xs ++ ys) left what
-items_more c p stream piece mid left is js xs ys what a b = record {
-  bytes = ap (λ (z : List ℕ). z ++ piece) a.bytes ∙ (append_assoc (joined is) mid piece ∙ (ap (λ (z : List ℕ). joined is ++ z) b.bytes ∙ (sym (append_assoc (joined is) (joined js) left) ∙ ap (λ (z : List ℕ). z ++ left) (sym (joined-append is js)))));
-  each = items-append is js c p xs ys a.each b.each;
-  remains = subst (λ (z : Phase). Remains c z left what) (sym (phase-append is js c p)) b.remains;
-}
-
-cut_on : (pieces : List (List ℕ)) (c : Client) (p : Phase) (stream mid piece left : List ℕ) (is js : List (List ℕ)) (xs ys : List Act) (what : Rest) → Items c p stream is xs mid rest.More
-    → CutBy c (phase_after c p is) mid piece pieces js ys left what → Items c p (stream ++ joined (piece ∷ pieces)) (is ++ js) (xs ++ ys) left what
-cut_on [] c p stream mid piece left is js xs ys what a b = subst (λ (z : List ℕ). Items c p (stream ++ z) (is ++ js) (xs ++ ys) left what) (sym (append-nil piece)) (items_more c p stream piece mid left is js xs ys what a b)
-cut_on (later ∷ pieces) c p stream mid piece left is js xs ys what a (first, others, firsts, more, next, e, f, h, rest_cut) =
-    let x = items_more c p stream piece mid next is first xs firsts rest.More a h in
-    let y = cut_on pieces c p (stream ++ piece) next later left (is ++ first) others (xs ++ firsts) more what x (subst (λ (z : Phase). CutBy c z next later pieces others more left what) (sym (phase-append is first c p)) rest_cut) in
-    let items : is ++ js ≡ (is ++ first) ++ others = ap (λ (z : List (List ℕ)). is ++ z) e ∙ sym (append_assoc is first others) in
-    let acts : xs ++ ys ≡ (xs ++ firsts) ++ more = ap (λ (z : List Act). xs ++ z) f ∙ sym (append_assoc xs firsts more) in
-    subst (λ (z : List ℕ). Items c p z (is ++ js) (xs ++ ys) left what) (append_assoc stream piece (joined (later ∷ pieces)))
-    (subst (λ (z : List (List ℕ)). Items c p ((stream ++ piece) ++ joined (later ∷ pieces)) z (xs ++ ys) left what) (sym items)
-    (subst (λ (z : List Act). Items c p ((stream ++ piece) ++ joined (later ∷ pieces)) ((is ++ first) ++ others) z left what) (sym acts) y))
-
+-- nothing is too few bytes
 pub nothing : (p : Phase) → Cuts p [] cut.More
 nothing due.ZeroByte = refl
 nothing (due.Handshake h) = refl
 nothing due.Messages = (split.More, inl (omega arith), refl)
 nothing due.Frames = refl
-
-pub cut_alike : AreCutAlike
-cut_alike c p piece pieces items acts left what h = cut_on pieces c p [] [] piece left [] items [] acts what (record { bytes = refl; each = refl; remains = nothing p }) h
 
 -- ---- parts
 

@@ -1,6 +1,7 @@
 -- Piece after piece.
 use Rattle.std.proofs.Common.{◌≡◌, ◌≢◌, inl, inr, ℕ, ◌+◌, ◌≤◌, List, [], ◌++◌, length, Option, Some, None, refl, sym, ap, ◌∙◌, subst, arith}
 use Rattle.std.proofs.lemmas.List.{append_assoc, length-append}
+use Rattle.std.specs.Prelude.{◌⊎◌}
 use Rattle.portal_base.specs.Outside.{behind}
 use Rattle.portal_base.specs.declared.who.Kind.{Kind}
 use Rattle.session.specs.declared.act.Client.{Client}
@@ -13,11 +14,12 @@ use Rattle.session.specs.declared.served.Served.TheVariants as served
 use Rattle.session.specs.declared.phase.Cut.TheVariants as cut
 use Rattle.session.specs.Cuts.{Cuts, first_phase}
 use Rattle.session.specs.Items.{Items, Remains}
-use Rattle.session.specs.Ledger.{Began, Broke, Did, World}
+use Rattle.session.specs.Ledger.{Began, Broke, BrokeUnsaid, Did, World}
 use Rattle.session.specs.Pumps.{CameLast, Kept, PumpsInto, PumpsOver, longest_piece}
-use Rattle.session.specs.Sessions.{Feeds, FeedsOpen, FeedsOver, HasRoom, TakesUpTo, longest}
+use Rattle.session.specs.Sessions.{Feeds, FeedsNot, FeedsOpen, FeedsOver, HasRoom, TakesUpTo, longest}
 use Rattle.session.specs.Standings.{Standing, first_stage, fresh}
-use Rattle.session.proofs.Doing.{began_on, broke_on, did_none, did_on}
+use Rattle.session.proofs.Calling.{began_none}
+use Rattle.session.proofs.Doing.{began_on, broke_on, did_none, did_on, unsaid_on}
 use Rattle.session.proofs.Growing.{risen_later}
 
 pub behind_behind : (xs ys : List ℕ) (o : Option (List ℕ)) → behind xs (behind ys o) ≡ behind (xs ++ ys) o
@@ -85,8 +87,16 @@ module _ (c : Client) (read piece : List ℕ) (v m w : World) (s t : Standing) (
   broke_here : Broke s.client s.stage m (s.rest ++ piece) w → Broke c (first_stage c) v (read ++ piece) w
   broke_here b = subst (λ (z : List ℕ). Broke c (first_stage c) v z w) (sym whole_bytes) (broke_on c (first_stage c) s.stage v m w k.taken (s.rest ++ piece) k.did (subst (λ (z : Client). Broke z s.stage m (s.rest ++ piece) w) is b))
 
+  unsaid_here : BrokeUnsaid s.client s.stage m (s.rest ++ piece) w → BrokeUnsaid c (first_stage c) v (read ++ piece) w
+  unsaid_here b = subst (λ (z : List ℕ). BrokeUnsaid c (first_stage c) v z w) (sym whole_bytes) (unsaid_on c (first_stage c) s.stage v m w k.taken (s.rest ++ piece) k.did (subst (λ (z : Client). BrokeUnsaid z s.stage m (s.rest ++ piece) w) is b))
+
   began_here : Began s.client s.stage m (s.rest ++ piece) w → Began c (first_stage c) v (read ++ piece) w
   began_here b = subst (λ (z : List ℕ). Began c (first_stage c) v z w) (sym whole_bytes) (began_on c (first_stage c) s.stage v m w k.taken (s.rest ++ piece) k.did (subst (λ (z : Client). Began z s.stage m (s.rest ++ piece) w) is b))
+
+  not_here : FeedsNot s m piece t w → Began c (first_stage c) v (read ++ piece) w ⊎ BrokeUnsaid c (first_stage c) v (read ++ piece) w
+  not_here (inl same) = inl (began_here (subst (λ (z : World). Began s.client s.stage m (s.rest ++ piece) z) (sym same.0) (began_none s.client s.stage m (s.rest ++ piece))))
+  not_here (inr (inl b, holds)) = inl (began_here b)
+  not_here (inr (inr b, holds)) = inr (unsaid_here b)
 
   -- ahead of the piece
   pub came_last : length piece ≤ longest_piece → CameLast c (read ++ piece)
@@ -96,8 +106,7 @@ module _ (c : Client) (read piece : List ℕ) (v m w : World) (s t : Standing) (
   over_on few fed.More ne h = absurd (ne refl)
   over_on few (fed.Over ending) ne h = subst (λ (o : Fed). PumpsOver c o (read ++ piece) v t w) (sym h.1.0) (over_into few ending h.0)
   over_on few fed.WriteFault ne h = subst (λ (o : Fed). PumpsOver c o (read ++ piece) v t w) (sym h.2.0) (broke_here h.0, risen_later v.faults m.faults w.faults k.did.grows.faults h.1, room_here h.3)
-  over_on few fed.Memory ne (inl b, keeps, fits) = subst (λ (o : Fed). PumpsOver c o (read ++ piece) v t w) (sym keeps.0) (inl (began_here b), room_here fits)
-  over_on few fed.Memory ne (inr b, keeps, fits) = subst (λ (o : Fed). PumpsOver c o (read ++ piece) v t w) (sym keeps.0) (inr (broke_here b), room_here fits)
+  over_on few fed.Memory ne (how, keeps, fits) = subst (λ (o : Fed). PumpsOver c o (read ++ piece) v t w) (sym keeps.0) (not_here how, room_here fits)
 
   -- the client of the session goes on
   pub client_on : (r : Fed) → FeedsOpen s m piece r t w → t.client ≡ c

@@ -24,7 +24,7 @@ use Rattle.session.specs.Ledger.{ActEnds, Collected, Did, ItemEnds, Sends, Stops
 use Rattle.session.specs.Standings.{stage}
 use Rattle.session.proofs.Growing.{asked_ok, asked_err, onto_none, risen_later}
 use Rattle.session.proofs.Cutting.{whole_within}
-use Rattle.session.proofs.Stepping.{began, broke, declined, stepped}
+use Rattle.session.proofs.Stepping.{began, broke, broke_unsaid, declined, stepped}
 
 -- a request that is asked has one outcome
 pub asked_one : (v w : Seated) (request : Request) (r : Result Reply Refused) → Asks v request r w → Collected (request ∷ []) v w
@@ -48,7 +48,7 @@ module _ (c : Client) (s t : Stage) (v m w : World) (bytes : List ℕ) (used n :
   pub run_halts : (halt : Halt) (x : Stage) → ItemEnds c (Err halt) t m (take n (drop used bytes)) x w → Stops c (Err halt) s v bytes x w
   run_halts WriteFault x (act, means, ends) = (broke c s t v m w bytes used n did is act means ends.0, risen_later v.faults m.faults w.faults did.grows.faults ends.1)
   run_halts Memory x (inl same) = inl (began c s t v w bytes used (subst (λ (z : World). Did c s v (take used bytes) t z) (sym same) did))
-  run_halts Memory x (inr (act, means, halted)) = inr (broke c s t v m w bytes used n did is act means halted)
+  run_halts Memory x (inr (act, means, halted)) = inr (broke_unsaid c s t v m w bytes used n did is act means halted)
 
   -- a run that ends at an item that asks nothing
   pub run_ends : (what : Rest) (x : Stage) → used ≤ length bytes → ItemEnds c (Ok (Some what)) t m (take n (drop used bytes)) x w → Stops c (Ok (record { len = used; rest = what })) s v bytes x w

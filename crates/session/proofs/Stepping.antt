@@ -11,7 +11,7 @@ use Rattle.session.specs.declared.served.Rest.TheVariants as rest
 use Rattle.session.specs.Asked.{Means}
 use Rattle.session.specs.Cuts.{Cuts}
 use Rattle.session.specs.Items.{Remains}
-use Rattle.session.specs.Ledger.{Began, Broke, Declines, Did, Halted, ItemEnds, World}
+use Rattle.session.specs.Ledger.{Began, Broke, BrokeUnsaid, Declines, Did, Halted, ItemEnds, Unsaid, World}
 use Rattle.session.proofs.Cutting.{whole_alone}
 use Rattle.session.proofs.Doing.{did_on, did_one}
 
@@ -49,6 +49,10 @@ module _ (c : Client) (s t : Stage) (v m w : World) (bytes : List ℕ) (used n :
     is_item = (whole_alone t.phase (drop used bytes) n is, means);
     halted = halted;
   }
+
+  pub broke_unsaid : (act : Act) → Means c t.phase (take n (drop used bytes)) (Ok act) → Unsaid act t.serial m w → BrokeUnsaid c s v bytes w
+  unfolding broke
+  broke_unsaid act means h = (broke act means h.0, h.1)
 
 -- a front, and nothing more
 pub began : (c : Client) (s t : Stage) (v w : World) (bytes : List ℕ) (used : ℕ) → Did c s v (take used bytes) t w → Began c s v bytes w

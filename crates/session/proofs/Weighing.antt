@@ -86,7 +86,7 @@ zero_asks act found e h = let is : act ≡ Nothing = cc in ap asked_by is
 free : (rs : List Request) (n : ℕ) → rs ≡ [] → costs rs ≤ n
 free rs n h = let none = ap costs h in omega arith
 
-item_cost : (p : Phase) (c : Client) (i : List ℕ) (act : Act) → IsItem c p i act → costs (asked_by act) ≤ 8 * length i
+pub item_cost : (p : Phase) (c : Client) (i : List ℕ) (act : Act) → IsItem c p i act → costs (asked_by act) ≤ 8 * length i
 item_cost due.ZeroByte c i act h = free (asked_by act) (8 * length i) (zero_asks act (Ok act) refl h.1)
 item_cost (due.Handshake a) c i act h = free (asked_by act) (8 * length i) (line_asks (step a (line_of i)).0 act h.1)
 item_cost due.Messages c i act h = let long = whole_message h.0.0 i (length i) h.0.1 h.0.2 in let most = act_cost act in omega arith

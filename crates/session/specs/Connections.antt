@@ -86,6 +86,10 @@ pub record Half (c : Client) (read : List ℕ) (v w : World) : Type 0 where
   pub encloses : Encloses c entered leaving
   pub grows : Grows v (between entered (outcomes ++ last_outcomes) leaving) (pieces ++ written) w
 
+-- The same, and nothing of the last answer is written.
+abbrev pub HalfUnsaid : Client → List ℕ → World → World → Type 0
+HalfUnsaid c read v w = (h : Half c read v w) × (h.written ≡ [])
+
 -- Nothing was read or written, and no read or write failed.
 abbrev pub IsUntouched : List ℕ → Spring → Spring → World → World → Type 0
 IsUntouched read a b v w = (read ≡ []) × (b ≡ a) × (w.told ≡ v.told) × (w.faults ≡ v.faults)
@@ -115,8 +119,8 @@ EndsAs c served.WriteFault read a b v w = HasRisen v.faults w.faults × Half c r
 EndsAs c served.Spent read a b v w = (longest < length read) × ((before : List ℕ) × (piece : List ℕ) × (left : List ℕ) × (read ≡ before ++ piece) × (length piece ≤ longest_piece) × Whole c before left rest.More v w)
 -- the history has no room for Enter
 EndsAs c (served.Full cost limit) read a b v w = IsRefused c (refused.Full cost limit) read a b v w
--- there was no memory: to ask Enter, for Enter, ahead of an item, or in its answer
-EndsAs c served.Memory read a b v w = ((IsUntouched read a b v w × (w.seated ≡ v.seated)) ⊎ IsRefused c refused.Memory read a b v w) ⊎ ((Front c read v w ⊎ Half c read v w) × CameLast c read)
+-- there was no memory: to ask Enter, for Enter, ahead of an item, or for its answer
+EndsAs c served.Memory read a b v w = ((IsUntouched read a b v w × (w.seated ≡ v.seated)) ⊎ IsRefused c refused.Memory read a b v w) ⊎ ((Front c read v w ⊎ HalfUnsaid c read v w) × CameLast c read)
 
 -- What was read stood ahead of what is left, and the ending means what it says of it.
 abbrev pub Serves : Client → Served → Spring → Spring → World → World → Type 0

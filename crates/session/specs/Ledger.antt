@@ -58,10 +58,11 @@ pub record Grows (v : World) (outcomes : List Outcome) (pieces : List (List ℕ)
 
 -- ---- pieces
 
--- these pieces are written in part, since a write failed or there was no memory
+-- these pieces are written in part: where a write failed, some whole and then a front of the next or nothing;
+-- where there was no memory for the first, nothing
 abbrev pub SendsPart : List (List ℕ) → Halt → Option (List (List ℕ)) → ℕ → Option (List (List ℕ)) → ℕ → Type 0
 SendsPart pieces WriteFault told faults told' faults' = (written : List (List ℕ)) × Short written pieces × (told' ≡ onto told written) × (faults ≤ faults') × HasRisen faults faults'
-SendsPart pieces Memory told faults told' faults' = (written : List (List ℕ)) × Short written pieces × (told' ≡ onto told written) × (faults ≤ faults')
+SendsPart pieces Memory told faults told' faults' = (told' ≡ told) × (faults' ≡ faults)
 
 -- how writing these pieces ended
 abbrev pub Sends : {X : Type 0} → List (List ℕ) → Result X Halt → Option (List (List ℕ)) → ℕ → Option (List (List ℕ)) → ℕ → Type 0
@@ -84,11 +85,15 @@ pub record Halted (act : Act) (serial : ℕ) (v w : World) : Type 0 where
   pub grows : Grows v outcomes written w
   pub short : Short written pieces
 
+-- The same, where there was no memory for the answer: nothing of it is written.
+abbrev pub Unsaid : Act → ℕ → World → World → Type 0
+Unsaid act serial v w = (h : Halted act serial v w) × (h.written ≡ [])
+
 -- how asking and answering ended
 abbrev pub ActEnds : Result ℕ Halt → Act → ℕ → World → World → Type 0
 ActEnds (Ok last) act serial v w = (outcomes : List Outcome) × (pieces : List (List ℕ)) × Gives act serial outcomes pieces last × Grows v outcomes pieces w
 ActEnds (Err WriteFault) act serial v w = Halted act serial v w × HasRisen v.faults w.faults
-ActEnds (Err Memory) act serial v w = Halted act serial v w
+ActEnds (Err Memory) act serial v w = Unsaid act serial v w
 
 -- what a whole item that asks nothing is
 abbrev pub Declines : Client → Phase → List ℕ → Rest → Type 0
@@ -135,6 +140,10 @@ pub record Broke (c : Client) (s : Stage) (v : World) (bytes : List ℕ) (w : Wo
   pub is_item : IsItem c mid.phase item act
   pub halted : Halted act mid.serial then w
 
+-- The same, and nothing of the last answer is written.
+abbrev pub BrokeUnsaid : Client → Stage → World → List ℕ → World → Type 0
+BrokeUnsaid c s v bytes w = (b : Broke c s v bytes w) × (b.halted.written ≡ [])
+
 -- These bytes begin with items that are asked and answered, and nothing more is done.
 pub record Began (c : Client) (s : Stage) (v : World) (bytes : List ℕ) (w : World) : Type 0 where
   pub front : List ℕ
@@ -147,4 +156,4 @@ pub record Began (c : Client) (s : Stage) (v : World) (bytes : List ℕ) (w : Wo
 abbrev pub Stops : Client → Result Run Halt → Stage → World → List ℕ → Stage → World → Type 0
 Stops c (Ok run) s v bytes t w = (run.len ≤ length bytes) × Did c s v (take run.len bytes) t w × Remains c t.phase (drop run.len bytes) run.rest
 Stops c (Err WriteFault) s v bytes t w = Broke c s v bytes w × HasRisen v.faults w.faults
-Stops c (Err Memory) s v bytes t w = Began c s v bytes w ⊎ Broke c s v bytes w
+Stops c (Err Memory) s v bytes t w = Began c s v bytes w ⊎ BrokeUnsaid c s v bytes w

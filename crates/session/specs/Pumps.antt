@@ -13,7 +13,7 @@ use Rattle.session.specs.declared.act.Act.{Act}
 use Rattle.session.specs.declared.act.Client.{Client}
 use Rattle.session.specs.Cuts.{first_phase}
 use Rattle.session.specs.Items.{Items, Remains}
-use Rattle.session.specs.Ledger.{World, Did, Broke, Began}
+use Rattle.session.specs.Ledger.{World, Did, Broke, BrokeUnsaid, Began}
 use Rattle.session.specs.Standings.{Standing, first_stage}
 use Rattle.session.specs.Sessions.{longest}
 
@@ -70,7 +70,7 @@ abbrev pub PumpsOver : Client → Fed → List ℕ → World → Standing → Wo
 PumpsOver c fed.More read v s w = ⊥
 PumpsOver c (fed.Over ending) read v s w = PumpsInto c ending read v s w
 PumpsOver c fed.WriteFault read v s w = Broke c (first_stage c) v read w × HasRisen v.faults w.faults × (length read ≤ longest)
-PumpsOver c fed.Memory read v s w = (Began c (first_stage c) v read w ⊎ Broke c (first_stage c) v read w) × (length read ≤ longest)
+PumpsOver c fed.Memory read v s w = (Began c (first_stage c) v read w ⊎ BrokeUnsaid c (first_stage c) v read w) × (length read ≤ longest)
 
 abbrev pub PumpsUpTo : Client → Pumped → List ℕ → Spring → Spring → World → Standing → World → Type 0
 PumpsUpTo c pumped.End read a b v s w = Kept c read rest.More v s w × (s.fed ≡ fed.More) × IsDry b

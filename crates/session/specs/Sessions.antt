@@ -18,7 +18,7 @@ use Rattle.session.specs.declared.served.Rest.TheVariants as rest
 use Rattle.session.specs.declared.served.Served.{Served}
 use Rattle.session.specs.declared.served.Served.TheVariants as served
 use Rattle.session.specs.Items.{Remains}
-use Rattle.session.specs.Ledger.{World, Did, Broke, Began}
+use Rattle.session.specs.Ledger.{World, Did, Broke, BrokeUnsaid, Began}
 use Rattle.session.specs.Standings.{Standing, fresh}
 
 -- how many bytes a connection may have
@@ -66,12 +66,20 @@ HasRoom s piece = s.before + length s.rest + length piece ≤ longest
 abbrev pub Keeps : Standing → Fed → Standing → Type 0
 Keeps s r t = (t.fed ≡ r) × (t.client ≡ s.client)
 
+-- the session is where it was, but for what it goes on to answer
+abbrev pub StaysAt : Standing → Standing → Type 0
+StaysAt s t = (t.stage ≡ s.stage) × (t.before ≡ s.before) × (t.rest ≡ s.rest)
+
+-- the piece is held behind the rest, and no byte of them counts as taken
+abbrev pub HoldsBoth : Standing → List ℕ → Standing → Type 0
+HoldsBoth s piece t = (t.before ≡ s.before) × (t.rest ≡ s.rest ++ piece)
+
 -- The ends that a piece alone can bring.
 abbrev pub FeedsOver : Standing → World → List ℕ → Served → Standing → World → Type 0
 FeedsOver s v piece (served.Malformed at rule) t w = TakesUpTo (rest.Bad rule) s v piece t w × (at ≡ t.before)
 FeedsOver s v piece (served.LineTooLong at) t w = TakesUpTo rest.TooLong s v piece t w × (at ≡ t.before)
 FeedsOver s v piece (served.Unbuilt at) t w = TakesUpTo rest.Unbuilt s v piece t w × (at ≡ t.before)
-FeedsOver s v piece served.Spent t w = (longest < s.before + length s.rest + length piece) × (w ≡ v)
+FeedsOver s v piece served.Spent t w = (longest < s.before + length s.rest + length piece) × (w ≡ v) × StaysAt s t
 FeedsOver s v piece served.Ended t w = ⊥
 FeedsOver s v piece (served.Cut n) t w = ⊥
 FeedsOver s v piece served.ReadFault t w = ⊥
@@ -79,11 +87,15 @@ FeedsOver s v piece served.WriteFault t w = ⊥
 FeedsOver s v piece (served.Full cost limit) t w = ⊥
 FeedsOver s v piece served.Memory t w = ⊥
 
+-- there is no memory: to hold the piece, and nothing is done; ahead of an item; or for the answer of one
+abbrev pub FeedsNot : Standing → World → List ℕ → Standing → World → Type 0
+FeedsNot s v piece t w = ((w ≡ v) × StaysAt s t) ⊎ ((Began s.client s.stage v (s.rest ++ piece) w ⊎ BrokeUnsaid s.client s.stage v (s.rest ++ piece) w) × HoldsBoth s piece t)
+
 abbrev pub FeedsOpen : Standing → World → List ℕ → Fed → Standing → World → Type 0
 FeedsOpen s v piece fed.More t w = TakesUpTo rest.More s v piece t w × Keeps s fed.More t
 FeedsOpen s v piece (fed.Over ending) t w = FeedsOver s v piece ending t w × Keeps s (fed.Over ending) t
-FeedsOpen s v piece fed.WriteFault t w = Broke s.client s.stage v (s.rest ++ piece) w × HasRisen v.faults w.faults × Keeps s fed.WriteFault t × HasRoom s piece
-FeedsOpen s v piece fed.Memory t w = (Began s.client s.stage v (s.rest ++ piece) w ⊎ Broke s.client s.stage v (s.rest ++ piece) w) × Keeps s fed.Memory t × HasRoom s piece
+FeedsOpen s v piece fed.WriteFault t w = Broke s.client s.stage v (s.rest ++ piece) w × HasRisen v.faults w.faults × Keeps s fed.WriteFault t × HasRoom s piece × HoldsBoth s piece t
+FeedsOpen s v piece fed.Memory t w = FeedsNot s v piece t w × Keeps s fed.Memory t × HasRoom s piece
 
 -- the same is answered again, and nothing is done
 abbrev pub Stays : Standing → World → Fed → Fed → Standing → World → Type 0

@@ -2,7 +2,12 @@
 //!
 //! Each function does nothing; its contract is the law.
 
-ghost use Rattle.session.specs.Laws.{AreOne, AreCutAlike, AnswerAsked, CostLittle, SayAlike, ShortBegins, WholeInputsEnd};
+ghost use Rattle.session.specs.Laws.{AreOne, AreCutAlike, AnswerAsked, CostLittle, EndingsAreTheStreams, EndsStay, FeedsCostLittle, ItemsAreFound, ItemsComeFirst, RoomIsEnough, SayAlike, ShortBegins, WholeInputsEnd};
+
+/// Each stream of bytes has items and a rest.
+pub fn streams_have_items()
+    ensures { ItemsAreFound }
+{}
 
 /// The whole items of a stream, what they ask and the rest behind them are
 /// one.
@@ -10,11 +15,31 @@ pub fn items_are_one()
     ensures { AreOne }
 {}
 
+/// Items that stand one after another from the front of a stream are the first
+/// of its items: so are those that were asked so far.
+pub fn items_come_first()
+    ensures { ItemsComeFirst }
+{}
+
+/// Items that end in a broken rule, a line that is too long or a request that
+/// isn't built stay the same whatever follows them.
+pub fn ends_stay()
+    ensures { EndsStay }
+{}
+
 /// What is cut piece by piece, each behind the rest of those before, are the
-/// items of all pieces together, and no others; what stands behind the last
-/// piece stands behind them all.
+/// items of all pieces together, and no others, also where the last of them
+/// aren't looked at. However one stream comes in pieces, its items are the
+/// same, they ask the same, and the same stands behind them.
 pub fn pieces_cut_alike()
     ensures { AreCutAlike }
+{}
+
+/// Where the input ended, an item breaks a rule, a line is too long or a
+/// request isn't built, the connection ends as its whole stream says, of which
+/// no more bytes may be read than up to there.
+pub fn endings_are_the_streams()
+    ensures { EndingsAreTheStreams }
 {}
 
 /// The outcomes of answers are those of what the items ask, each once, in
@@ -45,4 +70,17 @@ pub fn whole_inputs_are_served_to_their_end()
 /// items.
 pub fn items_cost_little()
     ensures { CostLittle }
+{}
+
+/// The items that come with a piece ask requests, each once, that cost the
+/// history at most eight times the bytes held and the piece.
+pub fn feeds_cost_little()
+    ensures { FeedsCostLittle }
+{}
+
+/// Where no other seat asks, and the history has room for all that is asked,
+/// nothing is refused for a full history, and it grows by no more than that
+/// costs.
+pub fn room_is_enough()
+    ensures { RoomIsEnough }
 {}

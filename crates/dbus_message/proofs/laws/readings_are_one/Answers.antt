@@ -1,6 +1,7 @@
+use Rattle.dbus_message.proofs.Deciding.{found}
 use Rattle.dbus_message.proofs.Ones.{one_message}
 use Rattle.dbus_message.proofs.Reading.{one_first, refutes}
 use Rattle.dbus_message.proofs.laws.readings_are_one.Goals as goal
 
 pub returns : goal.returns
-returns c = record { message = one_message; rule = one_first; apart = refutes }
+returns c = record { found = found; message = one_message; rule = one_first; apart = refutes }

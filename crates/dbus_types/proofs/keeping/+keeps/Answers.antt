@@ -21,10 +21,10 @@ pub keeps_within-returns-then-depth-eq0 : goal.keeps_within-returns-then-depth-e
 keeps_within-returns-then-depth-eq0 t c = variant_deep c.args.depth c.args.value.now c.in-Variant.inner (omega arith) c.in-Variant.is
 
 pub keeps_within-returns-then-depth-eq0-2 : goal.keeps_within-returns-then-depth-eq0-2
-keeps_within-returns-then-depth-eq0-2 t c = array_deep c.args.depth c.args.value.now c.in-Array.element c.in-Array.items (omega arith) c.in-Array.is
+keeps_within-returns-then-depth-eq0-2 t c = array_deep c.is_empty.result c.args.depth c.args.value.now c.in-Array.element c.in-Array.items c.in-Array.items (omega arith) c.in-Array.is refl c.is_empty.ensures
 
 pub keeps_within-returns-then-depth-eq0-3 : goal.keeps_within-returns-then-depth-eq0-3
-keeps_within-returns-then-depth-eq0-3 t c = struct_deep c.args.depth c.args.value.now c.in-Struct.members (omega arith) c.in-Struct.is
+keeps_within-returns-then-depth-eq0-3 t c = struct_deep c.is_empty-then-depth-eq0-3.result c.args.depth c.args.value.now c.in-Struct.members c.in-Struct.members (omega arith) c.in-Struct.is refl c.is_empty-then-depth-eq0-3.ensures
 
 pub keeps_within-returns-then-depth-eq0-4 : goal.keeps_within-returns-then-depth-eq0-4
 keeps_within-returns-then-depth-eq0-4 t c = entry_deep c.args.depth c.args.value.now c.in-DictEntry.key c.in-DictEntry.value (omega arith) c.in-DictEntry.is

@@ -1,9 +1,12 @@
+use Rattle.std.proofs.Common.{◌∙◌}
 use Rattle.docportal.proofs.input.read_to_end.Goals as goal
 use Rattle.docportal.proofs.Behind.{read_on, too_long}
 
 pub returns-in_default-clause-err : goal.returns-in_default-clause-err
-returns-in_default-clause-err g c = (_, read_on _ _ _ _ _ c.pieces.invariant.read c.in-Got.ensures.reads.2)
+returns-in_default-clause-err g c = (c.in-Got.ensures.counts ∙ c.pieces.invariant.counts, (_, read_on _ _ _ _ _ c.pieces.invariant.read c.in-Got.ensures.reads.2))
 
 pub returns-then-len-gt-LONGEST-clause-err : goal.returns-then-len-gt-LONGEST-clause-err
-returns-then-len-gt-LONGEST-clause-err g c =
-    too_long _ _ _ _ _ _ _ _ c.pieces.invariant.read c.in-Got.ensures.reads.2 c.front-piece.ensures c.in-Ok.ensures.ok c.len.ensures c.if-len-gt-LONGEST.true
+returns-then-len-gt-LONGEST-clause-err g c = (
+  c.in-Got.ensures.counts ∙ c.pieces.invariant.counts,
+  too_long _ _ _ _ _ _ _ _ c.pieces.invariant.read c.in-Got.ensures.reads.2 c.front-piece.ensures c.in-Ok.ensures.ok c.len.ensures c.if-len-gt-LONGEST.true,
+)

@@ -7,7 +7,7 @@ invariant-pieces g l = record {
   room : length l.buffer ≡ 4096;
   within : length l.text ≤ 67108864;
   read : g.S.Source.left l.fn.source ≡ behind l.text (g.S.Source.left l.source);
-  counts : g.S.Source.faults l.fn.source ≤ g.S.Source.faults l.source;
+  counts : g.S.Source.faults l.source ≡ g.S.Source.faults l.fn.source;
 }
 
 abbrev pub decreases-pieces : goal.decreases-pieces

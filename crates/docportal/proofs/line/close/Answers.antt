@@ -1,4 +1,4 @@
-use Rattle.std.proofs.Common.{arith}
+use Rattle.std.proofs.Common.{refl}
 use Rattle.docportal.proofs.Lining.{breaks_written, close_part, close_passes, close_runs, if_err, on_ok}
 use Rattle.docportal.specs.Steps.{scene}
 use Rattle.script_form.specs.declared.script.ScriptLine.TheVariants.{Close}
@@ -11,7 +11,7 @@ returns-in-Some-clause-ok g c =
 
 pub returns-in-Some-clause-err : goal.returns-in-Some-clause-err
 returns-in-Some-clause-err g c =
-    if_err _ _ _ (breaks_written (scene c.args.portal.now c.args.connections.now) (Close c.args.seat) _ _ _ _ _ _ _ (omega arith)
+    if_err _ _ _ (breaks_written (scene c.args.portal.now c.args.connections.now) (Close c.args.seat) _ _ _ _ _ _ _ refl
     (close_part c.args.portal.now c.leave.new.portal c.args.connections.now c.args.seat c.in-Some.session c.in-Some.ensures.taken c.requires.may.agrees _ _))
     c.leave.ensures.err
 

@@ -1,6 +1,8 @@
-use Rattle.std.proofs.Common.{◌∙◌, subst, sym, length, ◌+◌, ◌≤◌, ℕ, List}
+use Rattle.std.proofs.Common.{◌∙◌, subst, sym, length, ◌+◌, ◌*◌, ◌++◌, ◌≤◌, ℕ, List}
+use Rattle.portal_core.specs.Story.{limit_of}
+use Rattle.portal_model.specs.History.{cost}
 use Rattle.session.specs.Sessions.{longest}
-use Rattle.docportal.proofs.Lining.{all_written, answered_at, data_passes, data_space, if_err, last_breaks, last_runs, on_ok, on_runs, pieces_break}
+use Rattle.docportal.proofs.Lining.{all_written, answered_at, data_passes, data_room, data_space, if_err, last_breaks, last_runs, on_ok, on_runs, pieces_break}
 use Rattle.docportal.proofs.line.data.Goals as goal
 
 pub returns-in-None-clause-ok : goal.returns-in-None-clause-ok
@@ -10,6 +12,11 @@ pub hear-requires-clause-space : goal.hear-requires-clause-space
 hear-requires-clause-space g c =
     subst (λ (z : List ℕ). c.in-Some.session.before + length c.in-Some.session.rest + length z ≤ longest) (sym c.as_slice.ensures)
     (data_space c.args.portal.now c.args.connections.now c.args.seat c.args.bytes.now c.in-Some.session c.requires.may c.in-Some.ensures.taken)
+
+pub hear-requires-clause-room : goal.hear-requires-clause-room
+hear-requires-clause-room g c =
+    subst (λ (z : List ℕ). cost c.args.portal.now.history + 8 * length (c.in-Some.session.rest ++ z) ≤ limit_of c.args.portal.now) (sym c.as_slice.ensures)
+    (data_room c.args.portal.now c.args.connections.now c.args.seat c.args.bytes.now c.in-Some.session c.requires.may c.in-Some.ensures.taken)
 
 pub returns-in-Err-write_pieces-clause-err : goal.returns-in-Err-write_pieces-clause-err
 returns-in-Err-write_pieces-clause-err g c =
@@ -27,7 +34,7 @@ pub returns-then-heard-clause-err : goal.returns-then-heard-clause-err
 returns-then-heard-clause-err g c =
     if_err _ _ _ (last_breaks c.args.portal.now c.hear.new.portal c.args.connections.now c.args.seat c.in-Some.session c.hear.new.session c.args.bytes.now c.in-Ok.heard.written.pieces c.as_slice-2.result.now c.in-Ok.heard.is_over
     (answered_at _ _ _ _ _ _ c.as_slice.result.now _ _ _ c.in-Some.ensures.taken c.as_slice.ensures c.in-Ok.ensures.opening c.in-Ok.ensures.ok) (c.as_slice-2.ensures ∙ c.pieces.ensures)
-    c.if-heard.true _ _ _ _ _ _ c.write_pieces.ensures.counts c.in-Ok-write_pieces.ensures.ok)
+    c.if-heard.true _ _ _ _ _ _ c.in-Ok-write_pieces.ensures.counts c.in-Ok-write_pieces.ensures.ok)
     c.leave.ensures.err
 
 pub returns-in-Ok-put-clause-ok : goal.returns-in-Ok-put-clause-ok
@@ -40,4 +47,4 @@ pub returns-clause-err : goal.returns-clause-err
 returns-clause-err g c =
     all_written c.args.portal.now c.hear.new.portal c.args.connections.now c.args.seat c.in-Some.session c.hear.new.session c.args.bytes.now c.in-Ok.heard.written.pieces c.as_slice-2.result.now c.in-Ok.heard.is_over
     (answered_at _ _ _ _ _ _ c.as_slice.result.now _ _ _ c.in-Some.ensures.taken c.as_slice.ensures c.in-Ok.ensures.opening c.in-Ok.ensures.ok) (c.as_slice-2.ensures ∙ c.pieces.ensures)
-    _ _ 0 0 c.in-Ok-write_pieces.ensures.ok
+    _ _ _ _ c.in-Ok-write_pieces.ensures.counts c.in-Ok-write_pieces.ensures.ok

@@ -4,7 +4,7 @@ use Rattle.docportal.proofs.Lining.{line_broke, no_line}
 use Rattle.docportal.proofs.line.write_pieces.Goals as goal
 
 pub returns-in_default-clause-err : goal.returns-in_default-clause-err
-returns-in_default-clause-err g c = no_line c.args.seat c.args.pieces.now c.loop-piece.piece-index _ _ 0 0 c.loop-piece.invariant.told
+returns-in_default-clause-err g c = no_line c.args.seat c.args.pieces.now c.loop-piece.piece-index _ _ _ _ c.loop-piece.invariant.faults c.loop-piece.invariant.told
 
 pub returns-in-Err-clause-err : goal.returns-in-Err-clause-err
 returns-in-Err-clause-err g c =

@@ -1,4 +1,4 @@
-use Rattle.std.proofs.Common.{◌<◌, [], length, sym, subst, arith}
+use Rattle.std.proofs.Common.{◌<◌, [], length, sym, ◌∙◌, subst, arith}
 use Rattle.docportal.specs.declared.status.Status.{Status}
 use Rattle.docportal.specs.Plays.{PlayStops}
 use Rattle.docportal.specs.Steps.{scene}
@@ -23,5 +23,5 @@ loop-index-preserved g c =
     record {
       may = may_go_on c.args.lines.now c.loop-index.index c.loop-index.portal c.run_line.new.portal c.loop-index.connections c.run_line.new.connections c.index-lines-index.result _ _ inside c.index-lines-index.is c.in-Ok.ensures.opening c.loop-index.invariant.may c.in-Ok.ensures.ok;
       played = played_on _ _ _ _ _ c.loop-index.index c.loop-index.portal c.run_line.new.portal c.loop-index.connections c.run_line.new.connections c.index-lines-index.result inside c.index-lines-index.is c.loop-index.invariant.played c.in-Ok.ensures.ok;
-      faults = omega (arith, c.loop-index.invariant.faults, c.in-Ok.ensures.counts);
+      faults = c.in-Ok.ensures.counts ∙ c.loop-index.invariant.faults;
     }

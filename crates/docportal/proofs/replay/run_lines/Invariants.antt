@@ -1,11 +1,11 @@
-use Rattle.std.proofs.Common.{◌≤◌, [], drop, take}
-use Rattle.docportal.specs.Steps.{MayPlay, scene}
+use Rattle.std.proofs.Common.{◌≡◌, drop, take}
+use Rattle.docportal.specs.Steps.{MayPlay}
 use Rattle.docportal.proofs.Playing.{Played}
 use Rattle.docportal.proofs.replay.run_lines.Given as goal
 
 abbrev pub invariant-loop-index : goal.invariant-loop-index
 invariant-loop-index g l = record {
   may : MayPlay (take l.index l.lines) l.portal l.connections (drop l.index l.lines);
-  played : Played (scene l.fn.portal []) l.lines (g.K.Sink.told l.fn.sink) (g.K.Sink.told l.sink) l.index (scene l.portal l.connections);
-  faults : g.K.Sink.faults l.fn.sink ≤ g.K.Sink.faults l.sink;
+  played : Played l.fn.portal l.lines (g.K.Sink.told l.fn.sink) (g.K.Sink.told l.sink) l.index l.portal l.connections;
+  faults : g.K.Sink.faults l.sink ≡ g.K.Sink.faults l.fn.sink;
 }

@@ -9,8 +9,8 @@ use Rattle.portal_core.proofs.portal.Portal.collect.Goals as goal
 
 pub invariant_of-self-2 : goal.invariant_of-self-2
 invariant_of-self-2 c =
-    let room = rw (c.as_slice-2.ensures) at c.in_ok-reserve_places.ensures.ok in
-    rw (c.push.ensures, c.in_ok-reserve_places.ensures.entries, c.in_ok-reserve_places.ensures.limit, c.entry_made-entry.ensures, c.new.ensures) (
+    let room = rw (c.as_slice-2.ensures) at c.in_ok-reserve.ensures.ok in
+    rw (c.push.ensures, c.in_ok-reserve.ensures.entries, c.in_ok-reserve.ensures.limit, c.entry_made-entry.ensures, c.new.ensures) (
       stands_collected c.self.inside.opening c.self.inside.history.entries c.self.inside.history.limit c.self.inside.documents c.self.inside.rights c.self.inside.connections c.self.invariant.0
           c.args.seat (rw (← c.self.view_is) at c.requires),
       omega (arith, room),

@@ -5,8 +5,8 @@ use Rattle.portal_core.proofs.portal.Portal.enter.Goals as goal
 
 pub invariant_of-self-then-is_here : goal.invariant_of-self-then-is_here
 invariant_of-self-then-is_here c =
-    let room = rw (c.as_slice-2.ensures) at c.in_ok-reserve_places.ensures.ok in
-    rw (c.push.ensures, c.in_ok-reserve_places.ensures.entries, c.in_ok-reserve_places.ensures.limit, c.entry_made-entry.ensures, c.new.ensures, c.in_ok-replica.ensures) (
+    let room = rw (c.as_slice-2.ensures) at c.in_ok-reserve.ensures.ok in
+    rw (c.push.ensures, c.in_ok-reserve.ensures.entries, c.in_ok-reserve.ensures.limit, c.entry_made-entry.ensures, c.new.ensures, c.in_ok-replica.ensures) (
       stands_there c.self.inside.opening c.self.inside.history.entries c.self.inside.history.limit c.self.inside.documents c.self.inside.rights c.self.inside.connections c.self.invariant.0
           c.args.seat c.args.who c.args.kind (search rules) (rw (← c.self.view_is) at c.requires),
       omega (arith, room),
@@ -14,8 +14,8 @@ invariant_of-self-then-is_here c =
 
 pub invariant_of-self-2 : goal.invariant_of-self-2
 invariant_of-self-2 c =
-    let room = rw (c.as_slice-2.ensures) at c.in_ok-reserve_places.ensures.ok in
-    rw (c.push-3.ensures, c.in_ok-reserve_places.ensures.entries, c.in_ok-reserve_places.ensures.limit, c.in_ok-push.ensures.ok, c.opened_connection.ensures, c.entry_made-entry.ensures, c.new.ensures, c.in_ok-replica.ensures) (
+    let room = rw (c.as_slice-2.ensures) at c.in_ok-reserve.ensures.ok in
+    rw (c.push-3.ensures, c.in_ok-reserve.ensures.entries, c.in_ok-reserve.ensures.limit, c.in_ok-push.ensures.ok, c.opened_connection.ensures, c.entry_made-entry.ensures, c.new.ensures, c.in_ok-replica.ensures) (
       stands_new c.self.inside.opening c.self.inside.history.entries c.self.inside.history.limit c.self.inside.documents c.self.inside.rights c.self.inside.connections c.self.invariant.0
           c.args.seat c.args.who c.args.kind (search rules) (rw (← c.self.view_is) at c.requires),
       rw (length-append c.self.inside.connections (new_connection c.args.seat c.args.who c.args.kind ∷ [])) (omega (arith, room)),

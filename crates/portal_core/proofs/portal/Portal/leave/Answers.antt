@@ -6,8 +6,8 @@ use Rattle.portal_core.proofs.portal.Portal.leave.Goals as goal
 
 pub invariant_of-self-then-not-is_here : goal.invariant_of-self-then-not-is_here
 invariant_of-self-then-not-is_here c =
-    let room = rw (c.as_slice-then-not-is_here.ensures) at c.in_ok-reserve_places.ensures.ok in
-    rw (c.push.ensures, c.in_ok-reserve_places.ensures.entries, c.in_ok-reserve_places.ensures.limit, c.entry_made-entry.ensures, c.new.ensures) (
+    let room = rw (c.as_slice-then-not-is_here.ensures) at c.in_ok-reserve.ensures.ok in
+    rw (c.push.ensures, c.in_ok-reserve.ensures.entries, c.in_ok-reserve.ensures.limit, c.entry_made-entry.ensures, c.new.ensures) (
       stands_absent c.self.inside.opening c.self.inside.history.entries c.self.inside.history.limit c.self.inside.documents c.self.inside.rights c.self.inside.connections c.self.invariant.0
           c.args.seat (search rules),
       omega (arith, room),

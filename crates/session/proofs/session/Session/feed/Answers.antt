@@ -1,7 +1,7 @@
 use Rattle.std.proofs.Common.{◌≡◌, ℕ, ◌+◌, ◌≤◌, List, ◌++◌, length, drop, Ok, Err, refl, sym, ap, ◌∙◌, arith, rules}
 use Rattle.session.specs.declared.served.Fed.TheVariants as fed
 use Rattle.session.specs.Ledger.{world}
-use Rattle.session.specs.Sessions.{longest}
+use Rattle.session.specs.Sessions.{StaysAt, longest}
 use Rattle.session.specs.Standings.{Standing}
 use Rattle.session.proofs.Calling.{fed_err, fed_none, fed_ok, stays_fed, stops_of}
 use Rattle.session.proofs.Feeding.{feeds_open}
@@ -18,7 +18,9 @@ returns-then-is_err-clause-feeds g c =
     let at : s.before ≡ c.self.inside.before = ap (λ (z : Standing). z.before) (sym is) in
     let rest : s.rest ≡ c.self.inside.rest.items = ap (λ (z : Standing). z.rest) (sym is) in
     let room : s.before + length s.rest + length c.args.piece.now ≤ longest = omega (arith, at, ap length rest, c.len.ensures.value, c.if-piece-room.false, c.self.invariant) in
-    feeds_open s v c.args.piece.now fed.Memory t v more (fed_none s v c.args.piece.now t refl (ap (λ (z : Standing). z.client) is) room)
+    let held : c.extend_from_slice.new.self.items ≡ c.self.inside.rest.items = search rules in
+    let stays : StaysAt s t = (ap (λ (z : Standing). z.stage) is, sym at, held ∙ sym rest) in
+    feeds_open s v c.args.piece.now fed.Memory t v more (fed_none s v c.args.piece.now t refl (ap (λ (z : Standing). z.client) is) room stays)
 
 pub returns-clause-feeds : goal.returns-clause-feeds
 returns-clause-feeds g c =
@@ -44,7 +46,7 @@ returns-clause-feeds g c =
       | in-Err x ↦
           let why = x.in-Err.halt in
           let stops = stops_of _ s.client (Err why) _ s.stage c.serve_items.new.stage v w c.as_slice.result.now client stage x.in-Err.ensures.stops in
-          feeds_open s v piece _ _ w more (rw x.self-inside-is (fed_err why s v w piece c.as_slice.result.now _ bytes stops client x.halted-self-inside.ensures room))
+          feeds_open s v piece _ _ w more (rw x.self-inside-is (fed_err why s v w piece c.as_slice.result.now _ bytes stops client x.halted-self-inside.ensures room (sym at, grown ∙ ap (λ (z : List ℕ). z ++ piece) (sym rest))))
     ]
 
 pub returns-clause-stays_open : goal.returns-clause-stays_open

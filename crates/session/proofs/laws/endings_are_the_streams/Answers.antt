@@ -1,0 +1,5 @@
+use Rattle.session.proofs.Endings.{endings_are}
+use Rattle.session.proofs.laws.endings_are_the_streams.Goals as goal
+
+pub returns : goal.returns
+returns c = endings_are

@@ -1,0 +1,5 @@
+use Rattle.session.proofs.Following.{ends_stay}
+use Rattle.session.proofs.laws.ends_stay.Goals as goal
+
+pub returns : goal.returns
+returns c = ends_stay

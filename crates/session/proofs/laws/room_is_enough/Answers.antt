@@ -1,0 +1,5 @@
+use Rattle.session.proofs.Rooming.{room_enough}
+use Rattle.session.proofs.laws.room_is_enough.Goals as goal
+
+pub returns : goal.returns
+returns c = room_enough
