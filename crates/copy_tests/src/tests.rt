@@ -24,13 +24,15 @@ fn copies<T: Replica + Debug>(alloc: Global, value: &T) -> Result<bool, Fail> {
 }
 
 fn numbers_copy(alloc: Global) -> Result<bool, Fail> {
-    Ok(copies(alloc, &true)?
-        && copies(alloc, &1u8)?
-        && copies(alloc, &2u16)?
-        && copies(alloc, &3u32)?
-        && copies(alloc, &4u64)?
-        && copies(alloc, &5usize)?
-        && copies(alloc, &Some(6u8))?)
+    Ok(
+        copies(alloc, &true)?
+            && copies(alloc, &1u8)?
+            && copies(alloc, &2u16)?
+            && copies(alloc, &3u32)?
+            && copies(alloc, &4u64)?
+            && copies(alloc, &5usize)?
+            && copies(alloc, &Some(6u8))?,
+    )
 }
 
 fn texts_copy(alloc: Global) -> Result<bool, Fail> {
@@ -171,10 +173,12 @@ fn requests_copy(alloc: Global) -> Result<bool, Fail> {
         gid: 1000,
         op: NodeOp::GetAttr { flags: 0, fh: 0 },
     });
-    Ok(copies(alloc, &enter)?
-        && copies(alloc, &Request::Leave)?
-        && copies(alloc, &Request::Collect)?
-        && copies(alloc, &node)?)
+    Ok(
+        copies(alloc, &enter)?
+            && copies(alloc, &Request::Leave)?
+            && copies(alloc, &Request::Collect)?
+            && copies(alloc, &node)?,
+    )
 }
 
 #[test]

@@ -63,9 +63,9 @@ fn shown(alloc: Global, line: &ScriptLine) -> Result<String, VectorError> {
             let number = id.number;
             let path = String::from_utf8_lossy(alloc, path.as_bytes())?;
             let grants = shown_grants(alloc, grants.as_slice())?;
-            Ok(
-                format!(in alloc; "document {number} reusable {reusable} of {path} granted{grants}")?,
-            )
+            Ok(format!(in alloc;
+                "document {number} reusable {reusable} of {path} granted{grants}"
+            )?)
         }
         ScriptLine::Open { seat, kind, who } => {
             let kind = shown_kind(*kind);

@@ -3,6 +3,7 @@
 use crate::error::VectorError;
 use crate::shown;
 use dbus_dispatch::ask::{Ask, expects_reply, request_of};
+use dbus_dispatch::error_name::ErrorName;
 use dbus_dispatch::refused::refused_message;
 use dbus_message::write::write_message;
 use dbus_types::message::{Message, OutMessage};
@@ -70,6 +71,26 @@ pub fn refused(alloc: Global, rest: &str) -> Result<String, VectorError> {
     };
     let call = call_of(alloc, "/ - Add hbb")?;
     shown_message(alloc, &refused_message(alloc, &refused, &call)?)
+}
+
+/// `error NAME`: the name that the error has on the wire.
+pub fn error(alloc: Global, rest: &str) -> Result<String, VectorError> {
+    let error = match rest {
+        "UnknownObject" => ErrorName::UnknownObject,
+        "UnknownInterface" => ErrorName::UnknownInterface,
+        "UnknownMethod" => ErrorName::UnknownMethod,
+        "UnknownProperty" => ErrorName::UnknownProperty,
+        "InvalidArgs" => ErrorName::InvalidArgs,
+        "AccessDenied" => ErrorName::AccessDenied,
+        "LimitsExceeded" => ErrorName::LimitsExceeded,
+        "NoMemory" => ErrorName::NoMemory,
+        "NotFound" => ErrorName::NotFound,
+        "NotAllowed" => ErrorName::NotAllowed,
+        "InvalidArgument" => ErrorName::InvalidArgument,
+        "Failed" => ErrorName::Failed,
+        _ => return Err(VectorError::Line(LineError::BadLine)),
+    };
+    Ok(String::from_str(alloc, error.name())?)
 }
 
 fn byte(word: &str) -> Result<u8, LineError> {

@@ -13,6 +13,7 @@ mod frames;
 mod handshake;
 mod messages;
 mod names;
+mod rules;
 mod shown;
 mod values;
 
@@ -53,6 +54,10 @@ fn answer(alloc: Global, line: &str) -> Result<String, VectorError> {
     match kind {
         "name" => names::name(alloc, rest),
         "signature" => names::signature(alloc, rest),
+        "type" => rules::kind(alloc, rest),
+        "same" => rules::same(alloc, rest),
+        "keeps" => rules::keeps(alloc, rest),
+        "has" => rules::has(alloc, rest),
         "value" => values::value(alloc, rest),
         "split" => messages::split_bytes(alloc, rest),
         "message" => messages::message(alloc, rest),
@@ -61,6 +66,7 @@ fn answer(alloc: Global, line: &str) -> Result<String, VectorError> {
         "call" => calls::call(alloc, rest),
         "reply" => calls::reply(alloc, rest),
         "ping" => calls::ping(alloc, rest),
+        "error" => calls::error(alloc, rest),
         "refused" => calls::refused(alloc, rest),
         "frame" => frames::frame(alloc, rest),
         "attributes" => frames::attributes(alloc, rest),

@@ -33,7 +33,7 @@ pub fn value(alloc: Global, rest: &str) -> Result<String, VectorError> {
 }
 
 /// The one type of a signature.
-fn kind_of(alloc: Global, text: &str) -> Result<WireType, VectorError> {
+pub fn kind_of(alloc: Global, text: &str) -> Result<WireType, VectorError> {
     let mut kinds = read_signature(alloc, text.as_bytes())?;
     kinds.pop().ok_or(VectorError::Line(LineError::BadLine))
 }
