@@ -113,6 +113,3 @@ fn cell(
     };
     Ok((AuthAnswer::Say(reply), next))
 }
-
-#[cfg(test)]
-mod tests;

@@ -14,5 +14,3 @@ pub mod method;
 pub mod object;
 pub mod properties;
 pub mod refused;
-#[cfg(test)]
-mod tests;

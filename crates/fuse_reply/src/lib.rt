@@ -7,5 +7,3 @@
 
 pub mod field;
 pub mod reply;
-#[cfg(test)]
-mod tests;

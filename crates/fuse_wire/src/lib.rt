@@ -6,5 +6,3 @@
 
 pub mod frame;
 pub mod request;
-#[cfg(test)]
-mod tests;

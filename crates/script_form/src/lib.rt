@@ -11,6 +11,4 @@ pub mod opening;
 mod preceding;
 pub mod reader;
 pub mod script;
-#[cfg(test)]
-mod tests;
 mod words;

@@ -1,8 +1,7 @@
-//! Sources that give their bytes in other pieces than one in memory does.
+//! A source and a sink that know of each other.
 
 ghost use Rattle.std.specs.Prelude.{◌≡◌, ◌<◌, ◌≤◌, length};
 
-use portal_base::list::ByteList;
 use portal_base::outside::{ReadAnswer, Sink, Source, WriteAnswer};
 use std::cell::Cell;
 
@@ -17,43 +16,6 @@ fn fill(buffer: &mut [u8], bytes: &[u8]) -> usize
     let len = bytes.len().min(buffer.len());
     buffer[..len].copy_from_slice(&bytes[..len]);
     len
-}
-
-/// A source that gives so many bytes at a time, and fails at the read of a
-/// number, counted from 1.
-#[derive(Drop)]
-pub struct Drip {
-    pub bytes: ByteList,
-    pub at: usize,
-    pub size: usize,
-    pub calls: u64,
-    pub fail_at: u64,
-    pub faults: u64,
-}
-
-impl Source for Drip {
-    ghost use Rattle.std.specs.Prelude.{None};
-
-    ghost left = { λ s. None };
-
-    ghost faults = { λ s. s.faults };
-
-    fn read(&mut self, buffer: &mut [u8]) -> ReadAnswer {
-        self.calls = self.calls.saturating_add(1);
-        if self.calls == self.fail_at {
-            self.faults = self.faults.saturating_add(1);
-            return ReadAnswer::Failed;
-        }
-        let bytes = self.bytes.as_slice();
-        let start = self.at.min(bytes.len());
-        let end = start.saturating_add(self.size).min(bytes.len());
-        if start >= end {
-            return ReadAnswer::End;
-        }
-        let len = fill(buffer, &bytes[start..end]);
-        self.at = start + len;
-        ReadAnswer::Got(len)
-    }
 }
 
 /// A source that gives its second half only once a piece was written, and

@@ -7,7 +7,7 @@ use portal_base::limits::{Limits, Settings};
 use portal_base::list::{ByteList, List};
 use portal_base::names::app_id::AppId;
 use portal_base::names::host_path::HostPath;
-use portal_base::outside::{MemorySink, MemorySource, Sink, Source};
+use portal_base::outside::{Sink, Source};
 use portal_base::who::{Kind, Who};
 use portal_core::local_desk::LocalDesk;
 use portal_core::portal::Portal;
@@ -109,13 +109,4 @@ pub fn serve<S: Source, K: Sink>(
 /// The bytes of hexadecimal digits.
 pub fn bytes(alloc: Global, digits: &str) -> Result<ByteList, Fail> {
     Ok(List::from_vec(hex::decode(alloc, digits)?))
-}
-
-/// The pieces of a sink as one list.
-pub fn joined(alloc: Global, sink: &MemorySink) -> Result<ByteList, Fail> {
-    let mut all = List::new(alloc);
-    for piece in sink.pieces().iter() {
-        all.extend_from_slice(piece.as_slice())?;
-    }
-    Ok(all)
 }

@@ -1,0 +1,110 @@
+//! Requests of the portal, one after another.
+
+use crate::error::VectorError;
+use crate::opened::{LONGEST, kind, opened_by, who};
+use portal_core::local_desk::LocalDesk;
+use portal_core::portal::Portal;
+use portal_model::desk::Desk;
+use portal_model::reply::{Refused, Reply};
+use portal_model::request::{NodeOp, NodeRequest, Request};
+use std::alloc::Global;
+use vector_lines::error::LineError;
+use vector_lines::notation::{self, cut, number, small_number};
+
+/// `portal LIMIT SCRIPT | REQUEST | REQUEST ..`: what each request is answered by
+/// a portal that the script opens and whose history may cost LIMIT; and then how
+/// many entries the history has, and their cost. A request is `SEAT enter WHO
+/// KIND`, `SEAT leave`, `SEAT collect` or `SEAT getattr NODE FLAGS FH`, the last
+/// by user and group 1000; `desk SEAT ..` asks it of a desk of the seat.
+pub fn portal(alloc: Global, rest: &str) -> Result<String, VectorError> {
+    let (limit, rest) = cut(rest);
+    let mut parts = rest.split(" | ");
+    let script = notation::text(alloc, parts.next().unwrap_or(""))?;
+    if script.len() > LONGEST {
+        return Err(VectorError::Line(LineError::BadLine));
+    }
+    let mut portal = opened_by(alloc, script.as_slice(), number(limit)?)?;
+    let mut out = String::new(alloc);
+    for part in parts {
+        out.push_str(asked(alloc, &mut portal, part)?.as_str())?;
+        out.push_str(" | ")?;
+    }
+    let entries = portal.history().len();
+    let cost = portal.history().cost();
+    out.push_str(format!(in alloc; "{entries} entries of {cost}")?.as_str())?;
+    Ok(out)
+}
+
+/// What one request is answered.
+fn asked(alloc: Global, portal: &mut Portal, part: &str) -> Result<String, VectorError> {
+    if let Some(request) = part.strip_prefix("desk ") {
+        return asked_at_desk(alloc, portal, request);
+    }
+    let (seat, words) = cut(part);
+    let seat = seat_of(seat)?;
+    if seat == 0 {
+        return Err(VectorError::Line(LineError::BadLine));
+    }
+    let request = request_of(alloc, words)?;
+    shown(alloc, portal.ask(alloc, seat, request))
+}
+
+/// The same of a desk of the seat, and how many requests the desk refused.
+fn asked_at_desk(alloc: Global, portal: &mut Portal, part: &str) -> Result<String, VectorError> {
+    let (seat, words) = cut(part);
+    let seat = seat_of(seat)?;
+    if seat == 0 {
+        return Err(VectorError::Line(LineError::BadLine));
+    }
+    let request = request_of(alloc, words)?;
+    let mut desk = LocalDesk::new(portal, seat);
+    let reply = desk.ask(alloc, request);
+    let refusals = desk.refusals();
+    let shown = shown(alloc, reply)?;
+    Ok(format!(in alloc; "{shown} refused {refusals}")?)
+}
+
+fn seat_of(word: &str) -> Result<u32, LineError> {
+    small_number(word)
+}
+
+fn shown(alloc: Global, reply: Result<Reply, Refused>) -> Result<String, VectorError> {
+    match reply {
+        Ok(reply) => {
+            let answer = reply.answer;
+            Ok(format!(in alloc; "{answer:?}")?)
+        }
+        Err(refused) => Ok(format!(in alloc; "{refused:?}")?),
+    }
+}
+
+fn request_of(alloc: Global, words: &str) -> Result<Request, VectorError> {
+    let (word, rest) = cut(words);
+    match word {
+        "enter" => {
+            let (name, speaks) = cut(rest);
+            Ok(Request::Enter {
+                who: who(alloc, name)?,
+                kind: kind(speaks)?,
+            })
+        }
+        "leave" => Ok(Request::Leave),
+        "collect" => Ok(Request::Collect),
+        "getattr" => getattr(rest),
+        _ => Err(VectorError::Line(LineError::BadLine)),
+    }
+}
+
+fn getattr(rest: &str) -> Result<Request, VectorError> {
+    let (node, rest) = cut(rest);
+    let (flags, fh) = cut(rest);
+    Ok(Request::Node(NodeRequest {
+        node: number(node)?,
+        uid: 1000,
+        gid: 1000,
+        op: NodeOp::GetAttr {
+            flags: small_number(flags)?,
+            fh: number(fh)?,
+        },
+    }))
+}

@@ -1,0 +1,143 @@
+//! Connections, from their first byte to their end.
+
+use crate::drip::Drip;
+use crate::error::VectorError;
+use crate::opened::{PLENTY, kind, limits, opened_by, who};
+use portal_base::limits::Settings;
+use portal_base::list::{ByteList, List};
+use portal_base::names::HostPath;
+use portal_base::outside::MemorySink;
+use portal_base::who::{Kind, Who};
+use portal_core::local_desk::LocalDesk;
+use session::connection::serve_connection;
+use std::alloc::Global;
+use vector_lines::error::LineError;
+use vector_lines::notation::{bytes, cut, digits, number};
+
+/// A document that org.ed may read and write, and its file.
+const SCRIPT: &[u8] = b"file /home/a.txt 68656c6c6f\ndoc 0000000a r /home/a.txt org.ed=rw\n";
+
+/// How a connection is served.
+#[derive(Clone, Copy)]
+struct Options {
+    /// The cost that the portal's history may have.
+    limit: u64,
+    /// How many bytes come at a time; 0 for some sizes in turn.
+    size: u64,
+    /// The read that fails; none where it is 0.
+    read: u64,
+    /// The write that fails; none where it is 0.
+    write: u64,
+}
+
+/// `serve WHO KIND OPTIONS BYTES`: how a connection ends that gets the bytes; how
+/// many entries the history has then; and each piece that is written. The
+/// options are `limit=N` for the history, `size=N` for the pieces in which the
+/// bytes come, and `read=N` and `write=N` for the read and the write that fail,
+/// with commas between them, or `-`. Without a size the connection is served
+/// four times, by pieces of 4,096 bytes, of 57, of 3 and of 1; the answer is
+/// then one where it is the same.
+pub fn serve(alloc: Global, rest: &str) -> Result<String, VectorError> {
+    let (name, rest) = cut(rest);
+    let (speaks, rest) = cut(rest);
+    let (options, rest) = cut(rest);
+    let who = who(alloc, name)?;
+    let kind = kind(speaks)?;
+    let options = options_of(options)?;
+    let input = bytes(alloc, rest)?;
+    let whole = served(alloc, &who, kind, options, input.as_slice())?;
+    if options.size != 0 {
+        return Ok(whole);
+    }
+    for size in [57, 3, 1] {
+        let options = Options { size, ..options };
+        let told = served(alloc, &who, kind, options, input.as_slice())?;
+        if told != whole {
+            return Ok(format!(in alloc; "{whole}; but by {size}: {told}")?);
+        }
+    }
+    Ok(whole)
+}
+
+fn options_of(words: &str) -> Result<Options, VectorError> {
+    let mut options = Options {
+        limit: PLENTY,
+        size: 0,
+        read: 0,
+        write: 0,
+    };
+    if words == "-" {
+        return Ok(options);
+    }
+    for word in words.split(',') {
+        match word.split_once('=') {
+            Some(("limit", value)) => options.limit = number(value)?,
+            Some(("size", value)) => options.size = number(value)?,
+            Some(("read", value)) => options.read = number(value)?,
+            Some(("write", value)) => options.write = number(value)?,
+            _ => return Err(VectorError::Line(LineError::BadLine)),
+        }
+    }
+    Ok(options)
+}
+
+/// A source of the bytes.
+fn dripped(alloc: Global, options: Options, input: &[u8]) -> Result<Drip, VectorError> {
+    let size = if options.size == 0 {
+        4096
+    } else {
+        options.size as usize
+    };
+    let bytes: ByteList = List::copied(alloc, input)?;
+    Ok(Drip {
+        bytes,
+        at: 0,
+        size,
+        calls: 0,
+        fail_at: options.read,
+        faults: 0,
+    })
+}
+
+fn served(
+    alloc: Global,
+    who: &Who,
+    kind: Kind,
+    options: Options,
+    input: &[u8],
+) -> Result<String, VectorError> {
+    let mut portal = opened_by(alloc, SCRIPT, options.limit)?;
+    let settings = settings(alloc)?;
+    let mut source = dripped(alloc, options, input)?;
+    let mut sink = MemorySink::new(alloc, options.write);
+    let served = {
+        let mut desk = LocalDesk::new(&mut portal, 1);
+        serve_connection(
+            alloc,
+            &mut desk,
+            who,
+            kind,
+            &settings,
+            &mut source,
+            &mut sink,
+        )
+    };
+    let entries = portal.history().len();
+    let mut out = format!(in alloc; "{served:?}, {entries} entries")?;
+    for piece in sink.pieces().iter() {
+        out.push_str(" | ")?;
+        out.push_str(digits(alloc, piece.as_slice())?.as_str())?;
+    }
+    Ok(out)
+}
+
+fn settings(alloc: Global) -> Result<Settings, VectorError> {
+    Ok(Settings {
+        limits: limits(PLENTY),
+        mountpoint: HostPath::read(alloc, b"/run/doc")?,
+        guid: [
+            0x01, 0x23, 0x45, 0x67, 0x89, 0xab, 0xcd, 0xef, 0x01, 0x23, 0x45, 0x67, 0x89, 0xab,
+            0xcd, 0xef,
+        ],
+    })
+}

@@ -1,0 +1,174 @@
+//! Calls, and what they are answered without the portal.
+
+use crate::error::VectorError;
+use crate::shown;
+use dbus_dispatch::ask::{Ask, expects_reply, request_of};
+use dbus_dispatch::error_name::ErrorName;
+use dbus_dispatch::refused::refused_message;
+use dbus_message::write::write_message;
+use dbus_types::message::{Message, OutMessage};
+use dbus_types::signature::read_signature;
+use dbus_types::types::{Endian, Value};
+use portal_base::limits::{Limits, Settings};
+use portal_base::list::List;
+use portal_base::names::host_path::HostPath;
+use portal_base::text::Text;
+use portal_model::reply::Refused;
+use std::alloc::Global;
+use vector_lines::error::LineError;
+use vector_lines::notation::{cut, digits, small_number};
+
+/// `call PATH INTERFACE MEMBER SIGNATURE ARGUMENT ..`: what the call is
+/// answered. `-` stands for no interface and for no arguments' types; each
+/// argument is a text.
+pub fn call(alloc: Global, rest: &str) -> Result<String, VectorError> {
+    let call = call_of(alloc, rest)?;
+    let ask = request_of(alloc, &call, &settings(alloc)?)?;
+    shown_ask(alloc, &ask)
+}
+
+/// `reply SERIAL PATH INTERFACE MEMBER SIGNATURE ARGUMENT ..`: the bytes of
+/// the answer to the same call, whose own serial is 7, with that serial.
+pub fn reply(alloc: Global, rest: &str) -> Result<String, VectorError> {
+    let (serial, rest) = cut(rest);
+    let serial = small_number(serial)?;
+    let call = call_of(alloc, rest)?;
+    if serial == 0 {
+        return Err(VectorError::Line(LineError::BadLine));
+    }
+    match request_of(alloc, &call, &settings(alloc)?)? {
+        Ask::Local(message) => {
+            let bytes = write_message(alloc, &message, serial)?;
+            Ok(digits(alloc, bytes.as_slice())?)
+        }
+        ask => shown_ask(alloc, &ask),
+    }
+}
+
+/// `ping TYPE FLAGS`: what a message of this type and these flags is answered
+/// that names Ping on `/`, and whether the answer is written.
+pub fn ping(alloc: Global, rest: &str) -> Result<String, VectorError> {
+    let (kind, flags) = cut(rest);
+    let mut message = call_of(alloc, "/ org.freedesktop.DBus.Peer Ping -")?;
+    message.kind = byte(kind)?;
+    message.flags = byte(flags)?;
+    let ask = request_of(alloc, &message, &settings(alloc)?)?;
+    let shown = shown_ask(alloc, &ask)?;
+    let written = expects_reply(&message);
+    Ok(format!(in alloc; "{shown} {written}")?)
+}
+
+/// `refused memory` or `refused full`: what a call is answered whose request is
+/// no entry of the history.
+pub fn refused(alloc: Global, rest: &str) -> Result<String, VectorError> {
+    let refused = match rest {
+        "memory" => Refused::Memory,
+        "full" => Refused::Full {
+            cost: 262,
+            limit: 262,
+        },
+        _ => return Err(VectorError::Line(LineError::BadLine)),
+    };
+    let call = call_of(alloc, "/ - Add hbb")?;
+    shown_message(alloc, &refused_message(alloc, &refused, &call)?)
+}
+
+/// `error NAME`: the name that the error has on the wire.
+pub fn error(alloc: Global, rest: &str) -> Result<String, VectorError> {
+    let error = match rest {
+        "UnknownObject" => ErrorName::UnknownObject,
+        "UnknownInterface" => ErrorName::UnknownInterface,
+        "UnknownMethod" => ErrorName::UnknownMethod,
+        "UnknownProperty" => ErrorName::UnknownProperty,
+        "InvalidArgs" => ErrorName::InvalidArgs,
+        "AccessDenied" => ErrorName::AccessDenied,
+        "LimitsExceeded" => ErrorName::LimitsExceeded,
+        "NoMemory" => ErrorName::NoMemory,
+        "NotFound" => ErrorName::NotFound,
+        "NotAllowed" => ErrorName::NotAllowed,
+        "InvalidArgument" => ErrorName::InvalidArgument,
+        "Failed" => ErrorName::Failed,
+        _ => return Err(VectorError::Line(LineError::BadLine)),
+    };
+    Ok(String::from_str(alloc, error.name())?)
+}
+
+fn byte(word: &str) -> Result<u8, LineError> {
+    word.parse::<u8>().map_err(|_| LineError::BadLine)
+}
+
+fn settings(alloc: Global) -> Result<Settings, VectorError> {
+    Ok(Settings {
+        limits: Limits {
+            documents: 1,
+            made: 1,
+            history: 1,
+            handles: 1,
+            queued: 1,
+            file_bytes: 1,
+        },
+        mountpoint: HostPath::read(alloc, b"/run/doc")?,
+        guid: [0; 16],
+    })
+}
+
+/// The call with serial 7 that a line's words name.
+fn call_of(alloc: Global, words: &str) -> Result<Message, VectorError> {
+    let (path, rest) = cut(words);
+    let (interface, rest) = cut(rest);
+    let (member, rest) = cut(rest);
+    let (signature, arguments) = cut(rest);
+    let signature = field(alloc, signature)?.unwrap_or(Text::new(alloc));
+    Ok(Message {
+        endian: Endian::Big,
+        kind: 1,
+        flags: 0,
+        serial: 7,
+        path: field(alloc, path)?,
+        interface: field(alloc, interface)?,
+        member: field(alloc, member)?,
+        error: None,
+        reply_serial: None,
+        signature: read_signature(alloc, signature.as_bytes())?,
+        fds: 0,
+        body: texts(alloc, arguments)?,
+    })
+}
+
+/// A text, or nothing for `-`.
+fn field(alloc: Global, word: &str) -> Result<Option<Text>, VectorError> {
+    match word {
+        "-" => Ok(None),
+        _ => Ok(Some(Text::copied(alloc, word)?)),
+    }
+}
+
+/// Texts with spaces between them as values; `-` is the empty text.
+fn texts(alloc: Global, words: &str) -> Result<List<Value>, VectorError> {
+    let mut values = List::new(alloc);
+    for word in words.split_whitespace() {
+        let text = field(alloc, word)?.unwrap_or(Text::new(alloc));
+        values.push(Value::Str(text))?;
+    }
+    Ok(values)
+}
+
+fn shown_ask(alloc: Global, ask: &Ask) -> Result<String, VectorError> {
+    match ask {
+        Ask::Local(message) => shown_message(alloc, message),
+        Ask::Ignore => Ok(String::from_str(alloc, "ignored")?),
+        Ask::Unbuilt => Ok(String::from_str(alloc, "not built")?),
+    }
+}
+
+/// A return with its values, or an error by its name, to the call of serial 7.
+fn shown_message(alloc: Global, message: &OutMessage) -> Result<String, VectorError> {
+    match message {
+        OutMessage::Return { to: 7, body } => {
+            let body = shown::values(alloc, body.as_slice())?;
+            Ok(format!(in alloc; "returns ({body})")?)
+        }
+        OutMessage::Error { to: 7, name } => Ok(String::from_str(alloc, name.as_str())?),
+        _ => Ok(String::from_str(alloc, "another message")?),
+    }
+}
