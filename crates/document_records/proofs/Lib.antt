@@ -1,0 +1,6 @@
+mod DocumentLemmas
+mod FourTriples
+mod GrantLemmas
+mod Rising
+mod TripleOrder
+mod Unused
