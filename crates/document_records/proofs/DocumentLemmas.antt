@@ -1,18 +1,20 @@
 -- The lists of documents, and the numbers that they are looked up by.
-use Rattle.std.proofs.Common.{◌≡◌, ℕ, ◌+◌, ◌<◌, ◌≤◌, ◌==◌, nat_eq, List, [], ◌∷◌, ◌++◌, map, length, take, drop, Bool, true, false, not, ◌||◌, ◌&&◌, cond, Option, Some, None, refl, sym, ap, subst, ◌∙◌, arith, suc, length-append}
+use Rattle.std.proofs.Common.{◌≡◌, ℕ, ◌+◌, ◌<◌, ◌≤◌, ◌==◌, nat_eq, List, [], ◌∷◌, ◌++◌, map, length, take, drop, Bool, true, false, not, ◌||◌, ◌&&◌, cond, Option, Some, None, refl, sym, ap, subst, ◌∙◌, arith, suc, length-append, ◌-◌, ◌^◌, nat_lt, min, Result, Ok, Err, is_err, OnOk}
 use Rattle.std.specs.BTreeMap.{is_at}
 use Rattle.std.specs.BTreeSet.{BTreeSet, contains}
-use Rattle.std.specs.List.{filter, find, list_all, list_any, remove, prefix_len, IsDistinct, AllByRecursion}
+use Rattle.std.specs.List.{filter, find, list_all, list_any, remove, prefix_len, position, position_or_len, slice_get, IsDistinct, AllByRecursion}
+use Rattle.std.specs.Option.{MatchOption}
 use Rattle.std.specs.Ordering.{nat_cmp}
 use Rattle.std.proofs.lemmas.Bool.Decides.{nat_tests}
 use Rattle.std.proofs.lemmas.Cmp.{nat_eq_equiv}
-use Rattle.std.proofs.lemmas.List.Folds.{list_any-append, list_all-append}
+use Rattle.std.proofs.lemmas.List.Folds.{list_any-append, list_all-append, find_at}
+use Rattle.std.proofs.Math.Seq.{take-append_seam}
 use Rattle.std.proofs.lemmas.Map.Keys.{IsDistinct-push}
 use Rattle.portal_base.specs.declared.names.doc_id.DocId.{DocId}
 use Rattle.portal_model.specs.declared.state.Document.{Document}
 use Rattle.portal_model.specs.Valid.{is_made}
 use Rattle.document_records.specs.DocumentIndex.{IsIndexed, live_numbers, made_numbers}
-use Rattle.document_records.specs.Documents.{has_number}
+use Rattle.document_records.specs.Documents.{has_number, front}
 use Rattle.document_records.proofs.TripleOrder.{nat_is, nat-itself}
 
 pub is_at-nat : (a b : ℕ) → is_at (nat_cmp a) b ≡ (a == b)
@@ -55,8 +57,8 @@ module _ (most : ℕ) (live : List Document) (made : List DocId) (numbers : BTre
   indexed-more d more h room u = record {
     live_differ = subst (IsDistinct nat_eq) (sym (numbers-more live d)) (IsDistinct-push nat_eq_equiv (live_numbers live) d.id.number old.live_differ (not-live d.id.number made live old.live_made h));
     live_made = list_all-append (λ x. is_made (made ++ d.id ∷ []) x.id.number) live (d ∷ [])
-      ∙ (ap (λ (b : Bool). b && (is_made (made ++ d.id ∷ []) d.id.number && true)) (all-made-more made d.id live old.live_made)
-      ∙ (ap (λ (b : Bool). b && true) (made-more made d.id d.id.number ∙ (ap (λ (b : Bool). is_made made d.id.number || b) (nat-itself d.id.number) ∙ or-true (is_made made d.id.number)))));
+        ∙ (ap (λ (b : Bool). b && (is_made (made ++ d.id ∷ []) d.id.number && true)) (all-made-more made d.id live old.live_made)
+        ∙ (ap (λ (b : Bool). b && true) (made-more made d.id d.id.number ∙ (ap (λ (b : Bool). is_made made d.id.number || b) (nat-itself d.id.number) ∙ or-true (is_made made d.id.number)))));
     made_differ = subst (IsDistinct nat_eq) (sym (ids-more made d.id)) (IsDistinct-push nat_eq_equiv (made_numbers made) d.id.number old.made_differ (not-among d.id.number made h));
     same = λ q. u q ∙ (cond-or (is_at (nat_cmp d.id.number) q) (contains nat_cmp numbers q) (d.id.number == q) (is_made made q) (is_at-nat d.id.number q) (old.same q) ∙ sym (made-more made d.id q));
     within = let e : length (made ++ d.id ∷ []) ≡ length made + 1 = length-append made (d.id ∷ []) in omega arith;
@@ -66,6 +68,7 @@ module _ (most : ℕ) (live : List Document) (made : List DocId) (numbers : BTre
       or-true : (x : Bool) → (x || true) ≡ true
       or-true true = refl
       or-true false = refl
+
       cond-or : (a b c e : Bool) → a ≡ c → b ≡ e → cond a true b ≡ (e || c)
       cond-or a b c e h k = grind arith
 
@@ -113,7 +116,7 @@ differ-behind p n [] h = tt
 differ-behind p n (d ∷ ds) h = elim (p d) as (λ b. AllByRecursion (λ m. nat_eq n m ≡ false) (live_numbers (cond b (d ∷ filter p ds) (filter p ds)))) [
   | true ↦ (h.0, differ-behind p n ds h.1)
   | false ↦ differ-behind p n ds h.1
-  ]
+]
 
 differ-filter : (p : Document → Bool) (ds : List Document) → IsDistinct nat_eq (live_numbers ds) → IsDistinct nat_eq (live_numbers (filter p ds))
 unfolding IsDistinct
@@ -121,7 +124,7 @@ differ-filter p [] h = tt
 differ-filter p (d ∷ ds) h = elim (p d) as (λ b. IsDistinct nat_eq (live_numbers (cond b (d ∷ filter p ds) (filter p ds)))) [
   | true ↦ (differ-behind p d.id.number ds h.0, differ-filter p ds h.1)
   | false ↦ differ-filter p ds h.1
-  ]
+]
 
 all-filter : (q p : Document → Bool) (ds : List Document) → list_all q ds ≡ true → list_all q (filter p ds) ≡ true
 all-filter q p [] h = refl
@@ -136,3 +139,116 @@ indexed-fewer most live made numbers p old = record {
   within = old.within;
   limit = old.limit;
 }
+
+-- ---- what a search in the code says
+
+pub place-is : (b : Bool) (n i : ℕ) → cond b (Some n) None ≡ Some i → i ≡ n
+place-is true n i e = cc
+place-is false n i e = cc
+
+no-place : (b : Bool) (n : ℕ) → cond b (Some n) None ≡ None → b ≡ false
+no-place true n e = cc
+no-place false n e = refl
+
+none-found : (p : Document → Bool) (ds : List Document) → nat_lt (position_or_len p ds) (length ds) ≡ false → find p ds ≡ None
+none-found p [] h = refl
+none-found p (d ∷ ds) h = grind (arith, nat_tests, none-found p ds)
+
+none-left-out : (p : Document → Bool) (ds : List Document) → find p ds ≡ None → filter (λ d. not (p d)) ds ≡ ds
+none-left-out p [] h = refl
+none-left-out p (d ∷ ds) h = grind (arith, none-left-out p ds)
+
+pub not-found : (p : Document → Bool) (ds : List Document) → position p ds ≡ None → find p ds ≡ None
+not-found p ds e = none-found p ds (no-place (nat_lt (position_or_len p ds) (length ds)) (position_or_len p ds) e)
+
+pub not-there : (p : Document → Bool) (ds : List Document) → position p ds ≡ None → ds ≡ filter (λ d. not (p d)) ds
+not-there p ds e = sym (none-left-out p ds (not-found p ds e))
+
+pub found-at : (p : Document → Bool) (ds : List Document) (i : ℕ) (d : Document) → position p ds ≡ Some i → slice_get ds i ≡ Some d → Some d ≡ find p ds
+found-at p ds i d e g =
+    sym g ∙ (ap (slice_get ds) (place-is (nat_lt (position_or_len p ds) (length ds)) (position_or_len p ds) i e) ∙ sym (find_at p ds))
+
+pub removed-at : (n : ℕ) (ds : List Document) (i : ℕ) → IsDistinct nat_eq (live_numbers ds) → position (has_number n) ds ≡ Some i → remove ds i ≡ filter (λ d. not (has_number n d)) ds
+removed-at n ds i h e =
+    ap (remove ds) (place-is (nat_lt (position_or_len (has_number n) ds) (length ds)) (position_or_len (has_number n) ds) i e) ∙ removed-is n ds h
+
+-- ---- the last one taken back
+
+front-more : {X : Type 0} (xs : List X) (x : X) → front (xs ++ x ∷ []) ≡ xs
+front-more xs x =
+    let e : length (xs ++ x ∷ []) - 1 ≡ length xs = simp length-append (omega arith) in
+    ap (λ (n : ℕ). take n (xs ++ x ∷ [])) e ∙ take-append_seam xs (x ∷ [])
+
+pub popped : {X : Type 0} (r : Option X) (old new before : List X) (x : X) → MatchOption r ((old ≡ []) × (new ≡ [])) (λ l. old ≡ new ++ l ∷ []) → old ≡ before ++ x ∷ [] → new ≡ before
+popped None old new before x m e = m.1 ∙ (sym (ap front m.0) ∙ (ap front e ∙ front-more before x))
+popped (Some l) old new before x m e = sym (front-more new l) ∙ (sym (ap front m) ∙ (ap front e ∙ front-more before x))
+
+others-front : (n y : ℕ) (xs : List ℕ) → AllByRecursion (λ m. nat_eq n m ≡ false) (xs ++ y ∷ []) → AllByRecursion (λ m. nat_eq n m ≡ false) xs
+others-front n y [] h = tt
+others-front n y (x ∷ xs) h = (h.0, others-front n y xs h.1)
+
+others-last : (n y : ℕ) (xs : List ℕ) → AllByRecursion (λ m. nat_eq n m ≡ false) (xs ++ y ∷ []) → nat_eq n y ≡ false
+others-last n y [] h = h.0
+others-last n y (x ∷ xs) h = others-last n y xs h.1
+
+differ-front : (xs : List ℕ) (y : ℕ) → IsDistinct nat_eq (xs ++ y ∷ []) → IsDistinct nat_eq xs
+unfolding IsDistinct
+differ-front [] y h = tt
+differ-front (x ∷ xs) y h = (others-front x y xs h.0, differ-front xs y h.1)
+
+differ-last : (xs : List ℕ) (y : ℕ) → IsDistinct nat_eq (xs ++ y ∷ []) → list_any (nat_eq y) xs ≡ false
+unfolding IsDistinct
+differ-last [] y h = refl
+differ-last (x ∷ xs) y h = let e : nat_eq x y ≡ false = others-last x y xs h.0 in let r : list_any (nat_eq y) xs ≡ false = differ-last xs y h.1 in grind (arith, nat_tests)
+
+not-made : (n : ℕ) (ids : List DocId) → list_any (nat_eq n) (made_numbers ids) ≡ false → is_made ids n ≡ false
+not-made n [] h = refl
+not-made n (id ∷ ids) h = grind (arith, nat_tests, not-made n ids)
+
+still-made : (ids : List DocId) (id : DocId) (ds : List Document) → list_all (λ d. is_made (ids ++ id ∷ []) d.id.number) ds ≡ true → list_any (nat_eq id.number) (live_numbers ds) ≡ false →
+    list_all (λ d. is_made ids d.id.number) ds ≡ true
+still-made ids id [] h n = refl
+still-made ids id (d ∷ ds) h n = grind (arith, nat_tests, still-made ids id ds, made-more ids id d.id.number)
+
+front-all : (p : Document → Bool) (ds : List Document) (d : Document) → list_all p (ds ++ d ∷ []) ≡ true → list_all p ds ≡ true
+front-all p [] d h = refl
+front-all p (x ∷ xs) d h = grind (arith, front-all p xs d)
+
+pub indexed-back : (most : ℕ) (live : List Document) (made : List DocId) (numbers less : BTreeSet ℕ) (d : Document) → IsIndexed most (live ++ d ∷ []) (made ++ d.id ∷ []) numbers →
+    ((q : ℕ) → contains nat_cmp less q ≡ cond (is_at (nat_cmp d.id.number) q) false (contains nat_cmp numbers q)) → IsIndexed most live made less
+indexed-back most live made numbers less d old u =
+    let live_last : IsDistinct nat_eq (live_numbers live ++ d.id.number ∷ []) = subst (IsDistinct nat_eq) (numbers-more live d) old.live_differ in
+    let made_last : IsDistinct nat_eq (made_numbers made ++ d.id.number ∷ []) = subst (IsDistinct nat_eq) (ids-more made d.id) old.made_differ in
+    let not_made : is_made made d.id.number ≡ false = not-made d.id.number made (differ-last (made_numbers made) d.id.number made_last) in
+    record {
+      live_differ = differ-front (live_numbers live) d.id.number live_last;
+      live_made = still-made made d.id live (front-all (λ x. is_made (made ++ d.id ∷ []) x.id.number) live d old.live_made) (differ-last (live_numbers live) d.id.number live_last);
+      made_differ = differ-front (made_numbers made) d.id.number made_last;
+      same = λ q. u q ∙ back q (is_at (nat_cmp d.id.number) q) refl not_made;
+      within = let e : length (made ++ d.id ∷ []) ≡ length made + 1 = length-append made (d.id ∷ []) in let w : length (made ++ d.id ∷ []) ≤ most = old.within in omega arith;
+      limit = old.limit;
+    }
+  where
+    back : (q : ℕ) (b : Bool) → is_at (nat_cmp d.id.number) q ≡ b → is_made made d.id.number ≡ false → cond b false (contains nat_cmp numbers q) ≡ is_made made q
+    back q true e h = sym (sym (made-at made d.id.number q (sym (is_at-nat d.id.number q) ∙ e)) ∙ h)
+    back q false e h = old.same q ∙ (made-more made d.id q ∙ (ap (λ (b : Bool). is_made made q || b) (sym (is_at-nat d.id.number q) ∙ e) ∙ or-false (is_made made q)))
+
+pub indexed-none : (most : ℕ) (numbers : BTreeSet ℕ) → numbers.keys ≡ [] → most < 2 ^ 32 → IsIndexed most [] [] numbers
+unfolding IsDistinct
+indexed-none most numbers e h = record {
+  live_differ = tt;
+  live_made = refl;
+  made_differ = tt;
+  same = λ q. ap (list_any (is_at (nat_cmp q))) e;
+  within = omega arith;
+  limit = h;
+}
+
+-- ---- what a call of the code says where it didn't fail
+
+pub on-ok : {A E : Type 0} (r : Result A E) (P : Type 0) → OnOk r P → false ≡ is_err r → P
+on-ok (Ok x) P h e = h
+on-ok (Err x) P h e = cc
+
+pub has-room : (a b n most : ℕ) → n ≡ min a (most - b) → (n ≡ 0 → ⊥) → b < most
+has-room a b n most e h = omega (arith, h)

@@ -142,6 +142,7 @@ rising-of app id set =
     end : (a : Right) (b : Bool) → triple_less (triple app id a) (triple app id Delete) ≡ true → list_all (triple_less (triple app id a)) (triple_if b (triple app id Delete)) ≡ true
     end a true h = grind arith
     end a false h = refl
+
     one : (b : Bool) → is_rising triple_less (triple_if b (triple app id Delete)) ≡ true
     one true = refl
     one false = refl

@@ -136,10 +136,13 @@ given-one p app id set g true k =
     swap true false = refl
     swap false true = refl
     swap false false = refl
+
     same_app : g.app ≡ app
     same_app = is_same-eq g.app app (grind arith)
+
     same_id : g.id ≡ id
     same_id = λ i. record { number = nat_is g.id.number id.number (grind arith) i }
+
     own : list_any p (triples_of g.app g.id set) ≡ list_any p (triples_of app id set)
     own = λ i. list_any p (triples_of (same_app i) (same_id i) set)
 given-one p app id set g false k = refl
@@ -278,9 +281,11 @@ taken-one app number set g false k =
   where
     stays : (r : Right) → not (is_listed app number set (triple g.app g.id r)) ≡ true
     stays r = grind arith
+
     and-true : (x : Bool) → (x && true) ≡ x
     and-true true = refl
     and-true false = refl
+
     all-stay : triples_of g.app g.id (record { read = g.rights.read && true; write = g.rights.write && true; grant_permissions = g.rights.grant_permissions && true; delete = g.rights.delete && true }) ≡ triples_of_grant g
     all-stay = λ i. triples_of g.app g.id (record { read = and-true g.rights.read i; write = and-true g.rights.write i; grant_permissions = and-true g.rights.grant_permissions i; delete = and-true g.rights.delete i })
 

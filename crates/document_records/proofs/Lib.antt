@@ -1,3 +1,4 @@
+mod ApplicationLemmas
 mod DocumentLemmas
 mod FourTriples
 mod GrantLemmas

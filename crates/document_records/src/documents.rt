@@ -140,9 +140,7 @@ impl Documents {
             .as_slice()
             .iter()
             .find(|document| {
-                document.path == *path
-                    && document.persistent == persistent
-                    && document.reusable
+                document.path == *path && document.persistent == persistent && document.reusable
             })
             .map(|document| document.id)
     }

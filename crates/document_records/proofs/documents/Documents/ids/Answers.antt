@@ -1,19 +1,11 @@
-use Rattle.std.proofs.Common.{rules, ◌≡◌, ◌<◌, ◌^◌, IfOk, OnOk, IfErr, false, [], map, option_copied, ◌≢◌, min, ◌-◌, length, ℕ, ◌+◌, ◌*◌, ◌≤◌, ◌/◌, ◌%◌, Bool, true, nat_eq, nat_lt, List, ◌∷◌, ◌++◌, slice_index_or, slice_set, bit_and, bit_or, Fits, w8, w32, w64, Bor, MutBor}
-use Rattle.std.specs.List.{position}
-use Rattle.portal_model.specs.State.{document_of}
-use Rattle.portal_model.specs.Valid.{is_made}
-use Rattle.document_records.specs.Documents.{room, with_document, without_document, without_last, IsLast, reusable_of, first_of, IsUnused, id_of_document, has_number}
-use Rattle.document_records.specs.DocumentErrors.{RefusesDocument}
+use Rattle.std.proofs.Common.{◌≡◌, ◌≤◌, ◌∙◌, ap, subst, map, length, List}
+use Rattle.std.proofs.lemmas.List.{take_all}
+use Rattle.portal_model.specs.declared.state.Document.{Document}
+use Rattle.document_records.specs.Documents.{DocumentList, id_of_document}
 use Rattle.document_records.proofs.documents.Documents.ids.Goals as goal
 
--- src/documents.rt:175:9
-pub loop-document-init : goal.loop-document-init
-loop-document-init c = ?
-
--- src/documents.rt:175:9
-pub loop-document-preserved : goal.loop-document-preserved
-loop-document-preserved c = ?
-
--- src/documents.rt:171:5
 pub returns : goal.returns
-returns c = ?
+returns c =
+    let same : c.as_slice-document-items.result.now ≡ c.args.self.now.live = c.as_slice-document-items.ensures ∙ ap (λ (s : DocumentList). s.live) c.self.view_is in
+    let past : length c.args.self.now.live ≤ c.loop-document.document-index = subst (λ (ds : List Document). length ds ≤ c.loop-document.document-index) same c.loop-document-test.false in
+    c.loop-document.invariant ∙ ap (λ (ds : List Document). map id_of_document ds) (take_all c.loop-document.document-index c.args.self.now.live past)

@@ -1,11 +1,5 @@
-use Rattle.std.proofs.Common.{rules, ◌≡◌, ◌<◌, ◌^◌, IfOk, OnOk, IfErr, false, [], map, option_copied, ◌≢◌, min, ◌-◌, length, ℕ, ◌+◌, ◌*◌, ◌≤◌, ◌/◌, ◌%◌, Bool, true, nat_eq, nat_lt, List, ◌∷◌, ◌++◌, slice_index_or, slice_set, bit_and, bit_or, Fits, w8, w32, w64, Bor, MutBor}
-use Rattle.std.specs.List.{position}
-use Rattle.portal_model.specs.State.{document_of}
-use Rattle.portal_model.specs.Valid.{is_made}
-use Rattle.document_records.specs.Documents.{room, with_document, without_document, without_last, IsLast, reusable_of, first_of, IsUnused, id_of_document, has_number}
-use Rattle.document_records.specs.DocumentErrors.{RefusesDocument}
+use Rattle.document_records.proofs.DocumentLemmas.{indexed-none}
 use Rattle.document_records.proofs.documents.Documents.new.Goals as goal
 
--- src/documents.rt:63:5
 pub invariant_of-result : goal.invariant_of-result
-invariant_of-result c = ?
+invariant_of-result c = rw (c.new.ensures, c.new-2.ensures) (indexed-none c.args.limits.now.made c.new-3.result c.new-3.ensures.empty c.requires)

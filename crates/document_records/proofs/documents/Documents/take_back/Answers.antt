@@ -1,11 +1,16 @@
-use Rattle.std.proofs.Common.{rules, ◌≡◌, ◌<◌, ◌^◌, IfOk, OnOk, IfErr, false, [], map, option_copied, ◌≢◌, min, ◌-◌, length, ℕ, ◌+◌, ◌*◌, ◌≤◌, ◌/◌, ◌%◌, Bool, true, nat_eq, nat_lt, List, ◌∷◌, ◌++◌, slice_index_or, slice_set, bit_and, bit_or, Fits, w8, w32, w64, Bor, MutBor}
-use Rattle.std.specs.List.{position}
-use Rattle.portal_model.specs.State.{document_of}
-use Rattle.portal_model.specs.Valid.{is_made}
-use Rattle.document_records.specs.Documents.{room, with_document, without_document, without_last, IsLast, reusable_of, first_of, IsUnused, id_of_document, has_number}
-use Rattle.document_records.specs.DocumentErrors.{RefusesDocument}
+use Rattle.std.proofs.Common.{◌≡◌, ◌∙◌, ◌++◌, ◌∷◌, [], ap, sym, ℕ, List}
+use Rattle.portal_base.specs.declared.names.doc_id.DocId.{DocId}
+use Rattle.document_records.specs.Documents.{DocumentList}
+use Rattle.document_records.proofs.DocumentLemmas.{indexed-back, popped}
 use Rattle.document_records.proofs.documents.Documents.take_back.Goals as goal
 
--- src/documents.rt:183:5
 pub invariant_of-self : goal.invariant_of-self
-invariant_of-self c = ?
+invariant_of-self c =
+    let live : c.self.inside.live ≡ c.requires.before.live ++ c.requires.last ∷ [] = ap (λ (s : DocumentList). s.live) c.self.view_is ∙ ap (λ (s : DocumentList). s.live) c.requires.added in
+    let made : c.self.inside.made ≡ c.requires.before.made ++ c.requires.last.id ∷ [] = ap (λ (s : DocumentList). s.made) c.self.view_is ∙ ap (λ (s : DocumentList). s.made) c.requires.added in
+    let live_left : c.pop.new.self ≡ c.requires.before.live = popped c.pop.result c.self.inside.live c.pop.new.self c.requires.before.live c.requires.last c.pop.ensures live in
+    let made_left : c.pop-2.new.self ≡ c.requires.before.made = popped c.pop-2.result c.self.inside.made c.pop-2.new.self c.requires.before.made c.requires.last.id c.pop-2.ensures made in
+    rw (live_left, made_left)
+    (indexed-back c.self.inside.most_made c.requires.before.live c.requires.before.made c.self.inside.numbers c.remove.new.self c.requires.last
+    (rw live at (rw made at c.self.invariant))
+    (rw c.requires.number c.remove.ensures.updates.0))
