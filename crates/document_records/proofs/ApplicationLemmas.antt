@@ -1,0 +1,57 @@
+-- The numbers of applications.
+use Rattle.std.proofs.Common.{◌≡◌, ◌⊎◌, ℕ, ◌+◌, ◌<◌, ◌≤◌, nat_lt, List, [], ◌∷◌, ◌++◌, length, Bool, true, false, not, cond, Option, Some, None, inl, inr, refl, sym, ap, ◌∙◌, arith, length-append}
+use Rattle.std.specs.List.{list_any, position_or_len}
+use Rattle.std.specs.Option.{option_map}
+use Rattle.std.proofs.lemmas.Bool.Decides.{nat_tests}
+use Rattle.portal_base.specs.Names.{is_same}
+use Rattle.portal_model.specs.Valid.{is_numbered, applications_limit}
+use Rattle.document_records.specs.Applications.{number_of, numbered}
+use Rattle.document_records.proofs.TripleOrder.{is_same-refl, is_same-sym}
+
+-- how many names stand ahead of the application's
+abbrev pub ahead : List (List ℕ) → List ℕ → ℕ
+ahead apps app = position_or_len (λ name. is_same name app) apps
+
+is-there : (b : Bool) (n k : ℕ) → option_map (λ at. at + 1) (cond b (Some n) None) ≡ Some k → b ≡ true
+is-there true n k e = refl
+is-there false n k e = cc
+
+isnt-there : (b : Bool) (n : ℕ) → option_map (λ at. at + 1) (cond b (Some n) None) ≡ None → b ≡ false
+isnt-there true n e = cc
+isnt-there false n e = refl
+
+inside-is : (apps : List (List ℕ)) (app : List ℕ) → is_numbered apps app ≡ nat_lt (ahead apps app) (length apps)
+inside-is [] app = refl
+inside-is (x ∷ xs) app = grind (arith, nat_tests, inside-is xs app, is_same-sym app x)
+
+pub has-number : (apps : List (List ℕ)) (app : List ℕ) (k : ℕ) → number_of apps app ≡ Some k → apps ≡ numbered apps app
+has-number apps app k e =
+    sym (ap (λ (b : Bool). cond b apps (apps ++ app ∷ [])) (inside-is apps app ∙ is-there (nat_lt (ahead apps app) (length apps)) (ahead apps app) k e))
+
+pub no-number : (apps : List (List ℕ)) (app : List ℕ) → number_of apps app ≡ None → is_numbered apps app ≡ false
+no-number apps app e = inside-is apps app ∙ isnt-there (nat_lt (ahead apps app) (length apps)) (ahead apps app) e
+
+pub gets-next : (apps : List (List ℕ)) (app : List ℕ) → number_of apps app ≡ None → apps ++ app ∷ [] ≡ numbered apps app
+gets-next apps app e = sym (ap (λ (b : Bool). cond b apps (apps ++ app ∷ [])) (no-number apps app e))
+
+last-place : (apps : List (List ℕ)) (app : List ℕ) → is_numbered apps app ≡ false → ahead (apps ++ app ∷ []) app ≡ length apps
+last-place [] app h = grind (arith, is_same-refl app)
+last-place (x ∷ xs) app h = grind (arith, nat_tests, last-place xs app, is_same-sym app x)
+
+next-is : (n : ℕ) → option_map (λ at. at + 1) (cond (nat_lt n (n + 1)) (Some n) None) ≡ Some (n + 1)
+next-is n = let e : nat_lt n (n + 1) ≡ true = grind (arith, nat_tests) in ap (λ (b : Bool). option_map (λ at. at + 1) (cond b (Some n) None)) e
+
+pub next-number : (apps : List (List ℕ)) (app : List ℕ) → number_of apps app ≡ None → number_of (apps ++ app ∷ []) app ≡ Some (length (apps ++ app ∷ []))
+next-number apps app e =
+    let at : ahead (apps ++ app ∷ []) app ≡ length apps = last-place apps app (no-number apps app e) in
+    let long : length (apps ++ app ∷ []) ≡ length apps + 1 = length-append apps (app ∷ []) in
+    (λ i. option_map (λ n. n + 1) (cond (nat_lt (at i) (long i)) (Some (at i)) None))
+    ∙ (next-is (length apps) ∙ sym (ap Some long))
+
+pub room-for-next : (apps : List (List ℕ)) (app : List ℕ) → number_of apps app ≡ None → (is_numbered apps app ≡ true) ⊎ (length apps < applications_limit) → length (apps ++ app ∷ []) ≤ applications_limit
+room-for-next apps app e (inl h) = let f : is_numbered apps app ≡ false = no-number apps app e in absurd (differ (is_numbered apps app) h f)
+  where
+    differ : (b : Bool) → b ≡ true → b ≡ false → ⊥
+    differ true h k = cc
+    differ false h k = cc
+room-for-next apps app e (inr h) = let long : length (apps ++ app ∷ []) ≡ length apps + 1 = length-append apps (app ∷ []) in omega arith

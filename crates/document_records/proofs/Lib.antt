@@ -1,0 +1,7 @@
+mod ApplicationLemmas
+mod DocumentLemmas
+mod FourTriples
+mod GrantLemmas
+mod Rising
+mod TripleOrder
+mod Unused

@@ -1,0 +1,7 @@
+use Rattle.std.proofs.Common.{◌≡◌, map, take}
+use Rattle.document_records.specs.Documents.{id_of_document}
+use Rattle.document_records.proofs.documents.Documents.ids.Given as goal
+
+-- the numbers so far
+abbrev pub invariant-loop-document : goal.invariant-loop-document
+invariant-loop-document l = l.ids ≡ map id_of_document (take l.document-index l.self.live)

@@ -1,0 +1,16 @@
+use Rattle.std.proofs.Common.{◌≡◌, ◌∙◌, ◌++◌, ◌∷◌, [], ap, sym, ℕ, List}
+use Rattle.portal_base.specs.declared.names.doc_id.DocId.{DocId}
+use Rattle.document_records.specs.Documents.{DocumentList}
+use Rattle.document_records.proofs.DocumentLemmas.{indexed-back, popped}
+use Rattle.document_records.proofs.documents.Documents.take_back.Goals as goal
+
+pub invariant_of-self : goal.invariant_of-self
+invariant_of-self c =
+    let live : c.self.inside.live ≡ c.requires.before.live ++ c.requires.last ∷ [] = ap (λ (s : DocumentList). s.live) c.self.view_is ∙ ap (λ (s : DocumentList). s.live) c.requires.added in
+    let made : c.self.inside.made ≡ c.requires.before.made ++ c.requires.last.id ∷ [] = ap (λ (s : DocumentList). s.made) c.self.view_is ∙ ap (λ (s : DocumentList). s.made) c.requires.added in
+    let live_left : c.pop.new.self ≡ c.requires.before.live = popped c.pop.result c.self.inside.live c.pop.new.self c.requires.before.live c.requires.last c.pop.ensures live in
+    let made_left : c.pop-2.new.self ≡ c.requires.before.made = popped c.pop-2.result c.self.inside.made c.pop-2.new.self c.requires.before.made c.requires.last.id c.pop-2.ensures made in
+    rw (live_left, made_left)
+    (indexed-back c.self.inside.most_made c.requires.before.live c.requires.before.made c.self.inside.numbers c.remove.new.self c.requires.last
+    (rw live at (rw made at c.self.invariant))
+    (rw c.requires.number c.remove.ensures.updates.0))

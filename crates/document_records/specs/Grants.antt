@@ -1,0 +1,40 @@
+-- Rights kept together: one item for each application and document.
+use Rattle.std.specs.Prelude.{ℕ, ◌==◌, nat_lt, List, Bool, not, ◌&&◌, cond}
+use Rattle.std.specs.List.{flat_map}
+use Rattle.portal_base.specs.Names.{is_same}
+use Rattle.rights_rule.specs.Rights.{RightSet, union, minus, is_no_right}
+use Rattle.portal_model.specs.declared.state.Triple.{Triple}
+use Rattle.document_records.specs.declared.grants.Grant.{Grant}
+use Rattle.document_records.specs.Ordered.{bytes_less, is_rising}
+use Rattle.document_records.specs.Rights.{triples_of}
+
+abbrev pub triples_of_grant : Grant → List Triple
+triples_of_grant g = triples_of g.app g.id g.rights
+
+abbrev pub triples_of_grants : List Grant → List Triple
+triples_of_grants grants = flat_map triples_of_grant grants
+
+abbrev pub is_of : List ℕ → ℕ → Grant → Bool
+is_of app number g = g.id.number == number && is_same g.app app
+
+-- by number, then by the bytes of the name
+abbrev pub is_before : List ℕ → ℕ → Grant → Bool
+is_before app number g = cond (g.id.number == number) (bytes_less g.app app) (nat_lt g.id.number number)
+
+abbrev pub grant_less : Grant → Grant → Bool
+grant_less g h = is_before h.app h.id.number g
+
+abbrev pub are_grants_in_order : List Grant → Bool
+are_grants_in_order grants = is_rising grant_less grants
+
+abbrev pub given : List ℕ → ℕ → RightSet → Grant → Grant
+given app number set g = cond (is_of app number g) (record g { rights = union g.rights set }) g
+
+abbrev pub taken : List ℕ → ℕ → RightSet → Grant → Grant
+taken app number set g = cond (is_of app number g) (record g { rights = minus g.rights set }) g
+
+abbrev pub has_a_right : Grant → Bool
+has_a_right g = not (is_no_right g.rights)
+
+abbrev pub is_elsewhere : ℕ → Grant → Bool
+is_elsewhere number g = not (g.id.number == number)

@@ -1,0 +1,7 @@
+pub mod Applications
+pub mod DocumentErrors
+pub mod DocumentIndex
+pub mod Documents
+pub mod Grants
+pub mod Ordered
+pub mod Rights

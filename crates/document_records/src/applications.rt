@@ -1,0 +1,106 @@
+//! The numbers of applications.
+
+ghost use Rattle.std.specs.Prelude.{◌≡◌, ◌⊎◌, ◌<◌, ◌≤◌, [], Some, true, length, IfOk, IfErr, OnErr, option_copied};
+ghost use Rattle.std.specs.List.{position};
+ghost use Rattle.portal_base.specs.Names.{is_same};
+ghost use Rattle.portal_model.specs.Valid.{is_numbered, applications_limit};
+ghost use Rattle.document_records.specs.Applications.{number_of, numbered, name_of_number};
+ghost use Rattle.document_records.specs.Documents.{front};
+
+use portal_base::list::List;
+use portal_base::memory::{Replica, WantOfMemory};
+use portal_base::names::AppId;
+use std::alloc::Global;
+use std::marker::Model;
+
+/// The numbered applications; application k is the k-th, from 1.
+#[derive(Drop)]
+pub struct Applications {
+    alloc: Global,
+    names: List<AppId>,
+}
+
+impl Model for Applications {
+    ghost use Rattle.std.specs.Prelude.{List, ℕ, ◌≤◌, length};
+
+    ghost Value = { List (List ℕ) };
+
+    ghost view = { λ a. a.names };
+
+    ghost invariant = { λ a. length a.names ≤ 16777216 };
+}
+
+impl Applications {
+    /// No application has a number.
+    pub fn new(alloc: Global) -> Applications
+        ensures { result ≡ [] }
+    {
+        Applications {
+            alloc,
+            names: List::new(alloc),
+        }
+    }
+
+    /// The number of an application, which gets the next one where it has
+    /// none.
+    pub fn number(&mut self, app: &AppId) -> Result<u32, WantOfMemory>
+        requires { (is_numbered self.old app.now ≡ true) ⊎ (length self.old < applications_limit) }
+        ensures ok { IfOk result (λ number. (self.new ≡ numbered self.old app.now) × (number_of self.new app.now ≡ Some number)) }
+        ensures err { OnErr result (self.new ≡ self.old) }
+    {
+        if let Some(number) = number_of(self.names.as_slice(), app) {
+            return Ok(number);
+        }
+        self.names.push(app.replica(self.alloc)?)?;
+        Ok(self.names.len() as u32)
+    }
+
+    /// The number of an application that has one.
+    pub fn of(&self, app: &AppId) -> Option<u32>
+        ensures { result ≡ number_of self.now app.now }
+    {
+        number_of(self.names.as_slice(), app)
+    }
+
+    /// The application of a number.
+    pub fn name(&self, number: u32) -> Option<&AppId>
+        ensures { option_copied result ≡ name_of_number self.now number }
+    {
+        if number == 0 {
+            return None;
+        }
+        self.names.get(number as usize - 1)
+    }
+
+    /// How many applications have a number.
+    pub fn len(&self) -> u32
+        ensures { result ≡ length self.now }
+    {
+        self.names.len() as u32
+    }
+
+    /// Takes the last number back: the application that was numbered last has
+    /// none.
+    pub fn take_back(&mut self)
+        requires { 0 < length self.old }
+        ensures { self.new ≡ front self.old }
+    {
+        self.names.pop();
+    }
+}
+
+/// The number of an application in a list of few enough names.
+fn number_of(names: &[AppId], app: &AppId) -> Option<u32>
+    requires { length names.now ≤ 16777216 }
+    ensures { result ≡ number_of names.now app.now }
+{
+    let at = place_of(names, app)?;
+    Some(at as u32 + 1)
+}
+
+/// The place of an application in a list.
+fn place_of(names: &[AppId], app: &AppId) -> Option<usize>
+    ensures { result ≡ position (λ name. is_same name app.now) names.now }
+{
+    names.iter().position(|name| name == app)
+}

@@ -1,0 +1,206 @@
+//! The live documents, and the numbers of all that were made.
+
+ghost use Rattle.std.specs.Prelude.{◌≡◌, ◌<◌, ◌^◌, IfOk, OnOk, IfErr, false, [], map, option_copied, ◌≢◌, min, ◌-◌, length};
+ghost use Rattle.std.specs.List.{position};
+ghost use Rattle.portal_model.specs.State.{document_of};
+ghost use Rattle.portal_model.specs.Valid.{is_made};
+ghost use Rattle.document_records.specs.Documents.{room, with_document, without_document, without_last, IsLast, reusable_of, first_of, IsUnused, id_of_document, has_number};
+ghost use Rattle.document_records.specs.DocumentErrors.{RefusesDocument};
+
+use portal_base::limits::Limits;
+use portal_base::list::List;
+use portal_base::memory::WantOfMemory;
+use portal_base::names::{DocId, HostPath};
+use portal_model::state::Document;
+use std::alloc::Global;
+use std::collections::BTreeSet;
+use std::marker::Model;
+use thiserror::Error;
+
+/// Why a document isn't added.
+#[derive(Clone, Copy, Debug, PartialEq, Eq, Error)]
+pub enum DocError {
+    /// As many documents are live, or as many were made, as the limits allow.
+    #[error("no room for a document: {live} are live, {made} were made")]
+    Full {
+        /// How many are live.
+        live: u64,
+        /// How many were made.
+        made: u64,
+    },
+    /// There was no memory.
+    #[error("no memory for a document")]
+    Memory,
+}
+
+/// The live documents in order of addition, and the numbers of all documents
+/// that were made, in the order in which they were.
+#[derive(Drop)]
+pub struct Documents {
+    alloc: Global,
+    most_live: u64,
+    most_made: u64,
+    live: List<Document>,
+    made: List<DocId>,
+    /// The made numbers, to be looked up.
+    numbers: BTreeSet<u32>,
+}
+
+impl Model for Documents {
+    ghost use Rattle.document_records.specs.Documents.{DocumentList};
+    ghost use Rattle.document_records.specs.DocumentIndex.{IsIndexed};
+
+    ghost Value = { DocumentList };
+
+    ghost view = { λ a. record { most_live = a.most_live; most_made = a.most_made; live = a.live; made = a.made } };
+
+    ghost invariant = { λ a. IsIndexed a.most_made a.live a.made a.numbers };
+}
+
+impl Documents {
+    /// No documents, under limits of which that of made documents is below
+    /// 2^32.
+    pub fn new(alloc: Global, limits: &Limits) -> Documents
+        requires { limits.now.made < 2 ^ 32 }
+        ensures { result ≡ record { most_live = limits.now.documents; most_made = limits.now.made; live = []; made = [] } }
+    {
+        Documents {
+            alloc,
+            most_live: limits.documents,
+            most_made: limits.made,
+            live: List::new(alloc),
+            made: List::new(alloc),
+            numbers: BTreeSet::new(alloc),
+        }
+    }
+
+    /// How many more documents may be added.
+    pub fn room(&self) -> u64
+        ensures { result ≡ room self.now }
+    {
+        room(self.most_live, self.most_made, &self.live, &self.made)
+    }
+
+    /// Adds a document, whose number was never made.
+    pub fn add(&mut self, document: Document) -> Result<(), DocError>
+        requires { is_made self.old.made document.id.number ≡ false }
+        ensures ok { OnOk result ((room self.old ≢ 0) × (self.new ≡ with_document self.old document)) }
+        ensures err { IfErr result (λ error. RefusesDocument self.old error × (self.new ≡ self.old)) }
+    {
+        if room(self.most_live, self.most_made, &self.live, &self.made) == 0 {
+            return Err(DocError::Full {
+                live: self.live.len() as u64,
+                made: self.made.len() as u64,
+            });
+        }
+        let id = document.id;
+        if self.numbers.insert(id.number).is_err() {
+            return Err(DocError::Memory);
+        }
+        if self.made.push(id).is_err() {
+            self.numbers.remove(&id.number);
+            return Err(DocError::Memory);
+        }
+        if self.live.push(document).is_err() {
+            self.made.pop();
+            self.numbers.remove(&id.number);
+            return Err(DocError::Memory);
+        }
+        Ok(())
+    }
+
+    /// The first number at or above a word, with 0 behind the greatest, that
+    /// no made document has.
+    pub fn unused_from(&self, word: u32) -> DocId
+        ensures { IsUnused self.now.made word result.number }
+    {
+        let mut number = word;
+        while self.numbers.contains(&number) {
+            number = number.wrapping_add(1);
+        }
+        DocId { number }
+    }
+
+    /// The live document of a number.
+    pub fn find(&self, id: DocId) -> Option<&Document>
+        ensures { option_copied result ≡ document_of self.now.live id.number }
+    {
+        self.live
+            .as_slice()
+            .iter()
+            .find(|document| document.id.number == id.number)
+    }
+
+    /// The first live document that may stand for a new one of this path and
+    /// this persistent flag.
+    pub fn reusable(&self, path: &HostPath, persistent: bool) -> Option<DocId>
+        ensures { result ≡ reusable_of self.now.live path.now persistent }
+    {
+        self.live
+            .as_slice()
+            .iter()
+            .find(|document| {
+                document.path == *path && document.persistent == persistent && document.reusable
+            })
+            .map(|document| document.id)
+    }
+
+    /// The first live document of a path.
+    pub fn first_of(&self, path: &HostPath) -> Option<DocId>
+        ensures { result ≡ first_of self.now.live path.now }
+    {
+        self.live
+            .as_slice()
+            .iter()
+            .find(|document| document.path == *path)
+            .map(|document| document.id)
+    }
+
+    /// Takes the document of a number out, which stays made.
+    pub fn remove(&mut self, id: DocId) -> Option<Document>
+        ensures document { result ≡ document_of self.old.live id.number }
+        ensures rest { self.new ≡ without_document self.old id.number }
+    {
+        let at = place_of(self.live.as_slice(), id)?;
+        Some(self.live.remove(at))
+    }
+
+    /// The numbers of the live documents, in order of addition.
+    pub fn ids(&self) -> Result<List<DocId>, WantOfMemory>
+        ensures { IfOk result (λ ids. ids ≡ map id_of_document self.now.live) }
+    {
+        let mut ids = List::new(self.alloc);
+        for document in self.live.as_slice() {
+            ids.push(document.id)?;
+        }
+        Ok(ids)
+    }
+
+    /// Takes the last addition back: the document goes, and its number is no
+    /// longer made.
+    pub fn take_back(&mut self, id: DocId)
+        requires { IsLast self.old id }
+        ensures { self.new ≡ without_last self.old }
+    {
+        self.live.pop();
+        self.made.pop();
+        self.numbers.remove(&id.number);
+    }
+}
+
+/// How many more documents two limits leave room for.
+fn room(most_live: u64, most_made: u64, live: &List<Document>, made: &List<DocId>) -> u64
+    ensures { result ≡ min (most_live - length live.now) (most_made - length made.now) }
+{
+    let live = most_live.saturating_sub(live.len() as u64);
+    let made = most_made.saturating_sub(made.len() as u64);
+    live.min(made)
+}
+
+/// The place of the document of a number in a list.
+fn place_of(live: &[Document], id: DocId) -> Option<usize>
+    ensures { result ≡ position (has_number id.number) live.now }
+{
+    live.iter()
+        .position(|document| document.id.number == id.number)
+}

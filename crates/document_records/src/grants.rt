@@ -1,0 +1,199 @@
+//! Which application has which right in which document.
+
+ghost use Rattle.std.specs.Prelude.{◌≡◌, [], OnOk, OnErr, map, None, option_copied};
+ghost use Rattle.std.specs.List.{prefix_len, find, filter};
+ghost use Rattle.document_records.specs.Ordered.{put};
+ghost use Rattle.document_records.specs.Rights.{rights_held, add_rights, take_rights, forget_document};
+
+use portal_base::memory::{Replica, WantOfMemory};
+use portal_base::names::{AppId, DocId};
+use rights_rule::Rights;
+use std::alloc::Global;
+use std::marker::Model;
+
+/// The rights of one application in one document.
+#[derive(Drop)]
+struct Grant {
+    id: DocId,
+    app: AppId,
+    rights: Rights,
+}
+
+/// The rights of applications in documents, as triples of an application, a
+/// number and a right, in order of the number, the bytes of the application's
+/// name, and the right.
+#[derive(Drop)]
+pub struct Grants {
+    alloc: Global,
+    grants: Vec<Grant>,
+}
+
+impl Model for Grants {
+    ghost use Rattle.std.specs.Prelude.{List, ◌≡◌, true};
+    ghost use Rattle.portal_model.specs.declared.state.Triple.{Triple};
+
+    ghost Value = { List Triple };
+
+    ghost use Rattle.document_records.specs.Grants.{triples_of_grants, are_grants_in_order};
+
+    ghost view = { λ a. triples_of_grants a.grants.items };
+
+    ghost invariant = { λ a. are_grants_in_order a.grants.items ≡ true };
+}
+
+impl Grants {
+    /// No rights.
+    pub fn new(alloc: Global) -> Grants
+        ensures { result ≡ [] }
+    {
+        Grants {
+            alloc,
+            grants: Vec::new(alloc),
+        }
+    }
+
+    /// The rights of an application in a document.
+    pub fn rights(&self, app: &AppId, id: DocId) -> Rights
+        ensures { result ≡ rights_held self.now app.now id.number }
+    {
+        match find(&self.grants, app, id) {
+            Some(grant) => grant.rights,
+            None => Rights::NONE,
+        }
+    }
+
+    /// Adds rights of an application in a document.
+    pub fn add(&mut self, app: &AppId, id: DocId, rights: Rights) -> Result<(), WantOfMemory>
+        ensures ok { OnOk result (self.new ≡ add_rights app.now id rights self.old) }
+        ensures err { OnErr result (self.new ≡ self.old) }
+    {
+        if find(&self.grants, app, id).is_some() {
+            give(&mut self.grants, app, id, rights);
+            return Ok(());
+        }
+        let grant = Grant {
+            id,
+            app: app.replica(self.alloc)?,
+            rights,
+        };
+        insert(&mut self.grants, grant)?;
+        Ok(())
+    }
+
+    /// Takes rights of an application in a document away, and no others.
+    pub fn remove(&mut self, app: &AppId, id: DocId, rights: Rights)
+        ensures { self.new ≡ take_rights app.now id.number rights self.old }
+    {
+        take(&mut self.grants, app, id, rights);
+        leave_held(&mut self.grants);
+    }
+
+    /// Takes all rights in a document away.
+    pub fn forget(&mut self, id: DocId)
+        ensures { self.new ≡ forget_document id.number self.old }
+    {
+        leave_others(&mut self.grants, id);
+    }
+}
+
+ghost use Rattle.document_records.specs.Grants.{is_of, is_before, given, taken, has_a_right, is_elsewhere, grant_less};
+
+/// Says whether a grant is of an application in a document.
+fn is_of(grant: &Grant, app: &AppId, id: DocId) -> bool
+    ensures { result ≡ is_of app.now id.number grant.now }
+{
+    grant.id.number == id.number && grant.app == *app
+}
+
+/// Says whether a grant stands ahead of those of an application in a document.
+fn is_before(grant: &Grant, app: &AppId, id: DocId) -> bool
+    ensures { result ≡ is_before app.now id.number grant.now }
+{
+    if grant.id.number == id.number {
+        grant.app.as_bytes() < app.as_bytes()
+    } else {
+        grant.id.number < id.number
+    }
+}
+
+/// The grant of an application in a document.
+fn find<'a>(grants: &'a [Grant], app: &AppId, id: DocId) -> Option<&'a Grant>
+    ensures { option_copied result ≡ find (is_of app.now id.number) grants.now }
+{
+    grants.iter().find(|grant| is_of(grant, app, id))
+}
+
+/// Puts a grant in its place, where there is none of its application and
+/// document.
+fn insert(grants: &mut Vec<Grant>, grant: Grant) -> Result<(), WantOfMemory>
+    requires { find (is_of grant.app grant.id.number) grants.old.items ≡ None }
+    ensures ok { OnOk result (grants.new.items ≡ put grant_less grant grants.old.items) }
+    ensures err { OnErr result (grants.new.items ≡ grants.old.items) }
+{
+    let at = place_of(grants, &grant.app, grant.id);
+    grants.insert(at, grant)?;
+    Ok(())
+}
+
+/// The place of a new grant of an application in a document.
+fn place_of(grants: &[Grant], app: &AppId, id: DocId) -> usize
+    ensures { result ≡ prefix_len (is_before app.now id.number) grants.now }
+{
+    for (at, grant) in grants.iter().enumerate() {
+        if !is_before(grant, app, id) {
+            return at;
+        }
+    }
+    grants.len()
+}
+
+/// Adds rights to the grant of an application in a document.
+fn give(grants: &mut Vec<Grant>, app: &AppId, id: DocId, rights: Rights)
+    ensures { grants.new.items ≡ map (given app.now id.number rights) grants.old.items }
+{
+    for grant in grants.iter_mut() {
+        give_if(grant, app, id, rights);
+    }
+}
+
+/// Adds rights to a grant, where it is of an application in a document.
+fn give_if(grant: &mut Grant, app: &AppId, id: DocId, rights: Rights)
+    ensures { grant.new ≡ given app.now id.number rights grant.old }
+{
+    if is_of(grant, app, id) {
+        grant.rights = grant.rights.union(rights);
+    }
+}
+
+/// Takes rights away from the grant of an application in a document.
+fn take(grants: &mut Vec<Grant>, app: &AppId, id: DocId, rights: Rights)
+    ensures { grants.new.items ≡ map (taken app.now id.number rights) grants.old.items }
+{
+    for grant in grants.iter_mut() {
+        take_if(grant, app, id, rights);
+    }
+}
+
+/// Takes rights away from a grant, where it is of an application in a
+/// document.
+fn take_if(grant: &mut Grant, app: &AppId, id: DocId, rights: Rights)
+    ensures { grant.new ≡ taken app.now id.number rights grant.old }
+{
+    if is_of(grant, app, id) {
+        grant.rights = grant.rights.minus(rights);
+    }
+}
+
+/// Leaves the grants that have a right.
+fn leave_held(grants: &mut Vec<Grant>)
+    ensures { grants.new.items ≡ filter has_a_right grants.old.items }
+{
+    grants.retain(|grant| !grant.rights.is_empty());
+}
+
+/// Leaves the grants in other documents.
+fn leave_others(grants: &mut Vec<Grant>, id: DocId)
+    ensures { grants.new.items ≡ filter (is_elsewhere id.number) grants.old.items }
+{
+    grants.retain(|grant| grant.id.number != id.number);
+}
