@@ -18,7 +18,7 @@ use Rattle.portal_model.specs.Laws.{with_document, with_right}
 use Rattle.portal_model.specs.State.{State, app_has, connection_of, document_of, gives}
 use Rattle.portal_model.specs.Step.{all_told, told_of}
 use Rattle.portal_model.specs.Valid.{Valid, is_none, is_host_bus, is_sound_connection}
-use Rattle.portal_model.specs.View.{Seen, TakesAlike, holds_any, held_of, own_documents, seen_of, put_in_order, in_order, seen_documents, seen_document, is_app, own_connections, view}
+use Rattle.portal_model.specs.View.{Seen, TakesAlike, holds_any, held_of, own_documents, seen_of, put_in_order, in_order, seen_document, is_app, own_connections, view}
 use Rattle.portal_model.proofs.Finds.{is_same-eq, nat_is, find-filter, find-map, found_in_all}
 use Rattle.portal_model.proofs.Silence.{told_of-silent, none-nil}
 
