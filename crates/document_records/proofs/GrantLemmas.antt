@@ -6,7 +6,6 @@ use Rattle.std.proofs.lemmas.List.Folds.{list_any-append}
 use Rattle.std.proofs.lemmas.List.Elements.{filter-append}
 use Rattle.std.proofs.lemmas.List.Sums.{prefix_len_is}
 use Rattle.std.specs.Option.{option_copied}
-use Rattle.portal_base.specs.Names.{is_same}
 use Rattle.portal_base.specs.declared.names.doc_id.DocId.{DocId}
 use Rattle.rights_rule.specs.Rights.{RightSet, union, minus, no_rights, is_no_right}
 use Rattle.portal_model.specs.declared.rights.Right.{Right}
@@ -16,10 +15,10 @@ use Rattle.portal_model.specs.State.{app_has}
 use Rattle.portal_model.specs.Valid.{same_triple}
 use Rattle.document_records.specs.declared.grants.Grant.{Grant}
 use Rattle.document_records.specs.Grants.{triples_of_grant, triples_of_grants, is_of, is_before, grant_less, are_grants_in_order, given, taken, has_a_right, is_elsewhere}
-use Rattle.document_records.specs.Ordered.{put, put_all, bytes_less, is_rising}
+use Rattle.document_records.specs.Ordered.{put, bytes_less, is_rising}
 use Rattle.document_records.specs.Rights.{triple_less, triple, triples_of, rights_held, is_in, add_rights, is_listed, take_rights, forget_document}
 use Rattle.document_records.proofs.Rising.{rising-put, rising-put_all, rising-filter, rising-map, rising-append, any-put_all, same_items}
-use Rattle.document_records.proofs.TripleOrder.{Key, key_less, same_key, keys, triples, nat_is, nat-itself, is_same-eq, is_same-refl, bytes-irreflexive}
+use Rattle.document_records.proofs.TripleOrder.{Key, key_less, same_key, keys, triples, nat_is, is_same-eq, bytes-irreflexive}
 use Rattle.document_records.proofs.FourTriples.{any-union, gives-of, filter-of, all-of, rising-of}
 
 abbrev pub key_of : Grant → Key

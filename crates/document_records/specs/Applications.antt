@@ -1,5 +1,5 @@
 -- The numbered applications: application k is the k-th name, from 1.
-use Rattle.std.specs.Prelude.{ℕ, ◌+◌, ◌-◌, List, [], ◌∷◌, ◌++◌, Option, None, cond, option_map, slice_get, zero, suc}
+use Rattle.std.specs.Prelude.{ℕ, ◌+◌, List, [], ◌∷◌, ◌++◌, Option, None, cond, option_map, slice_get, zero, suc}
 use Rattle.std.specs.List.{position}
 use Rattle.portal_base.specs.Names.{is_same}
 use Rattle.portal_model.specs.Valid.{is_numbered}

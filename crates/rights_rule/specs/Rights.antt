@@ -1,6 +1,6 @@
 -- The permissions that an application may have in a document.
 -- Source: XDG Desktop Portal documentation, org.freedesktop.portal.Documents, GrantPermissions: "Possible values are 'read', 'write', 'grant-permissions' and 'delete'".
-use Rattle.std.specs.Prelude.{◌≡◌, ℕ, ◌<◌, ◌++◌, List, [], ◌∷◌, length, take, min, slice_get, Some, codes, Bool, true, false, not, ◌&&◌, ◌||◌, cond}
+use Rattle.std.specs.Prelude.{◌≡◌, ℕ, ◌++◌, List, [], ◌∷◌, take, min, slice_get, Some, codes, Bool, true, false, not, ◌&&◌, ◌||◌, cond}
 use Rattle.std.specs.List.{list_any, list_all}
 use Rattle.portal_base.specs.Names.{is_same}
 

@@ -1,6 +1,5 @@
-use Rattle.std.proofs.Common.{◌≡◌, ◌≤◌, ℕ, List, true, take, length, refl, sym, ◌∙◌, ap, subst, arith}
+use Rattle.std.proofs.Common.{◌≡◌, ◌≤◌, ℕ, List, take, length, sym, ◌∙◌, subst}
 use Rattle.std.proofs.lemmas.List.{take_all}
-use Rattle.rights_rule.specs.Rights.{rights_named, are_right_names}
 use Rattle.rights_rule.proofs.NameLemmas.{next-rights, next-known, first-unknown}
 use Rattle.rights_rule.proofs.names.read_names.Goals as goal
 

@@ -1,6 +1,6 @@
-use Rattle.std.proofs.Common.{◌≡◌, ◌≤◌, ◌++◌, ◌∷◌, [], ◌∙◌, ap, sym, subst, length, Some, None, Option, List, ℕ}
+use Rattle.std.proofs.Common.{◌≡◌, ◌≤◌, ◌++◌, ◌∷◌, [], ◌∙◌, ap, sym, subst, length, Some, None, List, ℕ}
 use Rattle.portal_model.specs.Valid.{applications_limit}
-use Rattle.document_records.specs.Applications.{number_of, numbered}
+use Rattle.document_records.specs.Applications.{number_of}
 use Rattle.document_records.proofs.ApplicationLemmas.{has-number, gets-next, next-number, room-for-next}
 use Rattle.document_records.proofs.applications.Applications.number.Goals as goal
 
