@@ -1,10 +1,11 @@
 //! Applications that get numbers.
 
 use crate::error::VectorError;
-use crate::notation::{cut, number};
 use document_records::Applications;
 use portal_base::names::AppId;
 use std::alloc::Global;
+use vector_lines::error::LineError;
+use vector_lines::notation::{cut, small_number};
 
 /// As many applications as may be numbered.
 const LIMIT: u32 = 16_777_216;
@@ -34,7 +35,7 @@ fn answer(
         "of" => of(alloc, applications, rest),
         "name" => name(alloc, applications, rest),
         "back" => back(alloc, applications),
-        _ => Err(VectorError::BadLine),
+        _ => Err(VectorError::Line(LineError::BadLine)),
     }
 }
 
@@ -46,7 +47,7 @@ fn numbered(
 ) -> Result<String, VectorError> {
     let app = AppId::read(alloc, rest.as_bytes())?;
     if applications.len() >= LIMIT {
-        return Err(VectorError::BadLine);
+        return Err(VectorError::Line(LineError::BadLine));
     }
     let number = applications.number(&app)?;
     Ok(format!(in alloc; "{number}")?)
@@ -61,7 +62,7 @@ fn of(alloc: Global, applications: &Applications, rest: &str) -> Result<String, 
 
 /// `name NUMBER`: the application of the number.
 fn name(alloc: Global, applications: &Applications, rest: &str) -> Result<String, VectorError> {
-    match applications.name(number(rest)?) {
+    match applications.name(small_number(rest)?) {
         Some(app) => Ok(String::from_utf8_lossy(alloc, app.as_bytes())?),
         None => Ok(String::from_str(alloc, "none")?),
     }
@@ -70,7 +71,7 @@ fn name(alloc: Global, applications: &Applications, rest: &str) -> Result<String
 /// `back`: the last number is taken back.
 fn back(alloc: Global, applications: &mut Applications) -> Result<String, VectorError> {
     if applications.len() == 0 {
-        return Err(VectorError::BadLine);
+        return Err(VectorError::Line(LineError::BadLine));
     }
     applications.take_back();
     Ok(String::from_str(alloc, "back")?)

@@ -1,19 +1,21 @@
 //! Documents that are added, looked up, removed and taken back.
 
 use crate::error::VectorError;
-use crate::notation::{cut, document_id, number, shown_found, shown_id};
+use crate::notation::{document_id, shown_found, shown_id};
 use document_records::{Document, Documents};
 use portal_base::limits::Limits;
 use portal_base::list::List;
 use portal_base::names::{DocId, HostPath};
 use std::alloc::Global;
+use vector_lines::error::LineError;
+use vector_lines::notation::{cut, small_number};
 
 /// `documents LIVE MADE STEP, STEP ..`: what each step answers over records with
 /// these limits, which are empty at first.
 pub fn documents(alloc: Global, rest: &str) -> Result<String, VectorError> {
     let (live, rest) = cut(rest);
     let (made, steps) = cut(rest);
-    let limits = limits(number(live)?, number(made)?);
+    let limits = limits(small_number(live)?, small_number(made)?);
     let mut documents = Documents::new(alloc, &limits);
     let mut out = String::new(alloc);
     for step in steps.split(", ") {
@@ -55,7 +57,7 @@ fn answer(
         "reusable" => reusable(alloc, documents, rest),
         "first" => first(alloc, documents, rest),
         "room" => room(alloc, documents),
-        _ => Err(VectorError::BadLine),
+        _ => Err(VectorError::Line(LineError::BadLine)),
     }
 }
 

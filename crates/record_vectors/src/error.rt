@@ -5,25 +5,18 @@ use portal_base::memory::WantOfMemory;
 use portal_base::names::NameError;
 use rights_rule::UnknownPermission;
 use std::alloc::{AllocError, Global};
-use thiserror::Error;
+use vector_lines::error::LineError;
 
 /// Why a line has no other answer.
-#[derive(Clone, Copy, Debug, PartialEq, Eq, Error)]
+#[derive(Debug, Drop)]
 pub enum VectorError {
-    /// The line is of no form that there is.
-    #[error("the line is of no form that there is")]
-    BadLine,
-    /// There was no memory.
-    #[error("there is no memory for the line")]
-    Memory,
+    /// The line isn't understood.
+    Line(LineError),
     /// A text names no application, or is no path.
-    #[error("{0}")]
     Name(NameError),
     /// A text names no right.
-    #[error("{0}")]
     Permission(UnknownPermission),
     /// A document isn't added.
-    #[error("{0}")]
     Document(DocError),
 }
 
@@ -31,23 +24,29 @@ impl VectorError {
     /// What is printed of it: the error as the call gave it.
     pub fn told(self, alloc: Global) -> Result<String, AllocError> {
         match self {
+            VectorError::Line(error) => format!(in alloc; "{error:?}"),
             VectorError::Name(error) => format!(in alloc; "{error:?}"),
             VectorError::Permission(error) => format!(in alloc; "{error:?}"),
             VectorError::Document(error) => format!(in alloc; "{error:?}"),
-            error => format!(in alloc; "{error:?}"),
         }
+    }
+}
+
+impl From<LineError> for VectorError {
+    fn from(error: LineError) -> VectorError {
+        VectorError::Line(error)
     }
 }
 
 impl From<AllocError> for VectorError {
     fn from(_error: AllocError) -> VectorError {
-        VectorError::Memory
+        VectorError::Line(LineError::Memory)
     }
 }
 
 impl From<WantOfMemory> for VectorError {
     fn from(_error: WantOfMemory) -> VectorError {
-        VectorError::Memory
+        VectorError::Line(LineError::Memory)
     }
 }
 

@@ -1,10 +1,12 @@
 //! Rights that are added, taken away and forgotten.
 
 use crate::error::VectorError;
-use crate::notation::{cut, document_id, rights, shown_rights};
+use crate::notation::{document_id, rights, shown_rights};
 use document_records::Grants;
 use portal_base::names::AppId;
 use std::alloc::Global;
+use vector_lines::error::LineError;
+use vector_lines::notation::cut;
 
 /// `grants STEP, STEP ..`: what each step that looks answers, over no rights at
 /// first.
@@ -41,7 +43,7 @@ fn answer(
             let held = shown_rights(alloc, grants.rights(&app, id))?;
             return Ok(format!(in alloc; "[{held} ]")?);
         }
-        _ => return Err(VectorError::BadLine),
+        _ => return Err(VectorError::Line(LineError::BadLine)),
     }
     Ok(String::new(alloc))
 }

@@ -13,17 +13,19 @@ mod grants;
 mod notation;
 
 use crate::error::VectorError;
-use crate::notation::{cut, rights, shown_rights};
+use crate::notation::{rights, shown_rights};
 use std::alloc::Global;
 use std::io;
 use std::io::{BufRead, BufReader};
+use vector_lines::error::LineError;
+use vector_lines::notation::{cut, is_comment};
 
 fn main(rt: HostRuntime) -> io::Result<()> {
     let input = BufReader::new(rt.alloc(), rt.reader())?;
     for line in input.lines(rt.alloc()) {
         let line = line?;
         let text = line.as_str();
-        if text.is_empty() || text.starts_with('#') {
+        if is_comment(text) {
             println!(rt; "{text}")?;
         } else {
             let answer = told(rt.alloc(), text)?;
@@ -49,7 +51,7 @@ fn answer(alloc: Global, line: &str) -> Result<String, VectorError> {
         "documents" => documents::documents(alloc, rest),
         "grants" => grants::grants(alloc, rest),
         "applications" => applications::applications(alloc, rest),
-        _ => Err(VectorError::BadLine),
+        _ => Err(VectorError::Line(LineError::BadLine)),
     }
 }
 

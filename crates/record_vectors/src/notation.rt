@@ -1,4 +1,4 @@
-//! How lines write words, numbers and names of rights.
+//! How lines write identifiers and names of rights.
 
 use crate::error::VectorError;
 use portal_base::list::List;
@@ -6,20 +6,11 @@ use portal_base::names::DocId;
 use portal_base::text::Text;
 use rights_rule::{Rights, read_names};
 use std::alloc::Global;
-
-/// The first word, and what stands behind the space after it.
-pub fn cut(line: &str) -> (&str, &str) {
-    line.split_once(' ').unwrap_or((line, ""))
-}
-
-/// A number of 32 bits in decimal digits.
-pub fn number(word: &str) -> Result<u32, VectorError> {
-    word.parse::<u32>().map_err(|_| VectorError::BadLine)
-}
+use vector_lines::error::LineError;
 
 /// A document's identifier.
 pub fn document_id(word: &str) -> Result<DocId, VectorError> {
-    DocId::read(word.as_bytes()).ok_or(VectorError::BadLine)
+    DocId::read(word.as_bytes()).ok_or(VectorError::Line(LineError::BadLine))
 }
 
 /// The rights that words name.
