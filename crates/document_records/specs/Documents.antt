@@ -16,6 +16,10 @@ pub record DocumentList : Type 0 where
   -- the numbers of all documents that were ever made, in the order in which they were
   pub made : List DocId
 
+-- none, under these limits
+abbrev pub no_documents : ℕ → ℕ → DocumentList
+no_documents most_live most_made = record { most_live = most_live; most_made = most_made; live = []; made = [] }
+
 -- how many more may be added
 abbrev pub room : DocumentList → ℕ
 room s = min (s.most_live - length s.live) (s.most_made - length s.made)

@@ -35,8 +35,11 @@ minus a b = record {
   delete = a.delete && not b.delete;
 }
 
+abbrev pub holds_any : RightSet → Bool
+holds_any a = a.read || (a.write || (a.grant_permissions || a.delete))
+
 abbrev pub is_no_right : RightSet → Bool
-is_no_right a = not (a.read || (a.write || (a.grant_permissions || a.delete)))
+is_no_right a = not (holds_any a)
 
 -- each right of the second set is in the first
 abbrev pub contains : RightSet → RightSet → Bool
