@@ -95,7 +95,7 @@ WholeInputsEnd = (c : Client) (r : Served) (a b : Spring) (v w : World) (stream 
     → StandsStill a.faults b.faults → StandsStill v.faults w.faults → StandsStill v.seated.refusals w.seated.refusals → (r ≡ served.Ended) ⊎ (r ≡ served.Memory)
 
 -- What an ending says of the whole stream, whose bytes may not all be read: of how it is cut, and of what is asked and
--- answered. Where a read, a write or memory failed, or there are too many bytes, items of a front are asked.
+-- answered. Where a read, a write or memory failed, or there are too many bytes, it says nothing; EndsAs does.
 abbrev pub OfStream : Client → Served → List ℕ → World → World → Type 0
 OfStream c served.Ended stream v w = Whole c stream [] rest.More v w
 OfStream c (served.Cut n) stream v w = (left : List ℕ) × (length left ≡ n) × Whole c stream left rest.More v w

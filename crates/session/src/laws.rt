@@ -28,16 +28,17 @@ pub fn ends_stay()
 {}
 
 /// Bytes that come in pieces are cut in some way, each piece behind the rest of
-/// those before, and what is cut so are the items of all pieces together, and no others, also where the last of them
-/// aren't looked at. However one stream comes in pieces, its items are the
-/// same, they ask the same, and the same stands behind them.
+/// those before. What is cut so are the items of all pieces together, and no
+/// others, also where the last pieces aren't looked at. However one stream comes
+/// in pieces, its items are the same, they ask the same, and the same stands
+/// behind them.
 pub fn pieces_cut_alike()
     ensures { AreCutAlike }
 {}
 
 /// Where the input ended, an item breaks a rule, a line is too long or a
-/// request isn't built, the connection ends as its whole stream says, of which
-/// no more bytes may be read than up to there.
+/// request isn't built, the connection ends as its whole stream says, also where
+/// not all its bytes were read.
 pub fn endings_are_the_streams()
     ensures { EndingsAreTheStreams }
 {}

@@ -53,7 +53,8 @@ impl<R: Read> Source for StdSource<R> {
 
 /// A sink over a writer, which contracts see as its count of faults.
 ///
-/// Each piece is written whole and flushed; each error is a fault.
+/// Each piece is written whole and flushed. A write that is interrupted is called
+/// again; each other error is a fault.
 #[derive(Drop)]
 pub struct StdSink<W> {
     writer: W,
