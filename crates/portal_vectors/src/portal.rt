@@ -19,20 +19,41 @@ use vector_lines::notation::{self, cut, number, small_number};
 /// of the seat.
 pub fn portal(alloc: Global, rest: &str) -> Result<String, VectorError> {
     let (limit, rest) = cut(rest);
-    let mut parts = rest.split(" | ");
-    let script = notation::text(alloc, parts.next().unwrap_or(""))?;
+    let mut portal = opened_in(alloc, rest, number(limit)?)?;
+    answered(alloc, &mut portal, rest)
+}
+
+/// What each request behind the script is answered, and the history then.
+fn answered(alloc: Global, portal: &mut Portal, rest: &str) -> Result<String, VectorError> {
+    let replies = asked_in_turn(alloc, portal, rest)?;
+    let history = told(alloc, portal)?;
+    Ok(format!(in alloc; "{replies}{history}")?)
+}
+
+/// A portal that the script ahead of the requests opens.
+fn opened_in(alloc: Global, rest: &str, limit: u64) -> Result<Portal, VectorError> {
+    let script = notation::text(alloc, rest.split(" | ").next().unwrap_or(""))?;
     if script.len() > LONGEST {
         return Err(VectorError::Line(LineError::BadLine));
     }
-    let mut portal = opened_by(alloc, script.as_slice(), number(limit)?)?;
-    let mut out = String::new(alloc);
-    for part in parts {
-        out.push_str(asked(alloc, &mut portal, part)?.as_str())?;
-        out.push_str(" | ")?;
-    }
+    opened_by(alloc, script.as_slice(), limit)
+}
+
+/// How many entries the history has, and their cost.
+fn told(alloc: Global, portal: &Portal) -> Result<String, VectorError> {
     let entries = portal.history().len();
     let cost = portal.history().cost();
-    out.push_str(format!(in alloc; "{entries} entries of {cost}")?.as_str())?;
+    Ok(format!(in alloc; "{entries} entries of {cost}")?)
+}
+
+/// What each request behind the script is answered.
+fn asked_in_turn(alloc: Global, portal: &mut Portal, rest: &str) -> Result<String, VectorError> {
+    let mut out = String::new(alloc);
+    for part in rest.split(" | ").skip(1) {
+        let reply = asked(alloc, portal, part)?;
+        out.push_str(reply.as_str())?;
+        out.push_str(" | ")?;
+    }
     Ok(out)
 }
 
