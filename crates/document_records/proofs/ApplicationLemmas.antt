@@ -1,11 +1,11 @@
 -- The numbers of applications.
-use Rattle.std.proofs.Common.{Option, ◌≡◌, ◌⊎◌, ℕ, ◌+◌, ◌<◌, ◌≤◌, nat_lt, List, [], ◌∷◌, ◌++◌, length, Bool, true, false, cond, Some, None, inl, inr, refl, sym, ap, ◌∙◌, arith, length-append}
-use Rattle.std.specs.List.{position_or_len}
-use Rattle.std.specs.Option.{option_map}
+use Rattle.std.proofs.Common.{Option, ◌≡◌, ◌⊎◌, ℕ, ◌+◌, ◌<◌, ◌≤◌, nat_lt, List, [], ◌∷◌, ◌++◌, length, Bool, true, false, cond, Some, None, inl, inr, refl, sym, ap, ◌∙◌, arith, length-append, subst}
+use Rattle.std.specs.List.{position_or_len, IsDistinct, AllByRecursion}
+use Rattle.std.specs.Option.{option_map, MatchOption}
 use Rattle.std.proofs.lemmas.Bool.Decides.{nat_tests}
 use Rattle.portal_base.specs.Names.{is_same}
 use Rattle.portal_model.specs.Valid.{is_numbered, applications_limit}
-use Rattle.document_records.specs.Applications.{number_of, numbered}
+use Rattle.document_records.specs.Applications.{number_of, numbered, AreNumbered}
 use Rattle.document_records.proofs.TripleOrder.{is_same-refl, is_same-sym}
 
 -- how many names stand ahead of the application's
@@ -63,3 +63,40 @@ number-seen items names apps app r o e f g h = ap (λ (l : List (List ℕ)). num
 -- what was put behind the names
 pub added-seen : (new names apps : List (List ℕ)) (name app : List ℕ) → new ≡ names ++ name ∷ [] → names ≡ apps → name ≡ app → new ≡ apps ++ app ∷ []
 added-seen new names apps name app e f g = e ∙ (λ i. f i ++ g i ∷ [])
+
+-- ---- the names differ
+
+pub numbered-none : AreNumbered []
+unfolding IsDistinct
+numbered-none = record { few = omega arith; differ = tt }
+
+others-more : (x y : List ℕ) (xs : List (List ℕ)) → AllByRecursion (λ name. is_same x name ≡ false) xs → is_same x y ≡ false → AllByRecursion (λ name. is_same x name ≡ false) (xs ++ y ∷ [])
+others-more x y [] h e = (e, tt)
+others-more x y (z ∷ zs) h e = (h.0, others-more x y zs h.1 e)
+
+pub differ-more : (apps : List (List ℕ)) (app : List ℕ) → is_numbered apps app ≡ false → IsDistinct is_same apps → IsDistinct is_same (apps ++ app ∷ [])
+unfolding IsDistinct
+differ-more [] app e h = (tt, tt)
+differ-more (x ∷ xs) app e h =
+    let a : is_same x app ≡ false = grind (arith, is_same-sym app x) in
+    let b : is_numbered xs app ≡ false = grind arith in
+    (others-more x app xs h.0 a, differ-more xs app b h.1)
+
+others-front : (x y : List ℕ) (xs : List (List ℕ)) → AllByRecursion (λ name. is_same x name ≡ false) (xs ++ y ∷ []) → AllByRecursion (λ name. is_same x name ≡ false) xs
+others-front x y [] h = tt
+others-front x y (z ∷ zs) h = (h.0, others-front x y zs h.1)
+
+differ-front : (xs : List (List ℕ)) (y : List ℕ) → IsDistinct is_same (xs ++ y ∷ []) → IsDistinct is_same xs
+unfolding IsDistinct
+differ-front [] y h = tt
+differ-front (x ∷ xs) y h = (others-front x y xs h.0, differ-front xs y h.1)
+
+fewer : (xs : List (List ℕ)) (y : List ℕ) → length (xs ++ y ∷ []) ≤ applications_limit → length xs ≤ applications_limit
+fewer xs y h = let long : length (xs ++ y ∷ []) ≡ length xs + 1 = length-append xs (y ∷ []) in omega arith
+
+-- the last one goes
+pub numbered-front : (r : Option (List ℕ)) (old new : List (List ℕ)) → MatchOption r ((old ≡ []) × (new ≡ [])) (λ l. old ≡ new ++ l ∷ []) → AreNumbered old → AreNumbered new
+numbered-front None old new m k = subst AreNumbered (sym m.1) numbered-none
+numbered-front (Some l) old new m k =
+    let was : AreNumbered (new ++ l ∷ []) = subst AreNumbered m k in
+    record { few = fewer new l was.few; differ = differ-front new l was.differ }

@@ -13,8 +13,8 @@ use Rattle.std.proofs.lemmas.Map.Keys.{IsDistinct-push}
 use Rattle.portal_base.specs.declared.names.doc_id.DocId.{DocId}
 use Rattle.portal_model.specs.declared.state.Document.{Document}
 use Rattle.portal_model.specs.Valid.{is_made}
-use Rattle.document_records.specs.DocumentIndex.{IsIndexed, live_numbers, made_numbers}
-use Rattle.document_records.specs.Documents.{has_number, front}
+use Rattle.document_records.specs.DocumentIndex.{IsIndexed, AreKept, live_numbers, made_numbers}
+use Rattle.document_records.specs.Documents.{DocumentList, has_number, front}
 use Rattle.document_records.proofs.TripleOrder.{nat_is, nat-itself}
 
 pub is_at-nat : (a b : ℕ) → is_at (nat_cmp a) b ≡ (a == b)
@@ -50,17 +50,18 @@ ids-more : (ids : List DocId) (id : DocId) → made_numbers (ids ++ id ∷ []) �
 ids-more [] id = refl
 ids-more (x ∷ xs) id = ap (λ (ns : List ℕ). x.number ∷ ns) (ids-more xs id)
 
-module _ (most : ℕ) (live : List Document) (made : List DocId) (numbers : BTreeSet ℕ) (old : IsIndexed most live made numbers) where
+module _ (few most : ℕ) (live : List Document) (made : List DocId) (numbers : BTreeSet ℕ) (old : IsIndexed few most live made numbers) where
   -- one more document, whose number was not made
-  pub indexed-more : (d : Document) (more : BTreeSet ℕ) → is_made made d.id.number ≡ false → length made < most →
-      ((q : ℕ) → contains nat_cmp more q ≡ cond (is_at (nat_cmp d.id.number) q) true (contains nat_cmp numbers q)) → IsIndexed most (live ++ d ∷ []) (made ++ d.id ∷ []) more
-  indexed-more d more h room u = record {
+  pub indexed-more : (d : Document) (more : BTreeSet ℕ) → is_made made d.id.number ≡ false → length live < few → length made < most →
+      ((q : ℕ) → contains nat_cmp more q ≡ cond (is_at (nat_cmp d.id.number) q) true (contains nat_cmp numbers q)) → IsIndexed few most (live ++ d ∷ []) (made ++ d.id ∷ []) more
+  indexed-more d more h fits room u = record {
     live_differ = subst (IsDistinct nat_eq) (sym (numbers-more live d)) (IsDistinct-push nat_eq_equiv (live_numbers live) d.id.number old.live_differ (not-live d.id.number made live old.live_made h));
     live_made = list_all-append (λ x. is_made (made ++ d.id ∷ []) x.id.number) live (d ∷ [])
         ∙ (ap (λ (b : Bool). b && (is_made (made ++ d.id ∷ []) d.id.number && true)) (all-made-more made d.id live old.live_made)
         ∙ (ap (λ (b : Bool). b && true) (made-more made d.id d.id.number ∙ (ap (λ (b : Bool). is_made made d.id.number || b) (nat-itself d.id.number) ∙ or-true (is_made made d.id.number)))));
     made_differ = subst (IsDistinct nat_eq) (sym (ids-more made d.id)) (IsDistinct-push nat_eq_equiv (made_numbers made) d.id.number old.made_differ (not-among d.id.number made h));
     same = λ q. u q ∙ (cond-or (is_at (nat_cmp d.id.number) q) (contains nat_cmp numbers q) (d.id.number == q) (is_made made q) (is_at-nat d.id.number q) (old.same q) ∙ sym (made-more made d.id q));
+    live_within = let e : length (live ++ d ∷ []) ≡ length live + 1 = length-append live (d ∷ []) in omega arith;
     within = let e : length (made ++ d.id ∷ []) ≡ length made + 1 = length-append made (d.id ∷ []) in omega arith;
     limit = old.limit;
   }
@@ -75,11 +76,12 @@ module _ (most : ℕ) (live : List Document) (made : List DocId) (numbers : BTre
   -- a number that was put in is taken out again
   pub indexed-again : (n : ℕ) (more less : BTreeSet ℕ) → is_made made n ≡ false →
       ((q : ℕ) → contains nat_cmp more q ≡ cond (is_at (nat_cmp n) q) true (contains nat_cmp numbers q)) →
-      ((q : ℕ) → contains nat_cmp less q ≡ cond (is_at (nat_cmp n) q) false (contains nat_cmp more q)) → IsIndexed most live made less
+      ((q : ℕ) → contains nat_cmp less q ≡ cond (is_at (nat_cmp n) q) false (contains nat_cmp more q)) → IsIndexed few most live made less
   indexed-again n more less h u v = record {
     live_differ = old.live_differ;
     live_made = old.live_made;
     made_differ = old.made_differ;
+    live_within = old.live_within;
     same = λ q. v q ∙ back q (is_at (nat_cmp n) q) refl;
     within = old.within;
     limit = old.limit;
@@ -130,11 +132,16 @@ all-filter : (q p : Document → Bool) (ds : List Document) → list_all q ds �
 all-filter q p [] h = refl
 all-filter q p (d ∷ ds) h = grind (arith, all-filter q p ds)
 
-pub indexed-fewer : (most : ℕ) (live : List Document) (made : List DocId) (numbers : BTreeSet ℕ) (p : Document → Bool) → IsIndexed most live made numbers → IsIndexed most (filter p live) made numbers
-indexed-fewer most live made numbers p old = record {
+filter-shorter : (p : Document → Bool) (ds : List Document) → length (filter p ds) ≤ length ds
+filter-shorter p [] = omega arith
+filter-shorter p (d ∷ ds) = grind (arith, filter-shorter p ds)
+
+pub indexed-fewer : (few most : ℕ) (live : List Document) (made : List DocId) (numbers : BTreeSet ℕ) (p : Document → Bool) → IsIndexed few most live made numbers → IsIndexed few most (filter p live) made numbers
+indexed-fewer few most live made numbers p old = record {
   live_differ = differ-filter p live old.live_differ;
   live_made = all-filter (λ d. is_made made d.id.number) p live old.live_made;
   made_differ = old.made_differ;
+  live_within = let shorter : length (filter p live) ≤ length live = filter-shorter p live in let w : length live ≤ few = old.live_within in omega arith;
   same = old.same;
   within = old.within;
   limit = old.limit;
@@ -214,9 +221,9 @@ front-all : (p : Document → Bool) (ds : List Document) (d : Document) → list
 front-all p [] d h = refl
 front-all p (x ∷ xs) d h = grind (arith, front-all p xs d)
 
-pub indexed-back : (most : ℕ) (live : List Document) (made : List DocId) (numbers less : BTreeSet ℕ) (d : Document) → IsIndexed most (live ++ d ∷ []) (made ++ d.id ∷ []) numbers →
-    ((q : ℕ) → contains nat_cmp less q ≡ cond (is_at (nat_cmp d.id.number) q) false (contains nat_cmp numbers q)) → IsIndexed most live made less
-indexed-back most live made numbers less d old u =
+pub indexed-back : (few most : ℕ) (live : List Document) (made : List DocId) (numbers less : BTreeSet ℕ) (d : Document) → IsIndexed few most (live ++ d ∷ []) (made ++ d.id ∷ []) numbers →
+    ((q : ℕ) → contains nat_cmp less q ≡ cond (is_at (nat_cmp d.id.number) q) false (contains nat_cmp numbers q)) → IsIndexed few most live made less
+indexed-back few most live made numbers less d old u =
     let live_last : IsDistinct nat_eq (live_numbers live ++ d.id.number ∷ []) = subst (IsDistinct nat_eq) (numbers-more live d) old.live_differ in
     let made_last : IsDistinct nat_eq (made_numbers made ++ d.id.number ∷ []) = subst (IsDistinct nat_eq) (ids-more made d.id) old.made_differ in
     let not_made : is_made made d.id.number ≡ false = not-made d.id.number made (differ-last (made_numbers made) d.id.number made_last) in
@@ -224,6 +231,7 @@ indexed-back most live made numbers less d old u =
       live_differ = differ-front (live_numbers live) d.id.number live_last;
       live_made = still-made made d.id live (front-all (λ x. is_made (made ++ d.id ∷ []) x.id.number) live d old.live_made) (differ-last (live_numbers live) d.id.number live_last);
       made_differ = differ-front (made_numbers made) d.id.number made_last;
+      live_within = let e : length (live ++ d ∷ []) ≡ length live + 1 = length-append live (d ∷ []) in let w : length (live ++ d ∷ []) ≤ few = old.live_within in omega arith;
       same = λ q. u q ∙ back q (is_at (nat_cmp d.id.number) q) refl not_made;
       within = let e : length (made ++ d.id ∷ []) ≡ length made + 1 = length-append made (d.id ∷ []) in let w : length (made ++ d.id ∷ []) ≤ most = old.within in omega arith;
       limit = old.limit;
@@ -233,12 +241,13 @@ indexed-back most live made numbers less d old u =
     back q true e h = sym (sym (made-at made d.id.number q (sym (is_at-nat d.id.number q) ∙ e)) ∙ h)
     back q false e h = old.same q ∙ (made-more made d.id q ∙ (ap (λ (b : Bool). is_made made q || b) (sym (is_at-nat d.id.number q) ∙ e) ∙ or-false (is_made made q)))
 
-pub indexed-none : (most : ℕ) (numbers : BTreeSet ℕ) → numbers.keys ≡ [] → most < 2 ^ 32 → IsIndexed most [] [] numbers
+pub indexed-none : (few most : ℕ) (numbers : BTreeSet ℕ) → numbers.keys ≡ [] → most < 2 ^ 32 → IsIndexed few most [] [] numbers
 unfolding IsDistinct
-indexed-none most numbers e h = record {
+indexed-none few most numbers e h = record {
   live_differ = tt;
   live_made = refl;
   made_differ = tt;
+  live_within = omega arith;
   same = λ q. ap (list_any (is_at (nat_cmp q))) e;
   within = omega arith;
   limit = h;
@@ -252,3 +261,11 @@ on-ok (Err x) P h e = cc
 
 pub has-room : (a b n most : ℕ) → n ≡ min a (most - b) → (n ≡ 0 → ⊥) → b < most
 has-room a b n most e h = omega (arith, h)
+
+pub has-live-room : (a b n few : ℕ) → n ≡ min (few - a) b → (n ≡ 0 → ⊥) → a < few
+has-live-room a b n few e h = omega (arith, h)
+
+-- ---- what callers see of it
+
+pub kept-seen : (s : DocumentList) (numbers : BTreeSet ℕ) → IsIndexed s.most_live s.most_made s.live s.made numbers → AreKept s
+kept-seen s numbers k = record { live_differ = k.live_differ; live_made = k.live_made; made_differ = k.made_differ; live_within = k.live_within; made_within = k.within }

@@ -15,7 +15,7 @@ use Rattle.portal_model.specs.State.{app_has}
 use Rattle.portal_model.specs.Valid.{same_triple}
 use Rattle.portal_model.specs.View.{held_of}
 use Rattle.document_records.specs.declared.grants.Grant.{Grant}
-use Rattle.document_records.specs.Grants.{triples_of_grant, triples_of_grants, is_of, is_before, grant_less, are_grants_in_order, given, taken, has_a_right, is_elsewhere}
+use Rattle.document_records.specs.Grants.{triples_of_grant, triples_of_grants, is_of, is_before, grant_less, are_grants_in_order, given, taken, has_a_right, is_elsewhere, AreKept}
 use Rattle.document_records.specs.Ordered.{put, bytes_less, is_rising}
 use Rattle.document_records.specs.Rights.{triple_less, triple, triples_of, is_in, add_rights, is_listed, take_rights, forget_document}
 use Rattle.document_records.proofs.Rising.{rising-put, rising-put_all, rising-filter, rising-map, rising-append, any-put_all, same_items}
@@ -308,6 +308,12 @@ rising-taken app number set gs s = rising-map key_less same_key key_of keys (tak
 none-of : (app : List ℕ) (id : DocId) (set : RightSet) → is_no_right set ≡ true → triples_of app id set ≡ []
 none-of app id set h = grind arith
 
+-- where no right is added, all stays as it was
+pub unchanged-is : (app : List ℕ) (id : DocId) (set : RightSet) (gs : List Grant) → are_grants_in_order gs ≡ true → is_no_right set ≡ true →
+    triples_of_grants gs ≡ add_rights app id set (triples_of_grants gs)
+unchanged-is app id set gs s h =
+    added-is app id set gs gs s (λ p. sym (ap (λ (ts : List Triple). list_any p ts || passes p gs) (none-of app id set h)))
+
 -- a grant without a right stands for nothing
 pub held-ones-are : (gs : List Grant) → triples_of_grants (filter has_a_right gs) ≡ triples_of_grants gs
 held-ones-are [] = refl
@@ -320,6 +326,46 @@ held-ones-are (g ∷ gs) = step (is_no_right g.rights) refl (held-ones-are gs)
 
 pub rising-some : (p : Grant → Bool) (gs : List Grant) → are_grants_in_order gs ≡ true → are_grants_in_order (filter p gs) ≡ true
 rising-some p gs s = rising-filter key_less same_key key_of keys p gs s
+
+-- ---- every grant has a right
+
+given-held : (app : List ℕ) (number : ℕ) (set : RightSet) (g : Grant) → has_a_right g ≡ true → has_a_right (given app number set g) ≡ true
+given-held app number set g h = at (is_of app number g)
+  where
+    at : (b : Bool) → has_a_right (cond b (record g { rights = union g.rights set }) g) ≡ true
+    at true = grind arith
+    at false = h
+
+all-given : (app : List ℕ) (number : ℕ) (set : RightSet) (gs : List Grant) → list_all has_a_right gs ≡ true → list_all has_a_right (map (given app number set) gs) ≡ true
+all-given app number set [] h = refl
+all-given app number set (g ∷ gs) h = grind (arith, given-held app number set g, all-given app number set gs)
+
+all-put : (p : Grant → Bool) (g : Grant) (gs : List Grant) → p g ≡ true → list_all p gs ≡ true → list_all p (put grant_less g gs) ≡ true
+all-put p g [] h l = grind arith
+all-put p g (x ∷ xs) h l = grind (arith, all-put p g xs)
+
+all-some : (q p : Grant → Bool) (gs : List Grant) → list_all q gs ≡ true → list_all q (filter p gs) ≡ true
+all-some q p [] h = refl
+all-some q p (g ∷ gs) h = grind (arith, all-some q p gs)
+
+all-left : (p : Grant → Bool) (gs : List Grant) → list_all p (filter p gs) ≡ true
+all-left p [] = refl
+all-left p (g ∷ gs) = grind (arith, all-left p gs)
+
+pub kept-given : (app : List ℕ) (number : ℕ) (set : RightSet) (gs : List Grant) → AreKept gs → AreKept (map (given app number set) gs)
+kept-given app number set gs k = record { order = rising-given app number set gs k.order; held = all-given app number set gs k.held }
+
+pub kept-new : (g : Grant) (gs : List Grant) → has_a_right g ≡ true → AreKept gs → AreKept (put grant_less g gs)
+kept-new g gs h k = record { order = rising-new g gs k.order; held = all-put has_a_right g gs h k.held }
+
+pub kept-taken : (app : List ℕ) (number : ℕ) (set : RightSet) (gs : List Grant) → AreKept gs → AreKept (filter has_a_right (map (taken app number set) gs))
+kept-taken app number set gs k = record {
+  order = rising-some has_a_right (map (taken app number set) gs) (rising-taken app number set gs k.order);
+  held = all-left has_a_right (map (taken app number set) gs);
+}
+
+pub kept-some : (p : Grant → Bool) (gs : List Grant) → AreKept gs → AreKept (filter p gs)
+kept-some p gs k = record { order = rising-some p gs k.order; held = all-some has_a_right p gs k.held }
 
 -- ---- a document forgotten
 

@@ -1,8 +1,13 @@
 -- The numbered applications: application k is the k-th name, from 1.
-use Rattle.std.specs.Prelude.{◌≡◌, ◌⊎◌, ◌<◌, length, true, ℕ, ◌+◌, List, [], ◌∷◌, ◌++◌, Option, None, cond, option_map, slice_get, zero, suc}
-use Rattle.std.specs.List.{position}
+use Rattle.std.specs.Prelude.{◌≡◌, ◌⊎◌, ◌<◌, ◌≤◌, length, true, ℕ, ◌+◌, List, [], ◌∷◌, ◌++◌, Option, None, cond, option_map, slice_get, zero, suc}
+use Rattle.std.specs.List.{position, IsDistinct}
 use Rattle.portal_base.specs.Names.{is_same}
 use Rattle.portal_model.specs.Valid.{is_numbered, applications_limit}
+
+-- there are few enough, and they differ
+pub record AreNumbered (applications : List (List ℕ)) : Type 0 where
+  pub few : length applications ≤ applications_limit
+  pub differ : IsDistinct is_same applications
 
 -- the number of an application that has one
 abbrev pub number_of : List (List ℕ) → List ℕ → Option ℕ

@@ -1,6 +1,6 @@
 -- Rights kept together: one item for each application and document.
-use Rattle.std.specs.Prelude.{ℕ, ◌==◌, nat_lt, List, Bool, not, ◌&&◌, cond}
-use Rattle.std.specs.List.{flat_map}
+use Rattle.std.specs.Prelude.{◌≡◌, ℕ, ◌==◌, nat_lt, List, Bool, true, not, ◌&&◌, cond}
+use Rattle.std.specs.List.{flat_map, list_all}
 use Rattle.portal_base.specs.Names.{is_same}
 use Rattle.rights_rule.specs.Rights.{RightSet, union, minus, is_no_right}
 use Rattle.portal_model.specs.declared.state.Triple.{Triple}
@@ -35,6 +35,11 @@ taken app number set g = cond (is_of app number g) (record g { rights = minus g.
 
 abbrev pub has_a_right : Grant → Bool
 has_a_right g = not (is_no_right g.rights)
+
+-- the items are in order, and none is without a right
+pub record AreKept (grants : List Grant) : Type 0 where
+  pub order : are_grants_in_order grants ≡ true
+  pub held : list_all has_a_right grants ≡ true
 
 abbrev pub is_elsewhere : ℕ → Grant → Bool
 is_elsewhere number g = not (g.id.number == number)

@@ -3,7 +3,7 @@
 ghost use Rattle.std.specs.Prelude.{◌≡◌, ◌<◌, ◌≤◌, [], Some, length, IfOk, OnOk, OnErr, option_copied};
 ghost use Rattle.std.specs.List.{position};
 ghost use Rattle.portal_base.specs.Names.{is_same};
-ghost use Rattle.document_records.specs.Applications.{number_of, numbered, name_of_number, HasNumberLeft};
+ghost use Rattle.document_records.specs.Applications.{number_of, numbered, name_of_number, HasNumberLeft, AreNumbered};
 ghost use Rattle.document_records.specs.Documents.{front};
 
 use portal_base::list::List;
@@ -20,13 +20,14 @@ pub struct Applications {
 }
 
 impl Model for Applications {
-    ghost use Rattle.std.specs.Prelude.{List, ℕ, ◌≤◌, length};
+    ghost use Rattle.std.specs.Prelude.{List, ℕ};
+    ghost use Rattle.document_records.specs.Applications.{AreNumbered};
 
     ghost Value = { List (List ℕ) };
 
     ghost view = { λ a. a.names };
 
-    ghost invariant = { λ a. length a.names ≤ 16777216 };
+    ghost invariant = { λ a. AreNumbered a.names };
 }
 
 impl Applications {
@@ -72,9 +73,10 @@ impl Applications {
         self.names.get(number as usize - 1)
     }
 
-    /// How many applications have a number.
+    /// How many applications have a number: at most 16777216, which differ.
     pub fn len(&self) -> u32
-        ensures { result ≡ length self.now }
+        ensures count { result ≡ length self.now }
+        ensures known { AreNumbered self.now }
     {
         self.names.len() as u32
     }

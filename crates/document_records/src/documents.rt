@@ -6,6 +6,7 @@ ghost use Rattle.portal_model.specs.State.{document_of};
 ghost use Rattle.portal_model.specs.Valid.{is_made};
 ghost use Rattle.document_records.specs.Documents.{no_documents, room, with_document, without_document, without_last, IsLast, reusable_of, first_of, IsUnused, id_of_document, has_number};
 ghost use Rattle.document_records.specs.DocumentErrors.{RefusesDocument};
+ghost use Rattle.document_records.specs.DocumentIndex.{AreKept};
 
 use portal_base::limits::Limits;
 use portal_base::list::List;
@@ -54,7 +55,7 @@ impl Model for Documents {
 
     ghost view = { λ a. record { most_live = a.most_live; most_made = a.most_made; live = a.live; made = a.made } };
 
-    ghost invariant = { λ a. IsIndexed a.most_made a.live a.made a.numbers };
+    ghost invariant = { λ a. IsIndexed a.most_live a.most_made a.live a.made a.numbers };
 }
 
 impl Documents {
@@ -74,9 +75,11 @@ impl Documents {
         }
     }
 
-    /// How many more documents may be added.
+    /// How many more documents may be added. No limit is passed; the numbers
+    /// that were made differ, and those of live documents are among them.
     pub fn room(&self) -> u64
-        ensures { result ≡ room self.now }
+        ensures room { result ≡ room self.now }
+        ensures kept { AreKept self.now }
     {
         room(self.most_live, self.most_made, &self.live, &self.made)
     }

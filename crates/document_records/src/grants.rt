@@ -1,10 +1,11 @@
 //! Which application has which right in which document.
 
-ghost use Rattle.std.specs.Prelude.{◌≡◌, [], OnOk, OnErr, map, None, option_copied};
+ghost use Rattle.std.specs.Prelude.{◌≡◌, [], OnOk, OnErr, map, None, true, false, option_copied};
 ghost use Rattle.std.specs.List.{prefix_len, find, filter};
 ghost use Rattle.portal_model.specs.View.{held_of};
 ghost use Rattle.document_records.specs.Ordered.{put};
-ghost use Rattle.document_records.specs.Rights.{add_rights, take_rights, forget_document};
+ghost use Rattle.rights_rule.specs.Rights.{is_no_right};
+ghost use Rattle.document_records.specs.Rights.{add_rights, take_rights, forget_document, are_in_order};
 
 use portal_base::memory::{Replica, WantOfMemory};
 use portal_base::names::{AppId, DocId};
@@ -30,16 +31,16 @@ pub struct Grants {
 }
 
 impl Model for Grants {
-    ghost use Rattle.std.specs.Prelude.{List, ◌≡◌, true};
+    ghost use Rattle.std.specs.Prelude.{List};
     ghost use Rattle.portal_model.specs.declared.state.Triple.{Triple};
 
     ghost Value = { List Triple };
 
-    ghost use Rattle.document_records.specs.Grants.{triples_of_grants, are_grants_in_order};
+    ghost use Rattle.document_records.specs.Grants.{triples_of_grants, AreKept};
 
     ghost view = { λ a. triples_of_grants a.grants.items };
 
-    ghost invariant = { λ a. are_grants_in_order a.grants.items ≡ true };
+    ghost invariant = { λ a. AreKept a.grants.items };
 }
 
 impl Grants {
@@ -53,9 +54,11 @@ impl Grants {
         }
     }
 
-    /// The rights of an application in a document.
+    /// The rights of an application in a document. All rights stand in their
+    /// order, none twice.
     pub fn rights(&self, app: &AppId, id: DocId) -> Rights
-        ensures { result ≡ held_of self.now app.now id.number }
+        ensures held { result ≡ held_of self.now app.now id.number }
+        ensures order { are_in_order self.now ≡ true }
     {
         match find(&self.grants, app, id) {
             Some(grant) => grant.rights,
@@ -63,13 +66,18 @@ impl Grants {
         }
     }
 
-    /// Adds rights of an application in a document.
+    /// Adds rights of an application in a document, which takes no memory where
+    /// there are none to add.
     pub fn add(&mut self, app: &AppId, id: DocId, rights: Rights) -> Result<(), WantOfMemory>
         ensures ok { OnOk result (self.new ≡ add_rights app.now id rights self.old) }
+        ensures some { OnErr result (is_no_right rights ≡ false) }
         ensures err { OnErr result (self.new ≡ self.old) }
     {
         if find(&self.grants, app, id).is_some() {
             give(&mut self.grants, app, id, rights);
+            return Ok(());
+        }
+        if rights.is_empty() {
             return Ok(());
         }
         let grant = Grant {

@@ -14,6 +14,7 @@ mod notation;
 
 use crate::error::VectorError;
 use crate::notation::{rights, shown_rights};
+use rights_rule::Rights;
 use std::alloc::Global;
 use std::io;
 use std::io::{BufRead, BufReader};
@@ -48,6 +49,8 @@ fn answer(alloc: Global, line: &str) -> Result<String, VectorError> {
     let (kind, rest) = cut(line);
     match kind {
         "rights" => rights_named(alloc, rest),
+        "all" => listed(alloc, Rights::all()),
+        "none" => listed(alloc, Rights::empty()),
         "documents" => documents::documents(alloc, rest),
         "grants" => grants::grants(alloc, rest),
         "applications" => applications::applications(alloc, rest),
@@ -57,6 +60,11 @@ fn answer(alloc: Global, line: &str) -> Result<String, VectorError> {
 
 /// `rights NAME ..`: the names of the rights that are named, in their order.
 fn rights_named(alloc: Global, rest: &str) -> Result<String, VectorError> {
-    let named = shown_rights(alloc, rights(alloc, rest)?)?;
-    Ok(format!(in alloc; "[{named} ]")?)
+    listed(alloc, rights(alloc, rest)?)
+}
+
+/// `all`, `none`: the names of every right, and of none.
+fn listed(alloc: Global, rights: Rights) -> Result<String, VectorError> {
+    let names = shown_rights(alloc, rights)?;
+    Ok(format!(in alloc; "[{names} ]")?)
 }

@@ -43,7 +43,7 @@ is_no_right a = not (holds_any a)
 
 -- each right of the second set is in the first
 abbrev pub contains : RightSet → RightSet → Bool
-contains a b = is_no_right (minus b a)
+contains a b = (not b.read || a.read) && ((not b.write || a.write) && ((not b.grant_permissions || a.grant_permissions) && (not b.delete || a.delete)))
 
 -- ---- names
 

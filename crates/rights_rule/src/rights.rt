@@ -1,7 +1,7 @@
 //! A set of rights.
 
 ghost use Rattle.std.specs.Prelude.{◌≡◌};
-ghost use Rattle.rights_rule.specs.Rights.{contains, union, minus, is_no_right};
+ghost use Rattle.rights_rule.specs.Rights.{no_rights, all_rights, contains, union, minus, is_no_right};
 
 use portal_base::memory::{Replica, WantOfMemory};
 use std::alloc::Global;
@@ -66,6 +66,20 @@ impl Rights {
         delete: true,
         ..Rights::NONE
     };
+
+    /// The set of no right.
+    pub fn empty() -> Rights
+        ensures { result ≡ no_rights }
+    {
+        Rights::NONE
+    }
+
+    /// The set of all rights.
+    pub fn all() -> Rights
+        ensures { result ≡ all_rights }
+    {
+        Rights::ALL
+    }
 
     /// Says whether each right of the other set is in this one.
     pub fn contains(self, other: Rights) -> bool

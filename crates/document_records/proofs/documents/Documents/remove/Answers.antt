@@ -31,7 +31,7 @@ invariant_of-self c =
     let some : position (has_number c.args.id.number) c.self.inside.live ≡ Some c.in_ok-at.at =
     ap (λ (ds : List Document). position (has_number c.args.id.number) ds) (sym c.as_slice.ensures) ∙ (sym c.place_of.ensures ∙ c.in_ok-at.was) in
     rw (c.remove.ensures.rest, removed-at c.args.id.number c.self.inside.live c.in_ok-at.at c.self.invariant.live_differ some)
-    (indexed-fewer c.self.inside.most_made c.self.inside.live c.self.inside.made c.self.inside.numbers _ c.self.invariant)
+    (indexed-fewer c.self.inside.most_live c.self.inside.most_made c.self.inside.live c.self.inside.made c.self.inside.numbers _ c.self.invariant)
 
 pub returns-clause-document : goal.returns-clause-document
 returns-clause-document c =

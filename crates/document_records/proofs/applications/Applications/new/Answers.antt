@@ -1,0 +1,5 @@
+use Rattle.document_records.proofs.ApplicationLemmas.{numbered-none}
+use Rattle.document_records.proofs.applications.Applications.new.Goals as goal
+
+pub invariant_of-result : goal.invariant_of-result
+invariant_of-result c = rw c.new.ensures numbered-none
