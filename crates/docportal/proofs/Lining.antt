@@ -266,11 +266,11 @@ module _ (p q : Story) (table : List (Option Standing)) (seat : ℕ) (at : Stand
 
 -- ---- why a line was not run
 
-pub breaks_heard : (p : Story) (table : List (Option Standing)) (seat : ℕ) (at : Standing) (bytes : List ℕ) (told : Option (List (List ℕ))) (faults : ℕ) → Some at ≡ sessions_of table seat → (e : LineError) → HearsNot at bytes e
+pub breaks_heard : (p q : Story) (table : List (Option Standing)) (seat : ℕ) (at now : Standing) (bytes : List ℕ) (told : Option (List (List ℕ))) (faults : ℕ) → Some at ≡ sessions_of table seat → (e : LineError) → HearsNot p q seat at bytes now e
     → Breaks (scene p table) (Data seat bytes) told faults told faults e
-breaks_heard p table seat at bytes told faults here stop.Unbuilt h = (refl, subst (λ (o : Option Standing). DataIsUnbuilt bytes o) here h, refl)
-breaks_heard p table seat at bytes told faults here stop.WriteFault h = absurd h
-breaks_heard p table seat at bytes told faults here stop.Memory h = (refl, inl refl)
+breaks_heard p q table seat at now bytes told faults here stop.Unbuilt h = (refl, subst (λ (o : Option Standing). DataIsUnbuilt bytes o) here h, refl)
+breaks_heard p q table seat at now bytes told faults here stop.WriteFault h = absurd h
+breaks_heard p q table seat at now bytes told faults here stop.Memory h = (refl, inl refl)
 
 risen_later : (a b c : ℕ) → b ≡ a → HasRisen b c → HasRisen a c
 risen_later a b c h k = omega arith
