@@ -141,8 +141,8 @@ module _ (p q : Story) (seat count : ℕ) (at now : Standing) (bytes : List ℕ)
   heard_last goes s f (Err e) h = tt
 
   pub unheard_last : at.fed ≡ fed.More → (s : Served) → at.before + length at.rest + length bytes ≤ longest → Fed_so (fed.Over s) → (r : Result Heard LineError) → IfErr r (λ (e : LineError). (e ≡ stop.Unbuilt) × (is_last s ≡ false))
-      → IfErr r (HearsNot at bytes)
+      → IfErr r (HearsNot p q seat at bytes now)
   unheard_last goes s space f (Ok heard) h = tt
   unheard_last goes s space f (Err e) h =
       let g = open_so (fed.Over s) goes f in
-      subst (HearsNot at bytes) (sym h.0) (over_unheard s (over_met s space g.0) h.1 g)
+      subst (HearsNot p q seat at bytes now) (sym h.0) (over_unheard s (over_met s space g.0) h.1 g)

@@ -36,10 +36,10 @@ use Rattle.docportal.specs.Entries.{entries_for, entry_for}
 use Rattle.docportal.specs.Lines.{CloseDoes, DataDoes, DataIsUnbuilt, Does, Hears}
 use Rattle.docportal.specs.Scenes.{Scene, placed, run_settings, sessions_of}
 use Rattle.docportal.specs.Seats.{Asked, HeardAs, HearsNot, IsEnd}
-use Rattle.docportal.specs.Steps.{Agrees, Breaks, IsIdle, MayRun, Opens, Runs, WritesPart, WritesShort, binding, scene}
+use Rattle.docportal.specs.Steps.{Agrees, AreFirst, Breaks, IsIdle, MayRun, Opens, Runs, WritesPart, WritesShort, binding, scene}
 use Rattle.docportal.specs.Texts.{end_line, out_line}
 use Rattle.docportal.proofs.Costs.{data_long, enter_cost}
-use Rattle.docportal.proofs.Playing.{onto_more, onto_none, short_after, short_more, short_whole}
+use Rattle.docportal.proofs.Playing.{IsFront, first_front, onto_more, onto_none, short_front}
 
 -- ---- scenes
 
@@ -228,13 +228,13 @@ module _ (p q : Story) (table : List (Option Standing)) (seat : ℕ) (at now : S
       }
 
   -- not all is written
-  pub part : (b : Bool) (told told' : Option (List (List ℕ))) (ws : List (List ℕ)) → HeardAs b p q seat at bytes pieces now → Short ws lines → told' ≡ onto told ws → WritesPart (scene p table) (Data seat bytes) told told'
-  part false told told' ws h short wrote = (_, lines, _, ws, more_does h, short, wrote)
-  part true told told' ws h short wrote = (_, lines ++ last, _, ws, end_does h, short_more ws lines last short, wrote)
+  pub part : (IsPart : List (List ℕ) → List (List ℕ) → Type 0) → IsFront IsPart → (b : Bool) (told told' : Option (List (List ℕ))) (ws : List (List ℕ)) → HeardAs b p q seat at bytes pieces now → IsPart ws lines → told' ≡ onto told ws → WritesPart IsPart (scene p table) (Data seat bytes) told told'
+  part IsPart front false told told' ws h short wrote = (_, lines, _, ws, more_does h, short, wrote)
+  part IsPart front true told told' ws h short wrote = (_, lines ++ last, _, ws, end_does h, front.more ws lines last short, wrote)
 
-  pub end_part : (told mid told' : Option (List (List ℕ))) (ws : List (List ℕ)) → HeardAs true p q seat at bytes pieces now → mid ≡ onto told lines → Short ws last → told' ≡ onto mid ws → WritesPart (scene p table) (Data seat bytes) told told'
-  end_part told mid told' ws h wrote short ended =
-      (_, lines ++ last, _, lines ++ ws, end_does h, short_after lines ws last short, ended ∙ (ap (λ (z : Option (List (List ℕ))). onto z ws) wrote ∙ onto_more told lines ws))
+  pub end_part : (IsPart : List (List ℕ) → List (List ℕ) → Type 0) → IsFront IsPart → (told mid told' : Option (List (List ℕ))) (ws : List (List ℕ)) → HeardAs true p q seat at bytes pieces now → mid ≡ onto told lines → IsPart ws last → told' ≡ onto mid ws → WritesPart IsPart (scene p table) (Data seat bytes) told told'
+  end_part IsPart front told mid told' ws h wrote short ended =
+      (_, lines ++ last, _, lines ++ ws, end_does h, front.after lines ws last short, ended ∙ (ap (λ (z : Option (List (List ℕ))). onto z ws) wrote ∙ onto_more told lines ws))
 
 -- ---- a close
 
@@ -261,25 +261,25 @@ module _ (p q : Story) (table : List (Option Standing)) (seat : ℕ) (at : Stand
     output = wrote;
   }
 
-  pub close_part : (told told' : Option (List (List ℕ))) (ws : List (List ℕ)) → Short ws closing → told' ≡ onto told ws → WritesPart (scene p table) (Close seat) told told'
-  close_part told told' ws short wrote = (leaving, closing, moved p table seat leaving None, ws, close_does, short, wrote)
+  pub close_part : (IsPart : List (List ℕ) → List (List ℕ) → Type 0) → IsFront IsPart → (told told' : Option (List (List ℕ))) (ws : List (List ℕ)) → IsPart ws closing → told' ≡ onto told ws → WritesPart IsPart (scene p table) (Close seat) told told'
+  close_part IsPart front told told' ws short wrote = (leaving, closing, moved p table seat leaving None, ws, close_does, short, wrote)
 
 -- ---- why a line was not run
 
-pub breaks_heard : (p : Story) (table : List (Option Standing)) (seat : ℕ) (at : Standing) (bytes : List ℕ) (told : Option (List (List ℕ))) (faults : ℕ) → Some at ≡ sessions_of table seat → (e : LineError) → HearsNot at bytes e
+pub breaks_heard : (p q : Story) (table : List (Option Standing)) (seat : ℕ) (at now : Standing) (bytes : List ℕ) (told : Option (List (List ℕ))) (faults : ℕ) → Some at ≡ sessions_of table seat → (e : LineError) → HearsNot p q seat at bytes now e
     → Breaks (scene p table) (Data seat bytes) told faults told faults e
-breaks_heard p table seat at bytes told faults here stop.Unbuilt h = (refl, subst (λ (o : Option Standing). DataIsUnbuilt bytes o) here h, refl)
-breaks_heard p table seat at bytes told faults here stop.WriteFault h = absurd h
-breaks_heard p table seat at bytes told faults here stop.Memory h = (refl, inl refl)
+breaks_heard p q table seat at now bytes told faults here stop.Unbuilt h = (refl, subst (λ (o : Option Standing). DataIsUnbuilt bytes o) here h, refl)
+breaks_heard p q table seat at now bytes told faults here stop.WriteFault h = absurd h
+breaks_heard p q table seat at now bytes told faults here stop.Memory h = (refl, inl refl)
 
 risen_later : (a b c : ℕ) → b ≡ a → HasRisen b c → HasRisen a c
 risen_later a b c h k = omega arith
 
-pub breaks_written : (a : Scene) (line : ScriptLine) (said : List (List ℕ)) (told mid told' : Option (List (List ℕ))) (faults later faults' : ℕ) → later ≡ faults → ((ws : List (List ℕ)) → Short ws said → told' ≡ onto mid ws → WritesPart a line told told')
+pub breaks_written : (a : Scene) (line : ScriptLine) (said : List (List ℕ)) (told mid told' : Option (List (List ℕ))) (faults later faults' : ℕ) → later ≡ faults → ((IsPart : List (List ℕ) → List (List ℕ) → Type 0) → IsFront IsPart → (ws : List (List ℕ)) → IsPart ws said → told' ≡ onto mid ws → WritesPart IsPart a line told told')
     → (e : LineError) → WritesShort said mid later told' faults' e → Breaks a line told faults told' faults' e
 breaks_written a line said told mid told' faults later faults' le part stop.Unbuilt h = absurd h
-breaks_written a line said told mid told' faults later faults' le part stop.WriteFault h = (risen_later faults later faults' le h.0, part h.1.0 h.1.1 h.1.2)
-breaks_written a line said told mid told' faults later faults' le part stop.Memory h = (h.0 ∙ le, inr (part h.1.0 h.1.1 h.1.2))
+breaks_written a line said told mid told' faults later faults' le part stop.WriteFault h = (risen_later faults later faults' le h.0, part Short short_front h.1.0 h.1.1 h.1.2)
+breaks_written a line said told mid told' faults later faults' le part stop.Memory h = (h.0 ∙ le, inr (part AreFirst first_front h.1.0 h.1.1 h.1.2))
 
 -- ---- lines that are written one after another
 
@@ -295,10 +295,10 @@ module _ (seat : ℕ) (xs : List (List ℕ)) (i : ℕ) where
   abbrev written : List (List ℕ)
   written = map (out_line seat) (take i xs)
 
-  some_written : Short written (map (out_line seat) xs)
+  some_written : AreFirst written (map (out_line seat) xs)
   some_written =
-      subst (λ (z : List (List ℕ)). Short written (map (out_line seat) z)) (take-append-drop i xs)
-      (subst (λ (z : List (List ℕ)). Short written z) (sym (map-append (out_line seat) (take i xs) (drop i xs))) (short_more written written (map (out_line seat) (drop i xs)) (short_whole written)))
+      subst (λ (z : List (List ℕ)). AreFirst written (map (out_line seat) z)) (take-append-drop i xs)
+      (subst (λ (z : List (List ℕ)). AreFirst written z) (sym (map-append (out_line seat) (take i xs) (drop i xs))) (first_front.more written written (map (out_line seat) (drop i xs)) (first_front.all written)))
 
   -- there was no memory for the next line
   pub no_line : (told mid : Option (List (List ℕ))) (faults faults' : ℕ) → faults' ≡ faults → mid ≡ onto told written → WritesShort (map (out_line seat) xs) told faults mid faults' stop.Memory
@@ -313,17 +313,17 @@ module _ (seat : ℕ) (xs : List (List ℕ)) (i : ℕ) where
         t ∙ (ap (λ (z : Option (List (List ℕ))). onto z (line ∷ [])) m ∙ (onto_more told written (line ∷ [])
         ∙ ap (onto told) (ap (λ (z : List ℕ). written ++ z ∷ []) e ∙ sym next_written)))
 
-    short_next : (ws : List (List ℕ)) → Short ws (out_line seat x ∷ []) → Short (written ++ ws) (map (out_line seat) xs)
-    short_next ws h =
+    part_next : (IsPart : List (List ℕ) → List (List ℕ) → Type 0) → IsFront IsPart → (ws : List (List ℕ)) → IsPart ws (out_line seat x ∷ []) → IsPart (written ++ ws) (map (out_line seat) xs)
+    part_next IsPart front ws h =
         let all : map (out_line seat) xs ≡ (written ++ out_line seat x ∷ []) ++ map (out_line seat) (drop (i + 1) xs) =
         ap (map (out_line seat)) (sym (take-append-drop (i + 1) xs)) ∙ (map-append (out_line seat) (take (i + 1) xs) (drop (i + 1) xs) ∙ ap (λ (z : List (List ℕ)). z ++ map (out_line seat) (drop (i + 1) xs)) next_written) in
-        subst (λ (z : List (List ℕ)). Short (written ++ ws) z) (sym all) (short_more (written ++ ws) (written ++ out_line seat x ∷ []) _ (short_after written ws (out_line seat x ∷ []) h))
+        subst (λ (z : List (List ℕ)). IsPart (written ++ ws) z) (sym all) (front.more (written ++ ws) (written ++ out_line seat x ∷ []) _ (front.after written ws (out_line seat x ∷ []) h))
 
-    line_part : (line : List ℕ) (told mid told' : Option (List (List ℕ))) → line ≡ out_line seat x → mid ≡ onto told written → (ws : List (List ℕ)) × Short ws (line ∷ []) × (told' ≡ onto mid ws)
-        → (ws : List (List ℕ)) × Short ws (map (out_line seat) xs) × (told' ≡ onto told ws)
-    line_part line told mid told' e m h = (
+    line_part : (IsPart : List (List ℕ) → List (List ℕ) → Type 0) → IsFront IsPart → (line : List ℕ) (told mid told' : Option (List (List ℕ))) → line ≡ out_line seat x → mid ≡ onto told written → (ws : List (List ℕ)) × IsPart ws (line ∷ []) × (told' ≡ onto mid ws)
+        → (ws : List (List ℕ)) × IsPart ws (map (out_line seat) xs) × (told' ≡ onto told ws)
+    line_part IsPart front line told mid told' e m h = (
       written ++ h.0,
-      short_next h.0 (subst (λ (z : List ℕ). Short h.0 (z ∷ [])) e h.1),
+      part_next IsPart front h.0 (subst (λ (z : List ℕ). IsPart h.0 (z ∷ [])) e h.1),
       h.2 ∙ (ap (λ (z : Option (List (List ℕ))). onto z h.0) m ∙ onto_more told written h.0),
     )
 
@@ -331,8 +331,8 @@ module _ (seat : ℕ) (xs : List (List ℕ)) (i : ℕ) where
     pub line_broke : (line : List ℕ) (told mid told' : Option (List (List ℕ))) (faults later faults' : ℕ) → line ≡ out_line seat x → mid ≡ onto told written → later ≡ faults
         → (e : LineError) → WritesShort (line ∷ []) mid later told' faults' e → WritesShort (map (out_line seat) xs) told faults told' faults' e
     line_broke line told mid told' faults later faults' e m le stop.Unbuilt h = absurd h
-    line_broke line told mid told' faults later faults' e m le stop.WriteFault h = (risen_later faults later faults' le h.0, line_part line told mid told' e m h.1)
-    line_broke line told mid told' faults later faults' e m le stop.Memory h = (h.0 ∙ le, line_part line told mid told' e m h.1)
+    line_broke line told mid told' faults later faults' e m le stop.WriteFault h = (risen_later faults later faults' le h.0, line_part Short short_front line told mid told' e m h.1)
+    line_broke line told mid told' faults later faults' e m le stop.Memory h = (h.0 ∙ le, line_part AreFirst first_front line told mid told' e m h.1)
 
 -- ---- bytes of a data line, from first to last
 
@@ -349,7 +349,7 @@ answered_at p q table seat at now lent bytes pieces b here e same h = record { h
 module _ (p q : Story) (table : List (Option Standing)) (seat : ℕ) (at now : Standing) (bytes : List ℕ) (pieces lent : List (List ℕ)) (b : Bool) (a : Answered p q table seat at now bytes pieces b) (e : lent ≡ pieces) where
   pub pieces_break : (told told' : Option (List (List ℕ))) (faults faults' : ℕ) (error : LineError) → WritesShort (map (out_line seat) lent) told faults told' faults' error → Breaks (scene p table) (Data seat bytes) told faults told' faults' error
   pieces_break told told' faults faults' error h =
-      breaks_written (scene p table) (Data seat bytes) (map (out_line seat) pieces) told told told' faults faults faults' refl (λ ws short wrote. part p q table seat at now bytes pieces a.here b told told' ws a.heard short wrote) error
+      breaks_written (scene p table) (Data seat bytes) (map (out_line seat) pieces) told told told' faults faults faults' refl (λ IsPart front ws short wrote. part p q table seat at now bytes pieces a.here IsPart front b told told' ws a.heard short wrote) error
       (subst (λ (z : List (List ℕ)). WritesShort (map (out_line seat) z) told faults told' faults' error) e h)
 
   wrote_is : (told mid : Option (List (List ℕ))) → mid ≡ onto told (map (out_line seat) lent) → mid ≡ onto told (map (out_line seat) pieces)
@@ -369,7 +369,7 @@ module _ (p q : Story) (table : List (Option Standing)) (seat : ℕ) (at now : S
       → (error : LineError) → WritesShort (end_line seat (ending now.fed now.rest) ∷ []) mid later told' faults' error → Breaks (scene p table) (Data seat bytes) told faults told' faults' error
   last_breaks t told mid told' faults later faults' le wrote error h =
       breaks_written (scene p table) (Data seat bytes) (end_line seat (ending now.fed now.rest) ∷ []) told mid told' faults later faults' le
-      (λ ws short ended. end_part p q table seat at now bytes pieces a.here told mid told' ws (over t) (wrote_is told mid wrote) short ended) error h
+      (λ IsPart front ws short ended. end_part p q table seat at now bytes pieces a.here IsPart front told mid told' ws (over t) (wrote_is told mid wrote) short ended) error h
 
   pub on_runs : b ≡ false → (taken table' : List (Option Standing)) (told told' : Option (List (List ℕ))) → sessions_of taken ≡ placed (sessions_of table) seat None → sessions_of table' ≡ placed (sessions_of taken) seat (Some now)
       → told' ≡ onto told (map (out_line seat) lent) → Runs p table q table' (Data seat bytes) told told'
@@ -378,7 +378,7 @@ module _ (p q : Story) (table : List (Option Standing)) (seat : ℕ) (at now : S
 
   -- all was written, and there is no memory to go on
   pub all_written : (told told' : Option (List (List ℕ))) (faults faults' : ℕ) → faults' ≡ faults → told' ≡ onto told (map (out_line seat) lent) → Breaks (scene p table) (Data seat bytes) told faults told' faults' stop.Memory
-  all_written told told' faults faults' same wrote = (same, inr (part p q table seat at now bytes pieces a.here b told told' (map (out_line seat) pieces) a.heard (short_whole _) (wrote_is told told' wrote)))
+  all_written told told' faults faults' same wrote = (same, inr (part p q table seat at now bytes pieces a.here AreFirst first_front b told told' (map (out_line seat) pieces) a.heard (first_front.all _) (wrote_is told told' wrote)))
 
 -- ---- lines of the opening
 

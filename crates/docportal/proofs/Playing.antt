@@ -1,4 +1,5 @@
 -- Lines run one after another.
+use Prim.Native.Nat.{zero}
 use Rattle.std.proofs.Common.{◌≡◌, ℕ, suc, ◌+◌, ◌*◌, ◌<◌, ◌≤◌, List, [], ◌∷◌, ◌++◌, length, take, drop, get_or, Option, Some, None, Bool, true, false, not, refl, sym, ap, ◌∙◌, subst, inl, inr, append_assoc, add-one, arith, drop-cons, length-take}
 use Rattle.std.proofs.Math.Seq.{take-suc}
 use Rattle.std.proofs.lemmas.List.{append-nil, take-append-drop, take_all}
@@ -19,7 +20,7 @@ use Rattle.docportal.specs.declared.line.LineError.TheVariants as stop
 use Rattle.docportal.specs.Lines.{Does}
 use Rattle.docportal.specs.Plays.{Plays, PlaysAll, PlaysPart, PlayStops, status_at}
 use Rattle.docportal.specs.Scenes.{Scene, sessions_of}
-use Rattle.docportal.specs.Steps.{Agrees, Breaks, HaveRoom, IsNew, MayPlay, MayRun, Runs, WritesPart, scene}
+use Rattle.docportal.specs.Steps.{Agrees, AreFirst, Breaks, HaveRoom, IsNew, MayPlay, MayRun, Runs, WritesPart, scene}
 use Rattle.docportal.proofs.Costs.{text_more}
 use Rattle.docportal.proofs.Staying.{AreClosed, does_agree, does_close, does_cost, does_room, holds_less}
 
@@ -33,18 +34,45 @@ pub onto_more : (o : Option (List (List ℕ))) (first more : List (List ℕ)) �
 onto_more None first more = refl
 onto_more (Some told) first more = ap Some (append_assoc told first more)
 
-pub short_after : (first pieces whole : List (List ℕ)) → Short pieces whole → Short (first ++ pieces) (first ++ whole)
+short_after : (first pieces whole : List (List ℕ)) → Short pieces whole → Short (first ++ pieces) (first ++ whole)
 short_after [] pieces whole h = h
 short_after (x ∷ xs) pieces whole h = inl (refl, short_after xs pieces whole h)
 
-pub short_more : (pieces whole more : List (List ℕ)) → Short pieces whole → Short pieces (whole ++ more)
+short_more : (pieces whole more : List (List ℕ)) → Short pieces whole → Short pieces (whole ++ more)
 short_more [] whole more h = tt
 short_more (w ∷ ws) [] more h = absurd h
 short_more (w ∷ ws) (p ∷ ps) more h = elim h as (λ _. Short (w ∷ ws) ((p ∷ ps) ++ more)) [ inl both ↦ inl (both.0, short_more ws ps more both.1) | inr front ↦ inr front ]
 
-pub short_whole : (whole : List (List ℕ)) → Short whole whole
+short_whole : (whole : List (List ℕ)) → Short whole whole
 short_whole [] = tt
 short_whole (w ∷ ws) = inl (refl, short_whole ws)
+
+-- a part stays one behind pieces that are written whole and ahead of others, and the whole is one
+pub record IsFront (IsPart : List (List ℕ) → List (List ℕ) → Type 0) : Type 0 where
+  pub after : (first pieces whole : List (List ℕ)) → IsPart pieces whole → IsPart (first ++ pieces) (first ++ whole)
+  pub more : (pieces whole more : List (List ℕ)) → IsPart pieces whole → IsPart pieces (whole ++ more)
+  pub all : (whole : List (List ℕ)) → IsPart whole whole
+
+pub short_front : IsFront Short
+short_front = record { after = short_after; more = short_more; all = short_whole }
+
+first_after : (first pieces whole : List (List ℕ)) → AreFirst pieces whole → AreFirst (first ++ pieces) (first ++ whole)
+first_after [] pieces whole h = h
+first_after (x ∷ xs) pieces whole h = let k = first_after xs pieces whole h in (suc k.0, ap (λ (z : List (List ℕ)). x ∷ z) k.1)
+
+first_long : (k : ℕ) (whole more : List (List ℕ)) → (j : ℕ) × (take k whole ≡ take j (whole ++ more))
+first_long zero whole more = (zero, refl)
+first_long (suc k) [] more = (zero, refl)
+first_long (suc k) (x ∷ xs) more = let h = first_long k xs more in (suc h.0, ap (λ (z : List (List ℕ)). x ∷ z) h.1)
+
+first_more : (pieces whole more : List (List ℕ)) → AreFirst pieces whole → AreFirst pieces (whole ++ more)
+first_more pieces whole more h = let k = first_long h.0 whole more in (k.0, h.1 ∙ k.1)
+
+first_whole : (whole : List (List ℕ)) → AreFirst whole whole
+first_whole whole = (length whole, sym (take_all (length whole) whole (omega arith)))
+
+pub first_front : IsFront AreFirst
+first_front = record { after = first_after; more = first_more; all = first_whole }
 
 -- ---- lines that were run, and one more
 
@@ -110,9 +138,9 @@ later : (first last faults : ℕ) → faults ≡ first → HasRisen faults last 
 later first last faults h r = omega arith
 
 -- a front of a line's output was written behind that of the lines before it
-part_on : (first : Story) (lines : List ScriptLine) (told told' told'' : Option (List (List ℕ))) (index : ℕ) (p : Story) (table : List (Option Standing)) (line : ScriptLine)
-    → index < length lines → line ≡ get_or lines index line → Played first lines told told' index p table → WritesPart (scene p table) line told' told'' → PlaysPart (scene first []) lines told told''
-part_on first lines told told' told'' index p table line h is before (entries, out, b, pieces, does, short, wrote) = record {
+part_on : (IsPart : List (List ℕ) → List (List ℕ) → Type 0) → IsFront IsPart → (first : Story) (lines : List ScriptLine) (told told' told'' : Option (List (List ℕ))) (index : ℕ) (p : Story) (table : List (Option Standing)) (line : ScriptLine)
+    → index < length lines → line ≡ get_or lines index line → Played first lines told told' index p table → WritesPart IsPart (scene p table) line told' told'' → PlaysPart IsPart (scene first []) lines told told''
+part_on IsPart front first lines told told' told'' index p table line h is before (entries, out, b, pieces, does, short, wrote) = record {
   front = take index lines ++ line ∷ [];
   history = before.history ++ entries;
   out = before.out ++ out;
@@ -123,12 +151,12 @@ part_on first lines told told' told'' index p table line h is before (entries, o
     plays_on (take index lines) (scene first []) (scene p table) b line before.history entries before.out out before.plays does,
   );
   pieces = before.out ++ pieces;
-  short = short_after before.out pieces out short;
+  part = front.after before.out pieces out short;
   output = wrote ∙ (ap (λ (z : Option (List (List ℕ))). onto z pieces) before.wrote ∙ onto_more told before.out pieces);
 }
 
 -- nothing of the line was written
-none_on : (first : Story) (lines : List ScriptLine) (told told' told'' : Option (List (List ℕ))) (index : ℕ) (p : Story) (table : List (Option Standing)) → Played first lines told told' index p table → told'' ≡ told' → PlaysPart (scene first []) lines told told''
+none_on : (first : Story) (lines : List ScriptLine) (told told' told'' : Option (List (List ℕ))) (index : ℕ) (p : Story) (table : List (Option Standing)) → Played first lines told told' index p table → told'' ≡ told' → PlaysPart AreFirst (scene first []) lines told told''
 none_on first lines told told' told'' index p table before same = record {
   front = take index lines;
   history = before.history;
@@ -136,7 +164,7 @@ none_on first lines told told' told'' index p table before same = record {
   last = scene p table;
   plays = (drop index lines, sym (take-append-drop index lines), before.plays);
   pieces = before.out;
-  short = short_whole before.out;
+  part = first_whole before.out;
   output = same ∙ before.wrote;
 }
 
@@ -155,9 +183,9 @@ play_stops first lines told told' told'' faults faults' faults'' index p table l
     output = b.2 ∙ before.wrote;
   },
 )
-play_stops first lines told told' told'' faults faults' faults'' index p table line h is same before stop.WriteFault b = (later faults faults'' faults' same b.0, part_on first lines told told' told'' index p table line h is before b.1)
+play_stops first lines told told' told'' faults faults' faults'' index p table line h is same before stop.WriteFault b = (later faults faults'' faults' same b.0, part_on Short short_front first lines told told' told'' index p table line h is before b.1)
 play_stops first lines told told' told'' faults faults' faults'' index p table line h is same before stop.Memory (counts, inl unwritten) = (counts ∙ same, none_on first lines told told' told'' index p table before unwritten)
-play_stops first lines told told' told'' faults faults' faults'' index p table line h is same before stop.Memory (counts, inr part) = (counts ∙ same, part_on first lines told told' told'' index p table line h is before part)
+play_stops first lines told told' told'' faults faults' faults'' index p table line h is same before stop.Memory (counts, inr part) = (counts ∙ same, part_on AreFirst first_front first lines told told' told'' index p table line h is before part)
 
 -- ---- what the lines need
 

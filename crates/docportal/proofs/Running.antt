@@ -1,7 +1,7 @@
 -- A text replayed, and a run of the program.
 use Rattle.std.proofs.Common.{◌≡◌, ℕ, ◌+◌, ◌*◌, ◌≤◌, List, [], ◌∷◌, ◌++◌, length, Option, Some, None, Bool, false, refl, sym, ap, ◌∙◌, subst, inl, inr, ◌⊎◌, get_or, arith, length-append, map}
 use Rattle.std.specs.Prelude.{◌≢◌, IsTrue, codes}
-use Rattle.portal_base.specs.Outside.{onto}
+use Rattle.portal_base.specs.Outside.{Short, onto}
 use Rattle.portal_base.specs.Names.{is_same}
 use Rattle.portal_model.specs.declared.entry.Entry.{Entry}
 use Rattle.portal_model.specs.declared.opening.OpeningState.{OpeningState}
@@ -23,7 +23,7 @@ use Rattle.docportal.specs.Inputs.{script_limit, AtEnd, IsWhole, Stops}
 use Rattle.docportal.specs.Plays.{Plays, PlaysAll, PlaysPart, PlayStops, PlaysUpTo}
 use Rattle.docportal.specs.Runs.{Cause, IsReplay, Ran, Replays, Risen, WroteFront, ended_at, replay_words}
 use Rattle.docportal.specs.Scenes.{Scene, first_scene, opening_state, run_limits}
-use Rattle.docportal.specs.Steps.{MayPlay, scene}
+use Rattle.docportal.specs.Steps.{AreFirst, MayPlay, scene}
 use Rattle.docportal.proofs.Behind.{behind_none}
 use Rattle.docportal.proofs.Oneness.{plays_one}
 use Rattle.docportal.proofs.Playing.{onto_none, plays_cost, text_joined}
@@ -76,8 +76,8 @@ is_replay text lines front ends history out last short script valid plays = reco
 
 -- a text of these lines, whose opening is valid, and a portal that opened so
 module _ (text : List ℕ) (lines : List ScriptLine) (ends : Option ℕ) (size : length text ≤ script_limit) (script : IsBuilt text lines ends) (valid : Valid (opening_state lines)) (told told' : Option (List (List ℕ))) where
-  played_part : PlaysPart (first_scene lines) lines told told' → (pieces : List (List ℕ)) × (told' ≡ onto told pieces) × WroteFront text pieces
-  played_part p = (
+  played_part : (IsPart : List (List ℕ) → List (List ℕ) → Type 0) → PlaysPart IsPart (first_scene lines) lines told told' → (pieces : List (List ℕ)) × (told' ≡ onto told pieces) × WroteFront IsPart text pieces
+  played_part IsPart p = (
     p.pieces,
     p.output,
     record {
@@ -91,7 +91,7 @@ module _ (text : List ℕ) (lines : List ScriptLine) (ends : Option ℕ) (size :
       out = p.out;
       last = p.last;
       replay = is_replay text lines p.front ends p.history p.out p.last size script valid p.plays.2;
-      output = p.short;
+      output = p.part;
     },
   )
 
@@ -111,14 +111,14 @@ module _ (text : List ℕ) (lines : List ScriptLine) (ends : Option ℕ) (size :
     },
   )
 
-  part_memory : (pieces : List (List ℕ)) × (told' ≡ onto told pieces) × WroteFront text pieces → Replayed text told told' Memory
+  part_memory : (pieces : List (List ℕ)) × (told' ≡ onto told pieces) × WroteFront AreFirst text pieces → Replayed text told told' Memory
   part_memory p = (p.0, p.1, inr p.2)
 
   stopped : (faults faults' : ℕ) (status : Status) → PlayStops (first_scene lines) lines told faults told' faults' status → Replayed text told told' status
   stopped faults faults' Done p = absurd p
   stopped faults faults' ReadFault p = absurd p
-  stopped faults faults' WriteFault p = played_part p.1
-  stopped faults faults' Memory p = part_memory (played_part p.1)
+  stopped faults faults' WriteFault p = played_part Short p.1
+  stopped faults faults' Memory p = part_memory (played_part AreFirst p.1)
   stopped faults faults' TooLong p = absurd p
   stopped faults faults' (Unbuilt number) p = played_up_to number p.1
 
@@ -215,7 +215,7 @@ cause_of : (words : List (List ℕ)) (t : List ℕ) (left : Option (List ℕ)) (
 cause_of words t left pieces Done w l e r = (w, l, e, r)
 cause_of words t left pieces ReadFault w l e r = absurd r
 cause_of words t left pieces WriteFault w l e r = (w, l, e, r)
-cause_of words t left pieces Memory w l e r = (w, elim r as (λ _. (pieces ≡ []) ⊎ ((length t ≤ script_limit) × AtEnd left × WroteFront t pieces)) [ inl none ↦ inl none | inr front ↦ inr (l, e, front) ])
+cause_of words t left pieces Memory w l e r = (w, elim r as (λ _. (pieces ≡ []) ⊎ ((length t ≤ script_limit) × AtEnd left × WroteFront AreFirst t pieces)) [ inl none ↦ inl none | inr front ↦ inr (l, e, front) ])
 cause_of words t left pieces TooLong w l e r = absurd r
 cause_of words t left pieces (Unbuilt line) w l e r = inr (w, l, e, r)
 

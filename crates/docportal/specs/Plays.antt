@@ -10,7 +10,7 @@ use Rattle.docportal.specs.declared.line.LineError.{LineError}
 use Rattle.docportal.specs.declared.line.LineError.TheVariants as line
 use Rattle.docportal.specs.Lines.{Does, IsUnbuilt}
 use Rattle.docportal.specs.Scenes.{Scene}
-use Rattle.docportal.specs.Steps.{scene}
+use Rattle.docportal.specs.Steps.{AreFirst, scene}
 
 -- Lines are run, each from the scene that the one before it left: these are their entries and their output.
 abbrev pub Plays : Scene → List ScriptLine → List Entry → List (List ℕ) → Scene → Type 0
@@ -40,15 +40,15 @@ pub record PlaysAll (old new : Story) (lines : List ScriptLine) (told told' : Op
   pub state : state_now new ≡ last.portal
   pub output : told' ≡ onto told out
 
--- a front of the output of some of them is written
-pub record PlaysPart (a : Scene) (lines : List ScriptLine) (told told' : Option (List (List ℕ))) : Type 0 where
+-- such a part of the output of some of them is written
+pub record PlaysPart (IsPart : List (List ℕ) → List (List ℕ) → Type 0) (a : Scene) (lines : List ScriptLine) (told told' : Option (List (List ℕ))) : Type 0 where
   pub front : List ScriptLine
   pub history : List Entry
   pub out : List (List ℕ)
   pub last : Scene
   pub plays : PlaysFront a lines front history out last
   pub pieces : List (List ℕ)
-  pub short : Short pieces out
+  pub part : IsPart pieces out
   pub output : told' ≡ onto told pieces
 
 -- the output of the lines ahead of the first that isn't built is written, which has this number
@@ -65,8 +65,8 @@ pub record PlaysUpTo (a : Scene) (lines : List ScriptLine) (number : ℕ) (told 
 abbrev pub PlayStops : Scene → List ScriptLine → Option (List (List ℕ)) → ℕ → Option (List (List ℕ)) → ℕ → Status → Type 0
 PlayStops a lines told faults told' faults' Done = ⊥
 PlayStops a lines told faults told' faults' ReadFault = ⊥
-PlayStops a lines told faults told' faults' WriteFault = HasRisen faults faults' × PlaysPart a lines told told'
-PlayStops a lines told faults told' faults' Memory = (faults' ≡ faults) × PlaysPart a lines told told'
+PlayStops a lines told faults told' faults' WriteFault = HasRisen faults faults' × PlaysPart Short a lines told told'
+PlayStops a lines told faults told' faults' Memory = (faults' ≡ faults) × PlaysPart AreFirst a lines told told'
 PlayStops a lines told faults told' faults' TooLong = ⊥
 PlayStops a lines told faults told' faults' (Unbuilt number) = (faults' ≡ faults) × PlaysUpTo a lines number told told'
 

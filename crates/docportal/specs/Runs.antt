@@ -12,6 +12,7 @@ use Rattle.docportal.specs.declared.status.Status.TheVariants.{Done, ReadFault, 
 use Rattle.docportal.specs.Inputs.{script_limit, AtEnd}
 use Rattle.docportal.specs.Plays.{Plays, StopsAt}
 use Rattle.docportal.specs.Scenes.{Scene, first_scene, opening_state, run_limits}
+use Rattle.docportal.specs.Steps.{AreFirst}
 
 -- the history of the lines is legal, and the replies to each application are those of its own machine
 -- over its trace
@@ -53,9 +54,9 @@ pub record WroteUpTo (text : List ℕ) (number : ℕ) (pieces : List (List ℕ))
   pub replay : IsReplay lines front history pieces last
   pub first : IsFirstUnbuilt lines ends front last number
 
--- the pieces are a front of the output of some of its lines: some whole pieces, and then a front of the next
--- or nothing
-pub record WroteFront (text : List ℕ) (pieces : List (List ℕ)) : Type 0 where
+-- The pieces are such a part of the output of some of its lines: some whole pieces, and at a fault a front of
+-- the next or nothing.
+pub record WroteFront (IsPart : List (List ℕ) → List (List ℕ) → Type 0) (text : List ℕ) (pieces : List (List ℕ)) : Type 0 where
   pub lines : List ScriptLine
   pub ends : Option ℕ
   pub script : IsBuilt text lines ends
@@ -66,7 +67,7 @@ pub record WroteFront (text : List ℕ) (pieces : List (List ℕ)) : Type 0 wher
   pub out : List (List ℕ)
   pub last : Scene
   pub replay : IsReplay lines front history out last
-  pub output : Short pieces out
+  pub output : IsPart pieces out
 
 -- the one word of the program
 abbrev pub replay_words : List (List ℕ)
@@ -77,9 +78,9 @@ replay_words = codes "replay" ∷ []
 abbrev pub Cause : List (List ℕ) → List ℕ → Option (List ℕ) → List (List ℕ) → Status → Type 0
 Cause words text left pieces Done = (words ≡ replay_words) × (length text ≤ script_limit) × AtEnd left × WroteAll text pieces
 Cause words text left pieces ReadFault = (words ≡ replay_words) × (length text ≤ script_limit) × (pieces ≡ [])
-Cause words text left pieces WriteFault = (words ≡ replay_words) × (length text ≤ script_limit) × AtEnd left × WroteFront text pieces
+Cause words text left pieces WriteFault = (words ≡ replay_words) × (length text ≤ script_limit) × AtEnd left × WroteFront Short text pieces
 Cause words text left pieces Memory = (words ≡ replay_words)
-    × ((pieces ≡ []) ⊎ ((length text ≤ script_limit) × AtEnd left × WroteFront text pieces))
+    × ((pieces ≡ []) ⊎ ((length text ≤ script_limit) × AtEnd left × WroteFront AreFirst text pieces))
 Cause words text left pieces TooLong = (words ≡ replay_words) × (script_limit < length text) × (pieces ≡ [])
 Cause words text left pieces (Unbuilt line) =
     ((words ≢ replay_words) × (line ≡ 0) × (text ≡ []) × (pieces ≡ []))
@@ -106,8 +107,8 @@ Risen (Unbuilt line) reads reads' writes writes' = (reads' ≡ reads) × (writes
 abbrev pub Replays : List ℕ → List (List ℕ) → Status → Type 0
 Replays text pieces Done = WroteAll text pieces
 Replays text pieces ReadFault = ⊥
-Replays text pieces WriteFault = WroteFront text pieces
-Replays text pieces Memory = (pieces ≡ []) ⊎ WroteFront text pieces
+Replays text pieces WriteFault = WroteFront Short text pieces
+Replays text pieces Memory = (pieces ≡ []) ⊎ WroteFront AreFirst text pieces
 Replays text pieces TooLong = ⊥
 Replays text pieces (Unbuilt line) = WroteUpTo text line pieces
 

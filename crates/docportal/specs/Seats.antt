@@ -1,20 +1,23 @@
 -- What the sessions of a script ask of its portal.
 use Rattle.std.specs.Prelude.{◌≡◌, ℕ, ◌+◌, ◌*◌, ◌≤◌, Bool, true, false, List, [], ◌++◌, length, Some}
-use Rattle.std.specs.List.{sum_by}
+use Rattle.std.proofs.Common.{inl, inr}
 use Rattle.portal_base.specs.Devices.{SinkState}
 use Rattle.portal_core.specs.Lending.{seated_at}
 use Rattle.portal_core.specs.Story.{Story, state_now}
 use Rattle.portal_model.specs.declared.request.Request.{Request}
-use Rattle.portal_model.specs.History.{cost, cost_of}
+use Rattle.portal_model.specs.History.{cost}
 use Rattle.portal_model.specs.Opening.{opened}
 use Rattle.portal_model.specs.Seated.{Seated}
+use Rattle.session.specs.declared.served.Fed.{Fed}
+use Rattle.session.specs.declared.served.Fed.TheVariants as fed
 use Rattle.session.specs.declared.served.Rest.{Rest}
 use Rattle.session.specs.declared.served.Rest.TheVariants as rest
 use Rattle.session.specs.declared.served.Served.{Served}
 use Rattle.session.specs.declared.served.Served.TheVariants as served
-use Rattle.session.specs.Answers.{AreOf, Outcome}
+use Rattle.session.specs.Answers.{Outcome}
 use Rattle.session.specs.Laws.{NoneIsFull}
-use Rattle.session.specs.Ledger.{Grew, World, world}
+use Rattle.session.specs.Ledger.{World, world}
+use Rattle.session.specs.Sessions.{Feeds, FeedsOver}
 use Rattle.session.specs.Standings.{Standing}
 use Rattle.docportal.specs.declared.line.LineError.{LineError}
 use Rattle.docportal.specs.declared.line.LineError.TheVariants as stop
@@ -38,12 +41,45 @@ abbrev pub HearsAt : Story → Story → ℕ → Standing → List ℕ → Rest 
 HearsAt old new seat at bytes what pieces now =
     (requests : List Request) × Hears (state_now old) seat at bytes what requests pieces now × Asked old new seat requests
 
--- The seat asked what these bytes ask: what is new in the history costs at most eight times the bytes, and whatever
--- became of requests that cost no more than that, none is refused for a full history.
-pub record Unfilled (old new : Story) (seat : ℕ) (bytes : List ℕ) : Type 0 where
-  pub grown : cost new.history ≤ cost old.history + 8 * length bytes
-  pub none_full : (refusals : ℕ) (requests : List Request) (outcomes : List Outcome) → AreOf requests outcomes → sum_by cost_of requests ≤ 8 * length bytes
-      → Grew (known_at old seat 0) outcomes (known_at new seat refusals) → NoneIsFull outcomes
+-- what became of what was asked by a piece that ends a connection
+abbrev pub outcomes_over : (met : Served) (s : Standing) (v : World) (piece : List ℕ) (t : Standing) (w : World) → FeedsOver s v piece met t w → List Outcome
+outcomes_over (served.Malformed at rule) s v piece t w h = h.0.did.outcomes
+outcomes_over (served.LineTooLong at) s v piece t w h = h.0.did.outcomes
+outcomes_over (served.Unbuilt at) s v piece t w h = h.0.did.outcomes
+outcomes_over served.Spent s v piece t w h = []
+outcomes_over served.Ended s v piece t w h = []
+outcomes_over (served.Cut n) s v piece t w h = []
+outcomes_over served.ReadFault s v piece t w h = []
+outcomes_over served.WriteFault s v piece t w h = []
+outcomes_over (served.Full full limit) s v piece t w h = []
+outcomes_over served.Memory s v piece t w h = []
+
+-- and by any piece: for its whole items, and for one that was asked and not answered whole
+abbrev pub outcomes_of : (r : Fed) (s : Standing) (v : World) (piece : List ℕ) (t : Standing) (w : World) → Feeds fed.More s v piece r t w → List Outcome
+outcomes_of fed.More s v piece t w h = h.0.did.outcomes
+outcomes_of (fed.Over met) s v piece t w h = outcomes_over met s v piece t w h.0
+outcomes_of fed.WriteFault s v piece t w h = h.0.did.outcomes ++ h.0.halted.outcomes
+outcomes_of fed.Memory s v piece t w (inl nothing, keeps, room) = []
+outcomes_of fed.Memory s v piece t w (inr (inl began, holds), keeps, room) = began.did.outcomes
+outcomes_of fed.Memory s v piece t w (inr (inr broke, holds), keeps, room) = broke.0.did.outcomes ++ broke.0.halted.outcomes
+
+-- A session of the seat was fed these bytes, and took the seat from what it knew to what it knows, with so many
+-- refusals: it asked what they ask. What is new in the history costs at most eight times the bytes with those
+-- ahead of them, and none of the requests was refused for a full history.
+pub record Unfilled (old new : Story) (seat : ℕ) (at : Standing) (bytes : List ℕ) (now : Standing) (refusals : ℕ) : Type 0 where
+  pub came : Fed
+  pub first : SinkState
+  pub last : SinkState
+  pub feeds : Feeds fed.More at (sunk (known_at old seat 0) first) bytes came now (sunk (known_at new seat refusals) last)
+  pub none_full : NoneIsFull (outcomes_of came at (sunk (known_at old seat 0) first) bytes now (sunk (known_at new seat refusals) last) feeds)
+  pub grown : cost new.history ≤ cost old.history + 8 * length (at.rest ++ bytes)
+
+-- there was no memory: to hold the bytes or to gather an answer, as the session says, or for a request
+abbrev pub WantsMemory : Fed → ℕ → Type 0
+WantsMemory fed.More refusals = 1 ≤ refusals
+WantsMemory (fed.Over met) refusals = 1 ≤ refusals
+WantsMemory fed.WriteFault refusals = Unit {0}
+WantsMemory fed.Memory refusals = Unit {0}
 
 -- an item that breaks a rule, or a line that is too long
 abbrev pub IsEnd : Rest → Type 0
@@ -72,7 +108,7 @@ is_last (served.LineTooLong at) = true
 is_last other = false
 
 -- why bytes were not heard
-abbrev pub HearsNot : Standing → List ℕ → LineError → Type 0
-HearsNot at bytes stop.Unbuilt = DataIsUnbuilt bytes (Some at)
-HearsNot at bytes stop.WriteFault = ⊥
-HearsNot at bytes stop.Memory = Unit {0}
+abbrev pub HearsNot : Story → Story → ℕ → Standing → List ℕ → Standing → LineError → Type 0
+HearsNot old new seat at bytes now stop.Unbuilt = DataIsUnbuilt bytes (Some at)
+HearsNot old new seat at bytes now stop.WriteFault = ⊥
+HearsNot old new seat at bytes now stop.Memory = (refusals : ℕ) × Unfilled old new seat at bytes now refusals × WantsMemory now.fed refusals

@@ -130,8 +130,9 @@ fn feed(
     ensures stays_open { bound (state_now portal.old) seat ≡ Some (binding session.old) → bound (state_now portal.new) seat ≡ Some (binding session.old) }
     ensures own { GrowsByOwn is_faultless seat portal.old.history portal.new.history }
     ensures legal { Legal (opened portal.new.opening) portal.new.history }
-    ensures unfilled { Unfilled portal.old portal.new seat (session.old.rest ++ bytes.now) }
+    ensures unfilled { (refusals : ℕ) × Unfilled portal.old portal.new seat session.old bytes.now session.new refusals }
     ensures ok { IfOk result (λ fed. (count : ℕ) × (count ≡ 0) × Feeds session.old.fed session.old (sunk (known_at portal.old seat 0) written.old) bytes.now fed session.new (sunk (known_at portal.new seat count) written.new)) }
+    ensures err { IfErr result (λ _. (refusals : ℕ) × Unfilled portal.old portal.new seat session.old bytes.now session.new refusals × (1 ≤ refusals)) }
 {
     let Feeding { fed, refusals } = feed_at(alloc, portal, seat, session, bytes, written);
     if refusals > 0 {
@@ -156,9 +157,9 @@ pub fn hear(
     requires space { session.old.before + length session.old.rest + length bytes.now ≤ longest }
     ensures opening { opened portal.new.opening ≡ opened portal.old.opening }
     ensures stays_open { bound (state_now portal.old) seat ≡ Some (binding session.old) → bound (state_now portal.new) seat ≡ Some (binding session.old) }
-    ensures unfilled { Unfilled portal.old portal.new seat (session.old.rest ++ bytes.now) }
+    ensures unfilled { (refusals : ℕ) × Unfilled portal.old portal.new seat session.old bytes.now session.new refusals }
     ensures ok { IfOk result (λ heard. HeardAs heard.is_over portal.old portal.new seat session.old bytes.now heard.written.pieces session.new) }
-    ensures err { IfErr result (HearsNot session.old bytes.now) }
+    ensures err { IfErr result (HearsNot portal.old portal.new seat session.old bytes.now session.new) }
 {
     let mut written = MemorySink::new(alloc, 0);
     match feed(alloc, portal, seat, session, bytes, &mut written)? {

@@ -12,7 +12,7 @@ returns-in-Some-clause-ok g c =
 pub returns-in-Some-clause-err : goal.returns-in-Some-clause-err
 returns-in-Some-clause-err g c =
     if_err _ _ _ (breaks_written (scene c.args.portal.now c.args.connections.now) (Close c.args.seat) _ _ _ _ _ _ _ refl
-    (close_part c.args.portal.now c.leave.new.portal c.args.connections.now c.args.seat c.in-Some.session c.in-Some.ensures.taken c.requires.may.agrees _ _))
+    (λ IsPart front. close_part c.args.portal.now c.leave.new.portal c.args.connections.now c.args.seat c.in-Some.session c.in-Some.ensures.taken c.requires.may.agrees IsPart front _ _))
     c.leave.ensures.err
 
 pub returns-in-None-clause-ok : goal.returns-in-None-clause-ok
