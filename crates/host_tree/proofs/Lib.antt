@@ -1,1 +1,4 @@
+pub mod Below
+pub mod Bytes
+pub mod Entries
 pub mod Paths

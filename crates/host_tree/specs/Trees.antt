@@ -91,7 +91,7 @@ cut_to size bytes = take size bytes ++ replicate (size - length bytes) 0
 
 -- what stood ahead of the offset, the content, and what stood behind
 abbrev pub overlaid : List ℕ → ℕ → List ℕ → List ℕ
-overlaid bytes offset content = cut_to offset bytes ++ content ++ drop (offset + length content) bytes
+overlaid bytes offset content = cut_to offset bytes ++ (content ++ drop (offset + length content) bytes)
 
 abbrev pub with_bytes : List ℕ → ℕ → File → File
 with_bytes bytes moment f = record f { bytes = bytes; moment = moment }

@@ -146,10 +146,11 @@ impl Files {
     pub(crate) fn named(&self, name: &FileName) -> Option<&Stored>
         ensures { option_copied result ≡ option_map stored_of (file_named self.now name.now) }
     {
+        let map = &self.map;
         if name.generation != 0 {
             return None;
         }
-        self.map.get(&name.path)
+        map.get(&name.path)
     }
 
     /// Says whether a path is a folder.
@@ -198,13 +199,7 @@ impl Files {
         ensures does { Does (has_file name.now) (change_named name.now (written offset content.now now)) (Some self.old) result (Some self.new) }
         ensures no_fault { is_done_fault result ≡ false }
     {
-        if name.generation != 0 {
-            return TreeDone::NotFile;
-        }
-        match self.map.get_mut(&name.path) {
-            Some(stored) => done(stored.write(offset, content, now)),
-            None => TreeDone::NotFile,
-        }
+        write_in(&mut self.map, name, offset, content, now)
     }
 
     /// Cuts or fills a file to a length.
@@ -212,13 +207,7 @@ impl Files {
         ensures does { Does (has_file name.now) (change_named name.now (resized size now)) (Some self.old) result (Some self.new) }
         ensures no_fault { is_done_fault result ≡ false }
     {
-        if name.generation != 0 {
-            return TreeDone::NotFile;
-        }
-        match self.map.get_mut(&name.path) {
-            Some(stored) => done(stored.set_len(size, now)),
-            None => TreeDone::NotFile,
-        }
+        set_len_in(&mut self.map, name, size, now)
     }
 
     /// Makes an empty file where nothing stands and the parent is a folder.
@@ -256,6 +245,39 @@ impl Files {
         };
         self.map.insert(path.replica(alloc)?, stored)?;
         Ok(())
+    }
+}
+
+ghost use Rattle.std.specs.BTreeMap.{keys};
+ghost use Rattle.host_tree.specs.Stored.{files_of};
+
+/// Writes over the bytes of a file in a map by path.
+fn write_in(map: &mut BTreeMap<HostPath, Stored>, name: &FileName, offset: u64, content: &[u8], now: u64) -> TreeDone
+    ensures does { Does (has_file name.now) (change_named name.now (written offset content.now now)) (Some (files_of map.old.entries)) result (Some (files_of map.new.entries)) }
+    ensures no_fault { is_done_fault result ≡ false }
+    ensures keys { keys map.new ≡ keys map.old }
+{
+    if name.generation != 0 {
+        return TreeDone::NotFile;
+    }
+    match map.get_mut(&name.path) {
+        Some(stored) => done(stored.write(offset, content, now)),
+        None => TreeDone::NotFile,
+    }
+}
+
+/// Cuts or fills a file in a map by path to a length.
+fn set_len_in(map: &mut BTreeMap<HostPath, Stored>, name: &FileName, size: u64, now: u64) -> TreeDone
+    ensures does { Does (has_file name.now) (change_named name.now (resized size now)) (Some (files_of map.old.entries)) result (Some (files_of map.new.entries)) }
+    ensures no_fault { is_done_fault result ≡ false }
+    ensures keys { keys map.new ≡ keys map.old }
+{
+    if name.generation != 0 {
+        return TreeDone::NotFile;
+    }
+    match map.get_mut(&name.path) {
+        Some(stored) => done(stored.set_len(size, now)),
+        None => TreeDone::NotFile,
     }
 }
 
