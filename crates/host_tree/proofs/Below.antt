@@ -35,19 +35,19 @@ less-or-tied Less p e = inl refl
 less-or-tied Equal p e = inr (refl, e)
 less-or-tied Greater p e = absurd (cc)
 
-first-same : (a b : ℕ) (ps bs : List ℕ) → is_above (a ∷ ps) (b ∷ bs) ≡ true → a ≡ b
+pub first-same : (a b : ℕ) (ps bs : List ℕ) → is_above (a ∷ ps) (b ∷ bs) ≡ true → a ≡ b
 first-same a b ps bs h = grind (arith, nat_tests)
 
-rest-below : (a b : ℕ) (ps bs : List ℕ) → is_above (a ∷ ps) (b ∷ bs) ≡ true → is_above ps bs ≡ true
+pub rest-below : (a b : ℕ) (ps bs : List ℕ) → is_above (a ∷ ps) (b ∷ bs) ≡ true → is_above ps bs ≡ true
 rest-below a b ps bs h = grind (arith, nat_tests)
 
-above-more : (a c : ℕ) (ps cs : List ℕ) → a ≡ c → is_above ps cs ≡ true → is_above (a ∷ ps) (c ∷ cs) ≡ true
+pub above-more : (a c : ℕ) (ps cs : List ℕ) → a ≡ c → is_above ps cs ≡ true → is_above (a ∷ ps) (c ∷ cs) ≡ true
 above-more a c ps cs e h = grind (arith, nat_tests)
 
-slash-first : (b : ℕ) (bs : List ℕ) → is_above [] (b ∷ bs) ≡ true → b ≡ 47
+pub slash-first : (b : ℕ) (bs : List ℕ) → is_above [] (b ∷ bs) ≡ true → b ≡ 47
 slash-first b bs h = grind (arith, nat_tests)
 
-slash-is : (b : ℕ) (bs : List ℕ) → b ≡ 47 → is_above [] (b ∷ bs) ≡ true
+pub slash-is : (b : ℕ) (bs : List ℕ) → b ≡ 47 → is_above [] (b ∷ bs) ≡ true
 slash-is b bs e = grind (arith, nat_tests)
 
 same-byte : (a b : ℕ) → a ≡ b → byte_order a b ≡ Equal

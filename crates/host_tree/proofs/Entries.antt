@@ -313,3 +313,10 @@ change-none es fs p v w e l s =
 pub keeps-written : (offset : ℕ) (content : List ℕ) (moment : ℕ) (s : Stored) (k : List ℕ) → file_of (k, stored_written offset content moment s) ≡ written offset content moment (file_of (k, s))
 keeps-written offset [] moment s k = refl
 keeps-written offset (b ∷ bs) moment s k = refl
+
+pub none-in-map : (p : List ℕ) (es : List (List ℕ × Stored)) → file_at (files_of es) p ≡ None → lookup (is_at (path_order p)) es ≡ None
+none-in-map p es e = sym (found-at p es) ∙ ap (option_map stored_of) e
+
+pub ok-is : {A E : Type 0} (r : Result A E) (u : A) (P : Type 0) → r ≡ Ok u → OnOk r P → P
+ok-is (Ok v) u P e p = p
+ok-is (Err x) u P e p = absurd (cc)

@@ -25,7 +25,7 @@ returns-in-Some-clause-does c =
     outcome-does c.set_len.result (has_file name) (change_named name change) (Some (files_of old)) (Some (files_of new)) c.done.result c.done.ensures.ok c.done.ensures.err
     (ok-then c.set_len.result (c.set_len.new.self ≡ stored_resized c.args.size c.args.now c.in-Some.stored.now) (Does (has_file name) (change_named name change) (Some (files_of old)) done.Done (Some (files_of new)))
       (λ e. change-done name change old new c.in-Some.stored.now c.set_len.new.self c.if-name-ne0.false
-        (λ k. ap (λ (s : Stored). record { path = k; generation = 0; bytes = s.bytes; moment = s.moment }) e ∙ keeps-resized c.args.size c.args.now c.in-Some.stored.now k)
+        (λ k. ap (λ (s : Stored). record { path = k; generation = 0; bytes = s.bytes; moment = s.moment }) e)
         c.in-Some.ensures.value c.get_mut.ensures.ordered (c.get_mut.follows.holds c.set_len.new.self).0)
       c.set_len.ensures.ok)
     (err-then c.set_len.result (c.set_len.new.self ≡ c.in-Some.stored.now) (Some (files_of new) ≡ Some (files_of old))
