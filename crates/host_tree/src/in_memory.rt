@@ -171,24 +171,24 @@ impl HostTree for QuietTree {
         LookAnswer::Is(self.files.look(path))
     }
 
-    fn attr(&mut self, file: &FileName) -> AttrAnswer {
+    fn attr(&mut self, name: &FileName) -> AttrAnswer {
         self.made = self.made.saturating_add(1);
-        attributes(&self.files, file)
+        attributes(&self.files, name)
     }
 
-    fn read(&mut self, file: &FileName, offset: u64, size: u32) -> TreeRead {
+    fn read(&mut self, name: &FileName, offset: u64, size: u32) -> TreeRead {
         self.made = self.made.saturating_add(1);
-        content(self.alloc, &self.files, file, offset, size)
+        content(self.alloc, &self.files, name, offset, size)
     }
 
-    fn write(&mut self, file: &FileName, offset: u64, content: &[u8], now: u64) -> TreeDone {
+    fn write(&mut self, name: &FileName, offset: u64, content: &[u8], now: u64) -> TreeDone {
         self.made = self.made.saturating_add(1);
-        self.files.write(file, offset, content, now)
+        self.files.write(name, offset, content, now)
     }
 
-    fn set_len(&mut self, file: &FileName, size: u64, now: u64) -> TreeDone {
+    fn set_len(&mut self, name: &FileName, size: u64, now: u64) -> TreeDone {
         self.made = self.made.saturating_add(1);
-        self.files.set_len(file, size, now)
+        self.files.set_len(name, size, now)
     }
 
     fn create(&mut self, path: &HostPath, now: u64) -> TreeDone {
@@ -196,9 +196,9 @@ impl HostTree for QuietTree {
         self.files.create(self.alloc, path, now)
     }
 
-    fn sync(&mut self, file: &FileName) -> TreeDone {
+    fn sync(&mut self, name: &FileName) -> TreeDone {
         self.made = self.made.saturating_add(1);
-        rest(&self.files, file)
+        rest(&self.files, name)
     }
 
     fn known(&self) {
