@@ -75,9 +75,9 @@ between-is-below (a ∷ ps) (c ∷ cs) (b ∷ bs) l m h =
     ⊎_elim
     (λ n. absurd (ahead-and-behind a c (⊎_elim (λ k. subst (λ (x : ℕ). (byte_order c x ≡ Less) ⊎ (c ≡ x)) (sym ab) (inl k)) (λ k. subst (λ (x : ℕ). (byte_order c x ≡ Less) ⊎ (c ≡ x)) (sym ab) (inr (tied-byte c b k.0))) (less-or-tied (byte_order c b) (path_order cs bs) m)) n))
     (λ n. ⊎_elim
-      (λ k. absurd (not-tied-and-behind a b c ab n.0 k))
-      (λ k. above-more a c ps cs (tied-byte a c n.0) (between-is-below ps cs bs n.1 k.1 (rest-below a b ps bs h)))
-      (less-or-tied (byte_order c b) (path_order cs bs) m))
+    (λ k. absurd (not-tied-and-behind a b c ab n.0 k))
+    (λ k. above-more a c ps cs (tied-byte a c n.0) (between-is-below ps cs bs n.1 k.1 (rest-below a b ps bs h)))
+    (less-or-tied (byte_order c b) (path_order cs bs) m))
     (less-or-tied (byte_order a c) (path_order ps cs) l)
 
 -- what lies below a path comes behind it
@@ -122,4 +122,3 @@ seen-at-first p (e ∷ es) s = step (path_order p e.0) refl (is_above p e.0) ref
     step Equal d false h more = more
     step Greater d true h more = absurd (is-not-less Greater refl (sym d ∙ below-is-behind p e.0 h))
     step Greater d false h more = more
-

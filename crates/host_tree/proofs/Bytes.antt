@@ -19,11 +19,11 @@ front-of-filled : (bytes : List ℕ) (start more : ℕ) → start - length bytes
 front-of-filled bytes start more l = ⊎_elim
     (λ h. take-append-le start bytes (replicate more 0) (omega arith) ∙ none-missing bytes start (omega arith))
     (λ h.
-      let e : start ≡ length bytes + (start - length bytes) = omega arith in
-      ap (λ (n : ℕ). take n (bytes ++ replicate more 0)) e
-      ∙ (take-append-add bytes (replicate more 0) (start - length bytes)
-      ∙ (ap (λ (xs : List ℕ). bytes ++ xs) (take-replicate (start - length bytes) more 0 l)
-      ∙ ap (λ (xs : List ℕ). xs ++ replicate (start - length bytes) 0) (sym (take_all start bytes h)))))
+    let e : start ≡ length bytes + (start - length bytes) = omega arith in
+    ap (λ (n : ℕ). take n (bytes ++ replicate more 0)) e
+    ∙ (take-append-add bytes (replicate more 0) (start - length bytes)
+    ∙ (ap (λ (xs : List ℕ). bytes ++ xs) (take-replicate (start - length bytes) more 0 l)
+    ∙ ap (λ (xs : List ℕ). xs ++ replicate (start - length bytes) 0) (sym (take_all start bytes h)))))
     (cases_lt start (length bytes))
 
 pub overlaid-past : (bytes content : List ℕ) (start end : ℕ) → end ≡ start + length content → length bytes < end
@@ -33,6 +33,6 @@ overlaid-past bytes content start end e l =
     let long : length (bytes ++ replicate (end - length bytes) 0) ≡ end = omega (arith, length-append bytes (replicate (end - length bytes) 0), length-replicate {A = ℕ} (end - length bytes) 0) in
     let front : take start (cut_to end bytes) ≡ cut_to start bytes = ap (take start) filled ∙ front-of-filled bytes start (end - length bytes) (omega arith) in
     let back : drop (start + length content) (cut_to end bytes) ≡ drop (start + length content) bytes =
-        ap (drop (start + length content)) filled
-        ∙ (drop_all (start + length content) (bytes ++ replicate (end - length bytes) 0) (omega arith) ∙ sym (drop_all (start + length content) bytes (omega arith))) in
+    ap (drop (start + length content)) filled
+    ∙ (drop_all (start + length content) (bytes ++ replicate (end - length bytes) 0) (omega arith) ∙ sym (drop_all (start + length content) bytes (omega arith))) in
     λ i. front i ++ (content ++ back i)

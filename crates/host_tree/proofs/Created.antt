@@ -77,12 +77,12 @@ last-part f rest =
 front-of : (f rest : List ℕ) (k : ℕ) → length f ≤ k → (take k (f ++ 47 ∷ rest) ≡ f) ⊎ (is_above f (take k (f ++ 47 ∷ rest)) ≡ true)
 front-of f rest k l = ⊎_elim
     (λ h.
-      let e : k ≡ length f + suc (k - length f - 1) = omega arith in
-      let t : take k (f ++ 47 ∷ rest) ≡ f ++ 47 ∷ take (k - length f - 1) rest = ap (λ (n : ℕ). take n (f ++ 47 ∷ rest)) e ∙ take-append-add f (47 ∷ rest) (suc (k - length f - 1)) in
-      inr (ap (is_above f) t ∙ above-front f (take (k - length f - 1) rest)))
+    let e : k ≡ length f + suc (k - length f - 1) = omega arith in
+    let t : take k (f ++ 47 ∷ rest) ≡ f ++ 47 ∷ take (k - length f - 1) rest = ap (λ (n : ℕ). take n (f ++ 47 ∷ rest)) e ∙ take-append-add f (47 ∷ rest) (suc (k - length f - 1)) in
+    inr (ap (is_above f) t ∙ above-front f (take (k - length f - 1) rest)))
     (λ h.
-      let e : k ≡ length f + 0 = omega arith in
-      inl (ap (λ (n : ℕ). take n (f ++ 47 ∷ rest)) e ∙ (take-append-add f (47 ∷ rest) 0 ∙ no-more f)))
+    let e : k ≡ length f + 0 = omega arith in
+    inl (ap (λ (n : ℕ). take n (f ++ 47 ∷ rest)) e ∙ (take-append-add f (47 ∷ rest) 0 ∙ no-more f)))
     (cases_lt (length f) k)
   where
     no-more : (xs : List ℕ) → xs ++ [] ≡ xs
@@ -104,7 +104,7 @@ parent-below a ps p h =
     let long : length p ≡ length (a ∷ ps) + suc (length r.0) = ap length whole ∙ length-append (a ∷ ps) (47 ∷ r.0) in
     let k : ℕ = length p - suffix_len in-part p - 1 in
     let o : (take k p ≡ a ∷ ps) ⊎ (is_above (a ∷ ps) (take k p) ≡ true) =
-        subst (λ (x : List ℕ). (take k x ≡ a ∷ ps) ⊎ (is_above (a ∷ ps) (take k x) ≡ true)) (sym whole) (front-of (a ∷ ps) r.0 k (omega arith)) in
+    subst (λ (x : List ℕ). (take k x ≡ a ∷ ps) ⊎ (is_above (a ∷ ps) (take k x) ≡ true)) (sym whole) (front-of (a ∷ ps) r.0 k (omega arith)) in
     let e : take k p ≡ cond (is_same (take k p) []) root (take k p) = ap (λ (b : Bool). cond b root (take k p)) (sym (not-nothing a ps (take k p) o)) in
     subst (λ (x : List ℕ). (x ≡ a ∷ ps) ⊎ (is_above (a ∷ ps) x ≡ true)) e o
 
@@ -173,7 +173,7 @@ put-is-tree f fs t may name order =
     let folder = or-parts (is_same f.path root) (list_any (λ (g : File). is_above f.path g.path) fs) second.0 in
     let below : list_any (is_above f.path) (paths_of fs) ≡ false = sym (any-paths (is_above f.path) fs) ∙ folder.1 in
     let room : (is_same (parent_of f.path) root || list_any (is_above (parent_of f.path)) (paths_of fs)) ≡ true =
-        ap (λ (b : Bool). is_same (parent_of f.path) root || b) (sym (any-paths (is_above (parent_of f.path)) fs)) ∙ second.1 in
+    ap (λ (b : Bool). is_same (parent_of f.path) root || b) (sym (any-paths (is_above (parent_of f.path)) fs)) ∙ second.1 in
     let more = λ (q : List ℕ). any-put (is_above q) f fs in
     let new : list_any (is_above f.path) (paths_of (put_file f fs)) ≡ false = more f.path ∙ (λ i. above_longer f.path f.path (omega arith) i || below i) in
     let others = all-apart (paths_of fs) (paths_of fs) f.path (paths_of (put_file f fs)) more t.placed.no_root t.placed.apart t.names room in
@@ -196,7 +196,7 @@ pub inserted-is-tree : (es fs : List (List ℕ × Stored)) (p : List ℕ) (s : S
 inserted-is-tree es fs p s t may name l e order =
     let put : files_of fs ≡ put_file (file_of (p, s)) (files_of es) = inserted-is es fs p s l e in
     subst IsTree (sym put) (put-is-tree (file_of (p, s)) (files_of es) t may name
-      (subst (IsStrictlySortedBy path_order) (sym (paths-are fs) ∙ ap paths_of put) order))
+    (subst (IsStrictlySortedBy path_order) (sym (paths-are fs) ∙ ap paths_of put) order))
 
 nothing-at : {X : Type 0} (o : Option X) → not (is_some o) ≡ true → o ≡ None
 nothing-at None e = refl

@@ -105,13 +105,13 @@ module _ (name : FileName) (change : File → File) (v w : Stored) (z : name.gen
       let same : is_same e.0 name.path ≡ true = same-key name.path e.0 ∙ h in
       let value : e.1 ≡ v = some-is e.1 v l in
       let one : file_of (e.0, w) ≡ cond (is_named name (file_of e)) (change (file_of e)) (file_of e) =
-          keeps e.0 ∙ (ap (λ (x : Stored). change (file_of (e.0, x))) (sym value) ∙ sym (changed-one (is_same e.0 name.path) (0 == name.generation) (file_of e) (change (file_of e)) same (zero-is name.generation z))) in
+      keeps e.0 ∙ (ap (λ (x : Stored). change (file_of (e.0, x))) (sym value) ∙ sym (changed-one (is_same e.0 name.path) (0 == name.generation) (file_of e) (change (file_of e)) same (zero-is name.generation z))) in
       let rest : files_of es ≡ change_named name change (files_of es) =
-          sym (unchanged name change es (subst (λ (p : List ℕ). AllByRecursion (λ k. path_order p k ≡ Less) (keys_of es)) (same-is e.0 name.path same) s.0)) in
+      sym (unchanged name change es (subst (λ (p : List ℕ). AllByRecursion (λ k. path_order p k ≡ Less) (keys_of es)) (same-is e.0 name.path same) s.0)) in
       λ i. one i ∷ rest i
   set-one e es false h l s more =
       let one : file_of e ≡ cond (is_named name (file_of e)) (change (file_of e)) (file_of e) =
-          sym (unnamed-same (is_same e.0 name.path) (0 == name.generation) (file_of e) (change (file_of e)) (same-key name.path e.0 ∙ h)) in
+      sym (unnamed-same (is_same e.0 name.path) (0 == name.generation) (file_of e) (change (file_of e)) (same-key name.path e.0 ∙ h)) in
       let rest = more l in
       λ i. one i ∷ rest i
 

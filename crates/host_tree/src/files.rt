@@ -166,9 +166,7 @@ impl Files {
     fn has_file_below(&self, path: &HostPath) -> bool
         ensures { result ≡ list_any (λ f. is_above path.now f.path) self.now }
     {
-        let mut behind = self
-            .map
-            .range((Bound::Excluded(path), Bound::Unbounded));
+        let mut behind = self.map.range((Bound::Excluded(path), Bound::Unbounded));
         match behind.next() {
             Some((first, _)) => lies_above(path.as_bytes(), first.as_bytes()),
             None => false,
@@ -176,7 +174,12 @@ impl Files {
     }
 
     /// Adds a file where the paths then are those of a tree.
-    pub(crate) fn add(&mut self, path: HostPath, bytes: ByteList, moment: u64) -> Result<(), WantOfMemory>
+    pub(crate) fn add(
+        &mut self,
+        path: HostPath,
+        bytes: ByteList,
+        moment: u64,
+    ) -> Result<(), WantOfMemory>
         requires { ArePlaced (paths_of (put_file (file_with path bytes moment) self.old)) }
         ensures ok { OnOk result (self.new ≡ put_file (file_with path bytes moment) self.old) }
         ensures err { OnErr result (self.new ≡ self.old) }
@@ -195,7 +198,13 @@ impl Files {
     }
 
     /// Writes over the bytes of a file from an offset on.
-    pub(crate) fn write(&mut self, name: &FileName, offset: u64, content: &[u8], now: u64) -> TreeDone
+    pub(crate) fn write(
+        &mut self,
+        name: &FileName,
+        offset: u64,
+        content: &[u8],
+        now: u64,
+    ) -> TreeDone
         ensures does { Does (has_file name.now) (change_named name.now (written offset content.now now)) (Some self.old) result (Some self.new) }
         ensures no_fault { is_done_fault result ≡ false }
     {
@@ -252,7 +261,13 @@ ghost use Rattle.std.specs.BTreeMap.{keys};
 ghost use Rattle.host_tree.specs.Stored.{files_of};
 
 /// Writes over the bytes of a file in a map by path.
-fn write_in(map: &mut BTreeMap<HostPath, Stored>, name: &FileName, offset: u64, content: &[u8], now: u64) -> TreeDone
+fn write_in(
+    map: &mut BTreeMap<HostPath, Stored>,
+    name: &FileName,
+    offset: u64,
+    content: &[u8],
+    now: u64,
+) -> TreeDone
     ensures does { Does (has_file name.now) (change_named name.now (written offset content.now now)) (Some (files_of map.old.entries)) result (Some (files_of map.new.entries)) }
     ensures no_fault { is_done_fault result ≡ false }
     ensures keys { keys map.new ≡ keys map.old }
@@ -267,7 +282,12 @@ fn write_in(map: &mut BTreeMap<HostPath, Stored>, name: &FileName, offset: u64, 
 }
 
 /// Cuts or fills a file in a map by path to a length.
-fn set_len_in(map: &mut BTreeMap<HostPath, Stored>, name: &FileName, size: u64, now: u64) -> TreeDone
+fn set_len_in(
+    map: &mut BTreeMap<HostPath, Stored>,
+    name: &FileName,
+    size: u64,
+    now: u64,
+) -> TreeDone
     ensures does { Does (has_file name.now) (change_named name.now (resized size now)) (Some (files_of map.old.entries)) result (Some (files_of map.new.entries)) }
     ensures no_fault { is_done_fault result ≡ false }
     ensures keys { keys map.new ≡ keys map.old }

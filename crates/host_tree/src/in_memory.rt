@@ -48,14 +48,26 @@ impl MemoryTree {
     }
 
     /// Adds a file to those that the tree began with, before its first call.
-    pub fn add_file(&mut self, path: HostPath, content: ByteList, moment: u64) -> Result<(), WantOfMemory>
+    pub fn add_file(
+        &mut self,
+        path: HostPath,
+        content: ByteList,
+        moment: u64,
+    ) -> Result<(), WantOfMemory>
         requires fresh { self.old.count.calls.made ≡ 0 }
         requires began { ArePlaced (paths_of (put_file (file_with path content moment) self.old.began)) }
         requires files { ArePlaced (paths_of (put_file (file_with path content moment) self.old.files)) }
         ensures ok { OnOk result (self.new ≡ with_file (file_with path content moment) self.old) }
         ensures err { OnErr result (self.new ≡ self.old) }
     {
-        add_to_both(self.alloc, &mut self.began, &mut self.files, path, content, moment)
+        add_to_both(
+            self.alloc,
+            &mut self.began,
+            &mut self.files,
+            path,
+            content,
+            moment,
+        )
     }
 }
 
@@ -150,14 +162,26 @@ impl QuietTree {
     }
 
     /// Adds a file to those that the tree began with, before its first call.
-    pub fn add_file(&mut self, path: HostPath, content: ByteList, moment: u64) -> Result<(), WantOfMemory>
+    pub fn add_file(
+        &mut self,
+        path: HostPath,
+        content: ByteList,
+        moment: u64,
+    ) -> Result<(), WantOfMemory>
         requires fresh { self.old.made ≡ 0 }
         requires began { ArePlaced (paths_of (put_file (file_with path content moment) self.old.began)) }
         requires files { ArePlaced (paths_of (put_file (file_with path content moment) self.old.files)) }
         ensures ok { OnOk result (self.new ≡ quiet_with_file (file_with path content moment) self.old) }
         ensures err { OnErr result (self.new ≡ self.old) }
     {
-        add_to_both(self.alloc, &mut self.began, &mut self.files, path, content, moment)
+        add_to_both(
+            self.alloc,
+            &mut self.began,
+            &mut self.files,
+            path,
+            content,
+            moment,
+        )
     }
 }
 
@@ -210,7 +234,14 @@ impl HostTree for QuietTree {
 ghost use Rattle.host_tree.specs.Trees.{Attrs, Gets, Does, has_file, as_before, is_attr_fault, is_read_fault, is_done_fault};
 
 /// Adds a file to two lists of files, or to none of them.
-fn add_to_both(alloc: Global, began: &mut Files, files: &mut Files, path: HostPath, content: ByteList, moment: u64) -> Result<(), WantOfMemory>
+fn add_to_both(
+    alloc: Global,
+    began: &mut Files,
+    files: &mut Files,
+    path: HostPath,
+    content: ByteList,
+    moment: u64,
+) -> Result<(), WantOfMemory>
     requires began { ArePlaced (paths_of (put_file (file_with path content moment) began.old)) }
     requires files { ArePlaced (paths_of (put_file (file_with path content moment) files.old)) }
     ensures ok { OnOk result ((began.new ≡ put_file (file_with path content moment) began.old) × (files.new ≡ put_file (file_with path content moment) files.old)) }

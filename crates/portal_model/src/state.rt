@@ -1,9 +1,8 @@
 //! The items of the portal's lists, which the definitions speak of.
 
-pub use portal_base::files::File;
-
 use crate::reply::Change;
 use crate::rights::Right;
+pub use portal_base::files::File;
 use portal_base::list::List;
 use portal_base::memory::{Replica, WantOfMemory};
 use portal_base::names::app_id::AppId;

@@ -34,7 +34,11 @@ impl Model for MemoryKeeper {
 impl MemoryKeeper {
     /// A keeper of these records, whose calls of these numbers fail, counted
     /// from 1.
-    pub fn new(alloc: Global, records: Records, fails: List<u64>) -> Result<MemoryKeeper, WantOfMemory>
+    pub fn new(
+        alloc: Global,
+        records: Records,
+        fails: List<u64>,
+    ) -> Result<MemoryKeeper, WantOfMemory>
         ensures { IfOk result (λ keeper. keeper ≡ record { began = records; records = records; count = uncalled fails }) }
     {
         let began = records.replica(alloc)?;
@@ -87,7 +91,11 @@ impl Keeper for MemoryKeeper {
 ghost use Rattle.std.specs.Prelude.{◌+◌, ◌≤◌, OnOk, vec_len, vec_capacity};
 
 /// Takes room for so many more documents and entries.
-fn reserve(documents: &mut Vec<DocRecord>, entries: &mut Vec<EntryRecord>, count: usize) -> Result<(), WantOfMemory>
+fn reserve(
+    documents: &mut Vec<DocRecord>,
+    entries: &mut Vec<EntryRecord>,
+    count: usize,
+) -> Result<(), WantOfMemory>
     ensures same { (documents.new.items ≡ documents.old.items) × (entries.new.items ≡ entries.old.items) }
     ensures documents { OnOk result (vec_len documents.new + count ≤ vec_capacity documents.new) }
     ensures entries { OnOk result (vec_len entries.new + count ≤ vec_capacity entries.new) }
@@ -98,7 +106,12 @@ fn reserve(documents: &mut Vec<DocRecord>, entries: &mut Vec<EntryRecord>, count
 }
 
 /// A copy of the records.
-fn copies(alloc: Global, version: u32, documents: &[DocRecord], entries: &[EntryRecord]) -> Result<Records, WantOfMemory>
+fn copies(
+    alloc: Global,
+    version: u32,
+    documents: &[DocRecord],
+    entries: &[EntryRecord],
+) -> Result<Records, WantOfMemory>
     ensures { IfOk result (λ records. records ≡ record { version = version; documents = documents.now; entries = entries.now }) }
 {
     Ok(Records {

@@ -12,9 +12,10 @@ pub returns-then-name-ne0-clause-does : goal.returns-then-name-ne0-clause-does
 returns-then-name-ne0-clause-does c = (refl, ap is_some (none-named c.args.name.now (not-zero c.args.name.now.generation c.if-name-ne0.true) c.args.map.now.entries))
 
 pub returns-in-None-clause-does : goal.returns-in-None-clause-does
-returns-in-None-clause-does c =
-    (ap (λ (m : BTreeMap (List ℕ) Stored). Some (files_of m.entries)) c.get_mut.follows.holds-at-none,
-    no-file-named c.args.name.now c.args.map.now.entries c.if-name-ne0.false c.in-None.ensures.value)
+returns-in-None-clause-does c = (
+  ap (λ (m : BTreeMap (List ℕ) Stored). Some (files_of m.entries)) c.get_mut.follows.holds-at-none,
+  no-file-named c.args.name.now c.args.map.now.entries c.if-name-ne0.false c.in-None.ensures.value,
+)
 
 pub returns-in-Some-clause-does : goal.returns-in-Some-clause-does
 returns-in-Some-clause-does c =
@@ -24,10 +25,10 @@ returns-in-Some-clause-does c =
     let change = resized c.args.size c.args.now in
     outcome-does c.set_len.result (has_file name) (change_named name change) (Some (files_of old)) (Some (files_of new)) c.done.result c.done.ensures.ok c.done.ensures.err
     (ok-then c.set_len.result (c.set_len.new.self ≡ stored_resized c.args.size c.args.now c.in-Some.stored.now) (Does (has_file name) (change_named name change) (Some (files_of old)) done.Done (Some (files_of new)))
-      (λ e. change-done name change old new c.in-Some.stored.now c.set_len.new.self c.if-name-ne0.false
-        (λ k. ap (λ (s : Stored). record { path = k; generation = 0; bytes = s.bytes; moment = s.moment }) e)
-        c.in-Some.ensures.value c.get_mut.ensures.ordered (c.get_mut.follows.holds c.set_len.new.self).0)
-      c.set_len.ensures.ok)
+    (λ e. change-done name change old new c.in-Some.stored.now c.set_len.new.self c.if-name-ne0.false
+    (λ k. ap (λ (s : Stored). record { path = k; generation = 0; bytes = s.bytes; moment = s.moment }) e)
+    c.in-Some.ensures.value c.get_mut.ensures.ordered (c.get_mut.follows.holds c.set_len.new.self).0)
+    c.set_len.ensures.ok)
     (err-then c.set_len.result (c.set_len.new.self ≡ c.in-Some.stored.now) (Some (files_of new) ≡ Some (files_of old))
-      (λ e. change-none old new name.path c.in-Some.stored.now c.set_len.new.self e c.in-Some.ensures.value (c.get_mut.follows.holds c.set_len.new.self).0)
-      c.set_len.ensures.err)
+    (λ e. change-none old new name.path c.in-Some.stored.now c.set_len.new.self e c.in-Some.ensures.value (c.get_mut.follows.holds c.set_len.new.self).0)
+    c.set_len.ensures.err)
