@@ -1,5 +1,6 @@
-//! What a tree of files shows at a path, and how it names a file.
+//! The files of a tree, what it shows at a path, and how it names a file.
 
+use crate::list::ByteList;
 use crate::memory::{Replica, WantOfMemory};
 use crate::names::host_path::HostPath;
 use std::alloc::Global;
@@ -42,6 +43,30 @@ impl Replica for FileName {
         Ok(FileName {
             path: self.path.replica(alloc)?,
             generation: self.generation,
+        })
+    }
+}
+
+/// A file of a tree.
+#[derive(Debug, Drop)]
+pub struct File {
+    /// Its path on the host.
+    pub path: HostPath,
+    /// Which of the files that the path has had.
+    pub generation: u64,
+    /// Its bytes.
+    pub bytes: ByteList,
+    /// When it changed last, in seconds.
+    pub moment: u64,
+}
+
+impl Replica for File {
+    fn replica(&self, alloc: Global) -> Result<File, WantOfMemory> {
+        Ok(File {
+            path: self.path.replica(alloc)?,
+            generation: self.generation,
+            bytes: self.bytes.replica(alloc)?,
+            moment: self.moment,
         })
     }
 }

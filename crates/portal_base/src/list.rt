@@ -3,7 +3,7 @@
 //! It is a `Vec` whose address and capacity no contract sees, so that two
 //! lists of the same items are equal.
 
-ghost use Rattle.std.specs.Prelude.{◌≡◌, ℕ, ◌+◌, ◌-◌, ◌<◌, ◌≤◌, List, [], ◌∷◌, ◌++◌, length, IfOk, OnOk, OnErr, IfSome, IsTrue, ◌↔◌, slice_get, option_copied, MatchOption, take, drop, slice_set, remove, Some};
+ghost use Rattle.std.specs.Prelude.{◌≡◌, ℕ, ◌+◌, ◌-◌, ◌<◌, ◌≤◌, List, [], ◌∷◌, ◌++◌, length, IfOk, OnOk, OnErr, IfSome, IsTrue, ◌↔◌, slice_get, option_copied, MatchOption, take, drop, slice_set, remove, replicate, Some};
 ghost use Rattle.std.specs.List.{AllZip};
 ghost use Rattle.std.specs.Cmp.Lexicographic.{pointwise, lists_per, lists_equiv};
 ghost use Rattle.std.specs.Iterator.Adapters.{IterYieldsInOrder, IterYieldsInReverse};
@@ -134,6 +134,16 @@ impl<T: Copy> List<T> {
         ensures { self.new ≡ take at self.old ++ (items.now ++ drop (at + length items.now) self.old) }
     {
         self.inner[at..at + items.len()].copy_from_slice(items);
+    }
+
+    /// Leaves the first `len` items, and puts copies of `item` behind them
+    /// until there are `len`.
+    pub fn resize(&mut self, len: usize, item: T) -> Result<(), WantOfMemory>
+        ensures ok { OnOk result (self.new ≡ take len self.old ++ replicate (len - length self.old) item) }
+        ensures err { OnErr result (self.new ≡ self.old) }
+    {
+        self.inner.resize(len, item)?;
+        Ok(())
     }
 
     /// A list of a slice's items.

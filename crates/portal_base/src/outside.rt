@@ -7,9 +7,11 @@
 ghost use Rattle.std.specs.Prelude.{◌≡◌, ℕ, ◌<◌, List, Option, length};
 ghost use Rattle.portal_base.specs.Outside.{Writes, WriteCounts, Reads, ReadCounts, Shows, Draws};
 
+mod calls;
 mod in_memory;
 mod real;
 
+pub use calls::CallCount;
 pub use in_memory::{ListWords, MemorySink, MemorySource, SetClock};
 pub use real::{StdSink, StdSource};
 

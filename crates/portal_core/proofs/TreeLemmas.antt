@@ -5,7 +5,7 @@ use Rattle.std.specs.Option.{option_map}
 use Rattle.portal_base.specs.Names.{is_same}
 use Rattle.portal_base.specs.declared.files.Look.{Look}
 use Rattle.portal_model.specs.declared.opening.FileItem.{FileItem}
-use Rattle.portal_model.specs.declared.state.File.{File}
+use Rattle.portal_base.specs.declared.files.File.{File}
 use Rattle.portal_model.specs.Content.{look_at, look_of, content_of, is_folder, has_room}
 use Rattle.portal_model.specs.Opening.{file_of}
 use Rattle.portal_model.proofs.Finds.{find-map}

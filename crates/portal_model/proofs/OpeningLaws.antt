@@ -13,7 +13,7 @@ use Rattle.portal_model.specs.declared.records.GrantRecord.{GrantRecord}
 use Rattle.portal_model.specs.declared.rights.Right.{Right}
 use Rattle.portal_model.specs.declared.rights.Right.TheVariants.{Read, Write, GrantPermissions, Delete}
 use Rattle.portal_model.specs.declared.state.Document.{Document}
-use Rattle.portal_model.specs.declared.state.File.{File}
+use Rattle.portal_base.specs.declared.files.File.{File}
 use Rattle.portal_model.specs.declared.state.Triple.{Triple}
 use Rattle.portal_model.specs.Content.{is_folder}
 use Rattle.portal_model.specs.Opening.{id_of, document_kept, has_bit, triple_kept, triples_of, triples_kept, each, file_of, opened, first_named, names_kept, GrantsDiffer, SoundOpening, ValidOpening}

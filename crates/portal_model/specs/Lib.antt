@@ -12,6 +12,7 @@ pub mod Step
 pub mod Lawful
 pub mod Valid
 pub mod Opening
+pub mod RecordChanges
 pub mod History
 pub mod World
 pub mod Seated

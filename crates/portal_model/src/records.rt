@@ -88,3 +88,75 @@ impl Replica for EntryRecord {
         })
     }
 }
+
+/// The records that outlive a run.
+#[derive(Debug, Drop)]
+pub struct Records {
+    /// The version of their form, 1.
+    pub version: u32,
+    /// The kept documents, in order of addition.
+    pub documents: List<DocRecord>,
+    /// The entries of the permission store, in order of creation.
+    pub entries: List<EntryRecord>,
+}
+
+/// One change of the records.
+#[derive(Debug, Drop)]
+pub enum RecordChange {
+    /// A document goes behind the others.
+    AddDocument(DocRecord),
+    /// The document of a number goes away.
+    RemoveDocument {
+        /// The number.
+        number: u32,
+    },
+    /// The document of a number has these rights given, in its place.
+    SetGrants {
+        /// The number.
+        number: u32,
+        /// The rights.
+        grants: List<GrantRecord>,
+    },
+    /// An entry stands in the place of the one with its table and identifier,
+    /// or else behind the others.
+    SetEntry(EntryRecord),
+    /// The entry of a table and an identifier goes away.
+    RemoveEntry {
+        /// The table.
+        table: Text,
+        /// The identifier.
+        id: Text,
+    },
+}
+
+impl Replica for Records {
+    fn replica(&self, alloc: Global) -> Result<Records, WantOfMemory> {
+        Ok(Records {
+            version: self.version,
+            documents: self.documents.replica(alloc)?,
+            entries: self.entries.replica(alloc)?,
+        })
+    }
+}
+
+impl Replica for RecordChange {
+    fn replica(&self, alloc: Global) -> Result<RecordChange, WantOfMemory> {
+        match self {
+            RecordChange::AddDocument(document) => {
+                Ok(RecordChange::AddDocument(document.replica(alloc)?))
+            }
+            RecordChange::RemoveDocument { number } => {
+                Ok(RecordChange::RemoveDocument { number: *number })
+            }
+            RecordChange::SetGrants { number, grants } => Ok(RecordChange::SetGrants {
+                number: *number,
+                grants: grants.replica(alloc)?,
+            }),
+            RecordChange::SetEntry(entry) => Ok(RecordChange::SetEntry(entry.replica(alloc)?)),
+            RecordChange::RemoveEntry { table, id } => Ok(RecordChange::RemoveEntry {
+                table: table.replica(alloc)?,
+                id: id.replica(alloc)?,
+            }),
+        }
+    }
+}

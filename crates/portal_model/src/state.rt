@@ -2,7 +2,8 @@
 
 use crate::reply::Change;
 use crate::rights::Right;
-use portal_base::list::{ByteList, List};
+pub use portal_base::files::File;
+use portal_base::list::List;
 use portal_base::memory::{Replica, WantOfMemory};
 use portal_base::names::app_id::AppId;
 use portal_base::names::doc_id::DocId;
@@ -51,19 +52,6 @@ pub struct Connection {
     pub unsent: List<Change>,
 }
 
-/// A file of the tree.
-#[derive(Debug, Drop)]
-pub struct File {
-    /// Its path on the host.
-    pub path: HostPath,
-    /// Which of the files that the path has had.
-    pub generation: u64,
-    /// Its bytes.
-    pub bytes: ByteList,
-    /// When it changed last, in seconds.
-    pub moment: u64,
-}
-
 impl Replica for Document {
     fn replica(&self, alloc: Global) -> Result<Document, WantOfMemory> {
         Ok(Document {
@@ -81,17 +69,6 @@ impl Replica for Triple {
             app: self.app.replica(alloc)?,
             id: self.id,
             right: self.right,
-        })
-    }
-}
-
-impl Replica for File {
-    fn replica(&self, alloc: Global) -> Result<File, WantOfMemory> {
-        Ok(File {
-            path: self.path.replica(alloc)?,
-            generation: self.generation,
-            bytes: self.bytes.replica(alloc)?,
-            moment: self.moment,
         })
     }
 }

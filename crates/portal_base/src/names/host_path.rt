@@ -3,6 +3,7 @@
 ghost use Rattle.std.specs.Prelude.{◌≡◌, ◌<◌, ◌≤◌, ◌-◌, IfOk, IfErr, true, not, length, slice_index};
 ghost use Rattle.std.specs.List.{suffix_len};
 ghost use Rattle.portal_base.specs.Names.{is_host_path, child_of, parent_of, name_of, is_in_own_folder, is_same, is_slash, root};
+ghost use Rattle.portal_base.specs.PathOrder.{path_order, place_of_byte};
 
 use crate::list::{ByteList, List};
 use crate::memory::{Replica, WantOfMemory};
@@ -10,6 +11,7 @@ use crate::names::NameError;
 use crate::names::app_id::AppId;
 use crate::names::path_reader::first_break;
 use std::alloc::Global;
+use std::cmp::Ordering;
 use std::marker::Model;
 
 /// A path on the host, which contracts see as its bytes.
@@ -129,6 +131,41 @@ impl Eq for HostPath {
     ghost laws = { Prim.search (comparing, rules) };
 }
 
+/// Paths are ordered part by part, and each part byte by byte, as std's `Path`
+/// has it; what lies below a path comes right behind it.
+impl PartialOrd for HostPath {
+    ghost use Rattle.std.specs.Prelude.{Some, refl};
+    ghost use Rattle.std.specs.Cmp.{partial_order_from_agreeing_total};
+    ghost use Rattle.portal_base.specs.PathOrder.{path_order};
+    ghost use Rattle.portal_base.specs.PathOrders.{path_order_total, path_order_ties};
+
+    ghost partial_cmp = { λ a b. Some (path_order a b) };
+
+    ghost laws = { partial_order_from_agreeing_total path_order path_order_total (λ a b. refl) path_order_ties };
+
+    fn partial_cmp(&self, other: &HostPath) -> Option<Ordering> {
+        Some(self.cmp(other))
+    }
+}
+
+impl Ord for HostPath {
+    ghost use Rattle.std.specs.Prelude.{refl};
+    ghost use Rattle.portal_base.specs.PathOrder.{path_order};
+    ghost use Rattle.portal_base.specs.PathOrders.{path_order_total, path_order_ties};
+
+    ghost cmp = { path_order };
+
+    ghost total = { path_order_total };
+
+    ghost matches_partial_cmp = { λ a b. refl };
+
+    ghost matches_eq = { path_order_ties };
+
+    fn cmp(&self, other: &HostPath) -> Ordering {
+        path_order(self.as_bytes(), other.as_bytes())
+    }
+}
+
 impl Replica for HostPath {
     fn replica(&self, alloc: Global) -> Result<HostPath, WantOfMemory> {
         Ok(HostPath {
@@ -147,6 +184,30 @@ fn joined(alloc: Global, path: &[u8], name: &[u8]) -> Result<ByteList, WantOfMem
     }
     text.extend_from_slice(name)?;
     Ok(text)
+}
+
+/// Which of two paths comes first.
+fn path_order(first: &[u8], second: &[u8]) -> Ordering
+    ensures { result ≡ path_order first.now second.now }
+{
+    let mut at = 0;
+    while at < first.len() && at < second.len() {
+        if first[at] != second[at] {
+            return place_of_byte(first[at]).cmp(&place_of_byte(second[at]));
+        }
+        at += 1;
+    }
+    first.len().cmp(&second.len())
+}
+
+/// Where a byte stands in the order of paths: a slash ahead of all others.
+fn place_of_byte(byte: u8) -> u16
+    ensures { result ≡ place_of_byte byte }
+{
+    if byte == b'/' {
+        return 0;
+    }
+    byte as u16 + 1
 }
 
 /// Says whether a text is `/`.

@@ -1,7 +1,7 @@
 use Rattle.std.proofs.Common.{arith}
 use Rattle.portal_model.specs.Content.{is_above}
 use Rattle.portal_model.specs.Opening.{file_of}
-use Rattle.portal_model.specs.declared.state.File.{File}
+use Rattle.portal_base.specs.declared.files.File.{File}
 use Rattle.portal_core.proofs.TreeLemmas.{list_any-map}
 use Rattle.portal_core.proofs.tree.is_folder.Goals as goal
 

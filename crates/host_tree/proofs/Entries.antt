@@ -1,0 +1,322 @@
+-- The entries of a map by path, and the files that they are.
+use Rattle.std.proofs.Common.{◌≡◌, ℕ, ◌==◌, nat_eq, List, [], ◌∷◌, Bool, true, false, not, ◌&&◌, ◌||◌, cond, Option, Some, None, option_map, is_some, map, length, Result, Ok, Err, OnOk, OnErr, refl, sym, ap, subst, ◌∙◌, arith}
+use Rattle.std.proofs.lemmas.Bool.Decides.{nat_tests}
+use Rattle.std.proofs.lemmas.Map.Steps.{set_value_same}
+use Rattle.std.specs.BTreeMap.{is_at, insert_entry}
+use Rattle.std.specs.Cmp.Lexicographic.{nat_list_eq_equiv, bytes_decides}
+use Rattle.std.specs.List.{find, filter, list_all, list_any, AllByRecursion}
+use Rattle.std.specs.List.Sorted.{IsStrictlySortedBy}
+use Rattle.std.specs.Map.{lookup, set_value, remove_entry, keys_of}
+use Rattle.std.specs.Ordering.{is_eq, is_lt, ordering_reverse, match_ordering}
+use Rattle.std.specs.declared.cmp.Ordering.{Ordering}
+use Rattle.std.specs.declared.cmp.Ordering.TheVariants.{Less, Equal, Greater}
+use Rattle.portal_base.specs.Names.{is_same, is_host_path}
+use Rattle.portal_base.specs.PathOrder.{path_order}
+use Rattle.portal_base.specs.PathOrders.{path_order_total, path_order_ties}
+use Rattle.portal_base.specs.Content.{file_at, file_named, is_named, paths_of, is_folder, has_room, content_of, look_of, look_at, ArePlaced, IsTree}
+use Rattle.portal_base.specs.declared.files.File.{File}
+use Rattle.portal_base.specs.declared.files.FileName.{FileName}
+use Rattle.portal_base.specs.declared.files.Look.{Look}
+use Rattle.host_tree.specs.Stored.{file_of, files_of, stored_of, stored_written}
+use Rattle.host_tree.specs.Trees.{Does, has_file, written, change_named, put_file, without}
+use Rattle.host_tree.specs.declared.tree.TreeDone.{TreeDone}
+use Rattle.host_tree.specs.declared.tree.TreeDone.TheVariants as done
+use Rattle.host_tree.specs.declared.files.Stored.{Stored}
+
+-- ---- paths that are the same
+
+pub same-key : (p k : List ℕ) → is_same k p ≡ is_at (path_order p) k
+same-key p k = nat_list_eq_equiv.symm k p ∙ path_order_ties p k
+
+pub same-is : (a b : List ℕ) → is_same a b ≡ true → a ≡ b
+same-is a b e = (bytes_decides a b).0 e
+
+pub same-itself : (a : List ℕ) → is_same a a ≡ true
+same-itself a = (bytes_decides a a).1 refl
+
+-- ---- the file of a path or of a name
+
+found-one : (b c d : Bool) (e : List ℕ × Stored) (o : Option File) (l : Option Stored) → d ≡ true → b ≡ c → option_map stored_of o ≡ l → option_map stored_of (cond (b && d) (Some (file_of e)) o) ≡ cond c (Some e.1) l
+found-one true true true e o l h k i = refl
+found-one false false true e o l h k i = i
+found-one true false true e o l h k i = absurd (cc)
+found-one false true true e o l h k i = absurd (cc)
+found-one b c false e o l h k i = absurd (cc)
+
+zero-is : (g : ℕ) → g ≡ 0 → (0 == g) ≡ true
+zero-is g e = grind (arith, nat_tests)
+
+pub found-named : (name : FileName) → name.generation ≡ 0 → (es : List (List ℕ × Stored)) → option_map stored_of (file_named (files_of es) name) ≡ lookup (is_at (path_order name.path)) es
+found-named name z [] = refl
+found-named name z (e ∷ es) = found-one (is_same e.0 name.path) (is_at (path_order name.path) e.0) (0 == name.generation) e (file_named (files_of es) name) (lookup (is_at (path_order name.path)) es)
+    (zero-is name.generation z) (same-key name.path e.0) (found-named name z es)
+
+and-true : (b : Bool) → b ≡ (b && true)
+and-true true = refl
+and-true false = refl
+
+pub found-at : (p : List ℕ) (es : List (List ℕ × Stored)) → option_map stored_of (file_at (files_of es) p) ≡ lookup (is_at (path_order p)) es
+found-at p [] = refl
+found-at p (e ∷ es) =
+    ap (λ (b : Bool). option_map stored_of (cond b (Some (file_of e)) (file_at (files_of es) p))) (and-true (is_same e.0 p))
+    ∙ found-one (is_same e.0 p) (is_at (path_order p) e.0) true e (file_at (files_of es) p) (lookup (is_at (path_order p)) es) refl (same-key p e.0) (found-at p es)
+
+not-one : (b d : Bool) (f : File) (o : Option File) → d ≡ false → o ≡ None → cond (b && d) (Some f) o ≡ None
+not-one true false f o h k = k
+not-one false false f o h k = k
+not-one b true f o h k = absurd (cc)
+
+pub none-named : (name : FileName) → (0 == name.generation) ≡ false → (es : List (List ℕ × Stored)) → file_named (files_of es) name ≡ None
+none-named name z [] = refl
+none-named name z (e ∷ es) = not-one (is_same e.0 name.path) (0 == name.generation) (file_of e) (file_named (files_of es) name) z (none-named name z es)
+
+-- ---- one value changed
+
+unnamed-same : (b d : Bool) (f g : File) → b ≡ false → cond (b && d) g f ≡ f
+unnamed-same false d f g e = refl
+unnamed-same true d f g e = absurd (cc)
+
+apart-key : (p k : List ℕ) → path_order p k ≡ Less → is_same k p ≡ false
+apart-key p k e = same-key p k ∙ ap is_eq e
+
+pub unchanged : (name : FileName) (change : File → File) (es : List (List ℕ × Stored)) → AllByRecursion (λ k. path_order name.path k ≡ Less) (keys_of es) → change_named name change (files_of es) ≡ files_of es
+unchanged name change [] h = refl
+unchanged name change (e ∷ es) h =
+    let one : cond (is_named name (file_of e)) (change (file_of e)) (file_of e) ≡ file_of e = unnamed-same (is_same e.0 name.path) (0 == name.generation) (file_of e) (change (file_of e)) (apart-key name.path e.0 h.0) in
+    let rest : change_named name change (files_of es) ≡ files_of es = unchanged name change es h.1 in
+    λ i. one i ∷ rest i
+
+changed-one : (b d : Bool) (f g : File) → b ≡ true → d ≡ true → cond (b && d) g f ≡ g
+changed-one true true f g e h = refl
+changed-one false d f g e h = absurd (cc)
+changed-one true false f g e h = absurd (cc)
+
+some-is : {X : Type 0} (a b : X) → Some a ≡ Some b → a ≡ b
+some-is a b e = cc
+
+module _ (name : FileName) (change : File → File) (v w : Stored) (z : name.generation ≡ 0) (keeps : (k : List ℕ) → file_of (k, w) ≡ change (file_of (k, v))) where
+  set-one : (e : List ℕ × Stored) (es : List (List ℕ × Stored)) (b : Bool) → is_at (path_order name.path) e.0 ≡ b
+      → cond b (Some e.1) (lookup (is_at (path_order name.path)) es) ≡ Some v
+      → IsStrictlySortedBy path_order (keys_of (e ∷ es))
+      → (lookup (is_at (path_order name.path)) es ≡ Some v → files_of (set_value (is_at (path_order name.path)) es w) ≡ change_named name change (files_of es))
+      → files_of (cond b ((e.0, w) ∷ es) (e ∷ set_value (is_at (path_order name.path)) es w)) ≡ change_named name change (files_of (e ∷ es))
+  unfolding IsStrictlySortedBy
+  set-one e es true h l s more =
+      let same : is_same e.0 name.path ≡ true = same-key name.path e.0 ∙ h in
+      let value : e.1 ≡ v = some-is e.1 v l in
+      let one : file_of (e.0, w) ≡ cond (is_named name (file_of e)) (change (file_of e)) (file_of e) =
+      keeps e.0 ∙ (ap (λ (x : Stored). change (file_of (e.0, x))) (sym value) ∙ sym (changed-one (is_same e.0 name.path) (0 == name.generation) (file_of e) (change (file_of e)) same (zero-is name.generation z))) in
+      let rest : files_of es ≡ change_named name change (files_of es) =
+      sym (unchanged name change es (subst (λ (p : List ℕ). AllByRecursion (λ k. path_order p k ≡ Less) (keys_of es)) (same-is e.0 name.path same) s.0)) in
+      λ i. one i ∷ rest i
+  set-one e es false h l s more =
+      let one : file_of e ≡ cond (is_named name (file_of e)) (change (file_of e)) (file_of e) =
+      sym (unnamed-same (is_same e.0 name.path) (0 == name.generation) (file_of e) (change (file_of e)) (same-key name.path e.0 ∙ h)) in
+      let rest = more l in
+      λ i. one i ∷ rest i
+
+  pub set-named : (es : List (List ℕ × Stored)) → lookup (is_at (path_order name.path)) es ≡ Some v → IsStrictlySortedBy path_order (keys_of es)
+      → files_of (set_value (is_at (path_order name.path)) es w) ≡ change_named name change (files_of es)
+  unfolding IsStrictlySortedBy
+  set-named [] l s = refl
+  set-named (e ∷ es) l s = set-one e es (is_at (path_order name.path) e.0) refl l s (λ k. set-named es k s.1)
+
+-- ---- one more
+
+pub put-entry : (k : List ℕ) (v : Stored) (es : List (List ℕ × Stored)) → lookup (is_at (path_order k)) es ≡ None → files_of (insert_entry path_order es k v) ≡ put_file (file_of (k, v)) (files_of es)
+put-entry k v [] l = refl
+put-entry k v (e ∷ es) l = step (path_order k e.0) l (put-entry k v es)
+  where
+    step : (o : Ordering) → cond (is_eq o) (Some e.1) (lookup (is_at (path_order k)) es) ≡ None
+        → (lookup (is_at (path_order k)) es ≡ None → files_of (insert_entry path_order es k v) ≡ put_file (file_of (k, v)) (files_of es))
+        → files_of (match_ordering o ((k, v) ∷ e ∷ es) ((e.0, v) ∷ es) (e ∷ insert_entry path_order es k v)) ≡ cond (is_lt o) (file_of (k, v) ∷ files_of (e ∷ es)) (file_of e ∷ put_file (file_of (k, v)) (files_of es))
+    step Less m more = refl
+    step Equal m more = absurd (cc)
+    step Greater m more = ap (λ (fs : List File). file_of e ∷ fs) (more m)
+
+-- ---- one less
+
+unnamed-at : (p : List ℕ) (es : List (List ℕ × Stored)) → AllByRecursion (λ k. path_order p k ≡ Less) (keys_of es) → without p (files_of es) ≡ files_of es
+unnamed-at p [] h = refl
+unnamed-at p (e ∷ es) h =
+    ap (λ (b : Bool). cond (not b) (file_of e ∷ without p (files_of es)) (without p (files_of es))) (apart-key p e.0 h.0)
+    ∙ ap (λ (fs : List File). file_of e ∷ fs) (unnamed-at p es h.1)
+
+pub removed-entry : (p : List ℕ) (es : List (List ℕ × Stored)) → IsStrictlySortedBy path_order (keys_of es) → files_of (remove_entry (is_at (path_order p)) es) ≡ without p (files_of es)
+unfolding IsStrictlySortedBy
+removed-entry p [] s = refl
+removed-entry p (e ∷ es) s = step (is_at (path_order p) e.0) refl (removed-entry p es s.1)
+  where
+    step : (b : Bool) → is_at (path_order p) e.0 ≡ b → files_of (remove_entry (is_at (path_order p)) es) ≡ without p (files_of es)
+        → files_of (cond b es (e ∷ remove_entry (is_at (path_order p)) es)) ≡ without p (files_of (e ∷ es))
+    step true h more =
+        let same : is_same e.0 p ≡ true = same-key p e.0 ∙ h in
+        sym (unnamed-at p es (subst (λ (q : List ℕ). AllByRecursion (λ k. path_order q k ≡ Less) (keys_of es)) (same-is e.0 p same) s.0))
+        ∙ ap (λ (b : Bool). cond (not b) (file_of e ∷ without p (files_of es)) (without p (files_of es))) (sym same)
+    step false h more =
+        ap (λ (fs : List File). file_of e ∷ fs) more
+        ∙ ap (λ (b : Bool). cond (not b) (file_of e ∷ without p (files_of es)) (without p (files_of es))) (sym (same-key p e.0 ∙ h))
+
+-- ---- the paths
+
+pub paths-are : (es : List (List ℕ × Stored)) → paths_of (files_of es) ≡ keys_of es
+paths-are [] = refl
+paths-are (e ∷ es) = ap (λ (ks : List (List ℕ)). e.0 ∷ ks) (paths-are es)
+
+pub tree-of-keys : (es fs : List (List ℕ × Stored)) → keys_of fs ≡ keys_of es → IsTree (files_of es) → IsTree (files_of fs)
+tree-of-keys es fs e t =
+    let same : paths_of (files_of es) ≡ paths_of (files_of fs) = paths-are es ∙ (sym e ∙ sym (paths-are fs)) in
+    record {
+      placed = subst ArePlaced same t.placed;
+      names = subst (λ (ps : List (List ℕ)). list_all is_host_path ps ≡ true) same t.names;
+    }
+
+-- ---- a file put at its place
+
+less-flips : (o : Ordering) → ordering_reverse o ≡ Less → is_eq o ≡ false
+less-flips Less e = refl
+less-flips Equal e = absurd (cc)
+less-flips Greater e = refl
+
+behind-key : (p k : List ℕ) → path_order k p ≡ Less → is_same k p ≡ false
+behind-key p k e = same-key p k ∙ less-flips (path_order p k) (sym (path_order_total.antisymm k p) ∙ e)
+
+none-behind : (p : List ℕ) (fs : List File) → AllByRecursion (λ k. path_order p k ≡ Less) (paths_of fs) → file_at fs p ≡ None
+none-behind p [] h = refl
+none-behind p (f ∷ fs) h = ap (λ (b : Bool). cond b (Some f) (file_at fs p)) (apart-key p f.path h.0) ∙ none-behind p fs h.1
+
+has-put : (P : List ℕ → Type 0) (f : File) (fs : List File) → AllByRecursion P (paths_of (put_file f fs)) → P f.path
+has-put P f [] h = h.0
+has-put P f (g ∷ gs) h = step (is_lt (path_order f.path g.path)) h (λ k. has-put P f gs k)
+  where
+    step : (b : Bool) → AllByRecursion P (paths_of (cond b (f ∷ g ∷ gs) (g ∷ put_file f gs))) → (AllByRecursion P (paths_of (put_file f gs)) → P f.path) → P f.path
+    step true h more = h.0
+    step false h more = more h.1
+
+pub put-is-new : (f : File) (fs : List File) → IsStrictlySortedBy path_order (paths_of (put_file f fs)) → file_at fs f.path ≡ None
+unfolding IsStrictlySortedBy
+put-is-new f [] s = refl
+put-is-new f (g ∷ gs) s = step (is_lt (path_order f.path g.path)) s (put-is-new f gs)
+  where
+    step : (b : Bool) → IsStrictlySortedBy path_order (paths_of (cond b (f ∷ g ∷ gs) (g ∷ put_file f gs)))
+        → (IsStrictlySortedBy path_order (paths_of (put_file f gs)) → file_at gs f.path ≡ None) → file_at (g ∷ gs) f.path ≡ None
+    step true s more = none-behind f.path (g ∷ gs) s.0
+    step false s more =
+        ap (λ (b : Bool). cond b (Some g) (file_at gs f.path)) (behind-key f.path g.path (has-put (λ k. path_order g.path k ≡ Less) f gs s.0)) ∙ more s.1
+
+no-file : (p : List ℕ) (fs : List File) → file_at fs p ≡ None → without p fs ≡ fs
+no-file p [] e = refl
+no-file p (f ∷ fs) e = step (is_same f.path p) e (no-file p fs)
+  where
+    step : (b : Bool) → cond b (Some f) (file_at fs p) ≡ None → (file_at fs p ≡ None → without p fs ≡ fs) → cond (not b) (f ∷ without p fs) (without p fs) ≡ f ∷ fs
+    step true e more = absurd (cc)
+    step false e more = ap (λ (gs : List File). f ∷ gs) (more e)
+
+pub put-and-without : (f : File) (fs : List File) → file_at fs f.path ≡ None → without f.path (put_file f fs) ≡ fs
+put-and-without f [] e = ap (λ (b : Bool). cond (not b) (f ∷ []) []) (same-itself f.path)
+put-and-without f (g ∷ gs) e = step (is_lt (path_order f.path g.path)) (is_same g.path f.path) refl e (put-and-without f gs)
+  where
+    step : (b c : Bool) → is_same g.path f.path ≡ c → cond c (Some g) (file_at gs f.path) ≡ None → (file_at gs f.path ≡ None → without f.path (put_file f gs) ≡ gs)
+        → without f.path (cond b (f ∷ g ∷ gs) (g ∷ put_file f gs)) ≡ g ∷ gs
+    step b true d e more = absurd (cc)
+    step true false d e more =
+        ap (λ (b : Bool). cond (not b) (f ∷ without f.path (g ∷ gs)) (without f.path (g ∷ gs))) (same-itself f.path)
+        ∙ no-file f.path (g ∷ gs) (ap (λ (b : Bool). cond b (Some g) (file_at gs f.path)) d ∙ e)
+    step false false d e more =
+        ap (λ (b : Bool). cond (not b) (g ∷ without f.path (put_file f gs)) (without f.path (put_file f gs))) d
+        ∙ ap (λ (fs : List File). g ∷ fs) (more e)
+
+all-step : (q : List ℕ → Bool) (f g : File) (gs hs : List File) (b : Bool) → list_all q (paths_of hs) ≡ (q f.path && list_all q (paths_of gs)) → list_all q (paths_of (cond b (f ∷ g ∷ gs) (g ∷ hs))) ≡ (q f.path && (q g.path && list_all q (paths_of gs)))
+all-step q f g gs hs true e = refl
+all-step q f g gs hs false e = grind arith
+
+pub all-put : (q : List ℕ → Bool) (f : File) (fs : List File) → list_all q (paths_of (put_file f fs)) ≡ (q f.path && list_all q (paths_of fs))
+all-put q f [] = refl
+all-put q f (g ∷ gs) = all-step q f g gs (put_file f gs) (is_lt (path_order f.path g.path)) (all-put q f gs)
+
+any-step : (q : List ℕ → Bool) (f g : File) (gs hs : List File) (b : Bool) → list_any q (paths_of hs) ≡ (q f.path || list_any q (paths_of gs)) → list_any q (paths_of (cond b (f ∷ g ∷ gs) (g ∷ hs))) ≡ (q f.path || (q g.path || list_any q (paths_of gs)))
+any-step q f g gs hs true e = refl
+any-step q f g gs hs false e = grind arith
+
+pub any-put : (q : List ℕ → Bool) (f : File) (fs : List File) → list_any q (paths_of (put_file f fs)) ≡ (q f.path || list_any q (paths_of fs))
+any-put q f [] = refl
+any-put q f (g ∷ gs) = any-step q f g gs (put_file f gs) (is_lt (path_order f.path g.path)) (any-put q f gs)
+
+pub not-zero : (g : ℕ) → (g ≡ 0 → ⊥) → (0 == g) ≡ false
+not-zero g n = grind (arith, nat_tests)
+
+-- ---- what a look-up in the map says of the files
+
+file-one : (p : List ℕ) (e : List ℕ × Stored) (b c : Bool) (o : Option File) (l : Option Stored) → is_same e.0 p ≡ b → b ≡ c → o ≡ option_map (λ (s : Stored). file_of (p, s)) l
+    → cond b (Some (file_of e)) o ≡ option_map (λ (s : Stored). file_of (p, s)) (cond c (Some e.1) l)
+file-one p e true true o l h k i = ap (λ (q : List ℕ). Some (file_of (q, e.1))) (same-is e.0 p h)
+file-one p e false false o l h k i = i
+file-one p e true false o l h k i = absurd (cc)
+file-one p e false true o l h k i = absurd (cc)
+
+pub found-file : (p : List ℕ) (es : List (List ℕ × Stored)) → file_at (files_of es) p ≡ option_map (λ (s : Stored). file_of (p, s)) (lookup (is_at (path_order p)) es)
+found-file p [] = refl
+found-file p (e ∷ es) = file-one p e (is_same e.0 p) (is_at (path_order p) e.0) (file_at (files_of es) p) (lookup (is_at (path_order p)) es) refl (same-key p e.0) (found-file p es)
+
+some-file : (p : List ℕ) (l : Option Stored) → is_some (option_map (λ (s : Stored). file_of (p, s)) l) ≡ is_some l
+some-file p None = refl
+some-file p (Some s) = refl
+
+pub has-file-at : (p : List ℕ) (es : List (List ℕ × Stored)) → is_some (file_at (files_of es) p) ≡ is_some (lookup (is_at (path_order p)) es)
+has-file-at p es = ap is_some (found-file p es) ∙ some-file p (lookup (is_at (path_order p)) es)
+
+pub looked : (es : List (List ℕ × Stored)) (p : List ℕ) (s : Stored) → Some s ≡ lookup (is_at (path_order p)) es → Look.File 0 (length s.bytes) s.moment ≡ look_at (files_of es) p
+looked es p s e = ap (λ (o : Option File). look_of (content_of o (is_folder (files_of es) p) (has_room (files_of es) p))) (ap (option_map (λ (x : Stored). file_of (p, x))) e ∙ sym (found-file p es))
+
+pub looked-none : (es : List (List ℕ × Stored)) (p : List ℕ) → None ≡ lookup (is_at (path_order p)) es → file_at (files_of es) p ≡ None
+looked-none es p e = found-file p es ∙ ap (option_map (λ (x : Stored). file_of (p, x))) (sym e)
+
+none-there : (o : Option File) → option_map stored_of o ≡ None → o ≡ None
+none-there None e = refl
+none-there (Some f) e = absurd (cc)
+
+some-there : (o : Option File) (s : Stored) → option_map stored_of o ≡ Some s → is_some o ≡ true
+some-there None s e = absurd (cc)
+some-there (Some f) s e = refl
+
+pub no-file-named : (name : FileName) (es : List (List ℕ × Stored)) → name.generation ≡ 0 → None ≡ lookup (is_at (path_order name.path)) es → has_file name (files_of es) ≡ false
+no-file-named name es z e = ap is_some (none-there (file_named (files_of es) name) (found-named name z es ∙ sym e))
+
+pub a-file-named : (name : FileName) (es : List (List ℕ × Stored)) (s : Stored) → name.generation ≡ 0 → Some s ≡ lookup (is_at (path_order name.path)) es → has_file name (files_of es) ≡ true
+a-file-named name es s z e = some-there (file_named (files_of es) name) s (found-named name z es ∙ sym e)
+
+-- ---- the answer of a change
+
+pub outcome-does : {E : Type 0} (r : Result (Unit {0}) E) (allows : List File → Bool) (change : List File → List File) (old new : Option (List File)) (answer : TreeDone)
+    → OnOk r (answer ≡ done.Done) → OnErr r (answer ≡ done.Memory) → OnOk r (Does allows change old done.Done new) → OnErr r (new ≡ old) → Does allows change old answer new
+outcome-does (Ok u) allows change old new answer a b c d = subst (λ x. Does allows change old x new) (sym a) c
+outcome-does (Err e) allows change old new answer a b c d = subst (λ x. Does allows change old x new) (sym b) d
+
+pub ok-then : {A E : Type 0} (r : Result A E) (P Q : Type 0) → (P → Q) → OnOk r P → OnOk r Q
+ok-then (Ok u) P Q f p = f p
+ok-then (Err e) P Q f p = tt
+
+pub err-then : {A E : Type 0} (r : Result A E) (P Q : Type 0) → (P → Q) → OnErr r P → OnErr r Q
+err-then (Ok u) P Q f p = tt
+err-then (Err e) P Q f p = f p
+
+pub change-done : (name : FileName) (change : File → File) (es fs : List (List ℕ × Stored)) (v w : Stored) → name.generation ≡ 0 → ((k : List ℕ) → file_of (k, w) ≡ change (file_of (k, v)))
+    → Some v ≡ lookup (is_at (path_order name.path)) es → IsStrictlySortedBy path_order (keys_of es) → fs ≡ set_value (is_at (path_order name.path)) es w
+    → (Some (files_of fs) ≡ Some (change_named name change (files_of es))) × (has_file name (files_of es) ≡ true)
+change-done name change es fs v w z keeps l s e =
+    (ap (λ (xs : List (List ℕ × Stored)). Some (files_of xs)) e ∙ ap (λ (gs : List File). Some gs) (set-named name change v w z keeps es (sym l) s), a-file-named name es v z l)
+
+pub change-none : (es fs : List (List ℕ × Stored)) (p : List ℕ) (v w : Stored) → w ≡ v → Some v ≡ lookup (is_at (path_order p)) es → fs ≡ set_value (is_at (path_order p)) es w → Some (files_of fs) ≡ Some (files_of es)
+change-none es fs p v w e l s =
+    ap (λ (xs : List (List ℕ × Stored)). Some (files_of xs)) (s ∙ (ap (set_value (is_at (path_order p)) es) e ∙ set_value_same (is_at (path_order p)) es v (sym l)))
+
+pub keeps-written : (offset : ℕ) (content : List ℕ) (moment : ℕ) (s : Stored) (k : List ℕ) → file_of (k, stored_written offset content moment s) ≡ written offset content moment (file_of (k, s))
+keeps-written offset [] moment s k = refl
+keeps-written offset (b ∷ bs) moment s k = refl
+
+pub none-in-map : (p : List ℕ) (es : List (List ℕ × Stored)) → file_at (files_of es) p ≡ None → lookup (is_at (path_order p)) es ≡ None
+none-in-map p es e = sym (found-at p es) ∙ ap (option_map stored_of) e
+
+pub ok-is : {A E : Type 0} (r : Result A E) (u : A) (P : Type 0) → r ≡ Ok u → OnOk r P → P
+ok-is (Ok v) u P e p = p
+ok-is (Err x) u P e p = absurd (cc)

@@ -1,0 +1,327 @@
+//! Files in memory, in the order of their paths.
+
+ghost use Rattle.std.specs.Prelude.{◌≡◌, ◌≤◌, ◌+◌, ◌-◌, [], Some, None, false, true, IfOk, OnOk, OnErr, length, take, drop, ◌++◌, map, option_map, option_copied};
+ghost use Rattle.std.specs.List.{list_any, list_all};
+ghost use Rattle.portal_base.specs.Names.{is_same, root};
+ghost use Rattle.portal_base.specs.Content.{look_at, is_folder, is_above, file_named, file_at, IsTree, ArePlaced, paths_of};
+ghost use Rattle.host_tree.specs.Trees.{overlaid, cut_to, bytes_from, Does, has_file, change_named, written, resized, may_create, put_file, file_with, without, new_file, is_done_fault};
+
+use crate::tree::TreeDone;
+use portal_base::files::{FileName, Look};
+use portal_base::list::{ByteList, List};
+use portal_base::memory::{Replica, WantOfMemory};
+use portal_base::names::HostPath;
+use std::alloc::Global;
+use std::collections::BTreeMap;
+use std::marker::Model;
+use std::ops::Bound;
+
+/// The byte between two parts of a path.
+const SLASH: u8 = b'/';
+
+/// What is stored of a file.
+#[derive(Drop)]
+pub(crate) struct Stored {
+    pub(crate) bytes: ByteList,
+    pub(crate) moment: u64,
+}
+
+impl Stored {
+    ghost use Rattle.host_tree.specs.Stored.{stored_written, stored_resized};
+
+    /// Writes over the bytes from an offset on, or changes nothing.
+    fn write(&mut self, offset: u64, content: &[u8], now: u64) -> Result<(), WantOfMemory>
+        ensures ok { OnOk result (self.new ≡ stored_written offset content.now now self.old) }
+        ensures err { OnErr result (self.new ≡ self.old) }
+    {
+        if content.is_empty() {
+            return Ok(());
+        }
+        overlay(&mut self.bytes, offset, content)?;
+        self.moment = now;
+        Ok(())
+    }
+
+    /// Cuts or fills the bytes to a length, or changes nothing.
+    fn set_len(&mut self, size: u64, now: u64) -> Result<(), WantOfMemory>
+        ensures ok { OnOk result (self.new ≡ stored_resized size now self.old) }
+        ensures err { OnErr result (self.new ≡ self.old) }
+    {
+        self.bytes.resize(size as usize, 0)?;
+        self.moment = now;
+        Ok(())
+    }
+}
+
+/// Writes over bytes from an offset on; what is missing ahead of it is zero.
+fn overlay(bytes: &mut ByteList, offset: u64, content: &[u8]) -> Result<(), WantOfMemory>
+    ensures ok { OnOk result (bytes.new ≡ overlaid bytes.old offset content.now) }
+    ensures err { OnErr result (bytes.new ≡ bytes.old) }
+{
+    let start = offset as usize;
+    let Some(end) = start.checked_add(content.len()) else {
+        return Err(WantOfMemory);
+    };
+    if end > bytes.len() {
+        bytes.resize(end, 0)?;
+    }
+    bytes.overwrite(start, content);
+    Ok(())
+}
+
+/// The bytes from an offset on, at most `size`.
+pub(crate) fn bytes_from(bytes: &[u8], offset: u64, size: u32) -> &[u8]
+    ensures { result.now ≡ bytes_from bytes.now offset size }
+{
+    let start = bytes.len().min(offset as usize);
+    let rest = bytes.split_at(start).1;
+    let len = rest.len().min(size as usize);
+    rest.split_at(len).0
+}
+
+/// Files by path, which contracts see as a list in the order of the paths.
+#[derive(Drop)]
+pub(crate) struct Files {
+    map: BTreeMap<HostPath, Stored>,
+}
+
+impl Model for Files {
+    ghost use Rattle.std.specs.Prelude.{List};
+    ghost use Rattle.portal_base.specs.declared.files.File.{File};
+    ghost use Rattle.portal_base.specs.Content.{IsTree};
+    ghost use Rattle.host_tree.specs.Stored.{files_of};
+
+    ghost Value = { List File };
+
+    ghost view = { λ a. files_of a.map.entries };
+
+    ghost invariant = { λ a. IsTree (files_of a.map.entries) };
+}
+
+impl Files {
+    ghost use Rattle.host_tree.specs.Stored.{stored_of};
+
+    /// No files.
+    pub(crate) fn new(alloc: Global) -> Files
+        ensures { result ≡ [] }
+    {
+        Files {
+            map: BTreeMap::new(alloc),
+        }
+    }
+
+    /// What is true at each moment.
+    pub(crate) fn known(&self)
+        ensures { IsTree self.now }
+    {
+        let _ = &self.map;
+    }
+
+    /// What stands at a path.
+    pub(crate) fn look(&self, path: &HostPath) -> Look
+        ensures { result ≡ look_at self.now path.now }
+    {
+        match self.map.get(path) {
+            Some(stored) => Look::File {
+                generation: 0,
+                size: stored.bytes.len() as u64,
+                moment: stored.moment,
+            },
+            None => self.look_without_file(path),
+        }
+    }
+
+    fn look_without_file(&self, path: &HostPath) -> Look
+        requires { file_at self.now path.now ≡ None }
+        ensures { result ≡ look_at self.now path.now }
+    {
+        if self.is_folder(path) {
+            Look::Folder
+        } else {
+            Look::Missing
+        }
+    }
+
+    /// The file of a name.
+    pub(crate) fn named(&self, name: &FileName) -> Option<&Stored>
+        ensures { option_copied result ≡ option_map stored_of (file_named self.now name.now) }
+    {
+        let map = &self.map;
+        if name.generation != 0 {
+            return None;
+        }
+        map.get(&name.path)
+    }
+
+    /// Says whether a path is a folder.
+    fn is_folder(&self, path: &HostPath) -> bool
+        ensures { result ≡ is_folder self.now path.now }
+    {
+        is_root(path.as_bytes()) || self.has_file_below(path)
+    }
+
+    /// Says whether a file lies below a path, which isn't the root.
+    ///
+    /// The files below a path come right behind it in the order of paths.
+    fn has_file_below(&self, path: &HostPath) -> bool
+        ensures { result ≡ list_any (λ f. is_above path.now f.path) self.now }
+    {
+        let mut behind = self.map.range((Bound::Excluded(path), Bound::Unbounded));
+        match behind.next() {
+            Some((first, _)) => lies_above(path.as_bytes(), first.as_bytes()),
+            None => false,
+        }
+    }
+
+    /// Adds a file where the paths then are those of a tree.
+    pub(crate) fn add(
+        &mut self,
+        path: HostPath,
+        bytes: ByteList,
+        moment: u64,
+    ) -> Result<(), WantOfMemory>
+        requires { ArePlaced (paths_of (put_file (file_with path bytes moment) self.old)) }
+        ensures ok { OnOk result (self.new ≡ put_file (file_with path bytes moment) self.old) }
+        ensures err { OnErr result (self.new ≡ self.old) }
+    {
+        let _ = path.as_bytes();
+        self.map.insert(path, Stored { bytes, moment })?;
+        Ok(())
+    }
+
+    /// Takes the file of a path out, which was added last.
+    pub(crate) fn take_back(&mut self, path: &HostPath)
+        requires { IsTree (without path.now self.old) }
+        ensures { self.new ≡ without path.now self.old }
+    {
+        self.map.remove(path);
+    }
+
+    /// Writes over the bytes of a file from an offset on.
+    pub(crate) fn write(
+        &mut self,
+        name: &FileName,
+        offset: u64,
+        content: &[u8],
+        now: u64,
+    ) -> TreeDone
+        ensures does { Does (has_file name.now) (change_named name.now (written offset content.now now)) (Some self.old) result (Some self.new) }
+        ensures no_fault { is_done_fault result ≡ false }
+    {
+        write_in(&mut self.map, name, offset, content, now)
+    }
+
+    /// Cuts or fills a file to a length.
+    pub(crate) fn set_len(&mut self, name: &FileName, size: u64, now: u64) -> TreeDone
+        ensures does { Does (has_file name.now) (change_named name.now (resized size now)) (Some self.old) result (Some self.new) }
+        ensures no_fault { is_done_fault result ≡ false }
+    {
+        set_len_in(&mut self.map, name, size, now)
+    }
+
+    /// Makes an empty file where nothing stands and the parent is a folder.
+    pub(crate) fn create(&mut self, alloc: Global, path: &HostPath, now: u64) -> TreeDone
+        ensures does { Does (λ files. may_create files path.now) (put_file (new_file path.now now)) (Some self.old) result (Some self.new) }
+        ensures no_fault { is_done_fault result ≡ false }
+    {
+        match self.may_create(alloc, path) {
+            Ok(true) => done(self.insert_new(alloc, path, now)),
+            Ok(false) => TreeDone::NotFile,
+            Err(_) => TreeDone::Memory,
+        }
+    }
+
+    /// Says whether nothing stands at a path and its parent is a folder.
+    fn may_create(&self, alloc: Global, path: &HostPath) -> Result<bool, WantOfMemory>
+        ensures { IfOk result (λ may. may ≡ may_create self.now path.now) }
+    {
+        if self.map.contains_key(path) || self.is_folder(path) {
+            return Ok(false);
+        }
+        Ok(self.is_folder(&path.parent(alloc)?))
+    }
+
+    /// Puts an empty file at a path where one may be made.
+    fn insert_new(&mut self, alloc: Global, path: &HostPath, now: u64) -> Result<(), WantOfMemory>
+        requires { may_create self.old path.now ≡ true }
+        ensures ok { OnOk result (self.new ≡ put_file (new_file path.now now) self.old) }
+        ensures err { OnErr result (self.new ≡ self.old) }
+    {
+        let _ = path.as_bytes();
+        let stored = Stored {
+            bytes: List::new(alloc),
+            moment: now,
+        };
+        self.map.insert(path.replica(alloc)?, stored)?;
+        Ok(())
+    }
+}
+
+ghost use Rattle.std.specs.BTreeMap.{keys};
+ghost use Rattle.host_tree.specs.Stored.{files_of};
+
+/// Writes over the bytes of a file in a map by path.
+fn write_in(
+    map: &mut BTreeMap<HostPath, Stored>,
+    name: &FileName,
+    offset: u64,
+    content: &[u8],
+    now: u64,
+) -> TreeDone
+    ensures does { Does (has_file name.now) (change_named name.now (written offset content.now now)) (Some (files_of map.old.entries)) result (Some (files_of map.new.entries)) }
+    ensures no_fault { is_done_fault result ≡ false }
+    ensures keys { keys map.new ≡ keys map.old }
+{
+    if name.generation != 0 {
+        return TreeDone::NotFile;
+    }
+    match map.get_mut(&name.path) {
+        Some(stored) => done(stored.write(offset, content, now)),
+        None => TreeDone::NotFile,
+    }
+}
+
+/// Cuts or fills a file in a map by path to a length.
+fn set_len_in(
+    map: &mut BTreeMap<HostPath, Stored>,
+    name: &FileName,
+    size: u64,
+    now: u64,
+) -> TreeDone
+    ensures does { Does (has_file name.now) (change_named name.now (resized size now)) (Some (files_of map.old.entries)) result (Some (files_of map.new.entries)) }
+    ensures no_fault { is_done_fault result ≡ false }
+    ensures keys { keys map.new ≡ keys map.old }
+{
+    if name.generation != 0 {
+        return TreeDone::NotFile;
+    }
+    match map.get_mut(&name.path) {
+        Some(stored) => done(stored.set_len(size, now)),
+        None => TreeDone::NotFile,
+    }
+}
+
+/// Done, or no memory.
+fn done(outcome: Result<(), WantOfMemory>) -> TreeDone
+    ensures ok { OnOk outcome (result ≡ TreeDone.Done) }
+    ensures err { OnErr outcome (result ≡ TreeDone.Memory) }
+{
+    match outcome {
+        Ok(()) => TreeDone::Done,
+        Err(_) => TreeDone::Memory,
+    }
+}
+
+/// Says whether a path is `/`.
+fn is_root(path: &[u8]) -> bool
+    ensures { result ≡ is_same path.now root }
+{
+    path == b"/".as_slice()
+}
+
+/// Says whether one path lies above another.
+fn lies_above(path: &[u8], below: &[u8]) -> bool
+    ensures { result ≡ is_above path.now below.now }
+{
+    below.len() > path.len() && below.starts_with(path) && below[path.len()] == SLASH
+}

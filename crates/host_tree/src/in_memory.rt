@@ -1,0 +1,300 @@
+//! Trees in memory, which tell what they have.
+
+ghost use Rattle.std.specs.Prelude.{◌≡◌, [], OnOk, OnErr, Some, false};
+ghost use Rattle.portal_base.specs.Content.{IsTree, ArePlaced, paths_of};
+ghost use Rattle.portal_base.specs.Calls.{uncalled};
+ghost use Rattle.host_tree.specs.Trees.{put_file, file_with};
+ghost use Rattle.host_tree.specs.Devices.{with_file, quiet_with_file};
+
+use crate::files::{Files, bytes_from};
+use crate::tree::{AttrAnswer, HostTree, LookAnswer, TreeDone, TreeRead};
+use portal_base::files::FileName;
+use portal_base::list::{ByteList, List};
+use portal_base::memory::{Replica, WantOfMemory};
+use portal_base::names::HostPath;
+use portal_base::outside::CallCount;
+use std::alloc::Global;
+use std::marker::Model;
+
+/// A tree in memory, some of whose calls fail.
+#[derive(Drop)]
+pub struct MemoryTree {
+    alloc: Global,
+    began: Files,
+    files: Files,
+    count: CallCount,
+}
+
+impl Model for MemoryTree {
+    ghost use Rattle.host_tree.specs.Devices.{TreeState};
+
+    ghost Value = { TreeState };
+
+    ghost view = { λ t. record { began = t.began; files = t.files; count = t.count } };
+}
+
+impl MemoryTree {
+    /// A tree without files, whose calls of these numbers fail, counted from
+    /// 1.
+    pub fn new(alloc: Global, fails: List<u64>) -> MemoryTree
+        ensures { result ≡ record { began = []; files = []; count = uncalled fails } }
+    {
+        MemoryTree {
+            alloc,
+            began: Files::new(alloc),
+            files: Files::new(alloc),
+            count: CallCount::new(fails),
+        }
+    }
+
+    /// Adds a file to those that the tree began with, before its first call.
+    pub fn add_file(
+        &mut self,
+        path: HostPath,
+        content: ByteList,
+        moment: u64,
+    ) -> Result<(), WantOfMemory>
+        requires fresh { self.old.count.calls.made ≡ 0 }
+        requires began { ArePlaced (paths_of (put_file (file_with path content moment) self.old.began)) }
+        requires files { ArePlaced (paths_of (put_file (file_with path content moment) self.old.files)) }
+        ensures ok { OnOk result (self.new ≡ with_file (file_with path content moment) self.old) }
+        ensures err { OnErr result (self.new ≡ self.old) }
+    {
+        add_to_both(
+            self.alloc,
+            &mut self.began,
+            &mut self.files,
+            path,
+            content,
+            moment,
+        )
+    }
+}
+
+impl HostTree for MemoryTree {
+    ghost use Rattle.host_tree.specs.Devices.{tree_of};
+
+    ghost is = { tree_of };
+
+    fn look(&mut self, path: &HostPath) -> LookAnswer {
+        if self.count.next_fails() {
+            return LookAnswer::Failed;
+        }
+        LookAnswer::Is(self.files.look(path))
+    }
+
+    fn attr(&mut self, file: &FileName) -> AttrAnswer {
+        if self.count.next_fails() {
+            return AttrAnswer::Failed;
+        }
+        attributes(&self.files, file)
+    }
+
+    fn read(&mut self, file: &FileName, offset: u64, size: u32) -> TreeRead {
+        if self.count.next_fails() {
+            return TreeRead::Failed;
+        }
+        content(self.alloc, &self.files, file, offset, size)
+    }
+
+    fn write(&mut self, file: &FileName, offset: u64, content: &[u8], now: u64) -> TreeDone {
+        if self.count.next_fails() {
+            return TreeDone::Failed;
+        }
+        self.files.write(file, offset, content, now)
+    }
+
+    fn set_len(&mut self, file: &FileName, size: u64, now: u64) -> TreeDone {
+        if self.count.next_fails() {
+            return TreeDone::Failed;
+        }
+        self.files.set_len(file, size, now)
+    }
+
+    fn create(&mut self, path: &HostPath, now: u64) -> TreeDone {
+        if self.count.next_fails() {
+            return TreeDone::Failed;
+        }
+        self.files.create(self.alloc, path, now)
+    }
+
+    fn sync(&mut self, file: &FileName) -> TreeDone {
+        if self.count.next_fails() {
+            return TreeDone::Failed;
+        }
+        rest(&self.files, file)
+    }
+
+    fn known(&self) {
+        self.began.known();
+        self.files.known();
+    }
+}
+
+/// A tree in memory that never fails: its count of faults is 0.
+#[derive(Drop)]
+pub struct QuietTree {
+    alloc: Global,
+    began: Files,
+    files: Files,
+    made: u64,
+}
+
+impl Model for QuietTree {
+    ghost use Rattle.host_tree.specs.Devices.{QuietState};
+
+    ghost Value = { QuietState };
+
+    ghost view = { λ t. record { began = t.began; files = t.files; made = t.made } };
+}
+
+impl QuietTree {
+    /// A tree without files.
+    pub fn new(alloc: Global) -> QuietTree
+        ensures { result ≡ record { began = []; files = []; made = 0 } }
+    {
+        QuietTree {
+            alloc,
+            began: Files::new(alloc),
+            files: Files::new(alloc),
+            made: 0,
+        }
+    }
+
+    /// Adds a file to those that the tree began with, before its first call.
+    pub fn add_file(
+        &mut self,
+        path: HostPath,
+        content: ByteList,
+        moment: u64,
+    ) -> Result<(), WantOfMemory>
+        requires fresh { self.old.made ≡ 0 }
+        requires began { ArePlaced (paths_of (put_file (file_with path content moment) self.old.began)) }
+        requires files { ArePlaced (paths_of (put_file (file_with path content moment) self.old.files)) }
+        ensures ok { OnOk result (self.new ≡ quiet_with_file (file_with path content moment) self.old) }
+        ensures err { OnErr result (self.new ≡ self.old) }
+    {
+        add_to_both(
+            self.alloc,
+            &mut self.began,
+            &mut self.files,
+            path,
+            content,
+            moment,
+        )
+    }
+}
+
+impl HostTree for QuietTree {
+    ghost use Rattle.host_tree.specs.Devices.{quiet_tree_of};
+
+    ghost is = { quiet_tree_of };
+
+    fn look(&mut self, path: &HostPath) -> LookAnswer {
+        self.made = self.made.saturating_add(1);
+        LookAnswer::Is(self.files.look(path))
+    }
+
+    fn attr(&mut self, name: &FileName) -> AttrAnswer {
+        self.made = self.made.saturating_add(1);
+        attributes(&self.files, name)
+    }
+
+    fn read(&mut self, name: &FileName, offset: u64, size: u32) -> TreeRead {
+        self.made = self.made.saturating_add(1);
+        content(self.alloc, &self.files, name, offset, size)
+    }
+
+    fn write(&mut self, name: &FileName, offset: u64, content: &[u8], now: u64) -> TreeDone {
+        self.made = self.made.saturating_add(1);
+        self.files.write(name, offset, content, now)
+    }
+
+    fn set_len(&mut self, name: &FileName, size: u64, now: u64) -> TreeDone {
+        self.made = self.made.saturating_add(1);
+        self.files.set_len(name, size, now)
+    }
+
+    fn create(&mut self, path: &HostPath, now: u64) -> TreeDone {
+        self.made = self.made.saturating_add(1);
+        self.files.create(self.alloc, path, now)
+    }
+
+    fn sync(&mut self, name: &FileName) -> TreeDone {
+        self.made = self.made.saturating_add(1);
+        rest(&self.files, name)
+    }
+
+    fn known(&self) {
+        self.began.known();
+        self.files.known();
+    }
+}
+
+ghost use Rattle.host_tree.specs.Trees.{Attrs, Gets, Does, has_file, as_before, is_attr_fault, is_read_fault, is_done_fault};
+
+/// Adds a file to two lists of files, or to none of them.
+fn add_to_both(
+    alloc: Global,
+    began: &mut Files,
+    files: &mut Files,
+    path: HostPath,
+    content: ByteList,
+    moment: u64,
+) -> Result<(), WantOfMemory>
+    requires began { ArePlaced (paths_of (put_file (file_with path content moment) began.old)) }
+    requires files { ArePlaced (paths_of (put_file (file_with path content moment) files.old)) }
+    ensures ok { OnOk result ((began.new ≡ put_file (file_with path content moment) began.old) × (files.new ≡ put_file (file_with path content moment) files.old)) }
+    ensures err { OnErr result ((began.new ≡ began.old) × (files.new ≡ files.old)) }
+{
+    let first_path = path.replica(alloc)?;
+    let second_path = path.replica(alloc)?;
+    let first_content = content.replica(alloc)?;
+    began.known();
+    began.add(first_path, first_content, moment)?;
+    if files.add(second_path, content, moment).is_err() {
+        began.take_back(&path);
+        return Err(WantOfMemory);
+    }
+    Ok(())
+}
+
+/// The length and the moment of a file.
+fn attributes(files: &Files, name: &FileName) -> AttrAnswer
+    ensures attrs { Attrs (Some files.now) name.now result }
+    ensures no_fault { is_attr_fault result ≡ false }
+{
+    match files.named(name) {
+        Some(stored) => AttrAnswer::Is {
+            size: stored.bytes.len() as u64,
+            moment: stored.moment,
+        },
+        None => AttrAnswer::NotFile,
+    }
+}
+
+/// Bytes of a file.
+fn content(alloc: Global, files: &Files, name: &FileName, offset: u64, size: u32) -> TreeRead
+    ensures gets { Gets (Some files.now) name.now offset size result }
+    ensures no_fault { is_read_fault result ≡ false }
+{
+    let Some(stored) = files.named(name) else {
+        return TreeRead::NotFile;
+    };
+    match List::copied(alloc, bytes_from(stored.bytes.as_slice(), offset, size)) {
+        Ok(bytes) => TreeRead::Got(bytes),
+        Err(_) => TreeRead::Memory,
+    }
+}
+
+/// Bytes in memory are at rest.
+fn rest(files: &Files, name: &FileName) -> TreeDone
+    ensures does { Does (has_file name.now) as_before (Some files.now) result (Some files.now) }
+    ensures no_fault { is_done_fault result ≡ false }
+{
+    if files.named(name).is_some() {
+        TreeDone::Done
+    } else {
+        TreeDone::NotFile
+    }
+}

@@ -1,0 +1,59 @@
+//! The calls of a device in memory, some of which are to fail.
+
+ghost use Rattle.std.specs.Prelude.{◌≡◌, List, ℕ, ◌==◌};
+ghost use Rattle.std.specs.List.{list_any};
+ghost use Rattle.portal_base.specs.Calls.{counted, uncalled, is_to_fail, next_call};
+
+use crate::list::List;
+use std::marker::Model;
+
+/// How many calls came, which of them are to fail, and how many failed.
+#[derive(Debug, Drop)]
+pub struct CallCount {
+    made: u64,
+    failing: List<u64>,
+    faults: u64,
+}
+
+impl Model for CallCount {
+    ghost use Rattle.portal_base.specs.Calls.{Counted};
+
+    ghost Value = { Counted };
+
+    ghost view = { λ c. record { calls = record { made = c.made; failing = c.failing }; faults = c.faults } };
+}
+
+impl CallCount {
+    /// No call so far; those of these numbers, counted from 1, are to fail.
+    pub fn new(failing: List<u64>) -> CallCount
+        ensures { result ≡ uncalled failing }
+    {
+        CallCount {
+            made: 0,
+            failing,
+            faults: 0,
+        }
+    }
+
+    /// Counts one more call, and says whether it fails.
+    ///
+    /// Both counts stop at the greatest `u64`.
+    pub fn next_fails(&mut self) -> bool
+        ensures fails { result ≡ is_to_fail (next_call self.old.calls) }
+        ensures counted { self.new ≡ counted self.old result }
+    {
+        self.made = self.made.saturating_add(1);
+        let fails = has_number(&self.failing, self.made);
+        if fails {
+            self.faults = self.faults.saturating_add(1);
+        }
+        fails
+    }
+}
+
+/// Says whether a number is among others.
+fn has_number(numbers: &List<u64>, number: u64) -> bool
+    ensures { result ≡ list_any (λ n. n == number) numbers.now }
+{
+    numbers.iter().any(|n| *n == number)
+}
