@@ -9,3 +9,7 @@ eio = 5
 
 abbrev pub ebadf : ℕ
 ebadf = 9
+
+-- include/uapi/asm-generic/errno.h
+abbrev pub enosys : ℕ
+enosys = 38

@@ -8,6 +8,7 @@ pub mod entry;
 pub mod examples;
 pub mod laws;
 pub mod opening;
+pub mod place;
 pub mod records;
 pub mod reply;
 pub mod request;
