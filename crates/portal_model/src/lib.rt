@@ -5,6 +5,7 @@
 
 pub mod desk;
 pub mod entry;
+pub mod errno;
 pub mod examples;
 pub mod laws;
 pub mod opening;
