@@ -1,13 +1,14 @@
 //! The bodies of requests, by the structs of `include/uapi/linux/fuse.h`. A
 //! body of another form is answered `None`.
 
-ghost use Rattle.std.specs.Prelude.{◌≡◌, ◌*◌, ◌≤◌, length, take, IfOk};
+ghost use Rattle.std.specs.Prelude.{◌≡◌, ◌*◌, ◌≤◌, ◌==◌, length, not, IfOk};
+ghost use Rattle.std.specs.List.{list_all};
 ghost use Rattle.fuse_wire.specs.Asks.{sized, lookup_op, create_op, write_op, batch_forget_op};
 ghost use Rattle.fuse_wire.specs.Bodies.{access_in, access_in_len, flush_in, flush_in_len, forget_in, forget_in_len, forget_one, forget_ones, fsync_in, fsync_in_len, getattr_in, getattr_in_len};
 ghost use Rattle.fuse_wire.specs.Bodies.{is_name, name_of, open_in, open_in_len, read_in, read_in_len, release_in, release_in_len, setattr_in, setattr_in_len};
 ghost use Rattle.portal_model.specs.declared.request.NodeOp.TheVariants as op;
 
-use crate::frame::{u32_at, u64_at};
+use crate::frame::{behind, u32_at, u64_at};
 use portal_base::list::{ByteList, List};
 use portal_base::memory::WantOfMemory;
 use portal_model::request::{ForgetItem, NodeOp};
@@ -61,7 +62,7 @@ pub fn batch_forget(alloc: Global, body: &[u8]) -> Result<Option<NodeOp>, WantOf
     if body.len() != BATCH_FORGET_IN_LEN + FORGET_ONE_LEN * count {
         return Ok(None);
     }
-    let nodes = forget_ones(alloc, count, &body[BATCH_FORGET_IN_LEN..])?;
+    let nodes = forget_ones(alloc, count, behind(body, BATCH_FORGET_IN_LEN))?;
     Ok(Some(NodeOp::BatchForget { nodes }))
 }
 
@@ -78,7 +79,7 @@ fn forget_ones(
     let mut rest = bytes;
     for done in 0..count {
         nodes.push(forget_one(rest))?;
-        rest = &rest[FORGET_ONE_LEN..];
+        rest = behind(rest, FORGET_ONE_LEN);
     }
     Ok(nodes)
 }
@@ -139,7 +140,7 @@ pub fn create(alloc: Global, body: &[u8]) -> Result<Option<NodeOp>, WantOfMemory
     if body.len() < CREATE_IN_LEN {
         return Ok(None);
     }
-    match name_of(alloc, &body[CREATE_IN_LEN..])? {
+    match name_of(alloc, behind(body, CREATE_IN_LEN))? {
         Some(name) => Ok(Some(NodeOp::Create {
             name,
             flags: u32_at(body, 0),
@@ -176,7 +177,7 @@ pub fn write(alloc: Global, body: &[u8]) -> Result<Option<NodeOp>, WantOfMemory>
     Ok(Some(NodeOp::Write {
         fh: u64_at(body, 0),
         offset: u64_at(body, 8),
-        content: List::copied(alloc, &body[WRITE_IN_LEN..])?,
+        content: List::copied(alloc, behind(body, WRITE_IN_LEN))?,
     }))
 }
 
@@ -281,5 +282,14 @@ fn is_name(bytes: &[u8]) -> bool
         return false;
     }
     let last = bytes.len() - 1;
-    bytes[last] == 0 && bytes[..last].iter().all(|byte| *byte != 0)
+    if bytes[last] != 0 {
+        return false;
+    }
+    has_no_zero(&bytes[..last])
+}
+
+fn has_no_zero(bytes: &[u8]) -> bool
+    ensures { result ≡ list_all (λ b. not (b == 0)) bytes.now }
+{
+    bytes.iter().all(|byte| *byte != 0)
 }

@@ -1,6 +1,6 @@
 //! Where a frame ends, and the number that its reply carries.
 
-ghost use Rattle.std.specs.Prelude.{◌≡◌, ◌+◌, ◌≤◌, length};
+ghost use Rattle.std.specs.Prelude.{◌≡◌, ◌+◌, ◌≤◌, drop, length};
 ghost use Rattle.fuse_wire.specs.Frames.{split_of, header_of, number_at};
 
 use byteorder::{ByteOrder, LittleEndian};
@@ -94,4 +94,12 @@ pub fn u64_at(bytes: &[u8], at: usize) -> u64
     ensures { result ≡ number_at at 8 bytes.now }
 {
     LittleEndian::read_u64(&bytes[at..])
+}
+
+/// The bytes from an offset on.
+pub fn behind(bytes: &[u8], at: usize) -> &[u8]
+    requires { at ≤ length bytes.now }
+    ensures { result.now ≡ drop at bytes.now }
+{
+    &bytes[at..]
 }

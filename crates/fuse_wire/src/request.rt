@@ -1,13 +1,13 @@
 //! What a frame asks.
 
 ghost use Rattle.std.specs.Prelude.{◌≡◌, length, IfOk};
-ghost use Rattle.fuse_wire.specs.Asks.{ask_of, portal, quiet, local, asked_of, sized};
+ghost use Rattle.fuse_wire.specs.Asks.{IsFuse, ask_of, portal, quiet, local, asked_of, sized};
 ghost use Rattle.fuse_wire.specs.Frames.{split_of};
 ghost use Rattle.portal_base.specs.declared.split.Split.TheVariants.{Whole};
 ghost use Rattle.portal_model.specs.declared.reply.NodeAnswer.TheVariants as answer;
 
 use crate::body;
-use crate::frame::{HEADER_LEN, InHeader, header_of};
+use crate::frame::{HEADER_LEN, InHeader, behind, header_of};
 use crate::init::init;
 use crate::opcode::{Opcode, opcode_of};
 use portal_base::memory::WantOfMemory;
@@ -37,36 +37,48 @@ pub fn read_request(alloc: Global, frame: &[u8]) -> Result<FuseAsk, WantOfMemory
     ensures { IfOk result (λ ask. ask ≡ ask_of frame.now) }
 {
     let header = header_of(frame);
-    let body = &frame[HEADER_LEN..];
-    Ok(match opcode_of(header.opcode) {
-        Opcode::Lookup => portal(header, body::lookup(alloc, body)?),
-        Opcode::Forget => quiet(header, body::forget(body)),
-        Opcode::GetAttr => portal(header, body::getattr(body)),
-        Opcode::SetAttr => portal(header, body::setattr(body)),
+    let body = behind(frame, HEADER_LEN);
+    asked_by(alloc, opcode_of(header.opcode), header, body)
+}
+
+/// Says what is asked with an opcode and a body.
+fn asked_by(
+    alloc: Global,
+    opcode: Opcode,
+    header: InHeader,
+    body: &[u8],
+) -> Result<FuseAsk, WantOfMemory>
+    ensures { IfOk result (λ ask. ask ≡ IsFuse opcode header body.now) }
+{
+    match opcode {
+        Opcode::Lookup => Ok(portal(header, body::lookup(alloc, body)?)),
+        Opcode::Forget => Ok(quiet(header, body::forget(body))),
+        Opcode::GetAttr => Ok(portal(header, body::getattr(body))),
+        Opcode::SetAttr => Ok(portal(header, body::setattr(body))),
         Opcode::MkNod
         | Opcode::MkDir
         | Opcode::Unlink
         | Opcode::RmDir
         | Opcode::Rename
-        | Opcode::Rename2 => refused(EPERM),
-        Opcode::Open => portal(header, body::open(body)),
-        Opcode::Read => portal(header, body::read(body)),
-        Opcode::Write => portal(header, body::write(alloc, body)?),
-        Opcode::Statfs => local(statfs(body)),
-        Opcode::Release => portal(header, body::release(body)),
-        Opcode::Fsync => portal(header, body::fsync(body)),
-        Opcode::Flush => portal(header, body::flush(body)),
-        Opcode::Init => local(init(body)),
-        Opcode::OpenDir => portal(header, body::opendir(body)),
-        Opcode::ReadDir => portal(header, body::readdir(body)),
-        Opcode::ReleaseDir => portal(header, body::releasedir(body)),
-        Opcode::Access => portal(header, body::access(body)),
-        Opcode::Create => portal(header, body::create(alloc, body)?),
-        Opcode::Interrupt => FuseAsk::Ignore,
-        Opcode::Destroy => FuseAsk::Local(NodeAnswer::Empty),
-        Opcode::BatchForget => quiet(header, body::batch_forget(alloc, body)?),
-        Opcode::Other => refused(ENOSYS),
-    })
+        | Opcode::Rename2 => Ok(refused(EPERM)),
+        Opcode::Open => Ok(portal(header, body::open(body))),
+        Opcode::Read => Ok(portal(header, body::read(body))),
+        Opcode::Write => Ok(portal(header, body::write(alloc, body)?)),
+        Opcode::Statfs => Ok(local(statfs(body))),
+        Opcode::Release => Ok(portal(header, body::release(body))),
+        Opcode::Fsync => Ok(portal(header, body::fsync(body))),
+        Opcode::Flush => Ok(portal(header, body::flush(body))),
+        Opcode::Init => Ok(local(init(body))),
+        Opcode::OpenDir => Ok(portal(header, body::opendir(body))),
+        Opcode::ReadDir => Ok(portal(header, body::readdir(body))),
+        Opcode::ReleaseDir => Ok(portal(header, body::releasedir(body))),
+        Opcode::Access => Ok(portal(header, body::access(body))),
+        Opcode::Create => Ok(portal(header, body::create(alloc, body)?)),
+        Opcode::Interrupt => Ok(FuseAsk::Ignore),
+        Opcode::Destroy => Ok(FuseAsk::Local(NodeAnswer::Empty)),
+        Opcode::BatchForget => Ok(quiet(header, body::batch_forget(alloc, body)?)),
+        Opcode::Other => Ok(refused(ENOSYS)),
+    }
 }
 
 /// The portal answers this; where the body is of another form, an error says
