@@ -63,13 +63,16 @@ fuse_kstatfs =
     ∷ Four block_size ∷ Four name_length ∷ Four block_size ∷ Four 0
     ∷ Four 0 ∷ Four 0 ∷ Four 0 ∷ Four 0 ∷ Four 0 ∷ Four 0 ∷ []
 
+-- max_pages, map_alignment, unused[8]
+abbrev pub init_rest : List Field
+init_rest = Two 0 ∷ Two 0 ∷ Four 0 ∷ Four 0 ∷ Four 0 ∷ Four 0 ∷ Four 0 ∷ Four 0 ∷ Four 0 ∷ Four 0 ∷ []
+
 -- struct fuse_init_out: major, minor, max_readahead, flags, max_background, congestion_threshold, max_write,
--- time_gran, max_pages, map_alignment, unused[8]
+-- time_gran, and the rest
 abbrev pub fuse_init_out : ℕ → ℕ → ℕ → ℕ → ℕ → ℕ → ℕ → ℕ → List Field
 fuse_init_out major minor readahead flags background congestion max_write time_gran =
     Four major ∷ Four minor ∷ Four readahead ∷ Four flags ∷ Two background ∷ Two congestion ∷ Four max_write
-    ∷ Four time_gran ∷ Two 0 ∷ Two 0
-    ∷ Four 0 ∷ Four 0 ∷ Four 0 ∷ Four 0 ∷ Four 0 ∷ Four 0 ∷ Four 0 ∷ Four 0 ∷ []
+    ∷ Four time_gran ∷ init_rest
 
 -- the error that a header tells; 0 is none
 abbrev pub error_of : NodeAnswer → ℕ

@@ -1,7 +1,8 @@
 //! The entries of a folder, as FUSE_READDIR tells them.
 
-ghost use Rattle.std.specs.Prelude.{◌≡◌, ◌×◌, ◌++◌, ◌+◌, ◌<◌, ◌≤◌, ◌^◌, length, MatchOption, IfOk, OnOk};
-ghost use Rattle.fuse_reply.specs.Dirents.{dirent, dirents, dirent_size as size_of_dirent, padding_of};
+ghost use Rattle.std.specs.Prelude.{◌≡◌, ◌++◌, ◌+◌, ◌<◌, ◌≤◌, ◌^◌, length, replicate, MatchOption, IfOk, OnOk};
+ghost use Rattle.fuse_reply.specs.Dirents.{dirent, dirents, dirent_size as size_of_dirent, fuse_dirent, padding_of, type_of};
+ghost use Rattle.fuse_reply.specs.Fields.{spelled};
 
 use crate::field::{Field, put, put_bytes};
 use portal_base::list::{ByteList, List};
@@ -74,7 +75,7 @@ fn fitting_size(name_len: usize, left: u32) -> Option<u32>
     if name_len > left as usize {
         return None;
     }
-    let size = (NAME_OFFSET + name_len as u64).div_ceil(ALIGNMENT) * ALIGNMENT;
+    let size = dirent_size(name_len);
     if size > u64::from(left) {
         return None;
     }
@@ -86,15 +87,37 @@ fn put_dirent(bytes: &mut Vec<u8>, entry: &DirName, off: u64) -> Result<(), Want
     requires { length entry.now.name < 2 ^ 32 }
     ensures { OnOk result (bytes.new.items ≡ bytes.old.items ++ dirent entry.now off) }
 {
+    put_head(bytes, entry, off)?;
+    put_bytes(bytes, entry.name.as_slice())?;
+    put_padding(bytes, entry.name.len())
+}
+
+/// Puts what stands ahead of an entry's name.
+fn put_head(bytes: &mut Vec<u8>, entry: &DirName, off: u64) -> Result<(), WantOfMemory>
+    requires { length entry.now.name < 2 ^ 32 }
+    ensures { OnOk result (bytes.new.items ≡ bytes.old.items ++ spelled (fuse_dirent entry.now off)) }
+{
     let fields = [
         Field::Eight(entry.node),
         Field::Eight(off),
         Field::Four(entry.name.len() as u32),
-        Field::Four(if entry.folder { DT_DIR } else { DT_REG }),
+        Field::Four(type_of(entry.folder)),
     ];
-    put(bytes, &fields)?;
-    put_bytes(bytes, entry.name.as_slice())?;
-    put_bytes(bytes, &[0; 7][..padding_len(entry.name.len())])
+    put(bytes, &fields)
+}
+
+fn type_of(folder: bool) -> u32
+    ensures { result ≡ type_of folder }
+{
+    if folder { DT_DIR } else { DT_REG }
+}
+
+/// Puts the zeros behind a name of this length.
+fn put_padding(bytes: &mut Vec<u8>, name_len: usize) -> Result<(), WantOfMemory>
+    requires { name_len < 2 ^ 32 }
+    ensures { OnOk result (bytes.new.items ≡ bytes.old.items ++ replicate (padding_of name_len) 0) }
+{
+    put_bytes(bytes, &[0; 7][..padding_len(name_len)])
 }
 
 /// How many zeros stand behind a name of this length.
@@ -103,6 +126,16 @@ fn padding_len(name_len: usize) -> usize
     ensures value { result ≡ padding_of name_len }
     ensures small { result < 8 }
 {
-    let len = NAME_OFFSET + name_len as u64;
-    (len.div_ceil(ALIGNMENT) * ALIGNMENT - len) as usize
+    (dirent_size(name_len) - (NAME_OFFSET + name_len as u64)) as usize
+}
+
+/// FUSE_DIRENT_SIZE: the length of an entry whose name has this length, which
+/// is a multiple of eight.
+fn dirent_size(name_len: usize) -> u64
+    requires { name_len < 2 ^ 32 }
+    ensures value { result ≡ size_of_dirent name_len }
+    ensures least { 24 + name_len ≤ result }
+    ensures most { result < 32 + name_len }
+{
+    (NAME_OFFSET + name_len as u64).div_ceil(ALIGNMENT) * ALIGNMENT
 }

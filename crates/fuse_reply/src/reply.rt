@@ -3,7 +3,7 @@
 ghost use Rattle.std.specs.Prelude.{◌≡◌, ◌++◌, ◌≤◌, ◌%◌, ◌^◌, length, drop, IfOk, OnOk};
 ghost use Rattle.byteorder.specs.Endian.{little_bytes};
 ghost use Rattle.fuse_reply.specs.Fields.{spelled};
-ghost use Rattle.fuse_reply.specs.Replies.{body_of, error_of, fuse_attr, fuse_attr_out, fuse_entry_out, fuse_init_out, fuse_kstatfs, fuse_out_header, is_quiet, reply_of};
+ghost use Rattle.fuse_reply.specs.Replies.{body_of, error_of, fuse_attr, fuse_attr_out, fuse_entry_out, fuse_kstatfs, fuse_open_out, fuse_out_header, init_rest, is_quiet, reply_of};
 
 use crate::dirent::{fitting_len, put_dirents};
 use crate::field::{Field, put, put_bytes};
@@ -120,10 +120,7 @@ fn put_body(frame: &mut Vec<u8>, answer: &NodeAnswer) -> Result<(), WantOfMemory
         NodeAnswer::Entry(attr) => put_entry(frame, attr),
         NodeAnswer::Attr(attr) => put_attr_out(frame, attr),
         NodeAnswer::Opened { fh } => put_opened(frame, *fh),
-        NodeAnswer::Created { attr, fh } => {
-            put_entry(frame, attr)?;
-            put_opened(frame, *fh)
-        }
+        NodeAnswer::Created { attr, fh } => put_created(frame, attr, *fh),
         NodeAnswer::Content(content) => put_bytes(frame, content.as_slice()),
         NodeAnswer::Written { size } => put(frame, &[Field::Four(*size), Field::Four(0)]),
         NodeAnswer::Names {
@@ -132,7 +129,122 @@ fn put_body(frame: &mut Vec<u8>, answer: &NodeAnswer) -> Result<(), WantOfMemory
             size,
         } => put_dirents(frame, names.as_slice(), *offset, *size),
         NodeAnswer::Empty | NodeAnswer::Quiet | NodeAnswer::Error { .. } => Ok(()),
-        NodeAnswer::Init { .. } => put_init(frame, answer),
+        NodeAnswer::Init {
+            major,
+            minor,
+            readahead,
+            flags,
+            background,
+            congestion,
+            max_write,
+            time_gran,
+        } => {
+            let versions = [
+                Field::Four(*major),
+                Field::Four(*minor),
+                Field::Four(*readahead),
+                Field::Four(*flags),
+                Field::Two(*background),
+                Field::Two(*congestion),
+                Field::Four(*max_write),
+                Field::Four(*time_gran),
+            ];
+            put(frame, &versions)?;
+            put_init_rest(frame)
+        }
         NodeAnswer::Statfs => put_statfs(frame),
     }
+}
+
+/// A `fuse_entry_out`.
+fn put_entry(frame: &mut Vec<u8>, attr: &Attr) -> Result<(), WantOfMemory>
+    ensures { OnOk result (frame.new.items ≡ frame.old.items ++ spelled (fuse_entry_out attr.now)) }
+{
+    let fields = [
+        Field::Eight(attr.node),
+        Field::Eight(0),
+        Field::Eight(0),
+        Field::Eight(0),
+        Field::Four(0),
+        Field::Four(0),
+    ];
+    put(frame, &fields)?;
+    put_attr(frame, attr)
+}
+
+/// A `fuse_entry_out` and a `fuse_open_out`.
+fn put_created(frame: &mut Vec<u8>, attr: &Attr, fh: u64) -> Result<(), WantOfMemory>
+    ensures { OnOk result (frame.new.items ≡ frame.old.items ++ (spelled (fuse_entry_out attr.now) ++ spelled (fuse_open_out fh))) }
+{
+    put_entry(frame, attr)?;
+    put_opened(frame, fh)
+}
+
+/// A `fuse_attr_out`.
+fn put_attr_out(frame: &mut Vec<u8>, attr: &Attr) -> Result<(), WantOfMemory>
+    ensures { OnOk result (frame.new.items ≡ frame.old.items ++ spelled (fuse_attr_out attr.now)) }
+{
+    let fields = [Field::Eight(0), Field::Four(0), Field::Four(0)];
+    put(frame, &fields)?;
+    put_attr(frame, attr)
+}
+
+/// A `fuse_attr`.
+fn put_attr(frame: &mut Vec<u8>, attr: &Attr) -> Result<(), WantOfMemory>
+    ensures { OnOk result (frame.new.items ≡ frame.old.items ++ spelled (fuse_attr attr.now)) }
+{
+    let fields = [
+        Field::Eight(attr.node),
+        Field::Eight(attr.size),
+        Field::Eight(attr.blocks),
+        Field::Eight(attr.moment),
+        Field::Eight(attr.moment),
+        Field::Eight(attr.moment),
+        Field::Four(0),
+        Field::Four(0),
+        Field::Four(0),
+        Field::Four(attr.mode),
+        Field::Four(attr.links),
+        Field::Four(attr.uid),
+        Field::Four(attr.gid),
+        Field::Four(0),
+        Field::Four(attr.block_size),
+        Field::Four(0),
+    ];
+    put(frame, &fields)
+}
+
+/// A `fuse_open_out`.
+fn put_opened(frame: &mut Vec<u8>, fh: u64) -> Result<(), WantOfMemory>
+    ensures { OnOk result (frame.new.items ≡ frame.old.items ++ spelled (fuse_open_out fh)) }
+{
+    put(frame, &[Field::Eight(fh), Field::Four(0), Field::Four(0)])
+}
+
+/// A `fuse_kstatfs`.
+fn put_statfs(frame: &mut Vec<u8>) -> Result<(), WantOfMemory>
+    ensures { OnOk result (frame.new.items ≡ frame.old.items ++ spelled fuse_kstatfs) }
+{
+    let fields = [
+        Field::Eight(BLOCKS),
+        Field::Eight(BLOCKS),
+        Field::Eight(BLOCKS),
+        Field::Eight(NODES),
+        Field::Eight(NODES),
+        Field::Four(BLOCK_SIZE),
+        Field::Four(NAME_LENGTH),
+        Field::Four(BLOCK_SIZE),
+        Field::Four(0),
+    ];
+    put(frame, &fields)?;
+    put(frame, &[Field::Four(0); 6])
+}
+
+/// What stands in a `fuse_init_out` behind `time_gran`: `max_pages`,
+/// `map_alignment` and `unused`.
+fn put_init_rest(frame: &mut Vec<u8>) -> Result<(), WantOfMemory>
+    ensures { OnOk result (frame.new.items ≡ frame.old.items ++ spelled init_rest) }
+{
+    put(frame, &[Field::Two(0), Field::Two(0)])?;
+    put(frame, &[Field::Four(0); 8])
 }
