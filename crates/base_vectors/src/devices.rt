@@ -4,7 +4,8 @@ use crate::error::VectorError;
 use crate::scripted::{Act, Acts, Reader, Writer};
 use portal_base::list::List;
 use portal_base::outside::{
-    Clock, ListWords, MemorySink, MemorySource, SetClock, Sink, Source, StdSink, StdSource, Words,
+    Clock, ListWords, MemorySink, MemorySource, ReadAnswer, SetClock, Sink, Source, StdSink,
+    StdSource, Words,
 };
 use std::alloc::Global;
 use vector_lines::error::LineError;
@@ -27,12 +28,27 @@ fn answers<S: Source>(alloc: Global, source: &mut S, reads: usize) -> Result<Str
     let mut out = String::new(alloc);
     let mut buffer = [0; 4];
     for _ in 0..reads {
-        let answer = source.read(&mut buffer);
-        out.push_str(format!(in alloc; "{answer:?} ")?.as_str())?;
+        out.push_str(one_read(alloc, source, &mut buffer)?.as_str())?;
+        out.push(' ')?;
     }
-    let answer = source.read(&mut buffer);
-    out.push_str(format!(in alloc; "{answer:?}")?.as_str())?;
+    out.push_str(one_read(alloc, source, &mut buffer)?.as_str())?;
     Ok(out)
+}
+
+/// What a read answers: the bytes that came, between quotes, or why none came.
+fn one_read<S: Source>(
+    alloc: Global,
+    source: &mut S,
+    buffer: &mut [u8; 4],
+) -> Result<String, VectorError> {
+    match source.read(buffer) {
+        ReadAnswer::Got(len) => {
+            let bytes = buffer.as_slice().get(..len).unwrap_or(b"");
+            let text = String::from_utf8_lossy(alloc, bytes)?;
+            Ok(format!(in alloc; "\"{text}\"")?)
+        }
+        answer => Ok(format!(in alloc; "{answer:?}")?),
+    }
 }
 
 /// `sink ACT .. | ACT .. | PIECE ..`: what a write of each piece answers over a

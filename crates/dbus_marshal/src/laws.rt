@@ -23,10 +23,15 @@ pub fn every_value_is_spelled()
 /// Bytes begin with the spelling of a value of a type, or go wrong first in
 /// one way, and not both, from each offset and in either order of bytes.
 pub fn bytes_are_spelled_or_break()
-    ensures either { (endian : Endian') (at : ℕ) (kind : WireType') (bytes : List ℕ) → All (λ b. b < 256) bytes
-        → ((value : Value') × (text rest : List ℕ) × (bytes ≡ text ++ rest) × Spells endian at kind value text) ⊎ ((error : ReadError') × Breaks endian at kind bytes error) }
-    ensures once { (endian : Endian') (at : ℕ) (kind : WireType') (bytes : List ℕ) (error other : ReadError') → All (λ b. b < 256) bytes
+    ensures either { (endian : Endian') (at : ℕ) (kind : WireType') (bytes : List ℕ)
+        → All (λ b. b < 256) bytes
+        → ((value : Value') × (text rest : List ℕ) × (bytes ≡ text ++ rest)
+        × Spells endian at kind value text)
+        ⊎ ((error : ReadError') × Breaks endian at kind bytes error) }
+    ensures once { (endian : Endian') (at : ℕ) (kind : WireType') (bytes : List ℕ)
+        (error other : ReadError') → All (λ b. b < 256) bytes
         → Breaks endian at kind bytes error → Breaks endian at kind bytes other → error ≡ other }
-    ensures not_both { (endian : Endian') (at : ℕ) (kind : WireType') (value : Value') (text rest : List ℕ) (error : ReadError') → All (λ b. b < 256) (text ++ rest)
+    ensures not_both { (endian : Endian') (at : ℕ) (kind : WireType') (value : Value')
+        (text rest : List ℕ) (error : ReadError') → All (λ b. b < 256) (text ++ rest)
         → Spells endian at kind value text → Breaks endian at kind (text ++ rest) error → ⊥ }
 {}

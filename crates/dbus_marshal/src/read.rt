@@ -249,7 +249,8 @@ pub fn read_value(
     // What is refused goes wrong so.
     ensures broken { IsStopped result (λ error. Breaks endian at kind.now (drop at bytes.now) error) }
     // What goes wrong so is refused for just this, unless memory runs out.
-    ensures first { (error : ReadError') → Breaks endian at kind.now (drop at bytes.now) error → IsRefused error result }
+    ensures first { (error : ReadError') → Breaks endian at kind.now (drop at bytes.now) error
+        → IsRefused error result }
 {
     let (value, next) = read_within(alloc, endian, bytes, at, kind, MOST_VALUES)?;
     Ok(ReadValue { value, next })

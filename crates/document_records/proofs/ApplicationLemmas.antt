@@ -1,6 +1,6 @@
 -- The numbers of applications.
-use Rattle.std.proofs.Common.{◌≡◌, ◌⊎◌, ℕ, ◌+◌, ◌<◌, ◌≤◌, nat_lt, List, [], ◌∷◌, ◌++◌, length, Bool, true, false, not, cond, Option, Some, None, inl, inr, refl, sym, ap, ◌∙◌, arith, length-append}
-use Rattle.std.specs.List.{list_any, position_or_len}
+use Rattle.std.proofs.Common.{Option, ◌≡◌, ◌⊎◌, ℕ, ◌+◌, ◌<◌, ◌≤◌, nat_lt, List, [], ◌∷◌, ◌++◌, length, Bool, true, false, cond, Some, None, inl, inr, refl, sym, ap, ◌∙◌, arith, length-append}
+use Rattle.std.specs.List.{position_or_len}
 use Rattle.std.specs.Option.{option_map}
 use Rattle.std.proofs.lemmas.Bool.Decides.{nat_tests}
 use Rattle.portal_base.specs.Names.{is_same}
@@ -55,3 +55,11 @@ room-for-next apps app e (inl h) = let f : is_numbered apps app ≡ false = no-n
     differ true h k = cc
     differ false h k = cc
 room-for-next apps app e (inr h) = let long : length (apps ++ app ∷ []) ≡ length apps + 1 = length-append apps (app ∷ []) in omega arith
+
+-- what a look-up in the names of the code says of those that callers see
+pub number-seen : (items names apps : List (List ℕ)) (app : List ℕ) (r o : Option ℕ) → items ≡ names → names ≡ apps → r ≡ number_of items app → r ≡ o → number_of apps app ≡ o
+number-seen items names apps app r o e f g h = ap (λ (l : List (List ℕ)). number_of l app) (sym (e ∙ f)) ∙ (sym g ∙ h)
+
+-- what was put behind the names
+pub added-seen : (new names apps : List (List ℕ)) (name app : List ℕ) → new ≡ names ++ name ∷ [] → names ≡ apps → name ≡ app → new ≡ apps ++ app ∷ []
+added-seen new names apps name app e f g = e ∙ (λ i. f i ++ g i ∷ [])

@@ -1,5 +1,5 @@
 -- The lists of documents, and the numbers that they are looked up by.
-use Rattle.std.proofs.Common.{◌≡◌, ℕ, ◌+◌, ◌<◌, ◌≤◌, ◌==◌, nat_eq, List, [], ◌∷◌, ◌++◌, map, length, take, drop, Bool, true, false, not, ◌||◌, ◌&&◌, cond, Option, Some, None, refl, sym, ap, subst, ◌∙◌, arith, suc, length-append, ◌-◌, ◌^◌, nat_lt, min, Result, Ok, Err, is_err, OnOk}
+use Rattle.std.proofs.Common.{◌≡◌, ℕ, ◌+◌, ◌<◌, ◌≤◌, ◌==◌, nat_eq, List, [], ◌∷◌, ◌++◌, length, take, Bool, true, false, not, ◌||◌, ◌&&◌, cond, Option, Some, None, refl, sym, ap, subst, ◌∙◌, arith, suc, length-append, ◌-◌, ◌^◌, nat_lt, min, Result, Ok, Err, is_err, OnOk}
 use Rattle.std.specs.BTreeMap.{is_at}
 use Rattle.std.specs.BTreeSet.{BTreeSet, contains}
 use Rattle.std.specs.List.{filter, find, list_all, list_any, remove, prefix_len, position, position_or_len, slice_get, IsDistinct, AllByRecursion}

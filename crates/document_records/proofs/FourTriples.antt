@@ -1,20 +1,18 @@
 -- The triples of one application and document.
-use Rattle.std.proofs.Common.{◌≡◌, ℕ, ◌==◌, ltb, List, [], ◌∷◌, ◌++◌, Bool, true, false, not, ◌||◌, ◌&&◌, cond, refl, sym, ap, ◌∙◌, arith}
+use Rattle.std.proofs.Common.{◌≡◌, ℕ, ◌==◌, ltb, List, [], ◌∷◌, ◌++◌, Bool, true, false, ◌||◌, ◌&&◌, cond, refl, sym, ap, ◌∙◌, arith}
 use Rattle.std.specs.List.{filter, list_any, list_all}
-use Rattle.std.proofs.lemmas.Bool.Decides.{nat_tests}
 use Rattle.std.proofs.lemmas.List.Folds.{list_any-append}
 use Rattle.std.proofs.lemmas.List.Elements.{filter-append}
 use Rattle.portal_base.specs.Names.{is_same}
 use Rattle.portal_base.specs.declared.names.doc_id.DocId.{DocId}
-use Rattle.rights_rule.specs.Rights.{RightSet, union, minus}
+use Rattle.rights_rule.specs.Rights.{RightSet, union}
 use Rattle.portal_model.specs.declared.rights.Right.{Right}
 use Rattle.portal_model.specs.declared.rights.Right.TheVariants.{Read, Write, GrantPermissions, Delete}
 use Rattle.portal_model.specs.declared.state.Triple.{Triple}
 use Rattle.portal_model.specs.State.{bit_of, same_right, gives, app_has}
-use Rattle.document_records.specs.Ordered.{bytes_less, is_rising}
+use Rattle.document_records.specs.Ordered.{is_rising}
 use Rattle.document_records.specs.Rights.{triple_less, triple, triple_if, triples_of, is_in}
-use Rattle.document_records.proofs.Rising.{rising-append}
-use Rattle.document_records.proofs.TripleOrder.{is_same-refl, nat-itself, bytes-irreflexive}
+use Rattle.document_records.proofs.TripleOrder.{is_same-refl, nat-itself}
 
 any-if : (p : Triple → Bool) (b : Bool) (t : Triple) → list_any p (triple_if b t) ≡ (b && p t)
 any-if p true t = grind arith

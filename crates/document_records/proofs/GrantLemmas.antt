@@ -6,7 +6,6 @@ use Rattle.std.proofs.lemmas.List.Folds.{list_any-append}
 use Rattle.std.proofs.lemmas.List.Elements.{filter-append}
 use Rattle.std.proofs.lemmas.List.Sums.{prefix_len_is}
 use Rattle.std.specs.Option.{option_copied}
-use Rattle.portal_base.specs.Names.{is_same}
 use Rattle.portal_base.specs.declared.names.doc_id.DocId.{DocId}
 use Rattle.rights_rule.specs.Rights.{RightSet, union, minus, no_rights, is_no_right}
 use Rattle.portal_model.specs.declared.rights.Right.{Right}
@@ -14,12 +13,13 @@ use Rattle.portal_model.specs.declared.rights.Right.TheVariants.{Read, Write, Gr
 use Rattle.portal_model.specs.declared.state.Triple.{Triple}
 use Rattle.portal_model.specs.State.{app_has}
 use Rattle.portal_model.specs.Valid.{same_triple}
+use Rattle.portal_model.specs.View.{held_of}
 use Rattle.document_records.specs.declared.grants.Grant.{Grant}
 use Rattle.document_records.specs.Grants.{triples_of_grant, triples_of_grants, is_of, is_before, grant_less, are_grants_in_order, given, taken, has_a_right, is_elsewhere}
-use Rattle.document_records.specs.Ordered.{put, put_all, bytes_less, is_rising}
-use Rattle.document_records.specs.Rights.{triple_less, triple, triples_of, rights_held, is_in, add_rights, is_listed, take_rights, forget_document}
+use Rattle.document_records.specs.Ordered.{put, bytes_less, is_rising}
+use Rattle.document_records.specs.Rights.{triple_less, triple, triples_of, is_in, add_rights, is_listed, take_rights, forget_document}
 use Rattle.document_records.proofs.Rising.{rising-put, rising-put_all, rising-filter, rising-map, rising-append, any-put_all, same_items}
-use Rattle.document_records.proofs.TripleOrder.{Key, key_less, same_key, keys, triples, nat_is, nat-itself, is_same-eq, is_same-refl, bytes-irreflexive}
+use Rattle.document_records.proofs.TripleOrder.{Key, key_less, same_key, keys, triples, nat_is, is_same-eq, bytes-irreflexive}
 use Rattle.document_records.proofs.FourTriples.{any-union, gives-of, filter-of, all-of, rising-of}
 
 abbrev pub key_of : Grant → Key
@@ -104,7 +104,7 @@ has-some app number right (g ∷ gs) f s e =
         ∙ (or-false (is_in g.rights right) ∙ ap (λ (x : Grant). is_in x.rights right) found)
     rest false k a more = more (looked app number right g gs false (Some f) k e)
 
-pub held-some : (app : List ℕ) (number : ℕ) (gs : List Grant) (f : Grant) → are_grants_in_order gs ≡ true → find (is_of app number) gs ≡ Some f → f.rights ≡ rights_held (triples_of_grants gs) app number
+pub held-some : (app : List ℕ) (number : ℕ) (gs : List Grant) (f : Grant) → are_grants_in_order gs ≡ true → find (is_of app number) gs ≡ Some f → f.rights ≡ held_of (triples_of_grants gs) app number
 held-some app number gs f s e = λ i. record {
   read = sym (has-some app number Read gs f s e) i;
   write = sym (has-some app number Write gs f s e) i;
@@ -112,7 +112,7 @@ held-some app number gs f s e = λ i. record {
   delete = sym (has-some app number Delete gs f s e) i;
 }
 
-pub held-none : (app : List ℕ) (number : ℕ) (gs : List Grant) → find (is_of app number) gs ≡ None → no_rights ≡ rights_held (triples_of_grants gs) app number
+pub held-none : (app : List ℕ) (number : ℕ) (gs : List Grant) → find (is_of app number) gs ≡ None → no_rights ≡ held_of (triples_of_grants gs) app number
 held-none app number gs e = λ i. record {
   read = sym (has-none app number Read gs e) i;
   write = sym (has-none app number Write gs e) i;

@@ -1,11 +1,10 @@
 -- The documents of a portal, as lists, and what is looked up in them.
 -- Source: XDG Desktop Portal documentation, org.freedesktop.portal.Documents.
-use Rattle.std.specs.Prelude.{◌≡◌, ℕ, ◌==◌, ◌+◌, ◌-◌, ◌<◌, ◌%◌, ◌^◌, min, List, [], ◌∷◌, ◌++◌, length, take, map, Bool, true, false, not, ◌&&◌, Option, option_map}
+use Rattle.std.specs.Prelude.{◌≡◌, ℕ, ◌==◌, ◌+◌, ◌-◌, ◌<◌, ◌%◌, ◌^◌, min, List, [], ◌∷◌, ◌++◌, length, take, Bool, true, false, not, ◌&&◌, Option, option_map}
 use Rattle.std.specs.List.{filter, find}
 use Rattle.portal_base.specs.Names.{is_same}
 use Rattle.portal_base.specs.declared.names.doc_id.DocId.{DocId}
 use Rattle.portal_model.specs.declared.state.Document.{Document}
-use Rattle.portal_model.specs.State.{document_of}
 use Rattle.portal_model.specs.Valid.{is_made}
 
 pub record DocumentList : Type 0 where
@@ -16,6 +15,10 @@ pub record DocumentList : Type 0 where
   pub live : List Document
   -- the numbers of all documents that were ever made, in the order in which they were
   pub made : List DocId
+
+-- none, under these limits
+abbrev pub no_documents : ℕ → ℕ → DocumentList
+no_documents most_live most_made = record { most_live = most_live; most_made = most_made; live = []; made = [] }
 
 -- how many more may be added
 abbrev pub room : DocumentList → ℕ

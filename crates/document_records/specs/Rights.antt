@@ -7,7 +7,7 @@ use Rattle.rights_rule.specs.Rights.{RightSet}
 use Rattle.portal_model.specs.declared.rights.Right.{Right}
 use Rattle.portal_model.specs.declared.rights.Right.TheVariants.{Read, Write, GrantPermissions, Delete}
 use Rattle.portal_model.specs.declared.state.Triple.{Triple}
-use Rattle.portal_model.specs.State.{bit_of, app_has}
+use Rattle.portal_model.specs.State.{bit_of}
 use Rattle.document_records.specs.Ordered.{bytes_less, put_all, is_rising}
 
 abbrev pub triple_less : Triple → Triple → Bool
@@ -32,15 +32,6 @@ triples_of app id set =
     ++ (triple_if set.write (triple app id Write)
     ++ (triple_if set.grant_permissions (triple app id GrantPermissions)
     ++ triple_if set.delete (triple app id Delete)))
-
--- the rights of an application in the document of this number
-abbrev pub rights_held : List Triple → List ℕ → ℕ → RightSet
-rights_held rights app number = record {
-  read = app_has rights app number Read;
-  write = app_has rights app number Write;
-  grant_permissions = app_has rights app number GrantPermissions;
-  delete = app_has rights app number Delete;
-}
 
 abbrev pub is_in : RightSet → Right → Bool
 is_in set Read = set.read

@@ -1,10 +1,9 @@
 //! The numbers of applications.
 
-ghost use Rattle.std.specs.Prelude.{◌≡◌, ◌⊎◌, ◌<◌, ◌≤◌, [], Some, true, length, IfOk, IfErr, OnErr, option_copied};
+ghost use Rattle.std.specs.Prelude.{◌≡◌, ◌<◌, ◌≤◌, [], Some, length, IfOk, OnOk, OnErr, option_copied};
 ghost use Rattle.std.specs.List.{position};
 ghost use Rattle.portal_base.specs.Names.{is_same};
-ghost use Rattle.portal_model.specs.Valid.{is_numbered, applications_limit};
-ghost use Rattle.document_records.specs.Applications.{number_of, numbered, name_of_number};
+ghost use Rattle.document_records.specs.Applications.{number_of, numbered, name_of_number, HasNumberLeft};
 ghost use Rattle.document_records.specs.Documents.{front};
 
 use portal_base::list::List;
@@ -44,8 +43,9 @@ impl Applications {
     /// The number of an application, which gets the next one where it has
     /// none.
     pub fn number(&mut self, app: &AppId) -> Result<u32, WantOfMemory>
-        requires { (is_numbered self.old app.now ≡ true) ⊎ (length self.old < applications_limit) }
-        ensures ok { IfOk result (λ number. (self.new ≡ numbered self.old app.now) × (number_of self.new app.now ≡ Some number)) }
+        requires { HasNumberLeft self.old app.now }
+        ensures ok { OnOk result (self.new ≡ numbered self.old app.now) }
+        ensures number { IfOk result (λ number. number_of self.new app.now ≡ Some number) }
         ensures err { OnErr result (self.new ≡ self.old) }
     {
         if let Some(number) = number_of(self.names.as_slice(), app) {

@@ -1,10 +1,10 @@
 //! The live documents, and the numbers of all that were made.
 
-ghost use Rattle.std.specs.Prelude.{◌≡◌, ◌<◌, ◌^◌, IfOk, OnOk, IfErr, false, [], map, option_copied, ◌≢◌, min, ◌-◌, length};
+ghost use Rattle.std.specs.Prelude.{◌≡◌, ◌<◌, ◌^◌, IfOk, OnOk, OnErr, IfErr, false, [], map, option_copied, ◌≢◌, min, ◌-◌, length};
 ghost use Rattle.std.specs.List.{position};
 ghost use Rattle.portal_model.specs.State.{document_of};
 ghost use Rattle.portal_model.specs.Valid.{is_made};
-ghost use Rattle.document_records.specs.Documents.{room, with_document, without_document, without_last, IsLast, reusable_of, first_of, IsUnused, id_of_document, has_number};
+ghost use Rattle.document_records.specs.Documents.{no_documents, room, with_document, without_document, without_last, IsLast, reusable_of, first_of, IsUnused, id_of_document, has_number};
 ghost use Rattle.document_records.specs.DocumentErrors.{RefusesDocument};
 
 use portal_base::limits::Limits;
@@ -62,7 +62,7 @@ impl Documents {
     /// 2^32.
     pub fn new(alloc: Global, limits: &Limits) -> Documents
         requires { limits.now.made < 2 ^ 32 }
-        ensures { result ≡ record { most_live = limits.now.documents; most_made = limits.now.made; live = []; made = [] } }
+        ensures { result ≡ no_documents limits.now.documents limits.now.made }
     {
         Documents {
             alloc,
@@ -84,8 +84,10 @@ impl Documents {
     /// Adds a document, whose number was never made.
     pub fn add(&mut self, document: Document) -> Result<(), DocError>
         requires { is_made self.old.made document.id.number ≡ false }
-        ensures ok { OnOk result ((room self.old ≢ 0) × (self.new ≡ with_document self.old document)) }
-        ensures err { IfErr result (λ error. RefusesDocument self.old error × (self.new ≡ self.old)) }
+        ensures room { OnOk result (room self.old ≢ 0) }
+        ensures ok { OnOk result (self.new ≡ with_document self.old document) }
+        ensures refused { IfErr result (RefusesDocument self.old) }
+        ensures err { OnErr result (self.new ≡ self.old) }
     {
         if room(self.most_live, self.most_made, &self.live, &self.made) == 0 {
             return Err(DocError::Full {

@@ -2,8 +2,9 @@
 
 ghost use Rattle.std.specs.Prelude.{◌≡◌, [], OnOk, OnErr, map, None, option_copied};
 ghost use Rattle.std.specs.List.{prefix_len, find, filter};
+ghost use Rattle.portal_model.specs.View.{held_of};
 ghost use Rattle.document_records.specs.Ordered.{put};
-ghost use Rattle.document_records.specs.Rights.{rights_held, add_rights, take_rights, forget_document};
+ghost use Rattle.document_records.specs.Rights.{add_rights, take_rights, forget_document};
 
 use portal_base::memory::{Replica, WantOfMemory};
 use portal_base::names::{AppId, DocId};
@@ -54,7 +55,7 @@ impl Grants {
 
     /// The rights of an application in a document.
     pub fn rights(&self, app: &AppId, id: DocId) -> Rights
-        ensures { result ≡ rights_held self.now app.now id.number }
+        ensures { result ≡ held_of self.now app.now id.number }
     {
         match find(&self.grants, app, id) {
             Some(grant) => grant.rights,

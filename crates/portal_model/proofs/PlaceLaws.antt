@@ -9,7 +9,8 @@ use Rattle.portal_model.specs.Content.{look_of, look_at}
 use Rattle.portal_model.specs.GetAttr.{looks_at_place, own_sight, own_place, own_looks_of, own_looks}
 use Rattle.portal_model.specs.Place.{Place, DocumentFile, SightOfFile, sight_at, sight_of_document, sight_of_file, place_named, place_of}
 use Rattle.portal_model.specs.State.{State, app_has, document_of}
-use Rattle.portal_model.specs.View.{Seen, holds_any, held_of, seen_of, seen_document, view}
+use Rattle.rights_rule.specs.Rights.{holds_any}
+use Rattle.portal_model.specs.View.{Seen, held_of, seen_of, seen_document, view}
 use Rattle.portal_model.proofs.Finds.{nat_is, found_passes}
 use Rattle.portal_model.proofs.ViewLaws.{seen_is}
 

@@ -18,7 +18,8 @@ use Rattle.portal_model.specs.Laws.{with_document, with_right}
 use Rattle.portal_model.specs.State.{State, app_has, connection_of, document_of, gives}
 use Rattle.portal_model.specs.Step.{all_told, told_of}
 use Rattle.portal_model.specs.Valid.{Valid, is_none, is_host_bus, is_sound_connection}
-use Rattle.portal_model.specs.View.{Seen, TakesAlike, holds_any, held_of, own_documents, seen_of, put_in_order, in_order, seen_documents, seen_document, is_app, own_connections, view}
+use Rattle.rights_rule.specs.Rights.{holds_any}
+use Rattle.portal_model.specs.View.{Seen, TakesAlike, held_of, own_documents, seen_of, put_in_order, in_order, seen_document, is_app, own_connections, view}
 use Rattle.portal_model.proofs.Finds.{is_same-eq, nat_is, find-filter, find-map, found_in_all}
 use Rattle.portal_model.proofs.Silence.{told_of-silent, none-nil}
 
@@ -66,7 +67,7 @@ held-granted : (app : List ℕ) (rights : List Triple) (t : Triple) (number : �
 held-granted app rights t number h = λ i. record {
   read = has-granted app rights t number Read h i;
   write = has-granted app rights t number Write h i;
-  grant = has-granted app rights t number GrantPermissions h i;
+  grant_permissions = has-granted app rights t number GrantPermissions h i;
   delete = has-granted app rights t number Delete h i;
 }
 

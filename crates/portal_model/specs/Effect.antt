@@ -3,26 +3,27 @@ use Rattle.std.specs.Prelude.{ℕ, ◌==◌, List, [], ◌∷◌, not, ◌&&◌,
 use Rattle.std.specs.List.{filter}
 use Rattle.portal_base.specs.Names.{is_same}
 use Rattle.portal_model.specs.Content.{Content, OfFile, OfFolder, NotThere}
-use Rattle.portal_model.specs.View.{View, Seen, Held, holds_any, put_in_order, seen_document}
+use Rattle.portal_model.specs.View.{View, Seen, put_in_order, seen_document}
+use Rattle.rights_rule.specs.Rights.{RightSet, union, minus, holds_any}
 
 pub data Effect : Type 0 where
   -- rights in a document, which joins the view as it is given where it was not there
   Gained : Seen → Effect
   -- rights in the document of this number are taken away
-  Lost : ℕ → Held → Effect
+  Lost : ℕ → RightSet → Effect
   -- the document of this number is deleted
   Gone : ℕ → Effect
   -- the file of this path and generation has another content
   Bytes : List ℕ → ℕ → Content → Effect
 
-abbrev pub with_rights : Held → Held → Held
-with_rights more h = record { read = h.read || more.read; write = h.write || more.write; grant = h.grant || more.grant; delete = h.delete || more.delete }
+abbrev pub with_rights : RightSet → RightSet → RightSet
+with_rights more h = union h more
 
-abbrev pub without_rights : Held → Held → Held
-without_rights less h = record { read = h.read && not less.read; write = h.write && not less.write; grant = h.grant && not less.grant; delete = h.delete && not less.delete }
+abbrev pub without_rights : RightSet → RightSet → RightSet
+without_rights less h = minus h less
 
 -- the document of this number with other rights
-abbrev pub with_held : ℕ → (Held → Held) → Seen → Seen
+abbrev pub with_held : ℕ → (RightSet → RightSet) → Seen → Seen
 with_held number f d = cond (d.number == number) (record d { held = f d.held }) d
 
 -- a file of another generation stays, and so does a folder; where nothing is, a first file may come

@@ -28,7 +28,8 @@ use Rattle.portal_model.specs.Step.{after, reply_at, step}
 use Rattle.portal_model.specs.Opening.{opened, id_of, first_named, each, names_kept}
 use Rattle.portal_model.specs.Content.{Content, OfFile, OfFolder, NotThere}
 use Rattle.portal_model.specs.Effect.{Gained, Lost, Gone, Bytes, apply}
-use Rattle.portal_model.specs.View.{View, Seen, Held}
+use Rattle.portal_model.specs.View.{View, Seen}
+use Rattle.rights_rule.specs.Rights.{RightSet}
 use Rattle.portal_model.specs.World.{Trace, trace}
 
 -- ---- what the examples are made of
@@ -228,16 +229,16 @@ pub record TracesTellWhatIsHeld : Type 0 where
 -- ---- what others change of a view
 
 -- rights to read, to write, and both
-abbrev pub reads : Held
-reads = record { read = true; write = false; grant = false; delete = false }
+abbrev pub reads : RightSet
+reads = record { read = true; write = false; grant_permissions = false; delete = false }
 
-abbrev pub writes : Held
-writes = record { read = false; write = true; grant = false; delete = false }
+abbrev pub writes : RightSet
+writes = record { read = false; write = true; grant_permissions = false; delete = false }
 
-abbrev pub both : Held
-both = record { read = true; write = true; grant = false; delete = false }
+abbrev pub both : RightSet
+both = record { read = true; write = true; grant_permissions = false; delete = false }
 
-abbrev pub seen : ℕ → List ℕ → Held → Content → Seen
+abbrev pub seen : ℕ → List ℕ → RightSet → Content → Seen
 seen number path held content = record { number = number; path = path; persistent = true; reusable = true; held = held; content = content }
 
 -- what the file held at first, and what it holds then
@@ -251,7 +252,7 @@ abbrev pub viewing : List Seen → View
 viewing documents = record { handles = 1024; queued = 16; file_bytes = 268435456; documents = documents; connections = [] }
 
 -- the document of the file a.txt, with these rights and this content
-abbrev pub a_seen : Held → Content → List Seen
+abbrev pub a_seen : RightSet → Content → List Seen
 a_seen held content = seen 10 a_text held content ∷ []
 
 -- A document that is gained joins in its place by number, with its content; one that is there gains rights alone.

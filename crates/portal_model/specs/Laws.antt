@@ -13,7 +13,8 @@ use Rattle.portal_model.specs.Effect.{apply_all}
 use Rattle.portal_model.specs.Lawful.{Lawful}
 use Rattle.portal_model.specs.Seated.{BeginsWith, bound, bound_by, exchange, exchanges, is_open}
 use Rattle.portal_model.specs.Valid.{Valid}
-use Rattle.portal_model.specs.View.{TakesAlike, held_of, holds_any, view}
+use Rattle.portal_model.specs.View.{TakesAlike, held_of, view}
+use Rattle.rights_rule.specs.Rights.{holds_any}
 use Rattle.portal_model.specs.World.{app_run, app_step, own_of, touch, trace}
 
 -- a run of two lists joined is a run after a run

@@ -1,6 +1,6 @@
 -- The state of the sequential portal: plain lists, and what is looked up in them.
 -- The terms are those of the documentation of org.freedesktop.portal.Documents, where an application has permissions in documents.
-use Rattle.std.specs.Prelude.{◌≡◌, ℕ, ◌==◌, ◌&&◌, List, Bool, true, Option, is_some}
+use Rattle.std.specs.Prelude.{ℕ, ◌==◌, ◌&&◌, List, Bool, true, Option, is_some}
 use Rattle.std.specs.List.{find, list_any}
 use Rattle.portal_base.specs.Names.{is_same}
 use Rattle.portal_base.specs.declared.limits.Limits.{Limits}

@@ -3,6 +3,7 @@ use Rattle.std.specs.Prelude.{◌≡◌, ℕ, ◌==◌, nat_le, List, [], ◌∷
 use Rattle.std.specs.List.{All, filter, find}
 use Rattle.portal_base.specs.Names.{is_same}
 use Rattle.portal_base.specs.declared.who.Who.{Who}
+use Rattle.rights_rule.specs.Rights.{RightSet, holds_any}
 use Rattle.portal_model.specs.declared.rights.Right.TheVariants.{Read, Write, GrantPermissions, Delete}
 use Rattle.portal_model.specs.declared.state.Connection.{Connection}
 use Rattle.portal_model.specs.declared.state.Document.{Document}
@@ -10,23 +11,13 @@ use Rattle.portal_model.specs.declared.state.Triple.{Triple}
 use Rattle.portal_model.specs.Content.{Content, content_at}
 use Rattle.portal_model.specs.State.{State, app_has}
 
--- the rights that the application has in a document
-pub record Held : Type 0 where
-  pub read : Bool
-  pub write : Bool
-  pub grant : Bool
-  pub delete : Bool
-
-abbrev pub holds_any : Held → Bool
-holds_any h = h.read || (h.write || (h.grant || h.delete))
-
 -- a document in which the application has a right, and what the tree has at its path
 pub record Seen : Type 0 where
   pub number : ℕ
   pub path : List ℕ
   pub persistent : Bool
   pub reusable : Bool
-  pub held : Held
+  pub held : RightSet
   pub content : Content
 
 pub record View : Type 0 where
@@ -39,11 +30,12 @@ pub record View : Type 0 where
   -- in the order in which they were opened
   pub connections : List Connection
 
-abbrev pub held_of : List Triple → List ℕ → ℕ → Held
+-- the rights that the application has in the document of a number
+abbrev pub held_of : List Triple → List ℕ → ℕ → RightSet
 held_of rights app number = record {
   read = app_has rights app number Read;
   write = app_has rights app number Write;
-  grant = app_has rights app number GrantPermissions;
+  grant_permissions = app_has rights app number GrantPermissions;
   delete = app_has rights app number Delete;
 }
 

@@ -15,7 +15,8 @@ use vector_lines::notation::{self, cut, number, small_number};
 /// a portal that the script opens and whose history may cost LIMIT; and then how
 /// many entries the history has, and their cost. A request is `SEAT enter WHO
 /// KIND`, `SEAT leave`, `SEAT collect` or `SEAT getattr NODE FLAGS FH`, the last
-/// by user and group 1000; `desk SEAT ..` asks it of a desk of the seat.
+/// by user and group 1000; `desk SEAT REQUEST, REQUEST ..` asks them of one desk
+/// of the seat.
 pub fn portal(alloc: Global, rest: &str) -> Result<String, VectorError> {
     let (limit, rest) = cut(rest);
     let mut parts = rest.split(" | ");
@@ -49,19 +50,25 @@ fn asked(alloc: Global, portal: &mut Portal, part: &str) -> Result<String, Vecto
     shown(alloc, portal.ask(alloc, seat, request))
 }
 
-/// The same of a desk of the seat, and how many requests the desk refused.
+/// What each request of a desk is answered, and how many the desk refused by then.
 fn asked_at_desk(alloc: Global, portal: &mut Portal, part: &str) -> Result<String, VectorError> {
-    let (seat, words) = cut(part);
+    let (seat, requests) = cut(part);
     let seat = seat_of(seat)?;
     if seat == 0 {
         return Err(VectorError::Line(LineError::BadLine));
     }
-    let request = request_of(alloc, words)?;
     let mut desk = LocalDesk::new(portal, seat);
-    let reply = desk.ask(alloc, request);
-    let refusals = desk.refusals();
-    let shown = shown(alloc, reply)?;
-    Ok(format!(in alloc; "{shown} refused {refusals}")?)
+    let mut out = String::new(alloc);
+    for (index, words) in requests.split(", ").enumerate() {
+        if index > 0 {
+            out.push_str(", ")?;
+        }
+        let reply = desk.ask(alloc, request_of(alloc, words)?);
+        let refusals = desk.refusals();
+        let shown = shown(alloc, reply)?;
+        out.push_str(format!(in alloc; "{shown} refused {refusals}")?.as_str())?;
+    }
+    Ok(out)
 }
 
 fn seat_of(word: &str) -> Result<u32, LineError> {

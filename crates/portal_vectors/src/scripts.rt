@@ -109,7 +109,11 @@ fn shown_grants(alloc: Global, grants: &[GrantRecord]) -> Result<String, VectorE
 /// `opening TEXT`: the state that the script opens with: its applications in
 /// the order of their numbers, its documents and its files.
 pub fn opening(alloc: Global, rest: &str) -> Result<String, VectorError> {
-    let built = read(alloc, rest)?;
+    let text = notation::text(alloc, rest)?;
+    if text.len() > LONGEST {
+        return Err(VectorError::Line(LineError::BadLine));
+    }
+    let built = read_built(alloc, text.as_slice())?;
     let opening = opening_of(alloc, &built.script, limits(PLENTY))?;
     let mut out = String::new(alloc);
     put_applications(alloc, &mut out, opening.applications.as_slice())?;

@@ -1,15 +1,19 @@
 //! Connections, from their first byte to their end.
 
+ghost use Rattle.std.specs.Prelude.{◌≡◌, []};
+
 use crate::drip::Drip;
 use crate::error::VectorError;
 use crate::opened::{PLENTY, kind, limits, opened_by, who};
 use portal_base::limits::Settings;
 use portal_base::list::{ByteList, List};
 use portal_base::names::HostPath;
-use portal_base::outside::MemorySink;
+use portal_base::outside::{MemorySink, Sink, Source};
 use portal_base::who::{Kind, Who};
 use portal_core::local_desk::LocalDesk;
+use portal_core::portal::Portal;
 use session::connection::serve_connection;
+use session::served::Served;
 use std::alloc::Global;
 use vector_lines::error::LineError;
 use vector_lines::notation::{bytes, cut, digits, number};
@@ -99,6 +103,35 @@ fn dripped(alloc: Global, options: Options, input: &[u8]) -> Result<Drip, Vector
     })
 }
 
+/// How a connection ended, and how many entries the history has then.
+#[derive(Clone, Copy)]
+struct Came {
+    served: Served,
+    entries: u64,
+}
+
+/// Serves a connection of a portal that has no connection yet.
+fn serve_portal<S: Source, K: Sink>(
+    alloc: Global,
+    portal: &mut Portal,
+    who: &Who,
+    kind: Kind,
+    settings: &Settings,
+    source: &mut S,
+    sink: &mut K,
+) -> Came
+    requires { portal.old.history ≡ [] }
+{
+    let served = {
+        let mut desk = LocalDesk::new(portal, 1);
+        serve_connection(alloc, &mut desk, who, kind, settings, source, sink)
+    };
+    Came {
+        served,
+        entries: portal.history().len(),
+    }
+}
+
 fn served(
     alloc: Global,
     who: &Who,
@@ -106,25 +139,29 @@ fn served(
     options: Options,
     input: &[u8],
 ) -> Result<String, VectorError> {
-    let mut portal = opened_by(alloc, SCRIPT, options.limit)?;
     let settings = settings(alloc)?;
     let mut source = dripped(alloc, options, input)?;
     let mut sink = MemorySink::new(alloc, options.write);
-    let served = {
-        let mut desk = LocalDesk::new(&mut portal, 1);
-        serve_connection(
-            alloc,
-            &mut desk,
-            who,
-            kind,
-            &settings,
-            &mut source,
-            &mut sink,
-        )
-    };
-    let entries = portal.history().len();
+    let mut portal = opened_by(alloc, SCRIPT, options.limit)?;
+    let came = serve_portal(
+        alloc,
+        &mut portal,
+        who,
+        kind,
+        &settings,
+        &mut source,
+        &mut sink,
+    );
+    told(alloc, came, sink.pieces().as_slice())
+}
+
+/// How a connection ended, how many entries the history has then, and the pieces
+/// that were written.
+fn told(alloc: Global, came: Came, pieces: &[ByteList]) -> Result<String, VectorError> {
+    let served = came.served;
+    let entries = came.entries;
     let mut out = format!(in alloc; "{served:?}, {entries} entries")?;
-    for piece in sink.pieces().iter() {
+    for piece in pieces {
         out.push_str(" | ")?;
         out.push_str(digits(alloc, piece.as_slice())?.as_str())?;
     }

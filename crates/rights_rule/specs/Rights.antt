@@ -1,6 +1,6 @@
 -- The permissions that an application may have in a document.
 -- Source: XDG Desktop Portal documentation, org.freedesktop.portal.Documents, GrantPermissions: "Possible values are 'read', 'write', 'grant-permissions' and 'delete'".
-use Rattle.std.specs.Prelude.{◌≡◌, ℕ, ◌<◌, ◌++◌, List, [], ◌∷◌, length, take, min, slice_get, Some, codes, Bool, true, false, not, ◌&&◌, ◌||◌, cond}
+use Rattle.std.specs.Prelude.{◌≡◌, ℕ, ◌++◌, List, [], ◌∷◌, take, min, slice_get, Some, codes, Bool, true, false, not, ◌&&◌, ◌||◌, cond}
 use Rattle.std.specs.List.{list_any, list_all}
 use Rattle.portal_base.specs.Names.{is_same}
 
@@ -35,8 +35,11 @@ minus a b = record {
   delete = a.delete && not b.delete;
 }
 
+abbrev pub holds_any : RightSet → Bool
+holds_any a = a.read || (a.write || (a.grant_permissions || a.delete))
+
 abbrev pub is_no_right : RightSet → Bool
-is_no_right a = not (a.read || (a.write || (a.grant_permissions || a.delete)))
+is_no_right a = not (holds_any a)
 
 -- each right of the second set is in the first
 abbrev pub contains : RightSet → RightSet → Bool

@@ -1,7 +1,8 @@
 //! The names of rights.
 
 ghost use Rattle.std.specs.Prelude.{◌≡◌, ℕ, ◌++◌, IfOk, IfErr, OnOk, OnErr, Some, None, true, cond};
-ghost use Rattle.rights_rule.specs.Rights.{is_right_name, right_named, rights_named, are_right_names, IsFirstUnknown, told_place, name_if, names_of};
+ghost use Rattle.rights_rule.specs.Unknown.{TellsUnknown};
+ghost use Rattle.rights_rule.specs.Rights.{is_right_name, right_named, rights_named, are_right_names, told_place, name_if, names_of};
 
 use crate::rights::Rights;
 use portal_base::list::List;
@@ -28,8 +29,9 @@ pub struct UnknownPermission {
 
 /// The rights whose names stand in a list, where each text of it names one.
 pub fn read_names(names: &List<Text>) -> Result<Rights, UnknownPermission>
-    ensures ok { IfOk result (λ rights. (are_right_names names.now ≡ true) × (rights ≡ rights_named names.now)) }
-    ensures err { IfErr result (λ error. (at : ℕ) × IsFirstUnknown names.now at × (error.index ≡ told_place at)) }
+    ensures known { OnOk result (are_right_names names.now ≡ true) }
+    ensures ok { IfOk result (λ rights. rights ≡ rights_named names.now) }
+    ensures err { IfErr result (TellsUnknown names.now) }
 {
     let mut rights = Rights::NONE;
     for (index, name) in names.as_slice().iter().enumerate() {

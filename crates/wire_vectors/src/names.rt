@@ -7,20 +7,24 @@ use dbus_types::write::write_signature;
 use std::alloc::Global;
 use vector_lines::notation;
 
-/// `name TEXT`: of what the text is a name.
+/// `name TEXT`: of what the text is a name, each of which is told.
 pub fn name(alloc: Global, rest: &str) -> Result<String, VectorError> {
     let text = notation::text(alloc, rest)?;
     let text = text.as_slice();
-    let kind = if is_object_path(text) {
-        "path"
-    } else if is_interface(text) {
-        "interface"
-    } else if is_member(text) {
-        "member"
-    } else {
-        "nothing"
-    };
-    Ok(String::from_str(alloc, kind)?)
+    let mut out = String::new(alloc);
+    if is_object_path(text) {
+        out.push_str("path")?;
+    }
+    if is_interface(text) {
+        out.push_str("interface")?;
+    }
+    if is_member(text) {
+        out.push_str("member")?;
+    }
+    if out.is_empty() {
+        out.push_str("nothing")?;
+    }
+    Ok(out)
 }
 
 /// `signature TEXT`: how many types it has, and their text; or where it breaks.

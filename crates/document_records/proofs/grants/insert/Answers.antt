@@ -1,4 +1,4 @@
-use Rattle.std.proofs.Common.{◌≡◌, ◌∙◌, ap, ◌≤◌, ℕ, List, length}
+use Rattle.std.proofs.Common.{◌∙◌, ap, ◌≤◌, ℕ, List, length}
 use Rattle.std.specs.List.{insert, prefix_len}
 use Rattle.std.proofs.lemmas.List.Sums.{prefix_len-le-length}
 use Rattle.document_records.specs.declared.grants.Grant.{Grant}

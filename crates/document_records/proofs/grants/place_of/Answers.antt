@@ -1,4 +1,4 @@
-use Rattle.std.proofs.Common.{sym, ◌∙◌}
+use Rattle.std.proofs.Common.{sym}
 use Rattle.document_records.specs.Grants.{is_before}
 use Rattle.document_records.proofs.GrantLemmas.{front-stops, front-all}
 use Rattle.document_records.proofs.grants.place_of.Goals as goal

@@ -1,4 +1,4 @@
-use Rattle.std.proofs.Common.{◌≡◌, ◌∙◌, ap, sym, Some, None, List, ℕ, Option}
+use Rattle.std.proofs.Common.{◌≡◌, ◌∙◌, ap, sym, Some, None, List}
 use Rattle.std.specs.List.{position, find}
 use Rattle.portal_model.specs.declared.state.Document.{Document}
 use Rattle.document_records.specs.Documents.{DocumentList, has_number, without_document}

@@ -1,5 +1,4 @@
-use Rattle.std.proofs.Common.{◌≡◌, ◌∙◌, ◌++◌, ◌∷◌, [], ap, sym, ℕ, List}
-use Rattle.portal_base.specs.declared.names.doc_id.DocId.{DocId}
+use Rattle.std.proofs.Common.{◌≡◌, ◌∙◌, ◌++◌, ◌∷◌, [], ap}
 use Rattle.document_records.specs.Documents.{DocumentList}
 use Rattle.document_records.proofs.DocumentLemmas.{indexed-back, popped}
 use Rattle.document_records.proofs.documents.Documents.take_back.Goals as goal

@@ -1,4 +1,4 @@
-use Rattle.std.proofs.Common.{◌≡◌, ◌<◌, ◌^◌, ◌∙◌, ap, sym, true, false, arith}
+use Rattle.std.proofs.Common.{◌≡◌, ◌∙◌, ap, sym, true, false, arith}
 use Rattle.portal_model.specs.Valid.{is_made}
 use Rattle.document_records.specs.Documents.{DocumentList}
 use Rattle.document_records.proofs.Unused.{walked-none, walked-more, fewer-left}

@@ -1,6 +1,5 @@
-use Rattle.std.proofs.Common.{◌≡◌, ◌∙◌, ap, sym, true, false, None, List, ℕ, is_some}
+use Rattle.std.proofs.Common.{◌≡◌, ◌∙◌, ap, sym, true, None, List, ℕ, is_some}
 use Rattle.std.specs.List.{find}
-use Rattle.portal_model.specs.declared.state.Triple.{Triple}
 use Rattle.document_records.specs.declared.grants.Grant.{Grant}
 use Rattle.document_records.specs.Grants.{is_of, triples_of_grants}
 use Rattle.document_records.specs.Rights.{add_rights}

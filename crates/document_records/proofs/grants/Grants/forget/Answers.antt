@@ -1,5 +1,5 @@
 use Rattle.std.proofs.Common.{ap, ◌∙◌}
-use Rattle.document_records.specs.Grants.{are_grants_in_order, is_elsewhere, triples_of_grants}
+use Rattle.document_records.specs.Grants.{is_elsewhere, triples_of_grants}
 use Rattle.document_records.specs.Rights.{forget_document}
 use Rattle.document_records.proofs.GrantLemmas.{rising-some, forgotten-is}
 use Rattle.document_records.proofs.grants.Grants.forget.Goals as goal

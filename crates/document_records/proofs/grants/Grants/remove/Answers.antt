@@ -1,5 +1,5 @@
-use Rattle.std.proofs.Common.{ap, ◌∙◌, ◌≡◌, true, map}
-use Rattle.document_records.specs.Grants.{are_grants_in_order, has_a_right, taken, triples_of_grants}
+use Rattle.std.proofs.Common.{ap, ◌∙◌, map}
+use Rattle.document_records.specs.Grants.{has_a_right, taken, triples_of_grants}
 use Rattle.document_records.specs.Rights.{take_rights}
 use Rattle.document_records.proofs.GrantLemmas.{rising-some, rising-taken, held-ones-are, taken-is}
 use Rattle.document_records.proofs.grants.Grants.remove.Goals as goal
