@@ -15,11 +15,17 @@ use std::alloc::Global;
 
 // The lengths of the structs.
 const OUT_HEADER_LEN: usize = 16;
+
 const ENTRY_OUT_LEN: usize = 128;
+
 const ATTR_OUT_LEN: usize = 104;
+
 const OPEN_OUT_LEN: usize = 16;
+
 const WRITE_OUT_LEN: usize = 8;
+
 const STATFS_OUT_LEN: usize = 80;
+
 const INIT_OUT_LEN: usize = 64;
 
 /// The size of a block of the file system, in bytes.
@@ -88,12 +94,7 @@ fn body_len(answer: &NodeAnswer) -> usize {
 
 /// A buffer with room for a header and a body of this length. The header
 /// stands in it, without the length of the frame.
-fn begun(
-    alloc: Global,
-    error: u32,
-    unique: u64,
-    body_len: usize,
-) -> Result<Vec<u8>, WantOfMemory>
+fn begun(alloc: Global, error: u32, unique: u64, body_len: usize) -> Result<Vec<u8>, WantOfMemory>
     ensures { IfOk result (λ frame. frame.items ≡ spelled (fuse_out_header 0 error unique)) }
 {
     let mut frame = Vec::with_capacity(alloc, body_len.saturating_add(OUT_HEADER_LEN))?;

@@ -51,7 +51,7 @@ init_answer asked =
     if is_too_old asked then Error eproto
     else if nat_lt kernel_version asked.major then Init kernel_version kernel_minor_version 0 0 0 0 0 0
     else Init kernel_version kernel_minor_version (min asked.max_readahead max_readahead) (bit_and asked.flags granted_flags)
-        max_background congestion_threshold max_write time_gran
+    max_background congestion_threshold max_write time_gran
 
 -- what is answered to a body, which may be longer than the struct
 abbrev pub init_ask : List ℕ → Option NodeAnswer

@@ -16,17 +16,29 @@ use std::alloc::Global;
 
 // The lengths of the structs.
 const FORGET_IN_LEN: usize = 8;
+
 const GETATTR_IN_LEN: usize = 16;
+
 const SETATTR_IN_LEN: usize = 88;
+
 const OPEN_IN_LEN: usize = 8;
+
 const CREATE_IN_LEN: usize = 16;
+
 const RELEASE_IN_LEN: usize = 24;
+
 const FLUSH_IN_LEN: usize = 24;
+
 const READ_IN_LEN: usize = 40;
+
 const WRITE_IN_LEN: usize = 40;
+
 const FSYNC_IN_LEN: usize = 16;
+
 const ACCESS_IN_LEN: usize = 8;
+
 const BATCH_FORGET_IN_LEN: usize = 8;
+
 const FORGET_ONE_LEN: usize = 16;
 
 /// FUSE_LOOKUP: a name.
@@ -67,11 +79,7 @@ pub fn batch_forget(alloc: Global, body: &[u8]) -> Result<Option<NodeOp>, WantOf
 }
 
 /// So many of `fuse_forget_one`, one after another.
-fn forget_ones(
-    alloc: Global,
-    count: usize,
-    bytes: &[u8],
-) -> Result<List<ForgetItem>, WantOfMemory>
+fn forget_ones(alloc: Global, count: usize, bytes: &[u8]) -> Result<List<ForgetItem>, WantOfMemory>
     requires { 16 * count ≤ length bytes.now }
     ensures { IfOk result (λ nodes. nodes ≡ forget_ones count bytes.now) }
 {

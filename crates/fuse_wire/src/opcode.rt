@@ -63,30 +63,55 @@ pub enum Opcode {
 }
 
 const FUSE_LOOKUP: u32 = 1;
+
 const FUSE_FORGET: u32 = 2;
+
 const FUSE_GETATTR: u32 = 3;
+
 const FUSE_SETATTR: u32 = 4;
+
 const FUSE_MKNOD: u32 = 8;
+
 const FUSE_MKDIR: u32 = 9;
+
 const FUSE_UNLINK: u32 = 10;
+
 const FUSE_RMDIR: u32 = 11;
+
 const FUSE_RENAME: u32 = 12;
+
 const FUSE_OPEN: u32 = 14;
+
 const FUSE_READ: u32 = 15;
+
 const FUSE_WRITE: u32 = 16;
+
 const FUSE_STATFS: u32 = 17;
+
 const FUSE_RELEASE: u32 = 18;
+
 const FUSE_FSYNC: u32 = 20;
+
 const FUSE_FLUSH: u32 = 25;
+
 const FUSE_INIT: u32 = 26;
+
 const FUSE_OPENDIR: u32 = 27;
+
 const FUSE_READDIR: u32 = 28;
+
 const FUSE_RELEASEDIR: u32 = 29;
+
 const FUSE_ACCESS: u32 = 34;
+
 const FUSE_CREATE: u32 = 35;
+
 const FUSE_INTERRUPT: u32 = 36;
+
 const FUSE_DESTROY: u32 = 38;
+
 const FUSE_BATCH_FORGET: u32 = 42;
+
 const FUSE_RENAME2: u32 = 45;
 
 /// The opcode of a number.

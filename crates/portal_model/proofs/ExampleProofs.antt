@@ -129,7 +129,7 @@ valid_with_another = record {
 -- ---- the examples
 
 pub costs : CostsOfRequests
-costs = record { enter = refl; attributes = refl; leave = refl; collect = refl }
+costs = record { enter = refl; attributes = refl; leave = refl; collect = refl; lookup = refl; write = refl; forget = refl; batch_forget = refl }
 
 pub attributes : AttributesOfGrantedFile
 attributes = record {

@@ -12,6 +12,6 @@ loop-place-preserved c =
     let here : place < length names = omega (arith, c.loop-place-test.true) in
     let next = fitting-next names entry place c.loop-place.left size here c.index-names-place.is (rw (c.len.ensures) at c.in-Some.ensures.0) c.in-Some.ensures.1 in
     rw (c.in_ok-put_dirent.ensures) (
-      append_assoc c.loop-place.bytes.items (dirent entry (place + 1)) (fitting (drop (place + 1) names) (place + 1) (c.loop-place.left - size))
-      ∙ (ap (λ (x : List ℕ). c.loop-place.bytes.items ++ x) (sym next) ∙ c.loop-place.invariant)
+    append_assoc c.loop-place.bytes.items (dirent entry (place + 1)) (fitting (drop (place + 1) names) (place + 1) (c.loop-place.left - size))
+    ∙ (ap (λ (x : List ℕ). c.loop-place.bytes.items ++ x) (sym next) ∙ c.loop-place.invariant)
     )

@@ -8,11 +8,10 @@ pub loop-done-preserved : goal.loop-done-preserved
 loop-done-preserved c =
     let rest = c.loop-done.rest.now in
     let more : c.loop-done.done < c.args.count = omega (arith, c.loop-done-test.true) in
-    let next = ones-next c.args.count c.loop-done.done rest more in
-    (
+    let next = ones-next c.args.count c.loop-done.done rest more in (
       rw (c.in_ok-push.ensures.ok, c.forget_one.ensures, c.behind-rest.ensures) (
-        append_assoc c.loop-done.nodes (forget_one rest ∷ []) (forget_ones (c.args.count - (c.loop-done.done + 1)) (drop forget_one_len rest))
-        ∙ (ap (λ (x : List ForgetItem). c.loop-done.nodes ++ x) (sym next) ∙ c.loop-done.invariant.0)
-      ),
+          append_assoc c.loop-done.nodes (forget_one rest ∷ []) (forget_ones (c.args.count - (c.loop-done.done + 1)) (drop forget_one_len rest))
+          ∙ (ap (λ (x : List ForgetItem). c.loop-done.nodes ++ x) (sym next) ∙ c.loop-done.invariant.0)
+          ),
       rw (c.behind-rest.ensures) (omega (arith, length-drop forget_one_len rest, c.loop-done.invariant.1, more)),
     )
