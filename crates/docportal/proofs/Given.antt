@@ -7,10 +7,11 @@ use Rattle.portal_model.specs.declared.entry.Fault.{Fault}
 use Rattle.portal_model.specs.declared.entry.Given.{Given}
 use Rattle.portal_model.specs.declared.request.Request.{Request}
 use Rattle.portal_model.specs.History.{EachLawful, run}
-use Rattle.portal_model.specs.Lawful.{Lawful, LawfulLooks}
+use Rattle.portal_model.specs.Lawful.{Lawful, LawfulLooks, is_defined}
 use Rattle.portal_model.specs.State.{State}
 use Rattle.portal_model.specs.Step.{after, looks_taken}
 use Rattle.portal_model.proofs.WorldLaws.{step_told}
+use Rattle.session.proofs.Defining.{AllDefined}
 use Rattle.docportal.specs.Entries.{entries_for, entry_for}
 
 -- ---- what is given is lawful
@@ -19,12 +20,12 @@ given_looks : (told : Bool) (taken : List Look) → LawfulLooks told taken Fault
 given_looks true taken = refl
 given_looks false taken = refl
 
-entry_lawful : (s : State) (seat : ℕ) (request : Request) → Lawful s (entry_for s seat request)
-entry_lawful s seat request = record { clock = refl; words = refl; numbers = refl; full = refl; looks = given_looks s.told (looks_taken s seat request) }
+entry_lawful : (s : State) (seat : ℕ) (request : Request) → is_defined request ≡ true → Lawful s (entry_for s seat request)
+entry_lawful s seat request d = record { defined = d; clock = refl; words = refl; numbers = refl; full = refl; looks = given_looks s.told (looks_taken s seat request) }
 
-pub entries_lawful : (requests : List Request) (s : State) (seat : ℕ) → EachLawful s (entries_for s seat requests)
-entries_lawful [] s seat = tt
-entries_lawful (r ∷ rs) s seat = (entry_lawful s seat r, entries_lawful rs (after s (entry_for s seat r)) seat)
+pub entries_lawful : (requests : List Request) (s : State) (seat : ℕ) → AllDefined requests → EachLawful s (entries_for s seat requests)
+entries_lawful [] s seat d = tt
+entries_lawful (r ∷ rs) s seat d = (entry_lawful s seat r d.0, entries_lawful rs (after s (entry_for s seat r)) seat d.1)
 
 -- ---- and what is lawful is given
 

@@ -5,5 +5,6 @@
 //! little-endian.
 #![tactic(auto)]
 
+pub mod dirent;
 pub mod field;
 pub mod reply;

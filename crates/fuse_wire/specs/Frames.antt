@@ -2,6 +2,7 @@
 -- number in it is little-endian.
 use Rattle.std.specs.Prelude.{ℕ, Bool, List, length, drop, nat_lt, ◌||◌, if◌then◌else◌}
 use Rattle.byteorder.specs.Endian.{little_number}
+use Rattle.fuse_wire.specs.declared.frame.InHeader.{InHeader}
 use Rattle.portal_base.specs.declared.split.Split.{Split}
 use Rattle.portal_base.specs.declared.split.Split.TheVariants.{More, Whole, Bad}
 
@@ -9,17 +10,7 @@ use Rattle.portal_base.specs.declared.split.Split.TheVariants.{More, Whole, Bad}
 abbrev pub number_at : ℕ → ℕ → List ℕ → ℕ
 number_at at width frame = little_number width (drop at frame)
 
--- struct fuse_in_header; two numbers of 16 bits follow, which are not looked at
-pub record InHeader : Type 0 where
-  pub len : ℕ
-  pub opcode : ℕ
-  pub unique : ℕ
-  pub nodeid : ℕ
-  pub uid : ℕ
-  pub gid : ℕ
-  pub pid : ℕ
-
--- the header of a frame: the fields of the struct at their offsets
+-- struct fuse_in_header: its fields at their offsets; two numbers of 16 bits follow, which are not looked at
 abbrev pub header_of : List ℕ → InHeader
 header_of frame = record {
   len = number_at 0 4 frame;
@@ -30,15 +21,6 @@ header_of frame = record {
   gid = number_at 28 4 frame;
   pid = number_at 32 4 frame;
 }
-
--- struct fuse_getattr_in, behind a number that is not looked at
-pub record GetAttrIn : Type 0 where
-  pub getattr_flags : ℕ
-  pub fh : ℕ
-
--- the body of a frame of FUSE_GETATTR, behind the 40 bytes of its header
-abbrev pub getattr_in_of : List ℕ → GetAttrIn
-getattr_in_of frame = record { getattr_flags = number_at 40 4 frame; fh = number_at 48 8 frame }
 
 -- a length that no frame has: below that of a header, or above 135,168
 abbrev pub is_bad_len : ℕ → Bool

@@ -4,5 +4,8 @@
 //! 40 bytes, and then the opcode's own body. Every number is little-endian.
 #![tactic(auto)]
 
+pub mod body;
 pub mod frame;
+pub mod init;
+pub mod opcode;
 pub mod request;

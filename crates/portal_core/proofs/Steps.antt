@@ -17,7 +17,7 @@ use Rattle.portal_model.specs.declared.state.Triple.{Triple}
 use Rattle.portal_model.specs.Enter.{entered, new_connection}
 use Rattle.portal_model.specs.GetAttr.{by_handle_or_place, get_attr_looks}
 use Rattle.portal_model.specs.History.{run, cost, cost_of}
-use Rattle.portal_model.specs.Lawful.{Lawful}
+use Rattle.portal_model.specs.Lawful.{Lawful, is_defined_op}
 use Rattle.portal_model.specs.Leave.{left, of_others}
 use Rattle.portal_model.specs.Opening.{opened}
 use Rattle.portal_model.specs.Place.{place_of}
@@ -28,7 +28,7 @@ use Rattle.portal_model.proofs.Histories.{run-append, Legal-append, cost-append}
 use Rattle.portal_model.proofs.Silence.{all_told-silent, node_step-silent, run-silent, unsent-silent}
 use Rattle.portal_model.proofs.ValidLaws.{run-Valid}
 use Rattle.portal_core.specs.Held.{Stands, state_of}
-use Rattle.portal_core.specs.Served.{Serves, collect_answer, entry_of, flags_of, looked, taken}
+use Rattle.portal_core.specs.Served.{Serves, collect_answer, entry_of, looked, taken}
 
 -- ---- a request on a node, in any state
 
@@ -49,30 +49,32 @@ pub fewer_others : (seat : ℕ) (cs : List Connection) → is_some (connection_o
 fewer_others seat [] e = cc
 fewer_others seat (c ∷ cs) e = grind (arith, fewer_others seat cs, others_within seat cs)
 
-pub serves_absent : (s : State) (seat : ℕ) (r : NodeRequest) → mount_of (connection_of s.connections seat) ≡ None → Serves s seat r (Answer.Refused Code.NotHere) None
-serves_absent s seat r e = record { answer_is = rw e refl; look_is = rw e refl }
+pub serves_absent : (s : State) (seat : ℕ) (r : NodeRequest) → is_defined_op r.op ≡ true → mount_of (connection_of s.connections seat) ≡ None → Serves s seat r (Answer.Refused Code.NotHere) None
+serves_absent s seat r d e = record { defined = d; answer_is = rw e refl; look_is = rw e refl }
 
 module _ (s : State) (seat : ℕ) (r : NodeRequest) (c : Connection) (here : mount_of (connection_of s.connections seat) ≡ Some c) where
-  replied : (op : NodeOp) (given : Given) → r.op ≡ op → is_silent s.connections ≡ true →
-      reply_with [] (by_handle_or_place r (flags_of op) (place_of s c.who r.node) given.looks) ≡ (node_step s r given (Some c)).1
-  replied (NodeOp.GetAttr flags fh) given k silent =
+  replied : (flags fh : ℕ) (given : Given) → r.op ≡ NodeOp.GetAttr flags fh → is_silent s.connections ≡ true →
+      reply_with [] (by_handle_or_place r flags (place_of s c.who r.node) given.looks) ≡ (node_step s r given (Some c)).1
+  replied flags fh given k silent =
       ap (λ (x : NodeOp). reply_with [] (node_answer s c.who r x given).1) (sym k)
       ∙ sym (ap (λ x. x.1) (node_step-silent s seat c r given (mount_found (connection_of s.connections seat) c here) silent))
 
-  looks_are : (op : NodeOp) → r.op ≡ op → get_attr_looks s c.who r (flags_of op) ≡ node_looks s r (Some c)
-  looks_are (NodeOp.GetAttr flags fh) k = ap (λ (x : NodeOp). node_op_looks s c.who r x) (sym k)
+  looks_are : (flags fh : ℕ) → r.op ≡ NodeOp.GetAttr flags fh → get_attr_looks s c.who r flags ≡ node_looks s r (Some c)
+  looks_are flags fh k = ap (λ (x : NodeOp). node_op_looks s c.who r x) (sym k)
 
-  pub serves_get_attr : is_silent s.connections ≡ true → (answer : Answer) (look : Option Look) → answer ≡ by_handle_or_place r (flags_of r.op) (place_of s c.who r.node) (taken look) →
-      taken look ≡ get_attr_looks s c.who r (flags_of r.op) → Serves s seat r answer look
-  serves_get_attr silent answer look a l = record {
-    answer_is = rw here (ap (reply_with []) a ∙ replied r.op (looked (taken look)) refl silent);
-    look_is = rw here (l ∙ looks_are r.op refl);
+  pub serves_get_attr : is_silent s.connections ≡ true → (flags fh : ℕ) → r.op ≡ NodeOp.GetAttr flags fh → (answer : Answer) (look : Option Look) →
+      answer ≡ by_handle_or_place r flags (place_of s c.who r.node) (taken look) → taken look ≡ get_attr_looks s c.who r flags → Serves s seat r answer look
+  serves_get_attr silent flags fh k answer look a l = record {
+    defined = ap is_defined_op k;
+    answer_is = rw here (ap (reply_with []) a ∙ replied flags fh (looked (taken look)) k silent);
+    look_is = rw here (l ∙ looks_are flags fh k);
   }
 
 -- a request on a node leaves a state without unsent changes
 node_kept : (s : State) (r : NodeRequest) (op : NodeOp) (given : Given) (o : Option Connection) → r.op ≡ op → is_silent s.connections ≡ true → (node_step s r given o).0 ≡ s
 node_kept s r op given None k silent = refl
 node_kept s r (NodeOp.GetAttr flags fh) given (Some c) k silent = rw k (all_told-silent c.seat s silent)
+node_kept s r op given (Some c) k silent = rw k (all_told-silent c.seat s silent)
 
 -- ---- the portal's lists
 
@@ -102,7 +104,7 @@ module _ (o : OpeningState) (h : List Entry) (limit : ℕ) (ds : List Document) 
   -- an Enter
 
   enter_lawful : (seat : ℕ) (who : Who) (kind : Kind) → Lawful (state_of o ds rs cs) (entry_of seat (Request.Enter who kind) [])
-  enter_lawful seat who kind = record { clock = refl; words = refl; numbers = refl; full = refl; looks = refl }
+  enter_lawful seat who kind = record { defined = refl; clock = refl; words = refl; numbers = refl; full = refl; looks = refl }
 
   entered_there : (seat : ℕ) (who : Who) (kind : Kind) (c : Option Connection) → is_some c ≡ true → entered seat who kind cs c ≡ cs
   entered_there seat who kind None e = cc
@@ -125,7 +127,7 @@ module _ (o : OpeningState) (h : List Entry) (limit : ℕ) (ds : List Document) 
   -- a Leave
 
   leave_lawful : (seat : ℕ) → Lawful (state_of o ds rs cs) (entry_of seat Request.Leave [])
-  leave_lawful seat = record { clock = refl; words = refl; numbers = refl; full = refl; looks = refl }
+  leave_lawful seat = record { defined = refl; clock = refl; words = refl; numbers = refl; full = refl; looks = refl }
 
   left_absent : (seat : ℕ) (c : Option Connection) → is_some c ≡ false → left seat cs c ≡ cs
   left_absent seat None e = refl
@@ -149,7 +151,7 @@ module _ (o : OpeningState) (h : List Entry) (limit : ℕ) (ds : List Document) 
 
   pub stands_collected : (seat : ℕ) → cost h + cost_of Request.Collect ≤ o.limits.history → Stands o (h ++ entry_of seat Request.Collect [] ∷ []) limit ds rs cs
   stands_collected seat room =
-      stands_more (entry_of seat Request.Collect []) cs (record { clock = refl; words = refl; numbers = refl; full = refl; looks = refl }) (collect_kept (bus_of (connection_of cs seat))) room
+      stands_more (entry_of seat Request.Collect []) cs (record { defined = refl; clock = refl; words = refl; numbers = refl; full = refl; looks = refl }) (collect_kept (bus_of (connection_of cs seat))) room
 
   collect_replied : (seat : ℕ) (c : Option Connection) (b : Option Connection) → connection_of cs seat ≡ c → bus_of c ≡ b → reply_with [] (collect_answer b) ≡ (collect_step (state_of o ds rs cs) b).1
   collect_replied seat c None e k = refl
@@ -167,6 +169,6 @@ module _ (o : OpeningState) (h : List Entry) (limit : ℕ) (ds : List Document) 
   stands_node seat r answer look k room =
       let k' = subst (λ (s : State). Serves s seat r answer look) p.state_is k in
       stands_more (entry_of seat (Request.Node r) (taken look)) cs
-      (record { clock = refl; words = refl; numbers = refl; full = refl; looks = k'.look_is })
+      (record { defined = k'.defined; clock = refl; words = refl; numbers = refl; full = refl; looks = k'.look_is })
       (node_kept (state_of o ds rs cs) r r.op (looked (taken look)) (mount_of (connection_of cs seat)) refl silent)
       room

@@ -5,24 +5,17 @@ ghost use Rattle.std.specs.Prelude.{◌≡◌, map, if◌then◌else◌, [], Som
 ghost use Rattle.portal_model.specs.GetAttr.{by_look, by_handle_or_place, names_handle as is_by_handle, looks_at_place};
 ghost use Rattle.portal_model.specs.Content.{look_at as look_shown};
 ghost use Rattle.portal_model.specs.Opening.{file_of};
-ghost use Rattle.portal_core.specs.Served.{flags_of, sight_in, taken};
+ghost use Rattle.portal_core.specs.Served.{sight_in, taken};
 
 use crate::place::{FileSight, sight_at};
 use crate::tree::look_at;
 use portal_base::files::Look;
 use portal_base::who::Who;
+use portal_model::errno::{EBADF, ENOENT};
 use portal_model::opening::FileItem;
 use portal_model::reply::{Answer, Attr, Code, NodeAnswer};
-use portal_model::request::{NodeOp, NodeRequest};
+use portal_model::request::{NodeRequest, names_handle};
 use portal_model::state::{Document, Triple};
-
-/// No such file or directory.
-const ENOENT: u32 = 2;
-/// Bad file number.
-const EBADF: u32 = 9;
-
-/// The bit of the flags that says that the request names an open handle.
-const FUSE_GETATTR_FH: u32 = 1;
 
 /// A file that its owner may read.
 const FILE_MODE: u32 = 0o100400;
@@ -55,7 +48,8 @@ impl NodeDone {
     }
 }
 
-/// Answers a caller's GETATTR of a node, over the portal's lists.
+/// Answers a caller's GETATTR of a node with these flags, over the portal's
+/// lists.
 ///
 /// A request that names a handle is refused, since no connection has one
 /// yet.
@@ -65,11 +59,12 @@ pub fn get_attr(
     files: &[FileItem],
     who: &Who,
     request: &NodeRequest,
+    flags: u32,
 ) -> NodeDone
-    ensures answer { result.answer ≡ by_handle_or_place request.now (flags_of request.now.op) (sight_in documents.now rights.now who.now request.now.node) (taken result.look) }
-    ensures look { taken result.look ≡ (if is_by_handle (flags_of request.now.op) then [] else looks_at_place (look_shown (map file_of files.now)) (sight_in documents.now rights.now who.now request.now.node)) }
+    ensures answer { result.answer ≡ by_handle_or_place request.now flags (sight_in documents.now rights.now who.now request.now.node) (taken result.look) }
+    ensures look { taken result.look ≡ (if is_by_handle flags then [] else looks_at_place (look_shown (map file_of files.now)) (sight_in documents.now rights.now who.now request.now.node)) }
 {
-    if names_handle(flags(&request.op)) {
+    if names_handle(flags) {
         return NodeDone::refused(Code::Errno(EBADF));
     }
     match sight_at(documents, rights, who, request.node) {
@@ -82,20 +77,6 @@ pub fn get_attr(
             }
         }
     }
-}
-
-fn flags(op: &NodeOp) -> u32
-    ensures { result ≡ flags_of op.now }
-{
-    match op {
-        NodeOp::GetAttr { flags, .. } => *flags,
-    }
-}
-
-fn names_handle(flags: u32) -> bool
-    ensures { result ≡ is_by_handle flags }
-{
-    flags & FUSE_GETATTR_FH != 0
 }
 
 fn answer_by_look(request: &NodeRequest, may_write: bool, look: Look) -> Answer

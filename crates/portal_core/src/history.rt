@@ -4,15 +4,15 @@
 //! the whole has a limit, and memory for further entries can be taken ahead,
 //! so that an entry is stored by a call that can't fail.
 
-ghost use Rattle.std.specs.Prelude.{◌≡◌, ◌+◌, ◌-◌, ◌<◌, ◌≤◌, ◌^◌, [], ◌∷◌, ◌++◌, length, OnOk, OnErr};
+ghost use Rattle.std.specs.Prelude.{◌≡◌, ◌+◌, ◌-◌, ◌<◌, ◌≤◌, ◌^◌, min, [], ◌∷◌, ◌++◌, length, OnOk, OnErr};
 ghost use Rattle.portal_core.specs.Stored.{Stored};
-ghost use Rattle.portal_model.specs.History.{cost, cost_of as request_cost, who_bytes};
+ghost use Rattle.portal_model.specs.History.{cost, cost_of as request_cost, node_bytes as bytes_of_node, who_bytes};
 
 use portal_base::limits::Limits;
 use portal_base::memory::WantOfMemory;
 use portal_base::who::Who;
 use portal_model::entry::Entry;
-use portal_model::request::Request;
+use portal_model::request::{NodeOp, Request};
 use std::alloc::Global;
 use std::marker::Model;
 
@@ -20,15 +20,42 @@ use std::marker::Model;
 /// bytes.
 pub const REQUEST_COST: u64 = 128;
 
+/// What each node of a FUSE_BATCH_FORGET costs, in bytes.
+const FORGET_COST: u64 = 16;
+
 /// What a request costs in the history, in bytes: 128, and the bytes of the
-/// names that it carries, but at most the greatest `u64`. A Leave is free.
+/// names and the content that it carries, and 16 per node of a
+/// FUSE_BATCH_FORGET, but at most the greatest `u64`. A Leave is free.
 pub fn cost_of(request: &Request) -> u64
     ensures { result ≡ request_cost request.now }
 {
     match request {
         Request::Enter { who, .. } => REQUEST_COST.saturating_add(name_length(who)),
         Request::Leave => 0,
-        Request::Collect | Request::Node(_) => REQUEST_COST,
+        Request::Collect => REQUEST_COST,
+        Request::Node(request) => REQUEST_COST.saturating_add(node_bytes(&request.op)),
+    }
+}
+
+fn node_bytes(op: &NodeOp) -> u64
+    ensures { result ≡ min (bytes_of_node op.now) (2 ^ 64 - 1) }
+{
+    match op {
+        NodeOp::Lookup { name } | NodeOp::Create { name, .. } => name.len() as u64,
+        NodeOp::Write { content, .. } => content.len() as u64,
+        NodeOp::BatchForget { nodes } => FORGET_COST.saturating_mul(nodes.len() as u64),
+        NodeOp::Forget { .. }
+        | NodeOp::GetAttr { .. }
+        | NodeOp::SetAttr { .. }
+        | NodeOp::Open { .. }
+        | NodeOp::Read { .. }
+        | NodeOp::Flush { .. }
+        | NodeOp::Fsync { .. }
+        | NodeOp::Release { .. }
+        | NodeOp::OpenDir
+        | NodeOp::ReadDir { .. }
+        | NodeOp::ReleaseDir { .. }
+        | NodeOp::Access { .. } => 0,
     }
 }
 

@@ -1,29 +1,15 @@
-//! The nodes of the file view, and what a caller finds at them.
+//! What a caller finds at the nodes of the file view.
 
 ghost use Rattle.std.specs.Prelude.{◌≡◌, Some, None, MatchOption};
-ghost use Rattle.portal_model.specs.Place.{place_named};
-ghost use Rattle.portal_model.specs.Place.{DocumentFile, SightOfFile};
+ghost use Rattle.portal_model.specs.Place.{SightOfFile};
 ghost use Rattle.portal_core.specs.Served.{sight_in};
 
 use crate::lists::{document_of, has_right};
 use portal_base::names::HostPath;
 use portal_base::who::Who;
+use portal_model::place::file_number;
 use portal_model::rights::Right;
 use portal_model::state::{Document, Triple};
-
-/// The number of the document whose file a node is, in the caller's own view.
-///
-/// The number of a node is `view * 2^36 + kind * 2^32 + id`. The caller's own
-/// view is 0, and 2 is the kind of a document's file.
-fn file_number(node: u64) -> Option<u32>
-    ensures { MatchOption result (place_named node ≡ None) (λ number. place_named node ≡ Some (DocumentFile number)) }
-{
-    if node >> 36 == 0 && (node >> 32) & 15 == 2 {
-        Some((node & 0xffff_ffff) as u32)
-    } else {
-        None
-    }
-}
 
 /// A document's file, as a caller sees it.
 pub struct FileSight<'a> {

@@ -1,6 +1,6 @@
 //! The portal.
 
-ghost use Rattle.std.specs.Prelude.{◌≡◌, ◌<◌, ◌≤◌, ◌^◌, [], length, true, IfErr, IfOk, IsOk, OnErr, OnOk, option_copied};
+ghost use Rattle.std.specs.Prelude.{◌≡◌, ◌<◌, ◌≤◌, ◌^◌, [], length, true, IfErr, IfOk, IfSome, IsOk, OnErr, OnOk, option_copied};
 ghost use Rattle.portal_model.specs.History.{Legal, cost};
 ghost use Rattle.portal_model.specs.Enter.{new_connection};
 ghost use Rattle.portal_model.specs.Opening.{opened};
@@ -21,7 +21,7 @@ use portal_base::who::{Kind, Who};
 use portal_model::entry::{Entry, Fault, Given};
 use portal_model::opening::OpeningState;
 use portal_model::reply::{Answer, Code, Refused, Reply};
-use portal_model::request::{NodeRequest, Request};
+use portal_model::request::{NodeOp, NodeRequest, Request};
 use portal_model::state::{Connection, Document, Triple};
 use std::alloc::Global;
 use std::marker::Model;
@@ -195,7 +195,9 @@ impl Portal {
         ensures ok { IfOk result (Answers self.old self.new seat (Request.Node request)) }
         ensures err { OnErr result (self.new ≡ self.old) }
     {
-        let NodeDone { answer, look } = self.serve(seat, &request);
+        let Some(NodeDone { answer, look }) = self.serve(seat, &request) else {
+            return Err(WantOfMemory);
+        };
         let looks = looks_made(alloc, look)?;
         let entry = entry_made(alloc, seat, Request::Node(request), looks);
         self.history.reserve(self.connections.as_slice().len() + 1)?;
@@ -235,20 +237,25 @@ impl Portal {
         Ok(silent_reply(alloc, answer))
     }
 
-    /// Serves a request of a seat on a node, which changes nothing.
-    fn serve(&self, seat: u32, request: &NodeRequest) -> NodeDone
-        ensures { Serves (state_now self.now) seat request.now result.answer result.look }
+    /// Serves a request of a seat on a node, which changes nothing. `None` of a
+    /// request whose answer isn't defined.
+    fn serve(&self, seat: u32, request: &NodeRequest) -> Option<NodeDone>
+        ensures { IfSome result (λ done. Serves (state_now self.now) seat request.now done.answer done.look) }
     {
-        let Some(connection) = mount_of(self.connections.as_slice(), seat) else {
-            return NodeDone::refused(Code::NotHere);
+        let NodeOp::GetAttr { flags, .. } = &request.op else {
+            return None;
         };
-        get_attr(
+        let Some(connection) = mount_of(self.connections.as_slice(), seat) else {
+            return Some(NodeDone::refused(Code::NotHere));
+        };
+        Some(get_attr(
             self.documents.as_slice(),
             self.rights.as_slice(),
             self.opening.files.as_slice(),
             &connection.who,
             request,
-        )
+            *flags,
+        ))
     }
 }
 

@@ -129,19 +129,19 @@ valid_with_another = record {
 -- ---- the examples
 
 pub costs : CostsOfRequests
-costs = record { enter = refl; attributes = refl; leave = refl; collect = refl }
+costs = record { enter = refl; attributes = refl; leave = refl; collect = refl; lookup = refl; write = refl; forget = refl; batch_forget = refl }
 
 pub attributes : AttributesOfGrantedFile
 attributes = record {
-  legal = record { opening = valid_read_write; lawful = (record { clock = refl; words = refl; numbers = refl; full = refl; looks = refl }, (record { clock = refl; words = refl; numbers = refl; full = refl; looks = refl }, tt)) };
+  legal = record { opening = valid_read_write; lawful = (record { defined = refl; clock = refl; words = refl; numbers = refl; full = refl; looks = refl }, (record { defined = refl; clock = refl; words = refl; numbers = refl; full = refl; looks = refl }, tt)) };
   replies_are = refl;
 }
 
 pub foreign : ForeignIsAsMissing
 foreign = record {
-  legal_foreign = record { opening = valid_of_other; lawful = (record { clock = refl; words = refl; numbers = refl; full = refl; looks = refl }, (record { clock = refl; words = refl; numbers = refl; full = refl; looks = refl }, tt)) };
+  legal_foreign = record { opening = valid_of_other; lawful = (record { defined = refl; clock = refl; words = refl; numbers = refl; full = refl; looks = refl }, (record { defined = refl; clock = refl; words = refl; numbers = refl; full = refl; looks = refl }, tt)) };
   foreign = refl;
-  legal_missing = record { opening = valid_of_nobody; lawful = (record { clock = refl; words = refl; numbers = refl; full = refl; looks = refl }, (record { clock = refl; words = refl; numbers = refl; full = refl; looks = refl }, tt)) };
+  legal_missing = record { opening = valid_of_nobody; lawful = (record { defined = refl; clock = refl; words = refl; numbers = refl; full = refl; looks = refl }, (record { defined = refl; clock = refl; words = refl; numbers = refl; full = refl; looks = refl }, tt)) };
   missing = refl;
 }
 
@@ -152,7 +152,7 @@ seats = record {
   twice = refl;
   on_a_bus = refl;
   by_handle = refl;
-  by_handle_lawful = record { clock = refl; words = refl; numbers = refl; full = refl; looks = refl };
+  by_handle_lawful = record { defined = refl; clock = refl; words = refl; numbers = refl; full = refl; looks = refl };
 }
 
 pub endings : LeaveAndCollect
@@ -165,13 +165,13 @@ endings = record {
   nothing_waits = refl;
   tells = refl;
   tells_once = refl;
-  lawful = record { clock = refl; words = refl; numbers = refl; full = refl; looks = refl };
+  lawful = record { defined = refl; clock = refl; words = refl; numbers = refl; full = refl; looks = refl };
 }
 
 pub failed : FailedLook
 failed = record {
   reply = refl;
-  lawful = record { clock = refl; words = refl; numbers = refl; full = refl; looks = (refl, omega arith) };
+  lawful = record { defined = refl; clock = refl; words = refl; numbers = refl; full = refl; looks = (refl, omega arith) };
 }
 
 -- whether the first document of the opening view may be written
@@ -182,7 +182,7 @@ first_written (d ∷ ds) = d.held.write
 pub traces : TracesTellWhatIsHeld
 unfolding first_written
 traces = record {
-  legal = record { opening = valid_with_another; lawful = (record { clock = refl; words = refl; numbers = refl; full = refl; looks = refl }, (record { clock = refl; words = refl; numbers = refl; full = refl; looks = refl }, (record { clock = refl; words = refl; numbers = refl; full = refl; looks = refl }, (record { clock = refl; words = refl; numbers = refl; full = refl; looks = refl }, (record { clock = refl; words = refl; numbers = refl; full = refl; looks = refl }, tt))))) };
+  legal = record { opening = valid_with_another; lawful = (record { defined = refl; clock = refl; words = refl; numbers = refl; full = refl; looks = refl }, (record { defined = refl; clock = refl; words = refl; numbers = refl; full = refl; looks = refl }, (record { defined = refl; clock = refl; words = refl; numbers = refl; full = refl; looks = refl }, (record { defined = refl; clock = refl; words = refl; numbers = refl; full = refl; looks = refl }, (record { defined = refl; clock = refl; words = refl; numbers = refl; full = refl; looks = refl }, tt))))) };
   same = refl;
   own_rights = λ e. let p : false ≡ true = ap (λ (t : Trace). first_written t.opening.documents) e in cc;
 }

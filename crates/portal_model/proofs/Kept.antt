@@ -13,6 +13,7 @@ use Rattle.portal_model.specs.Step.{after, all_told, bus_of, collect_step, mount
 
 node_answer-kept : (s : State) (who : Who) (r : NodeRequest) (op : NodeOp) (given : Given) → (node_answer s who r op given).0 ≡ record s { connections = (node_answer s who r op given).0.connections }
 node_answer-kept s who r (NodeOp.GetAttr flags fh) given = refl
+node_answer-kept s who r op given = refl
 
 node_step-kept : (s : State) (r : NodeRequest) (given : Given) (o : Option Connection) → (node_step s r given o).0 ≡ record s { connections = (node_step s r given o).0.connections }
 node_step-kept s r given None = refl

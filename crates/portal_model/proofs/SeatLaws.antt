@@ -151,6 +151,7 @@ collect_bound s (Some c) seat = binding-told seat c.seat s.connections
 
 node_answer_bound : (s : State) (who : Who) (r : NodeRequest) (op : NodeOp) (given : Given) (seat : ℕ) → bound (node_answer s who r op given).0 seat ≡ bound s seat
 node_answer_bound s who r (NodeOp.GetAttr flags fh) given seat = refl
+node_answer_bound s who r op given seat = refl
 
 node_bound : (s : State) (r : NodeRequest) (given : Given) (o : Option Connection) (seat : ℕ) → bound (node_step s r given o).0 seat ≡ bound s seat
 node_bound s r given None seat = refl

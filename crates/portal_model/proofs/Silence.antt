@@ -62,6 +62,7 @@ collect_kept s (Some c) h = subst (λ (t : State). is_silent t.connections ≡ t
 
 node_answer-silent : (s : State) (who : Who) (r : NodeRequest) (op : NodeOp) (given : Given) → is_silent s.connections ≡ true → is_silent (node_answer s who r op given).0.connections ≡ true
 node_answer-silent s who r (NodeOp.GetAttr flags fh) given h = h
+node_answer-silent s who r op given h = h
 
 node_step_kept : (s : State) (r : NodeRequest) (given : Given) (o : Option Connection) → is_silent s.connections ≡ true → is_silent (node_step s r given o).0.connections ≡ true
 node_step_kept s r given None h = h

@@ -113,6 +113,7 @@ all_told-Valid s seat v = Valid-connections s (map (told_of seat) s.connections)
 
 node_answer-Valid : (s : State) (who : Who) (r : NodeRequest) (op : NodeOp) (given : Given) → Valid s → Valid (node_answer s who r op given).0
 node_answer-Valid s who r (NodeOp.GetAttr flags fh) given v = v
+node_answer-Valid s who r op given v = v
 
 collect_step-Valid : (s : State) (o : Option Connection) → Valid s → Valid (collect_step s o).0
 collect_step-Valid s None v = v

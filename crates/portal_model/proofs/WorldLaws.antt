@@ -13,7 +13,7 @@ use Rattle.portal_model.specs.Effect.{Effect, apply, apply_all}
 use Rattle.portal_model.specs.History.{made_by, makes, EachLawful, replies}
 use Rattle.portal_model.specs.Lawful.{Lawful, LooksAre, LawfulLooks}
 use Rattle.portal_model.specs.State.{State, connection_of}
-use Rattle.portal_model.specs.Step.{is_mount, bus_of, mount_of, all_told, with_signals, node_answer, node_step, request_step, after, reply_at, node_op_looks, node_looks, looks_taken}
+use Rattle.portal_model.specs.Step.{is_mount, bus_of, mount_of, all_told, with_signals, node_answer, node_step, request_step, after, reply_at, node_op_looks, node_looks, looks_taken, undefined_answer}
 use Rattle.portal_model.specs.Valid.{Valid}
 use Rattle.portal_model.specs.View.{View, view, is_app, own_connections}
 use Rattle.portal_model.specs.World.{Own, Item, Asked, Changed, own_of, own_node_answer, own_node_step, app_step, node_touch, touch, items, own_replies, trace, app_run}
@@ -38,17 +38,21 @@ node_answer_own : (app : List ℕ) (s : State) (told : ℕ) (r : NodeRequest) (o
     LooksAre (node_op_looks s (Who.App app) r op) given.fault given.looks →
     own_node_answer (view s app) r op (own_of (entry seat request given)) ≡ seen_step app (node_answer (all_told told s) (Who.App app) r op given)
 node_answer_own app s told r (NodeOp.GetAttr flags fh) seat request given v l = λ i. (sym (view-told app s told v) i, get_attr_own app s r flags given.fault given.looks l i)
+node_answer_own app s told r op seat request given v l = λ i. (sym (view-told app s told v) i, undefined_answer)
 
 node_answer_other : (app : List ℕ) (s : State) (told : ℕ) (who : Who) (r : NodeRequest) (op : NodeOp) (given : Given) → Valid s →
     apply_all (view s app) (node_touch app s r op given) ≡ view (node_answer (all_told told s) who r op given).0 app
 node_answer_other app s told who r (NodeOp.GetAttr flags fh) given v = sym (view-told app s told v)
+node_answer_other app s told who r op given v = sym (view-told app s told v)
 
 node_answer_told : (s : State) (who : Who) (r : NodeRequest) (op : NodeOp) (given : Given) → (node_answer s who r op given).0.told ≡ s.told
 node_answer_told s who r (NodeOp.GetAttr flags fh) given = refl
+node_answer_told s who r op given = refl
 
 -- nothing is touched where nobody is asked
 node_touch_nobody : (app : List ℕ) (s : State) (r : NodeRequest) (op : NodeOp) (given : Given) → apply_all (view s app) (node_touch app s r op given) ≡ view s app
 node_touch_nobody app s r (NodeOp.GetAttr flags fh) given = refl
+node_touch_nobody app s r op given = refl
 
 -- ---- by the connection that asks
 

@@ -1,5 +1,8 @@
--- The numbers of errors, as include/uapi/asm-generic/errno-base.h gives them.
+-- The numbers of errors, as include/uapi/asm-generic/errno-base.h and errno.h give them.
 use Rattle.std.specs.Prelude.{ℕ}
+
+abbrev pub eperm : ℕ
+eperm = 1
 
 abbrev pub enoent : ℕ
 enoent = 2
@@ -9,3 +12,18 @@ eio = 5
 
 abbrev pub ebadf : ℕ
 ebadf = 9
+
+abbrev pub enomem : ℕ
+enomem = 12
+
+abbrev pub einval : ℕ
+einval = 22
+
+abbrev pub enospc : ℕ
+enospc = 28
+
+abbrev pub enosys : ℕ
+enosys = 38
+
+abbrev pub eproto : ℕ
+eproto = 71

@@ -19,7 +19,7 @@ use Rattle.portal_model.specs.declared.reply.Change.{Change}
 use Rattle.portal_model.specs.declared.reply.Code.TheVariants as Code
 use Rattle.portal_model.specs.declared.reply.NodeAnswer.TheVariants as NodeAnswer
 use Rattle.portal_model.specs.declared.reply.Reply.{Reply}
-use Rattle.portal_model.specs.declared.request.NodeOp.TheVariants as NodeOp
+use Rattle.portal_model.specs.declared.request.NodeOp.{NodeOp}
 use Rattle.portal_model.specs.declared.request.Request.{Request}
 use Rattle.portal_model.specs.History.{Legal, replies, cost_of}
 use Rattle.portal_model.specs.State.{State}
@@ -194,12 +194,20 @@ pub record FailedLook : Type 0 where
 
 -- ---- costs
 
--- 128 bytes, and six more for the name that an Enter carries; a Leave is free
+abbrev pub asks_of_root : NodeOp → Request
+asks_of_root op = Request.Node (record { node = 1; uid = 1000; gid = 1000; op = op })
+
+-- 128 bytes, and six more for the name that an Enter carries; a Leave is free. A name, a content and the nodes of
+-- a FUSE_BATCH_FORGET count, the node of a FUSE_FORGET doesn't
 pub record CostsOfRequests : Type 0 where
   pub enter : cost_of (Request.Enter (Who.App editor) Kind.Mount) ≡ 134
   pub attributes : cost_of (asks_attributes a_node 0 0) ≡ 128
   pub leave : cost_of Request.Leave ≡ 0
   pub collect : cost_of Request.Collect ≡ 128
+  pub lookup : cost_of (asks_of_root (NodeOp.Lookup (codes "0000000a"))) ≡ 136
+  pub write : cost_of (asks_of_root (NodeOp.Write 1 0 (codes "hello"))) ≡ 133
+  pub forget : cost_of (asks_of_root (NodeOp.Forget 3)) ≡ 128
+  pub batch_forget : cost_of (asks_of_root (NodeOp.BatchForget (record { node = 1; count = 3 } ∷ record { node = 2; count = 1 } ∷ []))) ≡ 160
 
 -- ---- traces
 

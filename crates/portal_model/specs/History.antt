@@ -1,5 +1,5 @@
 -- Histories: lists of entries from a state.
-use Rattle.std.specs.Prelude.{ℕ, ◌+◌, ◌-◌, ◌^◌, ◌==◌, min, List, [], ◌∷◌, ◌++◌, length, Bool, false, Option, Some, None, cond}
+use Rattle.std.specs.Prelude.{ℕ, ◌+◌, ◌*◌, ◌-◌, ◌^◌, ◌==◌, min, List, [], ◌∷◌, ◌++◌, length, Bool, false, Option, Some, None, cond}
 use Rattle.std.specs.List.{filter, sum_by}
 use Rattle.portal_base.specs.declared.who.Who.{Who}
 use Rattle.portal_model.specs.declared.entry.Entry.{Entry}
@@ -30,8 +30,13 @@ pub record Legal (s : State) (h : List Entry) : Type 0 where
 
 -- ---- cost, in bytes
 
+-- a name and a content count their bytes, a forgotten node 16
 abbrev pub node_bytes : NodeOp → ℕ
-node_bytes (NodeOp.GetAttr flags fh) = 0
+node_bytes (NodeOp.Lookup name) = length name
+node_bytes (NodeOp.BatchForget nodes) = 16 * length nodes
+node_bytes (NodeOp.Create name flags) = length name
+node_bytes (NodeOp.Write fh offset content) = length content
+node_bytes op = 0
 
 abbrev pub who_bytes : Who → ℕ
 who_bytes Who.Host = 0

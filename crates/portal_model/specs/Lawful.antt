@@ -3,8 +3,20 @@ use Rattle.std.specs.Prelude.{◌≡◌, ℕ, ◌<◌, List, [], length, take, B
 use Rattle.portal_base.specs.declared.files.Look.{Look}
 use Rattle.portal_model.specs.declared.entry.Entry.{Entry}
 use Rattle.portal_model.specs.declared.entry.Fault.{Fault}
+use Rattle.portal_model.specs.declared.request.NodeOp.{NodeOp}
+use Rattle.portal_model.specs.declared.request.Request.{Request}
 use Rattle.portal_model.specs.State.{State}
 use Rattle.portal_model.specs.Step.{looks_taken}
+
+-- the requests on nodes whose answers are defined
+abbrev pub is_defined_op : NodeOp → Bool
+is_defined_op (NodeOp.GetAttr flags fh) = true
+is_defined_op op = false
+
+-- the requests whose answers are defined
+abbrev pub is_defined : Request → Bool
+is_defined (Request.Node r) = is_defined_op r.op
+is_defined request = true
 
 -- over a tree that tells: the looks are those that the request takes; where a call of the tree
 -- failed, those ahead of it; and the keeper fails only where records change, which no request does yet
@@ -23,8 +35,10 @@ abbrev pub LawfulLooks : Bool → List Look → Fault → List Look → Type 0
 LawfulLooks true taken fault looks = LooksAre taken fault looks
 LawfulLooks false taken fault looks = LooksCount (length taken) fault (length looks)
 
--- no request reads the clock, draws a word, makes a document or meets a limit of documents yet
+-- no request reads the clock, draws a word, makes a document or meets a limit of documents yet; and one
+-- without a definition is no entry
 pub record Lawful (s : State) (e : Entry) : Type 0 where
+  pub defined : is_defined e.request ≡ true
   pub clock : e.given.now ≡ None
   pub words : e.given.words ≡ []
   pub numbers : e.given.numbers ≡ []

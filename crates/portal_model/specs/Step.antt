@@ -15,6 +15,7 @@ use Rattle.portal_model.specs.declared.request.Request.{Request}
 use Rattle.portal_model.specs.declared.state.Connection.{Connection}
 use Rattle.portal_model.specs.Collect.{collect}
 use Rattle.portal_model.specs.Enter.{enter}
+use Rattle.portal_model.specs.Errno.{enosys}
 use Rattle.portal_model.specs.GetAttr.{get_attr_answer, get_attr_looks}
 use Rattle.portal_model.specs.Leave.{leave}
 use Rattle.portal_model.specs.State.{State, connection_of}
@@ -54,9 +55,14 @@ not_here x = (x, reply_with [] (Answer.Refused Code.NotHere))
 
 -- ---- the step
 
+-- the answer in place of those that have no definition yet: a request with it is no lawful entry
+abbrev pub undefined_answer : Answer
+undefined_answer = Answer.Refused (Code.Errno enosys)
+
 -- a request on a node, of this caller: the state after, and the answer
 abbrev pub node_answer : State → Who → NodeRequest → NodeOp → Given → State × Answer
 node_answer s who r (NodeOp.GetAttr flags fh) given = (s, get_attr_answer s who r flags given.looks)
+node_answer s who r op given = (s, undefined_answer)
 
 abbrev pub node_step : State → NodeRequest → Given → Option Connection → State × Reply
 node_step s r given None = not_here s
@@ -87,6 +93,7 @@ reply_at s e = (step s e).1
 
 abbrev pub node_op_looks : State → Who → NodeRequest → NodeOp → List Look
 node_op_looks s who r (NodeOp.GetAttr flags fh) = get_attr_looks s who r flags
+node_op_looks s who r op = []
 
 abbrev pub node_looks : State → NodeRequest → Option Connection → List Look
 node_looks s r None = []

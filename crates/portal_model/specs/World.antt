@@ -19,7 +19,7 @@ use Rattle.portal_model.specs.GetAttr.{own_get_attr_answer, own_get_attr_looks}
 use Rattle.portal_model.specs.History.{makes}
 use Rattle.portal_model.specs.Leave.{own_leave}
 use Rattle.portal_model.specs.State.{State, connection_of}
-use Rattle.portal_model.specs.Step.{after, bus_of, mount_of, not_here, with_signals}
+use Rattle.portal_model.specs.Step.{after, bus_of, mount_of, not_here, undefined_answer, with_signals}
 use Rattle.portal_model.specs.View.{View, view}
 
 -- ---- the application's own machine
@@ -43,6 +43,7 @@ succeeding Fault.Keeper count looks = looks
 
 abbrev pub own_node_answer : View → NodeRequest → NodeOp → Own → View × Answer
 own_node_answer v r (NodeOp.GetAttr flags fh) own = (v, own_get_attr_answer v r flags (succeeding own.fault own.looks (own_get_attr_looks v r flags)))
+own_node_answer v r op own = (v, undefined_answer)
 
 abbrev pub own_node_step : View → NodeRequest → Own → Option Connection → View × Reply
 own_node_step v r own None = not_here v
@@ -82,6 +83,7 @@ own_of e = record {
 
 abbrev pub node_touch : List ℕ → State → NodeRequest → NodeOp → Given → List Effect
 node_touch app s r (NodeOp.GetAttr flags fh) given = []
+node_touch app s r op given = []
 
 abbrev pub request_touch : List ℕ → State → ℕ → Request → Given → List Effect
 request_touch app s seat (Request.Enter who kind) given = []

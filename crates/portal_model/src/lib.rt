@@ -5,9 +5,11 @@
 
 pub mod desk;
 pub mod entry;
+pub mod errno;
 pub mod examples;
 pub mod laws;
 pub mod opening;
+pub mod place;
 pub mod records;
 pub mod reply;
 pub mod request;

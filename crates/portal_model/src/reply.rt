@@ -1,6 +1,6 @@
 //! What the portal answers.
 
-use portal_base::list::List;
+use portal_base::list::{ByteList, List};
 use portal_base::memory::WantOfMemory;
 use portal_base::text::Text;
 
@@ -38,21 +38,90 @@ pub struct Attr {
     pub block_size: u32,
 }
 
+/// An entry of a folder.
+#[derive(Debug, Drop)]
+pub struct DirName {
+    /// The number of the node.
+    pub node: u64,
+    /// Its name in the folder.
+    pub name: ByteList,
+    /// Whether it is a folder.
+    pub folder: bool,
+}
+
 /// An answer to a request on a node.
-#[derive(Clone, Copy, Debug, PartialEq, Eq)]
+///
+/// The portal gives none of the last three, with which a connection is told
+/// what is answered without the portal.
+#[derive(Debug, Drop)]
 pub enum NodeAnswer {
+    /// The node that was found.
+    Entry(Attr),
     /// The attributes of the node.
     Attr(Attr),
+    /// The handle that was opened.
+    Opened {
+        /// The number of the handle.
+        fh: u64,
+    },
+    /// The file that was made, and the handle that was opened on it.
+    Created {
+        /// The file.
+        attr: Attr,
+        /// The number of the handle.
+        fh: u64,
+    },
+    /// The bytes that were read.
+    Content(ByteList),
+    /// How many bytes were written.
+    Written {
+        /// The number of bytes.
+        size: u32,
+    },
+    /// The entries of a folder, of which those are told that fit.
+    Names {
+        /// All entries.
+        names: List<DirName>,
+        /// The place of the first that is told.
+        offset: u64,
+        /// At most so many bytes are told.
+        size: u32,
+    },
+    /// It was done, and a reply without a body says so.
+    Empty,
+    /// It was done, and there is no reply.
+    Quiet,
     /// A refusal, by the number that the kernel's headers give the error. The
     /// portal itself refuses by a [`Code`].
     Error {
         /// The number, not negated.
         errno: u32,
     },
+    /// What both sides of a connection speak.
+    Init {
+        /// The major version.
+        major: u32,
+        /// The minor version.
+        minor: u32,
+        /// How much is read ahead at most, in bytes.
+        readahead: u32,
+        /// What the connection is able to do.
+        flags: u32,
+        /// How many requests may wait that nobody waits for.
+        background: u16,
+        /// With how many of them the connection counts as congested.
+        congestion: u16,
+        /// How much is written at most, in bytes.
+        max_write: u32,
+        /// The unit of moments, in nanoseconds.
+        time_gran: u32,
+    },
+    /// What there is room for in the file system.
+    Statfs,
 }
 
 /// The answer to a request.
-#[derive(Clone, Copy, Debug, PartialEq, Eq)]
+#[derive(Debug, Drop)]
 pub enum Answer {
     /// It was done, and there is nothing to tell.
     Done,

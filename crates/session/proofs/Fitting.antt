@@ -3,6 +3,7 @@ use Rattle.std.proofs.Common.{◌≡◌, ℕ, List, [], ◌∷◌, ◌++◌, Boo
 use Rattle.std.proofs.lemmas.List.{map-append}
 use Rattle.portal_base.specs.declared.who.Kind.{Kind}
 use Rattle.portal_model.specs.declared.entry.Entry.{Entry}
+use Rattle.portal_model.specs.declared.request.NodeRequest.{NodeRequest}
 use Rattle.portal_model.specs.declared.request.Request.{Request}
 use Rattle.portal_model.specs.Seated.{Exchange}
 use Rattle.dbus_auth.specs.declared.handshake.AuthAnswer.{AuthAnswer}
@@ -23,7 +24,7 @@ use Rattle.session.specs.declared.act.ItemError.{ItemError}
 use Rattle.session.specs.declared.phase.Phase.{Phase}
 use Rattle.session.specs.declared.phase.Phase.TheVariants as due
 use Rattle.session.specs.Answers.{AreOf, Denied, IsOf, Made, Outcome, kept}
-use Rattle.session.specs.Asked.{Means, act_of_ask, act_of_frame, asked_by, collect_requests, is_host, line_act, reply_to, requests_of}
+use Rattle.session.specs.Asked.{Means, act_of_ask, act_of_frame, asked_by, collect_requests, is_built, is_host, line_act, node_act, reply_to, requests_of}
 use Rattle.session.specs.Cuts.{first_phase, line_of, next_phase, phase_behind}
 use Rattle.session.specs.Items.{AreItems, phase_after}
 use Rattle.session.proofs.Growing.{kept-append}
@@ -88,7 +89,7 @@ pub after_speaks : (is : List (List ℕ)) (kind : Kind) (c : Client) (p : Phase)
 after_speaks [] kind c p s = s
 after_speaks (i ∷ is) kind c p s = after_speaks is kind c (next_phase c p i) (next_speaks kind c p i s)
 
-abbrev read_as : Act → Result Act ItemError
+abbrev pub read_as : Act → Result Act ItemError
 read_as act = Ok act
 
 same_act : (a b : Act) → read_as a ≡ read_as b → a ≡ b
@@ -111,9 +112,14 @@ call_fits c m (ask.Local answer) act e = subst (λ (a : Act). AllFit Kind.Bus (a
 call_fits c m ask.Ignore act e = nothing_fits Kind.Bus act e
 call_fits c m ask.Unbuilt act e = absurd (cc)
 
+node_fits : (unique : ℕ) (request : NodeRequest) (b : Bool) (act : Act) → Ok act ≡ node_act unique request b → AllFit Kind.Mount (asked_by act)
+node_fits unique request true act e = subst (λ (a : Act). AllFit Kind.Mount (asked_by a)) (sym (same_act act (Node unique request) e)) (tt, tt)
+node_fits unique request false act e = absurd (cc)
+
 frame_fits : (unique : ℕ) (a : FuseAsk) (act : Act) → Ok act ≡ act_of_frame unique a → AllFit Kind.Mount (asked_by act)
-frame_fits unique (fuse.Portal request) act e = subst (λ (a : Act). AllFit Kind.Mount (asked_by a)) (sym (same_act act (Node unique request) e)) (tt, tt)
-frame_fits unique fuse.Unbuilt act e = absurd (cc)
+frame_fits unique (fuse.Portal request) act e = node_fits unique request (is_built request) act e
+frame_fits unique (fuse.Local told) act e = absurd (cc)
+frame_fits unique fuse.Ignore act e = absurd (cc)
 
 pub act_fits : (kind : Kind) (c : Client) (p : Phase) (item : List ℕ) (act : Act) → Speaks kind p → Means c p item (Ok act) → AllFit kind (asked_by act)
 act_fits Kind.Mount c due.ZeroByte item act s h = absurd s

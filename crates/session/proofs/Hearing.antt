@@ -17,7 +17,7 @@ use Rattle.portal_model.specs.declared.request.NodeRequest.{NodeRequest}
 use Rattle.portal_model.specs.declared.request.Request.{Request}
 use Rattle.portal_model.specs.declared.state.Connection.{Connection}
 use Rattle.portal_model.specs.Enter.{enter_answer}
-use Rattle.portal_model.specs.Errno.{ebadf, eio, enoent}
+use Rattle.portal_model.specs.Errno.{ebadf, eio, enoent, enosys}
 use Rattle.portal_model.specs.GetAttr.{attr_of_file, by_place, names_handle}
 use Rattle.portal_model.specs.Leave.{leave_answer}
 use Rattle.portal_model.specs.Place.{Sight, SightOfFile, place_of}
@@ -49,6 +49,7 @@ handle_tells false r sight looks = place_tells r sight looks
 
 op_tells : (s : State) (who : Who) (r : NodeRequest) (op : NodeOp) (given : Given) → Tells (node_answer s who r op given).1
 op_tells s who r (NodeOp.GetAttr flags fh) given = handle_tells (names_handle flags) r (place_of s who r.node) given.looks
+op_tells s who r op given = (node.Error enosys, refl)
 
 -- ---- the open connection
 

@@ -19,6 +19,7 @@ pub mod Asking
 pub mod Enclosing
 pub mod Hearing
 pub mod Completing
+pub mod Defining
 pub mod Weighing
 pub mod Rooming
 pub mod Following

@@ -18,7 +18,7 @@ use Rattle.session.specs.declared.phase.Phase.{Phase}
 use Rattle.session.specs.declared.phase.Phase.TheVariants as due
 use Rattle.session.specs.declared.served.Rest.{Rest}
 use Rattle.session.specs.declared.served.Rest.TheVariants as rest
-use Rattle.session.specs.Asked.{Means, MessageMeans, OrMemory, act_of_message, line_act}
+use Rattle.session.specs.Asked.{Means, MessageMeans, OrMemory, act_of_message, frame_act, line_act}
 use Rattle.session.specs.Cuts.{Cuts, cut_of, line_of, next_phase}
 use Rattle.session.specs.Items.{AreItems, AsksNothing, IsItem, Remains, joined, phase_after}
 use Rattle.session.specs.Laws.{AreOne}
@@ -65,7 +65,7 @@ one_meaning c (due.Handshake a) item r s t u h k =
     let e = line_act (step a (line_of item)).0 in
     told_is r e t h ∙ sym (told_is s e u k)
 one_meaning c due.Messages item r s t u h k = message_means c item r s t u h k
-one_meaning c due.Frames item r s t u h k = h ∙ sym k
+one_meaning c due.Frames item r s t u h k = let e = frame_act item in told_is r e t h ∙ sym (told_is s e u k)
 
 -- ---- one rest
 

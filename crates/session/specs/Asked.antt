@@ -1,9 +1,13 @@
 -- What an item asks: a line by the table of the handshake, a message as it is dispatched, a frame by its
 -- opcode.
-use Rattle.std.specs.Prelude.{◌≡◌, ◌≢◌, ℕ, ◌<◌, ◌^◌, List, [], ◌∷◌, ◌++◌, Bool, true, false, if◌then◌else◌, Option, Some, None, IfSome, Result, Ok, Err}
+use Rattle.std.specs.Prelude.{◌≡◌, ◌≢◌, ℕ, ◌<◌, ◌^◌, List, [], ◌∷◌, ◌++◌, Bool, true, false, not, ◌&&◌, if◌then◌else◌, Option, Some, None, is_some, IfSome, Result, Ok, Err}
 use Rattle.std.specs.List.{flat_map}
 use Rattle.portal_base.specs.declared.who.Who.{Who}
+use Rattle.portal_model.specs.declared.request.NodeOp.{NodeOp}
+use Rattle.portal_model.specs.declared.request.NodeRequest.{NodeRequest}
 use Rattle.portal_model.specs.declared.request.Request.{Request}
+use Rattle.portal_model.specs.GetAttr.{names_handle}
+use Rattle.portal_model.specs.Place.{place_named}
 use Rattle.dbus_auth.specs.declared.handshake.AuthAnswer.{AuthAnswer}
 use Rattle.dbus_auth.specs.declared.handshake.AuthAnswer.TheVariants.{Say, Begin, Early}
 use Rattle.dbus_auth.specs.Handshake.{step}
@@ -54,9 +58,22 @@ act_of_ask c message ask.Unbuilt = Err Unbuilt
 abbrev pub act_of_message : Client → Message → Result Act ItemError
 act_of_message c message = act_of_ask c message (ask_of c.settings message)
 
+-- of requests on nodes the one that is asked is FUSE_GETATTR of a file in the caller's own view, by its node
+abbrev pub is_built_op : ℕ → NodeOp → Bool
+is_built_op node (NodeOp.GetAttr flags fh) = not (names_handle flags) && is_some (place_named node)
+is_built_op node op = false
+
+abbrev pub is_built : NodeRequest → Bool
+is_built request = is_built_op request.node request.op
+
+abbrev pub node_act : ℕ → NodeRequest → Bool → Result Act ItemError
+node_act unique request true = Ok (Node unique request)
+node_act unique request false = Err Unbuilt
+
 abbrev pub act_of_frame : ℕ → FuseAsk → Result Act ItemError
-act_of_frame unique (fuse.Portal request) = Ok (Node unique request)
-act_of_frame unique fuse.Unbuilt = Err Unbuilt
+act_of_frame unique (fuse.Portal request) = node_act unique request (is_built request)
+act_of_frame unique (fuse.Local told) = Err Unbuilt
+act_of_frame unique fuse.Ignore = Err Unbuilt
 
 abbrev pub frame_act : List ℕ → Result Act ItemError
 frame_act frame = act_of_frame (header_of frame).unique (frame_ask_of frame)
@@ -80,7 +97,7 @@ abbrev pub Means : Client → Phase → List ℕ → Result Act ItemError → Ty
 Means c due.ZeroByte item found = found ≡ Ok Nothing
 Means c (due.Handshake h) item found = OrMemory found (line_act (step h (line_of item)).0)
 Means c due.Messages item found = MessageMeans c item found
-Means c due.Frames item found = found ≡ frame_act item
+Means c due.Frames item found = OrMemory found (frame_act item)
 
 -- ---- what is asked of the portal
 

@@ -9,6 +9,7 @@ use Rattle.portal_model.specs.declared.reply.NodeAnswer.{NodeAnswer}
 use Rattle.portal_model.specs.declared.reply.NodeAnswer.TheVariants.{Error}
 use Rattle.portal_model.specs.declared.reply.Refused.{Refused}
 use Rattle.portal_model.specs.declared.reply.Refused.TheVariants.{Memory, Full}
+use Rattle.portal_model.specs.Errno.{enomem, enospc}
 
 -- what a frame tells of an answer; a seat without an open connection is told nothing
 abbrev pub told_code : Code → Option NodeAnswer
@@ -28,10 +29,9 @@ frames_telling unique (Some told) = option_to_list (reply_of unique told)
 abbrev pub answer_frames : ℕ → Answer → List (List ℕ)
 answer_frames unique answered = frames_telling unique (told_of answered)
 
--- ENOMEM, and ENOSPC
 abbrev pub refusal_errno : Refused → ℕ
-refusal_errno Memory = 12
-refusal_errno (Full cost limit) = 28
+refusal_errno Memory = enomem
+refusal_errno (Full cost limit) = enospc
 
 -- the frame that tells that the request of this number is no entry of the history
 abbrev pub refusal_frames : ℕ → Refused → List (List ℕ)

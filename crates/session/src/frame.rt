@@ -6,23 +6,18 @@ ghost use Rattle.session.specs.Frames.{told_of, answer_frames, refusal_errno, re
 use fuse_reply::reply::write_reply;
 use portal_base::list::ByteList;
 use portal_base::memory::WantOfMemory;
+use portal_model::errno::{ENOMEM, ENOSPC};
 use portal_model::reply::{Answer, Code, NodeAnswer, Refused};
 use std::alloc::Global;
-
-/// Want of memory, by the number that the kernel's headers give it.
-const ENOMEM: u32 = 12;
-
-/// No space is left, by the number that the kernel's headers give it.
-const ENOSPC: u32 = 28;
 
 /// The frame that tells an answer to the request of this number, or `None`
 /// where nothing is told.
 pub fn answer_frame(
     alloc: Global,
     unique: u64,
-    answer: &Answer,
+    answer: Answer,
 ) -> Result<Option<ByteList>, WantOfMemory>
-    ensures { IfOk result (λ frame. option_to_list frame ≡ answer_frames unique answer.now) }
+    ensures { IfOk result (λ frame. option_to_list frame ≡ answer_frames unique answer) }
 {
     match told_of(answer) {
         Some(told) => write_reply(alloc, unique, &told),
@@ -56,12 +51,12 @@ fn errno_of(refused: Refused) -> u32
 
 /// What a frame tells of an answer. No connection that is open meets an answer
 /// of which nothing is told.
-fn told_of(answer: &Answer) -> Option<NodeAnswer>
-    ensures { result ≡ told_of answer.now }
+fn told_of(answer: Answer) -> Option<NodeAnswer>
+    ensures { result ≡ told_of answer }
 {
     match answer {
-        Answer::Node(answer) => Some(*answer),
-        Answer::Refused(Code::Errno(errno)) => Some(NodeAnswer::Error { errno: *errno }),
+        Answer::Node(answer) => Some(answer),
+        Answer::Refused(Code::Errno(errno)) => Some(NodeAnswer::Error { errno }),
         Answer::Refused(Code::NotHere) => None,
         Answer::Done => None,
     }

@@ -2,7 +2,7 @@
 
 ghost use Rattle.std.specs.Prelude.{◌≡◌, ◌≤◌, length, IfOk, OnOk, OnErr};
 ghost use Rattle.session.specs.Cuts.{Cuts, next_phase, line_of};
-ghost use Rattle.session.specs.Asked.{Means, MessageMeans, MayAnswer, OrMemory, act_of_message, frame_act, is_host, reply_to};
+ghost use Rattle.session.specs.Asked.{Means, MessageMeans, MayAnswer, OrMemory, act_of_frame, act_of_message, frame_act, is_built, is_host, reply_to};
 ghost use Rattle.session.specs.declared.phase.Cut.TheVariants.{Whole};
 ghost use Rattle.dbus_auth.specs.Handshake.{step};
 ghost use Rattle.dbus_message.specs.Rules.{IsWhole};
@@ -20,6 +20,8 @@ use fuse_wire::frame::unique_of;
 use fuse_wire::request::{FuseAsk, read_request};
 use portal_base::memory::WantOfMemory;
 use portal_base::who::Who;
+use portal_model::place::file_number;
+use portal_model::request::{NodeOp, NodeRequest, names_handle};
 use std::alloc::Global;
 
 /// The rule that `BEGIN` breaks before OK was said.
@@ -54,7 +56,7 @@ pub fn read_item(
             AuthAnswer::Early => Err(ItemError::Breaks { rule: BEGIN_RULE }),
         },
         Phase::Messages => read_call(alloc, client, item),
-        Phase::Frames => read_frame(item),
+        Phase::Frames => read_frame(alloc, item),
     }
 }
 
@@ -117,15 +119,40 @@ fn is_host(who: &Who) -> bool
 }
 
 /// Says what a frame asks.
-fn read_frame(item: &[u8]) -> Result<Act, ItemError>
+fn read_frame(alloc: Global, item: &[u8]) -> Result<Act, ItemError>
     requires { split_of item.now ≡ split.Whole (length item.now) }
-    ensures { result ≡ frame_act item.now }
+    ensures asks { OrMemory result (frame_act item.now) }
+    ensures may_answer { IfOk result MayAnswer }
 {
-    match read_request(item) {
-        FuseAsk::Portal(request) => Ok(Act::Node {
-            unique: unique_of(item),
-            request,
-        }),
-        FuseAsk::Unbuilt => Err(ItemError::Unbuilt),
+    let unique = unique_of(item);
+    frame_act(unique, read_request(alloc, item)?)
+}
+
+/// Says what is asked with a frame of this number.
+fn frame_act(unique: u64, asked: FuseAsk) -> Result<Act, ItemError>
+    ensures asks { result ≡ act_of_frame unique asked }
+    ensures may_answer { IfOk result MayAnswer }
+{
+    match asked {
+        FuseAsk::Portal(request) => {
+            if is_built(&request) {
+                Ok(Act::Node { unique, request })
+            } else {
+                Err(ItemError::Unbuilt)
+            }
+        }
+        FuseAsk::Local(_) | FuseAsk::Ignore => Err(ItemError::Unbuilt),
+    }
+}
+
+/// Says whether a request on a node is one that is asked.
+fn is_built(request: &NodeRequest) -> bool
+    ensures { result ≡ is_built request.now }
+{
+    match &request.op {
+        NodeOp::GetAttr { flags, .. } => {
+            !names_handle(*flags) && file_number(request.node).is_some()
+        }
+        _ => false,
     }
 }

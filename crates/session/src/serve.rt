@@ -123,7 +123,7 @@ fn serve_node<D: Desk, K: Sink>(
     ensures goes { D.goes desk.old desk.new }
 {
     match desk.ask(alloc, Request::Node(request)) {
-        Ok(reply) => send_frame(serial, answer_frame(alloc, unique, &reply.answer), sink),
+        Ok(reply) => send_frame(serial, answer_frame(alloc, unique, reply.answer), sink),
         Err(refused) => send_frame(serial, refusal_frame(alloc, unique, refused), sink),
     }
 }
@@ -132,25 +132,23 @@ fn serve_node<D: Desk, K: Sink>(
 /// serial.
 pub fn serve_act<D: Desk, K: Sink>(
     alloc: Global,
-    act: &Act,
+    act: Act,
     serial: u32,
     desk: &mut D,
     sink: &mut K,
 ) -> Result<u32, Halt>
-    requires { MayAnswer act.now }
-    ensures ends { ActEnds result act.now serial (world (D.seated desk.old) (K.told sink.old) (K.faults sink.old)) (world (D.seated desk.new) (K.told sink.new) (K.faults sink.new)) }
+    requires { MayAnswer act }
+    ensures ends { ActEnds result act serial (world (D.seated desk.old) (K.told sink.old) (K.faults sink.old)) (world (D.seated desk.new) (K.told sink.new) (K.faults sink.new)) }
     ensures goes { D.goes desk.old desk.new }
 {
     match act {
         Act::Nothing => Ok(serial),
         Act::Line { reply } => send(sink, reply.as_slice(), serial),
         Act::Call { reply, collects } => {
-            collect(alloc, *collects, desk);
-            send_message(alloc, serial, reply, sink)
+            collect(alloc, collects, desk);
+            send_message(alloc, serial, &reply, sink)
         }
-        Act::Node { unique, request } => {
-            serve_node(alloc, *unique, *request, serial, desk, sink)
-        }
+        Act::Node { unique, request } => serve_node(alloc, unique, request, serial, desk, sink),
     }
 }
 
@@ -185,7 +183,7 @@ fn serve_item<D: Desk, K: Sink>(
     ensures goes { D.goes desk.old desk.new }
 {
     match read_item(alloc, client, &mut stage.phase, item) {
-        Ok(act) => match serve_act(alloc, &act, stage.serial, desk, sink) {
+        Ok(act) => match serve_act(alloc, act, stage.serial, desk, sink) {
             Ok(serial) => {
                 stage.serial = serial;
                 Ok(None)

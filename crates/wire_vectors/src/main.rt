@@ -71,6 +71,15 @@ fn answer(alloc: Global, line: &str) -> Result<String, VectorError> {
         "frame" => frames::frame(alloc, rest),
         "attributes" => frames::attributes(alloc, rest),
         "errno" => frames::errno(alloc, rest),
+        "entry" => frames::entry(alloc, rest),
+        "created" => frames::created(alloc, rest),
+        "opened" => frames::opened(alloc, rest),
+        "content" => frames::content(alloc, rest),
+        "written" => frames::written_size(alloc, rest),
+        "answer" => frames::answer(alloc, rest),
+        "names" => frames::names(alloc, rest),
+        "dirents" => frames::dirents(alloc, rest),
+        "local" => frames::local(alloc, rest),
         _ => Err(VectorError::Line(LineError::BadLine)),
     }
 }
