@@ -1,26 +1,20 @@
 -- What lies below a path, and where a file may be made.
-use Rattle.std.proofs.Common.{◌≡◌, ℕ, ◌+◌, ◌-◌, ◌<◌, ◌≤◌, ◌==◌, nat_eq, suc, List, [], ◌∷◌, ◌++◌, length, take, drop, get_or, reverse, map, Bool, true, false, not, ◌&&◌, ◌||◌, cond, Option, Some, None, refl, sym, ap, subst, ◌∙◌, ◌⊎◌, arith, ⊎_elim, inl, inr, length-append, length-take, append_assoc}
+use Rattle.std.proofs.Common.{◌≡◌, ℕ, List, [], ◌∷◌, Bool, true, false, ◌&&◌, ◌||◌, cond, refl, sym, ap, subst, ◌∙◌, ◌⊎◌, arith, ⊎_elim, inl, inr}
 use Rattle.std.proofs.lemmas.Bool.Decides.{nat_tests}
-use Rattle.std.proofs.lemmas.Bool.{cases_lt}
 use mathlib.Core.Bool.{true≢false}
-use Rattle.std.proofs.lemmas.List.{reverse-append, take_all, drop_all}
-use Rattle.std.proofs.Math.Seq.{take-append-add}
 use Rattle.std.specs.BTreeMap.Range.{entries_between}
-use Rattle.std.specs.List.{filter, list_all, list_any, prefix_len, suffix_len, before_last, AllByRecursion}
+use Rattle.std.specs.List.{list_any, AllByRecursion}
 use Rattle.std.specs.List.Sorted.{IsStrictlySortedBy}
 use Rattle.std.specs.Map.{keys_of}
-use Rattle.std.specs.Ordering.{is_eq, is_lt, nat_cmp, ordering_then}
+use Rattle.std.specs.Ordering.{is_lt, ordering_then}
 use Rattle.std.specs.declared.cmp.Ordering.{Ordering}
 use Rattle.std.specs.declared.cmp.Ordering.TheVariants.{Less, Equal, Greater}
 use Rattle.std.specs.declared.ops.Bound.TheVariants.{Excluded, Unbounded}
-use Rattle.portal_base.specs.Names.{is_same, is_slash, is_host_path, root, parent_of}
-use Rattle.portal_base.specs.PathOrder.{path_order, byte_order, place_of_byte}
-use Rattle.portal_base.specs.Content.{is_above, is_folder, has_room, paths_of, ArePlaced, IsTree}
+use Rattle.portal_base.specs.PathOrder.{path_order, byte_order}
+use Rattle.portal_base.specs.Content.{is_above}
 use Rattle.portal_base.specs.declared.files.File.{File}
-use Rattle.host_tree.specs.Stored.{file_of, files_of}
-use Rattle.host_tree.specs.Trees.{put_file}
+use Rattle.host_tree.specs.Stored.{files_of}
 use Rattle.host_tree.specs.declared.files.Stored.{Stored}
-use Rattle.host_tree.proofs.Entries.{same-is, same-itself, paths-are, all-put, any-put}
 
 -- ---- the order, and what lies below a path
 

@@ -1,6 +1,6 @@
 -- What the trees in memory are.
 use Rattle.std.specs.Prelude.{ℕ, List, [], Some}
-use Rattle.portal_base.specs.Calls.{Calls, Counted}
+use Rattle.portal_base.specs.Calls.{Counted}
 use Rattle.portal_base.specs.declared.files.File.{File}
 use Rattle.host_tree.specs.Trees.{TreeIs, put_file}
 

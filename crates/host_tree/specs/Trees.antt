@@ -1,7 +1,7 @@
 -- What a tree of files answers, and what each call leaves of it.
 -- Source: POSIX.1-2017, pread, pwrite and ftruncate: a write behind the end fills the gap with
 -- zero bytes, a write of no bytes changes nothing.
-use Rattle.std.specs.Prelude.{◌≡◌, ℕ, ◌+◌, ◌-◌, ◌==◌, ◌≤◌, List, [], ◌∷◌, ◌++◌, length, take, drop, map, replicate, Bool, true, false, not, ◌&&◌, ◌||◌, cond, Option, Some, None, is_some, option_map, IfSome}
+use Rattle.std.specs.Prelude.{◌≡◌, ℕ, ◌+◌, ◌-◌, ◌≤◌, List, [], ◌∷◌, ◌++◌, length, take, drop, map, replicate, Bool, true, false, not, ◌&&◌, cond, Option, Some, None, is_some, option_map, IfSome}
 use Rattle.std.specs.List.{filter}
 use Rattle.std.specs.Ordering.{is_lt}
 use Rattle.portal_base.specs.Calls.{Calls, next_call, FailsAsTold}

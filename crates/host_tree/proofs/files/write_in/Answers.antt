@@ -1,4 +1,4 @@
-use Rattle.std.proofs.Common.{◌≡◌, sym, ap, ◌∙◌, refl, Some, List, ℕ}
+use Rattle.std.proofs.Common.{◌≡◌, ap, ◌∙◌, refl, Some, List, ℕ}
 use Rattle.std.specs.BTreeMap.{BTreeMap}
 use Rattle.std.specs.Option.{is_some}
 use Rattle.host_tree.specs.Stored.{files_of, stored_written}

@@ -1,4 +1,4 @@
-use Rattle.std.proofs.Common.{◌≡◌, sym, ap, subst, ◌∙◌, List, Result, Ok, Err, is_err, OnErr, true}
+use Rattle.std.proofs.Common.{◌≡◌, sym, ap, subst, ◌∙◌, Result, Ok, Err, is_err, OnErr, true}
 use Rattle.portal_base.specs.Content.{IsTree}
 use Rattle.host_tree.specs.Trees.{put_file, file_with, without}
 use Rattle.host_tree.proofs.Entries.{put-is-new, put-and-without}

@@ -1,4 +1,4 @@
-use Rattle.std.proofs.Common.{◌≡◌, sym, ap, ◌∙◌, List}
+use Rattle.std.proofs.Common.{sym, ap, ◌∙◌, List}
 use Rattle.portal_base.specs.Content.{file_at, look_at}
 use Rattle.portal_base.specs.declared.files.File.{File}
 use Rattle.portal_base.specs.declared.files.Look.{Look}

@@ -1,4 +1,4 @@
-use Rattle.std.proofs.Common.{◌≡◌, sym, ap, ◌∙◌, Option, List}
+use Rattle.std.proofs.Common.{sym, ap, ◌∙◌, List}
 use Rattle.std.specs.Option.{option_map}
 use Rattle.portal_base.specs.Content.{file_named}
 use Rattle.portal_base.specs.declared.files.File.{File}

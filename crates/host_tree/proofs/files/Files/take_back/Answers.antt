@@ -1,9 +1,8 @@
-use Rattle.std.proofs.Common.{◌≡◌, sym, ap, subst, ◌∙◌, List, ℕ}
+use Rattle.std.proofs.Common.{◌≡◌, sym, ap, subst, ◌∙◌}
 use Rattle.std.specs.List.Sorted.{IsStrictlySortedBy}
 use Rattle.std.specs.Map.{keys_of}
 use Rattle.portal_base.specs.Content.{IsTree}
 use Rattle.portal_base.specs.PathOrder.{path_order}
-use Rattle.portal_base.specs.declared.files.File.{File}
 use Rattle.host_tree.specs.Trees.{without}
 use Rattle.host_tree.specs.Stored.{files_of}
 use Rattle.host_tree.proofs.Entries.{removed-entry, paths-are}
