@@ -37,12 +37,7 @@ fn is_look(word: &str) -> bool {
 }
 
 /// What a look at the list gives.
-fn looked(
-    alloc: Global,
-    list: &List<u64>,
-    word: &str,
-    rest: &str,
-) -> Result<String, VectorError> {
+fn looked(alloc: Global, list: &List<u64>, word: &str, rest: &str) -> Result<String, VectorError> {
     let found = match word {
         "first" => list.first().copied(),
         "last" => list.last().copied(),

@@ -90,4 +90,3 @@ impl<'a> Write for Writer<'a> {
         Ok(())
     }
 }
-
