@@ -2,13 +2,14 @@
 use Rattle.std.specs.Prelude.{ℕ, ◌+◌, List, [], ◌∷◌, ◌++◌, length, replicate, map}
 use Rattle.std.specs.Int.{w8, w16, w32, w64, to_le_bytes, cast_unsigned}
 use Rattle.dbus_types.specs.declared.types.Endian.{Endian}
+use Rattle.dbus_types.specs.declared.types.Endian.TheVariants.{Little}
 use Rattle.dbus_types.specs.declared.types.WireType.{WireType}
 use Rattle.dbus_types.specs.declared.types.WireType.TheVariants as W
 use Rattle.dbus_types.specs.declared.types.Value.{Value, fold-Value}
 use Rattle.dbus_types.specs.declared.types.Value.TheOpen.{Value-F}
 use Rattle.dbus_types.specs.Types.{alignment, type_text}
 pub use Rattle.dbus_types.specs.Extends.{Extends}
-use Rattle.dbus_marshal.specs.Spells.{number, gap, bit}
+use Rattle.dbus_types.specs.Spells.{number, gap, bit}
 
 -- a body behind padding
 abbrev pub aligned : ℕ → (ℕ → List ℕ) → ℕ → List ℕ
@@ -64,3 +65,11 @@ spelling e at v = (spelled e v).1 at
 -- of several, one after another
 abbrev pub spellings : Endian → ℕ → List Value → List ℕ
 spellings e at vs = in_row (map (spelled e) vs) at
+
+-- how many bytes a value takes at an offset, its padding among them, in either order of bytes
+abbrev pub spelled_length : ℕ → Value → ℕ
+spelled_length at v = length (spelling Little at v)
+
+-- of several, one after another
+abbrev pub spelled_lengths : ℕ → List Value → ℕ
+spelled_lengths at vs = length (spellings Little at vs)

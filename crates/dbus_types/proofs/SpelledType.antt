@@ -7,7 +7,7 @@ use Rattle.dbus_types.specs.declared.types.Value.{Value}
 use Rattle.dbus_types.specs.declared.types.Value.TheOpen.{Value-F}
 use Rattle.dbus_types.specs.declared.types.Value.TheFolds.{ind-Value, map-Value, fold-roll-Value}
 use Rattle.dbus_types.specs.Values.{type_step, type_of}
-use Rattle.dbus_marshal.specs.Spelling.{Spelled, spell_step, spelled}
+use Rattle.dbus_types.specs.Spelling.{Spelled, spell_step, spelled}
 
 module _ (e : Endian) where
   abbrev Agrees : Value → Type 0

@@ -12,8 +12,8 @@ use Rattle.dbus_types.specs.declared.types.Value.{Value, the_lemmas}
 use Rattle.dbus_types.specs.declared.types.Value.TheOpen.{Value-F}
 use Rattle.dbus_types.specs.declared.types.Value.TheVariants as V
 use Rattle.dbus_types.specs.Types.{alignment, type_text}
-use Rattle.dbus_marshal.specs.Spells.{number, gap, Aligned, NumberRow, TextRow, Members, Elements, Flat, Row, NoneInside, SpellsWithin}
-use Rattle.dbus_marshal.specs.Spelling.{aligned, text_body, Spelled, spell_step, spelled, spelling, spellings, signature_body, variant_body}
+use Rattle.dbus_types.specs.Spells.{number, gap, Aligned, NumberRow, TextRow, Members, Elements, Flat, Row, NoneInside, SpellsWithin}
+use Rattle.dbus_types.specs.Spelling.{aligned, text_body, Spelled, spell_step, spelled, spelling, spellings, signature_body, variant_body}
 
 pub roll_byte : (e : Endian) (n : ℕ) → spelled e (V.Byte n) ≡ spell_step e (Value-F.Byte n)
 roll_byte e n = search the_lemmas
@@ -204,35 +204,3 @@ pub spells_same : (n : ℕ) (e : Endian) (t : WireType) (at : ℕ) (v : Value) (
 unfolding SpellsWithin
 spells_same zero e t at v text h = let a = row_same NoneInside e (λ t at v text h. absurd h) (out-WireType t) at v text h in (a.0, a.1 ∙ roll_out t)
 spells_same (suc n) e t at v text h = let a = row_same (SpellsWithin n e) e (spells_same n e) (out-WireType t) at v text h in (a.0, a.1 ∙ roll_out t)
-
-pub variant_whole : (e : Endian) (out one two : List ℕ) (v x : Value) → v ≡ V.Variant x → one ≡ out ++ signature_body (type_text (spelled e x).0) → two ≡ one ++ spelling e (length one) x → two ≡ out ++ spelling e (length out) v
-variant_whole e out one two v x is a b =
-    let n : List ℕ = type_text (spelled e x).0 in
-    let place : length one ≡ length out + (1 + length n + 1) = omega (arith, ap length a, length-append out (signature_body n), length-append (to_le_bytes w8 (length n)) (n ++ 0 ∷ []), length-append n (0 ∷ [])) in
-    let inside : List ℕ = spelling e (length out + (1 + length n + 1)) x in
-    let found : two ≡ (out ++ signature_body n) ++ inside = b ∙ (ap (λ (k : ℕ). one ++ spelling e k x) place ∙ ap (λ (w : List ℕ). w ++ inside) a) in
-    found ∙ (append_assoc out (signature_body n) inside ∙ (ap (λ (w : List ℕ). out ++ (to_le_bytes w8 (length n) ++ w)) (append_assoc n (0 ∷ []) inside)
-    ∙ sym (ap (λ (z : Value). out ++ spelling e (length out) z) is ∙ ap (λ (s : Spelled). out ++ s.1 (length out)) (roll_variant e x))))
-
-pub struct_whole : (e : Endian) (out one two : List ℕ) (v : Value) (vs : List Value) → v ≡ V.Struct vs → one ≡ out ++ replicate (gap 8 (length out)) 0 → two ≡ one ++ spellings e (length one) vs → two ≡ out ++ spelling e (length out) v
-struct_whole e out one two v vs is a b =
-    let zs : List ℕ = replicate (gap 8 (length out)) 0 in
-    let place : length one ≡ length out + gap 8 (length out) = omega (arith, ap length a, length-append out zs, length-replicate {A = ℕ} (gap 8 (length out)) 0) in
-    let inside : List ℕ = spellings e (length out + gap 8 (length out)) vs in
-    let found : two ≡ (out ++ zs) ++ inside = b ∙ (ap (λ (k : ℕ). one ++ spellings e k vs) place ∙ ap (λ (w : List ℕ). w ++ inside) a) in
-    found ∙ (append_assoc out zs inside ∙ sym (ap (λ (z : Value). out ++ spelling e (length out) z) is ∙ ap (λ (s : Spelled). out ++ s.1 (length out)) (roll_struct e vs)))
-
-pub entry_whole : (e : Endian) (out one two three : List ℕ) (v k x : Value) → v ≡ V.DictEntry k x → one ≡ out ++ replicate (gap 8 (length out)) 0 → two ≡ one ++ spelling e (length one) k → three ≡ two ++ spelling e (length two) x
-    → three ≡ out ++ spelling e (length out) v
-entry_whole e out one two three v k x is a b c =
-    let zs : List ℕ = replicate (gap 8 (length out)) 0 in
-    let start : ℕ = length out + gap 8 (length out) in
-    let place : length one ≡ start = omega (arith, ap length a, length-append out zs, length-replicate {A = ℕ} (gap 8 (length out)) 0) in
-    let key : List ℕ = spelling e start k in
-    let first : two ≡ (out ++ zs) ++ key = b ∙ (ap (λ (i : ℕ). one ++ spelling e i k) place ∙ ap (λ (w : List ℕ). w ++ key) a) in
-    let middle : length two ≡ start + length key = omega (arith, ap length first, length-append (out ++ zs) key, length-append out zs, length-replicate {A = ℕ} (gap 8 (length out)) 0) in
-    let value : List ℕ = spelling e (start + length key) x in
-    let found : three ≡ ((out ++ zs) ++ key) ++ value = c ∙ (ap (λ (i : ℕ). two ++ spelling e i x) middle ∙ ap (λ (w : List ℕ). w ++ value) first) in
-    found ∙ (append_assoc (out ++ zs) key value ∙ (append_assoc out zs (key ++ value)
-    ∙ (ap (λ (w : List ℕ). out ++ (zs ++ (key ++ w))) (sym (append-nil value))
-    ∙ sym (ap (λ (z : Value). out ++ spelling e (length out) z) is ∙ ap (λ (s : Spelled). out ++ s.1 (length out)) (roll_entry e k x)))))
