@@ -4,7 +4,6 @@ use Rattle.std.specs.Int.{w8, w16, w32, w64, to_le_bytes, cast_unsigned}
 use Rattle.std.proofs.lemmas.List.{length-append}
 use Rattle.dbus_types.specs.declared.types.Endian.{Endian}
 use Rattle.dbus_types.specs.declared.types.Endian.TheVariants.{Little, Big}
-use Rattle.dbus_types.specs.declared.types.WireType.{WireType}
 use Rattle.dbus_types.specs.declared.types.Value.{Value}
 use Rattle.dbus_types.specs.declared.types.Value.TheOpen.{Value-F}
 use Rattle.dbus_types.specs.declared.types.Value.TheFolds.{ind-Value, map-Value, fold-roll-Value}
@@ -52,9 +51,8 @@ module _ (e : Endian) where
       let first : List ℕ = spelling e at x.0 in
       let little : List ℕ = spelling Little at x.0 in
       let rest : List ℕ = in_row (spelled_of e xs) (at + length first) in
-      let last : List ℕ = in_row (spelled_of Little xs) (at + length first) in
       let there : length (in_row (spelled_of Little xs) (at + length first)) ≡ length (in_row (spelled_of Little xs) (at + length little)) =
-          ap (λ (n : ℕ). length (in_row (spelled_of Little xs) (at + n))) (x.1 at) in
+      ap (λ (n : ℕ). length (in_row (spelled_of Little xs) (at + n))) (x.1 at) in
       omega (
         arith,
         x.1 at,

@@ -1,6 +1,5 @@
 -- What spells a value is its spelling.
-use Rattle.std.proofs.Common.{◌≡◌, ℕ, zero, suc, ◌+◌, ◌<◌, ◌^◌, ℤ, Bool, List, [], ◌∷◌, ◌++◌, length, map, replicate, refl, sym, ap, ◌∙◌, append_assoc, append-nil, arith}
-use Rattle.std.proofs.lemmas.List.{length-append, length-replicate}
+use Rattle.std.proofs.Common.{◌≡◌, ℕ, zero, suc, ◌+◌, ◌<◌, ◌^◌, ℤ, Bool, List, [], ◌∷◌, ◌++◌, length, map, refl, sym, ap, ◌∙◌, arith}
 use Rattle.std.proofs.lemmas.Int.{of_z-to_z}
 use Rattle.std.specs.Int.{Width, w8, w16, w32, w64, to_le_bytes, cast_signed}
 use mir.Val.{bits}
@@ -13,7 +12,7 @@ use Rattle.dbus_types.specs.declared.types.Value.TheOpen.{Value-F}
 use Rattle.dbus_types.specs.declared.types.Value.TheVariants as V
 use Rattle.dbus_types.specs.Types.{alignment, type_text}
 use Rattle.dbus_types.specs.Spells.{number, gap, Aligned, NumberRow, TextRow, Members, Elements, Flat, Row, NoneInside, SpellsWithin}
-use Rattle.dbus_types.specs.Spelling.{aligned, text_body, Spelled, spell_step, spelled, spelling, spellings, signature_body, variant_body}
+use Rattle.dbus_types.specs.Spelling.{aligned, text_body, Spelled, spell_step, spelled, spelling, spellings, variant_body}
 
 pub roll_byte : (e : Endian) (n : ℕ) → spelled e (V.Byte n) ≡ spell_step e (Value-F.Byte n)
 roll_byte e n = search the_lemmas
