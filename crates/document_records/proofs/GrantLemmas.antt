@@ -11,9 +11,8 @@ use Rattle.rights_rule.specs.Rights.{RightSet, union, minus, no_rights, is_no_ri
 use Rattle.portal_model.specs.declared.rights.Right.{Right}
 use Rattle.portal_model.specs.declared.rights.Right.TheVariants.{Read, Write, GrantPermissions, Delete}
 use Rattle.portal_model.specs.declared.state.Triple.{Triple}
-use Rattle.portal_model.specs.State.{app_has}
+use Rattle.portal_model.specs.State.{app_has, held_of}
 use Rattle.portal_model.specs.Valid.{same_triple}
-use Rattle.portal_model.specs.View.{held_of}
 use Rattle.document_records.specs.declared.grants.Grant.{Grant}
 use Rattle.document_records.specs.Grants.{triples_of_grant, triples_of_grants, is_of, is_before, grant_less, are_grants_in_order, given, taken, has_a_right, is_elsewhere, AreKept}
 use Rattle.document_records.specs.Ordered.{put, bytes_less, is_rising}

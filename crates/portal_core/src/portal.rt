@@ -11,13 +11,13 @@ ghost use Rattle.portal_core.specs.Served.{Serves, collect_answer as answer_of_b
 ghost use Rattle.portal_core.specs.Story.{Answers, HasCause, cost_with, limit_of, state_now};
 
 use crate::attributes::{NodeDone, get_attr};
-use crate::history::{History, cost_of};
 use crate::lists::{bus_of, connection_of, mount_of, of_others};
 use crate::opening;
 use portal_base::files::Look;
 use portal_base::list::List;
 use portal_base::memory::{Replica, WantOfMemory};
 use portal_base::who::{Kind, Who};
+use portal_history::{History, cost_of};
 use portal_model::entry::{Entry, Fault, Given};
 use portal_model::opening::OpeningState;
 use portal_model::reply::{Answer, Code, Refused, Reply};

@@ -5,12 +5,5 @@ pub mod Silence
 pub mod Kept
 pub mod Apart
 pub mod OpeningLaws
-pub mod ViewLaws
-pub mod EnterLaws
-pub mod LeaveLaws
-pub mod CollectLaws
-pub mod PlaceLaws
-pub mod GetAttrLaws
-pub mod WorldLaws
 pub mod SeatLaws
 pub mod ExampleProofs

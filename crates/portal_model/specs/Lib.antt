@@ -2,8 +2,6 @@ pub mod State
 pub mod Content
 pub mod Place
 pub mod Errno
-pub mod View
-pub mod Effect
 pub mod Enter
 pub mod Leave
 pub mod Collect
@@ -14,7 +12,6 @@ pub mod Valid
 pub mod Opening
 pub mod RecordChanges
 pub mod History
-pub mod World
 pub mod Seated
 pub mod Laws
 pub mod Examples
