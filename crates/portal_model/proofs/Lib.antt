@@ -4,6 +4,9 @@ pub mod Histories
 pub mod Silence
 pub mod Kept
 pub mod Apart
+pub mod Rising
+pub mod TripleOrder
+pub mod RightsLaws
 pub mod OpeningLaws
 pub mod SeatLaws
 pub mod ExampleProofs

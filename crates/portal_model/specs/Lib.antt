@@ -1,4 +1,8 @@
 pub mod State
+pub mod Ordered
+pub mod Rights
+pub mod Documents
+pub mod Applications
 pub mod Content
 pub mod Place
 pub mod Errno

@@ -21,7 +21,7 @@ pub record State : Type 0 where
   pub documents : List Document
   -- the numbers of all documents that were ever made
   pub made : List DocId
-  -- which application has which right in which document, none twice
+  -- which application has which right in which document: by number, application and right, none twice
   pub rights : List Triple
   -- the names of the numbered applications: application k is the k-th
   pub applications : List (List ℕ)

@@ -1,7 +1,7 @@
 -- Lists in rising order: what keeps them so, and that their items tell them.
 use Rattle.std.proofs.Common.{◌≡◌, List, [], ◌∷◌, ◌++◌, map, Bool, true, false, ◌||◌, refl, sym, ap, subst, ◌∙◌, arith}
 use Rattle.std.specs.List.{filter, list_all, list_any}
-use Rattle.document_records.specs.Ordered.{put, put_all, is_rising}
+use Rattle.portal_model.specs.Ordered.{put, put_all, is_rising}
 
 -- a strict order of keys, with a test of equal keys
 pub record Order {K : Type 0} (less same : K → K → Bool) : Type 0 where
@@ -33,6 +33,18 @@ module _ {K X : Type 0} (less same : K → K → Bool) (key : X → K) (o : Orde
   pub rising-put_all : (xs : List X) → is_rising before (put_all before xs) ≡ true
   rising-put_all [] = refl
   rising-put_all (x ∷ xs) = rising-put x (put_all before xs) (rising-put_all xs)
+
+  put-first : (x : X) (xs : List X) → list_all (before x) xs ≡ true → put before x xs ≡ x ∷ xs
+  put-first x [] h = refl
+  put-first x (y ∷ ys) h = grind arith
+
+  -- what stands in order stays as it is
+  pub put_all-rising : (xs : List X) → is_rising before xs ≡ true → put_all before xs ≡ xs
+  put_all-rising [] h = refl
+  put_all-rising (x ∷ xs) h =
+      let first : list_all (before x) xs ≡ true = grind arith in
+      let rest : is_rising before xs ≡ true = grind arith in
+      ap (put before x) (put_all-rising xs rest) ∙ put-first x xs first
 
   all-filter : (p : X → Bool) (z : X) (xs : List X) → list_all (before z) xs ≡ true → list_all (before z) (filter p xs) ≡ true
   all-filter p z [] h = refl

@@ -9,10 +9,9 @@ use Rattle.portal_model.specs.declared.rights.Right.{Right}
 use Rattle.portal_model.specs.declared.rights.Right.TheVariants.{Read, Write, GrantPermissions, Delete}
 use Rattle.portal_model.specs.declared.state.Triple.{Triple}
 use Rattle.portal_model.specs.State.{bit_of, same_right}
-use Rattle.portal_model.specs.Valid.{same_triple}
-use Rattle.document_records.specs.Ordered.{bytes_less}
-use Rattle.document_records.specs.Rights.{triple_less}
-use Rattle.document_records.proofs.Rising.{Order}
+use Rattle.portal_model.specs.Ordered.{bytes_less}
+use Rattle.portal_model.specs.Rights.{same_triple, triple_less}
+use Rattle.portal_model.proofs.Rising.{Order}
 
 pub nat_is : (a b : ℕ) → (a == b) ≡ true → a ≡ b
 nat_is a b h = grind (arith, nat_tests)

@@ -1,14 +1,18 @@
--- Which application has which right in which document: triples in one order, by the number of the document, by the bytes of the application's name, and by the right.
+-- Which application has which right in which document: triples in one order, by the number of the document,
+-- by the bytes of the application's name, and by the right.
 use Rattle.std.specs.Prelude.{ℕ, ◌==◌, nat_lt, List, [], ◌∷◌, ◌++◌, Bool, not, ◌&&◌, cond}
 use Rattle.std.specs.List.{filter}
 use Rattle.portal_base.specs.Names.{is_same}
 use Rattle.portal_base.specs.declared.names.doc_id.DocId.{DocId}
-use Rattle.rights_rule.specs.Rights.{RightSet}
+use Rattle.portal_base.specs.declared.who.Who.{Who}
+use Rattle.rights_rule.specs.Rights.{RightSet, all_rights}
 use Rattle.portal_model.specs.declared.rights.Right.{Right}
 use Rattle.portal_model.specs.declared.rights.Right.TheVariants.{Read, Write, GrantPermissions, Delete}
 use Rattle.portal_model.specs.declared.state.Triple.{Triple}
-use Rattle.portal_model.specs.State.{bit_of}
-use Rattle.document_records.specs.Ordered.{bytes_less, put_all, is_rising}
+use Rattle.portal_model.specs.Ordered.{bytes_less, put_all, is_rising}
+use Rattle.portal_model.specs.State.{bit_of, held_of, same_right}
+
+-- ---- their order
 
 abbrev pub triple_less : Triple → Triple → Bool
 triple_less t u =
@@ -18,6 +22,18 @@ triple_less t u =
 
 abbrev pub are_in_order : List Triple → Bool
 are_in_order rights = is_rising triple_less rights
+
+abbrev pub same_triple : Triple → Triple → Bool
+same_triple t u = is_same t.app u.app && (t.id.number == u.id.number && same_right t.right u.right)
+
+-- ---- what is held
+
+-- the rights of a caller in the live document of a number: the host has every right
+abbrev pub held_by : List Triple → Who → ℕ → RightSet
+held_by rights Who.Host number = all_rights
+held_by rights (Who.App app) number = held_of rights app number
+
+-- ---- what is added and taken away
 
 abbrev pub triple : List ℕ → DocId → Right → Triple
 triple app id right = record { app = app; id = id; right = right }
