@@ -10,9 +10,9 @@ use Rattle.portal_model.specs.declared.rights.Right.{Right}
 use Rattle.portal_model.specs.declared.rights.Right.TheVariants.{Read, Write, GrantPermissions, Delete}
 use Rattle.portal_model.specs.declared.state.Triple.{Triple}
 use Rattle.portal_model.specs.State.{bit_of, same_right, gives, app_has}
-use Rattle.document_records.specs.Ordered.{is_rising}
-use Rattle.document_records.specs.Rights.{triple_less, triple, triple_if, triples_of, is_in}
-use Rattle.document_records.proofs.TripleOrder.{is_same-refl, nat-itself}
+use Rattle.portal_model.specs.Ordered.{is_rising}
+use Rattle.portal_model.specs.Rights.{triple_less, triple, triple_if, triples_of, is_in}
+use Rattle.portal_model.proofs.TripleOrder.{is_same-refl, nat-itself}
 
 any-if : (p : Triple → Bool) (b : Bool) (t : Triple) → list_any p (triple_if b t) ≡ (b && p t)
 any-if p true t = grind arith

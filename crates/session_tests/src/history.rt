@@ -2,7 +2,7 @@
 
 use portal_base::limits::Limits;
 use portal_base::list::List;
-use portal_core::history::History;
+use portal_history::History;
 use portal_model::entry::{Entry, Fault, Given};
 use portal_model::request::Request;
 use std::test::Fail;
