@@ -8,7 +8,7 @@ use Rattle.portal_model.specs.Opening.{opened}
 use Rattle.portal_model.specs.Valid.{Valid}
 use Rattle.portal_model.proofs.ExampleProofs.{a_path, editor_name, other_name}
 use Rattle.app_world.specs.Examples.{b_text, with_another, EffectsOnAView, TracesTellWhatIsHeld}
-use Rattle.app_world.specs.View.{Seen}
+use Rattle.app_world.specs.View.{HeldDocument}
 use Rattle.app_world.specs.World.{Trace}
 
 b_path : is_host_path b_text ≡ true
@@ -40,9 +40,9 @@ valid_with_another = record {
 }
 
 -- whether the first document of the opening view may be written
-first_written : List Seen → Bool
+first_written : List HeldDocument → Bool
 first_written [] = false
-first_written (d ∷ ds) = d.held.write
+first_written (d ∷ ds) = d.rights.write
 
 pub traces : TracesTellWhatIsHeld
 unfolding first_written
@@ -57,10 +57,13 @@ effects = record {
   joins_below = refl;
   joins_above = refl;
   gains = refl;
+  same_path = refl;
   loses_one = refl;
   loses_last = refl;
-  loses_none = refl;
+  loses_other = refl;
+  path_stays = refl;
   goes = refl;
+  one_of_two_goes = refl;
   other_goes = refl;
   changes = refl;
   other_path = refl;

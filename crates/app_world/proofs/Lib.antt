@@ -1,4 +1,10 @@
+pub mod Orders
+pub mod Found
+pub mod ContentLaws
+pub mod DocumentLaws
+pub mod HeldLaws
 pub mod ViewLaws
+pub mod EffectLaws
 pub mod EnterLaws
 pub mod LeaveLaws
 pub mod CollectLaws

@@ -1,84 +1,75 @@
 -- What an application sees at a node is the same in the state and in its view, and so are the looks there.
 use Rattle.std.proofs.Common.{◌≡◌, ℕ, ◌==◌, List, [], ◌∷◌, Bool, true, false, ◌||◌, cond, Option, Some, None, refl, sym, ap, ◌∙◌}
-use Rattle.std.specs.Option.{option_map}
+use Rattle.portal_base.specs.Names.{is_same}
 use Rattle.portal_base.specs.declared.files.Look.{Look}
 use Rattle.portal_base.specs.declared.who.Who.TheVariants as Who
-use Rattle.portal_model.specs.declared.rights.Right.TheVariants.{Read, Write}
+use Rattle.rights_rule.specs.Rights.{RightSet}
 use Rattle.portal_model.specs.declared.state.Document.{Document}
 use Rattle.portal_model.specs.Content.{look_of, look_at}
 use Rattle.portal_model.specs.GetAttr.{looks_at_place}
-use Rattle.app_world.specs.GetAttr.{own_sight, own_place, own_looks_of, own_looks}
 use Rattle.portal_model.specs.Place.{Place, DocumentFile, SightOfFile, sight_at, sight_of_document, sight_of_file, place_named, place_of}
-use Rattle.portal_model.specs.State.{State, app_has, document_of, held_of}
-use Rattle.rights_rule.specs.Rights.{holds_any}
-use Rattle.app_world.specs.View.{Seen, seen_of, seen_document, view}
-use Rattle.portal_model.proofs.Finds.{nat_is, found_passes}
-use Rattle.app_world.proofs.ViewLaws.{seen_is}
+use Rattle.portal_model.specs.State.{State, document_of, held_of}
+use Rattle.portal_model.proofs.Finds.{found_passes, is_same-refl, nat_is}
+use Rattle.app_world.specs.GetAttr.{own_look_at, own_place, own_sight, shown}
+use Rattle.app_world.specs.View.{HeldDocument, OwnConnection, PathContent, found_document, is_among, named_paths, path_content, seen, view}
+use Rattle.app_world.proofs.ContentLaws.{contents-found}
+use Rattle.app_world.proofs.DocumentLaws.{documents-found}
 
--- ---- one document, by whether it may be read and whether another right is held
+-- ---- one document
 
-sight_bits : (x : Seen) (r b : Bool) → x.held.read ≡ r → own_sight (cond (r || b) (Some x) None) ≡ cond r (Some (SightOfFile x.path x.held.write)) None
-sight_bits x true b e = rw e refl
-sight_bits x false true e = rw e refl
-sight_bits x false false e = refl
-
-looks_bits : (x : Seen) (r b : Bool) → x.held.read ≡ r → own_looks_of (cond (r || b) (Some x) None) ≡ cond r (look_of x.content ∷ []) []
-looks_bits x true b e = rw e refl
-looks_bits x false true e = rw e refl
-looks_bits x false false e = refl
-
-map_bits : (f : Document → Seen) (d : Document) (b : Bool) → option_map f (cond b (Some d) None) ≡ cond b (Some (f d)) None
-map_bits f d true = refl
-map_bits f d false = refl
-
-none_bits : (b : Bool) (o : Option Document) → o ≡ None → cond b o None ≡ None
-none_bits true o e = e
-none_bits false o e = refl
-
-place_bits : (look : List ℕ → Look) (path : List ℕ) (w r : Bool) → looks_at_place look (cond r (Some (SightOfFile path w)) None) ≡ cond r (look path ∷ []) []
-place_bits look path w true = refl
-place_bits look path w false = refl
+sight_bits : (d : Document) (k : RightSet) (r b : Bool) → k.read ≡ r →
+    own_sight (cond (r || b) (Some (record { document = d; rights = k })) None) ≡ cond r (Some (SightOfFile d.path k.write)) None
+sight_bits d k true b e = rw e refl
+sight_bits d k false true e = rw e refl
+sight_bits d k false false e = refl
 
 module _ (app : List ℕ) (s : State) where
-  -- the document of a number, as the view has it
-  seen_found : (number : ℕ) (d : Document) → document_of s.documents number ≡ Some d →
-      seen_document (view s app) number ≡ cond (holds_any (held_of s.rights app d.id.number)) (Some (seen_of s app d)) None
-  seen_found number d e =
+  sight_seen : (number : ℕ) (o : Option Document) → document_of s.documents number ≡ o → own_sight (seen (held_of s.rights app number) o) ≡ sight_of_document s.rights (Who.App app) o
+  sight_seen number None e = refl
+  sight_seen number (Some d) e =
       let n : d.id.number ≡ number = nat_is d.id.number number (found_passes (λ (x : Document). x.id.number == number) s.documents d e) in
-      seen_is app s number
-      ∙ (ap (λ (m : ℕ). option_map (seen_of s app) (cond (holds_any (held_of s.rights app m)) (document_of s.documents number) None)) (sym n)
-      ∙ (ap (λ (o : Option Document). option_map (seen_of s app) (cond (holds_any (held_of s.rights app d.id.number)) o None)) e
-      ∙ map_bits (seen_of s app) d (holds_any (held_of s.rights app d.id.number))))
+      ap (λ (m : ℕ). own_sight (seen (held_of s.rights app m) (Some d))) (sym n) ∙ sight_bits d (held_of s.rights app d.id.number) (held_of s.rights app d.id.number).read _ refl
 
-  seen_none : (number : ℕ) → document_of s.documents number ≡ None → seen_document (view s app) number ≡ None
-  seen_none number e = seen_is app s number ∙ ap (option_map (seen_of s app)) (none_bits (holds_any (held_of s.rights app number)) (document_of s.documents number) e)
-
-  -- ---- by cases on the document of the number
-
-  sight_found : (number : ℕ) (o : Option Document) → document_of s.documents number ≡ o → own_sight (seen_document (view s app) number) ≡ sight_of_document s.rights (Who.App app) o
-  sight_found number None e = ap own_sight (seen_none number e)
-  sight_found number (Some d) e = ap own_sight (seen_found number d e) ∙ sight_bits (seen_of s app d) (app_has s.rights app d.id.number Read) _ refl
-
-  looks_found : (number : ℕ) (o : Option Document) → document_of s.documents number ≡ o →
-      own_looks_of (seen_document (view s app) number) ≡ looks_at_place (look_at s.files) (sight_of_document s.rights (Who.App app) o)
-  looks_found number None e = ap own_looks_of (seen_none number e)
-  looks_found number (Some d) e =
-      ap own_looks_of (seen_found number d e)
-      ∙ (looks_bits (seen_of s app d) (app_has s.rights app d.id.number Read) _ refl
-      ∙ sym (place_bits (look_at s.files) d.path (app_has s.rights app d.id.number Write) (app_has s.rights app d.id.number Read)))
-
-  -- ---- by cases on the place
-
-  sight_same : (p : Option Place) → sight_at (λ number. own_sight (seen_document (view s app) number)) p ≡ sight_at (sight_of_file s (Who.App app)) p
+  sight_same : (p : Option Place) → sight_at (λ number. own_sight (found_document (view s app).documents number)) p ≡ sight_at (sight_of_file s (Who.App app)) p
   sight_same None = refl
-  sight_same (Some (DocumentFile number)) = sight_found number (document_of s.documents number) refl
-
-  looks_same : (p : Option Place) → own_looks (view s app) p ≡ looks_at_place (look_at s.files) (sight_at (sight_of_file s (Who.App app)) p)
-  looks_same None = refl
-  looks_same (Some (DocumentFile number)) = looks_found number (document_of s.documents number) refl
+  sight_same (Some (DocumentFile number)) = ap own_sight (documents-found (held_of s.rights app) number s.documents) ∙ sight_seen number (document_of s.documents number) refl
 
   pub own_place-is : (node : ℕ) → own_place (view s app) node ≡ place_of s (Who.App app) node
   own_place-is node = sight_same (place_named node)
 
-  pub own_looks-are : (node : ℕ) → own_looks (view s app) (place_named node) ≡ looks_at_place (look_at s.files) (place_of s (Who.App app) node)
-  own_looks-are node = looks_same (place_named node)
+  -- ---- what is at a path that is named
+
+  or-true : (a : Bool) {b : Bool} → b ≡ true → (a || b) ≡ true
+  or-true true g = refl
+  or-true false g = g
+
+  first_named : (d x : HeldDocument) (o : Option HeldDocument) (b more : Bool) → cond b (Some d) o ≡ Some x → (o ≡ Some x → more ≡ true) → (is_same d.document.path x.document.path || more) ≡ true
+  first_named d x o true more f g =
+      let same : d ≡ x = cc in
+      ap (λ (y : HeldDocument). is_same y.document.path x.document.path || more) same ∙ ap (λ (b : Bool). b || more) (is_same-refl x.document.path)
+  first_named d x o false more f g = or-true (is_same d.document.path x.document.path) (g f)
+
+  path_named : (ds : List HeldDocument) (number : ℕ) (x : HeldDocument) (cs : List OwnConnection) → found_document ds number ≡ Some x → is_among (named_paths ds cs) x.document.path ≡ true
+  path_named [] number x cs e = cc
+  path_named (d ∷ ds) number x cs e = first_named d x (found_document ds number) (d.document.id.number == number) (is_among (named_paths ds cs) x.document.path) e (path_named ds number x cs)
+
+  look_named : (path : List ℕ) → is_among (named_paths (view s app).documents (view s app).connections) path ≡ true → own_look_at (view s app) path ≡ look_at s.files path
+  look_named path h =
+      ap (λ (o : Option PathContent). look_of (shown o)) (contents-found s.files path (named_paths (view s app).documents (view s app).connections)
+      ∙ ap (λ (b : Bool). cond b (Some (path_content s.files path)) None) h)
+
+  looks_seen : (number : ℕ) (o : Option HeldDocument) → found_document (view s app).documents number ≡ o → looks_at_place (own_look_at (view s app)) (own_sight o) ≡ looks_at_place (look_at s.files) (own_sight o)
+  looks_seen number None e = refl
+  looks_seen number (Some d) e = by_read d.rights.read
+    where
+      by_read : (b : Bool) → looks_at_place (own_look_at (view s app)) (cond b (Some (SightOfFile d.document.path d.rights.write)) None) ≡ looks_at_place (look_at s.files) (cond b (Some (SightOfFile d.document.path d.rights.write)) None)
+      by_read true = ap (λ (look : Look). look ∷ []) (look_named d.document.path (path_named (view s app).documents number d (view s app).connections e))
+      by_read false = refl
+
+  looks_same : (p : Option Place) → looks_at_place (own_look_at (view s app)) (sight_at (λ number. own_sight (found_document (view s app).documents number)) p)
+      ≡ looks_at_place (look_at s.files) (sight_at (λ number. own_sight (found_document (view s app).documents number)) p)
+  looks_same None = refl
+  looks_same (Some (DocumentFile number)) = looks_seen number (found_document (view s app).documents number) refl
+
+  pub own_looks-are : (node : ℕ) → looks_at_place (own_look_at (view s app)) (own_place (view s app) node) ≡ looks_at_place (look_at s.files) (place_of s (Who.App app) node)
+  own_looks-are node = looks_same (place_named node) ∙ ap (looks_at_place (look_at s.files)) (own_place-is node)

@@ -2,6 +2,7 @@
 -- What is expected is worked out by hand from the rules.
 use Rattle.std.specs.Prelude.{◌≡◌, ℕ, List, [], ◌∷◌, true, false, codes}
 use Rattle.portal_base.specs.declared.files.Look.{Look}
+use Rattle.portal_base.specs.declared.names.doc_id.DocId.{DocId}
 use Rattle.portal_base.specs.declared.who.Who.{Who}
 use Rattle.portal_model.specs.declared.entry.Entry.{Entry}
 use Rattle.portal_model.specs.declared.opening.OpeningState.{OpeningState}
@@ -10,8 +11,8 @@ use Rattle.portal_model.specs.Examples.{editor, other, file, grant, document, op
 use Rattle.portal_model.specs.History.{Legal}
 use Rattle.portal_model.specs.Opening.{opened}
 use Rattle.rights_rule.specs.Rights.{RightSet}
-use Rattle.app_world.specs.Effect.{Gained, Lost, Gone, Bytes, apply}
-use Rattle.app_world.specs.View.{View, Seen}
+use Rattle.app_world.specs.Effect.{Effect, Gained, Lost, Gone, Bytes, apply}
+use Rattle.app_world.specs.View.{AppView, HeldDocument, PathContent}
 use Rattle.app_world.specs.World.{Trace, trace}
 
 -- ---- traces
@@ -51,8 +52,12 @@ writes = record { read = false; write = true; grant_permissions = false; delete 
 abbrev pub both : RightSet
 both = record { read = true; write = true; grant_permissions = false; delete = false }
 
-abbrev pub seen : ℕ → List ℕ → RightSet → Content → Seen
-seen number path held content = record { number = number; path = path; persistent = true; reusable = true; held = held; content = content }
+-- a document that is held, of this number and path
+abbrev pub held : ℕ → List ℕ → RightSet → HeldDocument
+held number path rights = record { document = record { id = record { number = number }; path = path; persistent = true; reusable = true }; rights = rights }
+
+abbrev pub id : ℕ → DocId
+id number = record { number = number }
 
 -- what the file held at first, and what it holds then
 abbrev pub old_file : Content
@@ -61,28 +66,43 @@ old_file = OfFile 0 (codes "hello") 0
 abbrev pub new_file : Content
 new_file = OfFile 0 (codes "bye") 7
 
-abbrev pub viewing : List Seen → View
-viewing documents = record { handles = 1024; queued = 16; file_bytes = 268435456; documents = documents; connections = [] }
+abbrev pub at_path : List ℕ → Content → PathContent
+at_path path content = record { path = path; content = content }
+
+abbrev pub viewing : List HeldDocument → List PathContent → AppView
+viewing documents contents = record { handles = 1024; queued = 16; file_bytes = 268435456; documents = documents; connections = []; contents = contents }
 
 -- the document of the file a.txt, with these rights and this content
-abbrev pub a_seen : RightSet → Content → List Seen
-a_seen held content = seen 10 a_text held content ∷ []
+abbrev pub a_view : RightSet → Content → AppView
+a_view rights content = viewing (held 10 a_text rights ∷ []) (at_path a_text content ∷ [])
 
--- A document that is gained joins in its place by number, with its content; one that is there gains rights alone.
--- Rights are lost one by one, and with the last of them the document. Another content comes to the files of one path
--- and generation alone, and to a path without a file where it is a first file.
+-- two documents of that file
+abbrev pub two_views : RightSet → RightSet → AppView
+two_views first second = viewing (held 10 a_text first ∷ held 12 a_text second ∷ []) (at_path a_text old_file ∷ [])
+
+-- a document of b.txt, as it is gained
+abbrev pub gains_b : ℕ → Effect
+gains_b number = Gained (held number b_text writes).document writes OfFolder
+
+-- A document that is gained joins in its place by number, and its content by path; one that is there gains rights alone, and a
+-- content that is there stays. Rights are lost one by one, and with the last of them the document; with the last document of
+-- a path goes its content. Another content comes to the file of one path and generation alone, and to a path
+-- without a file where it is a first file.
 pub record EffectsOnAView : Type 0 where
-  pub joins_below : apply (viewing (a_seen reads old_file)) (Gained (seen 5 b_text writes OfFolder)) ≡ viewing (seen 5 b_text writes OfFolder ∷ a_seen reads old_file)
-  pub joins_above : apply (viewing (a_seen reads old_file)) (Gained (seen 11 b_text writes OfFolder)) ≡ viewing (seen 10 a_text reads old_file ∷ seen 11 b_text writes OfFolder ∷ [])
-  pub gains : apply (viewing (a_seen reads old_file)) (Gained (seen 10 a_text writes new_file)) ≡ viewing (a_seen both old_file)
-  pub loses_one : apply (viewing (a_seen both old_file)) (Lost 10 writes) ≡ viewing (a_seen reads old_file)
-  pub loses_last : apply (viewing (a_seen reads old_file)) (Lost 10 both) ≡ viewing []
-  pub loses_none : apply (viewing (a_seen reads old_file)) (Lost 11 reads) ≡ viewing (a_seen reads old_file)
-  pub goes : apply (viewing (a_seen both old_file)) (Gone 10) ≡ viewing []
-  pub other_goes : apply (viewing (a_seen both old_file)) (Gone 11) ≡ viewing (a_seen both old_file)
-  pub changes : apply (viewing (a_seen reads old_file)) (Bytes a_text 0 new_file) ≡ viewing (a_seen reads new_file)
-  pub other_path : apply (viewing (a_seen reads old_file)) (Bytes b_text 0 new_file) ≡ viewing (a_seen reads old_file)
-  pub other_generation : apply (viewing (a_seen reads old_file)) (Bytes a_text 1 new_file) ≡ viewing (a_seen reads old_file)
-  pub first_file : apply (viewing (a_seen reads (NotThere true))) (Bytes a_text 0 new_file) ≡ viewing (a_seen reads new_file)
-  pub no_first_file : apply (viewing (a_seen reads (NotThere true))) (Bytes a_text 1 new_file) ≡ viewing (a_seen reads (NotThere true))
-  pub folder_stays : apply (viewing (a_seen reads OfFolder)) (Bytes a_text 0 new_file) ≡ viewing (a_seen reads OfFolder)
+  pub joins_below : apply (a_view reads old_file) (gains_b 5) ≡ viewing (held 5 b_text writes ∷ held 10 a_text reads ∷ []) (at_path a_text old_file ∷ at_path b_text OfFolder ∷ [])
+  pub joins_above : apply (a_view reads old_file) (gains_b 11) ≡ viewing (held 10 a_text reads ∷ held 11 b_text writes ∷ []) (at_path a_text old_file ∷ at_path b_text OfFolder ∷ [])
+  pub gains : apply (a_view reads old_file) (Gained (held 10 a_text reads).document writes new_file) ≡ a_view both old_file
+  pub same_path : apply (a_view reads old_file) (Gained (held 12 a_text writes).document writes new_file) ≡ two_views reads writes
+  pub loses_one : apply (a_view both old_file) (Lost (id 10) writes) ≡ a_view reads old_file
+  pub loses_last : apply (a_view reads old_file) (Lost (id 10) both) ≡ viewing [] []
+  pub loses_other : apply (a_view reads old_file) (Lost (id 11) reads) ≡ a_view reads old_file
+  pub path_stays : apply (two_views reads writes) (Lost (id 12) writes) ≡ a_view reads old_file
+  pub goes : apply (a_view both old_file) (Gone (id 10)) ≡ viewing [] []
+  pub one_of_two_goes : apply (two_views both writes) (Gone (id 12)) ≡ a_view both old_file
+  pub other_goes : apply (a_view both old_file) (Gone (id 11)) ≡ a_view both old_file
+  pub changes : apply (a_view reads old_file) (Bytes a_text 0 new_file) ≡ a_view reads new_file
+  pub other_path : apply (a_view reads old_file) (Bytes b_text 0 new_file) ≡ a_view reads old_file
+  pub other_generation : apply (a_view reads old_file) (Bytes a_text 1 new_file) ≡ a_view reads old_file
+  pub first_file : apply (a_view reads (NotThere true)) (Bytes a_text 0 new_file) ≡ a_view reads new_file
+  pub no_first_file : apply (a_view reads (NotThere true)) (Bytes a_text 1 new_file) ≡ a_view reads (NotThere true)
+  pub folder_stays : apply (a_view reads OfFolder) (Bytes a_text 0 new_file) ≡ a_view reads OfFolder

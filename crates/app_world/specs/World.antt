@@ -11,16 +11,16 @@ use Rattle.portal_model.specs.declared.reply.Reply.{Reply}
 use Rattle.portal_model.specs.declared.request.NodeOp.{NodeOp}
 use Rattle.portal_model.specs.declared.request.NodeRequest.{NodeRequest}
 use Rattle.portal_model.specs.declared.request.Request.{Request}
-use Rattle.portal_model.specs.declared.state.Connection.{Connection}
+use Rattle.portal_model.specs.Content.{Content}
+use Rattle.portal_model.specs.History.{makes}
+use Rattle.portal_model.specs.State.{State}
+use Rattle.portal_model.specs.Step.{after, is_mount, not_here, undefined_answer, with_signals}
 use Rattle.app_world.specs.Collect.{own_collect}
 use Rattle.app_world.specs.Effect.{Effect, apply}
 use Rattle.app_world.specs.Enter.{own_enter}
 use Rattle.app_world.specs.GetAttr.{own_get_attr_answer, own_get_attr_looks}
-use Rattle.portal_model.specs.History.{makes}
 use Rattle.app_world.specs.Leave.{own_leave}
-use Rattle.portal_model.specs.State.{State, connection_of}
-use Rattle.portal_model.specs.Step.{after, bus_of, mount_of, not_here, undefined_answer, with_signals}
-use Rattle.app_world.specs.View.{View, view}
+use Rattle.app_world.specs.View.{AppView, OwnConnection, found_connection, view}
 
 -- ---- the application's own machine
 
@@ -30,6 +30,10 @@ pub record Own : Type 0 where
   pub request : Request
   pub now : Option ℕ
   pub numbers : List DocId
+  -- of an Add: the content of each path that the tree was asked for, and of each file the document that was
+  -- there to be used again, if any
+  pub shown : List Content
+  pub reused : List (Option DocId)
   -- how many looks succeeded
   pub looks : ℕ
   pub full : Bool
@@ -41,41 +45,56 @@ succeeding Fault.None count looks = looks
 succeeding Fault.Tree count looks = take count looks
 succeeding Fault.Keeper count looks = looks
 
-abbrev pub own_node_answer : View → NodeRequest → NodeOp → Own → View × Answer
+-- the connection, where it is a mount
+abbrev pub own_mount_of : Option OwnConnection → Option OwnConnection
+own_mount_of None = None
+own_mount_of (Some c) = cond (is_mount c.kind) (Some c) None
+
+-- the connection, where it is a bus
+abbrev pub own_bus_of : Option OwnConnection → Option OwnConnection
+own_bus_of None = None
+own_bus_of (Some c) = cond (is_mount c.kind) None (Some c)
+
+abbrev pub own_node_answer : AppView → NodeRequest → NodeOp → Own → AppView × Answer
 own_node_answer v r (NodeOp.GetAttr flags fh) own = (v, own_get_attr_answer v r flags (succeeding own.fault own.looks (own_get_attr_looks v r flags)))
 own_node_answer v r op own = (v, undefined_answer)
 
-abbrev pub own_node_step : View → NodeRequest → Own → Option Connection → View × Reply
+abbrev pub own_node_step : AppView → NodeRequest → Own → Option OwnConnection → AppView × Reply
 own_node_step v r own None = not_here v
 own_node_step v r own (Some c) = with_signals [] (own_node_answer v r r.op own)
 
 -- nothing waits to be told to an application
-abbrev pub own_collect_step : View → Option Connection → View × Reply
+abbrev pub own_collect_step : AppView → Option OwnConnection → AppView × Reply
 own_collect_step v None = not_here v
 own_collect_step v (Some c) = with_signals [] (own_collect v)
 
-abbrev pub own_request_step : View → Own → Request → View × Reply
+abbrev pub own_request_step : AppView → Own → Request → AppView × Reply
 own_request_step v own (Request.Enter who kind) = with_signals [] (own_enter v own.seat who kind)
 own_request_step v own Request.Leave = with_signals [] (own_leave v own.seat)
-own_request_step v own Request.Collect = own_collect_step v (bus_of (connection_of v.connections own.seat))
-own_request_step v own (Request.Node r) = own_node_step v r own (mount_of (connection_of v.connections own.seat))
+own_request_step v own Request.Collect = own_collect_step v (own_bus_of (found_connection v.connections own.seat))
+own_request_step v own (Request.Node r) = own_node_step v r own (own_mount_of (found_connection v.connections own.seat))
 
 -- the view after a request of the application, and the reply to it
-abbrev pub app_step : View → Own → View × Reply
+abbrev pub app_step : AppView → Own → AppView × Reply
 app_step v own = own_request_step v own own.request
 
 -- ---- the trace
 
-pub data Item : Type 0 where
-  Asked : Own → Item
-  Changed : Effect → Item
+pub data TraceItem : Type 0 where
+  -- a request of the application
+  Asked : Own → TraceItem
+  -- what another changes of its view
+  Changed : Effect → TraceItem
 
+-- no request is an Add yet
 abbrev pub own_of : Entry → Own
 own_of e = record {
   seat = e.seat;
   request = e.request;
   now = e.given.now;
   numbers = e.given.numbers;
+  shown = [];
+  reused = [];
   looks = length e.given.looks;
   full = e.given.full;
   fault = e.given.fault;
@@ -95,23 +114,23 @@ request_touch app s seat (Request.Node r) given = node_touch app s r r.op given
 abbrev pub touch : List ℕ → State → Entry → List Effect
 touch app s e = request_touch app s e.seat e.request e.given
 
-abbrev pub items_of : List ℕ → State → Entry → List Item
+abbrev pub items_of : List ℕ → State → Entry → List TraceItem
 items_of app s e = cond (makes app s e) (Asked (own_of e) ∷ []) (map Changed (touch app s e))
 
-abbrev pub items : List ℕ → State → List Entry → List Item
+abbrev pub items : List ℕ → State → List Entry → List TraceItem
 items app s [] = []
 items app s (e ∷ es) = items_of app s e ++ items app (after s e) es
 
 pub record Trace : Type 0 where
-  pub opening : View
-  pub items : List Item
+  pub opening : AppView
+  pub items : List TraceItem
 
 abbrev pub trace : List ℕ → State → List Entry → Trace
 trace app s h = record { opening = view s app; items = items app s h }
 
 -- ---- what the machine replies to a trace
 
-abbrev pub own_replies : View → List Item → List Reply
+abbrev pub own_replies : AppView → List TraceItem → List Reply
 own_replies v [] = []
 own_replies v (Asked own ∷ more) = (app_step v own).1 ∷ own_replies (app_step v own).0 more
 own_replies v (Changed f ∷ more) = own_replies (apply v f) more

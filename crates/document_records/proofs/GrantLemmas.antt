@@ -18,7 +18,7 @@ use Rattle.portal_model.specs.Ordered.{put, bytes_less, is_rising}
 use Rattle.portal_model.specs.Rights.{same_triple, triple_less, triple, triples_of, is_in, add_rights, is_listed, take_rights, forget_document}
 use Rattle.portal_model.proofs.Rising.{rising-put, rising-put_all, rising-filter, rising-map, rising-append, any-put_all, same_items}
 use Rattle.portal_model.proofs.TripleOrder.{Key, key_less, same_key, keys, triples, nat_is, is_same-eq, bytes-irreflexive}
-use Rattle.document_records.proofs.FourTriples.{any-union, gives-of, filter-of, all-of, rising-of}
+use Rattle.portal_model.proofs.FourTriples.{any-union, gives-of, filter-of, all-of, rising-of}
 
 abbrev pub key_of : Grant → Key
 key_of g = record { number = g.id.number; app = g.app }

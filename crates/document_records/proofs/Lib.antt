@@ -1,5 +1,4 @@
 mod ApplicationLemmas
 mod DocumentLemmas
-mod FourTriples
 mod GrantLemmas
 mod Unused

@@ -6,6 +6,7 @@ pub mod Kept
 pub mod Apart
 pub mod Rising
 pub mod TripleOrder
+pub mod FourTriples
 pub mod RightsLaws
 pub mod OpeningLaws
 pub mod SeatLaws
