@@ -120,9 +120,11 @@ names-fewer-documents ps qs rest path e h = among-joined ps rest path ∙ by_fir
     or-left : (a b : Bool) → a ≡ true → (a || b) ≡ true
     or-left true b g = refl
     or-left false b g = cc
+
     or-right : (a b : Bool) → b ≡ true → (a || b) ≡ true
     or-right true b g = refl
     or-right false b g = g
+
     by_first : (b : Bool) → is_among qs path ≡ b → (b || is_among rest path) ≡ true → (is_among ps path || is_among rest path) ≡ true
     by_first true k x = or-left (is_among ps path) (is_among rest path) (e k)
     by_first false k x = or-right (is_among ps path) (is_among rest path) x

@@ -1,4 +1,5 @@
--- Collect, in the view of the application that collects. Nothing waits to be told to an application.
+-- Collect, in the view of the application that collects. Nothing waits to be told to an
+-- application.
 use Rattle.portal_model.specs.declared.reply.Answer.{Answer}
 use Rattle.app_world.specs.View.{AppView}
 

@@ -36,14 +36,19 @@ less_held number less d = cond (number_of d == number) (record d { rights = minu
 abbrev pub is_other : ℕ → HeldDocument → Bool
 is_other number d = not (number_of d == number)
 
--- a file of another generation stays, and so does a folder; where nothing is, a first file may come
+-- a file of another generation stays, and so does a folder; where nothing is, a first file may
+-- come
 abbrev pub changed_content : ℕ → Content → Content → Content
-changed_content generation new (OfFile g bytes moment) = cond (g == generation) new (OfFile g bytes moment)
+changed_content generation new (OfFile g bytes moment) =
+    cond (g == generation) new (OfFile g bytes moment)
 changed_content generation new OfFolder = OfFolder
 changed_content generation new (NotThere room) = cond (generation == 0) new (NotThere room)
 
 abbrev pub with_bytes : List ℕ → ℕ → Content → PathContent → PathContent
-with_bytes path generation new c = cond (is_same c.path path) (record c { content = changed_content generation new c.content }) c
+with_bytes path generation new c =
+    cond (is_same c.path path)
+    (record c { content = changed_content generation new c.content })
+    c
 
 abbrev pub changed : AppView → Effect → AppView
 changed v (Gained d more content) = record v {
@@ -52,7 +57,9 @@ changed v (Gained d more content) = record v {
 }
 changed v (Lost id less) = record v { documents = map (less_held id.number less) v.documents }
 changed v (Gone id) = record v { documents = filter (is_other id.number) v.documents }
-changed v (Bytes path generation new) = record v { contents = map (with_bytes path generation new) v.contents }
+changed v (Bytes path generation new) = record v {
+  contents = map (with_bytes path generation new) v.contents;
+}
 
 -- and what then has no right or no name leaves the view
 abbrev pub apply : AppView → Effect → AppView

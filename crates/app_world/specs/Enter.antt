@@ -9,10 +9,12 @@ use Rattle.app_world.specs.View.{AppView, OwnConnection, found_connection}
 -- a connection with nothing presented and nothing open. The host's are in no view
 abbrev pub new_own_connection : ℕ → Who → Kind → List OwnConnection
 new_own_connection seat Who.Host kind = []
-new_own_connection seat (Who.App app) kind = record { seat = seat; app = app; kind = kind; queue = []; opens = 0; handles = [] } ∷ []
+new_own_connection seat (Who.App app) kind =
+    record { seat = seat; app = app; kind = kind; queue = []; opens = 0; handles = [] } ∷ []
 
 -- the connections after an Enter of a seat with that open connection
-abbrev pub own_entered : ℕ → Who → Kind → List OwnConnection → Option OwnConnection → List OwnConnection
+abbrev pub own_entered :
+    ℕ → Who → Kind → List OwnConnection → Option OwnConnection → List OwnConnection
 own_entered seat who kind connections None = connections ++ new_own_connection seat who kind
 own_entered seat who kind connections (Some c) = connections
 
@@ -25,4 +27,5 @@ own_enter_answer (Some c) = Answer.Refused Code.NotHere
 abbrev pub own_enter : AppView → ℕ → Who → Kind → AppView × Answer
 own_enter v seat who kind =
     let open_one = found_connection v.connections seat in
-    (record v { connections = own_entered seat who kind v.connections open_one }, own_enter_answer open_one)
+    let more = own_entered seat who kind v.connections open_one in
+    (record v { connections = more }, own_enter_answer open_one)

@@ -1,4 +1,5 @@
--- Worked examples of the world of one application, over the files and documents of the examples of the portal.
+-- Worked examples of the world of one application, over the files and documents of the examples
+-- of the portal.
 -- What is expected is worked out by hand from the rules.
 use Rattle.std.specs.Prelude.{◌≡◌, ℕ, List, [], ◌∷◌, true, false, codes}
 use Rattle.portal_base.specs.declared.files.Look.{Look}
@@ -22,10 +23,19 @@ abbrev pub b_text : List ℕ
 b_text = codes "/home/b.txt"
 
 abbrev pub with_another : OpeningState
-with_another = opening (document 11 b_text (grant other 15 ∷ []) ∷ document 10 a_text (grant editor 3 ∷ []) ∷ []) (file b_text [] ∷ hello)
+with_another =
+    opening
+    (document 11 b_text (grant other 15 ∷ []) ∷ document 10 a_text (grant editor 3 ∷ []) ∷ [])
+    (file b_text [] ∷ hello)
 
 abbrev pub with_another_session : List Entry
-with_another_session = enters 2 (Who.App other) ∷ enters 1 (Who.App editor) ∷ enters 3 Who.Host ∷ asks 2 8589934603 (Look.File 0 0 0 ∷ []) ∷ asks 1 a_node (Look.File 0 5 0 ∷ []) ∷ []
+with_another_session =
+    enters 2 (Who.App other)
+    ∷ enters 1 (Who.App editor)
+    ∷ enters 3 Who.Host
+    ∷ asks 2 8589934603 (Look.File 0 0 0 ∷ [])
+    ∷ asks 1 a_node (Look.File 0 5 0 ∷ [])
+    ∷ []
 
 -- the same, where the editor may read alone
 abbrev pub read_alone : OpeningState
@@ -34,11 +44,19 @@ read_alone = opening (document 10 a_text (grant editor 1 ∷ []) ∷ []) hello
 abbrev pub trace_of_session : OpeningState → List Entry → Trace
 trace_of_session o h = trace editor (opened o) h
 
--- histories that differ only in what the application doesn't hold give it one trace, and those that differ in its own rights two
+-- what the editor asks and sees
+abbrev pub one_session : List Entry
+one_session = session (Look.File 0 5 0 ∷ [])
+
+-- histories that differ only in what the application doesn't hold give it one trace, and those that
+-- differ in its own rights two
 pub record TracesTellWhatIsHeld : Type 0 where
   pub legal : Legal (opened with_another) with_another_session
-  pub same : trace_of_session with_another with_another_session ≡ trace_of_session read_write (session (Look.File 0 5 0 ∷ []))
-  pub own_rights : trace_of_session read_alone (session (Look.File 0 5 0 ∷ [])) ≡ trace_of_session read_write (session (Look.File 0 5 0 ∷ [])) → ⊥
+  pub same :
+      trace_of_session with_another with_another_session
+      ≡ trace_of_session read_write one_session
+  pub own_rights :
+      trace_of_session read_alone one_session ≡ trace_of_session read_write one_session → ⊥
 
 -- ---- what others change of a view
 
@@ -52,12 +70,15 @@ writes = record { read = false; write = true; grant_permissions = false; delete 
 abbrev pub both : RightSet
 both = record { read = true; write = true; grant_permissions = false; delete = false }
 
--- a document that is held, of this number and path
-abbrev pub held : ℕ → List ℕ → RightSet → HeldDocument
-held number path rights = record { document = record { id = record { number = number }; path = path; persistent = true; reusable = true }; rights = rights }
-
 abbrev pub id : ℕ → DocId
 id number = record { number = number }
+
+-- a document that is held, of this number and path
+abbrev pub held : ℕ → List ℕ → RightSet → HeldDocument
+held number path rights = record {
+  document = record { id = id number; path = path; persistent = true; reusable = true };
+  rights = rights;
+}
 
 -- what the file held at first, and what it holds then
 abbrev pub old_file : Content
@@ -70,7 +91,14 @@ abbrev pub at_path : List ℕ → Content → PathContent
 at_path path content = record { path = path; content = content }
 
 abbrev pub viewing : List HeldDocument → List PathContent → AppView
-viewing documents contents = record { handles = 1024; queued = 16; file_bytes = 268435456; documents = documents; connections = []; contents = contents }
+viewing documents contents = record {
+  handles = 1024;
+  queued = 16;
+  file_bytes = 268435456;
+  documents = documents;
+  connections = [];
+  contents = contents;
+}
 
 -- the document of the file a.txt, with these rights and this content
 abbrev pub a_view : RightSet → Content → AppView
@@ -78,21 +106,37 @@ a_view rights content = viewing (held 10 a_text rights ∷ []) (at_path a_text c
 
 -- two documents of that file
 abbrev pub two_views : RightSet → RightSet → AppView
-two_views first second = viewing (held 10 a_text first ∷ held 12 a_text second ∷ []) (at_path a_text old_file ∷ [])
+two_views first second =
+    viewing
+    (held 10 a_text first ∷ held 12 a_text second ∷ [])
+    (at_path a_text old_file ∷ [])
 
 -- a document of b.txt, as it is gained
 abbrev pub gains_b : ℕ → Effect
 gains_b number = Gained (held number b_text writes).document writes OfFolder
 
--- A document that is gained joins in its place by number, and its content by path; one that is there gains rights alone, and a
--- content that is there stays. Rights are lost one by one, and with the last of them the document; with the last document of
--- a path goes its content. Another content comes to the file of one path and generation alone, and to a path
--- without a file where it is a first file.
+-- the contents of a.txt and of b.txt, and a document beside that of a.txt
+abbrev pub two_files : List PathContent
+two_files = at_path a_text old_file ∷ at_path b_text OfFolder ∷ []
+
+-- A document that is gained joins in its place by number, and its content by path; one that is
+-- there gains rights alone, and a content that is there stays. Rights are lost one by one, and with
+-- the last of them the document; with the last document of a path goes its content. Another content
+-- comes to the file of one path and generation alone, and to a path without a file where it is a
+-- first file.
 pub record EffectsOnAView : Type 0 where
-  pub joins_below : apply (a_view reads old_file) (gains_b 5) ≡ viewing (held 5 b_text writes ∷ held 10 a_text reads ∷ []) (at_path a_text old_file ∷ at_path b_text OfFolder ∷ [])
-  pub joins_above : apply (a_view reads old_file) (gains_b 11) ≡ viewing (held 10 a_text reads ∷ held 11 b_text writes ∷ []) (at_path a_text old_file ∷ at_path b_text OfFolder ∷ [])
-  pub gains : apply (a_view reads old_file) (Gained (held 10 a_text reads).document writes new_file) ≡ a_view both old_file
-  pub same_path : apply (a_view reads old_file) (Gained (held 12 a_text writes).document writes new_file) ≡ two_views reads writes
+  pub joins_below :
+      apply (a_view reads old_file) (gains_b 5)
+      ≡ viewing (held 5 b_text writes ∷ held 10 a_text reads ∷ []) two_files
+  pub joins_above :
+      apply (a_view reads old_file) (gains_b 11)
+      ≡ viewing (held 10 a_text reads ∷ held 11 b_text writes ∷ []) two_files
+  pub gains :
+      apply (a_view reads old_file) (Gained (held 10 a_text reads).document writes new_file)
+      ≡ a_view both old_file
+  pub same_path :
+      apply (a_view reads old_file) (Gained (held 12 a_text writes).document writes new_file)
+      ≡ two_views reads writes
   pub loses_one : apply (a_view both old_file) (Lost (id 10) writes) ≡ a_view reads old_file
   pub loses_last : apply (a_view reads old_file) (Lost (id 10) both) ≡ viewing [] []
   pub loses_other : apply (a_view reads old_file) (Lost (id 11) reads) ≡ a_view reads old_file
@@ -102,7 +146,11 @@ pub record EffectsOnAView : Type 0 where
   pub other_goes : apply (a_view both old_file) (Gone (id 11)) ≡ a_view both old_file
   pub changes : apply (a_view reads old_file) (Bytes a_text 0 new_file) ≡ a_view reads new_file
   pub other_path : apply (a_view reads old_file) (Bytes b_text 0 new_file) ≡ a_view reads old_file
-  pub other_generation : apply (a_view reads old_file) (Bytes a_text 1 new_file) ≡ a_view reads old_file
-  pub first_file : apply (a_view reads (NotThere true)) (Bytes a_text 0 new_file) ≡ a_view reads new_file
-  pub no_first_file : apply (a_view reads (NotThere true)) (Bytes a_text 1 new_file) ≡ a_view reads (NotThere true)
+  pub other_generation :
+      apply (a_view reads old_file) (Bytes a_text 1 new_file) ≡ a_view reads old_file
+  pub first_file :
+      apply (a_view reads (NotThere true)) (Bytes a_text 0 new_file) ≡ a_view reads new_file
+  pub no_first_file :
+      apply (a_view reads (NotThere true)) (Bytes a_text 1 new_file)
+      ≡ a_view reads (NotThere true)
   pub folder_stays : apply (a_view reads OfFolder) (Bytes a_text 0 new_file) ≡ a_view reads OfFolder

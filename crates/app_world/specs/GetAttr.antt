@@ -14,7 +14,8 @@ own_sight None = None
 own_sight (Some d) = cond d.rights.read (Some (SightOfFile d.document.path d.rights.write)) None
 
 abbrev pub own_place : AppView → ℕ → Option Sight
-own_place v node = sight_at (λ number. own_sight (found_document v.documents number)) (place_named node)
+own_place v node =
+    sight_at (λ number. own_sight (found_document v.documents number)) (place_named node)
 
 -- the view has a content for each path that it names
 abbrev pub shown : Option PathContent → Content
@@ -29,4 +30,5 @@ own_get_attr_answer v r flags looks = by_handle_or_place r flags (own_place v r.
 
 -- the looks that the request takes, as the view's contents show them
 abbrev pub own_get_attr_looks : AppView → NodeRequest → ℕ → List Look
-own_get_attr_looks v r flags = cond (names_handle flags) [] (looks_at_place (own_look_at v) (own_place v r.node))
+own_get_attr_looks v r flags =
+    cond (names_handle flags) [] (looks_at_place (own_look_at v) (own_place v r.node))

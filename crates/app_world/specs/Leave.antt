@@ -5,7 +5,8 @@ use Rattle.portal_model.specs.declared.reply.Answer.{Answer}
 use Rattle.portal_model.specs.declared.reply.Code.TheVariants as Code
 use Rattle.app_world.specs.View.{AppView, OwnConnection, found_connection, prune}
 
--- the connections after a Leave of a seat with that open connection, which goes with all that it has
+-- the connections after a Leave of a seat with that open connection, which goes with all that it
+-- has
 abbrev pub own_left : ℕ → List OwnConnection → Option OwnConnection → List OwnConnection
 own_left seat connections None = connections
 own_left seat connections (Some c) = filter (λ x. not (x.seat == seat)) connections
@@ -18,4 +19,5 @@ own_leave_answer (Some c) = Answer.Done
 abbrev pub own_leave : AppView → ℕ → AppView × Answer
 own_leave v seat =
     let open_one = found_connection v.connections seat in
-    (prune (record v { connections = own_left seat v.connections open_one }), own_leave_answer open_one)
+    let more = own_left seat v.connections open_one in
+    (prune (record v { connections = more }), own_leave_answer open_one)

@@ -1,4 +1,5 @@
--- What the portal is to one application. It holds nothing of other applications' rights, documents, numbers or connections.
+-- What the portal is to one application. It holds nothing of other applications' rights,
+-- documents, numbers or connections.
 use Rattle.std.specs.Prelude.{◌≡◌, ℕ, ◌==◌, nat_lt, List, [], ◌∷◌, ◌++◌, Bool, true, map, cond, Option, Some, None}
 use Rattle.std.specs.List.{filter, find, flat_map, list_any}
 use Rattle.portal_base.specs.Names.{is_same}
@@ -87,10 +88,18 @@ held_documents held documents = put_all lower (filter is_held (map (held_documen
 
 -- no request opens a handle yet
 abbrev pub own_connection : List ℕ → Connection → OwnConnection
-own_connection app c = record { seat = c.seat; app = app; kind = c.kind; queue = c.queue; opens = c.opens; handles = [] }
+own_connection app c = record {
+  seat = c.seat;
+  app = app;
+  kind = c.kind;
+  queue = c.queue;
+  opens = c.opens;
+  handles = [];
+}
 
 abbrev pub own_connections : List ℕ → List Connection → List OwnConnection
-own_connections app connections = map (own_connection app) (filter (λ c. is_app app c.who) connections)
+own_connections app connections =
+    map (own_connection app) (filter (λ c. is_app app c.who) connections)
 
 -- ---- contents
 
@@ -104,7 +113,8 @@ paths_of_connection c = flat_map (λ h. paths_of_handle h.handle) c.handles
 
 -- the paths that the documents and the open files name
 abbrev pub named_paths : List HeldDocument → List OwnConnection → List (List ℕ)
-named_paths documents connections = map (λ d. d.document.path) documents ++ flat_map paths_of_connection connections
+named_paths documents connections =
+    map (λ d. d.document.path) documents ++ flat_map paths_of_connection connections
 
 abbrev pub is_among : List (List ℕ) → List ℕ → Bool
 is_among paths path = list_any (λ p. is_same p path) paths
@@ -128,7 +138,10 @@ view_over limits files documents connections = record {
 }
 
 abbrev pub view : State → List ℕ → AppView
-view s app = view_over s.limits s.files (held_documents (held_of s.rights app) s.documents) (own_connections app s.connections)
+view s app =
+    view_over s.limits s.files
+    (held_documents (held_of s.rights app) s.documents)
+    (own_connections app s.connections)
 
 -- documents without a right leave the view, and paths without a name
 abbrev pub pruned : List HeldDocument → AppView → AppView
@@ -155,12 +168,14 @@ names v path = is_among (named_paths v.documents v.connections) path
 abbrev pub seen_at : State → List ℕ → ℕ → Option HeldDocument
 seen_at s app number = seen (held_of s.rights app number) (document_of s.documents number)
 
--- What the view takes from the state is the same in both: the limits that the application meets, its
--- connections, the document of each number as it sees it, and what is at each path that it names.
+-- What the view takes from the state is the same in both: the limits that the application meets,
+-- its connections, the document of each number as it sees it, and what is at each path that it names.
 pub record TakesAlike (app : List ℕ) (s t : State) : Type 0 where
   pub handles : s.limits.handles ≡ t.limits.handles
   pub queued : s.limits.queued ≡ t.limits.queued
   pub file_bytes : s.limits.file_bytes ≡ t.limits.file_bytes
   pub connections : own_connections app s.connections ≡ own_connections app t.connections
   pub documents : (number : ℕ) → seen_at s app number ≡ seen_at t app number
-  pub contents : (path : List ℕ) → names (view s app) path ≡ true → content_at s.files path ≡ content_at t.files path
+  pub contents :
+      (path : List ℕ) → names (view s app) path ≡ true →
+      content_at s.files path ≡ content_at t.files path

@@ -30,8 +30,8 @@ pub record Own : Type 0 where
   pub request : Request
   pub now : Option ℕ
   pub numbers : List DocId
-  -- of an Add: the content of each path that the tree was asked for, and of each file the document that was
-  -- there to be used again, if any
+  -- of an Add: the content of each path that the tree was asked for, and of each file the
+  -- document that was there to be used again, if any
   pub shown : List Content
   pub reused : List (Option DocId)
   -- how many looks succeeded
@@ -39,7 +39,8 @@ pub record Own : Type 0 where
   pub full : Bool
   pub fault : Fault
 
--- of the looks that a request takes, those that succeed: where a call of the tree failed, the ones ahead of it
+-- of the looks that a request takes, those that succeed: where a call of the tree failed, the
+-- ones ahead of it
 abbrev pub succeeding : Fault → ℕ → List Look → List Look
 succeeding Fault.None count looks = looks
 succeeding Fault.Tree count looks = take count looks
@@ -56,7 +57,9 @@ own_bus_of None = None
 own_bus_of (Some c) = cond (is_mount c.kind) None (Some c)
 
 abbrev pub own_node_answer : AppView → NodeRequest → NodeOp → Own → AppView × Answer
-own_node_answer v r (NodeOp.GetAttr flags fh) own = (v, own_get_attr_answer v r flags (succeeding own.fault own.looks (own_get_attr_looks v r flags)))
+own_node_answer v r (NodeOp.GetAttr flags fh) own =
+    let looks = succeeding own.fault own.looks (own_get_attr_looks v r flags) in
+    (v, own_get_attr_answer v r flags looks)
 own_node_answer v r op own = (v, undefined_answer)
 
 abbrev pub own_node_step : AppView → NodeRequest → Own → Option OwnConnection → AppView × Reply
@@ -71,8 +74,10 @@ own_collect_step v (Some c) = with_signals [] (own_collect v)
 abbrev pub own_request_step : AppView → Own → Request → AppView × Reply
 own_request_step v own (Request.Enter who kind) = with_signals [] (own_enter v own.seat who kind)
 own_request_step v own Request.Leave = with_signals [] (own_leave v own.seat)
-own_request_step v own Request.Collect = own_collect_step v (own_bus_of (found_connection v.connections own.seat))
-own_request_step v own (Request.Node r) = own_node_step v r own (own_mount_of (found_connection v.connections own.seat))
+own_request_step v own Request.Collect =
+    own_collect_step v (own_bus_of (found_connection v.connections own.seat))
+own_request_step v own (Request.Node r) =
+    own_node_step v r own (own_mount_of (found_connection v.connections own.seat))
 
 -- the view after a request of the application, and the reply to it
 abbrev pub app_step : AppView → Own → AppView × Reply
