@@ -1,5 +1,5 @@
 -- What the effects of others do to a view: rights that are gained and lost, and documents that go.
-use Rattle.std.proofs.Common.{◌≡◌, ℕ, ◌==◌, List, [], ◌∷◌, ◌++◌, map, Bool, true, false, not, ◌||◌, cond, Option, Some, None, refl, sym, ap, ◌∙◌, subst, arith}
+use Rattle.std.proofs.Common.{◌≡◌, ℕ, ◌==◌, List, [], ◌∷◌, map, Bool, true, false, not, ◌||◌, cond, Option, Some, None, refl, sym, ap, ◌∙◌, arith}
 use Rattle.std.specs.List.{filter}
 use Rattle.std.specs.Option.{option_map}
 use Rattle.portal_base.specs.Names.{is_same}
@@ -13,7 +13,7 @@ use Rattle.portal_model.specs.State.{document_of}
 use Rattle.portal_model.proofs.Finds.{is_same-eq, nat_is, find-filter, found_passes}
 use Rattle.portal_model.specs.Ordered.{put, is_rising}
 use Rattle.app_world.specs.Effect.{Gained, Lost, Gone, apply, is_other, less_held, with_content, with_more}
-use Rattle.app_world.specs.View.{AppView, HeldDocument, OwnConnection, PathContent, ahead, contents_at, found_content, found_document, held_documents, is_among, is_held, lower, named_paths, number_of, path_content, path_of, pruned, seen, view_over}
+use Rattle.app_world.specs.View.{HeldDocument, OwnConnection, PathContent, ahead, contents_at, found_content, found_document, held_documents, is_among, is_held, lower, named_paths, number_of, path_content, path_of, seen, view_over}
 use Rattle.app_world.proofs.ContentLaws.{contents-are, contents-fewer, contents-found, contents-rising}
 use Rattle.app_world.proofs.DocumentLaws.{documents-are, documents-found, documents-rising, kept-seen, seen-nothing}
 use Rattle.app_world.proofs.Found.{find-changed, find-kept, find-put, kept}

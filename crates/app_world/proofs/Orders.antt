@@ -1,5 +1,5 @@
 -- Numbers and paths are ordered.
-use Rattle.std.proofs.Common.{◌≡◌, ◌==◌, nat_lt, arith}
+use Rattle.std.proofs.Common.{◌==◌, nat_lt, arith}
 use Rattle.std.proofs.lemmas.Bool.Decides.{nat_tests}
 use Rattle.portal_base.specs.Names.{is_same}
 use Rattle.portal_model.specs.Ordered.{bytes_less}
