@@ -5,7 +5,7 @@ use portal_base::list::List;
 use portal_base::text::Text;
 use std::alloc::Global;
 use vector_lines::error::LineError;
-use vector_lines::notation::{cut, number};
+use vector_lines::notation::{cut, debug, number};
 
 /// `list STEP, STEP ..`: the list that the steps make of an empty one, and what
 /// `pop`, `remove` and the steps that look give. Each step of numbers has them
@@ -46,7 +46,7 @@ fn looked(alloc: Global, list: &List<u64>, word: &str, rest: &str) -> Result<Str
         "greatest" => list.iter().copied().max(),
         _ => return copies(alloc, list),
     };
-    Ok(format!(in alloc; "{found:?}")?)
+    Ok(debug(alloc, &found)?)
 }
 
 fn length(alloc: Global, list: &List<u64>) -> Result<String, VectorError> {
@@ -81,7 +81,7 @@ fn changed(
         "remove" => return remove(alloc, list, rest),
         "pop" => {
             let last = list.pop();
-            return Ok(format!(in alloc; "{last:?}")?);
+            return Ok(debug(alloc, &last)?);
         }
         _ => return Err(VectorError::Line(LineError::BadLine)),
     }
@@ -122,7 +122,8 @@ fn place(word: &str) -> Result<usize, LineError> {
     word.parse::<usize>().map_err(|_| LineError::BadLine)
 }
 
-fn numbers(alloc: Global, words: &str) -> Result<List<u64>, VectorError> {
+/// Numbers, as words.
+pub fn numbers(alloc: Global, words: &str) -> Result<List<u64>, VectorError> {
     let mut numbers = List::new(alloc);
     for word in words.split_whitespace() {
         numbers.push(number(word)?)?;
@@ -131,7 +132,7 @@ fn numbers(alloc: Global, words: &str) -> Result<List<u64>, VectorError> {
 }
 
 fn shown(alloc: Global, numbers: &[u64]) -> Result<String, VectorError> {
-    Ok(format!(in alloc; "{numbers:?}")?)
+    Ok(debug(alloc, &numbers)?)
 }
 
 /// `text PART | PART ..`: the parts one after another, and how many bytes they

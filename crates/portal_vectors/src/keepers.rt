@@ -1,14 +1,14 @@
 //! Keepers of records in memory.
 
 use crate::error::VectorError;
-use crate::numbers;
+use crate::lists::numbers;
 use portal_base::list::List;
 use portal_base::text::Text;
 use portal_model::records::{DocRecord, EntryRecord, GrantRecord, RecordChange, Records};
 use record_keeper::{Keeper, KeeperLoad, MemoryKeeper};
 use std::alloc::Global;
 use vector_lines::error::LineError;
-use vector_lines::notation::{bytes, cut, digits, small_number};
+use vector_lines::notation::{bytes, cut, debug, digits, small_number};
 
 /// `keeper FAILS | STEP | STEP ..`: what each step answers over a keeper whose
 /// calls of these numbers fail, and which has no records at first.
@@ -36,7 +36,7 @@ fn answer<K: Keeper>(alloc: Global, keeper: &mut K, step: &str) -> Result<String
     }
     let changes = changes(alloc, step)?;
     let answer = keeper.apply(&changes);
-    Ok(format!(in alloc; "{answer:?}")?)
+    Ok(debug(alloc, &answer)?)
 }
 
 /// What a load answers: the numbers of the documents with their rights, and the
@@ -44,7 +44,7 @@ fn answer<K: Keeper>(alloc: Global, keeper: &mut K, step: &str) -> Result<String
 fn load<K: Keeper>(alloc: Global, keeper: &mut K) -> Result<String, VectorError> {
     match keeper.load() {
         KeeperLoad::Got(records) => shown(alloc, &records),
-        answer => Ok(format!(in alloc; "{answer:?}")?),
+        answer => Ok(debug(alloc, &answer)?),
     }
 }
 

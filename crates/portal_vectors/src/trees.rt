@@ -4,13 +4,13 @@ ghost use Rattle.std.specs.Prelude.{◌≡◌, ◌≢◌};
 ghost use Rattle.portal_base.specs.Names.{root};
 
 use crate::error::VectorError;
-use crate::numbers;
+use crate::lists::numbers;
 use host_tree::{HostTree, MemoryTree, QuietTree, TreeRead};
 use portal_base::files::FileName;
 use portal_base::names::HostPath;
 use std::alloc::Global;
 use vector_lines::error::LineError;
-use vector_lines::notation::{bytes, cut, digits, number, small_number};
+use vector_lines::notation::{bytes, cut, debug, digits, number, small_number};
 
 /// `tree FAILS | FILE | STEP, STEP ..`: what each step answers over a tree whose
 /// calls of these numbers fail, and which has the file, if one is written:
@@ -64,18 +64,18 @@ fn answer<T: HostTree>(
     let (first, rest) = cut(rest);
     if kind == "look" {
         let answer = tree.look(&path);
-        return Ok(format!(in alloc; "{answer:?}")?);
+        return Ok(debug(alloc, &answer)?);
     }
     if kind == "create" {
         let answer = tree.create(&path, number(first)?);
-        return Ok(format!(in alloc; "{answer:?}")?);
+        return Ok(debug(alloc, &answer)?);
     }
     let generation = u64::from(kind == "later");
     let file = FileName { path, generation };
     match kind {
         "attr" | "later" => {
             let answer = tree.attr(&file);
-            Ok(format!(in alloc; "{answer:?}")?)
+            Ok(debug(alloc, &answer)?)
         }
         "read" => read(alloc, tree, &file, first, rest),
         _ => change(alloc, tree, kind, &file, first, rest),
@@ -95,7 +95,7 @@ fn read<T: HostTree>(
             let text = digits(alloc, bytes.as_slice())?;
             Ok(format!(in alloc; "Got({text})")?)
         }
-        answer => Ok(format!(in alloc; "{answer:?}")?),
+        answer => Ok(debug(alloc, &answer)?),
     }
 }
 
@@ -120,5 +120,5 @@ fn change<T: HostTree>(
         "sync" => tree.sync(file),
         _ => return Err(VectorError::Line(LineError::BadLine)),
     };
-    Ok(format!(in alloc; "{answer:?}")?)
+    Ok(debug(alloc, &answer)?)
 }

@@ -1,4 +1,4 @@
-//! How lines write identifiers and names of rights.
+//! Sets of rights; and how lines write identifiers and names of rights.
 
 use crate::error::VectorError;
 use portal_base::list::List;
@@ -7,6 +7,17 @@ use portal_base::text::Text;
 use rights_rule::{Rights, read_names};
 use std::alloc::Global;
 use vector_lines::error::LineError;
+
+/// `rights NAME ..`: the names of the rights that are named, in their order.
+pub fn rights_named(alloc: Global, rest: &str) -> Result<String, VectorError> {
+    listed(alloc, rights(alloc, rest)?)
+}
+
+/// `all`, `none`: the names of every right, and of none.
+pub fn listed(alloc: Global, rights: Rights) -> Result<String, VectorError> {
+    let names = shown_rights(alloc, rights)?;
+    Ok(format!(in alloc; "[{names} ]")?)
+}
 
 /// A document's identifier.
 pub fn document_id(word: &str) -> Result<DocId, VectorError> {

@@ -1,14 +1,14 @@
 //! Documents that are added, looked up, removed and taken back.
 
 use crate::error::VectorError;
-use crate::notation::{document_id, shown_found, shown_id};
+use crate::rights::{document_id, shown_found, shown_id};
 use document_records::{Document, Documents};
 use portal_base::limits::Limits;
 use portal_base::list::List;
 use portal_base::names::{DocId, HostPath};
 use std::alloc::Global;
 use vector_lines::error::LineError;
-use vector_lines::notation::{cut, small_number};
+use vector_lines::notation::{cut, debug, small_number};
 
 /// `documents LIVE MADE STEP, STEP ..`: what each step answers over records with
 /// these limits, which are empty at first.
@@ -69,7 +69,7 @@ fn add(alloc: Global, documents: &mut Documents, rest: &str) -> Result<String, V
     let document = document_of(alloc, id, rest)?;
     match documents.add(document) {
         Ok(()) => shown_id(alloc, id),
-        Err(error) => Ok(format!(in alloc; "{error:?}")?),
+        Err(error) => Ok(debug(alloc, &error)?),
     }
 }
 

@@ -5,7 +5,7 @@ use document_records::Applications;
 use portal_base::names::AppId;
 use std::alloc::Global;
 use vector_lines::error::LineError;
-use vector_lines::notation::{cut, small_number};
+use vector_lines::notation::{cut, debug, small_number};
 
 /// As many applications as may be numbered.
 const LIMIT: u32 = 16_777_216;
@@ -57,7 +57,7 @@ fn numbered(
 fn of(alloc: Global, applications: &Applications, rest: &str) -> Result<String, VectorError> {
     let app = AppId::read(alloc, rest.as_bytes())?;
     let number = applications.of(&app);
-    Ok(format!(in alloc; "{number:?}")?)
+    Ok(debug(alloc, &number)?)
 }
 
 /// `name NUMBER`: the application of the number.

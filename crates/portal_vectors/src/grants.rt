@@ -1,7 +1,7 @@
 //! Rights that are added, taken away and forgotten.
 
 use crate::error::VectorError;
-use crate::notation::{document_id, rights, shown_rights};
+use crate::rights::{document_id, rights, shown_rights};
 use document_records::Grants;
 use portal_base::names::AppId;
 use std::alloc::Global;

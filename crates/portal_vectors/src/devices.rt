@@ -9,7 +9,7 @@ use portal_base::outside::{
 };
 use std::alloc::Global;
 use vector_lines::error::LineError;
-use vector_lines::notation::{bytes, cut, number, small_number};
+use vector_lines::notation::{bytes, cut, debug, number, small_number};
 
 /// `source ACT ACT ..`: what reads answer over a reader that does so: `N` gives N
 /// bytes, `interrupt` is interrupted, `fail` fails. There is one more read
@@ -47,7 +47,7 @@ fn one_read<S: Source>(
             let text = String::from_utf8_lossy(alloc, bytes)?;
             Ok(format!(in alloc; "\"{text}\"")?)
         }
-        answer => Ok(format!(in alloc; "{answer:?}")?),
+        answer => Ok(debug(alloc, &answer)?),
     }
 }
 
@@ -78,7 +78,8 @@ fn writes<K: Sink>(alloc: Global, sink: &mut K, pieces: &str) -> Result<String, 
     let mut out = String::new(alloc);
     for piece in pieces.split_whitespace() {
         let answer = sink.write(piece.as_bytes());
-        out.push_str(format!(in alloc; "{answer:?} ")?.as_str())?;
+        out.push_str(debug(alloc, &answer)?.as_str())?;
+        out.push(' ')?;
     }
     Ok(out)
 }
