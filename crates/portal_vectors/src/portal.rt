@@ -156,15 +156,7 @@ const ONE_COLLECT: Limits = Limits {
 pub fn history(alloc: Global) -> Result<String, VectorError> {
     let mut history = History::new(alloc, &ONE_COLLECT);
     history.reserve(1)?;
-    history.push(collected(alloc));
-    let entries = history.len();
-    let cost = history.cost();
-    let limit = history.limit();
-    Ok(format!(in alloc; "{entries} entries of {cost} in {limit}")?)
-}
-
-fn collected(alloc: Global) -> Entry {
-    Entry {
+    history.push(Entry {
         seat: 7,
         request: Request::Collect,
         given: Given {
@@ -175,5 +167,9 @@ fn collected(alloc: Global) -> Entry {
             full: false,
             fault: Fault::None,
         },
-    }
+    });
+    let entries = history.len();
+    let cost = history.cost();
+    let limit = history.limit();
+    Ok(format!(in alloc; "{entries} entries of {cost} in {limit}")?)
 }

@@ -21,7 +21,7 @@ use session::session::Session;
 use std::alloc::Global;
 use std::cell::Cell;
 use vector_lines::error::LineError;
-use vector_lines::notation::{bytes, cut, debug, digits, number};
+use vector_lines::notation::{bytes, cut, digits, number};
 
 /// A document that org.ed may read and write, and its file.
 const SCRIPT: &[u8] = b"file /home/a.txt 68656c6c6f\ndoc 0000000a r /home/a.txt org.ed=rw\n";
@@ -227,14 +227,21 @@ fn served_to_host<S: Source, K: Sink>(
     Ok(came)
 }
 
-/// `feeds BYTES | BYTES ..`: what a session of a bus of the host answers to each
-/// piece one after another, and in the end; how many entries the history has
-/// then, and how many pieces were written.
+/// `feeds BYTES | BYTES | BYTES`: what a session of a bus of the host answers to
+/// the three pieces one after another, and in the end; how many entries the
+/// history has then, and how many pieces were written.
 pub fn feeds(alloc: Global, rest: &str) -> Result<String, VectorError> {
     let settings = settings(alloc)?;
+    let (first, rest) = rest.split_once(" | ").unwrap_or((rest, ""));
+    let (second, third) = rest.split_once(" | ").unwrap_or((rest, ""));
+    let pieces = [
+        bytes(alloc, first)?,
+        bytes(alloc, second)?,
+        bytes(alloc, third)?,
+    ];
     let mut sink = MemorySink::new(alloc, 0);
     let mut portal = opened_by(alloc, SCRIPT, PLENTY)?;
-    let told = fed_portal(alloc, &mut portal, &settings, rest, &mut sink)?;
+    let told = fed_portal(alloc, &mut portal, &settings, &pieces, &mut sink)?;
     let written = sink.pieces().len();
     Ok(format!(in alloc; "{told}, {written} pieces")?)
 }
@@ -244,7 +251,7 @@ fn fed_portal(
     alloc: Global,
     portal: &mut Portal,
     settings: &Settings,
-    pieces: &str,
+    pieces: &[ByteList; 3],
     sink: &mut MemorySink,
 ) -> Result<String, VectorError>
     requires { portal.old.history ≡ [] }
@@ -261,22 +268,19 @@ fn fed<D: Desk>(
     alloc: Global,
     desk: &mut D,
     settings: &Settings,
-    pieces: &str,
+    pieces: &[ByteList; 3],
     sink: &mut MemorySink,
 ) -> Result<String, VectorError>
     requires { is_open (state_seen (D.seated desk.old)) (D.seated desk.old).seat ≡ false }
 {
+    let [first, second, third] = pieces;
     let mut session = match Session::begin(alloc, desk, &Who::Host, Kind::Bus, settings) {
         Ok(session) => session,
         Err(_) => return Err(VectorError::Line(LineError::Memory)),
     };
-    let mut out = String::new(alloc);
-    for piece in pieces.split(" | ") {
-        let fed = session.feed(alloc, desk, bytes(alloc, piece)?.as_slice(), sink);
-        out.push_str(debug(alloc, &fed)?.as_str())?;
-        out.push_str(", ")?;
-    }
+    let first = session.feed(alloc, desk, first.as_slice(), sink);
+    let second = session.feed(alloc, desk, second.as_slice(), sink);
+    let third = session.feed(alloc, desk, third.as_slice(), sink);
     let served = session.end(alloc, desk);
-    out.push_str(debug(alloc, &served)?.as_str())?;
-    Ok(out)
+    Ok(format!(in alloc; "{first:?}, {second:?}, {third:?}, {served:?}")?)
 }
