@@ -20,7 +20,7 @@ use Rattle.session.specs.Asked.{act_of_ask, act_of_frame, asked_by, collect_requ
 use Rattle.session.specs.Cuts.{line_of, next_phase}
 use Rattle.session.specs.Items.{AreItems, IsItem}
 use Rattle.session.specs.declared.act.Act.{Act}
-use Rattle.session.specs.declared.act.Act.TheVariants.{Nothing, Line, Call, Node}
+use Rattle.session.specs.declared.act.Act.TheVariants.{Nothing, Line, Call, Node, Local}
 use Rattle.session.specs.declared.act.Client.{Client}
 use Rattle.session.specs.declared.phase.Phase.{Phase}
 use Rattle.session.specs.declared.phase.Phase.TheVariants as due
@@ -61,8 +61,8 @@ node_defined unique r false act h e = absurd (cc)
 
 frame_defined : (unique : ℕ) (a : FuseAsk) (act : Act) → Ok act ≡ act_of_frame unique a → AllDefined (asked_by act)
 frame_defined unique (fuse.Portal r) act e = node_defined unique r (is_built r) act refl e
-frame_defined unique (fuse.Local told) act e = absurd (cc)
-frame_defined unique fuse.Ignore act e = absurd (cc)
+frame_defined unique (fuse.Local told) act e = by_act act (Local unique told) e tt
+frame_defined unique fuse.Ignore act e = by_act act Nothing e tt
 
 item_defined : (p : Phase) (c : Client) (i : List ℕ) (act : Act) → IsItem c p i act → AllDefined (asked_by act)
 item_defined due.ZeroByte c i act h = by_act act Nothing h.1 tt

@@ -21,7 +21,7 @@ use Rattle.fuse_wire.specs.declared.request.FuseAsk.TheVariants as fuse
 use Rattle.fuse_wire.specs.Asks.{ask_of as frame_ask_of}
 use Rattle.fuse_wire.specs.Frames.{header_of, split_of}
 use Rattle.session.specs.declared.act.Act.{Act}
-use Rattle.session.specs.declared.act.Act.TheVariants.{Nothing, Line, Call, Node}
+use Rattle.session.specs.declared.act.Act.TheVariants.{Nothing, Line, Call, Node, Local}
 use Rattle.session.specs.declared.act.Client.{Client}
 use Rattle.session.specs.declared.act.ItemError.TheVariants.{Breaks, Unbuilt}
 use Rattle.session.specs.declared.phase.Cut.{Cut}
@@ -72,8 +72,8 @@ node_means c item request false h e = let unique = (header_of item).unique in in
 
 frame_means : (c : Client) (item : List ℕ) (x : FuseAsk) → frame_ask_of item ≡ x → HasMeaning c due.Frames item
 frame_means c item (fuse.Portal request) e = node_means c item request (is_built request) refl e
-frame_means c item (fuse.Local told) e = inr (inr (sym (ap (act_of_frame (header_of item).unique) e)))
-frame_means c item fuse.Ignore e = inr (inr (sym (ap (act_of_frame (header_of item).unique) e)))
+frame_means c item (fuse.Local told) e = let unique = (header_of item).unique in inl (Local unique told, sym (ap (act_of_frame unique) e))
+frame_means c item fuse.Ignore e = inl (Nothing, sym (ap (act_of_frame (header_of item).unique) e))
 
 a_meaning : (c : Client) (p : Phase) (item : List ℕ) → All (λ b. b < 256) item → Cuts p item (cut.Whole (length item)) → HasMeaning c p item
 a_meaning c due.ZeroByte item fits h = inl (Nothing, refl)

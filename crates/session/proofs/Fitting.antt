@@ -18,7 +18,7 @@ use Rattle.fuse_wire.specs.declared.request.FuseAsk.TheVariants as fuse
 use Rattle.fuse_wire.specs.Asks.{ask_of as frame_ask_of}
 use Rattle.fuse_wire.specs.Frames.{header_of}
 use Rattle.session.specs.declared.act.Act.{Act}
-use Rattle.session.specs.declared.act.Act.TheVariants.{Nothing, Line, Call, Node}
+use Rattle.session.specs.declared.act.Act.TheVariants.{Nothing, Line, Call, Node, Local}
 use Rattle.session.specs.declared.act.Client.{Client}
 use Rattle.session.specs.declared.act.ItemError.{ItemError}
 use Rattle.session.specs.declared.phase.Phase.{Phase}
@@ -118,8 +118,8 @@ node_fits unique request false act e = absurd (cc)
 
 frame_fits : (unique : ℕ) (a : FuseAsk) (act : Act) → Ok act ≡ act_of_frame unique a → AllFit Kind.Mount (asked_by act)
 frame_fits unique (fuse.Portal request) act e = node_fits unique request (is_built request) act e
-frame_fits unique (fuse.Local told) act e = absurd (cc)
-frame_fits unique fuse.Ignore act e = absurd (cc)
+frame_fits unique (fuse.Local told) act e = subst (λ (a : Act). AllFit Kind.Mount (asked_by a)) (sym (same_act act (Local unique told) e)) tt
+frame_fits unique fuse.Ignore act e = nothing_fits Kind.Mount act e
 
 pub act_fits : (kind : Kind) (c : Client) (p : Phase) (item : List ℕ) (act : Act) → Speaks kind p → Means c p item (Ok act) → AllFit kind (asked_by act)
 act_fits Kind.Mount c due.ZeroByte item act s h = absurd s

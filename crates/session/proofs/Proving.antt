@@ -7,7 +7,7 @@ use Rattle.portal_model.specs.declared.reply.Refused.{Refused}
 use Rattle.portal_model.specs.declared.reply.Reply.{Reply}
 use Rattle.portal_model.specs.declared.request.Request.{Request}
 use Rattle.session.specs.declared.act.Act.{Act}
-use Rattle.session.specs.declared.act.Act.TheVariants.{Nothing, Line, Call, Node}
+use Rattle.session.specs.declared.act.Act.TheVariants.{Nothing, Line, Call, Node, Local}
 use Rattle.session.specs.declared.phase.Cut.TheVariants as cut
 use Rattle.session.specs.declared.phase.Phase.{Phase}
 use Rattle.session.specs.declared.phase.Phase.TheVariants as due
@@ -89,6 +89,7 @@ pieces_alike : (act : Act) (s : ℕ) (os us : List Outcome) → map told_as os �
 pieces_alike Nothing s os us e = refl
 pieces_alike (Line reply) s os us e = refl
 pieces_alike (Call reply collects) s os us e = refl
+pieces_alike (Local unique told) s os us e = refl
 pieces_alike (Node unique request) s os us e = told_frames unique os ∙ (ap (flat_map (frames_told unique)) e ∙ sym (told_frames unique us))
 
 alike : (acts : List Act) (s m n : ℕ) (os us : List Outcome) (ps qs : List (List ℕ)) → map told_as os ≡ map told_as us → Answers s acts os ps m → Answers s acts us qs n → (ps ≡ qs) × (m ≡ n)

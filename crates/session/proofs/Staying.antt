@@ -12,7 +12,7 @@ use Rattle.portal_model.specs.Seated.{Binding, Exchange, Known, Seated, binding_
 use Rattle.portal_model.specs.State.{State, connection_of}
 use Rattle.portal_model.proofs.SeatLaws.{exchanges-entries, run-bound}
 use Rattle.session.specs.declared.act.Act.{Act}
-use Rattle.session.specs.declared.act.Act.TheVariants.{Nothing, Line, Call, Node}
+use Rattle.session.specs.declared.act.Act.TheVariants.{Nothing, Line, Call, Node, Local}
 use Rattle.session.specs.declared.act.Client.{Client}
 use Rattle.session.specs.declared.served.Fed.{Fed}
 use Rattle.session.specs.declared.served.Fed.TheVariants as fed
@@ -53,6 +53,7 @@ act_plain Nothing = tt
 act_plain (Line reply) = tt
 act_plain (Call reply collects) = collects_plain collects
 act_plain (Node unique request) = (tt, tt)
+act_plain (Local unique told) = tt
 
 -- ---- outcomes that leave the connection
 

@@ -25,7 +25,7 @@ use Rattle.portal_model.specs.declared.request.Request.{Request}
 use Rattle.portal_model.specs.declared.request.Request.TheVariants as request
 use Rattle.portal_model.specs.History.{cost_of, node_bytes}
 use Rattle.session.specs.declared.act.Act.{Act}
-use Rattle.session.specs.declared.act.Act.TheVariants.{Nothing, Line, Call, Node}
+use Rattle.session.specs.declared.act.Act.TheVariants.{Nothing, Line, Call, Node, Local}
 use Rattle.session.specs.declared.act.Client.{Client}
 use Rattle.session.specs.declared.act.ItemError.{ItemError}
 use Rattle.session.specs.declared.phase.Cut.TheVariants as cut
@@ -74,8 +74,8 @@ built_cost unique r false act h e = absurd (cc)
 
 frame_cost : (unique : ℕ) (a : FuseAsk) (act : Act) → Ok act ≡ act_of_frame unique a → costs (asked_by act) ≤ 128
 frame_cost unique (fuse.Portal r) act e = built_cost unique r (is_built r) act refl e
-frame_cost unique (fuse.Local told) act e = absurd (cc)
-frame_cost unique fuse.Ignore act e = absurd (cc)
+frame_cost unique (fuse.Local told) act e = same_costs act (Local unique told) e (omega arith)
+frame_cost unique fuse.Ignore act e = same_costs act Nothing e (omega arith)
 
 -- a message has at least 16 bytes, a frame 40
 whole_message : (split : Split) (i : List ℕ) (n : ℕ) → IsSplit i split → cut.Whole n ≡ cut_of split → 16 ≤ length i

@@ -9,9 +9,9 @@ use Rattle.portal_model.specs.Seated.{Exchange}
 use Rattle.dbus_types.specs.declared.message.OutMessage.{OutMessage}
 use Rattle.dbus_message.specs.Written.{message_bytes}
 use Rattle.session.specs.declared.act.Act.{Act}
-use Rattle.session.specs.declared.act.Act.TheVariants.{Nothing, Line, Call, Node}
+use Rattle.session.specs.declared.act.Act.TheVariants.{Nothing, Line, Call, Node, Local}
 use Rattle.session.specs.Asked.{asked_by}
-use Rattle.session.specs.Frames.{answer_frames, refusal_frames}
+use Rattle.session.specs.Frames.{answer_frames, frames_of, refusal_frames}
 
 -- ---- what became of requests
 
@@ -75,6 +75,7 @@ pieces_of Nothing serial outcomes = []
 pieces_of (Line reply) serial outcomes = reply ∷ []
 pieces_of (Call reply collects) serial outcomes = spoken serial (option_to_list reply)
 pieces_of (Node unique request) serial outcomes = flat_map (frames_for unique) outcomes
+pieces_of (Local unique told) serial outcomes = frames_of unique told
 
 -- and the last serial
 abbrev pub serial_past : Act → ℕ → ℕ
@@ -82,6 +83,7 @@ serial_past Nothing serial = serial
 serial_past (Line reply) serial = serial
 serial_past (Call reply collects) serial = last_spoken serial (option_to_list reply)
 serial_past (Node unique request) serial = serial
+serial_past (Local unique told) serial = serial
 
 -- What an item asks is asked and answered, with these outcomes: the pieces, and the last serial.
 pub record Gives (act : Act) (serial : ℕ) (outcomes : List Outcome) (pieces : List (List ℕ)) (last : ℕ) : Type 0 where

@@ -24,7 +24,7 @@ use Rattle.fuse_wire.specs.declared.request.FuseAsk.TheVariants as fuse
 use Rattle.fuse_wire.specs.Asks.{ask_of as frame_ask_of}
 use Rattle.fuse_wire.specs.Frames.{header_of}
 use Rattle.session.specs.declared.act.Act.{Act}
-use Rattle.session.specs.declared.act.Act.TheVariants.{Nothing, Line, Call, Node}
+use Rattle.session.specs.declared.act.Act.TheVariants.{Nothing, Line, Call, Node, Local}
 use Rattle.session.specs.declared.act.Client.{Client}
 use Rattle.session.specs.declared.act.ItemError.{ItemError}
 use Rattle.session.specs.declared.act.ItemError.TheVariants.{Breaks, Unbuilt, Memory}
@@ -70,10 +70,11 @@ abbrev pub node_act : ℕ → NodeRequest → Bool → Result Act ItemError
 node_act unique request true = Ok (Node unique request)
 node_act unique request false = Err Unbuilt
 
+-- What the portal has no part in is answered without it, and what is ignored is passed over.
 abbrev pub act_of_frame : ℕ → FuseAsk → Result Act ItemError
 act_of_frame unique (fuse.Portal request) = node_act unique request (is_built request)
-act_of_frame unique (fuse.Local told) = Err Unbuilt
-act_of_frame unique fuse.Ignore = Err Unbuilt
+act_of_frame unique (fuse.Local told) = Ok (Local unique told)
+act_of_frame unique fuse.Ignore = Ok Nothing
 
 abbrev pub frame_act : List ℕ → Result Act ItemError
 frame_act frame = act_of_frame (header_of frame).unique (frame_ask_of frame)
@@ -109,6 +110,7 @@ asked_by Nothing = []
 asked_by (Line reply) = []
 asked_by (Call reply collects) = collect_requests collects
 asked_by (Node unique request) = Request.Node request ∷ []
+asked_by (Local unique told) = []
 
 -- the requests of items that ask this
 abbrev pub requests_of : List Act → List Request
@@ -128,3 +130,4 @@ MayAnswer Nothing = Unit {0}
 MayAnswer (Line reply) = Unit {0}
 MayAnswer (Call reply collects) = IfSome reply IsWritable
 MayAnswer (Node unique request) = Unit {0}
+MayAnswer (Local unique told) = Unit {0}

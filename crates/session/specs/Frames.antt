@@ -1,4 +1,4 @@
--- The frames that answer a request on a node (include/uapi/linux/fuse.h).
+-- The frames that answer a frame (include/uapi/linux/fuse.h).
 use Rattle.std.specs.Prelude.{ℕ, List, [], Option, Some, None, option_to_list}
 use Rattle.fuse_reply.specs.Replies.{reply_of}
 use Rattle.portal_model.specs.declared.reply.Answer.{Answer}
@@ -21,9 +21,13 @@ told_of answer.Done = None
 told_of (answer.Refused code) = told_code code
 told_of (answer.Node told) = Some told
 
+-- the frame that tells this to the request of this number; a quiet answer has none
+abbrev pub frames_of : ℕ → NodeAnswer → List (List ℕ)
+frames_of unique told = option_to_list (reply_of unique told)
+
 abbrev pub frames_telling : ℕ → Option NodeAnswer → List (List ℕ)
 frames_telling unique None = []
-frames_telling unique (Some told) = option_to_list (reply_of unique told)
+frames_telling unique (Some told) = frames_of unique told
 
 -- the frame, if any, that tells an answer to the request of this number
 abbrev pub answer_frames : ℕ → Answer → List (List ℕ)
@@ -35,4 +39,4 @@ refusal_errno (Full cost limit) = enospc
 
 -- the frame that tells that the request of this number is no entry of the history
 abbrev pub refusal_frames : ℕ → Refused → List (List ℕ)
-refusal_frames unique why = frames_telling unique (Some (Error (refusal_errno why)))
+refusal_frames unique why = frames_of unique (Error (refusal_errno why))

@@ -5,6 +5,7 @@ use portal_base::limits::Settings;
 use portal_base::list::ByteList;
 use portal_base::memory::WantOfMemory;
 use portal_base::who::{Kind, Who};
+use portal_model::reply::NodeAnswer;
 use portal_model::request::NodeRequest;
 use thiserror::Error;
 
@@ -42,6 +43,13 @@ pub enum Act {
         unique: u64,
         /// What is asked.
         request: NodeRequest,
+    },
+    /// A frame that the portal has no part in.
+    Local {
+        /// The number that the reply has to carry.
+        unique: u64,
+        /// The answer. There is no reply where it is quiet.
+        answer: NodeAnswer,
     },
 }
 

@@ -1,7 +1,7 @@
-//! The frames that answer a request on a node.
+//! The frames that answer a frame.
 
 ghost use Rattle.std.specs.Prelude.{◌≡◌, IfOk, option_to_list};
-ghost use Rattle.session.specs.Frames.{told_of, answer_frames, refusal_errno, refusal_frames};
+ghost use Rattle.session.specs.Frames.{told_of, answer_frames, frames_of, refusal_errno, refusal_frames};
 
 use fuse_reply::reply::write_reply;
 use portal_base::list::ByteList;
@@ -20,7 +20,7 @@ pub fn answer_frame(
     ensures { IfOk result (λ frame. option_to_list frame ≡ answer_frames unique answer) }
 {
     match told_of(answer) {
-        Some(told) => write_reply(alloc, unique, &told),
+        Some(told) => told_frame(alloc, unique, &told),
         None => Ok(None),
     }
 }
@@ -37,7 +37,19 @@ pub fn refusal_frame(
     let told = NodeAnswer::Error {
         errno: errno_of(refused),
     };
-    write_reply(alloc, unique, &told)
+    told_frame(alloc, unique, &told)
+}
+
+/// The frame that tells this to the request of this number, or `None` where the
+/// answer is quiet.
+pub fn told_frame(
+    alloc: Global,
+    unique: u64,
+    told: &NodeAnswer,
+) -> Result<Option<ByteList>, WantOfMemory>
+    ensures { IfOk result (λ frame. option_to_list frame ≡ frames_of unique told.now) }
+{
+    write_reply(alloc, unique, told)
 }
 
 fn errno_of(refused: Refused) -> u32

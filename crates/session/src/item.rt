@@ -141,7 +141,8 @@ fn frame_act(unique: u64, asked: FuseAsk) -> Result<Act, ItemError>
                 Err(ItemError::Unbuilt)
             }
         }
-        FuseAsk::Local(_) | FuseAsk::Ignore => Err(ItemError::Unbuilt),
+        FuseAsk::Local(answer) => Ok(Act::Local { unique, answer }),
+        FuseAsk::Ignore => Ok(Act::Nothing),
     }
 }
 

@@ -8,7 +8,7 @@ ghost use Rattle.session.specs.Cuts.{Cuts};
 ghost use Rattle.session.specs.Ledger.{world, Sends, ActEnds, Collected, ItemEnds, Stops};
 
 use crate::act::{Act, Client, ItemError};
-use crate::frame::{answer_frame, refusal_frame};
+use crate::frame::{answer_frame, refusal_frame, told_frame};
 use crate::item::read_item;
 use crate::phase::{Cut, Phase, next_cut};
 use crate::served::{Halt, Rest};
@@ -149,6 +149,9 @@ pub fn serve_act<D: Desk, K: Sink>(
             send_message(alloc, serial, &reply, sink)
         }
         Act::Node { unique, request } => serve_node(alloc, unique, request, serial, desk, sink),
+        Act::Local { unique, answer } => {
+            send_frame(serial, told_frame(alloc, unique, &answer), sink)
+        }
     }
 }
 

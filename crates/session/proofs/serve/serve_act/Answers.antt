@@ -1,7 +1,8 @@
 use Rattle.std.proofs.Common.{ℕ, List, [], ◌∷◌, Ok, ap, refl}
 use Rattle.std.specs.Prelude.{option_to_list}
-use Rattle.session.specs.declared.act.Act.TheVariants.{Nothing, Line, Call}
+use Rattle.session.specs.declared.act.Act.TheVariants.{Nothing, Line, Call, Local}
 use Rattle.session.specs.Answers.{spoken}
+use Rattle.session.specs.Frames.{frames_of}
 use Rattle.session.proofs.Growing.{grew_none}
 use Rattle.session.proofs.Doing.{act_ends}
 use Rattle.session.proofs.Serving.{sends_all}
@@ -33,3 +34,12 @@ returns-in-Line-clause-ends g c =
     let reply = c.in-Line.reply in
     let f = c.send in
     rw c.in-Line.is (act_ends (Line reply) n [] v v (grew_none v) (g.K.Sink.told c.args.sink.now) (g.K.Sink.told f.new.sink) (g.K.Sink.faults c.args.sink.now) (g.K.Sink.faults f.new.sink) f.result (c.as_slice.result.now ∷ []) refl (ap (λ (z : List ℕ). z ∷ []) c.as_slice.ensures) f.ensures.sends f.ensures.last)
+
+pub returns-in-Local-clause-ends : goal.returns-in-Local-clause-ends
+returns-in-Local-clause-ends g c =
+    let n = c.args.serial in
+    let v = g.D.Desk.seated c.args.desk.now in
+    let u = c.in-Local.unique in
+    let told = c.in-Local.answer in
+    let f = c.send_frame in
+    rw c.in-Local.is (act_ends (Local u told) n [] v v (grew_none v) (g.K.Sink.told c.args.sink.now) (g.K.Sink.told f.new.sink) (g.K.Sink.faults c.args.sink.now) (g.K.Sink.faults f.new.sink) f.result (frames_of u told) refl refl (f.ensures.sends _ c.told_frame.ensures) f.ensures.last)
