@@ -8,6 +8,10 @@ use Rattle.std.specs.Str.{bytes_eq}
 use Rattle.dbus_auth.specs.declared.command.Command.{Command}
 use Rattle.dbus_auth.specs.declared.command.Command.TheVariants.{AuthExternalWithIdentity, AuthExternal, AuthOther, CancelOrError, NegotiateUnixFd, Begin, Data, Unknown}
 
+-- the longest line that is taken, in bytes, its CR LF included
+abbrev pub longest_line : ℕ
+longest_line = 1024
+
 -- an even number of hexadecimal digits of either case, at least two: one or more whole bytes
 abbrev pub is_hex_data : List ℕ → Bool
 is_hex_data text = nat_le 2 (length text) && length text % 2 == 0 && list_all is_ascii_hexdigit text

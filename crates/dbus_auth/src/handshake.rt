@@ -10,6 +10,9 @@ use portal_base::memory::WantOfMemory;
 use std::alloc::Global;
 use std::marker::Model;
 
+/// The longest line that is taken, in bytes, its CR LF included.
+pub const LONGEST_LINE: usize = 1024;
+
 /// How far the handshake has come (D-Bus Specification, "Server states").
 #[derive(Clone, Copy, Debug, PartialEq, Eq)]
 pub enum AuthState {
@@ -50,6 +53,7 @@ impl Model for Auth {
 }
 
 impl Auth {
+    ghost use Rattle.dbus_auth.specs.Command.{longest_line};
     ghost use Rattle.dbus_auth.specs.Handshake.{begun, step, EndsLine};
 
     /// The start of a connection to the server with this GUID.
@@ -69,7 +73,7 @@ impl Auth {
     /// stays, and the same line may be given again; `BEGIN` needs no memory.
     /// After `Begin` and `Early` the state stays too, and no line is due.
     pub fn step(&mut self, alloc: Global, line: &[u8]) -> Result<AuthAnswer, WantOfMemory>
-        requires { length line.now ≤ 1024 }
+        requires { length line.now ≤ longest_line }
         ensures ok { IfOk result (λ answer. (answer, self.new) ≡ step self.old line.now) }
         ensures ends_line { IfOk result EndsLine }
         ensures begin { IfOk result (λ answer. (answer ≡ AuthAnswer.Begin)

@@ -18,7 +18,7 @@ use Rattle.portal_model.proofs.Histories.{cost-append}
 use Rattle.script_form.specs.declared.script.ScriptLine.{ScriptLine}
 use Rattle.script_form.specs.declared.script.ScriptLine.TheVariants.{Open, Data}
 use Rattle.script_form.specs.Lines.{hex_text, line_text, text_of}
-use Rattle.session.proofs.Weighing.{costs, costs-append}
+use Rattle.session.proofs.ItemsCostLittle.{costs, costs-append}
 use Rattle.docportal.specs.Entries.{entries_for, entry_for}
 
 pub entries_cost : (rs : List Request) (s : State) (seat : ℕ) → cost (entries_for s seat rs) ≡ costs rs

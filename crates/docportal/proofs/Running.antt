@@ -25,9 +25,9 @@ use Rattle.docportal.specs.Runs.{Cause, IsReplay, Ran, Replays, Risen, WroteFron
 use Rattle.docportal.specs.Scenes.{Scene, first_scene, opening_state, run_limits}
 use Rattle.docportal.specs.Steps.{AreFirst, MayPlay, scene}
 use Rattle.docportal.proofs.Behind.{behind_none}
-use Rattle.docportal.proofs.Oneness.{plays_one}
-use Rattle.docportal.proofs.Playing.{onto_none, plays_cost, text_joined}
-use Rattle.docportal.proofs.Sounding.{sound}
+use Rattle.docportal.proofs.OneOutput.{plays_one}
+use Rattle.docportal.proofs.RunLines.{onto_none, plays_cost, text_joined}
+use Rattle.docportal.proofs.SoundHistory.{sound}
 
 -- ---- the words
 

@@ -1,6 +1,7 @@
--- What a line of a script does. Bytes that come on a connection are cut into items, and each item that is
--- whole is answered in order.
-use Rattle.std.specs.Prelude.{◌≡◌, ◌≢◌, ℕ, ◌+◌, List, [], ◌∷◌, ◌++◌, length, map, Option, Some, None}
+-- What a line of a script does. Bytes that come on a connection are cut into items, and each item
+-- that is whole is answered in order.
+use Rattle.std.specs.Prelude.{◌≡◌, ◌≢◌, ℕ, ◌+◌, List, [], ◌∷◌, ◌++◌, length, map, Option, Some}
+use Rattle.std.specs.Prelude.{None}
 use Rattle.portal_model.specs.declared.entry.Entry.{Entry}
 use Rattle.portal_model.specs.declared.request.Request.{Request}
 use Rattle.portal_model.specs.History.{run}
@@ -22,9 +23,10 @@ use Rattle.docportal.specs.Texts.{out_line, end_line}
 
 -- ---- bytes on a connection
 
--- Bytes come behind the rest of a connection: the items that are whole now ask these requests and are
--- answered by these pieces, this stands behind them, and the session goes on so.
-pub record Hears (s : State) (seat : ℕ) (at : Standing) (bytes : List ℕ) (what : Rest) (requests : List Request) (pieces : List (List ℕ)) (now : Standing) : Type 0 where
+-- Bytes come behind the rest of a connection: the items that are whole now ask these requests and
+-- are answered by these pieces, this stands behind them, and the session goes on so.
+pub record Hears (s : State) (seat : ℕ) (at : Standing) (bytes : List ℕ) (what : Rest)
+    (requests : List Request) (pieces : List (List ℕ)) (now : Standing) : Type 0 where
   pub items : List (List ℕ)
   pub acts : List Act
   pub cut : Items at.client at.stage.phase (at.rest ++ bytes) items acts now.rest what
@@ -41,40 +43,52 @@ pub record Hears (s : State) (seat : ℕ) (at : Standing) (bytes : List ℕ) (wh
 abbrev pub Passes : Scene → List Entry → List (List ℕ) → Scene → Type 0
 Passes a entries out b = (entries ≡ []) × (out ≡ []) × (b ≡ a)
 
--- These requests of a seat are asked, one after another; this is written; and then this stands at its number.
-pub record Comes (a : Scene) (seat : ℕ) (requests : List Request) (lines : List (List ℕ)) (now : Option Standing) (entries : List Entry) (out : List (List ℕ)) (b : Scene) : Type 0 where
+-- These requests of a seat are asked, one after another; this is written; and then this stands at
+-- its number.
+pub record Comes (a : Scene) (seat : ℕ) (requests : List Request) (lines : List (List ℕ))
+    (now : Option Standing) (entries : List Entry) (out : List (List ℕ)) (b : Scene) : Type 0 where
   pub entries_are : entries ≡ entries_for a.portal seat requests
   pub out_is : out ≡ lines
   pub scene : b ≡ record { portal = run a.portal entries; sessions = placed a.sessions seat now }
 
--- A connection whose bytes end between items goes on; one with an item that breaks a rule, or with a line
--- that is too long, ends by itself and leaves. A request that isn't built isn't asked, and bytes that end
--- inside an item are no line that is built.
-abbrev pub Goes : Scene → ℕ → Rest → List Request → List (List ℕ) → Standing → List Entry → List (List ℕ) → Scene → Type 0
-Goes a seat rest.More requests pieces now entries out b = (now.rest ≡ []) × Comes a seat requests (map (out_line seat) pieces) (Some now) entries out b
+-- A connection whose bytes end between items goes on; one with an item that breaks a rule, or with
+-- a line that is too long, ends by itself and leaves. A request that isn't built isn't asked, and
+-- bytes that end inside an item are no line that is built.
+abbrev pub Goes : Scene → ℕ → Rest → List Request → List (List ℕ) → Standing → List Entry
+    → List (List ℕ) → Scene → Type 0
+Goes a seat rest.More requests pieces now entries out b =
+    (now.rest ≡ []) × Comes a seat requests (map (out_line seat) pieces) (Some now) entries out b
 Goes a seat (rest.Bad rule) requests pieces now entries out b =
-    Comes a seat (requests ++ Request.Leave ∷ []) (map (out_line seat) pieces ++ end_line seat (served.Malformed now.before rule) ∷ []) None entries out b
+    Comes a seat (requests ++ Request.Leave ∷ [])
+    (map (out_line seat) pieces ++ end_line seat (served.Malformed now.before rule) ∷ []) None
+    entries out b
 Goes a seat rest.TooLong requests pieces now entries out b =
-    Comes a seat (requests ++ Request.Leave ∷ []) (map (out_line seat) pieces ++ end_line seat (served.LineTooLong now.before) ∷ []) None entries out b
+    Comes a seat (requests ++ Request.Leave ∷ [])
+    (map (out_line seat) pieces ++ end_line seat (served.LineTooLong now.before) ∷ []) None
+    entries out b
 Goes a seat rest.Unbuilt requests pieces now entries out b = ⊥
 
 -- Data for a connection that ended by itself is passed over.
-abbrev pub DataDoes : Scene → ℕ → List ℕ → Option Standing → List Entry → List (List ℕ) → Scene → Type 0
+abbrev pub DataDoes : Scene → ℕ → List ℕ → Option Standing → List Entry → List (List ℕ) → Scene
+    → Type 0
 DataDoes a seat bytes None entries out b = Passes a entries out b
 DataDoes a seat bytes (Some at) entries out b =
     (what : Rest) × (requests : List Request) × (pieces : List (List ℕ)) × (now : Standing)
-    × Hears a.portal seat at bytes what requests pieces now × Goes a seat what requests pieces now entries out b
+    × Hears a.portal seat at bytes what requests pieces now
+    × Goes a seat what requests pieces now entries out b
 
 -- So is the close of one.
 abbrev pub CloseDoes : Scene → ℕ → Option Standing → List Entry → List (List ℕ) → Scene → Type 0
 CloseDoes a seat None entries out b = Passes a entries out b
-CloseDoes a seat (Some at) entries out b = Comes a seat (Request.Leave ∷ []) (end_line seat (ending_at at.rest) ∷ []) None entries out b
+CloseDoes a seat (Some at) entries out b =
+    Comes a seat (Request.Leave ∷ []) (end_line seat (ending_at at.rest) ∷ []) None entries out b
 
 -- A line is run: from one scene to another, with these entries and this output.
 abbrev pub Does : Scene → ScriptLine → List Entry → List (List ℕ) → Scene → Type 0
 Does a (File path content) entries out b = Passes a entries out b
 Does a (Doc id reusable path grants) entries out b = Passes a entries out b
-Does a (Open seat kind who) entries out b = Comes a seat (Request.Enter who kind ∷ []) [] (Some (fresh (client who kind run_settings))) entries out b
+Does a (Open seat kind who) entries out b = Comes a seat (Request.Enter who kind ∷ []) []
+    (Some (fresh (client who kind run_settings))) entries out b
 Does a (Data seat bytes) entries out b = DataDoes a seat bytes (a.sessions seat) entries out b
 Does a (Close seat) entries out b = CloseDoes a seat (a.sessions seat) entries out b
 
@@ -91,7 +105,8 @@ abbrev pub DataIsUnbuilt : List ℕ → Option Standing → Type 0
 DataIsUnbuilt bytes None = ⊥
 DataIsUnbuilt bytes (Some at) =
     (items : List (List ℕ)) × (acts : List Act) × (left : List ℕ) × (what : Rest)
-    × Items at.client at.stage.phase (at.rest ++ bytes) items acts left what × IsUnbuiltRest what left
+    × Items at.client at.stage.phase (at.rest ++ bytes) items acts left what
+    × IsUnbuiltRest what left
 
 -- a line that needs a part which isn't built
 abbrev pub IsUnbuilt : Scene → ScriptLine → Type 0

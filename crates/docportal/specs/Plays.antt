@@ -5,33 +5,42 @@ use Rattle.portal_core.specs.Story.{Story, state_now}
 use Rattle.portal_model.specs.declared.entry.Entry.{Entry}
 use Rattle.script_form.specs.declared.script.ScriptLine.{ScriptLine}
 use Rattle.docportal.specs.declared.status.Status.{Status}
-use Rattle.docportal.specs.declared.status.Status.TheVariants.{Done, ReadFault, WriteFault, Memory, TooLong, Unbuilt}
-use Rattle.docportal.specs.declared.line.LineError.{LineError}
-use Rattle.docportal.specs.declared.line.LineError.TheVariants as line
+use Rattle.docportal.specs.declared.status.Status.TheVariants.{Done, ReadFault, WriteFault, Memory}
+use Rattle.docportal.specs.declared.status.Status.TheVariants.{TooLong, Unbuilt}
+use Rattle.docportal.specs.declared.error.LineError.{LineError}
+use Rattle.docportal.specs.declared.error.LineError.TheVariants as line
 use Rattle.docportal.specs.Lines.{Does, IsUnbuilt}
 use Rattle.docportal.specs.Scenes.{Scene}
 use Rattle.docportal.specs.Steps.{AreFirst, scene}
 
--- Lines are run, each from the scene that the one before it left: these are their entries and their output.
+-- Lines are run, each from the scene that the one before it left: these are their entries and their
+-- output.
 abbrev pub Plays : Scene → List ScriptLine → List Entry → List (List ℕ) → Scene → Type 0
 Plays a [] entries out b = (entries ≡ []) × (out ≡ []) × (b ≡ a)
 Plays a (line ∷ lines) entries out b =
-    (first : List Entry) × (more : List Entry) × (said : List (List ℕ)) × (later : List (List ℕ)) × (mid : Scene)
-    × (entries ≡ first ++ more) × (out ≡ said ++ later) × Does a line first said mid × Plays mid lines more later b
+    (first : List Entry) × (more : List Entry) × (said : List (List ℕ)) × (later : List (List ℕ))
+    × (mid : Scene)
+    × (entries ≡ first ++ more) × (out ≡ said ++ later) × Does a line first said mid
+    × Plays mid lines more later b
 
 -- a front of the lines is run, with this history and this output, up to this scene
-abbrev pub PlaysFront : Scene → List ScriptLine → List ScriptLine → List Entry → List (List ℕ) → Scene → Type 0
-PlaysFront a lines front history out b = (later : List ScriptLine) × (lines ≡ front ++ later) × Plays a front history out b
+abbrev pub PlaysFront : Scene → List ScriptLine → List ScriptLine → List Entry → List (List ℕ)
+    → Scene → Type 0
+PlaysFront a lines front history out b =
+    (later : List ScriptLine) × (lines ≡ front ++ later) × Plays a front history out b
 
--- the line of this number, counted from 1, is the first that isn't built, behind a front that is run up to this scene
+-- the line of this number, counted from 1, is the first that isn't built, behind a front that is
+-- run up to this scene
 abbrev pub StopsAt : List ScriptLine → List ScriptLine → Scene → ℕ → Type 0
-StopsAt lines front b number = (line : ScriptLine) × (later : List ScriptLine) × (lines ≡ front ++ line ∷ later) × IsUnbuilt b line × (number ≡ length front + 1)
+StopsAt lines front b number = (line : ScriptLine) × (later : List ScriptLine)
+    × (lines ≡ front ++ line ∷ later) × IsUnbuilt b line × (number ≡ length front + 1)
 
 -- ---- what was written
 
--- All lines are run at a portal with no connection open, and their output is written. The portal has stored
--- their history behind its own, and is in the state after it.
-pub record PlaysAll (old new : Story) (lines : List ScriptLine) (told told' : Option (List (List ℕ))) : Type 0 where
+-- All lines are run at a portal with no connection open, and their output is written. The portal
+-- has stored their history behind its own, and is in the state after it.
+pub record PlaysAll (old new : Story) (lines : List ScriptLine)
+    (told told' : Option (List (List ℕ))) : Type 0 where
   pub history : List Entry
   pub out : List (List ℕ)
   pub last : Scene
@@ -41,7 +50,8 @@ pub record PlaysAll (old new : Story) (lines : List ScriptLine) (told told' : Op
   pub output : told' ≡ onto told out
 
 -- such a part of the output of some of them is written
-pub record PlaysPart (IsPart : List (List ℕ) → List (List ℕ) → Type 0) (a : Scene) (lines : List ScriptLine) (told told' : Option (List (List ℕ))) : Type 0 where
+pub record PlaysPart (IsPart : List (List ℕ) → List (List ℕ) → Type 0) (a : Scene)
+    (lines : List ScriptLine) (told told' : Option (List (List ℕ))) : Type 0 where
   pub front : List ScriptLine
   pub history : List Entry
   pub out : List (List ℕ)
@@ -52,7 +62,8 @@ pub record PlaysPart (IsPart : List (List ℕ) → List (List ℕ) → Type 0) (
   pub output : told' ≡ onto told pieces
 
 -- the output of the lines ahead of the first that isn't built is written, which has this number
-pub record PlaysUpTo (a : Scene) (lines : List ScriptLine) (number : ℕ) (told told' : Option (List (List ℕ))) : Type 0 where
+pub record PlaysUpTo (a : Scene) (lines : List ScriptLine) (number : ℕ)
+    (told told' : Option (List (List ℕ))) : Type 0 where
   pub front : List ScriptLine
   pub history : List Entry
   pub out : List (List ℕ)
@@ -62,13 +73,17 @@ pub record PlaysUpTo (a : Scene) (lines : List ScriptLine) (number : ℕ) (told 
   pub output : told' ≡ onto told out
 
 -- why not all lines are run; only a fault is counted
-abbrev pub PlayStops : Scene → List ScriptLine → Option (List (List ℕ)) → ℕ → Option (List (List ℕ)) → ℕ → Status → Type 0
+abbrev pub PlayStops : Scene → List ScriptLine → Option (List (List ℕ)) → ℕ → Option (List (List ℕ))
+    → ℕ → Status → Type 0
 PlayStops a lines told faults told' faults' Done = ⊥
 PlayStops a lines told faults told' faults' ReadFault = ⊥
-PlayStops a lines told faults told' faults' WriteFault = HasRisen faults faults' × PlaysPart Short a lines told told'
-PlayStops a lines told faults told' faults' Memory = (faults' ≡ faults) × PlaysPart AreFirst a lines told told'
+PlayStops a lines told faults told' faults' WriteFault =
+    HasRisen faults faults' × PlaysPart Short a lines told told'
+PlayStops a lines told faults told' faults' Memory =
+    (faults' ≡ faults) × PlaysPart AreFirst a lines told told'
 PlayStops a lines told faults told' faults' TooLong = ⊥
-PlayStops a lines told faults told' faults' (Unbuilt number) = (faults' ≡ faults) × PlaysUpTo a lines number told told'
+PlayStops a lines told faults told' faults' (Unbuilt number) =
+    (faults' ≡ faults) × PlaysUpTo a lines number told told'
 
 -- how a run ends whose line of this index, counted from 0, is not run
 abbrev pub status_at : LineError → ℕ → Status

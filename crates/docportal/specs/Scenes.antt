@@ -1,5 +1,6 @@
 -- What a script has come to, between two of its lines.
-use Rattle.std.specs.Prelude.{ℕ, ◌==◌, List, [], ◌∷◌, Option, None, codes, if◌then◌else◌, slice_index_or}
+use Rattle.std.specs.Prelude.{ℕ, ◌==◌, List, [], ◌∷◌, Option, None, codes, if◌then◌else◌}
+use Rattle.std.specs.Prelude.{slice_index_or}
 use Rattle.portal_base.specs.declared.limits.Limits.{Limits}
 use Rattle.portal_base.specs.declared.limits.Settings.{Settings}
 use Rattle.portal_model.specs.Opening.{opened}
@@ -10,7 +11,14 @@ use Rattle.session.specs.Standings.{Standing}
 
 -- the limits of the portal that a script runs
 abbrev pub run_limits : Limits
-run_limits = record { documents = 65536; made = 1048576; history = 536870912; handles = 1024; queued = 16; file_bytes = 268435456 }
+run_limits = record {
+  documents = 65536;
+  made = 1048576;
+  history = 536870912;
+  handles = 1024;
+  queued = 16;
+  file_bytes = 268435456;
+}
 
 -- and what it is set to
 abbrev pub run_settings : Settings

@@ -1,5 +1,6 @@
 -- What the sessions of a script ask of its portal.
-use Rattle.std.specs.Prelude.{◌≡◌, ℕ, ◌+◌, ◌*◌, ◌≤◌, Bool, true, false, List, [], ◌++◌, length, Some}
+use Rattle.std.specs.Prelude.{◌≡◌, ℕ, ◌+◌, ◌*◌, ◌≤◌, Bool, true, false, List, [], ◌++◌, length}
+use Rattle.std.specs.Prelude.{Some}
 use Rattle.std.proofs.Common.{inl, inr}
 use Rattle.portal_base.specs.Devices.{SinkState}
 use Rattle.portal_core.specs.Lending.{seated_at}
@@ -19,8 +20,8 @@ use Rattle.session.specs.Laws.{NoneIsFull}
 use Rattle.session.specs.Ledger.{World, world}
 use Rattle.session.specs.Sessions.{Feeds, FeedsOver}
 use Rattle.session.specs.Standings.{Standing}
-use Rattle.docportal.specs.declared.line.LineError.{LineError}
-use Rattle.docportal.specs.declared.line.LineError.TheVariants as stop
+use Rattle.docportal.specs.declared.error.LineError.{LineError}
+use Rattle.docportal.specs.declared.error.LineError.TheVariants as stop
 use Rattle.docportal.specs.Entries.{entries_for}
 use Rattle.docportal.specs.Lines.{Hears, DataIsUnbuilt}
 
@@ -37,12 +38,15 @@ abbrev pub Asked : Story → Story → ℕ → List Request → Type 0
 Asked old new seat requests = new.history ≡ old.history ++ entries_for (state_now old) seat requests
 
 -- bytes were heard on a connection, and what they ask was asked
-abbrev pub HearsAt : Story → Story → ℕ → Standing → List ℕ → Rest → List (List ℕ) → Standing → Type 0
+abbrev pub HearsAt : Story → Story → ℕ → Standing → List ℕ → Rest → List (List ℕ) → Standing
+    → Type 0
 HearsAt old new seat at bytes what pieces now =
-    (requests : List Request) × Hears (state_now old) seat at bytes what requests pieces now × Asked old new seat requests
+    (requests : List Request) × Hears (state_now old) seat at bytes what requests pieces now
+    × Asked old new seat requests
 
 -- what became of what was asked by a piece that ends a connection
-abbrev pub outcomes_over : (met : Served) (s : Standing) (v : World) (piece : List ℕ) (t : Standing) (w : World) → FeedsOver s v piece met t w → List Outcome
+abbrev pub outcomes_over : (met : Served) (s : Standing) (v : World) (piece : List ℕ) (t : Standing)
+    (w : World) → FeedsOver s v piece met t w → List Outcome
 outcomes_over (served.Malformed at rule) s v piece t w h = h.0.did.outcomes
 outcomes_over (served.LineTooLong at) s v piece t w h = h.0.did.outcomes
 outcomes_over (served.Unbuilt at) s v piece t w h = h.0.did.outcomes
@@ -55,26 +59,33 @@ outcomes_over (served.Full full limit) s v piece t w h = []
 outcomes_over served.Memory s v piece t w h = []
 
 -- and by any piece: for its whole items, and for one that was asked and not answered whole
-abbrev pub outcomes_of : (r : Fed) (s : Standing) (v : World) (piece : List ℕ) (t : Standing) (w : World) → Feeds fed.More s v piece r t w → List Outcome
+abbrev pub outcomes_of : (r : Fed) (s : Standing) (v : World) (piece : List ℕ) (t : Standing)
+    (w : World) → Feeds fed.More s v piece r t w → List Outcome
 outcomes_of fed.More s v piece t w h = h.0.did.outcomes
 outcomes_of (fed.Over met) s v piece t w h = outcomes_over met s v piece t w h.0
 outcomes_of fed.WriteFault s v piece t w h = h.0.did.outcomes ++ h.0.halted.outcomes
 outcomes_of fed.Memory s v piece t w (inl nothing, keeps, room) = []
 outcomes_of fed.Memory s v piece t w (inr (inl began, holds), keeps, room) = began.did.outcomes
-outcomes_of fed.Memory s v piece t w (inr (inr broke, holds), keeps, room) = broke.0.did.outcomes ++ broke.0.halted.outcomes
+outcomes_of fed.Memory s v piece t w (inr (inr broke, holds), keeps, room) =
+    broke.0.did.outcomes ++ broke.0.halted.outcomes
 
--- A session of the seat was fed these bytes, and took the seat from what it knew to what it knows, with so many
--- refusals: it asked what they ask. What is new in the history costs at most eight times the bytes with those
--- ahead of them, and none of the requests was refused for a full history.
-pub record Unfilled (old new : Story) (seat : ℕ) (at : Standing) (bytes : List ℕ) (now : Standing) (refusals : ℕ) : Type 0 where
+-- A session of the seat was fed these bytes, and took the seat from what it knew to what it knows,
+-- with so many refusals: it asked what they ask. What is new in the history costs at most eight
+-- times the bytes with those ahead of them, and none of the requests was refused for a full
+-- history.
+pub record Unfilled (old new : Story) (seat : ℕ) (at : Standing) (bytes : List ℕ) (now : Standing)
+    (refusals : ℕ) : Type 0 where
   pub came : Fed
   pub first : SinkState
   pub last : SinkState
-  pub feeds : Feeds fed.More at (sunk (known_at old seat 0) first) bytes came now (sunk (known_at new seat refusals) last)
-  pub none_full : NoneIsFull (outcomes_of came at (sunk (known_at old seat 0) first) bytes now (sunk (known_at new seat refusals) last) feeds)
+  pub feeds : Feeds fed.More at (sunk (known_at old seat 0) first) bytes came now
+      (sunk (known_at new seat refusals) last)
+  pub none_full : NoneIsFull (outcomes_of came at (sunk (known_at old seat 0) first) bytes now
+      (sunk (known_at new seat refusals) last) feeds)
   pub grown : cost new.history ≤ cost old.history + 8 * length (at.rest ++ bytes)
 
--- there was no memory: to hold the bytes or to gather an answer, as the session says, or for a request
+-- there was no memory: to hold the bytes or to gather an answer, as the session says, or for a
+-- request
 abbrev pub WantsMemory : Fed → ℕ → Type 0
 WantsMemory fed.More refusals = 1 ≤ refusals
 WantsMemory (fed.Over met) refusals = 1 ≤ refusals
@@ -89,12 +100,15 @@ IsEnd rest.TooLong = Unit {0}
 IsEnd rest.Unbuilt = ⊥
 
 -- bytes were heard, and the connection goes on between items, or is over
-abbrev pub HeardAs : Bool → Story → Story → ℕ → Standing → List ℕ → List (List ℕ) → Standing → Type 0
-HeardAs false old new seat at bytes pieces now = HearsAt old new seat at bytes rest.More pieces now × (now.rest ≡ [])
-HeardAs true old new seat at bytes pieces now = (what : Rest) × IsEnd what × HearsAt old new seat at bytes what pieces now
+abbrev pub HeardAs : Bool → Story → Story → ℕ → Standing → List ℕ → List (List ℕ) → Standing
+    → Type 0
+HeardAs false old new seat at bytes pieces now =
+    HearsAt old new seat at bytes rest.More pieces now × (now.rest ≡ [])
+HeardAs true old new seat at bytes pieces now =
+    (what : Rest) × IsEnd what × HearsAt old new seat at bytes what pieces now
 
--- what a session of a script meets: an item that breaks a rule, a line that is too long, or a request that isn't
--- built
+-- what a session of a script meets: an item that breaks a rule, a line that is too long, or a
+-- request that isn't built
 abbrev pub IsMet : Served → Type 0
 IsMet (served.Malformed at rule) = Unit {0}
 IsMet (served.LineTooLong at) = Unit {0}
@@ -111,4 +125,5 @@ is_last other = false
 abbrev pub HearsNot : Story → Story → ℕ → Standing → List ℕ → Standing → LineError → Type 0
 HearsNot old new seat at bytes now stop.Unbuilt = DataIsUnbuilt bytes (Some at)
 HearsNot old new seat at bytes now stop.WriteFault = ⊥
-HearsNot old new seat at bytes now stop.Memory = (refusals : ℕ) × Unfilled old new seat at bytes now refusals × WantsMemory now.fed refusals
+HearsNot old new seat at bytes now stop.Memory =
+    (refusals : ℕ) × Unfilled old new seat at bytes now refusals × WantsMemory now.fed refusals

@@ -1,5 +1,6 @@
 -- What running one line comes to.
-use Rattle.std.specs.Prelude.{◌≡◌, ◌⊎◌, ℕ, ◌+◌, ◌*◌, ◌≤◌, ◌++◌, false, List, [], length, take, Option, None, IfSome}
+use Rattle.std.specs.Prelude.{◌≡◌, ◌⊎◌, ℕ, ◌+◌, ◌*◌, ◌≤◌, ◌++◌, false, List, [], length, take}
+use Rattle.std.specs.Prelude.{Option, None, IfSome}
 use Rattle.std.specs.List.{list_any}
 use Rattle.std.specs.Option.{option_map}
 use Rattle.portal_base.specs.Outside.{HasRisen, Short, onto}
@@ -12,10 +13,9 @@ use Rattle.script_form.specs.declared.script.ScriptLine.TheVariants.{File, Doc, 
 use Rattle.script_form.specs.Lines.{KeepsRules, line_text, text_of}
 use Rattle.script_form.specs.Order.{StandBehind, opens, script_limit}
 use Rattle.session.specs.declared.served.Fed.TheVariants as fed
-use Rattle.session.specs.Sessions.{longest}
-use Rattle.session.specs.Standings.{Standing}
-use Rattle.docportal.specs.declared.line.LineError.{LineError}
-use Rattle.docportal.specs.declared.line.LineError.TheVariants.{Unbuilt, WriteFault, Memory}
+use Rattle.session.specs.Standings.{Standing, longest}
+use Rattle.docportal.specs.declared.error.LineError.{LineError}
+use Rattle.docportal.specs.declared.error.LineError.TheVariants.{Unbuilt, WriteFault, Memory}
 use Rattle.docportal.specs.Lines.{Does, IsUnbuilt}
 use Rattle.docportal.specs.Scenes.{Scene, sessions_of}
 
@@ -33,7 +33,8 @@ pub record IsIdle (at : Standing) : Type 0 where
 abbrev pub binding : Standing → Binding
 binding at = record { who = at.client.who; kind = at.client.kind }
 
--- each session is idle, and at its number the portal has an open connection of its client, and no others
+-- each session is idle, and at its number the portal has an open connection of its client, and no
+-- others
 pub record Agrees (a : Scene) : Type 0 where
   pub idle : (n : ℕ) → IfSome (a.sessions n) IsIdle
   pub bound_alike : (n : ℕ) → bound a.portal n ≡ option_map binding (a.sessions n)
@@ -58,9 +59,11 @@ pub record MayRun (p : Story) (table : List (Option Standing)) (line : ScriptLin
   pub room : cost p.history + 8 * (length (line_text line) + 1) ≤ limit_of p
   pub space : HaveRoom (scene p table) (length (line_text line))
 
--- The lines may be run behind those that were run, which left the portal and the table so: they are lines
--- of the script, nothing is open at a number that no line opened, and there is room for what they bring.
-pub record MayPlay (earlier : List ScriptLine) (p : Story) (table : List (Option Standing)) (lines : List ScriptLine) : Type 0 where
+-- The lines may be run behind those that were run, which left the portal and the table so: they are
+-- lines of the script, nothing is open at a number that no line opened, and there is room for what
+-- they bring.
+pub record MayPlay (earlier : List ScriptLine) (p : Story) (table : List (Option Standing))
+    (lines : List ScriptLine) : Type 0 where
   pub stand : StandBehind earlier lines
   pub agrees : Agrees (scene p table)
   pub closed : (n : ℕ) → list_any (opens n) earlier ≡ false → sessions_of table n ≡ None
@@ -71,7 +74,9 @@ pub record MayPlay (earlier : List ScriptLine) (p : Story) (table : List (Option
 -- ---- what it comes to
 
 -- a line was run, and its output is written
-pub record Runs (old : Story) (table : List (Option Standing)) (new : Story) (table' : List (Option Standing)) (line : ScriptLine) (told told' : Option (List (List ℕ))) : Type 0 where
+pub record Runs (old : Story) (table : List (Option Standing)) (new : Story)
+    (table' : List (Option Standing)) (line : ScriptLine)
+    (told told' : Option (List (List ℕ))) : Type 0 where
   pub entries : List Entry
   pub out : List (List ℕ)
   pub does : Does (scene old table) line entries out (scene new table')
@@ -79,7 +84,8 @@ pub record Runs (old : Story) (table : List (Option Standing)) (new : Story) (ta
   pub output : told' ≡ onto told out
 
 -- a connection was opened, and nothing is written
-pub record Opens (old : Story) (table : List (Option Standing)) (new : Story) (table' : List (Option Standing)) (line : ScriptLine) : Type 0 where
+pub record Opens (old : Story) (table : List (Option Standing)) (new : Story)
+    (table' : List (Option Standing)) (line : ScriptLine) : Type 0 where
   pub entries : List Entry
   pub does : Does (scene old table) line entries [] (scene new table')
   pub history : new.history ≡ old.history ++ entries
@@ -88,21 +94,30 @@ pub record Opens (old : Story) (table : List (Option Standing)) (new : Story) (t
 abbrev pub AreFirst : List (List ℕ) → List (List ℕ) → Type 0
 AreFirst first pieces = (count : ℕ) × (first ≡ take count pieces)
 
--- writing these lines broke off: at a fault some of them are written, and a front of the next or nothing; where
--- there was no memory some are, each of them whole. Only a fault is counted
-abbrev pub WritesShort : List (List ℕ) → Option (List (List ℕ)) → ℕ → Option (List (List ℕ)) → ℕ → LineError → Type 0
+-- writing these lines broke off: at a fault some of them are written, and a front of the next or
+-- nothing; where there was no memory some are, each of them whole. Only a fault is counted
+abbrev pub WritesShort : List (List ℕ) → Option (List (List ℕ)) → ℕ → Option (List (List ℕ)) → ℕ
+    → LineError → Type 0
 WritesShort lines told faults told' faults' Unbuilt = ⊥
-WritesShort lines told faults told' faults' WriteFault = HasRisen faults faults' × ((pieces : List (List ℕ)) × Short pieces lines × (told' ≡ onto told pieces))
-WritesShort lines told faults told' faults' Memory = (faults' ≡ faults) × ((pieces : List (List ℕ)) × AreFirst pieces lines × (told' ≡ onto told pieces))
+WritesShort lines told faults told' faults' WriteFault = HasRisen faults faults'
+    × ((pieces : List (List ℕ)) × Short pieces lines × (told' ≡ onto told pieces))
+WritesShort lines told faults told' faults' Memory = (faults' ≡ faults)
+    × ((pieces : List (List ℕ)) × AreFirst pieces lines × (told' ≡ onto told pieces))
 
 -- such a part of a line's output is written
-abbrev pub WritesPart : (List (List ℕ) → List (List ℕ) → Type 0) → Scene → ScriptLine → Option (List (List ℕ)) → Option (List (List ℕ)) → Type 0
-WritesPart IsPart a line told told' = (entries : List Entry) × (out : List (List ℕ)) × (b : Scene) × (pieces : List (List ℕ))
+abbrev pub WritesPart : (List (List ℕ) → List (List ℕ) → Type 0) → Scene → ScriptLine
+    → Option (List (List ℕ)) → Option (List (List ℕ)) → Type 0
+WritesPart IsPart a line told told' =
+    (entries : List Entry) × (out : List (List ℕ)) × (b : Scene) × (pieces : List (List ℕ))
     × Does a line entries out b × IsPart pieces out × (told' ≡ onto told pieces)
 
--- why a line was not run: it is not built, and nothing is written; a write of its output failed; or there was no
--- memory. Only a fault is counted
-abbrev pub Breaks : Scene → ScriptLine → Option (List (List ℕ)) → ℕ → Option (List (List ℕ)) → ℕ → LineError → Type 0
-Breaks a line told faults told' faults' Unbuilt = (faults' ≡ faults) × IsUnbuilt a line × (told' ≡ told)
-Breaks a line told faults told' faults' WriteFault = HasRisen faults faults' × WritesPart Short a line told told'
-Breaks a line told faults told' faults' Memory = (faults' ≡ faults) × ((told' ≡ told) ⊎ WritesPart AreFirst a line told told')
+-- why a line was not run: it is not built, and nothing is written; a write of its output failed; or
+-- there was no memory. Only a fault is counted
+abbrev pub Breaks : Scene → ScriptLine → Option (List (List ℕ)) → ℕ → Option (List (List ℕ)) → ℕ
+    → LineError → Type 0
+Breaks a line told faults told' faults' Unbuilt =
+    (faults' ≡ faults) × IsUnbuilt a line × (told' ≡ told)
+Breaks a line told faults told' faults' WriteFault =
+    HasRisen faults faults' × WritesPart Short a line told told'
+Breaks a line told faults told' faults' Memory =
+    (faults' ≡ faults) × ((told' ≡ told) ⊎ WritesPart AreFirst a line told told')

@@ -50,7 +50,8 @@ impl Connections {
 
     /// Puts a session at a number, in place of what was there.
     pub fn put(&mut self, seat: u32, session: Session) -> Result<(), WantOfMemory>
-        ensures { OnOk result (sessions_of self.new ≡ placed (sessions_of self.old) seat (Some session)) }
+        ensures { OnOk result (sessions_of self.new ≡ placed (sessions_of self.old) seat
+            (Some session)) }
     {
         let index = seat as usize;
         self.reach(index)?;

@@ -13,39 +13,17 @@ ghost use Rattle.docportal.specs.Steps.{MayRun, Opens, Runs, Breaks, WritesShort
 ghost use Rattle.docportal.specs.Texts.{out_line as line_of_piece, end_line as line_of_ending};
 
 use crate::connections::Connections;
+use crate::error::LineError;
 use crate::output::{end_line, out_line};
 use crate::seats::{begin, end, hear};
 use portal_base::limits::Settings;
 use portal_base::list::ByteList;
-use portal_base::memory::WantOfMemory;
 use portal_base::outside::{Sink, WriteAnswer};
 use portal_base::who::{Kind, Who};
 use portal_core::portal::Portal;
 use script_form::script::ScriptLine;
 use session::session::Session;
 use std::alloc::Global;
-
-/// Why a line is not run.
-#[derive(Clone, Copy, Debug, PartialEq, Eq)]
-pub enum LineError {
-    /// It needs a part that is not built.
-    Unbuilt,
-    /// The write of its output failed.
-    WriteFault,
-    /// There was no memory.
-    Memory,
-}
-
-impl From<WantOfMemory> for LineError {
-    ghost use Rattle.std.specs.Prelude.{◌≡◌};
-    ghost use Rattle.docportal.specs.declared.line.LineError.TheVariants.{Memory};
-
-    ghost from_gives = { λ _ e. e ≡ Memory };
-
-    fn from(_error: WantOfMemory) -> LineError {
-        LineError::Memory
-    }
-}
 
 /// Runs a line: a connection is opened or closed at the portal, or bytes come
 /// on one, and each line of output is written as one piece. Nothing is written
@@ -61,9 +39,11 @@ pub fn run_line<K: Sink>(
     requires may { MayRun portal.old connections.old line.now }
     requires settings { settings.now ≡ run_settings }
     ensures opening { opened portal.new.opening ≡ opened portal.old.opening }
-    ensures ok { OnOk result (Runs portal.old connections.old portal.new connections.new line.now (K.told sink.old) (K.told sink.new)) }
+    ensures ok { OnOk result (Runs portal.old connections.old portal.new connections.new line.now
+        (K.told sink.old) (K.told sink.new)) }
     ensures counts { OnOk result (K.faults sink.new ≡ K.faults sink.old) }
-    ensures err { IfErr result (Breaks (scene portal.old connections.old) line.now (K.told sink.old) (K.faults sink.old) (K.told sink.new) (K.faults sink.new)) }
+    ensures err { IfErr result (Breaks (scene portal.old connections.old) line.now (K.told sink.old)
+        (K.faults sink.old) (K.told sink.new) (K.faults sink.new)) }
 {
     match line {
         ScriptLine::File { .. } => Ok(()),
@@ -88,7 +68,8 @@ fn open(
     requires may { MayRun portal.old connections.old (ScriptLine.Open seat kind who.now) }
     requires settings { settings.now ≡ run_settings }
     ensures opening { opened portal.new.opening ≡ opened portal.old.opening }
-    ensures ok { OnOk result (Opens portal.old connections.old portal.new connections.new (ScriptLine.Open seat kind who.now)) }
+    ensures ok { OnOk result (Opens portal.old connections.old portal.new connections.new
+        (ScriptLine.Open seat kind who.now)) }
     ensures err { IfErr result (λ e. e ≡ LineError.Memory) }
 {
     let session = begin(alloc, portal, seat, who, kind, settings)?;
@@ -106,9 +87,12 @@ fn data<K: Sink>(
 ) -> Result<(), LineError>
     requires may { MayRun portal.old connections.old (ScriptLine.Data seat bytes.now) }
     ensures opening { opened portal.new.opening ≡ opened portal.old.opening }
-    ensures ok { OnOk result (Runs portal.old connections.old portal.new connections.new (ScriptLine.Data seat bytes.now) (K.told sink.old) (K.told sink.new)) }
+    ensures ok { OnOk result (Runs portal.old connections.old portal.new connections.new
+        (ScriptLine.Data seat bytes.now) (K.told sink.old) (K.told sink.new)) }
     ensures counts { OnOk result (K.faults sink.new ≡ K.faults sink.old) }
-    ensures err { IfErr result (Breaks (scene portal.old connections.old) (ScriptLine.Data seat bytes.now) (K.told sink.old) (K.faults sink.old) (K.told sink.new) (K.faults sink.new)) }
+    ensures err { IfErr result (Breaks (scene portal.old connections.old)
+        (ScriptLine.Data seat bytes.now) (K.told sink.old) (K.faults sink.old) (K.told sink.new)
+        (K.faults sink.new)) }
 {
     let mut session = match connections.take(seat) {
         Some(session) => session,
@@ -140,9 +124,11 @@ fn close<K: Sink>(
 ) -> Result<(), LineError>
     requires may { MayRun portal.old connections.old (ScriptLine.Close seat) }
     ensures opening { opened portal.new.opening ≡ opened portal.old.opening }
-    ensures ok { OnOk result (Runs portal.old connections.old portal.new connections.new (ScriptLine.Close seat) (K.told sink.old) (K.told sink.new)) }
+    ensures ok { OnOk result (Runs portal.old connections.old portal.new connections.new
+        (ScriptLine.Close seat) (K.told sink.old) (K.told sink.new)) }
     ensures counts { OnOk result (K.faults sink.new ≡ K.faults sink.old) }
-    ensures err { IfErr result (Breaks (scene portal.old connections.old) (ScriptLine.Close seat) (K.told sink.old) (K.faults sink.old) (K.told sink.new) (K.faults sink.new)) }
+    ensures err { IfErr result (Breaks (scene portal.old connections.old) (ScriptLine.Close seat)
+        (K.told sink.old) (K.faults sink.old) (K.told sink.new) (K.faults sink.new)) }
 {
     match connections.take(seat) {
         Some(session) => leave(alloc, portal, seat, session, sink),
@@ -162,9 +148,12 @@ fn leave<K: Sink>(
     requires open { bound (state_now portal.old) seat ≡ Some (binding session) }
     ensures opening { opened portal.new.opening ≡ opened portal.old.opening }
     ensures left { Asked portal.old portal.new seat (Request.Leave ∷ []) }
-    ensures ok { OnOk result (K.told sink.new ≡ onto (K.told sink.old) (line_of_ending seat (ending session.fed session.rest) ∷ [])) }
+    ensures ok { OnOk result (K.told sink.new ≡ onto (K.told sink.old)
+        (line_of_ending seat (ending session.fed session.rest) ∷ [])) }
     ensures counts { OnOk result (K.faults sink.new ≡ K.faults sink.old) }
-    ensures err { IfErr result (WritesShort (line_of_ending seat (ending session.fed session.rest) ∷ []) (K.told sink.old) (K.faults sink.old) (K.told sink.new) (K.faults sink.new)) }
+    ensures err { IfErr result (WritesShort
+        (line_of_ending seat (ending session.fed session.rest) ∷ []) (K.told sink.old)
+        (K.faults sink.old) (K.told sink.new) (K.faults sink.new)) }
 {
     let served = end(alloc, portal, seat, session);
     let line = end_line(alloc, seat, served)?;
@@ -178,9 +167,11 @@ fn write_pieces<K: Sink>(
     pieces: &[ByteList],
     sink: &mut K,
 ) -> Result<(), LineError>
-    ensures ok { OnOk result (K.told sink.new ≡ onto (K.told sink.old) (map (line_of_piece seat) pieces.now)) }
+    ensures ok { OnOk result (K.told sink.new ≡ onto (K.told sink.old)
+        (map (line_of_piece seat) pieces.now)) }
     ensures counts { OnOk result (K.faults sink.new ≡ K.faults sink.old) }
-    ensures err { IfErr result (WritesShort (map (line_of_piece seat) pieces.now) (K.told sink.old) (K.faults sink.old) (K.told sink.new) (K.faults sink.new)) }
+    ensures err { IfErr result (WritesShort (map (line_of_piece seat) pieces.now) (K.told sink.old)
+        (K.faults sink.old) (K.told sink.new) (K.faults sink.new)) }
 {
     for piece in pieces {
         let Ok(line) = out_line(alloc, seat, piece.as_slice()) else {
@@ -198,7 +189,8 @@ fn write_pieces<K: Sink>(
 fn write<K: Sink>(sink: &mut K, piece: &[u8]) -> Result<(), LineError>
     ensures ok { OnOk result (K.told sink.new ≡ onto (K.told sink.old) (piece.now ∷ [])) }
     ensures counts { OnOk result (K.faults sink.new ≡ K.faults sink.old) }
-    ensures err { IfErr result (WritesShort (piece.now ∷ []) (K.told sink.old) (K.faults sink.old) (K.told sink.new) (K.faults sink.new)) }
+    ensures err { IfErr result (WritesShort (piece.now ∷ []) (K.told sink.old) (K.faults sink.old)
+        (K.told sink.new) (K.faults sink.new)) }
 {
     match sink.write(piece) {
         WriteAnswer::Done => Ok(()),

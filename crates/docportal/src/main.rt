@@ -2,6 +2,7 @@
 #![tactic(auto)]
 
 mod connections;
+mod error;
 mod input;
 mod line;
 mod output;

@@ -1,7 +1,8 @@
 //! The lines of the output.
 
 ghost use Rattle.std.specs.Prelude.{◌≡◌, IfOk};
-ghost use Rattle.docportal.specs.Texts.{out_line as line_of_piece, end_line as line_of_ending, ending_words};
+ghost use Rattle.docportal.specs.Texts.{out_line as line_of_piece, end_line as line_of_ending};
+ghost use Rattle.docportal.specs.Texts.{ending_words};
 
 use portal_base::list::{ByteList, List};
 use portal_base::memory::WantOfMemory;

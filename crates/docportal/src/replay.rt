@@ -6,7 +6,8 @@ ghost use Rattle.docportal.specs.Scenes.{run_settings};
 ghost use Rattle.docportal.specs.Steps.{MayPlay, scene};
 
 use crate::connections::Connections;
-use crate::line::{LineError, run_line};
+use crate::error::LineError;
+use crate::line::run_line;
 use crate::status::Status;
 use portal_base::limits::Settings;
 use portal_base::outside::Sink;
@@ -25,9 +26,11 @@ pub fn run_lines<K: Sink>(
 ) -> Result<(), Status>
     requires may { MayPlay [] portal.old [] lines.now }
     requires settings { settings.now ≡ run_settings }
-    ensures ok { OnOk result (PlaysAll portal.old portal.new lines.now (K.told sink.old) (K.told sink.new)) }
+    ensures ok { OnOk result (PlaysAll portal.old portal.new lines.now (K.told sink.old)
+        (K.told sink.new)) }
     ensures counts { OnOk result (K.faults sink.new ≡ K.faults sink.old) }
-    ensures err { IfErr result (PlayStops (scene portal.old []) lines.now (K.told sink.old) (K.faults sink.old) (K.told sink.new) (K.faults sink.new)) }
+    ensures err { IfErr result (PlayStops (scene portal.old []) lines.now (K.told sink.old)
+        (K.faults sink.old) (K.told sink.new) (K.faults sink.new)) }
 {
     let mut connections = Connections::new(alloc);
     for (index, line) in lines.iter().enumerate() {

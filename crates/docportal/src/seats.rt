@@ -1,19 +1,21 @@
 //! The sessions of a script at the seats of its portal.
 
-ghost use Rattle.std.specs.Prelude.{◌≡◌, ℕ, ◌+◌, ◌*◌, ◌≤◌, [], ◌∷◌, ◌++◌, length, true, false, Some, IfOk, IfErr};
+ghost use Rattle.std.specs.Prelude.{◌≡◌, ℕ, ◌+◌, ◌*◌, ◌≤◌, [], ◌∷◌, ◌++◌, length, true, false};
+ghost use Rattle.std.specs.Prelude.{Some, IfOk, IfErr};
 ghost use Rattle.portal_core.specs.Lending.{GrowsByOwn, is_faultless};
 ghost use Rattle.portal_core.specs.Story.{cost_with, limit_of, state_now};
 ghost use Rattle.portal_model.specs.declared.request.Request.{Request};
 ghost use Rattle.portal_model.specs.History.{Legal, cost};
 ghost use Rattle.portal_model.specs.Opening.{opened};
 ghost use Rattle.portal_model.specs.Seated.{bound, is_open};
-ghost use Rattle.session.specs.Sessions.{Closes, Feeds, Opens, ending, longest};
-ghost use Rattle.session.specs.Standings.{client, fresh};
+ghost use Rattle.session.specs.Sessions.{Closes, Feeds, Opens, ending};
+ghost use Rattle.session.specs.Standings.{client, fresh, longest};
 ghost use Rattle.session.specs.declared.served.Fed.TheVariants as fed;
-ghost use Rattle.docportal.specs.Seats.{Asked, HeardAs, HearsNot, IsMet, Unfilled, is_last, known_at, sunk};
+ghost use Rattle.docportal.specs.Seats.{Asked, HeardAs, HearsNot, IsMet, Unfilled, is_last};
+ghost use Rattle.docportal.specs.Seats.{known_at, sunk};
 ghost use Rattle.docportal.specs.Steps.{binding};
 
-use crate::line::LineError;
+use crate::error::LineError;
 use portal_base::limits::Settings;
 use portal_base::memory::WantOfMemory;
 use portal_base::outside::MemorySink;
@@ -48,7 +50,8 @@ pub fn begin(
     requires closed { is_open (state_now portal.old) seat ≡ false }
     requires room { cost_with portal.old (Request.Enter who.now kind) ≤ limit_of portal.old }
     ensures opening { opened portal.new.opening ≡ opened portal.old.opening }
-    ensures ok { IfOk result (λ session. (session ≡ fresh (client who.now kind settings.now)) × Asked portal.old portal.new seat (Request.Enter who.now kind ∷ [])) }
+    ensures ok { IfOk result (λ session. (session ≡ fresh (client who.now kind settings.now))
+        × Asked portal.old portal.new seat (Request.Enter who.now kind ∷ [])) }
 {
     match begin_at(alloc, portal, seat, who, kind, settings) {
         Ok(session) => Ok(session),
@@ -71,7 +74,8 @@ fn begin_at(
     ensures opening { opened portal.new.opening ≡ opened portal.old.opening }
     ensures own { GrowsByOwn is_faultless seat portal.old.history portal.new.history }
     ensures legal { Legal (opened portal.new.opening) portal.new.history }
-    ensures opens { (count : ℕ) × Opens (client who.now kind settings.now) (known_at portal.old seat 0) result (known_at portal.new seat count) }
+    ensures opens { (count : ℕ) × Opens (client who.now kind settings.now)
+        (known_at portal.old seat 0) result (known_at portal.new seat count) }
 {
     let mut desk = LocalDesk::new(portal, seat);
     let begun = Session::begin(alloc, &mut desk, who, kind, settings);
@@ -89,7 +93,7 @@ struct Feeding {
 }
 
 /// Feeds bytes to a session at the desk of a seat, and gathers its answers.
-fn feed_at(
+fn feed(
     alloc: Global,
     portal: &mut Portal,
     seat: u32,
@@ -99,10 +103,13 @@ fn feed_at(
 ) -> Feeding
     requires seat { 1 ≤ seat }
     ensures opening { opened portal.new.opening ≡ opened portal.old.opening }
-    ensures stays_open { bound (state_now portal.old) seat ≡ Some (binding session.old) → bound (state_now portal.new) seat ≡ Some (binding session.old) }
+    ensures stays_open { bound (state_now portal.old) seat ≡ Some (binding session.old)
+        → bound (state_now portal.new) seat ≡ Some (binding session.old) }
     ensures own { GrowsByOwn is_faultless seat portal.old.history portal.new.history }
     ensures legal { Legal (opened portal.new.opening) portal.new.history }
-    ensures feeds { Feeds session.old.fed session.old (sunk (known_at portal.old seat 0) written.old) bytes.now result.fed session.new (sunk (known_at portal.new seat result.refusals) written.new) }
+    ensures feeds { Feeds session.old.fed session.old
+        (sunk (known_at portal.old seat 0) written.old) bytes.now result.fed session.new
+        (sunk (known_at portal.new seat result.refusals) written.new) }
 {
     let mut desk = LocalDesk::new(portal, seat);
     let fed = session.feed(alloc, &mut desk, bytes, written);
@@ -113,37 +120,9 @@ fn feed_at(
     }
 }
 
-/// The same, where no request is refused. One that is refused wants memory,
-/// since the history has room for all of them.
-fn feed(
-    alloc: Global,
-    portal: &mut Portal,
-    seat: u32,
-    session: &mut Session,
-    bytes: &[u8],
-    written: &mut MemorySink,
-) -> Result<Fed, WantOfMemory>
-    requires seat { 1 ≤ seat }
-    requires goes_on { session.old.fed ≡ fed.More }
-    requires room { cost portal.old.history + 8 * length (session.old.rest ++ bytes.now) ≤ limit_of portal.old }
-    ensures opening { opened portal.new.opening ≡ opened portal.old.opening }
-    ensures stays_open { bound (state_now portal.old) seat ≡ Some (binding session.old) → bound (state_now portal.new) seat ≡ Some (binding session.old) }
-    ensures own { GrowsByOwn is_faultless seat portal.old.history portal.new.history }
-    ensures legal { Legal (opened portal.new.opening) portal.new.history }
-    ensures unfilled { (refusals : ℕ) × Unfilled portal.old portal.new seat session.old bytes.now session.new refusals }
-    ensures ok { IfOk result (λ fed. (count : ℕ) × (count ≡ 0) × Feeds session.old.fed session.old (sunk (known_at portal.old seat 0) written.old) bytes.now fed session.new (sunk (known_at portal.new seat count) written.new)) }
-    ensures err { IfErr result (λ _. (refusals : ℕ) × Unfilled portal.old portal.new seat session.old bytes.now session.new refusals × (1 ≤ refusals)) }
-{
-    let Feeding { fed, refusals } = feed_at(alloc, portal, seat, session, bytes, written);
-    if refusals > 0 {
-        return Err(WantOfMemory);
-    }
-    Ok(fed)
-}
-
 /// Feeds bytes to a session that goes on. Where the bytes end inside an item,
 /// or at a request that isn't built, they aren't built. The history has room
-/// for what they ask, and nothing is refused for its limit.
+/// for what they ask, so a request that is refused wants memory.
 pub fn hear(
     alloc: Global,
     portal: &mut Portal,
@@ -153,16 +132,25 @@ pub fn hear(
 ) -> Result<Heard, LineError>
     requires seat { 1 ≤ seat }
     requires goes_on { session.old.fed ≡ fed.More }
-    requires room { cost portal.old.history + 8 * length (session.old.rest ++ bytes.now) ≤ limit_of portal.old }
+    requires room { cost portal.old.history + 8 * length (session.old.rest ++ bytes.now)
+        ≤ limit_of portal.old }
     requires space { session.old.before + length session.old.rest + length bytes.now ≤ longest }
     ensures opening { opened portal.new.opening ≡ opened portal.old.opening }
-    ensures stays_open { bound (state_now portal.old) seat ≡ Some (binding session.old) → bound (state_now portal.new) seat ≡ Some (binding session.old) }
-    ensures unfilled { (refusals : ℕ) × Unfilled portal.old portal.new seat session.old bytes.now session.new refusals }
-    ensures ok { IfOk result (λ heard. HeardAs heard.is_over portal.old portal.new seat session.old bytes.now heard.written.pieces session.new) }
-    ensures err { IfErr result (HearsNot portal.old portal.new seat session.old bytes.now session.new) }
+    ensures stays_open { bound (state_now portal.old) seat ≡ Some (binding session.old)
+        → bound (state_now portal.new) seat ≡ Some (binding session.old) }
+    ensures unfilled { (refusals : ℕ) × Unfilled portal.old portal.new seat session.old bytes.now
+        session.new refusals }
+    ensures ok { IfOk result (λ heard. HeardAs heard.is_over portal.old portal.new seat session.old
+        bytes.now heard.written.pieces session.new) }
+    ensures err { IfErr result (HearsNot portal.old portal.new seat session.old bytes.now
+        session.new) }
 {
     let mut written = MemorySink::new(alloc, 0);
-    match feed(alloc, portal, seat, session, bytes, &mut written)? {
+    let Feeding { fed, refusals } = feed(alloc, portal, seat, session, bytes, &mut written);
+    if refusals > 0 {
+        return Err(LineError::Memory);
+    }
+    match fed {
         Fed::More if session.held() > 0 => Err(LineError::Unbuilt),
         Fed::More => Ok(Heard {
             written,
@@ -177,7 +165,8 @@ pub fn hear(
 /// What bytes came to with which a connection ends by itself.
 fn heard_last(served: Served, written: MemorySink) -> Result<Heard, LineError>
     requires { IsMet served }
-    ensures ok { IfOk result (λ heard. (heard.written ≡ written) × (heard.is_over ≡ true) × (is_last served ≡ true)) }
+    ensures ok { IfOk result (λ heard. (heard.written ≡ written) × (heard.is_over ≡ true)
+        × (is_last served ≡ true)) }
     ensures err { IfErr result (λ e. (e ≡ LineError.Unbuilt) × (is_last served ≡ false)) }
 {
     match served {
@@ -212,7 +201,8 @@ fn end_at(alloc: Global, portal: &mut Portal, seat: u32, session: Session) -> Se
     ensures opening { opened portal.new.opening ≡ opened portal.old.opening }
     ensures own { GrowsByOwn is_faultless seat portal.old.history portal.new.history }
     ensures legal { Legal (opened portal.new.opening) portal.new.history }
-    ensures closes { (count : ℕ) × Closes session (known_at portal.old seat 0) result (known_at portal.new seat count) }
+    ensures closes { (count : ℕ) × Closes session (known_at portal.old seat 0) result
+        (known_at portal.new seat count) }
 {
     let mut desk = LocalDesk::new(portal, seat);
     let served = session.end(alloc, &mut desk);

@@ -11,9 +11,13 @@ use Rattle.portal_model.specs.declared.reply.NodeAnswer.{NodeAnswer}
 abbrev pub fuse_out_header : ℕ → ℕ → ℕ → List Field
 fuse_out_header len error unique = Four len ∷ Four error ∷ Eight unique ∷ []
 
+-- the length of struct fuse_out_header, in bytes
+abbrev pub header_len : ℕ
+header_len = 16
+
 -- the header and the body; len counts both, as a number of 32 bits
 abbrev pub frame_of : ℕ → ℕ → List ℕ → List ℕ
-frame_of error unique body = spelled (fuse_out_header ((16 + length body) % 2 ^ 32) error unique) ++ body
+frame_of error unique body = spelled (fuse_out_header ((header_len + length body) % 2 ^ 32) error unique) ++ body
 
 -- an error is a signed number below 0, in two's complement
 abbrev pub negated : ℕ → ℕ

@@ -1,7 +1,7 @@
 //! The entries of a folder, as FUSE_READDIR tells them.
 
 ghost use Rattle.std.specs.Prelude.{◌≡◌, ◌++◌, ◌+◌, ◌<◌, ◌≤◌, ◌^◌, length, replicate, MatchOption, IfOk, OnOk};
-ghost use Rattle.fuse_reply.specs.Dirents.{dirent, dirents, dirent_size as size_of_dirent, fuse_dirent, padding_of, type_of};
+ghost use Rattle.fuse_reply.specs.Dirents.{dirent, dirents, dirent_size as size_of_dirent, fuse_dirent, name_offset, padding_of, type_of};
 ghost use Rattle.fuse_reply.specs.Fields.{spelled};
 
 use crate::field::{Field, put, put_bytes};
@@ -134,8 +134,8 @@ fn padding_len(name_len: usize) -> usize
 fn dirent_size(name_len: usize) -> u64
     requires { name_len < 2 ^ 32 }
     ensures value { result ≡ size_of_dirent name_len }
-    ensures least { 24 + name_len ≤ result }
-    ensures most { result < 32 + name_len }
+    ensures least { name_offset + name_len ≤ result }
+    ensures most { result < name_offset + 8 + name_len }
 {
     (NAME_OFFSET + name_len as u64).div_ceil(ALIGNMENT) * ALIGNMENT
 }

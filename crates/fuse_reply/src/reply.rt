@@ -13,7 +13,7 @@ use portal_base::memory::WantOfMemory;
 use portal_model::reply::{Attr, NodeAnswer};
 use std::alloc::Global;
 
-// The lengths of the structs.
+// The lengths of the structs, in bytes.
 const OUT_HEADER_LEN: usize = 16;
 
 const ENTRY_OUT_LEN: usize = 128;

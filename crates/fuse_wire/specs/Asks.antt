@@ -3,7 +3,7 @@ use Rattle.std.specs.Prelude.{ℕ, ◌+◌, ◌*◌, ◌==◌, nat_le, List, len
 use Rattle.std.specs.Option.{option_map}
 use Rattle.fuse_wire.specs.Bodies.{access_in, batch_forget_in, create_in, flush_in, forget_in, forget_ones, fsync_in, getattr_in, name_of, open_in, read_in, release_in, setattr_in, write_in}
 use Rattle.fuse_wire.specs.Bodies.{access_in_len, batch_forget_in_len, create_in_len, flush_in_len, forget_in_len, forget_one_len, fsync_in_len, getattr_in_len, open_in_len, read_in_len, release_in_len, setattr_in_len, write_in_len}
-use Rattle.fuse_wire.specs.Frames.{header_of}
+use Rattle.fuse_wire.specs.Frames.{header_len, header_of}
 use Rattle.fuse_wire.specs.Init.{init_ask}
 use Rattle.fuse_wire.specs.Opcodes.{opcode_of}
 use Rattle.fuse_wire.specs.declared.frame.InHeader.{InHeader}
@@ -97,4 +97,4 @@ IsFuse Opcode.Other header body = Local (Error enosys)
 
 -- what a whole frame asks
 abbrev pub ask_of : List ℕ → FuseAsk
-ask_of frame = IsFuse (opcode_of (header_of frame).opcode) (header_of frame) (drop 40 frame)
+ask_of frame = IsFuse (opcode_of (header_of frame).opcode) (header_of frame) (drop header_len frame)

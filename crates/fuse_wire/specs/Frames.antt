@@ -10,6 +10,18 @@ use Rattle.portal_base.specs.declared.split.Split.TheVariants.{More, Whole, Bad}
 abbrev pub number_at : ℕ → ℕ → List ℕ → ℕ
 number_at at width frame = little_number width (drop at frame)
 
+-- the length of struct fuse_in_header, in bytes
+abbrev pub header_len : ℕ
+header_len = 40
+
+-- the longest frame that is taken, in bytes
+abbrev pub longest : ℕ
+longest = 135168
+
+-- the rule that a frame breaks which states another length
+abbrev pub length_rule : ℕ
+length_rule = 14
+
 -- struct fuse_in_header: its fields at their offsets; two numbers of 16 bits follow, which are not looked at
 abbrev pub header_of : List ℕ → InHeader
 header_of frame = record {
@@ -22,15 +34,15 @@ header_of frame = record {
   pid = number_at 32 4 frame;
 }
 
--- a length that no frame has: below that of a header, or above 135,168
+-- a length that no frame has: below that of a header, or above the longest
 abbrev pub is_bad_len : ℕ → Bool
-is_bad_len len = nat_lt len 40 || nat_lt 135168 len
+is_bad_len len = nat_lt len header_len || nat_lt longest len
 
 -- what stands at the front of a stream: too few bytes for a header or for the length that it states,
 -- a frame of that length, or a length that no frame has
 abbrev pub split_of : List ℕ → Split
 split_of bytes =
-    if nat_lt (length bytes) 40 then More
-    else if is_bad_len (header_of bytes).len then Bad 14
+    if nat_lt (length bytes) header_len then More
+    else if is_bad_len (header_of bytes).len then Bad length_rule
     else if nat_lt (length bytes) (header_of bytes).len then More
     else Whole (header_of bytes).len

@@ -4,7 +4,7 @@
 ghost use Rattle.std.specs.Prelude.{◌≡◌, ◌*◌, ◌≤◌, ◌==◌, length, not, IfOk};
 ghost use Rattle.std.specs.List.{list_all};
 ghost use Rattle.fuse_wire.specs.Asks.{sized, lookup_op, create_op, write_op, batch_forget_op};
-ghost use Rattle.fuse_wire.specs.Bodies.{access_in, access_in_len, flush_in, flush_in_len, forget_in, forget_in_len, forget_one, forget_ones, fsync_in, fsync_in_len, getattr_in, getattr_in_len};
+ghost use Rattle.fuse_wire.specs.Bodies.{access_in, access_in_len, flush_in, flush_in_len, forget_in, forget_in_len, forget_one, forget_one_len, forget_ones, fsync_in, fsync_in_len, getattr_in, getattr_in_len};
 ghost use Rattle.fuse_wire.specs.Bodies.{is_name, name_of, open_in, open_in_len, read_in, read_in_len, release_in, release_in_len, setattr_in, setattr_in_len};
 ghost use Rattle.portal_model.specs.declared.request.NodeOp.TheVariants as op;
 
@@ -80,7 +80,7 @@ pub fn batch_forget(alloc: Global, body: &[u8]) -> Result<Option<NodeOp>, WantOf
 
 /// So many of `fuse_forget_one`, one after another.
 fn forget_ones(alloc: Global, count: usize, bytes: &[u8]) -> Result<List<ForgetItem>, WantOfMemory>
-    requires { 16 * count ≤ length bytes.now }
+    requires { forget_one_len * count ≤ length bytes.now }
     ensures { IfOk result (λ nodes. nodes ≡ forget_ones count bytes.now) }
 {
     let mut nodes = List::new(alloc);
@@ -93,7 +93,7 @@ fn forget_ones(alloc: Global, count: usize, bytes: &[u8]) -> Result<List<ForgetI
 }
 
 fn forget_one(bytes: &[u8]) -> ForgetItem
-    requires { 16 ≤ length bytes.now }
+    requires { forget_one_len ≤ length bytes.now }
     ensures { result ≡ forget_one bytes.now }
 {
     ForgetItem {

@@ -1,16 +1,16 @@
 //! Where a frame ends, and the number that its reply carries.
 
 ghost use Rattle.std.specs.Prelude.{◌≡◌, ◌+◌, ◌≤◌, drop, length};
-ghost use Rattle.fuse_wire.specs.Frames.{split_of, header_of, number_at};
+ghost use Rattle.fuse_wire.specs.Frames.{header_len, split_of, header_of, number_at};
 
 use byteorder::{ByteOrder, LittleEndian};
 use portal_base::split::Split;
 
-/// The length of `fuse_in_header`.
+/// The length of `fuse_in_header`, in bytes.
 pub const HEADER_LEN: usize = 40;
 
-/// The longest frame that is taken: a header, the body of a write and the
-/// 128 KiB that it may carry, rounded up to a page.
+/// The longest frame that is taken, in bytes: a header, the body of a write and
+/// the 128 KiB that it may carry, rounded up to a page.
 pub const LONGEST: u32 = 135_168;
 
 /// The rule that a frame breaks whose stated length is below that of a header
@@ -25,7 +25,7 @@ pub fn split(bytes: &[u8]) -> Split
         return Split::More;
     }
     let len = u32_at(bytes, 0);
-    if len < 40 || len > LONGEST {
+    if (len as usize) < HEADER_LEN || len > LONGEST {
         return Split::Bad { rule: LENGTH_RULE };
     }
     let len = len as usize;
@@ -58,7 +58,7 @@ pub struct InHeader {
 
 /// Reads the header of a frame.
 pub fn header_of(frame: &[u8]) -> InHeader
-    requires { 40 ≤ length frame.now }
+    requires { header_len ≤ length frame.now }
     ensures { result ≡ header_of frame.now }
 {
     InHeader {
@@ -74,7 +74,7 @@ pub fn header_of(frame: &[u8]) -> InHeader
 
 /// The number that a frame's reply has to carry.
 pub fn unique_of(frame: &[u8]) -> u64
-    requires { 40 ≤ length frame.now }
+    requires { header_len ≤ length frame.now }
     ensures { result ≡ (header_of frame.now).unique }
 {
     u64_at(frame, 8)

@@ -1,6 +1,7 @@
--- What items are answered. A call that dispatch answers itself is answered so, whatever the portal was
--- asked; what a host wasn't told yet is nothing until the permission store is built.
-use Rattle.std.specs.Prelude.{◌≡◌, ℕ, ◌+◌, ◌==◌, List, [], ◌∷◌, ◌++◌, if◌then◌else◌, option_to_list, Result, Ok, Err}
+-- What items are answered. A call that dispatch answers itself is answered so, whatever the portal
+-- was asked; what a host wasn't told yet is nothing until the permission store is built.
+use Rattle.std.specs.Prelude.{◌≡◌, ℕ, ◌+◌, ◌==◌, List, [], ◌∷◌, ◌++◌, if◌then◌else◌, option_to_list}
+use Rattle.std.specs.Prelude.{Result, Ok, Err}
 use Rattle.std.specs.List.{flat_map}
 use Rattle.portal_model.specs.declared.reply.Refused.{Refused}
 use Rattle.portal_model.specs.declared.reply.Reply.{Reply}
@@ -44,13 +45,18 @@ told_as (Denied request why) = Err why
 -- each outcome is one of its request, in order
 abbrev pub AreOf : List Request → List Outcome → Type 0
 AreOf [] outcomes = outcomes ≡ []
-AreOf (r ∷ rs) outcomes = (o : Outcome) × (os : List Outcome) × (outcomes ≡ o ∷ os) × IsOf r o × AreOf rs os
+AreOf (r ∷ rs) outcomes =
+    (o : Outcome) × (os : List Outcome) × (outcomes ≡ o ∷ os) × IsOf r o × AreOf rs os
 
 -- ---- messages
 
+-- the last serial
+abbrev pub last_serial : ℕ
+last_serial = 4294967295
+
 -- A serial isn't 0 (D-Bus Specification, "Message Format"): after the last comes 1.
 abbrev pub serial_after : ℕ → ℕ
-serial_after serial = if serial == 4294967295 then 1 else serial + 1
+serial_after serial = if serial == last_serial then 1 else serial + 1
 
 -- the messages behind a serial, each with the next serial as one piece
 abbrev pub spoken : ℕ → List OutMessage → List (List ℕ)
@@ -86,7 +92,8 @@ serial_past (Node unique request) serial = serial
 serial_past (Local unique told) serial = serial
 
 -- What an item asks is asked and answered, with these outcomes: the pieces, and the last serial.
-pub record Gives (act : Act) (serial : ℕ) (outcomes : List Outcome) (pieces : List (List ℕ)) (last : ℕ) : Type 0 where
+pub record Gives (act : Act) (serial : ℕ) (outcomes : List Outcome) (pieces : List (List ℕ))
+    (last : ℕ) : Type 0 where
   pub asked : AreOf (asked_by act) outcomes
   pub said : pieces ≡ pieces_of act serial outcomes
   pub serial_is : last ≡ serial_past act serial
@@ -95,6 +102,7 @@ pub record Gives (act : Act) (serial : ℕ) (outcomes : List Outcome) (pieces : 
 abbrev pub Answers : ℕ → List Act → List Outcome → List (List ℕ) → ℕ → Type 0
 Answers serial [] outcomes pieces last = (outcomes ≡ []) × (pieces ≡ []) × (last ≡ serial)
 Answers serial (act ∷ acts) outcomes pieces last =
-    (os : List Outcome) × (us : List Outcome) × (ps : List (List ℕ)) × (qs : List (List ℕ)) × (mid : ℕ)
+    (os : List Outcome) × (us : List Outcome) × (ps : List (List ℕ)) × (qs : List (List ℕ))
+    × (mid : ℕ)
     × (outcomes ≡ os ++ us) × (pieces ≡ ps ++ qs)
     × Gives act serial os ps mid × Answers mid acts us qs last

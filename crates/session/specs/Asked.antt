@@ -1,6 +1,8 @@
--- What an item asks: a line by the table of the handshake, a message as it is dispatched, a frame by its
--- opcode.
-use Rattle.std.specs.Prelude.{◌≡◌, ◌≢◌, ℕ, ◌<◌, ◌^◌, List, [], ◌∷◌, ◌++◌, Bool, true, false, not, ◌&&◌, if◌then◌else◌, Option, Some, None, is_some, IfSome, Result, Ok, Err}
+-- What an item asks: a line by the table of the handshake, a message as it is dispatched, a frame
+-- by its opcode.
+use Rattle.std.specs.Prelude.{◌≡◌, ◌≢◌, ℕ, ◌<◌, ◌^◌, List, [], ◌∷◌, ◌++◌, Bool, true, false, not}
+use Rattle.std.specs.Prelude.{◌&&◌, if◌then◌else◌, Option, Some, None, is_some, IfSome, Result, Ok}
+use Rattle.std.specs.Prelude.{Err}
 use Rattle.std.specs.List.{flat_map}
 use Rattle.portal_base.specs.declared.who.Who.{Who}
 use Rattle.portal_model.specs.declared.request.NodeOp.{NodeOp}
@@ -34,11 +36,15 @@ use Rattle.session.specs.Cuts.{line_of}
 
 -- ---- what is asked, by the sort of item
 
--- a line is replied to; BEGIN isn't, and before OK was said it breaks rule 13
+-- the rule that BEGIN breaks before OK was said
+abbrev pub begin_rule : ℕ
+begin_rule = 13
+
+-- a line is replied to; BEGIN isn't
 abbrev pub line_act : AuthAnswer → Result Act ItemError
 line_act (Say reply) = Ok (Line reply)
 line_act Begin = Ok Nothing
-line_act Early = Err (Breaks 13)
+line_act Early = Err (Breaks begin_rule)
 
 abbrev pub is_host : Who → Bool
 is_host Who.Host = true
@@ -48,8 +54,8 @@ is_host (Who.App name) = false
 abbrev pub reply_to : Message → OutMessage → Option OutMessage
 reply_to call answer = if expects_reply call then Some answer else None
 
--- A call that dispatch answers itself asks nothing of the portal; a host's asks for what it was not told yet,
--- also where no reply is expected. What is no call is passed over.
+-- A call that dispatch answers itself asks nothing of the portal; a host's asks for what it was not
+-- told yet, also where no reply is expected. What is no call is passed over.
 abbrev pub act_of_ask : Client → Message → Ask → Result Act ItemError
 act_of_ask c message (ask.Local answer) = Ok (Call (reply_to message answer) (is_host c.who))
 act_of_ask c message ask.Ignore = Ok Nothing
@@ -58,7 +64,8 @@ act_of_ask c message ask.Unbuilt = Err Unbuilt
 abbrev pub act_of_message : Client → Message → Result Act ItemError
 act_of_message c message = act_of_ask c message (ask_of c.settings message)
 
--- of requests on nodes the one that is asked is FUSE_GETATTR of a file in the caller's own view, by its node
+-- of requests on nodes the one that is asked is FUSE_GETATTR of a file in the caller's own view, by
+-- its node
 abbrev pub is_built_op : ℕ → NodeOp → Bool
 is_built_op node (NodeOp.GetAttr flags fh) = not (names_handle flags) && is_some (place_named node)
 is_built_op node op = false
@@ -88,9 +95,11 @@ OrMemory found expected = found ≡ expected
 
 -- What is read of a message: what it asks, or the first rule that it breaks.
 abbrev pub MessageMeans : Client → List ℕ → Result Act ItemError → Type 0
-MessageMeans c item (Ok act) = (message : Message) × IsMessage item message × (Ok act ≡ act_of_message c message)
+MessageMeans c item (Ok act) =
+    (message : Message) × IsMessage item message × (Ok act ≡ act_of_message c message)
 MessageMeans c item (Err (Breaks rule)) = IsFirstBroken item rule
-MessageMeans c item (Err Unbuilt) = (message : Message) × IsMessage item message × (Err Unbuilt ≡ act_of_message c message)
+MessageMeans c item (Err Unbuilt) =
+    (message : Message) × IsMessage item message × (Err Unbuilt ≡ act_of_message c message)
 MessageMeans c item (Err Memory) = Unit {0}
 
 -- What is read of a whole item, where this is due.

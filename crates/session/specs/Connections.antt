@@ -7,6 +7,7 @@ use Rattle.portal_model.specs.declared.request.Request.{Request}
 use Rattle.portal_model.specs.Seated.{Exchange, HasCause}
 use Rattle.session.specs.declared.act.Act.{Act}
 use Rattle.session.specs.declared.act.Client.{Client}
+use Rattle.session.specs.declared.phase.Phase.{Phase}
 use Rattle.session.specs.declared.served.Rest.{Rest}
 use Rattle.session.specs.declared.served.Rest.TheVariants as rest
 use Rattle.session.specs.declared.served.Served.{Served}
@@ -16,7 +17,8 @@ use Rattle.session.specs.Items.{IsItem, AreItems, Items, joined, phase_after}
 use Rattle.session.specs.Answers.{Outcome, Made, Denied, Gives, Answers}
 use Rattle.session.specs.Ledger.{World, Grows}
 use Rattle.session.specs.Pumps.{CameLast, Spring, IsDry, longest_piece}
-use Rattle.session.specs.Sessions.{enter, longest}
+use Rattle.session.specs.Sessions.{enter}
+use Rattle.session.specs.Standings.{longest}
 
 -- the outcomes of Enter, of these requests, and of Leave
 abbrev pub between : Exchange → List Outcome → Exchange → List Outcome
@@ -26,8 +28,8 @@ between entered outcomes left = Made entered ∷ (outcomes ++ Made left ∷ [])
 abbrev pub Encloses : Client → Exchange → Exchange → Type 0
 Encloses c entered left = (entered.entry.request ≡ enter c) × (left.entry.request ≡ Request.Leave)
 
--- Between Enter and Leave all whole items of what was read, no more bytes than a connection may have, are
--- asked and answered, and behind them stands the rest, which is this. No write failed.
+-- Between Enter and Leave all whole items of what was read, no more bytes than a connection may
+-- have, are asked and answered, and behind them stands the rest, which is this. No write failed.
 pub record Whole (c : Client) (read left : List ℕ) (what : Rest) (v w : World) : Type 0 where
   pub room : length read ≤ longest
   pub entered : Exchange
@@ -43,7 +45,8 @@ pub record Whole (c : Client) (read left : List ℕ) (what : Rest) (v w : World)
   pub grows : Grows v (between entered outcomes leaving) pieces w
   pub sound : w.faults ≡ v.faults
 
--- Between Enter and Leave some items of what was read are asked and answered, and nothing more is done. No write failed.
+-- Between Enter and Leave some items of what was read are asked and answered, and nothing more is
+-- done. No write failed.
 pub record Front (c : Client) (read : List ℕ) (v w : World) : Type 0 where
   pub room : length read ≤ longest
   pub entered : Exchange
@@ -61,36 +64,45 @@ pub record Front (c : Client) (read : List ℕ) (v w : World) : Type 0 where
   pub grows : Grows v (between entered outcomes leaving) pieces w
   pub sound : w.faults ≡ v.faults
 
--- Between Enter and Leave some items of what was read are asked and answered, and then one more is asked,
--- and answered in part.
-pub record Half (c : Client) (read : List ℕ) (v w : World) : Type 0 where
-  pub room : length read ≤ longest
-  pub entered : Exchange
-  pub leaving : Exchange
+-- the first items of a connection, which are asked and answered
+pub record Answered (c : Client) : Type 0 where
   pub items : List (List ℕ)
   pub acts : List Act
   pub outcomes : List Outcome
   pub pieces : List (List ℕ)
-  pub mid : ℕ
+  pub last : ℕ
+  pub each : AreItems c (first_phase c.kind) items acts
+  pub answers : Answers 0 acts outcomes pieces last
+
+-- an item that is asked where this is due and this was the last serial, and answered in part
+pub record InPart (c : Client) (p : Phase) (serial : ℕ) : Type 0 where
   pub item : List ℕ
   pub act : Act
-  pub after : List ℕ
-  pub last_outcomes : List Outcome
-  pub last_pieces : List (List ℕ)
-  pub last : ℕ
+  pub outcomes : List Outcome
+  pub pieces : List (List ℕ)
   pub written : List (List ℕ)
-  pub bytes : read ≡ joined items ++ (item ++ after)
-  pub each : AreItems c (first_phase c.kind) items acts
-  pub answers : Answers 0 acts outcomes pieces mid
-  pub is_item : IsItem c (phase_after c (first_phase c.kind) items) item act
-  pub gives : Gives act mid last_outcomes last_pieces last
-  pub short : Short written last_pieces
+  pub last : ℕ
+  pub is_item : IsItem c p item act
+  pub gives : Gives act serial outcomes pieces last
+  pub short : Short written pieces
+
+-- Between Enter and Leave some items of what was read are asked and answered, and then one more is
+-- asked, and answered in part.
+pub record Half (c : Client) (read : List ℕ) (v w : World) : Type 0 where
+  pub room : length read ≤ longest
+  pub entered : Exchange
+  pub leaving : Exchange
+  pub first : Answered c
+  pub then : InPart c (phase_after c (first_phase c.kind) first.items) first.last
+  pub after : List ℕ
+  pub bytes : read ≡ joined first.items ++ (then.item ++ after)
   pub encloses : Encloses c entered leaving
-  pub grows : Grows v (between entered (outcomes ++ last_outcomes) leaving) (pieces ++ written) w
+  pub grows : Grows v (between entered (first.outcomes ++ then.outcomes) leaving)
+      (first.pieces ++ then.written) w
 
 -- The same, and nothing of the last answer is written, and no write failed.
 abbrev pub HalfUnsaid : Client → List ℕ → World → World → Type 0
-HalfUnsaid c read v w = (h : Half c read v w) × (h.written ≡ []) × (w.faults ≡ v.faults)
+HalfUnsaid c read v w = (h : Half c read v w) × (h.then.written ≡ []) × (w.faults ≡ v.faults)
 
 -- Nothing was read or written, and no read or write failed.
 abbrev pub IsUntouched : List ℕ → Spring → Spring → World → World → Type 0
@@ -98,31 +110,42 @@ IsUntouched read a b v w = (read ≡ []) × (b ≡ a) × (w.told ≡ v.told) × 
 
 -- Enter was refused so, and nothing else was done.
 abbrev pub IsRefused : Client → Refused → List ℕ → Spring → Spring → World → World → Type 0
-IsRefused c why read a b v w = IsUntouched read a b v w × Grows v (Denied (enter c) why ∷ []) [] w × HasCause w.seated (enter c) why
+IsRefused c why read a b v w = IsUntouched read a b v w × Grows v (Denied (enter c) why ∷ []) [] w
+    × HasCause w.seated (enter c) why
 
--- What each ending means: of what was read, of the source before and after, and of the desk and the sink
--- before and after. Where the session is over, it wasn't so ahead of the last piece.
+-- What each ending means: of what was read, of the source before and after, and of the desk and the
+-- sink before and after. Where the session is over, it wasn't so ahead of the last piece.
 abbrev pub EndsAs : Client → Served → List ℕ → Spring → Spring → World → World → Type 0
 -- the input ended between items
 EndsAs c served.Ended read a b v w = IsDry b × Whole c read [] rest.More v w
 -- the input ended inside one, of which so many bytes came
-EndsAs c (served.Cut n) read a b v w = IsDry b × (1 ≤ n) × ((left : List ℕ) × (length left ≡ n) × Whole c read left rest.More v w)
+EndsAs c (served.Cut n) read a b v w =
+    IsDry b × (1 ≤ n) × ((left : List ℕ) × (length left ≡ n) × Whole c read left rest.More v w)
 -- the item at this byte breaks this rule first
-EndsAs c (served.Malformed at rule) read a b v w = (left : List ℕ) × (at + length left ≡ length read) × Whole c read left (rest.Bad rule) v w × CameLast c read
+EndsAs c (served.Malformed at rule) read a b v w = (left : List ℕ)
+    × (at + length left ≡ length read) × Whole c read left (rest.Bad rule) v w × CameLast c read
 -- the line at this byte is too long
-EndsAs c (served.LineTooLong at) read a b v w = (left : List ℕ) × (at + length left ≡ length read) × Whole c read left rest.TooLong v w × CameLast c read
+EndsAs c (served.LineTooLong at) read a b v w = (left : List ℕ) × (at + length left ≡ length read)
+    × Whole c read left rest.TooLong v w × CameLast c read
 -- the item at this byte asks for a part that isn't built
-EndsAs c (served.Unbuilt at) read a b v w = (left : List ℕ) × (at + length left ≡ length read) × Whole c read left rest.Unbuilt v w × CameLast c read
+EndsAs c (served.Unbuilt at) read a b v w = (left : List ℕ) × (at + length left ≡ length read)
+    × Whole c read left rest.Unbuilt v w × CameLast c read
 -- a read failed, and all that was whole by then is answered
-EndsAs c served.ReadFault read a b v w = HasRisen a.faults b.faults × ((left : List ℕ) × Whole c read left rest.More v w)
+EndsAs c served.ReadFault read a b v w =
+    HasRisen a.faults b.faults × ((left : List ℕ) × Whole c read left rest.More v w)
 -- a write failed
-EndsAs c served.WriteFault read a b v w = HasRisen v.faults w.faults × Half c read v w × CameLast c read
+EndsAs c served.WriteFault read a b v w =
+    HasRisen v.faults w.faults × Half c read v w × CameLast c read
 -- a piece came with which there are too many bytes, and nothing of it is looked at
-EndsAs c served.Spent read a b v w = (longest < length read) × ((before : List ℕ) × (piece : List ℕ) × (left : List ℕ) × (read ≡ before ++ piece) × (length piece ≤ longest_piece) × Whole c before left rest.More v w)
+EndsAs c served.Spent read a b v w = (longest < length read)
+    × ((before : List ℕ) × (piece : List ℕ) × (left : List ℕ) × (read ≡ before ++ piece)
+    × (length piece ≤ longest_piece) × Whole c before left rest.More v w)
 -- the history has no room for Enter
 EndsAs c (served.Full cost limit) read a b v w = IsRefused c (refused.Full cost limit) read a b v w
 -- there was no memory: to ask Enter, for Enter, ahead of an item, or for its answer
-EndsAs c served.Memory read a b v w = ((IsUntouched read a b v w × (w.seated ≡ v.seated)) ⊎ IsRefused c refused.Memory read a b v w) ⊎ ((Front c read v w ⊎ HalfUnsaid c read v w) × CameLast c read)
+EndsAs c served.Memory read a b v w =
+    ((IsUntouched read a b v w × (w.seated ≡ v.seated)) ⊎ IsRefused c refused.Memory read a b v w)
+    ⊎ ((Front c read v w ⊎ HalfUnsaid c read v w) × CameLast c read)
 
 -- A read that failed is told: at any other ending none did.
 abbrev pub CountsReads : Served → Spring → Spring → Type 0
@@ -139,7 +162,8 @@ CountsReads (served.Unbuilt at) a b = b.faults ≡ a.faults
 
 -- What was read stood ahead of what is left, and the ending means what it says of it.
 abbrev pub Serves : Client → Served → Spring → Spring → World → World → Type 0
-Serves c r a b v w = (read : List ℕ) × (a.left ≡ behind read b.left) × CountsReads r a b × EndsAs c r read a b v w
+Serves c r a b v w =
+    (read : List ℕ) × (a.left ≡ behind read b.left) × CountsReads r a b × EndsAs c r read a b v w
 
 abbrev pub served_by : Refused → Served
 served_by refused.Memory = served.Memory

@@ -1,7 +1,8 @@
--- How a stream is cut. A bus connection begins with a zero byte, lines that end with CR LF follow up to
--- BEGIN (D-Bus Specification, "Authentication Protocol", "Special credentials-passing nul byte"), and
--- then messages ("Message Format"). A mount has frames (include/uapi/linux/fuse.h).
-use Rattle.std.specs.Prelude.{◌≡◌, ℕ, suc, ◌-◌, ◌==◌, nat_eq, nat_lt, List, [], ◌∷◌, length, take, Bool, true, false, if◌then◌else◌, Option, Some, None}
+-- How a stream is cut. A bus connection begins with a zero byte, lines that end with CR LF follow
+-- up to BEGIN (D-Bus Specification, "Authentication Protocol", "Special credentials-passing nul
+-- byte"), and then messages ("Message Format"). A mount has frames (include/uapi/linux/fuse.h).
+use Rattle.std.specs.Prelude.{◌≡◌, ℕ, suc, ◌-◌, ◌==◌, nat_eq, nat_lt, List, [], ◌∷◌, length, take}
+use Rattle.std.specs.Prelude.{Bool, true, false, if◌then◌else◌, Option, Some, None, Result, Ok, Err}
 use Rattle.std.specs.List.{starts_with}
 use Rattle.std.specs.Option.{option_map}
 use Rattle.portal_base.specs.declared.split.Split.{Split}
@@ -9,41 +10,58 @@ use Rattle.portal_base.specs.declared.split.Split.TheVariants as split
 use Rattle.portal_base.specs.declared.who.Kind.{Kind}
 use Rattle.dbus_auth.specs.declared.handshake.AuthAnswer.{AuthAnswer}
 use Rattle.dbus_auth.specs.declared.handshake.AuthAnswer.TheVariants.{Say, Begin, Early}
+use Rattle.dbus_auth.specs.Command.{longest_line}
 use Rattle.dbus_auth.specs.Handshake.{Handshake, begun, step}
 use Rattle.dbus_auth.specs.Reply.{cr_lf}
 use Rattle.dbus_message.specs.Messages.{IsSplit}
 use Rattle.fuse_wire.specs.Frames.{split_of}
 use Rattle.session.specs.declared.act.Client.{Client}
-use Rattle.session.specs.declared.phase.Cut.{Cut}
-use Rattle.session.specs.declared.phase.Cut.TheVariants as cut
 use Rattle.session.specs.declared.phase.Phase.{Phase}
 use Rattle.session.specs.declared.phase.Phase.TheVariants as due
+use Rattle.session.specs.declared.served.Rest.{Rest}
+use Rattle.session.specs.declared.served.Rest.TheVariants as rest
 
 -- ---- what stands at the front
 
--- the zero byte; any other byte breaks rule 12
+-- the length of the whole item there, in bytes, or what stands there in its place
+abbrev pub Cut : Type 0
+Cut = Result ℕ Rest
+
+abbrev pub whole_item : ℕ → Cut
+whole_item len = Ok len
+
+abbrev pub no_item : Rest → Cut
+no_item what = Err what
+
+-- the rule that a first byte other than zero breaks
+abbrev pub zero_byte_rule : ℕ
+zero_byte_rule = 12
+
+-- the zero byte
 abbrev pub zero_byte_cut : List ℕ → Cut
-zero_byte_cut [] = cut.More
-zero_byte_cut (b ∷ bs) = if b == 0 then cut.Whole 1 else cut.Bad 12
+zero_byte_cut [] = no_item rest.More
+zero_byte_cut (b ∷ bs) = if b == 0 then whole_item 1 else no_item (rest.Bad zero_byte_rule)
 
 -- the length of the first line, with its CR LF
 abbrev pub line_len : List ℕ → Option ℕ
 line_len [] = None
-line_len (b ∷ bs) = if starts_with nat_eq (b ∷ bs) cr_lf then Some 2 else option_map suc (line_len bs)
+line_len (b ∷ bs) =
+    if starts_with nat_eq (b ∷ bs) cr_lf then Some 2 else option_map suc (line_len bs)
 
 abbrev pub line_cut_of : Option ℕ → Bool → Cut
-line_cut_of (Some len) may_grow = cut.Whole len
-line_cut_of None true = cut.More
-line_cut_of None false = cut.TooLong
+line_cut_of (Some len) may_grow = whole_item len
+line_cut_of None true = no_item rest.More
+line_cut_of None false = no_item rest.TooLong
 
--- a line of at most 1,024 bytes; as many without a CR LF are a line that is too long
+-- a line of at most the longest length; as many bytes without a CR LF are a line that is too long
 abbrev pub line_cut : List ℕ → Cut
-line_cut bytes = line_cut_of (line_len (take 1024 bytes)) (nat_lt (length bytes) 1024)
+line_cut bytes =
+    line_cut_of (line_len (take longest_line bytes)) (nat_lt (length bytes) longest_line)
 
 abbrev pub cut_of : Split → Cut
-cut_of split.More = cut.More
-cut_of (split.Whole len) = cut.Whole len
-cut_of (split.Bad rule) = cut.Bad rule
+cut_of split.More = no_item rest.More
+cut_of (split.Whole len) = whole_item len
+cut_of (split.Bad rule) = no_item (rest.Bad rule)
 
 -- what stands at the front of a stream, where this is due
 abbrev pub Cuts : Phase → List ℕ → Cut → Type 0

@@ -19,4 +19,6 @@ Meets (Request.Node r) met = (told : NodeAnswer) × (told_of met ≡ Some told)
 
 -- So it is with each new entry of the seat: none meets a seat without an open connection.
 abbrev pub IsHeard : Seated → Seated → Type 0
-IsHeard v w = (front after : List Entry) (e : Entry) → w.seen ≡ front ++ e ∷ after → length v.seen ≤ length front → e.seat ≡ w.seat → Meets e.request (reply_at (run w.opening front) e).answer
+IsHeard v w = (front after : List Entry) (e : Entry) → w.seen ≡ front ++ e ∷ after
+    → length v.seen ≤ length front → e.seat ≡ w.seat
+    → Meets e.request (reply_at (run w.opening front) e).answer

@@ -10,8 +10,10 @@ use Rattle.app_world.specs.World.{app_run, trace}
 -- What is replied to an entry of a history from which an application's seat entered is what the
 -- application's own machine replies over its trace, at the entry's place among all that it makes.
 abbrev pub IsServed : List ℕ → Seated → Seated → Type 0
-IsServed app v w = (front after : List Entry) (e : Entry) → w.seen ≡ front ++ e ∷ after → length v.seen ≤ length front → e.seat ≡ w.seat
-    → slice_get (app_run (trace app w.opening w.seen)) (length (replies app w.opening front)) ≡ Some (reply_at (run w.opening front) e)
+IsServed app v w = (front after : List Entry) (e : Entry) → w.seen ≡ front ++ e ∷ after
+    → length v.seen ≤ length front → e.seat ≡ w.seat
+    → slice_get (app_run (trace app w.opening w.seen)) (length (replies app w.opening front))
+    ≡ Some (reply_at (run w.opening front) e)
 
 -- of the client of a connection, where it is an application and the tree tells its files
 abbrev pub IsIsolated : Who → Seated → Seated → Type 0

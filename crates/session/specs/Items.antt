@@ -4,21 +4,21 @@ use Rattle.session.specs.declared.act.Act.{Act}
 use Rattle.session.specs.declared.act.Client.{Client}
 use Rattle.session.specs.declared.act.ItemError.{ItemError}
 use Rattle.session.specs.declared.act.ItemError.TheVariants.{Breaks, Unbuilt}
-use Rattle.session.specs.declared.phase.Cut.TheVariants as cut
 use Rattle.session.specs.declared.phase.Phase.{Phase}
 use Rattle.session.specs.declared.served.Rest.{Rest}
 use Rattle.session.specs.declared.served.Rest.TheVariants as rest
-use Rattle.session.specs.Cuts.{Cuts, next_phase}
+use Rattle.session.specs.Cuts.{Cuts, next_phase, no_item, whole_item}
 use Rattle.session.specs.Asked.{Means}
 
 -- a whole item, which asks this
 abbrev pub IsItem : Client → Phase → List ℕ → Act → Type 0
-IsItem c p item act = Cuts p item (cut.Whole (length item)) × Means c p item (Ok act)
+IsItem c p item act = Cuts p item (whole_item (length item)) × Means c p item (Ok act)
 
 -- each is an item where it stands, and asks this
 abbrev pub AreItems : Client → Phase → List (List ℕ) → List Act → Type 0
 AreItems c p [] acts = acts ≡ []
-AreItems c p (i ∷ is) acts = (act : Act) × (later : List Act) × (acts ≡ act ∷ later) × IsItem c p i act × AreItems c (next_phase c p i) is later
+AreItems c p (i ∷ is) acts = (act : Act) × (later : List Act) × (acts ≡ act ∷ later)
+    × IsItem c p i act × AreItems c (next_phase c p i) is later
 
 -- what is due behind items
 abbrev pub phase_after : Client → Phase → List (List ℕ) → Phase
@@ -31,18 +31,21 @@ joined (i ∷ is) = i ++ joined is
 
 -- a whole item stands at the front, and asks nothing for this reason
 abbrev pub AsksNothing : Client → Phase → List ℕ → ItemError → Type 0
-AsksNothing c p bytes error = (len : ℕ) × Cuts p bytes (cut.Whole len) × Means c p (take len bytes) (Err error)
+AsksNothing c p bytes error =
+    (len : ℕ) × Cuts p bytes (whole_item len) × Means c p (take len bytes) (Err error)
 
--- No item stands at the front: too few bytes for one, a rule that is broken, a line that is too long, or a
--- request that isn't built.
+-- No item stands at the front: too few bytes for one, a rule that is broken, a line that is too
+-- long, or a request that isn't built.
 abbrev pub Remains : Client → Phase → List ℕ → Rest → Type 0
-Remains c p bytes rest.More = Cuts p bytes cut.More
-Remains c p bytes (rest.Bad rule) = Cuts p bytes (cut.Bad rule) ⊎ AsksNothing c p bytes (Breaks rule)
-Remains c p bytes rest.TooLong = Cuts p bytes cut.TooLong
+Remains c p bytes rest.More = Cuts p bytes (no_item rest.More)
+Remains c p bytes (rest.Bad rule) =
+    Cuts p bytes (no_item (rest.Bad rule)) ⊎ AsksNothing c p bytes (Breaks rule)
+Remains c p bytes rest.TooLong = Cuts p bytes (no_item rest.TooLong)
 Remains c p bytes rest.Unbuilt = AsksNothing c p bytes Unbuilt
 
 -- The whole items from the front of a stream with what they ask, and the rest, which is this.
-pub record Items (c : Client) (p : Phase) (stream : List ℕ) (items : List (List ℕ)) (acts : List Act) (left : List ℕ) (what : Rest) : Type 0 where
+pub record Items (c : Client) (p : Phase) (stream : List ℕ) (items : List (List ℕ))
+    (acts : List Act) (left : List ℕ) (what : Rest) : Type 0 where
   pub bytes : stream ≡ joined items ++ left
   pub each : AreItems c p items acts
   pub remains : Remains c (phase_after c p items) left what

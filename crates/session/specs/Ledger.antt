@@ -1,5 +1,6 @@
 -- What is done of a stream at a desk and a sink.
-use Rattle.std.specs.Prelude.{◌≡◌, ◌⊎◌, ℕ, ◌+◌, ◌<◌, ◌≤◌, List, [], ◌∷◌, ◌++◌, length, take, drop, Option, Some, None, Result, Ok, Err}
+use Rattle.std.specs.Prelude.{◌≡◌, ◌⊎◌, ℕ, ◌+◌, ◌<◌, ◌≤◌, List, [], ◌∷◌, ◌++◌, length, take, drop}
+use Rattle.std.specs.Prelude.{Option, Some, None, Result, Ok, Err}
 use Rattle.portal_base.specs.Outside.{onto, HasRisen, Short}
 use Rattle.portal_model.specs.declared.reply.Refused.{Refused}
 use Rattle.portal_model.specs.declared.reply.Refused.TheVariants as refused
@@ -12,8 +13,8 @@ use Rattle.session.specs.declared.act.ItemError.TheVariants.{Breaks, Unbuilt}
 use Rattle.session.specs.declared.phase.Phase.{Phase}
 use Rattle.session.specs.declared.serve.Run.{Run}
 use Rattle.session.specs.declared.serve.Stage.{Stage}
-use Rattle.session.specs.declared.served.Halt.{Halt}
-use Rattle.session.specs.declared.served.Halt.TheVariants.{WriteFault, Memory}
+use Rattle.session.specs.declared.served.Fed.{Fed}
+use Rattle.session.specs.declared.served.Fed.TheVariants.{More, Over, WriteFault, Memory}
 use Rattle.session.specs.declared.served.Rest.{Rest}
 use Rattle.session.specs.declared.served.Rest.TheVariants as rest
 use Rattle.session.specs.Cuts.{next_phase}
@@ -23,18 +24,20 @@ use Rattle.session.specs.Answers.{Outcome, Made, Denied, kept, denied, AreOf, Gi
 
 -- ---- the desk and the sink
 
--- where a refusal names the limit, it is the desk's, and what was seen in the end and the request pass it
+-- where a refusal names the limit, it is the desk's, and what was seen in the end and the request
+-- pass it
 abbrev pub IsPassed : Seated → Request → Refused → Type 0
 IsPassed w request refused.Memory = Unit {0}
-IsPassed w request (refused.Full now limit) = (limit ≡ w.opening.limits.history) × (limit < cost w.seen + cost_of request)
+IsPassed w request (refused.Full now limit) =
+    (limit ≡ w.opening.limits.history) × (limit < cost w.seen + cost_of request)
 
 abbrev pub AreCaused : Seated → List Outcome → Type 0
 AreCaused w [] = Unit {0}
 AreCaused w (Made x ∷ os) = AreCaused w os
 AreCaused w (Denied request why ∷ os) = IsPassed w request why × AreCaused w os
 
--- From one state of a desk to another there came these outcomes, and no others: the seat's own entries
--- grew by those that were made, and the count of refusals rose by the others.
+-- From one state of a desk to another there came these outcomes, and no others: the seat's own
+-- entries grew by those that were made, and the count of refusals rose by the others.
 pub record Grew (v : Seated) (outcomes : List Outcome) (w : Seated) : Type 0 where
   pub moved : Moved v w
   pub mine : w.mine ≡ v.mine ++ kept outcomes
@@ -51,21 +54,28 @@ abbrev pub world : Seated → Option (List (List ℕ)) → ℕ → World
 world seated told faults = record { seated = seated; told = told; faults = faults }
 
 -- from one world to another there came these outcomes at the desk, and these pieces at the sink
-pub record Grows (v : World) (outcomes : List Outcome) (pieces : List (List ℕ)) (w : World) : Type 0 where
+pub record Grows (v : World) (outcomes : List Outcome) (pieces : List (List ℕ))
+    (w : World) : Type 0 where
   pub desk : Grew v.seated outcomes w.seated
   pub told : w.told ≡ onto v.told pieces
   pub faults : v.faults ≤ w.faults
 
 -- ---- pieces
 
--- these pieces are written in part: where a write failed, some whole and then a front of the next or nothing;
--- where there was no memory for the first, nothing
-abbrev pub SendsPart : List (List ℕ) → Halt → Option (List (List ℕ)) → ℕ → Option (List (List ℕ)) → ℕ → Type 0
-SendsPart pieces WriteFault told faults told' faults' = (written : List (List ℕ)) × Short written pieces × (told' ≡ onto told written) × (faults ≤ faults') × HasRisen faults faults'
+-- these pieces are written in part: where a write failed, some whole and then a front of the next
+-- or nothing; where there was no memory for the first, nothing
+abbrev pub SendsPart : List (List ℕ) → Fed → Option (List (List ℕ)) → ℕ → Option (List (List ℕ))
+    → ℕ → Type 0
+SendsPart pieces WriteFault told faults told' faults' = (written : List (List ℕ))
+    × Short written pieces × (told' ≡ onto told written) × (faults ≤ faults')
+    × HasRisen faults faults'
 SendsPart pieces Memory told faults told' faults' = (told' ≡ told) × (faults' ≡ faults)
+SendsPart pieces More told faults told' faults' = ⊥
+SendsPart pieces (Over ending) told faults told' faults' = ⊥
 
 -- how writing these pieces ended
-abbrev pub Sends : {X : Type 0} → List (List ℕ) → Result X Halt → Option (List (List ℕ)) → ℕ → Option (List (List ℕ)) → ℕ → Type 0
+abbrev pub Sends : {X : Type 0} → List (List ℕ) → Result X Fed → Option (List (List ℕ)) → ℕ
+    → Option (List (List ℕ)) → ℕ → Type 0
 Sends pieces (Ok x) told faults told' faults' = (told' ≡ onto told pieces) × (faults' ≡ faults)
 Sends pieces (Err halt) told faults told' faults' = SendsPart pieces halt told faults told' faults'
 
@@ -85,15 +95,19 @@ pub record Halted (act : Act) (serial : ℕ) (v w : World) : Type 0 where
   pub grows : Grows v outcomes written w
   pub short : Short written pieces
 
--- The same, where there was no memory for the answer: nothing of it is written, and no write failed.
+-- The same, where there was no memory for the answer: nothing of it is written, and no write
+-- failed.
 abbrev pub Unsaid : Act → ℕ → World → World → Type 0
 Unsaid act serial v w = (h : Halted act serial v w) × (h.written ≡ []) × (w.faults ≡ v.faults)
 
 -- how asking and answering ended
-abbrev pub ActEnds : Result ℕ Halt → Act → ℕ → World → World → Type 0
-ActEnds (Ok last) act serial v w = (outcomes : List Outcome) × (pieces : List (List ℕ)) × Gives act serial outcomes pieces last × Grows v outcomes pieces w × (w.faults ≡ v.faults)
+abbrev pub ActEnds : Result ℕ Fed → Act → ℕ → World → World → Type 0
+ActEnds (Ok last) act serial v w = (outcomes : List Outcome) × (pieces : List (List ℕ))
+    × Gives act serial outcomes pieces last × Grows v outcomes pieces w × (w.faults ≡ v.faults)
 ActEnds (Err WriteFault) act serial v w = Halted act serial v w × HasRisen v.faults w.faults
 ActEnds (Err Memory) act serial v w = Unsaid act serial v w
+ActEnds (Err More) act serial v w = ⊥
+ActEnds (Err (Over ending)) act serial v w = ⊥
 
 -- what a whole item that asks nothing is
 abbrev pub Declines : Client → Phase → List ℕ → Rest → Type 0
@@ -103,20 +117,26 @@ Declines c p item rest.TooLong = ⊥
 Declines c p item rest.Unbuilt = Means c p item (Err Unbuilt)
 
 -- an item was read, and then asking and answering it ended so
-abbrev pub HaltsAt : Client → Halt → Stage → World → List ℕ → World → Type 0
-HaltsAt c halt s v item w = (act : Act) × Means c s.phase item (Ok act) × ActEnds (Err halt) act s.serial v w
+abbrev pub HaltsAt : Client → Fed → Stage → World → List ℕ → World → Type 0
+HaltsAt c halt s v item w =
+    (act : Act) × Means c s.phase item (Ok act) × ActEnds (Err halt) act s.serial v w
 
 -- how one whole item ended
-abbrev pub ItemEnds : Client → Result (Option Rest) Halt → Stage → World → List ℕ → Stage → World → Type 0
-ItemEnds c (Ok None) s v item t w = (act : Act) × Means c s.phase item (Ok act) × (t.phase ≡ next_phase c s.phase item) × ActEnds (Ok t.serial) act s.serial v w
+abbrev pub ItemEnds : Client → Result (Option Rest) Fed → Stage → World → List ℕ → Stage → World
+    → Type 0
+ItemEnds c (Ok None) s v item t w = (act : Act) × Means c s.phase item (Ok act)
+    × (t.phase ≡ next_phase c s.phase item) × ActEnds (Ok t.serial) act s.serial v w
 ItemEnds c (Ok (Some what)) s v item t w = Declines c s.phase item what × (t ≡ s) × (w ≡ v)
 ItemEnds c (Err WriteFault) s v item t w = HaltsAt c WriteFault s v item w
 ItemEnds c (Err Memory) s v item t w = (w ≡ v) ⊎ HaltsAt c Memory s v item w
+ItemEnds c (Err More) s v item t w = ⊥
+ItemEnds c (Err (Over ending)) s v item t w = ⊥
 
 -- ---- items
 
 -- These bytes were items, and each is asked and answered. No write failed.
-pub record Did (c : Client) (s : Stage) (v : World) (bytes : List ℕ) (t : Stage) (w : World) : Type 0 where
+pub record Did (c : Client) (s : Stage) (v : World) (bytes : List ℕ) (t : Stage)
+    (w : World) : Type 0 where
   pub items : List (List ℕ)
   pub acts : List Act
   pub outcomes : List Outcome
@@ -128,7 +148,8 @@ pub record Did (c : Client) (s : Stage) (v : World) (bytes : List ℕ) (t : Stag
   pub grows : Grows v outcomes pieces w
   pub sound : w.faults ≡ v.faults
 
--- These bytes begin with items that are asked and answered, and then one that is asked, and answered in part.
+-- These bytes begin with items that are asked and answered, and then one that is asked, and
+-- answered in part.
 pub record Broke (c : Client) (s : Stage) (v : World) (bytes : List ℕ) (w : World) : Type 0 where
   pub front : List ℕ
   pub item : List ℕ
@@ -143,7 +164,8 @@ pub record Broke (c : Client) (s : Stage) (v : World) (bytes : List ℕ) (w : Wo
 
 -- The same, and nothing of the last answer is written, and no write failed.
 abbrev pub BrokeUnsaid : Client → Stage → World → List ℕ → World → Type 0
-BrokeUnsaid c s v bytes w = (b : Broke c s v bytes w) × (b.halted.written ≡ []) × (w.faults ≡ v.faults)
+BrokeUnsaid c s v bytes w =
+    (b : Broke c s v bytes w) × (b.halted.written ≡ []) × (w.faults ≡ v.faults)
 
 -- These bytes begin with items that are asked and answered, and nothing more is done.
 pub record Began (c : Client) (s : Stage) (v : World) (bytes : List ℕ) (w : World) : Type 0 where
@@ -154,7 +176,10 @@ pub record Began (c : Client) (s : Stage) (v : World) (bytes : List ℕ) (w : Wo
   pub did : Did c s v front mid w
 
 -- how a run over bytes ended
-abbrev pub Stops : Client → Result Run Halt → Stage → World → List ℕ → Stage → World → Type 0
-Stops c (Ok run) s v bytes t w = (run.len ≤ length bytes) × Did c s v (take run.len bytes) t w × Remains c t.phase (drop run.len bytes) run.rest
+abbrev pub Stops : Client → Result Run Fed → Stage → World → List ℕ → Stage → World → Type 0
+Stops c (Ok run) s v bytes t w = (run.len ≤ length bytes) × Did c s v (take run.len bytes) t w
+    × Remains c t.phase (drop run.len bytes) run.rest
 Stops c (Err WriteFault) s v bytes t w = Broke c s v bytes w × HasRisen v.faults w.faults
 Stops c (Err Memory) s v bytes t w = Began c s v bytes w ⊎ BrokeUnsaid c s v bytes w
+Stops c (Err More) s v bytes t w = ⊥
+Stops c (Err (Over ending)) s v bytes t w = ⊥

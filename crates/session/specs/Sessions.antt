@@ -1,5 +1,6 @@
 -- What the calls of a session do.
-use Rattle.std.specs.Prelude.{◌≡◌, ◌⊎◌, ℕ, ◌+◌, ◌^◌, ◌<◌, ◌≤◌, List, [], ◌∷◌, ◌++◌, length, Some, Result, Ok, Err, IfOk}
+use Rattle.std.specs.Prelude.{◌≡◌, ◌⊎◌, ℕ, ◌+◌, ◌<◌, ◌≤◌, List, [], ◌∷◌, ◌++◌, length, Some}
+use Rattle.std.specs.Prelude.{Result, Ok, Err, IfOk}
 use Rattle.portal_base.specs.Outside.{HasRisen}
 use Rattle.portal_base.specs.declared.who.Kind.{Kind}
 use Rattle.portal_base.specs.declared.who.Who.{Who}
@@ -11,19 +12,13 @@ use Rattle.portal_model.specs.Seated.{Seated, Asks, bound, state_seen}
 use Rattle.session.specs.declared.act.Client.{Client}
 use Rattle.session.specs.declared.served.Fed.{Fed}
 use Rattle.session.specs.declared.served.Fed.TheVariants as fed
-use Rattle.session.specs.declared.served.Halt.{Halt}
-use Rattle.session.specs.declared.served.Halt.TheVariants as halt
 use Rattle.session.specs.declared.served.Rest.{Rest}
 use Rattle.session.specs.declared.served.Rest.TheVariants as rest
 use Rattle.session.specs.declared.served.Served.{Served}
 use Rattle.session.specs.declared.served.Served.TheVariants as served
 use Rattle.session.specs.Items.{Remains}
 use Rattle.session.specs.Ledger.{World, Did, Broke, BrokeUnsaid, Began}
-use Rattle.session.specs.Standings.{Standing, fresh}
-
--- how many bytes a connection may have
-abbrev pub longest : ℕ
-longest = 2 ^ 40
+use Rattle.session.specs.Standings.{Standing, fresh, longest}
 
 -- in the state that the desk has seen, its seat has an open connection, which is bound so
 abbrev pub IsBound : Who → Kind → Seated → Type 0
@@ -40,7 +35,8 @@ enter c = Request.Enter c.who c.kind
 -- Enter is asked, or there is no memory to ask it.
 abbrev pub Enters : {X : Type 0} → Who → Kind → Seated → Result X Refused → Seated → Type 0
 Enters who kind v (Ok x) w = (reply : Reply) × Asks v (Request.Enter who kind) (Ok reply) w
-Enters who kind v (Err why) w = ((why ≡ refused.Memory) × (w ≡ v)) ⊎ Asks v (Request.Enter who kind) (Err why) w
+Enters who kind v (Err why) w =
+    ((why ≡ refused.Memory) × (w ≡ v)) ⊎ Asks v (Request.Enter who kind) (Err why) w
 
 -- and where it is answered, the session is one before its first byte
 abbrev pub Opens : Client → Seated → Result Standing Refused → Seated → Type 0
@@ -49,7 +45,8 @@ Opens c v result w = Enters c.who c.kind v result w × IfOk result (λ s. s ≡ 
 -- ---- feed
 
 -- Of the rest and the piece the whole items are asked and answered, and behind them stands this.
-pub record TakesUpTo (what : Rest) (s : Standing) (v : World) (piece : List ℕ) (t : Standing) (w : World) : Type 0 where
+pub record TakesUpTo (what : Rest) (s : Standing) (v : World) (piece : List ℕ) (t : Standing)
+    (w : World) : Type 0 where
   pub taken : List ℕ
   pub bytes : s.rest ++ piece ≡ taken ++ t.rest
   pub before : t.before ≡ s.before + length taken
@@ -76,10 +73,13 @@ HoldsBoth s piece t = (t.before ≡ s.before) × (t.rest ≡ s.rest ++ piece)
 
 -- The ends that a piece alone can bring.
 abbrev pub FeedsOver : Standing → World → List ℕ → Served → Standing → World → Type 0
-FeedsOver s v piece (served.Malformed at rule) t w = TakesUpTo (rest.Bad rule) s v piece t w × (at ≡ t.before)
-FeedsOver s v piece (served.LineTooLong at) t w = TakesUpTo rest.TooLong s v piece t w × (at ≡ t.before)
+FeedsOver s v piece (served.Malformed at rule) t w =
+    TakesUpTo (rest.Bad rule) s v piece t w × (at ≡ t.before)
+FeedsOver s v piece (served.LineTooLong at) t w =
+    TakesUpTo rest.TooLong s v piece t w × (at ≡ t.before)
 FeedsOver s v piece (served.Unbuilt at) t w = TakesUpTo rest.Unbuilt s v piece t w × (at ≡ t.before)
-FeedsOver s v piece served.Spent t w = (longest < s.before + length s.rest + length piece) × (w ≡ v) × StaysAt s t
+FeedsOver s v piece served.Spent t w =
+    (longest < s.before + length s.rest + length piece) × (w ≡ v) × StaysAt s t
 FeedsOver s v piece served.Ended t w = ⊥
 FeedsOver s v piece (served.Cut n) t w = ⊥
 FeedsOver s v piece served.ReadFault t w = ⊥
@@ -87,14 +87,19 @@ FeedsOver s v piece served.WriteFault t w = ⊥
 FeedsOver s v piece (served.Full cost limit) t w = ⊥
 FeedsOver s v piece served.Memory t w = ⊥
 
--- there is no memory: to hold the piece, and nothing is done; ahead of an item; or for the answer of one
+-- there is no memory: to hold the piece, and nothing is done; ahead of an item; or for the answer
+-- of one
 abbrev pub FeedsNot : Standing → World → List ℕ → Standing → World → Type 0
-FeedsNot s v piece t w = ((w ≡ v) × StaysAt s t) ⊎ ((Began s.client s.stage v (s.rest ++ piece) w ⊎ BrokeUnsaid s.client s.stage v (s.rest ++ piece) w) × HoldsBoth s piece t)
+FeedsNot s v piece t w = ((w ≡ v) × StaysAt s t)
+    ⊎ ((Began s.client s.stage v (s.rest ++ piece) w
+    ⊎ BrokeUnsaid s.client s.stage v (s.rest ++ piece) w) × HoldsBoth s piece t)
 
 abbrev pub FeedsOpen : Standing → World → List ℕ → Fed → Standing → World → Type 0
 FeedsOpen s v piece fed.More t w = TakesUpTo rest.More s v piece t w × Keeps s fed.More t
-FeedsOpen s v piece (fed.Over ending) t w = FeedsOver s v piece ending t w × Keeps s (fed.Over ending) t
-FeedsOpen s v piece fed.WriteFault t w = Broke s.client s.stage v (s.rest ++ piece) w × HasRisen v.faults w.faults × Keeps s fed.WriteFault t × HasRoom s piece × HoldsBoth s piece t
+FeedsOpen s v piece (fed.Over ending) t w =
+    FeedsOver s v piece ending t w × Keeps s (fed.Over ending) t
+FeedsOpen s v piece fed.WriteFault t w = Broke s.client s.stage v (s.rest ++ piece) w
+    × HasRisen v.faults w.faults × Keeps s fed.WriteFault t × HasRoom s piece × HoldsBoth s piece t
 FeedsOpen s v piece fed.Memory t w = FeedsNot s v piece t w × Keeps s fed.Memory t × HasRoom s piece
 
 -- the same is answered again, and nothing is done
@@ -114,10 +119,6 @@ fed_of at rest.More = fed.More
 fed_of at (rest.Bad rule) = fed.Over (served.Malformed at rule)
 fed_of at rest.TooLong = fed.Over (served.LineTooLong at)
 fed_of at rest.Unbuilt = fed.Over (served.Unbuilt at)
-
-abbrev pub halted : Halt → Fed
-halted halt.WriteFault = fed.WriteFault
-halted halt.Memory = fed.Memory
 
 -- ---- end
 

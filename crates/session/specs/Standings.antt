@@ -1,5 +1,5 @@
 -- What contracts see in a session.
-use Rattle.std.specs.Prelude.{ℕ, List, []}
+use Rattle.std.specs.Prelude.{ℕ, ◌^◌, List, []}
 use Rattle.portal_base.specs.declared.limits.Settings.{Settings}
 use Rattle.portal_base.specs.declared.who.Kind.{Kind}
 use Rattle.portal_base.specs.declared.who.Who.{Who}
@@ -10,8 +10,12 @@ use Rattle.session.specs.declared.served.Fed.{Fed}
 use Rattle.session.specs.declared.served.Fed.TheVariants as fed
 use Rattle.session.specs.Cuts.{first_phase}
 
--- the client, how far its stream has come, the number of bytes before the rest, the rest, and what the
--- last piece came to
+-- how many bytes a connection may have
+abbrev pub longest : ℕ
+longest = 2 ^ 40
+
+-- the client, how far its stream has come, the number of bytes before the rest, the rest, and what
+-- the last piece came to
 pub record Standing : Type 0 where
   pub client : Client
   pub stage : Stage

@@ -43,8 +43,13 @@ fn pump<D: Desk, S: Source, K: Sink>(
     sink: &mut K,
 ) -> Pumped
     requires { session.old ≡ fresh session.old.client }
-    ensures pumps { Pumps session.old.client result (spring (S.left source.old) (S.faults source.old)) (spring (S.left source.new) (S.faults source.new)) (world (D.seated desk.old) (K.told sink.old) (K.faults sink.old)) session.new (world (D.seated desk.new) (K.told sink.new) (K.faults sink.new)) }
-    ensures stays_open { IsOpen session.old.client (D.seated desk.old) → IsOpen session.old.client (D.seated desk.new) }
+    ensures pumps { Pumps session.old.client result
+        (spring (S.left source.old) (S.faults source.old))
+        (spring (S.left source.new) (S.faults source.new))
+        (world (D.seated desk.old) (K.told sink.old) (K.faults sink.old)) session.new
+        (world (D.seated desk.new) (K.told sink.new) (K.faults sink.new)) }
+    ensures stays_open { IsOpen session.old.client (D.seated desk.old)
+        → IsOpen session.old.client (D.seated desk.new) }
     ensures goes { D.goes desk.old desk.new }
 {
     let mut buffer = [0; PIECE];
@@ -77,7 +82,11 @@ pub fn serve_connection<D: Desk, S: Source, K: Sink>(
 ) -> Served
     requires { is_open (state_seen (D.seated desk.old)) (D.seated desk.old).seat ≡ false }
     // What the ending means: which items were read, asked and answered.
-    ensures serves { Serves (client who.now kind settings.now) result (spring (S.left source.old) (S.faults source.old)) (spring (S.left source.new) (S.faults source.new)) (world (D.seated desk.old) (K.told sink.old) (K.faults sink.old)) (world (D.seated desk.new) (K.told sink.new) (K.faults sink.new)) }
+    ensures serves { Serves (client who.now kind settings.now) result
+        (spring (S.left source.old) (S.faults source.old))
+        (spring (S.left source.new) (S.faults source.new))
+        (world (D.seated desk.old) (K.told sink.old) (K.faults sink.old))
+        (world (D.seated desk.new) (K.told sink.new) (K.faults sink.new)) }
     // The desk's seat has no open connection then either.
     ensures closed_now { is_open (state_seen (D.seated desk.new)) (D.seated desk.new).seat ≡ false }
     // The history that the desk sees is legal, and the seat's entries in it are its own.

@@ -1,7 +1,8 @@
 //! The frames that answer a frame.
 
 ghost use Rattle.std.specs.Prelude.{◌≡◌, IfOk, option_to_list};
-ghost use Rattle.session.specs.Frames.{told_of, answer_frames, frames_of, refusal_errno, refusal_frames};
+ghost use Rattle.session.specs.Frames.{told_of, answer_frames, frames_of, refusal_errno};
+ghost use Rattle.session.specs.Frames.{refusal_frames};
 
 use fuse_reply::reply::write_reply;
 use portal_base::list::ByteList;

@@ -1,9 +1,10 @@
 //! Reading items.
 
 ghost use Rattle.std.specs.Prelude.{◌≡◌, ◌≤◌, length, IfOk, OnOk, OnErr};
-ghost use Rattle.session.specs.Cuts.{Cuts, next_phase, line_of};
-ghost use Rattle.session.specs.Asked.{Means, MessageMeans, MayAnswer, OrMemory, act_of_frame, act_of_message, frame_act, is_built, is_host, reply_to};
-ghost use Rattle.session.specs.declared.phase.Cut.TheVariants.{Whole};
+ghost use Rattle.session.specs.Cuts.{Cuts, next_phase, line_of, whole_item};
+ghost use Rattle.session.specs.Asked.{Means, MessageMeans, MayAnswer, OrMemory, act_of_frame};
+ghost use Rattle.session.specs.Asked.{act_of_message, frame_act, is_built, is_host, reply_to};
+ghost use Rattle.dbus_auth.specs.Command.{longest_line};
 ghost use Rattle.dbus_auth.specs.Handshake.{step};
 ghost use Rattle.dbus_message.specs.Rules.{IsWhole};
 ghost use Rattle.fuse_wire.specs.Frames.{split_of};
@@ -36,7 +37,7 @@ pub fn read_item(
     phase: &mut Phase,
     item: &[u8],
 ) -> Result<Act, ItemError>
-    requires { Cuts phase.old item.now (Whole (length item.now)) }
+    requires { Cuts phase.old item.now (whole_item (length item.now)) }
     ensures means { Means client.now phase.old item.now result }
     ensures moves { OnOk result (phase.new ≡ next_phase client.now phase.old item.now) }
     ensures stays { OnErr result (phase.new ≡ phase.old) }
@@ -62,7 +63,7 @@ pub fn read_item(
 
 /// Takes a line of the handshake with its CR LF.
 fn step(alloc: Global, auth: &mut Auth, item: &[u8]) -> Result<AuthAnswer, WantOfMemory>
-    requires { length item.now ≤ 1024 }
+    requires { length item.now ≤ longest_line }
     ensures ok { IfOk result (λ answer. (answer, auth.new) ≡ step auth.old (line_of item.now)) }
     ensures err { OnErr result (auth.new ≡ auth.old) }
 {

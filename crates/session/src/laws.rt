@@ -2,7 +2,10 @@
 //!
 //! Each function does nothing; its contract is the law.
 
-ghost use Rattle.session.specs.Laws.{AreOne, AreCutAlike, AnswerAsked, CostLittle, EndingsAreTheStreams, EndsStay, FeedsCostLittle, ItemsAreFound, ItemsComeFirst, RoomIsEnough, SayAlike, ShortBegins, WholeInputsEnd};
+ghost use Rattle.session.specs.Laws.{AreOne, AreCutAlike, AnswerAsked, CostLittle};
+ghost use Rattle.session.specs.Laws.{EndingsAreTheStreams, EndsStay, FeedsCostLittle};
+ghost use Rattle.session.specs.Laws.{ItemsAreFound, ItemsComeFirst, RoomIsEnough, SayAlike};
+ghost use Rattle.session.specs.Laws.{ShortBegins, WholeInputsEnd};
 
 /// Each stream of bytes has items and a rest.
 pub fn streams_have_items()

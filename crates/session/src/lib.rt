@@ -4,6 +4,24 @@
 //! handshake and then messages (D-Bus Specification, "Authentication Protocol"
 //! and "Message Protocol"), on a mount frames (`include/uapi/linux/fuse.h`).
 //! Each item is asked of a desk and answered, in order.
+//!
+//! **Promise**: every whole item of what came is asked and answered once, in
+//! order, and the items are the same in whatever pieces the stream comes. Each
+//! ending says what was read, asked and written. Over a tree that tells its
+//! files, what an application is replied is a function of its trace.
+//!
+//! **Rooms**, from the bytes inwards: [`phase`] says what is due and cuts the next
+//! item, [`item`] reads it, [`act`] is what it asks, [`frame`] has the frames that
+//! answer it, and [`serve`] asks and writes. [`session`] is one connection that is
+//! fed piece by piece, [`connection`] serves one over a source to its end, and
+//! [`served`] has the answers of both. [`laws`] are the laws of streams and of
+//! answers, for the crates above.
+//!
+//! ```ignore
+//! let mut session = Session::begin(alloc, &mut desk, &who, Kind::Mount, &settings)?;
+//! let fed = session.feed(alloc, &mut desk, piece, &mut sink);
+//! let served = session.end(alloc, &mut desk);
+//! ```
 #![tactic(auto)]
 
 pub mod act;

@@ -3,7 +3,8 @@
 ghost use Rattle.std.specs.Prelude.{◌≡◌, ◌+◌, ◌≤◌, length, Option};
 ghost use Rattle.session.specs.Cuts.{Cuts, first_phase, zero_byte_cut, line_cut, cut_of, line_len};
 
-use dbus_auth::Auth;
+use crate::served::Rest;
+use dbus_auth::{Auth, LONGEST_LINE};
 use portal_base::split::Split;
 use portal_base::who::Kind;
 
@@ -20,28 +21,6 @@ pub enum Phase {
     Frames,
 }
 
-/// What stands at the front of a stream.
-#[derive(Clone, Copy, Debug, PartialEq, Eq)]
-pub enum Cut {
-    /// Too few bytes to tell.
-    More,
-    /// A whole item.
-    Whole {
-        /// Its length in bytes.
-        len: usize,
-    },
-    /// An item that breaks a rule.
-    Bad {
-        /// The number of the rule.
-        rule: u32,
-    },
-    /// A line of the handshake that is too long.
-    TooLong,
-}
-
-/// The longest line of the handshake in bytes, its CR LF included.
-pub const LONGEST_LINE: usize = 1024;
-
 /// The rule that the first byte of a bus connection breaks if it isn't 0.
 pub const ZERO_BYTE_RULE: u32 = 12;
 
@@ -55,8 +34,9 @@ pub fn first_phase(kind: Kind) -> Phase
     }
 }
 
-/// Says what stands at the front of a stream.
-pub fn next_cut(phase: &Phase, bytes: &[u8]) -> Cut
+/// The length of the whole item at the front of a stream, in bytes, or what stands
+/// there in its place.
+pub fn next_cut(phase: &Phase, bytes: &[u8]) -> Result<usize, Rest>
     ensures { Cuts phase.now bytes.now result }
 {
     match phase {
@@ -67,35 +47,35 @@ pub fn next_cut(phase: &Phase, bytes: &[u8]) -> Cut
     }
 }
 
-fn cut_of(split: Split) -> Cut
+fn cut_of(split: Split) -> Result<usize, Rest>
     ensures { result ≡ cut_of split }
 {
     match split {
-        Split::More => Cut::More,
-        Split::Whole { len } => Cut::Whole { len },
-        Split::Bad { rule } => Cut::Bad { rule },
+        Split::More => Err(Rest::More),
+        Split::Whole { len } => Ok(len),
+        Split::Bad { rule } => Err(Rest::Bad { rule }),
     }
 }
 
-fn cut_zero_byte(bytes: &[u8]) -> Cut
+fn cut_zero_byte(bytes: &[u8]) -> Result<usize, Rest>
     ensures { result ≡ zero_byte_cut bytes.now }
 {
     match bytes {
-        [] => Cut::More,
-        [0, ..] => Cut::Whole { len: 1 },
-        _ => Cut::Bad {
+        [] => Err(Rest::More),
+        [0, ..] => Ok(1),
+        _ => Err(Rest::Bad {
             rule: ZERO_BYTE_RULE,
-        },
+        }),
     }
 }
 
-fn cut_line(bytes: &[u8]) -> Cut
+fn cut_line(bytes: &[u8]) -> Result<usize, Rest>
     ensures { result ≡ line_cut bytes.now }
 {
     match line_len(&bytes[..bytes.len().min(LONGEST_LINE)]) {
-        Some(len) => Cut::Whole { len },
-        None if bytes.len() < LONGEST_LINE => Cut::More,
-        None => Cut::TooLong,
+        Some(len) => Ok(len),
+        None if bytes.len() < LONGEST_LINE => Err(Rest::More),
+        None => Err(Rest::TooLong),
     }
 }
 

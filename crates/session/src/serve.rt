@@ -1,17 +1,20 @@
 //! Asking and answering the items of a stream.
+//!
+//! An error is what the client's piece comes to then: `Fed::WriteFault` or
+//! `Fed::Memory`, and no other.
 
-ghost use Rattle.std.specs.Prelude.{◌≡◌, ℕ, List, ◌≤◌, ◌∷◌, [], length, take, drop, option_to_list, IfOk, IfSome};
+ghost use Rattle.std.specs.Prelude.{◌≡◌, ℕ, List, ◌≤◌, ◌∷◌, [], length, take, drop, option_to_list};
+ghost use Rattle.std.specs.Prelude.{IfOk, IfSome};
 ghost use Rattle.session.specs.Asked.{collect_requests, IsWritable, MayAnswer};
 ghost use Rattle.session.specs.Answers.{last_spoken, serial_after, spoken};
-ghost use Rattle.session.specs.declared.phase.Cut.TheVariants.{Whole};
-ghost use Rattle.session.specs.Cuts.{Cuts};
+ghost use Rattle.session.specs.Cuts.{Cuts, whole_item};
 ghost use Rattle.session.specs.Ledger.{world, Sends, ActEnds, Collected, ItemEnds, Stops};
 
 use crate::act::{Act, Client, ItemError};
 use crate::frame::{answer_frame, refusal_frame, told_frame};
 use crate::item::read_item;
-use crate::phase::{Cut, Phase, next_cut};
-use crate::served::{Halt, Rest};
+use crate::phase::{Phase, next_cut};
+use crate::served::{Fed, Rest};
 use dbus_message::write::write_message;
 use dbus_types::message::OutMessage;
 use portal_base::list::ByteList;
@@ -48,13 +51,14 @@ pub fn serial_after(serial: u32) -> u32
 }
 
 /// Writes one piece, and answers this serial.
-fn send<K: Sink>(sink: &mut K, piece: &[u8], serial: u32) -> Result<u32, Halt>
-    ensures sends { Sends (piece.now ∷ []) result (K.told sink.old) (K.faults sink.old) (K.told sink.new) (K.faults sink.new) }
+fn send<K: Sink>(sink: &mut K, piece: &[u8], serial: u32) -> Result<u32, Fed>
+    ensures sends { Sends (piece.now ∷ []) result (K.told sink.old) (K.faults sink.old)
+        (K.told sink.new) (K.faults sink.new) }
     ensures last { IfOk result (λ last. last ≡ serial) }
 {
     match sink.write(piece) {
         WriteAnswer::Done => Ok(serial),
-        WriteAnswer::Failed => Err(Halt::WriteFault),
+        WriteAnswer::Failed => Err(Fed::WriteFault),
     }
 }
 
@@ -64,13 +68,14 @@ fn send_frame<K: Sink>(
     serial: u32,
     frame: Result<Option<ByteList>, WantOfMemory>,
     sink: &mut K,
-) -> Result<u32, Halt>
+) -> Result<u32, Fed>
     ensures sends { (pieces : List (List ℕ)) → IfOk frame (λ f. option_to_list f ≡ pieces)
-        → Sends pieces result (K.told sink.old) (K.faults sink.old) (K.told sink.new) (K.faults sink.new) }
+        → Sends pieces result (K.told sink.old) (K.faults sink.old) (K.told sink.new)
+        (K.faults sink.new) }
     ensures last { IfOk result (λ last. last ≡ serial) }
 {
     let Ok(frame) = frame else {
-        return Err(Halt::Memory);
+        return Err(Fed::Memory);
     };
     let Some(frame) = frame else {
         return Ok(serial);
@@ -85,9 +90,10 @@ fn send_message<K: Sink>(
     serial: u32,
     message: &Option<OutMessage>,
     sink: &mut K,
-) -> Result<u32, Halt>
+) -> Result<u32, Fed>
     requires { IfSome message.now IsWritable }
-    ensures sends { Sends (spoken serial (option_to_list message.now)) result (K.told sink.old) (K.faults sink.old) (K.told sink.new) (K.faults sink.new) }
+    ensures sends { Sends (spoken serial (option_to_list message.now)) result (K.told sink.old)
+        (K.faults sink.old) (K.told sink.new) (K.faults sink.new) }
     ensures last { IfOk result (λ last. last ≡ last_spoken serial (option_to_list message.now)) }
 {
     let Some(message) = message else {
@@ -95,7 +101,7 @@ fn send_message<K: Sink>(
     };
     let next = serial_after(serial);
     let Ok(bytes) = write_message(alloc, message, next) else {
-        return Err(Halt::Memory);
+        return Err(Fed::Memory);
     };
     send(sink, bytes.as_slice(), next)
 }
@@ -118,8 +124,10 @@ fn serve_node<D: Desk, K: Sink>(
     serial: u32,
     desk: &mut D,
     sink: &mut K,
-) -> Result<u32, Halt>
-    ensures ends { ActEnds result (Act.Node unique request) serial (world (D.seated desk.old) (K.told sink.old) (K.faults sink.old)) (world (D.seated desk.new) (K.told sink.new) (K.faults sink.new)) }
+) -> Result<u32, Fed>
+    ensures ends { ActEnds result (Act.Node unique request) serial
+        (world (D.seated desk.old) (K.told sink.old) (K.faults sink.old))
+        (world (D.seated desk.new) (K.told sink.new) (K.faults sink.new)) }
     ensures goes { D.goes desk.old desk.new }
 {
     match desk.ask(alloc, Request::Node(request)) {
@@ -136,9 +144,11 @@ pub fn serve_act<D: Desk, K: Sink>(
     serial: u32,
     desk: &mut D,
     sink: &mut K,
-) -> Result<u32, Halt>
+) -> Result<u32, Fed>
     requires { MayAnswer act }
-    ensures ends { ActEnds result act serial (world (D.seated desk.old) (K.told sink.old) (K.faults sink.old)) (world (D.seated desk.new) (K.told sink.new) (K.faults sink.new)) }
+    ensures ends { ActEnds result act serial
+        (world (D.seated desk.old) (K.told sink.old) (K.faults sink.old))
+        (world (D.seated desk.new) (K.told sink.new) (K.faults sink.new)) }
     ensures goes { D.goes desk.old desk.new }
 {
     match act {
@@ -180,9 +190,11 @@ fn serve_item<D: Desk, K: Sink>(
     item: &[u8],
     desk: &mut D,
     sink: &mut K,
-) -> Result<Option<Rest>, Halt>
-    requires { Cuts stage.old.phase item.now (Whole (length item.now)) }
-    ensures ends { ItemEnds client.now result stage.old (world (D.seated desk.old) (K.told sink.old) (K.faults sink.old)) item.now stage.new (world (D.seated desk.new) (K.told sink.new) (K.faults sink.new)) }
+) -> Result<Option<Rest>, Fed>
+    requires { Cuts stage.old.phase item.now (whole_item (length item.now)) }
+    ensures ends { ItemEnds client.now result stage.old
+        (world (D.seated desk.old) (K.told sink.old) (K.faults sink.old)) item.now stage.new
+        (world (D.seated desk.new) (K.told sink.new) (K.faults sink.new)) }
     ensures goes { D.goes desk.old desk.new }
 {
     match read_item(alloc, client, &mut stage.phase, item) {
@@ -195,7 +207,7 @@ fn serve_item<D: Desk, K: Sink>(
         },
         Err(ItemError::Breaks { rule }) => Ok(Some(Rest::Bad { rule })),
         Err(ItemError::Unbuilt) => Ok(Some(Rest::Unbuilt)),
-        Err(ItemError::Memory) => Err(Halt::Memory),
+        Err(ItemError::Memory) => Err(Fed::Memory),
     }
 }
 
@@ -208,33 +220,18 @@ pub fn serve_items<D: Desk, K: Sink>(
     bytes: &[u8],
     desk: &mut D,
     sink: &mut K,
-) -> Result<Run, Halt>
-    ensures stops { Stops client.now result stage.old (world (D.seated desk.old) (K.told sink.old) (K.faults sink.old)) bytes.now stage.new (world (D.seated desk.new) (K.told sink.new) (K.faults sink.new)) }
+) -> Result<Run, Fed>
+    ensures stops { Stops client.now result stage.old
+        (world (D.seated desk.old) (K.told sink.old) (K.faults sink.old)) bytes.now stage.new
+        (world (D.seated desk.new) (K.told sink.new) (K.faults sink.new)) }
     ensures goes { D.goes desk.old desk.new }
 {
     let mut len = 0;
     'items: loop {
         let left = behind(bytes, len);
         let item = match next_cut(&stage.phase, left) {
-            Cut::More => {
-                return Ok(Run {
-                    len,
-                    rest: Rest::More,
-                });
-            }
-            Cut::Bad { rule } => {
-                return Ok(Run {
-                    len,
-                    rest: Rest::Bad { rule },
-                });
-            }
-            Cut::TooLong => {
-                return Ok(Run {
-                    len,
-                    rest: Rest::TooLong,
-                });
-            }
-            Cut::Whole { len } => front(left, len),
+            Ok(len) => front(left, len),
+            Err(rest) => return Ok(Run { len, rest }),
         };
         match serve_item(alloc, client, stage, item, desk, sink) {
             Ok(None) => len += item.len(),

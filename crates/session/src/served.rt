@@ -1,7 +1,5 @@
 //! How pieces and connections end.
 
-use thiserror::Error;
-
 /// How a connection ended.
 #[derive(Clone, Copy, Debug, PartialEq, Eq)]
 pub enum Served {
@@ -59,17 +57,6 @@ pub enum Fed {
     /// A write failed.
     WriteFault,
     /// There was no memory.
-    Memory,
-}
-
-/// Why answers stop.
-#[derive(Clone, Copy, Debug, PartialEq, Eq, Error)]
-pub enum Halt {
-    /// A write failed.
-    #[error("a write failed")]
-    WriteFault,
-    /// There was no memory.
-    #[error("there is no memory")]
     Memory,
 }
 

@@ -3,13 +3,14 @@
 ghost use Rattle.std.specs.Prelude.{◌≡◌, length, true, false, IfOk, OnOk, OnErr, Ok};
 ghost use Rattle.portal_model.specs.Seated.{Asks, is_open, state_seen};
 ghost use Rattle.session.specs.Ledger.{world};
-ghost use Rattle.session.specs.Sessions.{Opens, Enters, Feeds, Closes, IsBound, IsOpen, fed_of, halted, ending};
+ghost use Rattle.session.specs.Sessions.{Opens, Enters, Feeds, Closes, IsBound, IsOpen, fed_of};
+ghost use Rattle.session.specs.Sessions.{ending};
 ghost use Rattle.session.specs.Standings.{client as the_client};
 
 use crate::act::Client;
 use crate::phase::first_phase;
 use crate::serve::{Stage, serve_items};
-use crate::served::{Fed, Halt, Rest, Served};
+use crate::served::{Fed, Rest, Served};
 use bytes::BytesMut;
 use portal_base::limits::Settings;
 use portal_base::memory::{Replica, WantOfMemory};
@@ -38,14 +39,20 @@ pub struct Session {
 }
 
 impl Model for Session {
-    ghost use Rattle.std.specs.Prelude.{◌+◌, ◌^◌, ◌≤◌, length};
-    ghost use Rattle.session.specs.Standings.{Standing};
+    ghost use Rattle.std.specs.Prelude.{◌+◌, ◌≤◌, length};
+    ghost use Rattle.session.specs.Standings.{Standing, longest};
 
     ghost Value = { Standing };
 
-    ghost view = { λ s. record { client = s.client; stage = s.stage; before = s.before; rest = s.rest.items; fed = s.fed } };
+    ghost view = { λ s. record {
+      client = s.client;
+      stage = s.stage;
+      before = s.before;
+      rest = s.rest.items;
+      fed = s.fed;
+    } };
 
-    ghost invariant = { λ s. s.before + length s.rest.items ≤ 2 ^ 40 };
+    ghost invariant = { λ s. s.before + length s.rest.items ≤ longest };
 }
 
 impl Session {
@@ -60,11 +67,14 @@ impl Session {
         settings: &Settings,
     ) -> Result<Session, Refused>
         requires { is_open (state_seen (D.seated desk.old)) (D.seated desk.old).seat ≡ false }
-        ensures opens { Opens (the_client who.now kind settings.now) (D.seated desk.old) result (D.seated desk.new) }
+        ensures opens { Opens (the_client who.now kind settings.now) (D.seated desk.old) result
+            (D.seated desk.new) }
         // Then the connection is open.
-        ensures open_now { OnOk result (IsOpen (the_client who.now kind settings.now) (D.seated desk.new)) }
+        ensures open_now { OnOk result (IsOpen (the_client who.now kind settings.now)
+            (D.seated desk.new)) }
         // Or the seat has none, as before.
-        ensures still_closed { OnErr result (is_open (state_seen (D.seated desk.new)) (D.seated desk.new).seat ≡ false) }
+        ensures still_closed { OnErr result
+            (is_open (state_seen (D.seated desk.new)) (D.seated desk.new).seat ≡ false) }
         ensures goes { D.goes desk.old desk.new }
     {
         let client = client_of(alloc, who, kind, settings)?;
@@ -92,10 +102,13 @@ impl Session {
         piece: &[u8],
         sink: &mut K,
     ) -> Fed
-        ensures feeds { Feeds self.old.fed self.old (world (D.seated desk.old) (K.told sink.old) (K.faults sink.old)) piece.now result self.new (world (D.seated desk.new) (K.told sink.new) (K.faults sink.new)) }
+        ensures feeds { Feeds self.old.fed self.old
+            (world (D.seated desk.old) (K.told sink.old) (K.faults sink.old)) piece.now result
+            self.new (world (D.seated desk.new) (K.told sink.new) (K.faults sink.new)) }
         // The client stays, and the connection stays open.
         ensures client_stays { self.new.client ≡ self.old.client }
-        ensures stays_open { IsOpen self.old.client (D.seated desk.old) → IsOpen self.old.client (D.seated desk.new) }
+        ensures stays_open { IsOpen self.old.client (D.seated desk.old)
+            → IsOpen self.old.client (D.seated desk.new) }
         ensures goes { D.goes desk.old desk.new }
     {
         match self.fed {
@@ -125,7 +138,7 @@ impl Session {
                 self.before += run.len as u64;
                 self.fed = fed_of(self.before, run.rest);
             }
-            Err(halt) => self.fed = halted(halt),
+            Err(halt) => self.fed = halt,
         }
         desk.known();
         self.fed
@@ -146,7 +159,8 @@ impl Session {
         requires { IsOpen self.client (D.seated desk.old) }
         ensures closes { Closes self (D.seated desk.old) result (D.seated desk.new) }
         // The seat has no open connection then.
-        ensures closed_now { is_open (state_seen (D.seated desk.new)) (D.seated desk.new).seat ≡ false }
+        ensures closed_now { is_open (state_seen (D.seated desk.new)) (D.seated desk.new).seat
+            ≡ false }
         ensures goes { D.goes desk.old desk.new }
     {
         leave(alloc, desk);
@@ -174,7 +188,8 @@ fn enter<D: Desk>(alloc: Global, desk: &mut D, who: &Who, kind: Kind) -> Result<
     requires { is_open (state_seen (D.seated desk.old)) (D.seated desk.old).seat ≡ false }
     ensures entered { Enters who.now kind (D.seated desk.old) result (D.seated desk.new) }
     ensures open_now { OnOk result (IsBound who.now kind (D.seated desk.new)) }
-    ensures still_closed { OnErr result (is_open (state_seen (D.seated desk.new)) (D.seated desk.new).seat ≡ false) }
+    ensures still_closed { OnErr result
+        (is_open (state_seen (D.seated desk.new)) (D.seated desk.new).seat ≡ false) }
     ensures goes { D.goes desk.old desk.new }
 {
     desk.known();
@@ -191,7 +206,8 @@ fn enter<D: Desk>(alloc: Global, desk: &mut D, who: &Who, kind: Kind) -> Result<
 /// Asks Leave, which isn't refused where a connection is open.
 fn leave<D: Desk>(alloc: Global, desk: &mut D)
     requires { is_open (state_seen (D.seated desk.old)) (D.seated desk.old).seat ≡ true }
-    ensures left { (reply : Reply) × Asks (D.seated desk.old) Request.Leave (Ok reply) (D.seated desk.new) }
+    ensures left { (reply : Reply) × Asks (D.seated desk.old) Request.Leave (Ok reply)
+        (D.seated desk.new) }
     ensures closed_now { is_open (state_seen (D.seated desk.new)) (D.seated desk.new).seat ≡ false }
     ensures goes { D.goes desk.old desk.new }
 {
@@ -210,15 +226,6 @@ fn fed_of(at: u64, rest: Rest) -> Fed
         Rest::Bad { rule } => Fed::Over(Served::Malformed { at, rule }),
         Rest::TooLong => Fed::Over(Served::LineTooLong { at }),
         Rest::Unbuilt => Fed::Over(Served::Unbuilt { at }),
-    }
-}
-
-fn halted(halt: Halt) -> Fed
-    ensures { result ≡ halted halt }
-{
-    match halt {
-        Halt::WriteFault => Fed::WriteFault,
-        Halt::Memory => Fed::Memory,
     }
 }
 

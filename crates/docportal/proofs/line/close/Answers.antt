@@ -1,5 +1,5 @@
 use Rattle.std.proofs.Common.{refl}
-use Rattle.docportal.proofs.Lining.{breaks_written, close_part, close_passes, close_runs, if_err, on_ok}
+use Rattle.docportal.proofs.RunLine.{breaks_written, close_part, close_passes, close_runs, if_err, on_ok}
 use Rattle.docportal.specs.Steps.{scene}
 use Rattle.script_form.specs.declared.script.ScriptLine.TheVariants.{Close}
 use Rattle.docportal.proofs.line.close.Goals as goal

@@ -1,8 +1,8 @@
 use Rattle.std.proofs.Common.{◌∙◌, subst, sym, length, ◌+◌, ◌*◌, ◌++◌, ◌≤◌, ℕ, List}
 use Rattle.portal_core.specs.Story.{limit_of}
 use Rattle.portal_model.specs.History.{cost}
-use Rattle.session.specs.Sessions.{longest}
-use Rattle.docportal.proofs.Lining.{all_written, answered_at, data_passes, data_room, data_space, if_err, last_breaks, last_runs, on_ok, on_runs, pieces_break}
+use Rattle.session.specs.Standings.{longest}
+use Rattle.docportal.proofs.RunLine.{all_written, answered_at, data_passes, data_room, data_space, if_err, last_breaks, last_runs, on_ok, on_runs, pieces_break}
 use Rattle.docportal.proofs.line.data.Goals as goal
 
 pub returns-in-None-clause-ok : goal.returns-in-None-clause-ok

@@ -1,4 +1,4 @@
-use Rattle.docportal.proofs.Lining.{open_opens, open_room}
+use Rattle.docportal.proofs.RunLine.{open_opens, open_room}
 use Rattle.docportal.proofs.line.open.Goals as goal
 
 pub begin-requires-clause-room : goal.begin-requires-clause-room

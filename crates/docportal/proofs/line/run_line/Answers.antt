@@ -1,6 +1,6 @@
 use Rattle.std.proofs.Common.{refl}
 use Rattle.script_form.specs.declared.script.ScriptLine.TheVariants.{File, Doc}
-use Rattle.docportal.proofs.Lining.{opening_runs}
+use Rattle.docportal.proofs.RunLine.{opening_runs}
 use Rattle.docportal.proofs.line.run_line.Goals as goal
 
 pub returns-in-File-clause-ok : goal.returns-in-File-clause-ok

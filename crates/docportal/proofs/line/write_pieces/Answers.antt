@@ -1,6 +1,6 @@
 use Rattle.std.proofs.Common.{◌<◌, ◌∙◌, ap, arith, length}
 use Rattle.docportal.specs.Texts.{out_line}
-use Rattle.docportal.proofs.Lining.{line_broke, no_line}
+use Rattle.docportal.proofs.RunLine.{line_broke, no_line}
 use Rattle.docportal.proofs.line.write_pieces.Goals as goal
 
 pub returns-in_default-clause-err : goal.returns-in_default-clause-err

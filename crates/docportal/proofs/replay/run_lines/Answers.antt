@@ -2,7 +2,7 @@ use Rattle.std.proofs.Common.{◌<◌, [], length, sym, ◌∙◌, subst, arith}
 use Rattle.docportal.specs.declared.status.Status.{Status}
 use Rattle.docportal.specs.Plays.{PlayStops}
 use Rattle.docportal.specs.Steps.{scene}
-use Rattle.docportal.proofs.Playing.{may_go_on, may_run, play_stops, played_on}
+use Rattle.docportal.proofs.RunLines.{may_go_on, may_run, play_stops, played_on}
 use Rattle.docportal.proofs.replay.run_lines.Goals as goal
 
 pub run_line-requires-clause-may : goal.run_line-requires-clause-may

@@ -1,6 +1,6 @@
 use Rattle.std.proofs.Common.{◌≡◌, drop, take}
 use Rattle.docportal.specs.Steps.{MayPlay}
-use Rattle.docportal.proofs.Playing.{Played}
+use Rattle.docportal.proofs.RunLines.{Played}
 use Rattle.docportal.proofs.replay.run_lines.Given as goal
 
 abbrev pub invariant-loop-index : goal.invariant-loop-index

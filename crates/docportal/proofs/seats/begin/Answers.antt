@@ -1,5 +1,5 @@
 use Rattle.std.proofs.Common.{Err, ◌∙◌, ap}
-use Rattle.docportal.proofs.Entering.{never_full, entered}
+use Rattle.docportal.proofs.BeginAndEnd.{never_full, entered}
 use Rattle.docportal.proofs.seats.begin.Goals as goal
 
 pub unreachable-requires : goal.unreachable-requires

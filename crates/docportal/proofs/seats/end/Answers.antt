@@ -1,4 +1,4 @@
-use Rattle.docportal.proofs.Entering.{left}
+use Rattle.docportal.proofs.BeginAndEnd.{left}
 use Rattle.docportal.proofs.seats.end.Goals as goal
 
 pub returns-clause-left : goal.returns-clause-left

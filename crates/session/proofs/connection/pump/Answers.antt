@@ -5,8 +5,8 @@ use Rattle.session.specs.declared.served.Rest.TheVariants as rest
 use Rattle.session.specs.Ledger.{world}
 use Rattle.session.specs.Pumps.{Kept}
 use Rattle.session.specs.Standings.{Standing}
-use Rattle.session.proofs.Pumping.{behind_none, came_last, client_on, kept_none, kept_on, opened, over_on}
-use Rattle.session.proofs.Connecting.{dry_still, left_later, left_same, opens_on}
+use Rattle.session.proofs.Pump.{behind_none, came_last, client_on, kept_none, kept_on, opened, over_on}
+use Rattle.session.proofs.ServeConnection.{dry_still, left_later, left_same, opens_on}
 use Rattle.session.proofs.connection.pump.Goals as goal
 
 pub pieces-init : goal.pieces-init

@@ -5,8 +5,8 @@ use Rattle.session.specs.Pumps.{spring}
 use Rattle.session.specs.Standings.{client}
 use Rattle.session.specs.declared.served.Served.{Served}
 use Rattle.session.specs.declared.served.Served.TheVariants as served
-use Rattle.session.proofs.Connecting.{begun_fresh, serves_closed, serves_faulted, serves_refused, still_open}
-use Rattle.session.proofs.Enclosing.{heard, isolated, serves_connect}
+use Rattle.session.proofs.ServeConnection.{begun_fresh, serves_closed, serves_faulted, serves_refused, still_open}
+use Rattle.session.proofs.ConnectionEntries.{heard, isolated, serves_connect}
 use Rattle.session.proofs.connection.serve_connection.Goals as goal
 
 pub pump-pumped-requires : goal.pump-pumped-requires

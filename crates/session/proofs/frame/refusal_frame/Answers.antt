@@ -1,5 +1,5 @@
 use Rattle.session.specs.Frames.{refusal_errno}
-use Rattle.session.proofs.Telling.{refused}
+use Rattle.session.proofs.ToldFrame.{refused}
 use Rattle.session.proofs.frame.refusal_frame.Goals as goal
 
 pub returns : goal.returns

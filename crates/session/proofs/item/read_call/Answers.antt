@@ -1,4 +1,4 @@
-use Rattle.session.proofs.Asking.{message_means}
+use Rattle.session.proofs.ReadCall.{message_means}
 use Rattle.session.proofs.item.read_call.Goals as goal
 
 pub returns-clause-means : goal.returns-clause-means

@@ -1,4 +1,4 @@
-use Rattle.session.proofs.Cutting.{frame_headed}
+use Rattle.session.proofs.NextCut.{frame_headed}
 use Rattle.session.proofs.item.read_frame.Goals as goal
 
 pub unique_of-unique-requires : goal.unique_of-unique-requires

@@ -1,4 +1,4 @@
-use Rattle.session.proofs.Proving.{answer_asked}
+use Rattle.session.proofs.AnswersAsked.{answer_asked}
 use Rattle.session.proofs.laws.answers_are_of_what_is_asked.Goals as goal
 
 pub returns : goal.returns

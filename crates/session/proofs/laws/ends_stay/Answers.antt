@@ -1,4 +1,4 @@
-use Rattle.session.proofs.Following.{ends_stay}
+use Rattle.session.proofs.EndsStay.{ends_stay}
 use Rattle.session.proofs.laws.ends_stay.Goals as goal
 
 pub returns : goal.returns

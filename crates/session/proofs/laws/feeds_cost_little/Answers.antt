@@ -1,4 +1,4 @@
-use Rattle.session.proofs.Rooming.{feeds_cost}
+use Rattle.session.proofs.RoomIsEnough.{feeds_cost}
 use Rattle.session.proofs.laws.feeds_cost_little.Goals as goal
 
 pub returns : goal.returns

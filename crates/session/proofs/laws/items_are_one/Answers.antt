@@ -1,4 +1,4 @@
-use Rattle.session.proofs.Oneness.{are_one}
+use Rattle.session.proofs.ItemsAreOne.{are_one}
 use Rattle.session.proofs.laws.items_are_one.Goals as goal
 
 pub returns : goal.returns

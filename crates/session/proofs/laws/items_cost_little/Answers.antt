@@ -1,4 +1,4 @@
-use Rattle.session.proofs.Weighing.{cost_little}
+use Rattle.session.proofs.ItemsCostLittle.{cost_little}
 use Rattle.session.proofs.laws.items_cost_little.Goals as goal
 
 pub returns : goal.returns

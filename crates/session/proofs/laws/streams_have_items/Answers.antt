@@ -1,4 +1,4 @@
-use Rattle.session.proofs.Finding.{are_found}
+use Rattle.session.proofs.ItemsAreFound.{are_found}
 use Rattle.session.proofs.laws.streams_have_items.Goals as goal
 
 pub returns : goal.returns

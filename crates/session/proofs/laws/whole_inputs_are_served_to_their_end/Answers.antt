@@ -1,4 +1,4 @@
-use Rattle.session.proofs.Completing.{whole_inputs_end}
+use Rattle.session.proofs.WholeInputsEnd.{whole_inputs_end}
 use Rattle.session.proofs.laws.whole_inputs_are_served_to_their_end.Goals as goal
 
 pub returns : goal.returns

@@ -1,7 +1,7 @@
 use Rattle.std.proofs.Common.{◌≡◌, ℕ, ◌<◌, ◌≤◌, length, true, false, Some, None, refl, arith}
 use Rattle.std.proofs.lemmas.Bool.Decides.{nat_tests}
 use Rattle.std.specs.Prelude.{min, nat_lt}
-use Rattle.session.proofs.Lines.{line_cut_found}
+use Rattle.session.proofs.FirstLine.{line_cut_found}
 use Rattle.session.proofs.phase.cut_line.Goals as goal
 
 under : (n : ℕ) → n < 1024 → true ≡ nat_lt n 1024

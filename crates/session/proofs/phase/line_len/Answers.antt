@@ -3,7 +3,7 @@ use Rattle.std.specs.Prelude.{nat_eq}
 use Rattle.std.specs.List.{starts_with}
 use Rattle.dbus_auth.specs.Reply.{cr_lf}
 use Rattle.session.specs.Cuts.{line_len}
-use Rattle.session.proofs.Lines.{behind_none, slice_behind, found_here, sought_on, found_nowhere}
+use Rattle.session.proofs.FirstLine.{behind_none, slice_behind, found_here, sought_on, found_nowhere}
 use Rattle.session.proofs.phase.line_len.Goals as goal
 
 pub loop-at-init : goal.loop-at-init

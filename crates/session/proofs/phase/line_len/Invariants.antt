@@ -1,6 +1,6 @@
 use Rattle.std.proofs.Common.{◌≡◌, drop}
 use Rattle.session.specs.Cuts.{line_len}
-use Rattle.session.proofs.Lines.{line_behind}
+use Rattle.session.proofs.FirstLine.{line_behind}
 use Rattle.session.proofs.phase.line_len.Given as goal
 
 -- no line ends among the bytes so far

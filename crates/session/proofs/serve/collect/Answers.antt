@@ -1,5 +1,5 @@
 use Rattle.portal_model.specs.declared.request.Request.{Request}
-use Rattle.session.proofs.Serving.{asked_one}
+use Rattle.session.proofs.ServeItem.{asked_one}
 use Rattle.session.proofs.serve.collect.Goals as goal
 
 pub returns-then-collects-clause-asked : goal.returns-then-collects-clause-asked

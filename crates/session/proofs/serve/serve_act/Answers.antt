@@ -3,9 +3,9 @@ use Rattle.std.specs.Prelude.{option_to_list}
 use Rattle.session.specs.declared.act.Act.TheVariants.{Nothing, Line, Call, Local}
 use Rattle.session.specs.Answers.{spoken}
 use Rattle.session.specs.Frames.{frames_of}
-use Rattle.session.proofs.Growing.{grew_none}
-use Rattle.session.proofs.Doing.{act_ends}
-use Rattle.session.proofs.Serving.{sends_all}
+use Rattle.session.proofs.Grew.{grew_none}
+use Rattle.session.proofs.DidItems.{act_ends}
+use Rattle.session.proofs.ServeItem.{sends_all}
 use Rattle.session.proofs.serve.serve_act.Goals as goal
 
 pub returns-in-Nothing-clause-ends : goal.returns-in-Nothing-clause-ends

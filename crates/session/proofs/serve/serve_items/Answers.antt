@@ -1,54 +1,47 @@
-use Rattle.std.proofs.Common.{◌≡◌, inl, ℕ, List, length, take, drop, Option, Some, None, Ok, ap, ◌∙◌, subst, arith}
-use Rattle.session.specs.declared.phase.Cut.TheVariants as cut
+use Rattle.std.proofs.Common.{◌≡◌, ℕ, List, length, take, drop, Option, Some, None, Ok, ap, ◌∙◌, subst, arith}
 use Rattle.session.specs.declared.served.Rest.{Rest}
-use Rattle.session.specs.Cuts.{Cuts}
+use Rattle.session.specs.Cuts.{Cuts, no_item, whole_item}
 use Rattle.session.specs.Ledger.{world, ItemEnds}
-use Rattle.session.proofs.Cutting.{whole_alone, whole_within}
-use Rattle.session.proofs.Doing.{did_none}
-use Rattle.session.proofs.Serving.{run_ends, run_halts, run_on, item_size}
+use Rattle.session.proofs.NextCut.{whole_alone, whole_within}
+use Rattle.session.proofs.DidItems.{did_none}
+use Rattle.session.proofs.ServeItems.{remains_cut}
+use Rattle.session.proofs.ServeItem.{run_ends, run_halts, run_on, item_size}
 use Rattle.session.proofs.serve.serve_items.Goals as goal
 
 pub items-init : goal.items-init
 items-init g c = record { within = omega arith; did = did_none _ _ _; goes = g.met.D.Desk.stands c.args.desk.now }
 
-pub returns-in-More-clause-stops : goal.returns-in-More-clause-stops
-returns-in-More-clause-stops g c =
-    (c.items.invariant.within, c.items.invariant.did, subst (λ (b : List ℕ). Cuts c.items.stage.phase b cut.More) c.behind-left.ensures c.in-More.ensures)
-
-pub returns-in-Bad-clause-stops : goal.returns-in-Bad-clause-stops
-returns-in-Bad-clause-stops g c =
-    (c.items.invariant.within, c.items.invariant.did, inl (subst (λ (b : List ℕ). Cuts c.items.stage.phase b (cut.Bad c.in-Bad.rule)) c.behind-left.ensures c.in-Bad.ensures))
-
-pub returns-in-TooLong-clause-stops : goal.returns-in-TooLong-clause-stops
-returns-in-TooLong-clause-stops g c =
-    (c.items.invariant.within, c.items.invariant.did, subst (λ (b : List ℕ). Cuts c.items.stage.phase b cut.TooLong) c.behind-left.ensures c.in-TooLong.ensures)
-
-pub front-item-requires : goal.front-item-requires
-front-item-requires g c = (whole_within _ _ _ c.in-Whole.ensures).1
-
-pub serve_item-requires : goal.serve_item-requires
-serve_item-requires g c = rw c.front-item.ensures (whole_alone _ _ _ c.in-Whole.ensures)
-
 pub returns-in-Err-clause-stops : goal.returns-in-Err-clause-stops
 returns-in-Err-clause-stops g c =
+    let is = subst (λ (b : List ℕ). Cuts c.items.stage.phase b (no_item c.in-Err.rest)) c.behind-left.ensures c.in-Err.ensures in
+    (c.items.invariant.within, c.items.invariant.did, remains_cut c.args.client.now c.items.stage.phase _ c.in-Err.rest is)
+
+pub front-item-requires : goal.front-item-requires
+front-item-requires g c = (whole_within _ _ _ c.in-Ok.ensures).1
+
+pub serve_item-requires : goal.serve_item-requires
+serve_item-requires g c = rw c.front-item.ensures (whole_alone _ _ _ c.in-Ok.ensures)
+
+pub returns-in-Err-serve_item-clause-stops : goal.returns-in-Err-serve_item-clause-stops
+returns-in-Err-serve_item-clause-stops g c =
     let i = c.items.invariant in
     let used = c.items.len in
-    let n = c.in-Whole.len in
+    let n = c.in-Ok.len in
     let phase = c.items.stage.phase in
     let bytes = c.args.bytes.now in
-    let is : Cuts phase (drop used bytes) (cut.Whole n) = subst (λ (b : List ℕ). Cuts phase b (cut.Whole n)) c.behind-left.ensures c.in-Whole.ensures in
+    let is : Cuts phase (drop used bytes) (whole_item n) = subst (λ (b : List ℕ). Cuts phase b (whole_item n)) c.behind-left.ensures c.in-Ok.ensures in
     let item : c.front-item.result.now ≡ take n (drop used bytes) = c.front-item.ensures ∙ ap (take n) c.behind-left.ensures in
     let w = world (g.D.Desk.seated c.serve_item.new.desk) (g.K.Sink.told c.serve_item.new.sink) (g.K.Sink.faults c.serve_item.new.sink) in
-    run_halts c.args.client.now _ c.items.stage _ _ w bytes used n i.did is c.in-Err.halt _ (rw item at c.in-Err.ensures.ends)
+    run_halts c.args.client.now _ c.items.stage _ _ w bytes used n i.did is c.in-Err-serve_item.halt _ (rw item at c.in-Err-serve_item.ensures.ends)
 
 pub returns-in-Ok-Some-clause-stops : goal.returns-in-Ok-Some-clause-stops
 returns-in-Ok-Some-clause-stops g c =
     let i = c.items.invariant in
     let used = c.items.len in
-    let n = c.in-Whole.len in
+    let n = c.in-Ok.len in
     let phase = c.items.stage.phase in
     let bytes = c.args.bytes.now in
-    let is : Cuts phase (drop used bytes) (cut.Whole n) = subst (λ (b : List ℕ). Cuts phase b (cut.Whole n)) c.behind-left.ensures c.in-Whole.ensures in
+    let is : Cuts phase (drop used bytes) (whole_item n) = subst (λ (b : List ℕ). Cuts phase b (whole_item n)) c.behind-left.ensures c.in-Ok.ensures in
     let item : c.front-item.result.now ≡ take n (drop used bytes) = c.front-item.ensures ∙ ap (take n) c.behind-left.ensures in
     let w = world (g.D.Desk.seated c.serve_item.new.desk) (g.K.Sink.told c.serve_item.new.sink) (g.K.Sink.faults c.serve_item.new.sink) in
     let m = world (g.D.Desk.seated c.items.desk) (g.K.Sink.told c.items.sink) (g.K.Sink.faults c.items.sink) in
@@ -60,10 +53,10 @@ pub items-preserved : goal.items-preserved
 items-preserved g c =
     let i = c.items.invariant in
     let used = c.items.len in
-    let n = c.in-Whole.len in
+    let n = c.in-Ok.len in
     let phase = c.items.stage.phase in
     let bytes = c.args.bytes.now in
-    let is : Cuts phase (drop used bytes) (cut.Whole n) = subst (λ (b : List ℕ). Cuts phase b (cut.Whole n)) c.behind-left.ensures c.in-Whole.ensures in
+    let is : Cuts phase (drop used bytes) (whole_item n) = subst (λ (b : List ℕ). Cuts phase b (whole_item n)) c.behind-left.ensures c.in-Ok.ensures in
     let item : c.front-item.result.now ≡ take n (drop used bytes) = c.front-item.ensures ∙ ap (take n) c.behind-left.ensures in
     let w = world (g.D.Desk.seated c.serve_item.new.desk) (g.K.Sink.told c.serve_item.new.sink) (g.K.Sink.faults c.serve_item.new.sink) in
     let m = world (g.D.Desk.seated c.items.desk) (g.K.Sink.told c.items.sink) (g.K.Sink.faults c.items.sink) in
@@ -79,10 +72,10 @@ items-preserved g c =
 pub items-smaller : goal.items-smaller
 items-smaller g c =
     let used = c.items.len in
-    let n = c.in-Whole.len in
+    let n = c.in-Ok.len in
     let phase = c.items.stage.phase in
     let bytes = c.args.bytes.now in
-    let is : Cuts phase (drop used bytes) (cut.Whole n) = subst (λ (b : List ℕ). Cuts phase b (cut.Whole n)) c.behind-left.ensures c.in-Whole.ensures in
+    let is : Cuts phase (drop used bytes) (whole_item n) = subst (λ (b : List ℕ). Cuts phase b (whole_item n)) c.behind-left.ensures c.in-Ok.ensures in
     let item : c.front-item.result.now ≡ take n (drop used bytes) = c.front-item.ensures ∙ ap (take n) c.behind-left.ensures in
     let size = item_size phase bytes used n (length c.front-item.result.now) is (ap length item) c.items.invariant.within in
     omega (arith, size.1, size.2)

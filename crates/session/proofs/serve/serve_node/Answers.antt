@@ -5,8 +5,8 @@ use Rattle.portal_model.specs.declared.request.Request.{Request}
 use Rattle.session.specs.declared.act.Act.TheVariants.{Node}
 use Rattle.session.specs.Answers.{Made, Denied}
 use Rattle.session.specs.Frames.{answer_frames, refusal_frames}
-use Rattle.session.proofs.Growing.{asked_ok, asked_err}
-use Rattle.session.proofs.Doing.{act_ends}
+use Rattle.session.proofs.Grew.{asked_ok, asked_err}
+use Rattle.session.proofs.DidItems.{act_ends}
 use Rattle.session.proofs.serve.serve_node.Goals as goal
 
 pub returns-in-Ok-clause-ends : goal.returns-in-Ok-clause-ends

@@ -2,7 +2,7 @@ use Rattle.std.proofs.Common.{Ok, Err, subst}
 use Rattle.portal_base.specs.declared.who.Who.{Who}
 use Rattle.portal_model.specs.declared.request.Request.{Request}
 use Rattle.portal_model.specs.Seated.{Asks}
-use Rattle.session.proofs.Calling.{enter_asked, enter_refused, whatever_err}
+use Rattle.session.proofs.SessionCalls.{enter_asked, enter_refused, whatever_err}
 use Rattle.session.proofs.session.enter.Goals as goal
 
 pub returns-in_err-asked-clause-still_closed : goal.returns-in_err-asked-clause-still_closed

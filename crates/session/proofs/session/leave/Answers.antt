@@ -1,4 +1,4 @@
-use Rattle.session.proofs.Calling.{leave_closes, left_of}
+use Rattle.session.proofs.SessionCalls.{leave_closes, left_of}
 use Rattle.session.proofs.session.leave.Goals as goal
 
 pub returns : goal.returns

@@ -1,7 +1,7 @@
 use Rattle.std.proofs.Common.{◌≡◌, ◌<◌, ℕ, length, Option, Some, ap, ◌∙◌, arith}
 use Rattle.session.specs.Standings.{Standing}
 use Rattle.docportal.specs.Scenes.{placed, sessions_of}
-use Rattle.docportal.proofs.Tables.{set_is}
+use Rattle.docportal.proofs.SessionTable.{set_is}
 use Rattle.docportal.proofs.connections.Connections.put.Goals as goal
 
 pub returns : goal.returns

@@ -1,6 +1,6 @@
 use Rattle.std.proofs.Common.{ap, ◌∙◌}
 use Rattle.docportal.specs.Scenes.{sessions_of}
-use Rattle.docportal.proofs.Tables.{grown}
+use Rattle.docportal.proofs.SessionTable.{grown}
 use Rattle.docportal.proofs.connections.Connections.reach.Goals as goal
 
 pub loop-self-preserved : goal.loop-self-preserved

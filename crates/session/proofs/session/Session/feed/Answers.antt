@@ -1,10 +1,10 @@
 use Rattle.std.proofs.Common.{◌≡◌, ℕ, ◌+◌, ◌≤◌, List, ◌++◌, length, drop, Ok, Err, refl, sym, ap, ◌∙◌, arith, rules}
 use Rattle.session.specs.declared.served.Fed.TheVariants as fed
 use Rattle.session.specs.Ledger.{world}
-use Rattle.session.specs.Sessions.{StaysAt, longest}
-use Rattle.session.specs.Standings.{Standing}
-use Rattle.session.proofs.Calling.{fed_err, fed_none, fed_ok, stays_fed, stops_of}
-use Rattle.session.proofs.Feeding.{feeds_open}
+use Rattle.session.specs.Sessions.{StaysAt}
+use Rattle.session.specs.Standings.{Standing, longest}
+use Rattle.session.proofs.SessionCalls.{fed_err, fed_none, fed_ok, stays_fed, stops_of}
+use Rattle.session.proofs.Feed.{feeds_open}
 use Rattle.session.proofs.session.Session.feed.Goals as goal
 use Rattle.session.proofs.session.Session.feed.Goals.{in-Ok, in-Err}
 
@@ -46,7 +46,7 @@ returns-clause-feeds g c =
       | in-Err x ↦
           let why = x.in-Err.halt in
           let stops = stops_of _ s.client (Err why) _ s.stage c.serve_items.new.stage v w c.as_slice.result.now client stage x.in-Err.ensures.stops in
-          feeds_open s v piece _ _ w more (rw x.self-inside-is (fed_err why s v w piece c.as_slice.result.now _ bytes stops client x.halted-self-inside.ensures room (sym at, grown ∙ ap (λ (z : List ℕ). z ++ piece) (sym rest))))
+          feeds_open s v piece _ _ w more (rw x.self-inside-is (fed_err why s v w piece c.as_slice.result.now _ bytes stops client refl room (sym at, grown ∙ ap (λ (z : List ℕ). z ++ piece) (sym rest))))
     ]
 
 pub returns-clause-stays_open : goal.returns-clause-stays_open

@@ -1,0 +1,167 @@
+-- What a session is fed at a desk that has a portal alone.
+use Rattle.std.proofs.Common.{◌≡◌, inl, inr, ℕ, ◌+◌, ◌<◌, ◌≤◌, List, [], ◌∷◌, ◌++◌, length, Some, Bool, true, false, Result, Ok, Err, refl, sym, ap, ◌∙◌, subst, arith}
+use Rattle.std.specs.Prelude.{IfErr, IfOk, ◌⊎◌}
+use Rattle.portal_base.specs.Devices.{SinkState}
+use Rattle.portal_core.specs.Lending.{GrowsByOwn, is_faultless}
+use Rattle.portal_core.specs.Story.{Story, state_now}
+use Rattle.portal_model.specs.History.{Legal}
+use Rattle.portal_model.specs.Opening.{opened}
+use Rattle.portal_model.specs.Seated.{exchanges, rises_by}
+use Rattle.portal_model.specs.State.{State}
+use Rattle.session.specs.declared.phase.Phase.{Phase}
+use Rattle.session.specs.declared.served.Fed.{Fed}
+use Rattle.session.specs.declared.served.Fed.TheVariants as fed
+use Rattle.session.specs.declared.served.Rest.{Rest}
+use Rattle.session.specs.declared.served.Rest.TheVariants as rest
+use Rattle.session.specs.declared.served.Served.{Served}
+use Rattle.session.specs.declared.served.Served.TheVariants as served
+use Rattle.session.specs.Answers.{Answers, Outcome, denied, kept}
+use Rattle.session.specs.Asked.{requests_of}
+use Rattle.session.specs.Items.{Items, Remains}
+use Rattle.session.specs.Ledger.{World}
+use Rattle.session.specs.Sessions.{Feeds, FeedsOpen, FeedsOver, TakesUpTo, fed_of}
+use Rattle.session.specs.Standings.{Standing, longest}
+use Rattle.session.proofs.AnswersAsked.{answer_asked}
+use Rattle.docportal.specs.declared.error.LineError.{LineError}
+use Rattle.docportal.specs.declared.error.LineError.TheVariants as stop
+use Rattle.docportal.specs.declared.seats.Heard.{Heard}
+use Rattle.docportal.specs.Entries.{made_for}
+use Rattle.docportal.specs.Lines.{DataIsUnbuilt, IsUnbuiltRest}
+use Rattle.docportal.specs.Seats.{HeardAs, HearsAt, HearsNot, IsMet, WantsMemory, is_last, known_at, sunk}
+use Rattle.docportal.proofs.Made.{asked_alone}
+
+some_is : (x y : List (List ℕ)) → Some x ≡ Some y → x ≡ y
+some_is x y e = cc
+
+none_denied : (n count : ℕ) → count ≡ 0 → count ≡ rises_by 0 n → n ≡ 0
+none_denied n count c e = omega arith
+
+-- what was taken of a rest and a piece, at such a desk
+module _ (p q : Story) (seat count : ℕ) (at now : Standing) (bytes : List ℕ) (sink sink' : SinkState) (empty : sink.pieces ≡ []) (same : opened q.opening ≡ opened p.opening) (own : GrowsByOwn is_faultless seat p.history q.history) (legal : Legal (opened q.opening) q.history) (none : count ≡ 0) where
+  cut_taken : (what : Rest) → (t : TakesUpTo what at (sunk (known_at p seat 0) sink) bytes now (sunk (known_at q seat count) sink')) → Items at.client at.stage.phase (at.rest ++ bytes) t.did.items t.did.acts now.rest what
+  cut_taken what t = record {
+    bytes = t.bytes ∙ ap (λ (z : List ℕ). z ++ now.rest) t.did.bytes_are;
+    each = t.did.each;
+    remains = subst (λ (z : Phase). Remains at.client z now.rest what) t.did.phase t.remains;
+  }
+
+  takes_hears : (what : Rest) → TakesUpTo what at (sunk (known_at p seat 0) sink) bytes now (sunk (known_at q seat count) sink') → now.fed ≡ fed_of now.before what → HearsAt p q seat at bytes what sink'.pieces now
+  takes_hears what t fed_is =
+      let d = t.did in
+      let s = opened p.opening in
+      let rs = requests_of d.acts in
+      let mine : exchanges seat s q.history ≡ exchanges seat s p.history ++ kept d.outcomes = sym (ap (λ (z : State). exchanges seat z q.history) same) ∙ d.grows.desk.mine in
+      let fewest : denied d.outcomes ≡ 0 = none_denied (denied d.outcomes) count none d.grows.desk.refusals in
+      let made = asked_alone s p.history q.history seat (subst (λ (z : State). Legal z q.history) same legal) own rs d.outcomes refl mine fewest (answer_asked.items at.stage.serial now.stage.serial d.acts d.outcomes d.pieces d.answers) in
+      let pieces : sink'.pieces ≡ d.pieces = some_is _ _ d.grows.told ∙ ap (λ (z : List (List ℕ)). z ++ d.pieces) empty in
+      let answers : Answers at.stage.serial d.acts (made_for (state_now p) seat rs) sink'.pieces now.stage.serial =
+      subst (λ (z : List (List ℕ)). Answers at.stage.serial d.acts (made_for (state_now p) seat rs) z now.stage.serial) (sym pieces)
+      (subst (λ (z : List Outcome). Answers at.stage.serial d.acts z d.pieces now.stage.serial) made.1 d.answers) in (
+        rs,
+        record {
+          items = d.items;
+          acts = d.acts;
+          cut = cut_taken what t;
+          asked = refl;
+          answers = answers;
+          client = t.client;
+          phase = d.phase;
+          before = t.before ∙ ap (λ (z : List ℕ). at.before + length z) d.bytes_are;
+          fed = fed_is;
+        },
+        made.0,
+      )
+
+  takes_unbuilt : (what : Rest) → TakesUpTo what at (sunk (known_at p seat 0) sink) bytes now (sunk (known_at q seat count) sink') → IsUnbuiltRest what now.rest → DataIsUnbuilt bytes (Some at)
+  takes_unbuilt what t un = (t.did.items, t.did.acts, now.rest, what, cut_taken what t, un)
+
+  -- by what the session answered
+  abbrev Fed_so : Fed → Type 0
+  Fed_so r = Feeds at.fed at (sunk (known_at p seat 0) sink) bytes r now (sunk (known_at q seat count) sink')
+
+  open_so : (r : Fed) → at.fed ≡ fed.More → Fed_so r → FeedsOpen at (sunk (known_at p seat 0) sink) bytes r now (sunk (known_at q seat count) sink')
+  open_so r goes h = subst (λ (z : Fed). Feeds z at (sunk (known_at p seat 0) sink) bytes r now (sunk (known_at q seat count) sink')) goes h
+
+  no_rest : (l : List ℕ) (n : ℕ) → n ≡ length l → n ≤ 0 → l ≡ []
+  no_rest [] n e h = refl
+  no_rest (x ∷ xs) n e h = absurd (omega arith)
+
+  some_rest : (l : List ℕ) (n : ℕ) → n ≡ length l → 0 < n → l ≡ [] → ⊥
+  some_rest l n e h none = let zero_long = ap length none in omega arith
+
+  pub heard_more : at.fed ≡ fed.More → (n : ℕ) → n ≡ length now.rest → n ≤ 0 → Fed_so fed.More → HeardAs false p q seat at bytes sink'.pieces now
+  heard_more goes n e h f = let g = open_so fed.More goes f in (takes_hears rest.More g.0 g.1.0, no_rest now.rest n e h)
+
+  pub unheard_more : at.fed ≡ fed.More → (n : ℕ) → n ≡ length now.rest → 0 < n → Fed_so fed.More → DataIsUnbuilt bytes (Some at)
+  unheard_more goes n e h f = let g = open_so fed.More goes f in takes_unbuilt rest.More g.0 (some_rest now.rest n e h)
+
+  over_met : (s : Served) → at.before + length at.rest + length bytes ≤ longest → FeedsOver at (sunk (known_at p seat 0) sink) bytes s now (sunk (known_at q seat count) sink') → IsMet s
+  over_met (served.Malformed place rule) space h = tt
+  over_met (served.LineTooLong place) space h = tt
+  over_met (served.Unbuilt place) space h = tt
+  over_met served.Spent space h = let far = h.0 in absurd (omega arith)
+  over_met served.Ended space h = absurd h
+  over_met (served.Cut n) space h = absurd h
+  over_met served.ReadFault space h = absurd h
+  over_met served.WriteFault space h = absurd h
+  over_met (served.Full cost limit) space h = absurd h
+  over_met served.Memory space h = absurd h
+
+  pub met : at.fed ≡ fed.More → (s : Served) → at.before + length at.rest + length bytes ≤ longest → Fed_so (fed.Over s) → IsMet s
+  met goes s space f = over_met s space (open_so (fed.Over s) goes f).0
+
+  over_heard : (s : Served) → is_last s ≡ true → FeedsOpen at (sunk (known_at p seat 0) sink) bytes (fed.Over s) now (sunk (known_at q seat count) sink') → HeardAs true p q seat at bytes sink'.pieces now
+  over_heard (served.Malformed place rule) last h = (rest.Bad rule, tt, takes_hears (rest.Bad rule) h.0.0 (h.1.0 ∙ ap (λ (n : ℕ). fed.Over (served.Malformed n rule)) h.0.1))
+  over_heard (served.LineTooLong place) last h = (rest.TooLong, tt, takes_hears rest.TooLong h.0.0 (h.1.0 ∙ ap (λ (n : ℕ). fed.Over (served.LineTooLong n)) h.0.1))
+  over_heard (served.Unbuilt place) last h = absurd (cc)
+  over_heard served.Spent last h = absurd (cc)
+  over_heard served.Ended last h = absurd (cc)
+  over_heard (served.Cut n) last h = absurd (cc)
+  over_heard served.ReadFault last h = absurd (cc)
+  over_heard served.WriteFault last h = absurd (cc)
+  over_heard (served.Full cost limit) last h = absurd (cc)
+  over_heard served.Memory last h = absurd (cc)
+
+  over_unheard : (s : Served) → IsMet s → is_last s ≡ false → FeedsOpen at (sunk (known_at p seat 0) sink) bytes (fed.Over s) now (sunk (known_at q seat count) sink') → DataIsUnbuilt bytes (Some at)
+  over_unheard (served.Malformed place rule) is last h = absurd (cc)
+  over_unheard (served.LineTooLong place) is last h = absurd (cc)
+  over_unheard (served.Unbuilt place) is last h = takes_unbuilt rest.Unbuilt h.0.0 tt
+  over_unheard served.Spent is last h = absurd is
+  over_unheard served.Ended is last h = absurd is
+  over_unheard (served.Cut n) is last h = absurd is
+  over_unheard served.ReadFault is last h = absurd is
+  over_unheard served.WriteFault is last h = absurd is
+  over_unheard (served.Full cost limit) is last h = absurd is
+  over_unheard served.Memory is last h = absurd is
+
+  pub heard_last : at.fed ≡ fed.More → (s : Served) → Fed_so (fed.Over s) → (r : Result Heard LineError) → IfOk r (λ (heard : Heard). (heard.written ≡ sink') × (heard.is_over ≡ true) × (is_last s ≡ true))
+      → IfOk r (λ (heard : Heard). HeardAs heard.is_over p q seat at bytes heard.written.pieces now)
+  heard_last goes s f (Ok heard) h =
+      let all = over_heard s h.2 (open_so (fed.Over s) goes f) in
+      subst (λ (b : Bool). HeardAs b p q seat at bytes heard.written.pieces now) (sym h.1) (subst (λ (z : SinkState). HeardAs true p q seat at bytes z.pieces now) (sym h.0) all)
+  heard_last goes s f (Err e) h = tt
+
+  pub unheard_last : at.fed ≡ fed.More → (s : Served) → at.before + length at.rest + length bytes ≤ longest → Fed_so (fed.Over s) → (r : Result Heard LineError) → IfErr r (λ (e : LineError). (e ≡ stop.Unbuilt) × (is_last s ≡ false))
+      → IfErr r (HearsNot p q seat at bytes now)
+  unheard_last goes s space f (Ok heard) h = tt
+  unheard_last goes s space f (Err e) h =
+      let g = open_so (fed.Over s) goes f in
+      subst (HearsNot p q seat at bytes now) (sym h.0) (over_unheard s (over_met s space g.0) h.1 g)
+
+-- ---- there was no memory
+
+-- a request was refused
+pub wants_request : (r : Fed) (refusals : ℕ) → 1 ≤ refusals → WantsMemory r refusals
+wants_request fed.More refusals h = h
+wants_request (fed.Over met) refusals h = h
+wants_request fed.WriteFault refusals h = tt
+wants_request fed.Memory refusals h = tt
+
+-- the sink was full, or the session had no memory
+pub wants_room : (at now : Standing) (v w : World) (bytes : List ℕ) (refusals : ℕ) → at.fed ≡ fed.More → Feeds at.fed at v bytes fed.WriteFault now w ⊎ Feeds at.fed at v bytes fed.Memory now w → WantsMemory now.fed refusals
+wants_room at now v w bytes refusals goes (inl f) =
+    let h : Feeds fed.More at v bytes fed.WriteFault now w = subst (λ (z : Fed). Feeds z at v bytes fed.WriteFault now w) goes f in
+    subst (λ (z : Fed). WantsMemory z refusals) (sym h.2.0) tt
+wants_room at now v w bytes refusals goes (inr f) =
+    let h : Feeds fed.More at v bytes fed.Memory now w = subst (λ (z : Fed). Feeds z at v bytes fed.Memory now w) goes f in
+    subst (λ (z : Fed). WantsMemory z refusals) (sym h.1.0) tt

@@ -1,0 +1,341 @@
+-- What a line leaves as it has to be for the next.
+use Rattle.std.proofs.Common.{◌≡◌, ℕ, ◌+◌, ◌*◌, ◌≤◌, ◌==◌, List, [], ◌∷◌, ◌++◌, length, Option, Some, None, Bool, true, false, ◌||◌, cond, refl, sym, ap, ◌∙◌, subst, arith, length-append}
+use Rattle.std.specs.Prelude.{if◌then◌else◌, IfSome, map}
+use Rattle.std.specs.List.{list_any}
+use Rattle.std.specs.Option.{option_map}
+use Rattle.std.proofs.lemmas.Bool.Decides.{nat_tests}
+use Rattle.std.proofs.lemmas.List.Folds.{list_any-append}
+use Rattle.portal_model.specs.declared.entry.Entry.{Entry}
+use Rattle.portal_model.specs.declared.request.Request.{Request}
+use Rattle.portal_model.specs.History.{cost, of_seat, run}
+use Rattle.portal_model.specs.Seated.{Binding, bound, bound_after, bound_by}
+use Rattle.portal_model.specs.State.{State}
+use Rattle.portal_model.specs.Step.{after}
+use Rattle.portal_model.proofs.SeatLaws.{run-bound}
+use Rattle.script_form.specs.declared.script.ScriptLine.{ScriptLine}
+use Rattle.script_form.specs.declared.script.ScriptLine.TheVariants.{File, Doc, Open, Data, Close}
+use Rattle.script_form.specs.Lines.{KeepsRules, line_text}
+use Rattle.script_form.specs.Order.{opens}
+use Rattle.session.specs.declared.act.Act.{Act}
+use Rattle.session.specs.declared.act.Client.{Client}
+use Rattle.session.specs.declared.served.Fed.TheVariants as fed
+use Rattle.session.specs.declared.served.Rest.{Rest}
+use Rattle.session.specs.declared.served.Rest.TheVariants as rest
+use Rattle.session.specs.Asked.{asked_by, requests_of}
+use Rattle.session.specs.Items.{joined}
+use Rattle.session.specs.Sessions.{fed_of}
+use Rattle.session.specs.Standings.{Standing, client, fresh, longest}
+use Rattle.session.proofs.ConnectionStaysOpen.{ArePlain, act_plain, bound_stays}
+use Rattle.docportal.specs.Entries.{entries_for, entry_for}
+use Rattle.docportal.specs.Lines.{Comes, CloseDoes, DataDoes, Does, Goes, Hears, Passes}
+use Rattle.docportal.specs.Scenes.{Scene, placed, run_settings}
+use Rattle.docportal.specs.Steps.{Agrees, HaveRoom, IsIdle, IsNew, binding}
+use Rattle.docportal.specs.Texts.{out_line}
+use Rattle.session.proofs.ItemsCostLittle.{costs, costs-append, items_cost}
+use Rattle.docportal.proofs.Costs.{data_long, enter_cost, entries_cost}
+
+-- ---- the entries of a seat, by the seat
+
+abbrev seat_test : ℕ → Entry → Bool
+seat_test n e = e.seat == n
+
+own_entries : (rs : List Request) (s : State) (seat : ℕ) → of_seat seat (entries_for s seat rs) ≡ entries_for s seat rs
+own_entries [] s seat = refl
+own_entries (r ∷ rs) s seat =
+    let e = entry_for s seat r in
+    let here : (seat == seat) ≡ true = grind (arith, nat_tests) in
+    let more = own_entries rs (after s e) seat in
+    ap (λ (b : Bool). cond b (e ∷ of_seat seat (entries_for (after s e) seat rs)) (of_seat seat (entries_for (after s e) seat rs))) here ∙ ap (λ (l : List Entry). e ∷ l) more
+
+no_entries : (rs : List Request) (s : State) (seat n : ℕ) → (n == seat) ≡ false → of_seat n (entries_for s seat rs) ≡ []
+no_entries [] s seat n h = refl
+no_entries (r ∷ rs) s seat n h =
+    let e = entry_for s seat r in
+    let there : (seat == n) ≡ false = grind (arith, nat_tests) in
+    ap (λ (b : Bool). cond b (e ∷ of_seat n (entries_for (after s e) seat rs)) (of_seat n (entries_for (after s e) seat rs))) there ∙ no_entries rs (after s e) seat n h
+
+-- what requests make of a seat's connection
+abbrev bound_past : Option Binding → List Request → Option Binding
+bound_past o [] = o
+bound_past o (r ∷ rs) = bound_past (bound_after o r) rs
+
+bound_entries : (rs : List Request) (s : State) (seat : ℕ) (o : Option Binding) → bound_by o (entries_for s seat rs) ≡ bound_past o rs
+bound_entries [] s seat o = refl
+bound_entries (r ∷ rs) s seat o = bound_entries rs (after s (entry_for s seat r)) seat (bound_after o r)
+
+bound_here : (rs : List Request) (s : State) (seat : ℕ) → bound (run s (entries_for s seat rs)) seat ≡ bound_past (bound s seat) rs
+bound_here rs s seat = run-bound seat (entries_for s seat rs) s ∙ (ap (bound_by (bound s seat)) (own_entries rs s seat) ∙ bound_entries rs s seat (bound s seat))
+
+bound_there : (rs : List Request) (s : State) (seat n : ℕ) → (n == seat) ≡ false → bound (run s (entries_for s seat rs)) n ≡ bound s n
+bound_there rs s seat n h = run-bound n (entries_for s seat rs) s ∙ ap (bound_by (bound s n)) (no_entries rs s seat n h)
+
+plain-append : (rs qs : List Request) → ArePlain rs → ArePlain qs → ArePlain (rs ++ qs)
+plain-append [] qs a b = b
+plain-append (r ∷ rs) qs a b = (a.0, plain-append rs qs a.1 b)
+
+acts_plain : (acts : List Act) → ArePlain (requests_of acts)
+acts_plain [] = tt
+acts_plain (act ∷ acts) = plain-append (asked_by act) (requests_of acts) (act_plain act) (acts_plain acts)
+
+past_plain : (rs qs : List Request) (o : Option Binding) → ArePlain rs → bound_past o (rs ++ qs) ≡ bound_past o qs
+past_plain [] qs o plain = refl
+past_plain (r ∷ rs) qs o plain = ap (λ (z : Option Binding). bound_past z (rs ++ qs)) (bound_stays r o plain.0) ∙ past_plain rs qs o plain.1
+
+past_stays : (rs : List Request) (o : Option Binding) → ArePlain rs → bound_past o rs ≡ o
+past_stays [] o plain = refl
+past_stays (r ∷ rs) o plain = ap (λ (z : Option Binding). bound_past z rs) (bound_stays r o plain.0) ∙ past_stays rs o plain.1
+
+past_leave : (o : Option Binding) → bound_after o Request.Leave ≡ None
+past_leave None = refl
+past_leave (Some b) = refl
+
+-- ---- each session stands at its number
+
+abbrev maybe_binding : Option Standing → Option Binding
+maybe_binding o = option_map binding o
+
+abbrev choose : Bool → Option Standing → Option Standing → Option Standing
+choose b x y = if b then x else y
+
+-- what a seat's requests make of the portal and of the sessions
+module _ (a : Scene) (seat : ℕ) (rs : List Request) (now : Option Standing) (agrees : Agrees a) (idle : IfSome now IsIdle) (is : bound_past (bound a.portal seat) rs ≡ maybe_binding now) where
+  placed_idle : (b : Bool) (n : ℕ) → IfSome (choose b now (a.sessions n)) IsIdle
+  placed_idle true n = idle
+  placed_idle false n = agrees.idle n
+
+  placed_bound : (b : Bool) (n : ℕ) → (n == seat) ≡ b → bound (run a.portal (entries_for a.portal seat rs)) n ≡ maybe_binding (choose b now (a.sessions n))
+  placed_bound true n h =
+      let same : n ≡ seat = grind (arith, nat_tests) in
+      ap (bound (run a.portal (entries_for a.portal seat rs))) same ∙ (bound_here rs a.portal seat ∙ is)
+  placed_bound false n h = bound_there rs a.portal seat n h ∙ agrees.bound_alike n
+
+  comes_scene : Agrees (record { portal = run a.portal (entries_for a.portal seat rs); sessions = placed a.sessions seat now })
+  comes_scene = record { idle = λ n. placed_idle (n == seat) n; bound_alike = λ n. placed_bound (n == seat) n refl }
+
+comes_agree : (a b : Scene) (seat : ℕ) (rs : List Request) (lines : List (List ℕ)) (now : Option Standing) (es : List Entry) (out : List (List ℕ))
+    → Agrees a → IfSome now IsIdle → bound_past (bound a.portal seat) rs ≡ maybe_binding now → Comes a seat rs lines now es out b → Agrees b
+comes_agree a b seat rs lines now es out agrees idle is h =
+    let at : record { portal = run a.portal es; sessions = placed a.sessions seat now } ≡ record { portal = run a.portal (entries_for a.portal seat rs); sessions = placed a.sessions seat now } =
+    ap (λ (z : List Entry). record { portal = run a.portal z; sessions = placed a.sessions seat now }) h.entries_are in
+    subst Agrees (sym (h.scene ∙ at)) (comes_scene a seat rs now agrees idle is)
+
+passes_agree : (a b : Scene) (es : List Entry) (out : List (List ℕ)) → Agrees a → Passes a es out b → Agrees b
+passes_agree a b es out agrees h = subst Agrees (sym h.2) agrees
+
+-- the requests of items leave the connection of a session
+module _ (a b : Scene) (seat : ℕ) (at now : Standing) (bytes : List ℕ) (what : Rest) (rs : List Request) (ps : List (List ℕ)) (es : List Entry) (out : List (List ℕ)) (agrees : Agrees a) (open_at : a.sessions seat ≡ Some at) (x : Hears a.portal seat at bytes what rs ps now) where
+  open_bound : bound a.portal seat ≡ Some (binding at)
+  open_bound = agrees.bound_alike seat ∙ ap maybe_binding open_at
+
+  plain : ArePlain rs
+  plain = subst ArePlain (sym x.asked) (acts_plain x.acts)
+
+  goes_on_agree : what ≡ rest.More → now.rest ≡ [] → Comes a seat rs (map (out_line seat) ps) (Some now) es out b → Agrees b
+  goes_on_agree more left h =
+      let fed_is : now.fed ≡ fed.More = x.fed ∙ ap (fed_of now.before) more in
+      let is : bound_past (bound a.portal seat) rs ≡ Some (binding now) =
+      past_stays rs (bound a.portal seat) plain ∙ (open_bound ∙ ap (λ (c : Client). Some (record { who = c.who; kind = c.kind })) (sym x.client)) in
+      comes_agree a b seat rs _ (Some now) es out agrees (record { goes_on = fed_is; between = left }) is h
+
+  ends_agree : (lines : List (List ℕ)) → Comes a seat (rs ++ Request.Leave ∷ []) lines None es out b → Agrees b
+  ends_agree lines h = comes_agree a b seat (rs ++ Request.Leave ∷ []) lines None es out agrees tt (past_plain rs (Request.Leave ∷ []) (bound a.portal seat) plain ∙ past_leave (bound a.portal seat)) h
+
+goes_agree : (what : Rest) (a b : Scene) (seat : ℕ) (at now : Standing) (bytes : List ℕ) (rs : List Request) (ps : List (List ℕ)) (es : List Entry) (out : List (List ℕ))
+    → Agrees a → a.sessions seat ≡ Some at → Hears a.portal seat at bytes what rs ps now → Goes a seat what rs ps now es out b → Agrees b
+goes_agree rest.More a b seat at now bytes rs ps es out agrees e x h = goes_on_agree a b seat at now bytes rest.More rs ps es out agrees e x refl h.0 h.1
+goes_agree (rest.Bad rule) a b seat at now bytes rs ps es out agrees e x h = ends_agree a b seat at now bytes (rest.Bad rule) rs ps es out agrees e x _ h
+goes_agree rest.TooLong a b seat at now bytes rs ps es out agrees e x h = ends_agree a b seat at now bytes rest.TooLong rs ps es out agrees e x _ h
+goes_agree rest.Unbuilt a b seat at now bytes rs ps es out agrees e x h = absurd h
+
+data_agrees : (o : Option Standing) (a b : Scene) (seat : ℕ) (bytes : List ℕ) (es : List Entry) (out : List (List ℕ)) → Agrees a → a.sessions seat ≡ o → DataDoes a seat bytes o es out b → Agrees b
+data_agrees None a b seat bytes es out agrees e h = passes_agree a b es out agrees h
+data_agrees (Some at) a b seat bytes es out agrees e h = goes_agree h.0 a b seat at h.3 bytes h.1 h.2 es out agrees e h.4 h.5
+
+close_agrees : (o : Option Standing) (a b : Scene) (seat : ℕ) (es : List Entry) (out : List (List ℕ)) → Agrees a → CloseDoes a seat o es out b → Agrees b
+close_agrees None a b seat es out agrees h = passes_agree a b es out agrees h
+close_agrees (Some at) a b seat es out agrees h = comes_agree a b seat (Request.Leave ∷ []) _ None es out agrees tt (past_leave (bound a.portal seat)) h
+
+pub does_agree : (line : ScriptLine) (a b : Scene) (es : List Entry) (out : List (List ℕ)) → Agrees a → IsNew a line → Does a line es out b → Agrees b
+does_agree (File path content) a b es out agrees new h = passes_agree a b es out agrees h
+does_agree (Doc id reusable path grants) a b es out agrees new h = passes_agree a b es out agrees h
+does_agree (Open seat kind who) a b es out agrees new h =
+    let closed : bound a.portal seat ≡ None = agrees.bound_alike seat ∙ ap maybe_binding new in
+    comes_agree a b seat (Request.Enter who kind ∷ []) [] (Some (fresh (client who kind run_settings))) es out agrees (record { goes_on = refl; between = refl })
+    (ap (λ (o : Option Binding). bound_after o (Request.Enter who kind)) closed) h
+does_agree (Data seat bytes) a b es out agrees new h = data_agrees (a.sessions seat) a b seat bytes es out agrees refl h
+does_agree (Close seat) a b es out agrees new h = close_agrees (a.sessions seat) a b seat es out agrees h
+
+-- ---- what a line costs
+
+-- bytes that are heard between items hold the items
+heard_bytes : (s : State) (seat : ℕ) (at now : Standing) (bytes : List ℕ) (what : Rest) (rs : List Request) (ps : List (List ℕ)) → at.rest ≡ [] → (x : Hears s seat at bytes what rs ps now) → length (joined x.items) ≤ length bytes
+heard_bytes s seat at now bytes what rs ps none x =
+    let all : bytes ≡ joined x.items ++ now.rest = sym (ap (λ (z : List ℕ). z ++ bytes) none) ∙ x.cut.bytes in
+    let long : length bytes ≡ length (joined x.items) + length now.rest = ap length all ∙ length-append (joined x.items) now.rest in
+    omega arith
+
+heard_cost : (s : State) (seat : ℕ) (at now : Standing) (bytes : List ℕ) (what : Rest) (rs : List Request) (ps : List (List ℕ)) → at.rest ≡ [] → Hears s seat at bytes what rs ps now → costs rs ≤ 8 * length bytes
+heard_cost s seat at now bytes what rs ps none x =
+    let least = heard_bytes s seat at now bytes what rs ps none x in
+    let most = items_cost x.items at.client at.stage.phase x.acts x.cut.each in
+    let same : costs rs ≡ costs (requests_of x.acts) = ap costs x.asked in
+    omega arith
+
+comes_cost : (a b : Scene) (seat : ℕ) (rs : List Request) (lines : List (List ℕ)) (now : Option Standing) (es : List Entry) (out : List (List ℕ)) → Comes a seat rs lines now es out b → cost es ≡ costs rs
+comes_cost a b seat rs lines now es out h = ap cost h.entries_are ∙ entries_cost rs a.portal seat
+
+passes_cost : (a b : Scene) (es : List Entry) (out : List (List ℕ)) → Passes a es out b → cost es ≡ 0
+passes_cost a b es out h = ap cost h.0
+
+leaves_cost : (rs : List Request) → costs (rs ++ Request.Leave ∷ []) ≡ costs rs
+leaves_cost rs = let both = costs-append rs (Request.Leave ∷ []) in omega arith
+
+goes_cost : (what : Rest) (a b : Scene) (seat : ℕ) (rs : List Request) (ps : List (List ℕ)) (now : Standing) (es : List Entry) (out : List (List ℕ)) → Goes a seat what rs ps now es out b → cost es ≡ costs rs
+goes_cost rest.More a b seat rs ps now es out h = comes_cost a b seat rs _ _ es out h.1
+goes_cost (rest.Bad rule) a b seat rs ps now es out h = comes_cost a b seat (rs ++ Request.Leave ∷ []) _ _ es out h ∙ leaves_cost rs
+goes_cost rest.TooLong a b seat rs ps now es out h = comes_cost a b seat (rs ++ Request.Leave ∷ []) _ _ es out h ∙ leaves_cost rs
+goes_cost rest.Unbuilt a b seat rs ps now es out h = absurd h
+
+maybe_idle : (o : Option Standing) (x : Standing) → o ≡ Some x → IfSome o IsIdle → IsIdle x
+maybe_idle o x e h = subst (λ (z : Option Standing). IfSome z IsIdle) e h
+
+data_cost : (o : Option Standing) (a b : Scene) (seat : ℕ) (bytes : List ℕ) (es : List Entry) (out : List (List ℕ)) → Agrees a → a.sessions seat ≡ o → DataDoes a seat bytes o es out b
+    → cost es ≤ 8 * (length (line_text (Data seat bytes)) + 1)
+data_cost None a b seat bytes es out agrees e h = let none = passes_cost a b es out h in omega arith
+data_cost (Some at) a b seat bytes es out agrees e h =
+    let idle = maybe_idle (a.sessions seat) at e (agrees.idle seat) in
+    let same = goes_cost h.0 a b seat h.1 h.2 h.3 es out h.5 in
+    let most = heard_cost a.portal seat at h.3 bytes h.0 h.1 h.2 idle.between h.4 in
+    let text = data_long seat bytes in
+    omega arith
+
+close_cost : (o : Option Standing) (a b : Scene) (seat : ℕ) (es : List Entry) (out : List (List ℕ)) → CloseDoes a seat o es out b → cost es ≡ 0
+close_cost None a b seat es out h = passes_cost a b es out h
+close_cost (Some at) a b seat es out h = comes_cost a b seat (Request.Leave ∷ []) _ _ es out h
+
+pub does_cost : (line : ScriptLine) (a b : Scene) (es : List Entry) (out : List (List ℕ)) → Agrees a → KeepsRules line → Does a line es out b → cost es ≤ 8 * (length (line_text line) + 1)
+does_cost (File path content) a b es out agrees k h = let none = passes_cost a b es out h in omega arith
+does_cost (Doc id reusable path grants) a b es out agrees k h = let none = passes_cost a b es out h in omega arith
+does_cost (Open seat kind who) a b es out agrees k h =
+    let same = comes_cost a b seat (Request.Enter who kind ∷ []) _ _ es out h in
+    let most = enter_cost who seat kind (omega (arith, k.1)) in
+    omega arith
+does_cost (Data seat bytes) a b es out agrees k h = data_cost (a.sessions seat) a b seat bytes es out agrees refl h
+does_cost (Close seat) a b es out agrees k h = let none = close_cost (a.sessions seat) a b seat es out h in omega arith
+
+-- ---- the bytes of each session
+
+abbrev Holds : ℕ → Option Standing → Type 0
+Holds more o = IfSome o (λ (at : Standing). at.before + more ≤ longest)
+
+pub holds_less : (o : Option Standing) (m n : ℕ) → m ≤ n → Holds n o → Holds m o
+holds_less None m n h k = tt
+holds_less (Some at) m n h k = omega arith
+
+placed_room : (b : Bool) (n m : ℕ) (x y : Option Standing) → Holds m x → Holds m y → Holds m (choose b x y)
+placed_room true n m x y h k = h
+placed_room false n m x y h k = k
+
+comes_room : (a b : Scene) (seat : ℕ) (rs : List Request) (lines : List (List ℕ)) (now : Option Standing) (es : List Entry) (out : List (List ℕ)) (less more : ℕ)
+    → less ≤ more → HaveRoom a more → Holds less now → Comes a seat rs lines now es out b → HaveRoom b less
+comes_room a b seat rs lines now es out less more le room here h =
+    subst (λ (z : Scene). HaveRoom z less) (sym h.scene) (λ n. placed_room (n == seat) n less now (a.sessions n) here (holds_less (a.sessions n) less more le (room n)))
+
+passes_room : (a b : Scene) (es : List Entry) (out : List (List ℕ)) (less more : ℕ) → less ≤ more → HaveRoom a more → Passes a es out b → HaveRoom b less
+passes_room a b es out less more le room h = subst (λ (z : Scene). HaveRoom z less) (sym h.2) (λ n. holds_less (a.sessions n) less more le (room n))
+
+goes_room : (what : Rest) (a b : Scene) (seat : ℕ) (rs : List Request) (ps : List (List ℕ)) (now : Standing) (es : List Entry) (out : List (List ℕ)) (less more : ℕ)
+    → less ≤ more → HaveRoom a more → now.before + less ≤ longest → Goes a seat what rs ps now es out b → HaveRoom b less
+goes_room rest.More a b seat rs ps now es out less more le room here h = comes_room a b seat rs _ (Some now) es out less more le room here h.1
+goes_room (rest.Bad rule) a b seat rs ps now es out less more le room here h = comes_room a b seat (rs ++ Request.Leave ∷ []) _ None es out less more le room tt h
+goes_room rest.TooLong a b seat rs ps now es out less more le room here h = comes_room a b seat (rs ++ Request.Leave ∷ []) _ None es out less more le room tt h
+goes_room rest.Unbuilt a b seat rs ps now es out less more le room here h = absurd h
+
+data_room : (o : Option Standing) (a b : Scene) (seat : ℕ) (bytes : List ℕ) (es : List Entry) (out : List (List ℕ)) (less : ℕ) → Agrees a → a.sessions seat ≡ o
+    → HaveRoom a (length (line_text (Data seat bytes)) + 1 + less) → DataDoes a seat bytes o es out b → HaveRoom b less
+data_room None a b seat bytes es out less agrees e room h = passes_room a b es out less _ (omega arith) room h
+data_room (Some at) a b seat bytes es out less agrees e room h =
+    let more = length (line_text (Data seat bytes)) + 1 + less in
+    let idle = maybe_idle (a.sessions seat) at e (agrees.idle seat) in
+    let held : at.before + more ≤ longest = subst (λ (z : Option Standing). Holds more z) e (room seat) in
+    let before = h.4.before in
+    let least = heard_bytes a.portal seat at h.3 bytes h.0 h.1 h.2 idle.between h.4 in
+    let text = data_long seat bytes in
+    goes_room h.0 a b seat h.1 h.2 h.3 es out less more (omega arith) room (omega arith) h.5
+
+close_room : (o : Option Standing) (a b : Scene) (seat : ℕ) (es : List Entry) (out : List (List ℕ)) (less more : ℕ) → less ≤ more → HaveRoom a more → CloseDoes a seat o es out b → HaveRoom b less
+close_room None a b seat es out less more le room h = passes_room a b es out less more le room h
+close_room (Some at) a b seat es out less more le room h = comes_room a b seat (Request.Leave ∷ []) _ None es out less more le room tt h
+
+pub does_room : (line : ScriptLine) (a b : Scene) (es : List Entry) (out : List (List ℕ)) (less : ℕ) → Agrees a → less ≤ longest → HaveRoom a (length (line_text line) + 1 + less) → Does a line es out b → HaveRoom b less
+does_room (File path content) a b es out less agrees short room h = passes_room a b es out less _ (omega arith) room h
+does_room (Doc id reusable path grants) a b es out less agrees short room h = passes_room a b es out less _ (omega arith) room h
+does_room (Open seat kind who) a b es out less agrees short room h = comes_room a b seat (Request.Enter who kind ∷ []) _ (Some (fresh (client who kind run_settings))) es out less _ (omega arith) room (omega arith) h
+does_room (Data seat bytes) a b es out less agrees short room h = data_room (a.sessions seat) a b seat bytes es out less agrees refl room h
+does_room (Close seat) a b es out less agrees short room h = close_room (a.sessions seat) a b seat es out less _ (omega arith) room h
+
+-- ---- what no line opened
+
+-- nothing is open at a number that none of these lines opened
+abbrev pub AreClosed : List ScriptLine → Scene → Type 0
+AreClosed lines a = (n : ℕ) → list_any (opens n) lines ≡ false → a.sessions n ≡ None
+
+front_closed : (n : ℕ) (lines : List ScriptLine) (line : ScriptLine) → list_any (opens n) (lines ++ line ∷ []) ≡ false → (list_any (opens n) lines ≡ false) × (opens n line ≡ false)
+front_closed n lines line h =
+    let both = or_none (list_any (opens n) lines) (opens n line || false) (sym (list_any-append (opens n) lines (line ∷ [])) ∙ h) in
+    (both.0, (or_none (opens n line) false both.1).0)
+  where
+    or_none : (x y : Bool) → (x || y) ≡ false → (x ≡ false) × (y ≡ false)
+    or_none true y h = cc
+    or_none false y h = (refl, h)
+
+passes_closed : (a b : Scene) (es : List Entry) (out : List (List ℕ)) (lines : List ScriptLine) (line : ScriptLine) → AreClosed lines a → Passes a es out b → AreClosed (lines ++ line ∷ []) b
+passes_closed a b es out lines line closed h = subst (AreClosed (lines ++ line ∷ [])) (sym h.2) (λ n k. closed n (front_closed n lines line k).0)
+
+choose_closed : (b : Bool) (x y : Option Standing) → (b ≡ true → x ≡ None) → y ≡ None → choose b x y ≡ None
+choose_closed true x y h k = h refl
+choose_closed false x y h k = k
+
+comes_closed : (a b : Scene) (seat : ℕ) (rs : List Request) (said : List (List ℕ)) (now : Option Standing) (es : List Entry) (out : List (List ℕ)) (lines : List ScriptLine) (line : ScriptLine)
+    → AreClosed lines a → ((n : ℕ) → list_any (opens n) (lines ++ line ∷ []) ≡ false → (n == seat) ≡ true → now ≡ None) → Comes a seat rs said now es out b → AreClosed (lines ++ line ∷ []) b
+comes_closed a b seat rs said now es out lines line closed here h =
+    subst (AreClosed (lines ++ line ∷ [])) (sym h.scene) (λ n k. choose_closed (n == seat) now (a.sessions n) (here n k) (closed n (front_closed n lines line k).0))
+
+same_number : (n m : ℕ) → (n == m) ≡ true → n ≡ m
+same_number n m h = grind (arith, nat_tests)
+
+-- what is open was opened
+opened_here : (a : Scene) (seat : ℕ) (at : Standing) (lines : List ScriptLine) (line : ScriptLine) (x : Option Standing) → AreClosed lines a → a.sessions seat ≡ Some at
+    → (n : ℕ) → list_any (opens n) (lines ++ line ∷ []) ≡ false → (n == seat) ≡ true → x ≡ None
+opened_here a seat at lines line x closed e n k same =
+    let none : a.sessions seat ≡ None = ap a.sessions (sym (same_number n seat same)) ∙ closed n (front_closed n lines line k).0 in
+    let no : Some at ≡ None = sym e ∙ none in
+    absurd (cc)
+
+goes_closed : (what : Rest) (a b : Scene) (seat : ℕ) (rs : List Request) (ps : List (List ℕ)) (now : Standing) (es : List Entry) (out : List (List ℕ)) (lines : List ScriptLine) (line : ScriptLine)
+    → AreClosed lines a → ((x : Option Standing) (n : ℕ) → list_any (opens n) (lines ++ line ∷ []) ≡ false → (n == seat) ≡ true → x ≡ None) → Goes a seat what rs ps now es out b → AreClosed (lines ++ line ∷ []) b
+goes_closed rest.More a b seat rs ps now es out lines line closed here h = comes_closed a b seat rs _ (Some now) es out lines line closed (here (Some now)) h.1
+goes_closed (rest.Bad rule) a b seat rs ps now es out lines line closed here h = comes_closed a b seat _ _ None es out lines line closed (here None) h
+goes_closed rest.TooLong a b seat rs ps now es out lines line closed here h = comes_closed a b seat _ _ None es out lines line closed (here None) h
+goes_closed rest.Unbuilt a b seat rs ps now es out lines line closed here h = absurd h
+
+data_closed : (o : Option Standing) (a b : Scene) (seat : ℕ) (bytes : List ℕ) (es : List Entry) (out : List (List ℕ)) (lines : List ScriptLine) → AreClosed lines a → a.sessions seat ≡ o → DataDoes a seat bytes o es out b
+    → AreClosed (lines ++ Data seat bytes ∷ []) b
+data_closed None a b seat bytes es out lines closed e h = passes_closed a b es out lines (Data seat bytes) closed h
+data_closed (Some at) a b seat bytes es out lines closed e h = goes_closed h.0 a b seat h.1 h.2 h.3 es out lines (Data seat bytes) closed (λ x. opened_here a seat at lines (Data seat bytes) x closed e) h.5
+
+close_closed : (o : Option Standing) (a b : Scene) (seat : ℕ) (es : List Entry) (out : List (List ℕ)) (lines : List ScriptLine) → AreClosed lines a → CloseDoes a seat o es out b → AreClosed (lines ++ Close seat ∷ []) b
+close_closed None a b seat es out lines closed h = passes_closed a b es out lines (Close seat) closed h
+close_closed (Some at) a b seat es out lines closed h = comes_closed a b seat _ _ None es out lines (Close seat) closed (λ n k same. refl) h
+
+-- the line's own number is opened by it
+opens_own : (n seat : ℕ) → (seat == n) ≡ false → (n == seat) ≡ true → ⊥
+opens_own n seat h k = grind (arith, nat_tests)
+
+pub does_close : (line : ScriptLine) (a b : Scene) (es : List Entry) (out : List (List ℕ)) (lines : List ScriptLine) → AreClosed lines a → Does a line es out b → AreClosed (lines ++ line ∷ []) b
+does_close (File path content) a b es out lines closed h = passes_closed a b es out lines (File path content) closed h
+does_close (Doc id reusable path grants) a b es out lines closed h = passes_closed a b es out lines (Doc id reusable path grants) closed h
+does_close (Open seat kind who) a b es out lines closed h =
+    comes_closed a b seat _ _ _ es out lines (Open seat kind who) closed (λ n k same. absurd (opens_own n seat (front_closed n lines (Open seat kind who) k).1 same)) h
+does_close (Data seat bytes) a b es out lines closed h = data_closed (a.sessions seat) a b seat bytes es out lines closed refl h
+does_close (Close seat) a b es out lines closed h = close_closed (a.sessions seat) a b seat es out lines closed h

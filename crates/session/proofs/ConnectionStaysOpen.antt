@@ -1,0 +1,207 @@
+-- What items ask neither opens nor ends a connection.
+use Rattle.std.proofs.Common.{◌≡◌, inl, inr, ℕ, List, [], ◌∷◌, ◌++◌, map, Bool, true, false, Option, Some, None, is_some, refl, sym, ap, ◌∙◌, subst}
+use Rattle.std.specs.Option.{option_map}
+use Rattle.std.proofs.lemmas.List.{map-append}
+use Rattle.portal_base.specs.declared.who.Kind.{Kind}
+use Rattle.portal_base.specs.declared.who.Who.{Who}
+use Rattle.portal_model.specs.declared.entry.Entry.{Entry}
+use Rattle.portal_model.specs.declared.reply.Refused.{Refused}
+use Rattle.portal_model.specs.declared.request.Request.{Request}
+use Rattle.portal_model.specs.declared.state.Connection.{Connection}
+use Rattle.portal_model.specs.Seated.{Binding, Exchange, Known, Seated, binding_of, bound, bound_after, bound_by, is_open, state_seen}
+use Rattle.portal_model.specs.State.{State, connection_of}
+use Rattle.portal_model.proofs.SeatLaws.{exchanges-entries, run-bound}
+use Rattle.session.specs.declared.act.Act.{Act}
+use Rattle.session.specs.declared.act.Act.TheVariants.{Nothing, Line, Call, Node, Local}
+use Rattle.session.specs.declared.act.Client.{Client}
+use Rattle.session.specs.declared.served.Fed.{Fed}
+use Rattle.session.specs.declared.served.Fed.TheVariants as fed
+use Rattle.session.specs.declared.serve.Stage.{Stage}
+use Rattle.session.specs.declared.served.Rest.{Rest}
+use Rattle.session.specs.declared.served.Rest.TheVariants as rest
+use Rattle.session.specs.declared.served.Served.{Served}
+use Rattle.session.specs.declared.served.Served.TheVariants as served
+use Rattle.session.specs.Answers.{Answers, AreOf, Denied, Gives, IsOf, Made, Outcome, kept}
+use Rattle.session.specs.Asked.{asked_by, collect_requests}
+use Rattle.session.specs.Ledger.{Began, Broke, Did, Grew, World}
+use Rattle.session.specs.Sessions.{FeedsOpen, FeedsOver, IsBound, IsOpen, TakesUpTo}
+use Rattle.session.specs.Standings.{Standing}
+use Rattle.session.proofs.Grew.{grew_none, grew_on, kept-append}
+
+abbrev pub entries_of : List Exchange → List Entry
+entries_of xs = map (λ (x : Exchange). x.entry) xs
+
+-- ---- requests that items make
+
+-- a request that leaves the connection
+abbrev pub IsPlain : Request → Type 0
+IsPlain (Request.Enter who kind) = ⊥
+IsPlain Request.Leave = ⊥
+IsPlain Request.Collect = Unit {0}
+IsPlain (Request.Node r) = Unit {0}
+
+abbrev pub ArePlain : List Request → Type 0
+ArePlain [] = Unit {0}
+ArePlain (r ∷ rs) = IsPlain r × ArePlain rs
+
+collects_plain : (b : Bool) → ArePlain (collect_requests b)
+collects_plain true = (tt, tt)
+collects_plain false = tt
+
+pub act_plain : (act : Act) → ArePlain (asked_by act)
+act_plain Nothing = tt
+act_plain (Line reply) = tt
+act_plain (Call reply collects) = collects_plain collects
+act_plain (Node unique request) = (tt, tt)
+act_plain (Local unique told) = tt
+
+-- ---- outcomes that leave the connection
+
+pub bound_stays : (r : Request) (o : Option Binding) → IsPlain r → bound_after o r ≡ o
+bound_stays (Request.Enter who kind) o h = absurd h
+bound_stays Request.Leave o h = absurd h
+bound_stays Request.Collect None h = refl
+bound_stays Request.Collect (Some b) h = refl
+bound_stays (Request.Node n) None h = refl
+bound_stays (Request.Node n) (Some b) h = refl
+
+pub bound-append : (xs ys : List Entry) (o : Option Binding) → bound_by o (xs ++ ys) ≡ bound_by (bound_by o xs) ys
+bound-append [] ys o = refl
+bound-append (x ∷ xs) ys o = bound-append xs ys (bound_after o x.request)
+
+-- each is made of requests that leave the connection
+abbrev pub Leaves : List Outcome → Type 0
+Leaves os = (o : Option Binding) → bound_by o (entries_of (kept os)) ≡ o
+
+leaves_none : Leaves []
+leaves_none o = refl
+
+leaves_on : (os us : List Outcome) → Leaves os → Leaves us → Leaves (os ++ us)
+leaves_on os us a b o =
+    ap (λ (z : List Exchange). bound_by o (entries_of z)) (kept-append os us) ∙ (ap (bound_by o) (map-append (λ (x : Exchange). x.entry) (kept os) (kept us))
+    ∙ (bound-append (entries_of (kept os)) (entries_of (kept us)) o ∙ (ap (λ (z : Option Binding). bound_by z (entries_of (kept us))) (a o) ∙ b o)))
+
+leaves_one : (r : Request) (x : Outcome) → IsPlain r → IsOf r x → Leaves (x ∷ [])
+leaves_one r (Made x) plain h o = bound_stays x.entry.request o (subst IsPlain (sym h) plain)
+leaves_one r (Denied asked why) plain h o = refl
+
+are_leave : (rs : List Request) (os : List Outcome) → ArePlain rs → AreOf rs os → Leaves os
+are_leave [] os plain h = subst Leaves (sym h) leaves_none
+are_leave (r ∷ rs) os plain (x, us, e, is, more) = subst Leaves (sym e) (leaves_on (x ∷ []) us (leaves_one r x plain.0 is) (are_leave rs us plain.1 more))
+
+pub gives_leave : (act : Act) (s n : ℕ) (os : List Outcome) (ps : List (List ℕ)) → Gives act s os ps n → Leaves os
+gives_leave act s n os ps h = are_leave (asked_by act) os (act_plain act) h.asked
+
+pub answers_leave : (xs : List Act) (s n : ℕ) (os : List Outcome) (ps : List (List ℕ)) → Answers s xs os ps n → Leaves os
+answers_leave [] s n os ps h = subst Leaves (sym h.0) leaves_none
+answers_leave (x ∷ xs) s n os ps (o1, o2, p1, p2, mid, oe, pe, gives, more) = subst Leaves (sym oe) (leaves_on o1 o2 (gives_leave x s mid o1 p1 gives) (answers_leave xs mid n o2 p2 more))
+
+-- ---- the desk after the pieces
+
+-- from one desk to another there came outcomes that leave the connection
+abbrev pub Lets : Seated → Seated → Type 0
+Lets v w = (os : List Outcome) × Grew v os w × Leaves os
+
+did_lets : (c : Client) (s t : Stage) (v w : World) (b : List ℕ) → Did c s v b t w → Lets v.seated w.seated
+did_lets c s t v w b d = (d.outcomes, d.grows.desk, answers_leave d.acts s.serial t.serial d.outcomes d.pieces d.answers)
+
+broke_lets : (c : Client) (s : Stage) (v w : World) (b : List ℕ) → Broke c s v b w → Lets v.seated w.seated
+broke_lets c s v w b k =
+    let h = k.halted in (
+      k.did.outcomes ++ h.outcomes,
+      grew_on v.seated k.then.seated w.seated k.did.outcomes h.outcomes k.did.grows.desk h.grows.desk,
+      leaves_on k.did.outcomes h.outcomes (answers_leave k.did.acts s.serial k.mid.serial k.did.outcomes k.did.pieces k.did.answers) (gives_leave k.act k.mid.serial h.last h.outcomes h.pieces h.gives),
+    )
+
+began_lets : (c : Client) (s : Stage) (v w : World) (b : List ℕ) → Began c s v b w → Lets v.seated w.seated
+began_lets c s v w b k = did_lets c s k.mid v w k.front k.did
+
+none_lets : (v w : World) → w ≡ v → Lets v.seated w.seated
+none_lets v w e = ([], subst (λ (z : World). Grew v.seated [] z.seated) (sym e) (grew_none v.seated), leaves_none)
+
+takes_let : (what : Rest) (s : Standing) (v : World) (piece : List ℕ) (t : Standing) (w : World) → TakesUpTo what s v piece t w → Lets v.seated w.seated
+takes_let what s v piece t w h = did_lets s.client s.stage t.stage v w h.taken h.did
+
+over_lets : (met : Served) (s : Standing) (v : World) (piece : List ℕ) (t : Standing) (w : World) → FeedsOver s v piece met t w → Lets v.seated w.seated
+over_lets (served.Malformed at rule) s v piece t w h = takes_let (rest.Bad rule) s v piece t w h.0
+over_lets (served.LineTooLong at) s v piece t w h = takes_let rest.TooLong s v piece t w h.0
+over_lets (served.Unbuilt at) s v piece t w h = takes_let rest.Unbuilt s v piece t w h.0
+over_lets served.Spent s v piece t w h = none_lets v w h.1
+over_lets served.Ended s v piece t w h = absurd h
+over_lets (served.Cut n) s v piece t w h = absurd h
+over_lets served.ReadFault s v piece t w h = absurd h
+over_lets served.WriteFault s v piece t w h = absurd h
+over_lets (served.Full cost limit) s v piece t w h = absurd h
+over_lets served.Memory s v piece t w h = absurd h
+
+pub feeds_let : (r : Fed) (s : Standing) (v : World) (piece : List ℕ) (t : Standing) (w : World) → FeedsOpen s v piece r t w → Lets v.seated w.seated
+feeds_let fed.More s v piece t w h = takes_let rest.More s v piece t w h.0
+feeds_let (fed.Over met) s v piece t w h = over_lets met s v piece t w h.0
+feeds_let fed.WriteFault s v piece t w h = broke_lets s.client s.stage v w (s.rest ++ piece) h.0
+feeds_let fed.Memory s v piece t w (inl h, keeps, room) = none_lets v w h.0
+feeds_let fed.Memory s v piece t w (inr (inl h, holds), keeps, room) = began_lets s.client s.stage v w (s.rest ++ piece) h
+feeds_let fed.Memory s v piece t w (inr (inr h, holds), keeps, room) = broke_lets s.client s.stage v w (s.rest ++ piece) h.0
+
+-- ---- the open connection, by the seat's own entries
+
+own_bound : (d : Seated) → Known d → bound (state_seen d) d.seat ≡ bound_by (bound d.opening d.seat) (entries_of d.mine)
+own_bound d k = run-bound d.seat d.seen d.opening ∙ ap (bound_by (bound d.opening d.seat)) (sym (exchanges-entries d.seat d.seen d.opening) ∙ ap entries_of k.mine)
+
+pub grew_bound : (v w : Seated) (os : List Outcome) → Known v → Known w → Grew v os w → bound (state_seen w) w.seat ≡ bound_by (bound (state_seen v) v.seat) (entries_of (kept os))
+grew_bound v w os a b g =
+    own_bound w b
+    ∙ (ap (λ (s : State). bound_by (bound s w.seat) (entries_of w.mine)) g.moved.opening
+    ∙ (ap (λ (n : ℕ). bound_by (bound v.opening n) (entries_of w.mine)) g.moved.seat
+    ∙ (ap (λ (xs : List Exchange). bound_by (bound v.opening v.seat) (entries_of xs)) g.mine
+    ∙ (ap (bound_by (bound v.opening v.seat)) (map-append (λ (x : Exchange). x.entry) v.mine (kept os))
+    ∙ (bound-append (entries_of v.mine) (entries_of (kept os)) (bound v.opening v.seat)
+    ∙ ap (λ (o : Option Binding). bound_by o (entries_of (kept os))) (sym (own_bound v a)))))))
+
+abbrev option_binding : Option Connection → Option Binding
+option_binding o = option_map binding_of o
+
+none_bound : (o : Option Connection) → is_some o ≡ false → option_binding o ≡ None
+none_bound None h = refl
+none_bound (Some c) h = absurd (cc)
+
+pub not_open : (s : State) (seat : ℕ) → is_open s seat ≡ false → bound s seat ≡ None
+not_open s seat h = none_bound (connection_of s.connections seat) h
+
+some_open : (o : Option Connection) (b : Binding) → option_binding o ≡ Some b → is_some o ≡ true
+some_open None b h = absurd (cc)
+some_open (Some c) b h = refl
+
+pub open_of : (c : Client) (d : Seated) → IsOpen c d → is_open (state_seen d) d.seat ≡ true
+open_of c d h = some_open (connection_of (state_seen d).connections d.seat) _ h
+
+-- requests that leave the connection leave it open
+pub stays_open : (c : Client) (v w : Seated) → Known v → Known w → Lets v w → IsOpen c v → IsOpen c w
+stays_open c v w a b (os, grew, leaves) is = grew_bound v w os a b grew ∙ (ap (λ (o : Option Binding). bound_by o (entries_of (kept os))) is ∙ leaves _)
+
+-- where none was open, Enter opens one
+pub enter_opens : (who : Who) (kind : Kind) (v w : Seated) (x : Exchange) → Known v → Known w → is_open (state_seen v) v.seat ≡ false → x.entry.request ≡ Request.Enter who kind → Grew v (Made x ∷ []) w → IsBound who kind w
+enter_opens who kind v w x a b closed is grew =
+    grew_bound v w (Made x ∷ []) a b grew
+    ∙ (ap (λ (o : Option Binding). bound_after o x.entry.request) (not_open (state_seen v) v.seat closed) ∙ ap (bound_after None) is)
+
+-- ---- no open connection
+
+none_open : (o : Option Connection) → option_binding o ≡ None → is_some o ≡ false
+none_open None h = refl
+none_open (Some c) h = absurd (cc)
+
+unbound_closed : (d : Seated) → bound (state_seen d) d.seat ≡ None → is_open (state_seen d) d.seat ≡ false
+unbound_closed d h = none_open (connection_of (state_seen d).connections d.seat) h
+
+leave_ends : (o : Option Binding) → bound_after o Request.Leave ≡ None
+leave_ends None = refl
+leave_ends (Some b) = refl
+
+-- behind a Leave
+pub left_closed : (v w : Seated) (x : Exchange) → Known v → Known w → x.entry.request ≡ Request.Leave → Grew v (Made x ∷ []) w → is_open (state_seen w) w.seat ≡ false
+left_closed v w x a b is grew =
+    unbound_closed w (grew_bound v w (Made x ∷ []) a b grew ∙ (ap (bound_after (bound (state_seen v) v.seat)) is ∙ leave_ends (bound (state_seen v) v.seat)))
+
+-- what is refused opens none
+pub refusal_keeps_closed : (v w : Seated) (request : Request) (why : Refused) → Known v → Known w → is_open (state_seen v) v.seat ≡ false → Grew v (Denied request why ∷ []) w → is_open (state_seen w) w.seat ≡ false
+refusal_keeps_closed v w request why a b closed grew = unbound_closed w (grew_bound v w (Denied request why ∷ []) a b grew ∙ not_open (state_seen v) v.seat closed)

@@ -1,0 +1,94 @@
+-- What the requests of an open connection meet.
+use Rattle.std.proofs.Common.{◌≡◌, inl, inr, ℕ, List, [], ◌∷◌, Bool, true, false, cond, Option, Some, None, refl, sym, ap, ◌∙◌, subst}
+use Rattle.std.specs.Option.{option_map}
+use Rattle.portal_base.specs.declared.files.Look.{Look}
+use Rattle.portal_base.specs.declared.files.Look.TheVariants as look
+use Rattle.portal_base.specs.declared.who.Kind.{Kind}
+use Rattle.portal_base.specs.declared.who.Who.{Who}
+use Rattle.portal_model.specs.declared.entry.Entry.{Entry}
+use Rattle.portal_model.specs.declared.entry.Given.{Given}
+use Rattle.portal_model.specs.declared.reply.Answer.{Answer}
+use Rattle.portal_model.specs.declared.reply.Answer.TheVariants as answer
+use Rattle.portal_model.specs.declared.reply.Code.TheVariants as code
+use Rattle.portal_model.specs.declared.reply.NodeAnswer.{NodeAnswer}
+use Rattle.portal_model.specs.declared.reply.NodeAnswer.TheVariants as node
+use Rattle.portal_model.specs.declared.request.NodeOp.{NodeOp}
+use Rattle.portal_model.specs.declared.request.NodeRequest.{NodeRequest}
+use Rattle.portal_model.specs.declared.request.Request.{Request}
+use Rattle.portal_model.specs.declared.state.Connection.{Connection}
+use Rattle.portal_model.specs.Enter.{enter_answer}
+use Rattle.portal_model.specs.Errno.{ebadf, eio, enoent, enosys}
+use Rattle.portal_model.specs.GetAttr.{attr_of_file, by_place, names_handle}
+use Rattle.portal_model.specs.Leave.{leave_answer}
+use Rattle.portal_model.specs.Place.{Sight, SightOfFile, place_of}
+use Rattle.portal_model.specs.Seated.{Binding, binding_of, bound}
+use Rattle.portal_model.specs.State.{State, connection_of}
+use Rattle.portal_model.specs.Step.{all_told, bus_of, collect_step, is_mount, mount_of, node_answer, node_step, reply_at, request_step}
+use Rattle.session.specs.declared.act.Client.{Client}
+use Rattle.session.specs.Frames.{told_of}
+use Rattle.session.specs.Hearing.{Meets}
+use Rattle.session.proofs.ItemsFit.{Fits}
+use Rattle.session.proofs.ServedTraces.{IsAskedAt}
+
+-- ---- GETATTR
+
+-- a frame tells it
+abbrev Tells : Answer → Type 0
+Tells met = (told : NodeAnswer) × (told_of met ≡ Some told)
+
+place_tells : (r : NodeRequest) (sight : Option Sight) (looks : List Look) → Tells (by_place r sight looks)
+place_tells r None looks = (node.Error enoent, refl)
+place_tells r (Some (SightOfFile path may_write)) [] = (node.Error eio, refl)
+place_tells r (Some (SightOfFile path may_write)) (look.Missing ∷ looks) = (node.Error enoent, refl)
+place_tells r (Some (SightOfFile path may_write)) (look.Folder ∷ looks) = (node.Error enoent, refl)
+place_tells r (Some (SightOfFile path may_write)) (look.File generation size moment ∷ looks) = (node.Attr (attr_of_file r may_write size moment), refl)
+
+handle_tells : (b : Bool) (r : NodeRequest) (sight : Option Sight) (looks : List Look) → Tells (cond b (answer.Refused (code.Errno ebadf)) (by_place r sight looks))
+handle_tells true r sight looks = (node.Error ebadf, refl)
+handle_tells false r sight looks = place_tells r sight looks
+
+op_tells : (s : State) (who : Who) (r : NodeRequest) (op : NodeOp) (given : Given) → Tells (node_answer s who r op given).1
+op_tells s who r (NodeOp.GetAttr flags fh) given = handle_tells (names_handle flags) r (place_of s who r.node) given.looks
+op_tells s who r op given = (node.Error enosys, refl)
+
+-- ---- the open connection
+
+enter_done : (o : Option Connection) → option_map binding_of o ≡ None → enter_answer o ≡ answer.Done
+enter_done None h = refl
+enter_done (Some c) h = absurd (cc)
+
+leave_done : (o : Option Connection) (b : Binding) → option_map binding_of o ≡ Some b → leave_answer o ≡ answer.Done
+leave_done None b h = absurd (cc)
+leave_done (Some c) b h = refl
+
+kind_is : (c : Connection) (b : Binding) → Some (binding_of c) ≡ Some b → c.kind ≡ b.kind
+kind_is c b h = let same : binding_of c ≡ b = cc in ap (λ (z : Binding). z.kind) same
+
+collect_done : (s : State) (o : Option Connection) (b : Binding) → option_map binding_of o ≡ Some b → b.kind ≡ Kind.Bus → (collect_step s (bus_of o)).1.answer ≡ answer.Done
+collect_done s None b h k = absurd (cc)
+collect_done s (Some c) b h k = ap (λ (z : Kind). (collect_step s (cond (is_mount z) None (Some c))).1.answer) (kind_is c b h ∙ k)
+
+node_told : (s : State) (r : NodeRequest) (given : Given) (o : Option Connection) (b : Binding) → option_map binding_of o ≡ Some b → b.kind ≡ Kind.Mount → Tells (node_step s r given (mount_of o)).1.answer
+node_told s r given None b h k = absurd (cc)
+node_told s r given (Some c) b h k =
+    subst (λ (z : Kind). Tells (node_step s r given (cond (is_mount z) (Some c) None)).1.answer) (sym (kind_is c b h ∙ k)) (op_tells (all_told c.seat s) c.who r r.op given)
+
+-- ---- the step
+
+fits_met : (s : State) (seat : ℕ) (kind : Kind) (request : Request) (given : Given) (b : Binding) → bound s seat ≡ Some b → b.kind ≡ kind → Fits kind request → Meets request (request_step s seat request given).1.answer
+fits_met s seat Kind.Mount (Request.Enter who k) given b h is f = absurd f
+fits_met s seat Kind.Mount Request.Leave given b h is f = absurd f
+fits_met s seat Kind.Mount Request.Collect given b h is f = absurd f
+fits_met s seat Kind.Mount (Request.Node r) given b h is f = node_told s r given (connection_of s.connections seat) b h is
+fits_met s seat Kind.Bus (Request.Enter who k) given b h is f = absurd f
+fits_met s seat Kind.Bus Request.Leave given b h is f = absurd f
+fits_met s seat Kind.Bus Request.Collect given b h is f = collect_done s (connection_of s.connections seat) b h is
+fits_met s seat Kind.Bus (Request.Node r) given b h is f = absurd f
+
+met_by : (c : Client) (s : State) (seat : ℕ) (request : Request) (given : Given) (o : Option Binding) → bound s seat ≡ o → IsAskedAt c o request → Meets request (request_step s seat request given).1.answer
+met_by c s seat request given None h a = subst (λ (r : Request). Meets r (request_step s seat r given).1.answer) (sym a) (enter_done (connection_of s.connections seat) h)
+met_by c s seat request given (Some b) h (kind, who, inl fits) = fits_met s seat c.kind request given b h kind fits
+met_by c s seat request given (Some b) h (kind, who, inr leaves) = subst (λ (r : Request). Meets r (request_step s seat r given).1.answer) (sym leaves) (leave_done (connection_of s.connections seat) b h)
+
+pub met : (c : Client) (s : State) (e : Entry) → IsAskedAt c (bound s e.seat) e.request → Meets e.request (reply_at s e).answer
+met c s e a = met_by c s e.seat e.request e.given (bound s e.seat) refl a

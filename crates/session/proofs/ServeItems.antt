@@ -1,0 +1,97 @@
+-- A run over bytes, one item further.
+use Rattle.std.proofs.Common.{◌≡◌, inl, inr, ℕ, ◌+◌, List, [], ◌∷◌, ◌++◌, length, take, drop, Bool, true, false, cond, Option, Some, None, Ok, sym, ap, ◌∙◌, subst, take-add}
+use Rattle.std.specs.Prelude.{nat_lt, ◌==◌}
+use Rattle.std.proofs.lemmas.List.{take-append-drop}
+use Rattle.fuse_wire.specs.Frames.{split_of}
+use Rattle.portal_base.specs.declared.split.Split.{Split}
+use Rattle.portal_base.specs.declared.split.Split.TheVariants as split
+use Rattle.session.specs.declared.act.Act.{Act}
+use Rattle.session.specs.declared.act.Client.{Client}
+use Rattle.session.specs.declared.phase.Phase.{Phase}
+use Rattle.session.specs.declared.phase.Phase.TheVariants as due
+use Rattle.session.specs.declared.serve.Stage.{Stage}
+use Rattle.session.specs.declared.served.Rest.{Rest}
+use Rattle.session.specs.declared.served.Rest.TheVariants as rest
+use Rattle.session.specs.Asked.{Means}
+use Rattle.session.specs.Cuts.{Cuts, cut_of, line_cut_of, line_len, no_item, whole_item, zero_byte_cut}
+use Rattle.session.specs.Items.{Remains}
+use Rattle.session.specs.Ledger.{Began, Broke, BrokeUnsaid, Declines, Did, Halted, ItemEnds, Unsaid, World}
+use Rattle.session.proofs.NextCut.{whole_alone}
+use Rattle.session.proofs.DidItems.{did_on, did_one}
+
+-- ---- what is cut in an item's place
+
+no_unbuilt_byte : (b : List ℕ) → no_item rest.Unbuilt ≡ zero_byte_cut b → ⊥
+no_unbuilt_byte [] h = absurd (cc)
+no_unbuilt_byte (x ∷ xs) h = no_unbuilt_bit (x == 0) h
+  where
+    no_unbuilt_bit : (t : Bool) → no_item rest.Unbuilt ≡ cond t (whole_item 1) (no_item (rest.Bad 12)) → ⊥
+    no_unbuilt_bit true h = absurd (cc)
+    no_unbuilt_bit false h = absurd (cc)
+
+no_unbuilt_line : (o : Option ℕ) (t : Bool) → no_item rest.Unbuilt ≡ line_cut_of o t → ⊥
+no_unbuilt_line None true h = absurd (cc)
+no_unbuilt_line None false h = absurd (cc)
+no_unbuilt_line (Some len) t h = absurd (cc)
+
+no_unbuilt_split : (s : Split) → no_item rest.Unbuilt ≡ cut_of s → ⊥
+no_unbuilt_split split.More h = absurd (cc)
+no_unbuilt_split (split.Whole len) h = absurd (cc)
+no_unbuilt_split (split.Bad rule) h = absurd (cc)
+
+-- that a part isn't built is told of whole items alone
+no_unbuilt : (p : Phase) (b : List ℕ) → Cuts p b (no_item rest.Unbuilt) → ⊥
+no_unbuilt due.ZeroByte b h = no_unbuilt_byte b h
+no_unbuilt (due.Handshake a) b h = no_unbuilt_line (line_len (take 1024 b)) (nat_lt (length b) 1024) h
+no_unbuilt due.Messages b h = no_unbuilt_split h.0 h.2
+no_unbuilt due.Frames b h = no_unbuilt_split (split_of b) h
+
+-- what is cut in an item's place is what stands behind the items
+pub remains_cut : (c : Client) (p : Phase) (b : List ℕ) (what : Rest) → Cuts p b (no_item what) → Remains c p b what
+remains_cut c p b rest.More h = h
+remains_cut c p b (rest.Bad rule) h = inl h
+remains_cut c p b rest.TooLong h = h
+remains_cut c p b rest.Unbuilt h = absurd (no_unbuilt p b h)
+
+-- an item that asks nothing is what stands behind the items
+pub declined : (c : Client) (p : Phase) (b : List ℕ) (n : ℕ) (what : Rest) → Cuts p b (whole_item n) → Declines c p (take n b) what → Remains c p b what
+declined c p b n rest.More is h = absurd h
+declined c p b n (rest.Bad rule) is h = inr (n, is, h)
+declined c p b n rest.TooLong is h = absurd h
+declined c p b n rest.Unbuilt is h = (n, is, h)
+
+module _ (c : Client) (s t : Stage) (v m w : World) (bytes : List ℕ) (used n : ℕ) (did : Did c s v (take used bytes) t m) (is : Cuts t.phase (drop used bytes) (whole_item n)) where
+  item : List ℕ
+  item = take n (drop used bytes)
+
+  -- one item further
+  pub stepped : (x : Stage) → ItemEnds c (Ok None) t m (take n (drop used bytes)) x w → Did c s v (take (used + n) bytes) x w
+  stepped x (act, means, phase, ends) =
+      let one = did_one c t x m w (take n (drop used bytes)) act ends.0 ends.1 (whole_alone t.phase (drop used bytes) n is, means) phase ends.2 ends.3 ends.4 in
+      subst (λ (b : List ℕ). Did c s v b x w) (sym (take-add used n bytes)) (did_on c s t x v m w (take used bytes) (take n (drop used bytes)) did one)
+
+  cut_bytes : bytes ≡ take used bytes ++ (take n (drop used bytes) ++ drop n (drop used bytes))
+  cut_bytes = sym (ap (λ (z : List ℕ). take used bytes ++ z) (take-append-drop n (drop used bytes)) ∙ take-append-drop used bytes)
+
+  -- an item in part
+  pub broke : (act : Act) → Means c t.phase (take n (drop used bytes)) (Ok act) → Halted act t.serial m w → Broke c s v bytes w
+  broke act means halted = record {
+    front = take used bytes;
+    item = take n (drop used bytes);
+    after = drop n (drop used bytes);
+    mid = t;
+    then = m;
+    act = act;
+    bytes_are = cut_bytes;
+    did = did;
+    is_item = (whole_alone t.phase (drop used bytes) n is, means);
+    halted = halted;
+  }
+
+  pub broke_unsaid : (act : Act) → Means c t.phase (take n (drop used bytes)) (Ok act) → Unsaid act t.serial m w → BrokeUnsaid c s v bytes w
+  unfolding broke
+  broke_unsaid act means h = (broke act means h.0, h.1, h.2 ∙ did.sound)
+
+-- a front, and nothing more
+pub began : (c : Client) (s t : Stage) (v w : World) (bytes : List ℕ) (used : ℕ) → Did c s v (take used bytes) t w → Began c s v bytes w
+began c s t v w bytes used did = record { front = take used bytes; after = drop used bytes; mid = t; bytes_are = sym (take-append-drop used bytes); did = did }
