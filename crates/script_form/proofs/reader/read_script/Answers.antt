@@ -2,7 +2,7 @@ use Rattle.std.proofs.Common.{rules, ◌+◌, ◌<◌, ◌^◌, ◌∙◌, ap, l
 use Rattle.std.proofs.lemmas.List.{length-append}
 use Rattle.script_form.specs.Lines.{text_of}
 use Rattle.script_form.proofs.ScriptFacts.{next_cut, good_next, lines_short, text_none, good_none}
-use Rattle.script_form.proofs.reader.read_built.Goals as goal
+use Rattle.script_form.proofs.reader.read_script.Goals as goal
 
 pub loop-rest-init : goal.loop-rest-init
 loop-rest-init c =

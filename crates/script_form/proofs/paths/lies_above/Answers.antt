@@ -1,6 +1,6 @@
 use Rattle.std.proofs.Common.{sym, ◌∙◌, refl, not, false, ap}
 use Rattle.script_form.proofs.PathFacts.{above_split, above_when, slash_none, slash_some}
-use Rattle.script_form.proofs.preceding.lies_above.Goals as goal
+use Rattle.script_form.proofs.paths.lies_above.Goals as goal
 
 pub returns-in-None : goal.returns-in-None
 returns-in-None c = rw (above_split c.args.path.now c.args.below.now, c.in-None.ensures.cases) refl
