@@ -12,3 +12,4 @@ pub mod Oneness
 pub mod Playing
 pub mod Lining
 pub mod Running
+pub mod Counting

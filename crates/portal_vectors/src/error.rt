@@ -2,6 +2,7 @@
 
 use portal_base::memory::WantOfMemory;
 use portal_base::names::NameError;
+use script_form::error::ScriptError;
 use std::alloc::{AllocError, Global};
 use thiserror::Error;
 use vector_lines::error::LineError;
@@ -15,6 +16,9 @@ pub enum VectorError {
     /// The text is no name.
     #[error("{0}")]
     Name(NameError),
+    /// The text is no script.
+    #[error("{0}")]
+    Script(ScriptError),
 }
 
 impl VectorError {
@@ -23,6 +27,7 @@ impl VectorError {
         match self {
             VectorError::Line(error) => format!(in alloc; "{error:?}"),
             VectorError::Name(error) => format!(in alloc; "{error:?}"),
+            VectorError::Script(error) => format!(in alloc; "{error:?}"),
         }
     }
 }
@@ -42,6 +47,12 @@ impl From<AllocError> for VectorError {
 impl From<WantOfMemory> for VectorError {
     fn from(_error: WantOfMemory) -> VectorError {
         VectorError::Line(LineError::Memory)
+    }
+}
+
+impl From<ScriptError> for VectorError {
+    fn from(error: ScriptError) -> VectorError {
+        VectorError::Script(error)
     }
 }
 

@@ -5,6 +5,7 @@ pub mod Naming
 pub mod Next
 pub mod Opening
 pub mod Order
+pub mod Outside
 pub mod Paths
 pub mod Preceding
 pub mod Reading

@@ -12,6 +12,7 @@ pub mod laws;
 mod line;
 mod naming;
 pub mod opening;
+pub mod outside;
 mod paths;
 mod preceding;
 pub mod reader;

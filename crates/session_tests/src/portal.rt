@@ -12,7 +12,7 @@ use portal_base::who::{Kind, Who};
 use portal_core::local_desk::LocalDesk;
 use portal_core::portal::Portal;
 use script_form::opening::opening_of;
-use script_form::reader::read_built;
+use script_form::reader::read_script;
 use session::connection::serve_connection;
 use session::served::Served;
 use std::alloc::Global;
@@ -51,8 +51,8 @@ fn opened_by(alloc: Global, script: &[u8], history: u64) -> Result<Portal, Fail>
     requires { length script.now ≤ 67_108_864 }
     ensures { IfOk result (λ portal. portal.history ≡ []) }
 {
-    let built = read_built(alloc, script)?;
-    let opening = opening_of(alloc, &built.script, limits(history))?;
+    let script = read_script(alloc, script)?;
+    let opening = opening_of(alloc, &script, limits(history))?;
     Ok(Portal::start(alloc, &opening)?)
 }
 
