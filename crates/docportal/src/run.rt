@@ -38,7 +38,8 @@ pub fn run<S: Source, K: Sink>(
 {
     match command_of(words) {
         Some(Command::Replay) => replay_source(alloc, source, sink),
-        Some(Command::Worlds) | Some(Command::Generate) => Status::Unbuilt { line: 0 },
+        Some(Command::Worlds) => Status::Unbuilt { line: 0 },
+        Some(Command::Generate) => Status::Unbuilt { line: 0 },
         None => Status::Usage,
     }
 }

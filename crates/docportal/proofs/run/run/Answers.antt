@@ -1,0 +1,9 @@
+use Rattle.std.proofs.Common.{inl, inr}
+use Rattle.docportal.proofs.Running.{ran_unbuilt}
+use Rattle.docportal.proofs.run.run.Goals as goal
+
+pub returns-in-Some-Worlds-clause-ran : goal.returns-in-Some-Worlds-clause-ran
+returns-in-Some-Worlds-clause-ran g c = ran_unbuilt _ _ _ (inl c.in-Some-Worlds.ensures)
+
+pub returns-in-Some-Generate-clause-ran : goal.returns-in-Some-Generate-clause-ran
+returns-in-Some-Generate-clause-ran g c = ran_unbuilt _ _ _ (inr c.in-Some-Generate.ensures)
