@@ -3,7 +3,7 @@ use Rattle.docportal.proofs.Running.{ran_unbuilt}
 use Rattle.docportal.proofs.run.run.Goals as goal
 
 pub returns-in-Some-Worlds-clause-ran : goal.returns-in-Some-Worlds-clause-ran
-returns-in-Some-Worlds-clause-ran g c = ran_unbuilt _ _ _ (inl c.in-Some-Worlds.ensures)
+returns-in-Some-Worlds-clause-ran g c = ran_unbuilt c.args.words.now _ _ (inl (rw c.in-Some-Worlds.field-0-is at c.in-Some-Worlds.ensures))
 
 pub returns-in-Some-Generate-clause-ran : goal.returns-in-Some-Generate-clause-ran
-returns-in-Some-Generate-clause-ran g c = ran_unbuilt _ _ _ (inr c.in-Some-Generate.ensures)
+returns-in-Some-Generate-clause-ran g c = ran_unbuilt c.args.words.now _ _ (inr (rw c.in-Some-Generate.field-0-is at c.in-Some-Generate.ensures))
