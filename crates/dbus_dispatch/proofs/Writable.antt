@@ -18,8 +18,8 @@ use Rattle.dbus_types.specs.declared.message.OutMessage.TheVariants.{Return, Err
 use Rattle.dbus_types.specs.Names.{is_interface_name}
 use Rattle.dbus_types.specs.Types.{alignment, types_text}
 use Rattle.dbus_types.specs.Values.{type_of}
-use Rattle.dbus_marshal.specs.Spells.{gap}
-use Rattle.dbus_marshal.specs.Spelling.{spelling, spellings}
+use Rattle.dbus_types.specs.Spells.{gap}
+use Rattle.dbus_types.specs.Spelling.{spelling, spellings}
 use Rattle.dbus_message.specs.Fields.{field_type}
 use Rattle.dbus_message.specs.Written.{field, signature_field, last_part, kind_out, body_out, return_fields, fields_out, IsGoodBody, KeepsKinds, CanWrite}
 use Rattle.dbus_message.proofs.Spelling.{part_good}

@@ -13,7 +13,7 @@ use Rattle.dbus_types.specs.declared.types.Value.TheOpen.{Value-F}
 use Rattle.dbus_types.specs.declared.types.Value.TheVariants as V
 use Rattle.dbus_types.specs.Types.{IsValidType, IsVariantType}
 use Rattle.dbus_types.specs.Values.{type_of, LeafKeeps, ValueKeeps, KeepsWithin, KeepsRules}
-use Rattle.dbus_marshal.specs.Spells.{Members, Elements, Flat, Row, NoneInside, SpellsWithin, Spells}
+use Rattle.dbus_types.specs.Spells.{Members, Elements, Flat, Row, NoneInside, SpellsWithin, Spells}
 
 out_byte : (n : ℕ) → out-Value (V.Byte n) ≡ Value-F.Byte n
 out_byte n = search the_lemmas

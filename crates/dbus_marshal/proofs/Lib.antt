@@ -9,10 +9,9 @@ pub mod Public
 pub mod Loops
 pub mod Extending
 pub mod Sets
-pub mod Same
+pub mod Joined
 pub mod Keeps
 pub mod Plain
 pub mod Every
-pub mod SpelledType
 pub mod Exact
 pub mod First

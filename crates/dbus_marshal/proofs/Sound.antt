@@ -14,7 +14,7 @@ use Rattle.dbus_marshal.specs.declared.error.ReadError.{ReadError}
 use Rattle.dbus_marshal.specs.declared.error.ReadError.TheVariants.{BadText, TooLong, BadSignature}
 use Rattle.dbus_types.specs.Types.{alignment}
 use Rattle.dbus_types.specs.Values.{IsText, IsSignatureText}
-use Rattle.dbus_marshal.specs.Spells.{number, gap, Aligned, IsPath, bit, Members, Elements, BoolRow, NumberRow, TextRow, ArrayRow, StructRow, EntryRow, Flat, Row, NoneInside, SpellsWithin}
+use Rattle.dbus_types.specs.Spells.{number, gap, Aligned, IsPath, bit, Members, Elements, BoolRow, NumberRow, TextRow, ArrayRow, StructRow, EntryRow, Flat, Row, NoneInside, SpellsWithin}
 use Rattle.dbus_marshal.specs.Reads.{◌>>=◌, Read, padded, taken, numbered, number_at, byte_at, ended, truth, is_text, is_path_text, text_at, texted, types_in, type_in, signature_at, joined, members, listed, elements, within_array, fixed, flat, layer, reads}
 use Rattle.dbus_marshal.proofs.Signatures.{types_took, type_took}
 use Rattle.dbus_marshal.proofs.Words.{text_is, path_is}

@@ -12,7 +12,7 @@ use Rattle.dbus_marshal.specs.declared.error.ReadError.{ReadError}
 use Rattle.dbus_marshal.specs.declared.error.ReadError.TheVariants.{BadText, BadSignature}
 use Rattle.dbus_types.specs.Types.{alignment, type_text}
 use Rattle.dbus_types.specs.Values.{IsText, IsSignatureText}
-use Rattle.dbus_marshal.specs.Spells.{number, gap, Aligned, IsPath, bit, Members, Elements, BoolRow, NumberRow, TextRow, ArrayRow, StructRow, EntryRow, Flat, Row, NoneInside, SpellsWithin}
+use Rattle.dbus_types.specs.Spells.{number, gap, Aligned, IsPath, bit, Members, Elements, BoolRow, NumberRow, TextRow, ArrayRow, StructRow, EntryRow, Flat, Row, NoneInside, SpellsWithin}
 use Rattle.dbus_marshal.specs.Reads.{◌>>=◌, Read, padded, number_at, byte_at, ended, truth, is_text, is_path_text, text_at, numbered, texted, signature_at, members, elements, fixed, flat, layer, reads}
 use Rattle.dbus_marshal.proofs.Signatures.{types_again, type_again}
 use Rattle.dbus_marshal.proofs.Words.{is_text_of, is_path_of}

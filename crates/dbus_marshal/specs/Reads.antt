@@ -16,7 +16,7 @@ use Rattle.dbus_types.specs.declared.errors.SignatureError.TheVariants as Stop
 use Rattle.dbus_types.specs.Names.{is_path}
 use Rattle.dbus_types.specs.Reading.{whole_at, single_at}
 use Rattle.dbus_types.specs.Types.{alignment}
-use Rattle.dbus_marshal.specs.Spells.{gap}
+use Rattle.dbus_types.specs.Spells.{gap}
 pub use Rattle.dbus_marshal.specs.Breaks.{array_error}
 pub use Rattle.dbus_marshal.specs.Reading.{◌>>=◌, Fails, Gives, IsRead, IsStopped, IsRefused, Read, after, place}
 

@@ -9,8 +9,8 @@ ghost use Rattle.dbus_types.specs.declared.types.WireType.{WireType as WireType'
 ghost use Rattle.dbus_types.specs.Values.{type_of, KeepsRules};
 ghost use Rattle.dbus_marshal.specs.declared.error.ReadError.{ReadError as ReadError'};
 ghost use Rattle.dbus_marshal.specs.Breaks.{Breaks};
-ghost use Rattle.dbus_marshal.specs.Spells.{Spells};
-ghost use Rattle.dbus_marshal.specs.Spelling.{spelling};
+ghost use Rattle.dbus_types.specs.Spells.{Spells};
+ghost use Rattle.dbus_types.specs.Spelling.{spelling};
 
 /// A value that keeps the rules has a spelling, in either order of bytes and
 /// at each offset: what is written for it, where that has at most 67,108,864

@@ -5,8 +5,8 @@
 ghost use Rattle.std.specs.Prelude.{◌≡◌, ◌+◌, ◌<◌, ◌≤◌, ◌^◌, ◌++◌, OnOk, OnErr, length, take, drop, replicate, slice_set};
 ghost use Rattle.std.specs.Int.{to_le_bytes, w8, w16, w32, w64};
 ghost use Rattle.dbus_types.specs.declared.types.Endian.TheVariants.{Little};
-ghost use Rattle.dbus_marshal.specs.Spells.{gap, number as number_bytes};
-ghost use Rattle.dbus_marshal.specs.Spelling.{Extends, aligned, signature_body, text_body};
+ghost use Rattle.dbus_types.specs.Spells.{gap, number as number_bytes};
+ghost use Rattle.dbus_types.specs.Spelling.{Extends, aligned, signature_body, text_body};
 
 use portal_base::list::ByteList;
 use portal_base::memory::WantOfMemory;

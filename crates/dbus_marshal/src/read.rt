@@ -9,7 +9,7 @@ ghost use Rattle.dbus_types.specs.declared.types.WireType.TheOpen.{WireType-F};
 ghost use Rattle.dbus_types.specs.Types.{IsValidType};
 ghost use Rattle.dbus_types.specs.Values.{type_of, KeepsRules};
 ghost use Rattle.dbus_marshal.specs.declared.error.ReadError.{ReadError as ReadError'};
-ghost use Rattle.dbus_marshal.specs.Spells.{Spells};
+ghost use Rattle.dbus_types.specs.Spells.{Spells};
 ghost use Rattle.dbus_marshal.specs.Breaks.{Breaks};
 ghost use Rattle.dbus_marshal.specs.Reads.{Gives, IsRead, IsStopped, IsRefused, after, layer, members, elements, reads};
 

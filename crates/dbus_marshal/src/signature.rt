@@ -7,7 +7,7 @@ ghost use Rattle.dbus_types.specs.Reading.{whole_at};
 ghost use Rattle.dbus_marshal.specs.Reads.{Gives, types_in, type_in};
 ghost use Rattle.dbus_types.specs.Types.{type_text};
 ghost use Rattle.dbus_types.specs.Values.{type_of};
-ghost use Rattle.dbus_marshal.specs.Spelling.{Extends, signature_body};
+ghost use Rattle.dbus_types.specs.Spelling.{Extends, signature_body};
 
 use crate::error::ReadError;
 use crate::put::overwrite_byte;

@@ -8,8 +8,8 @@ ghost use Rattle.dbus_types.specs.declared.types.Value.{Value as Value'};
 ghost use Rattle.dbus_types.specs.declared.types.WireType.{WireType as WireType'};
 ghost use Rattle.dbus_types.specs.declared.types.Endian.{Endian as Endian'};
 ghost use Rattle.dbus_types.specs.declared.types.Endian.TheVariants.{Little};
-ghost use Rattle.dbus_marshal.specs.Spells.{Spells, gap};
-ghost use Rattle.dbus_marshal.specs.Spelling.{Extends, aligned, spelled, spelling, spellings, signature_body, text_body, array_body};
+ghost use Rattle.dbus_types.specs.Spells.{Spells, gap};
+ghost use Rattle.dbus_types.specs.Spelling.{Extends, aligned, spelled, spelling, spellings, signature_body, text_body, array_body};
 
 use crate::put::{
     overwrite_length, pad, put_16, put_32, put_64, put_length, put_short_text, put_text,

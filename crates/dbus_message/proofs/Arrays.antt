@@ -9,7 +9,7 @@ use Rattle.dbus_types.specs.declared.types.Value.{Value, out-Value, the_lemmas}
 use Rattle.dbus_types.specs.declared.types.Value.TheOpen.{Value-F}
 use Rattle.dbus_types.specs.declared.types.Value.TheVariants as V
 use Rattle.dbus_marshal.specs.declared.error.ReadError.{ReadError}
-use Rattle.dbus_marshal.specs.Spells.{Spells, Row, SpellsWithin}
+use Rattle.dbus_types.specs.Spells.{Spells, Row, SpellsWithin}
 use Rattle.dbus_marshal.specs.Reads.{IsRead}
 use Rattle.dbus_marshal.proofs.Whole.{one_spelling}
 use Rattle.dbus_message.specs.declared.error.MessageError.TheVariants.{Bad}

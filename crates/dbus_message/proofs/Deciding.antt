@@ -14,7 +14,7 @@ use Rattle.dbus_types.specs.declared.message.Message.{Message}
 use Rattle.dbus_types.specs.Types.{IsSignature}
 use Rattle.dbus_marshal.specs.declared.error.ReadError.{ReadError}
 use Rattle.dbus_marshal.specs.Reads.{Read, reads, types_in}
-use Rattle.dbus_marshal.specs.Spells.{Members, Spells}
+use Rattle.dbus_types.specs.Spells.{Members, Spells}
 use Rattle.dbus_marshal.proofs.Signatures.{types_again, types_took}
 use Rattle.dbus_marshal.proofs.Sound.{reads_took}
 use Rattle.dbus_marshal.proofs.Took.{IsBytes, Took, bytes_after, bytes_before}

@@ -10,8 +10,8 @@ use Rattle.dbus_types.specs.declared.message.Message.{Message}
 use Rattle.dbus_types.specs.declared.message.OutMessage.{OutMessage}
 use Rattle.dbus_types.specs.Types.{IsSignature}
 use Rattle.dbus_types.specs.Values.{type_of}
-use Rattle.dbus_marshal.specs.Spells.{Members}
-use Rattle.dbus_marshal.proofs.Same.{spells_same}
+use Rattle.dbus_types.specs.Spells.{Members}
+use Rattle.dbus_types.proofs.Same.{spells_same}
 use Rattle.dbus_marshal.proofs.Signatures.{types_again}
 use Rattle.dbus_marshal.proofs.Whole.{ok_is, one_spelling}
 use Rattle.dbus_message.specs.declared.content.Content.{Content}

@@ -9,7 +9,7 @@ ghost use Rattle.dbus_types.specs.declared.types.WireType.TheVariants as W;
 ghost use Rattle.dbus_types.specs.declared.types.Value.TheVariants as V;
 ghost use Rattle.dbus_types.specs.Types.{type_text, types_text};
 ghost use Rattle.dbus_types.specs.Values.{type_of as type_in};
-ghost use Rattle.dbus_marshal.specs.Spells.{Spells, gap};
+ghost use Rattle.dbus_types.specs.Spells.{Spells, gap};
 ghost use Rattle.dbus_message.specs.Content.{IsBody};
 ghost use Rattle.dbus_message.specs.Fields.{field_type as type_of_field};
 ghost use Rattle.dbus_message.specs.Messages.{IsMessage};

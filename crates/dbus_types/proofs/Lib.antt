@@ -11,3 +11,6 @@ pub mod Once
 pub mod Ascii
 pub mod Extending
 pub mod Within
+pub mod Same
+pub mod SpelledType
+pub mod Lengths

@@ -4,3 +4,5 @@ pub mod Reading
 pub mod Breaks
 pub mod Names
 pub mod Values
+pub mod Spells
+pub mod Spelling

@@ -9,6 +9,7 @@ pub mod copies;
 pub mod equal;
 pub mod errors;
 pub mod keeping;
+pub mod laws;
 pub mod layout;
 pub mod message;
 pub mod names;

@@ -10,7 +10,7 @@ use Rattle.portal_model.specs.History.{EachLawful, run}
 use Rattle.portal_model.specs.Lawful.{Lawful, LawfulLooks, is_defined}
 use Rattle.portal_model.specs.State.{State}
 use Rattle.portal_model.specs.Step.{after, looks_taken}
-use Rattle.portal_model.proofs.WorldLaws.{step_told}
+use Rattle.portal_model.proofs.Kept.{step_told}
 use Rattle.session.proofs.Defining.{AllDefined}
 use Rattle.docportal.specs.Entries.{entries_for, entry_for}
 

@@ -7,7 +7,7 @@ use Rattle.portal_model.specs.History.{EachLawful, run}
 use Rattle.portal_model.specs.State.{State}
 use Rattle.portal_model.specs.Valid.{Valid}
 use Rattle.portal_model.proofs.Histories.{EachLawful-append}
-use Rattle.portal_model.proofs.WorldLaws.{replies_of_trace}
+use Rattle.app_world.proofs.WorldLaws.{replies_of_trace}
 use Rattle.script_form.specs.declared.script.ScriptLine.{ScriptLine}
 use Rattle.script_form.specs.declared.script.ScriptLine.TheVariants.{File, Doc, Fail, Word, Now, Open, Data, Close}
 use Rattle.script_form.specs.declared.script.ScriptLine.TheVariants as line

@@ -3,7 +3,7 @@ use Rattle.std.specs.Prelude.{◌≡◌, ◌≢◌, ◌⊎◌, ℕ, ◌+◌, ◌
 use Rattle.portal_base.specs.Outside.{behind, onto, HasRisen, Short}
 use Rattle.portal_model.specs.declared.entry.Entry.{Entry}
 use Rattle.portal_model.specs.History.{Legal, cost, replies}
-use Rattle.portal_model.specs.World.{app_run, trace}
+use Rattle.app_world.specs.World.{app_run, trace}
 use Rattle.script_form.specs.declared.script.ScriptLine.{ScriptLine}
 use Rattle.script_form.specs.Lines.{text_of}
 use Rattle.script_form.specs.Order.{IsRead, IsFault}

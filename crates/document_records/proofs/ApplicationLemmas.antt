@@ -5,8 +5,9 @@ use Rattle.std.specs.Option.{option_map, MatchOption}
 use Rattle.std.proofs.lemmas.Bool.Decides.{nat_tests}
 use Rattle.portal_base.specs.Names.{is_same}
 use Rattle.portal_model.specs.Valid.{is_numbered, applications_limit}
-use Rattle.document_records.specs.Applications.{number_of, numbered, AreNumbered}
-use Rattle.document_records.proofs.TripleOrder.{is_same-refl, is_same-sym}
+use Rattle.portal_model.specs.Applications.{number_of, numbered}
+use Rattle.document_records.specs.Applications.{AreNumbered}
+use Rattle.portal_model.proofs.TripleOrder.{is_same-refl, is_same-sym}
 
 -- how many names stand ahead of the application's
 abbrev pub ahead : List (List ℕ) → List ℕ → ℕ

@@ -15,7 +15,7 @@ use Rattle.portal_model.specs.declared.state.Document.{Document}
 use Rattle.portal_model.specs.Valid.{is_made}
 use Rattle.document_records.specs.DocumentIndex.{IsIndexed, AreKept, live_numbers, made_numbers}
 use Rattle.document_records.specs.Documents.{DocumentList, has_number, front}
-use Rattle.document_records.proofs.TripleOrder.{nat_is, nat-itself}
+use Rattle.portal_model.proofs.TripleOrder.{nat_is, nat-itself}
 
 pub is_at-nat : (a b : ℕ) → is_at (nat_cmp a) b ≡ (a == b)
 is_at-nat a b = grind (arith, nat_tests)

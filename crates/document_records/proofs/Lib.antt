@@ -1,7 +1,4 @@
 mod ApplicationLemmas
 mod DocumentLemmas
-mod FourTriples
 mod GrantLemmas
-mod Rising
-mod TripleOrder
 mod Unused

@@ -3,8 +3,8 @@ use Rattle.std.proofs.Common.{◌≡◌, ℕ, ◌+◌, ◌%◌, ◌^◌, ◌<◌
 use Rattle.std.proofs.lemmas.Bool.Decides.{nat_tests}
 use Rattle.portal_base.specs.declared.names.doc_id.DocId.{DocId}
 use Rattle.portal_model.specs.Valid.{is_made}
-use Rattle.document_records.specs.Documents.{above}
-use Rattle.document_records.proofs.TripleOrder.{nat_is}
+use Rattle.portal_model.specs.Documents.{above}
+use Rattle.portal_model.proofs.TripleOrder.{nat_is}
 
 -- how many made numbers lie at least so far above the word
 abbrev pub left : ℕ → ℕ → List DocId → ℕ

@@ -1,11 +1,9 @@
--- The documents of a portal, as lists, and what is looked up in them.
+-- The documents of a portal, as lists.
 -- Source: XDG Desktop Portal documentation, org.freedesktop.portal.Documents.
-use Rattle.std.specs.Prelude.{◌≡◌, ℕ, ◌==◌, ◌+◌, ◌-◌, ◌<◌, ◌%◌, ◌^◌, min, List, [], ◌∷◌, ◌++◌, length, take, Bool, true, false, not, ◌&&◌, Option, option_map}
-use Rattle.std.specs.List.{filter, find}
-use Rattle.portal_base.specs.Names.{is_same}
+use Rattle.std.specs.Prelude.{◌≡◌, ℕ, ◌==◌, ◌-◌, min, List, [], ◌∷◌, ◌++◌, length, take, Bool, not}
+use Rattle.std.specs.List.{filter}
 use Rattle.portal_base.specs.declared.names.doc_id.DocId.{DocId}
 use Rattle.portal_model.specs.declared.state.Document.{Document}
-use Rattle.portal_model.specs.Valid.{is_made}
 
 pub record DocumentList : Type 0 where
   -- how many documents may be live, and how many may be made
@@ -48,31 +46,3 @@ pub record IsLast (s : DocumentList) (id : DocId) : Type 0 where
   pub last : Document
   pub number : last.id ≡ id
   pub added : s ≡ with_document before last
-
-abbrev pub same_flag : Bool → Bool → Bool
-same_flag true b = b
-same_flag false b = not b
-
--- the document may stand for a new one of this path and this persistent flag
-abbrev pub serves : List ℕ → Bool → Document → Bool
-serves path persistent d = is_same d.path path && (same_flag d.persistent persistent && d.reusable)
-
-abbrev pub id_of_document : Document → DocId
-id_of_document d = d.id
-
--- the first that may stand for a new one
-abbrev pub reusable_of : List Document → List ℕ → Bool → Option DocId
-reusable_of documents path persistent = option_map id_of_document (find (serves path persistent) documents)
-
--- the first of a path
-abbrev pub first_of : List Document → List ℕ → Option DocId
-first_of documents path = option_map id_of_document (find (λ d. is_same d.path path) documents)
-
--- how far a number of 32 bits lies above a word, where 0 follows the greatest number
-abbrev pub above : ℕ → ℕ → ℕ
-above word number = (number + (2 ^ 32 - word)) % 2 ^ 32
-
--- the first number at or above the word that no made document has
-pub record IsUnused (made : List DocId) (word number : ℕ) : Type 0 where
-  pub unused : is_made made number ≡ false
-  pub first : (other : ℕ) → other < 2 ^ 32 → above word other < above word number → is_made made other ≡ true

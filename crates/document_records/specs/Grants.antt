@@ -5,8 +5,8 @@ use Rattle.portal_base.specs.Names.{is_same}
 use Rattle.rights_rule.specs.Rights.{RightSet, union, minus, is_no_right}
 use Rattle.portal_model.specs.declared.state.Triple.{Triple}
 use Rattle.document_records.specs.declared.grants.Grant.{Grant}
-use Rattle.document_records.specs.Ordered.{bytes_less, is_rising}
-use Rattle.document_records.specs.Rights.{triples_of}
+use Rattle.portal_model.specs.Ordered.{bytes_less, is_rising}
+use Rattle.portal_model.specs.Rights.{triples_of}
 
 abbrev pub triples_of_grant : Grant → List Triple
 triples_of_grant g = triples_of g.app g.id g.rights

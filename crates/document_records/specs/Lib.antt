@@ -3,5 +3,3 @@ pub mod DocumentErrors
 pub mod DocumentIndex
 pub mod Documents
 pub mod Grants
-pub mod Ordered
-pub mod Rights

@@ -3,7 +3,8 @@
 ghost use Rattle.std.specs.Prelude.{◌≡◌, ◌<◌, ◌≤◌, [], Some, length, IfOk, OnOk, OnErr, option_copied};
 ghost use Rattle.std.specs.List.{position};
 ghost use Rattle.portal_base.specs.Names.{is_same};
-ghost use Rattle.document_records.specs.Applications.{number_of, numbered, name_of_number, HasNumberLeft, AreNumbered};
+ghost use Rattle.portal_model.specs.Applications.{number_of, numbered, name_of_number, HasNumberLeft};
+ghost use Rattle.document_records.specs.Applications.{AreNumbered};
 ghost use Rattle.document_records.specs.Documents.{front};
 
 use portal_base::list::List;

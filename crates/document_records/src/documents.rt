@@ -4,7 +4,8 @@ ghost use Rattle.std.specs.Prelude.{◌≡◌, ◌<◌, ◌^◌, IfOk, OnOk, OnE
 ghost use Rattle.std.specs.List.{position};
 ghost use Rattle.portal_model.specs.State.{document_of};
 ghost use Rattle.portal_model.specs.Valid.{is_made};
-ghost use Rattle.document_records.specs.Documents.{no_documents, room, with_document, without_document, without_last, IsLast, reusable_of, first_of, IsUnused, id_of_document, has_number};
+ghost use Rattle.portal_model.specs.Documents.{reusable_of, first_of, IsUnused, id_of_document};
+ghost use Rattle.document_records.specs.Documents.{no_documents, room, with_document, without_document, without_last, IsLast, has_number};
 ghost use Rattle.document_records.specs.DocumentErrors.{RefusesDocument};
 ghost use Rattle.document_records.specs.DocumentIndex.{AreKept};
 

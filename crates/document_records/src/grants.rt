@@ -2,10 +2,10 @@
 
 ghost use Rattle.std.specs.Prelude.{◌≡◌, [], OnOk, OnErr, map, None, true, false, option_copied};
 ghost use Rattle.std.specs.List.{prefix_len, find, filter};
-ghost use Rattle.portal_model.specs.View.{held_of};
-ghost use Rattle.document_records.specs.Ordered.{put};
+ghost use Rattle.portal_model.specs.State.{held_of};
+ghost use Rattle.portal_model.specs.Ordered.{put};
 ghost use Rattle.rights_rule.specs.Rights.{is_no_right};
-ghost use Rattle.document_records.specs.Rights.{add_rights, take_rights, forget_document, are_in_order};
+ghost use Rattle.portal_model.specs.Rights.{add_rights, take_rights, forget_document, are_in_order};
 
 use portal_base::memory::{Replica, WantOfMemory};
 use portal_base::names::{AppId, DocId};

@@ -1,28 +1,11 @@
 -- Lists that a loop makes item by item.
 use Rattle.std.proofs.Common.{◌≡◌, ◌+◌, ◌<◌, ℕ, zero, suc, List, [], ◌∷◌, ◌++◌, length, take, get_or, map, Bool, true, refl, sym, ap, ◌∙◌, append-nil, append_assoc, arith}
 use Rattle.std.specs.List.{list_all}
-use Rattle.std.proofs.lemmas.List.Folds.{list_all-append}
 use Rattle.std.proofs.lemmas.List.{take_more}
-use Rattle.portal_model.specs.Opening.{each}
 
 -- the list up to and with the item at a place
 one_more : {X : Type 0} (xs : List X) (i : ℕ) (x : X) → i < length xs → x ≡ get_or xs i x → take (i + 1) xs ≡ take i xs ++ x ∷ []
 one_more {X = X} xs i x h e = take_more xs i x h ∙ ap (λ (y : X). take i xs ++ y ∷ []) (sym e)
-
-module _ {X Y : Type 0} (f : X → List Y) where
-  each-append : (xs ys : List X) → each f (xs ++ ys) ≡ each f xs ++ each f ys
-  each-append [] ys = refl
-  each-append (x ∷ xs) ys = ap (λ (zs : List Y). f x ++ zs) (each-append xs ys) ∙ sym (append_assoc (f x) (each f xs) (each f ys))
-
-  pub each-more : (xs : List X) (i : ℕ) (x : X) → i < length xs → x ≡ get_or xs i x → each f (take (i + 1) xs) ≡ each f (take i xs) ++ f x
-  each-more xs i x h e =
-      ap (each f) (one_more xs i x h e) ∙ (each-append (take i xs) (x ∷ []) ∙ ap (λ (zs : List Y). each f (take i xs) ++ zs) (append-nil (f x)))
-
-  -- what is true of all that is made is true of what each item makes
-  pub all_each : (p : Y → Bool) (xs : List X) (i : ℕ) (x : X) → i < length xs → x ≡ get_or xs i x → list_all p (each f xs) ≡ true → list_all p (f x) ≡ true
-  all_each p [] i x h e k = absurd (omega arith)
-  all_each p (y ∷ ys) zero x h e k = grind (arith, list_all-append p (f y) (each f ys))
-  all_each p (y ∷ ys) (suc i) x h e k = grind (arith, list_all-append p (f y) (each f ys), all_each p ys i x)
 
 module _ {X Y : Type 0} (f : X → Y) where
   map-append : (xs ys : List X) → map f (xs ++ ys) ≡ map f xs ++ map f ys

@@ -1,4 +1,3 @@
-pub mod Stored
 pub mod Served
 pub mod Story
 pub mod Held

@@ -9,13 +9,14 @@ ghost use Rattle.portal_core.specs.Served.{sight_in, taken};
 
 use crate::place::{FileSight, sight_at};
 use crate::tree::look_at;
+use document_records::Grants;
 use portal_base::files::Look;
 use portal_base::who::Who;
 use portal_model::errno::{EBADF, ENOENT};
 use portal_model::opening::FileItem;
 use portal_model::reply::{Answer, Attr, Code, NodeAnswer};
 use portal_model::request::{NodeRequest, names_handle};
-use portal_model::state::{Document, Triple};
+use portal_model::state::Document;
 
 /// A file that its owner may read.
 const FILE_MODE: u32 = 0o100400;
@@ -55,7 +56,7 @@ impl NodeDone {
 /// yet.
 pub fn get_attr(
     documents: &[Document],
-    rights: &[Triple],
+    rights: &Grants,
     files: &[FileItem],
     who: &Who,
     request: &NodeRequest,

@@ -3,7 +3,6 @@
 #![tactic(auto)]
 
 mod attributes;
-pub mod history;
 mod lists;
 pub mod local_desk;
 mod opening;

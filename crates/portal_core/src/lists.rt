@@ -1,15 +1,17 @@
 //! What stands in the portal's lists.
 
 ghost use Rattle.std.specs.Prelude.{◌≡◌, option_copied};
-ghost use Rattle.portal_model.specs.State.{connection_of as open_connection, document_of as live_document, app_has, who_has, same_right as is_same_right, bit_of as number_of_right};
+ghost use Rattle.portal_model.specs.Rights.{held_by};
+ghost use Rattle.portal_model.specs.State.{connection_of as open_connection, document_of as live_document};
 ghost use Rattle.portal_model.specs.Leave.{of_others as connections_of_others};
 ghost use Rattle.portal_model.specs.Step.{bus_of as open_bus, mount_of as open_mount};
 
+use document_records::Grants;
 use portal_base::list::List;
-use portal_base::names::app_id::AppId;
+use portal_base::names::DocId;
 use portal_base::who::{Kind, Who};
-use portal_model::rights::Right;
-use portal_model::state::{Connection, Document, Triple};
+use portal_model::state::{Connection, Document};
+use rights_rule::Rights;
 
 /// The open connection of a seat.
 pub fn connection_of(connections: &[Connection], seat: u32) -> Option<&Connection>
@@ -29,40 +31,13 @@ pub fn document_of(documents: &[Document], number: u32) -> Option<&Document>
         .find(|document| document.id.number == number)
 }
 
-/// Says whether a caller has a right in the live document of a number.
-pub fn has_right(rights: &[Triple], who: &Who, number: u32, right: Right) -> bool
-    ensures { result ≡ who_has rights.now who.now number right }
+/// The rights of a caller in the live document of a number.
+pub fn rights_of(rights: &Grants, who: &Who, number: u32) -> Rights
+    ensures { result ≡ held_by rights.now who.now number }
 {
     match who {
-        Who::Host => true,
-        Who::App(app) => app_has_right(rights, app, number, right),
-    }
-}
-
-fn app_has_right(rights: &[Triple], app: &AppId, number: u32, right: Right) -> bool
-    ensures { result ≡ app_has rights.now app.now number right }
-{
-    rights.iter().any(|triple| {
-        triple.app.as_bytes() == app.as_bytes()
-            && (triple.id.number == number && same_right(triple.right, right))
-    })
-}
-
-fn same_right(left: Right, right: Right) -> bool
-    ensures { result ≡ is_same_right left right }
-{
-    bit_of(left) == bit_of(right)
-}
-
-/// The number that a record of rights gives a right.
-pub fn bit_of(right: Right) -> u8
-    ensures { result ≡ number_of_right right }
-{
-    match right {
-        Right::Read => 1,
-        Right::Write => 2,
-        Right::GrantPermissions => 4,
-        Right::Delete => 8,
+        Who::Host => Rights::ALL,
+        Who::App(app) => rights.rights(app, DocId { number }),
     }
 }
 

@@ -1,18 +1,20 @@
 //! The portal's lists in an opening state.
 
-ghost use Rattle.std.specs.Prelude.{◌≡◌, ◌++◌, map, true, IfOk, OnOk};
+ghost use Rattle.std.specs.Prelude.{◌≡◌, cond, map, true, IfOk, OnOk};
 ghost use Rattle.std.specs.List.{list_all};
 ghost use Rattle.portal_base.specs.Names.{is_app_name, is_host_path};
-ghost use Rattle.portal_model.specs.Opening.{document_kept, each, has_bit, triple_kept, triples_kept, triples_of};
+ghost use Rattle.portal_model.specs.Opening.{document_kept, rights_kept, set_of_bits as set_kept, with_grant, with_grants};
+ghost use Rattle.portal_model.specs.Rights.{are_in_order};
+ghost use Rattle.rights_rule.specs.Rights.{no_rights};
 
-use crate::lists::bit_of;
+use document_records::Grants;
 use portal_base::list::List;
 use portal_base::memory::{Replica, WantOfMemory};
 use portal_base::names::{AppId, DocId, HostPath, NameError};
 use portal_model::opening::{OpeningDocument, OpeningState};
 use portal_model::records::GrantRecord;
-use portal_model::rights::Right;
-use portal_model::state::{Document, Triple};
+use portal_model::state::Document;
+use rights_rule::Rights;
 use std::alloc::Global;
 
 /// A copy of an opening state.
@@ -56,11 +58,11 @@ fn document(alloc: Global, item: &OpeningDocument) -> Result<Document, WantOfMem
 }
 
 /// The rights that are held in the documents.
-pub fn rights(alloc: Global, items: &[OpeningDocument]) -> Result<List<Triple>, WantOfMemory>
-    requires { list_all (λ t. is_app_name t.app) (each triples_kept items.now) ≡ true }
-    ensures { IfOk result (λ list. list ≡ each triples_kept items.now) }
+pub fn rights(alloc: Global, items: &[OpeningDocument]) -> Result<Grants, WantOfMemory>
+    requires { list_all (λ t. is_app_name t.app) (rights_kept items.now) ≡ true }
+    ensures { IfOk result (λ rights. rights ≡ rights_kept items.now) }
 {
-    let mut rights = List::new(alloc);
+    let mut rights = Grants::new(alloc);
     for item in items {
         add_document(alloc, &mut rights, item)?;
     }
@@ -69,58 +71,56 @@ pub fn rights(alloc: Global, items: &[OpeningDocument]) -> Result<List<Triple>, 
 
 fn add_document(
     alloc: Global,
-    rights: &mut List<Triple>,
+    rights: &mut Grants,
     item: &OpeningDocument,
 ) -> Result<(), WantOfMemory>
-    requires { list_all (λ t. is_app_name t.app) (triples_kept item.now) ≡ true }
-    ensures { OnOk result (rights.new ≡ rights.old ++ triples_kept item.now) }
+    requires order { are_in_order rights.old ≡ true }
+    requires names { list_all (λ t. is_app_name t.app) (with_grants rights.old item.now) ≡ true }
+    ensures { OnOk result (rights.new ≡ with_grants rights.old item.now) }
 {
+    let number = item.kept.number;
     for grant in item.kept.grants.as_slice() {
-        add_grant(alloc, rights, item.kept.number, grant)?;
+        add_grant(alloc, rights, number, grant)?;
     }
     Ok(())
 }
 
+/// Adds the rights of a record, whose application has a name where there are
+/// some.
 fn add_grant(
     alloc: Global,
-    rights: &mut List<Triple>,
+    rights: &mut Grants,
     number: u32,
     grant: &GrantRecord,
 ) -> Result<(), WantOfMemory>
-    requires { list_all (λ t. is_app_name t.app) (triples_of number grant.now) ≡ true }
-    ensures { OnOk result (rights.new ≡ rights.old ++ triples_of number grant.now) }
+    requires order { are_in_order rights.old ≡ true }
+    requires names { list_all (λ t. is_app_name t.app) (with_grant number rights.old grant.now) ≡ true }
+    ensures { OnOk result (rights.new ≡ with_grant number rights.old grant.now) }
 {
-    add_right(alloc, rights, number, grant, Right::Read)?;
-    add_right(alloc, rights, number, grant, Right::Write)?;
-    add_right(alloc, rights, number, grant, Right::GrantPermissions)?;
-    add_right(alloc, rights, number, grant, Right::Delete)?;
-    Ok(())
-}
-
-fn add_right(
-    alloc: Global,
-    rights: &mut List<Triple>,
-    number: u32,
-    grant: &GrantRecord,
-    right: Right,
-) -> Result<(), WantOfMemory>
-    requires { list_all (λ t. is_app_name t.app) (triple_kept number grant.now right) ≡ true }
-    ensures { OnOk result (rights.new ≡ rights.old ++ triple_kept number grant.now right) }
-{
-    if gives(grant, right) {
-        rights.push(Triple {
-            app: known_name(alloc, grant.app.as_slice())?,
-            id: DocId { number },
-            right,
-        })?;
+    let given = set_of_bits(grant.rights);
+    if given.is_empty() {
+        return Ok(());
     }
-    Ok(())
+    let app = known_name(alloc, grant.app.as_slice())?;
+    rights.add(&app, DocId { number }, given)
 }
 
-fn gives(grant: &GrantRecord, right: Right) -> bool
-    ensures { result ≡ has_bit grant.now.rights right }
+/// The rights that a record's number stands for.
+fn set_of_bits(bits: u8) -> Rights
+    ensures { result ≡ set_kept bits }
 {
-    grant.rights / bit_of(right) % 2 == 1
+    let read = right_if(bits % 2 == 1, Rights::READ);
+    let write = right_if(bits / 2 % 2 == 1, Rights::WRITE);
+    let grant = right_if(bits / 4 % 2 == 1, Rights::GRANT_PERMISSIONS);
+    let delete = right_if(bits / 8 % 2 == 1, Rights::DELETE);
+    read.union(write).union(grant).union(delete)
+}
+
+/// A right, where there is one.
+fn right_if(given: bool, right: Rights) -> Rights
+    ensures { result ≡ cond given right no_rights }
+{
+    if given { right } else { Rights::NONE }
 }
 
 /// The path that a text is known to be.

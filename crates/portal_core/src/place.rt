@@ -4,12 +4,13 @@ ghost use Rattle.std.specs.Prelude.{◌≡◌, Some, None, MatchOption};
 ghost use Rattle.portal_model.specs.Place.{SightOfFile};
 ghost use Rattle.portal_core.specs.Served.{sight_in};
 
-use crate::lists::{document_of, has_right};
+use crate::lists::{document_of, rights_of};
+use document_records::Grants;
 use portal_base::names::HostPath;
 use portal_base::who::Who;
 use portal_model::place::file_number;
-use portal_model::rights::Right;
-use portal_model::state::{Document, Triple};
+use portal_model::state::Document;
+use rights_rule::Rights;
 
 /// A document's file, as a caller sees it.
 pub struct FileSight<'a> {
@@ -23,7 +24,7 @@ pub struct FileSight<'a> {
 /// read the document.
 pub fn sight_at<'a>(
     documents: &'a [Document],
-    rights: &[Triple],
+    rights: &Grants,
     who: &Who,
     node: u64,
 ) -> Option<FileSight<'a>>
@@ -31,11 +32,12 @@ pub fn sight_at<'a>(
 {
     let number = file_number(node)?;
     let document = document_of(documents, number)?;
-    if !has_right(rights, who, document.id.number, Right::Read) {
+    let held = rights_of(rights, who, document.id.number);
+    if !held.contains(Rights::READ) {
         return None;
     }
     Some(FileSight {
         path: &document.path,
-        may_write: has_right(rights, who, document.id.number, Right::Write),
+        may_write: held.contains(Rights::WRITE),
     })
 }

@@ -11,18 +11,19 @@ ghost use Rattle.portal_core.specs.Served.{Serves, collect_answer as answer_of_b
 ghost use Rattle.portal_core.specs.Story.{Answers, HasCause, cost_with, limit_of, state_now};
 
 use crate::attributes::{NodeDone, get_attr};
-use crate::history::{History, cost_of};
 use crate::lists::{bus_of, connection_of, mount_of, of_others};
 use crate::opening;
+use document_records::Grants;
 use portal_base::files::Look;
 use portal_base::list::List;
 use portal_base::memory::{Replica, WantOfMemory};
 use portal_base::who::{Kind, Who};
+use portal_history::{History, cost_of};
 use portal_model::entry::{Entry, Fault, Given};
 use portal_model::opening::OpeningState;
 use portal_model::reply::{Answer, Code, Refused, Reply};
 use portal_model::request::{NodeOp, NodeRequest, Request};
-use portal_model::state::{Connection, Document, Triple};
+use portal_model::state::{Connection, Document};
 use std::alloc::Global;
 use std::marker::Model;
 use std::mem;
@@ -31,11 +32,11 @@ use std::mem;
 ///
 /// Contracts see its opening state and its history. The history is legal, and
 /// the portal is in the state after it.
-#[derive(Debug, Drop)]
+#[derive(Drop)]
 pub struct Portal {
     opening: OpeningState,
     documents: List<Document>,
-    rights: List<Triple>,
+    rights: Grants,
     connections: List<Connection>,
     history: History,
 }
@@ -250,7 +251,7 @@ impl Portal {
         };
         Some(get_attr(
             self.documents.as_slice(),
-            self.rights.as_slice(),
+            &self.rights,
             self.opening.files.as_slice(),
             &connection.who,
             request,

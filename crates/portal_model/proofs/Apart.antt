@@ -3,36 +3,6 @@ use Rattle.std.proofs.Common.{◌≡◌, List, [], ◌∷◌, ◌++◌, Bool, tr
 use Rattle.std.specs.List.{list_all, filter, IsDistinct, AllByRecursion}
 
 module _ {X : Type 0} (same : X → X → Bool) where
-  -- no item of the one is the same as one of the other
-  abbrev pub apart : List X → List X → Bool
-  apart xs ys = list_all (λ x. list_all (λ y. not (same x y)) ys) xs
-
-  none_same : (x : X) (ys : List X) → list_all (λ y. not (same x y)) ys ≡ true → AllByRecursion (λ y. same x y ≡ false) ys
-  none_same x [] h = tt
-  none_same x (y ∷ ys) h = (grind arith, none_same x ys (grind arith))
-
-  both : (x : X) (xs ys : List X) → AllByRecursion (λ y. same x y ≡ false) xs → AllByRecursion (λ y. same x y ≡ false) ys → AllByRecursion (λ y. same x y ≡ false) (xs ++ ys)
-  both x [] ys h k = k
-  both x (z ∷ zs) ys h k = (h.0, both x zs ys h.1 k)
-
-  pub IsDistinct-append : (xs ys : List X) → IsDistinct same xs → IsDistinct same ys → apart xs ys ≡ true → IsDistinct same (xs ++ ys)
-  unfolding IsDistinct
-  IsDistinct-append [] ys h k a = k
-  IsDistinct-append (x ∷ xs) ys h k a =
-      let one : list_all (λ y. not (same x y)) ys ≡ true = grind arith in
-      let all : apart xs ys ≡ true = grind arith in
-      (both x xs ys h.0 (none_same x ys one), IsDistinct-append xs ys h.1 k all)
-
-  -- items of two kinds of which none are the same
-  module _ (p q : X → Bool) (differ : (x y : X) → p x ≡ true → q y ≡ true → same x y ≡ false) where
-    one_apart : (x : X) (ys : List X) → p x ≡ true → list_all q ys ≡ true → list_all (λ y. not (same x y)) ys ≡ true
-    one_apart x [] h k = refl
-    one_apart x (y ∷ ys) h k = grind (arith, one_apart x ys h, differ x y)
-
-    pub apart-kinds : (xs ys : List X) → list_all p xs ≡ true → list_all q ys ≡ true → apart xs ys ≡ true
-    apart-kinds [] ys h k = refl
-    apart-kinds (x ∷ xs) ys h k = grind (arith, one_apart x ys, apart-kinds xs ys)
-
   none_filter : (x : X) (p : X → Bool) (ys : List X) → AllByRecursion (λ y. same x y ≡ false) ys → AllByRecursion (λ y. same x y ≡ false) (filter p ys)
   none_filter x p [] h = tt
   none_filter x p (y ∷ ys) h = elim (p y) as (λ b. AllByRecursion (λ z. same x z ≡ false) (cond b (y ∷ filter p ys) (filter p ys))) [

@@ -32,6 +32,10 @@ request_step-kept s seat (Request.Node r) given = node_step-kept s r given (moun
 pub after-kept : (s : State) (e : Entry) → after s e ≡ record s { connections = (after s e).connections }
 after-kept s e = request_step-kept s e.seat e.request e.given
 
+-- a tree that tells goes on telling
+pub step_told : (s : State) (seat : ℕ) (request : Request) (given : Given) → (request_step s seat request given).0.told ≡ s.told
+step_told s seat request given = ap (λ (t : State). t.told) (request_step-kept s seat request given)
+
 -- all but the connections is as it was at the opening
 pub run-kept : (h : List Entry) (s : State) → run s h ≡ record s { connections = (run s h).connections }
 run-kept [] s = refl

@@ -4,13 +4,10 @@ pub mod Histories
 pub mod Silence
 pub mod Kept
 pub mod Apart
+pub mod Rising
+pub mod TripleOrder
+pub mod FourTriples
+pub mod RightsLaws
 pub mod OpeningLaws
-pub mod ViewLaws
-pub mod EnterLaws
-pub mod LeaveLaws
-pub mod CollectLaws
-pub mod PlaceLaws
-pub mod GetAttrLaws
-pub mod WorldLaws
 pub mod SeatLaws
 pub mod ExampleProofs

@@ -1,5 +1,5 @@
 -- An opening state whose records are sound is valid.
-use Rattle.std.proofs.Common.{◌≡◌, ℕ, ◌==◌, nat_eq, List, [], ◌∷◌, ◌++◌, map, Bool, true, false, not, ◌&&◌, ◌||◌, cond, Some, is_some, refl, sym, ap, ◌∙◌, subst, arith}
+use Rattle.std.proofs.Common.{◌≡◌, ℕ, ◌==◌, nat_eq, List, [], ◌∷◌, ◌++◌, map, fold, Bool, true, false, not, ◌&&◌, ◌||◌, cond, Some, is_some, refl, sym, ap, ◌∙◌, subst, arith}
 use Rattle.std.specs.List.{list_any, list_all, filter, AllByRecursion, IsDistinct}
 use Rattle.std.proofs.lemmas.Bool.Decides.{nat_tests}
 use Rattle.std.proofs.lemmas.List.{length-map}
@@ -10,17 +10,17 @@ use Rattle.portal_model.specs.declared.opening.FileItem.{FileItem}
 use Rattle.portal_model.specs.declared.opening.OpeningDocument.{OpeningDocument}
 use Rattle.portal_model.specs.declared.opening.OpeningState.{OpeningState}
 use Rattle.portal_model.specs.declared.records.GrantRecord.{GrantRecord}
-use Rattle.portal_model.specs.declared.rights.Right.{Right}
-use Rattle.portal_model.specs.declared.rights.Right.TheVariants.{Read, Write, GrantPermissions, Delete}
 use Rattle.portal_model.specs.declared.state.Document.{Document}
 use Rattle.portal_base.specs.declared.files.File.{File}
 use Rattle.portal_model.specs.declared.state.Triple.{Triple}
 use Rattle.portal_model.specs.Content.{is_folder}
-use Rattle.portal_model.specs.Opening.{id_of, document_kept, has_bit, triple_kept, triples_of, triples_kept, each, file_of, opened, first_named, names_kept, GrantsDiffer, SoundOpening, ValidOpening}
-use Rattle.portal_model.specs.State.{State, document_of, same_right}
-use Rattle.portal_model.specs.Valid.{Valid, is_made, is_numbered, is_placed, same_triple}
-use Rattle.portal_model.proofs.Apart.{apart, IsDistinct-append, apart-kinds, IsDistinct-first, list_all-filter, list_all-weaken}
+use Rattle.portal_model.specs.Opening.{id_of, document_kept, set_of_bits, with_grant, with_grants, each, file_of, opened, first_named, names_kept, SoundOpening, ValidOpening}
+use Rattle.portal_model.specs.Rights.{are_in_order}
+use Rattle.portal_model.specs.State.{State, document_of}
+use Rattle.portal_model.specs.Valid.{Valid, is_made, is_numbered, is_placed}
+use Rattle.portal_model.proofs.Apart.{IsDistinct-first, list_all-filter, list_all-weaken}
 use Rattle.portal_model.proofs.Finds.{is_same-eq, is_same-refl}
+use Rattle.portal_model.proofs.RightsLaws.{all-add_rights, ordered-add_rights}
 
 -- ---- lists that are made of the parts of other lists
 
@@ -28,24 +28,6 @@ use Rattle.portal_model.proofs.Finds.{is_same-eq, is_same-refl}
 all_each : {X Y : Type 0} (p : Y → Bool) (f : X → List Y) (xs : List X) → list_all (λ x. list_all p (f x)) xs ≡ true → list_all p (each f xs) ≡ true
 all_each p f [] h = refl
 all_each p f (x ∷ xs) h = list_all-append p (f x) (each f xs) ∙ grind (arith, all_each p f xs)
-
-all_both : {Y : Type 0} (p : Y → Bool) (xs ys : List Y) → list_all p xs ≡ true → list_all p ys ≡ true → list_all p (xs ++ ys) ≡ true
-all_both p xs ys h k = list_all-append p xs ys ∙ grind (arith, h, k)
-
-all_one : {Y : Type 0} (p : Y → Bool) (y : Y) (b : Bool) → p y ≡ true → list_all p (cond b (y ∷ []) []) ≡ true
-all_one p y true h = grind (arith, h)
-all_one p y false h = refl
-
--- what is true of a record's triples, whatever the right, is true of all that the record gives
-module _ (p : Triple → Bool) (number : ℕ) (grant : GrantRecord) (f : (right : Right) → p (record { app = grant.app; id = id_of number; right = right }) ≡ true) where
-  all_kept : (right : Right) → list_all p (triple_kept number grant right) ≡ true
-  all_kept right = all_one p _ (has_bit grant.rights right) (f right)
-
-  all_rights : list_all p (triples_of number grant) ≡ true
-  all_rights =
-      all_both p (triple_kept number grant Read) _ (all_kept Read)
-      (all_both p (triple_kept number grant Write) _ (all_kept Write)
-      (all_both p (triple_kept number grant GrantPermissions) _ (all_kept GrantPermissions) (all_kept Delete)))
 
 -- ---- applications
 
@@ -129,139 +111,31 @@ named_kept (d ∷ ds) =
 
 -- ---- rights
 
-placed_grants : (s : State) (number : ℕ) (grants : List GrantRecord) → is_some (document_of s.documents number) ≡ true → list_all (is_numbered s.applications) (map (λ (g : GrantRecord). g.app) grants) ≡ true →
-    list_all (λ (g : GrantRecord). list_all (is_placed s) (triples_of number g)) grants ≡ true
-placed_grants s number [] h k = refl
-placed_grants s number (g ∷ gs) h k =
+placed_grants : (s : State) (number : ℕ) (grants : List GrantRecord) (rights : List Triple) → is_some (document_of s.documents number) ≡ true → list_all (is_numbered s.applications) (map (λ (g : GrantRecord). g.app) grants) ≡ true →
+    list_all (is_placed s) rights ≡ true → list_all (is_placed s) (fold (with_grant number) rights grants) ≡ true
+placed_grants s number [] rights h k l = l
+placed_grants s number (g ∷ gs) rights h k l =
     let one : is_numbered s.applications g.app ≡ true = grind arith in
     let all : list_all (is_numbered s.applications) (map (λ (g : GrantRecord). g.app) gs) ≡ true = grind arith in
-    grind (arith, all_rights (is_placed s) number g (λ right. grind (arith, h, one)), placed_grants s number gs h all)
-
-placed_document : (s : State) (d : OpeningDocument) → (is_some (document_of s.documents d.kept.number) && list_all (is_numbered s.applications) (names_kept d)) ≡ true → list_all (is_placed s) (triples_kept d) ≡ true
-placed_document s d h =
-    let live : is_some (document_of s.documents d.kept.number) ≡ true = grind arith in
-    let named : list_all (is_numbered s.applications) (names_kept d) ≡ true = grind arith in
-    all_each (is_placed s) (triples_of d.kept.number) d.kept.grants (placed_grants s d.kept.number d.kept.grants live named)
+    placed_grants s number gs (with_grant number rights g) h all (all-add_rights (is_placed s) g.app (id_of number) (set_of_bits g.rights) rights (λ right. grind (arith, h, one)) l)
 
 -- each triple's document is live, and its application is numbered
-placed_kept : (s : State) (ds : List OpeningDocument) → list_all (λ (d : OpeningDocument). is_some (document_of s.documents d.kept.number) && list_all (is_numbered s.applications) (names_kept d)) ds ≡ true →
-    list_all (is_placed s) (each triples_kept ds) ≡ true
-placed_kept s ds h =
-    all_each (is_placed s) triples_kept ds (list_all-weaken (λ (d : OpeningDocument). is_some (document_of s.documents d.kept.number) && list_all (is_numbered s.applications) (names_kept d)) _ (λ d k. placed_document s d k) ds h)
+placed_kept : (s : State) (ds : List OpeningDocument) (rights : List Triple) → list_all (λ (d : OpeningDocument). is_some (document_of s.documents d.kept.number) && list_all (is_numbered s.applications) (names_kept d)) ds ≡ true →
+    list_all (is_placed s) rights ≡ true → list_all (is_placed s) (fold with_grants rights ds) ≡ true
+placed_kept s [] rights h l = l
+placed_kept s (d ∷ ds) rights h l =
+    let live : is_some (document_of s.documents d.kept.number) ≡ true = grind arith in
+    let named : list_all (is_numbered s.applications) (names_kept d) ≡ true = grind arith in
+    let more : list_all (λ (d : OpeningDocument). is_some (document_of s.documents d.kept.number) && list_all (is_numbered s.applications) (names_kept d)) ds ≡ true = grind arith in
+    placed_kept s ds (with_grants rights d) more (placed_grants s d.kept.number d.kept.grants rights live named l)
 
--- triples of two rights, of two applications, or of two documents are not the same
+pub ordered_grants : (number : ℕ) (grants : List GrantRecord) (rights : List Triple) → are_in_order rights ≡ true → are_in_order (fold (with_grant number) rights grants) ≡ true
+ordered_grants number [] rights h = h
+ordered_grants number (g ∷ gs) rights h = ordered_grants number gs (with_grant number rights g) (ordered-add_rights g.app (id_of number) (set_of_bits g.rights) rights)
 
-abbrev has_right : Right → Triple → Bool
-has_right right t = same_right t.right right
-
-abbrev has_app : List ℕ → Triple → Bool
-has_app app t = is_same app t.app
-
-abbrev has_number : ℕ → Triple → Bool
-has_number number t = t.id.number == number
-
-right_apart : (a b : Right) → same_right a b ≡ false → (t u : Triple) → has_right a t ≡ true → has_right b u ≡ true → same_triple t u ≡ false
-right_apart a b e t u h k = grind (arith, nat_tests)
-
-number_apart : (m n : ℕ) → (m == n) ≡ false → (t u : Triple) → has_number m t ≡ true → has_number n u ≡ true → same_triple t u ≡ false
-number_apart m n e t u h k = grind (arith, nat_tests)
-
-app_apart : (a b : List ℕ) → is_same a b ≡ false → (t u : Triple) → has_app a t ≡ true → has_app b u ≡ true → same_triple t u ≡ false
-app_apart a b e t u h k =
-    let differ : is_same t.app u.app ≡ false = ap (λ (x : List ℕ). is_same x u.app) (sym (is_same-eq a t.app h)) ∙ (ap (is_same a) (sym (is_same-eq b u.app k)) ∙ e) in
-    grind (arith, differ)
-
--- ---- what one record gives
-
-one_distinct : (t : Triple) (b : Bool) → IsDistinct same_triple (cond b (t ∷ []) [])
-unfolding IsDistinct
-one_distinct t true = (tt, tt)
-one_distinct t false = tt
-
-module _ (number : ℕ) (g : GrantRecord) where
-  abbrev kept : Right → List Triple
-  kept right = triple_kept number g right
-
-  kept_distinct : (right : Right) → IsDistinct same_triple (kept right)
-  kept_distinct right = one_distinct _ (has_bit g.rights right)
-
-  kept_right : (right : Right) → list_all (has_right right) (kept right) ≡ true
-  kept_right right = all_one (has_right right) _ (has_bit g.rights right) (grind (arith, nat_tests))
-
-  kept_apart : (a b : Right) → same_right a b ≡ false → apart same_triple (kept a) (kept b) ≡ true
-  kept_apart a b e = apart-kinds same_triple (has_right a) (has_right b) (right_apart a b e) (kept a) (kept b) (kept_right a) (kept_right b)
-
-  apart_both : (xs ys zs : List Triple) → apart same_triple xs ys ≡ true → apart same_triple xs zs ≡ true → apart same_triple xs (ys ++ zs) ≡ true
-  apart_both [] ys zs h k = refl
-  apart_both (x ∷ xs) ys zs h k =
-      let one : list_all (λ (y : Triple). not (same_triple x y)) (ys ++ zs) ≡ true = all_both (λ (y : Triple). not (same_triple x y)) ys zs (grind arith) (grind arith) in
-      let all : apart same_triple xs (ys ++ zs) ≡ true = apart_both xs ys zs (grind arith) (grind arith) in
-      grind (arith, one, all)
-
-  rights_distinct : IsDistinct same_triple (triples_of number g)
-  rights_distinct =
-      let last : IsDistinct same_triple (kept GrantPermissions ++ kept Delete) = IsDistinct-append same_triple (kept GrantPermissions) (kept Delete) (kept_distinct GrantPermissions) (kept_distinct Delete) (kept_apart GrantPermissions Delete refl) in
-      let more : IsDistinct same_triple (kept Write ++ (kept GrantPermissions ++ kept Delete)) =
-      IsDistinct-append same_triple (kept Write) (kept GrantPermissions ++ kept Delete) (kept_distinct Write) last
-      (apart_both (kept Write) (kept GrantPermissions) (kept Delete) (kept_apart Write GrantPermissions refl) (kept_apart Write Delete refl)) in
-      IsDistinct-append same_triple (kept Read) (kept Write ++ (kept GrantPermissions ++ kept Delete)) (kept_distinct Read) more
-      (apart_both (kept Read) (kept Write) (kept GrantPermissions ++ kept Delete) (kept_apart Read Write refl)
-      (apart_both (kept Read) (kept GrantPermissions) (kept Delete) (kept_apart Read GrantPermissions refl) (kept_apart Read Delete refl)))
-
--- ---- what the records of one document give
-
-abbrev other_app : List ℕ → Triple → Bool
-other_app app t = not (is_same app t.app)
-
-apps_apart : (app : List ℕ) (t u : Triple) → has_app app t ≡ true → other_app app u ≡ true → same_triple t u ≡ false
-apps_apart app t u h k =
-    let differ : is_same app u.app ≡ false = grind arith in
-    app_apart app u.app differ t u h (is_same-refl u.app)
-
--- the triples of a list of records, each of which keeps a rule whatever the right
-each_grant : (p : Triple → Bool) (number : ℕ) (gs : List GrantRecord) → ((g : GrantRecord) → list_all p (triples_of number g) ≡ true) → list_all p (each (triples_of number) gs) ≡ true
-each_grant p number [] f = refl
-each_grant p number (g ∷ gs) f = all_both p (triples_of number g) (each (triples_of number) gs) (f g) (each_grant p number gs f)
-
-others_app : (app : List ℕ) (number : ℕ) (gs : List GrantRecord) → AllByRecursion (λ (y : List ℕ). is_same app y ≡ false) (map (λ (g : GrantRecord). g.app) gs) →
-    list_all (other_app app) (each (triples_of number) gs) ≡ true
-others_app app number [] h = refl
-others_app app number (g ∷ gs) h =
-    all_both (other_app app) (triples_of number g) (each (triples_of number) gs) (all_rights (other_app app) number g (λ right. rw h.0 refl)) (others_app app number gs h.1)
-
-grants_distinct : (number : ℕ) (gs : List GrantRecord) → IsDistinct is_same (map (λ (g : GrantRecord). g.app) gs) → IsDistinct same_triple (each (triples_of number) gs)
-unfolding IsDistinct
-grants_distinct number [] h = tt
-grants_distinct number (g ∷ gs) h =
-    IsDistinct-append same_triple (triples_of number g) (each (triples_of number) gs) (rights_distinct number g) (grants_distinct number gs h.1)
-    (apart-kinds same_triple (has_app g.app) (other_app g.app) (apps_apart g.app) (triples_of number g) (each (triples_of number) gs)
-    (all_rights (has_app g.app) number g (λ right. is_same-refl g.app)) (others_app g.app number gs h.0))
-
--- ---- what all records give
-
-abbrev other_number : ℕ → Triple → Bool
-other_number number t = not (nat_eq number t.id.number)
-
-numbers_apart : (number : ℕ) (t u : Triple) → has_number number t ≡ true → other_number number u ≡ true → same_triple t u ≡ false
-numbers_apart number t u h k =
-    let differ : (number == u.id.number) ≡ false = grind (arith, nat_tests) in
-    number_apart number u.id.number differ t u h (grind (arith, nat_tests))
-
-others_number : (number : ℕ) (ds : List OpeningDocument) → AllByRecursion (λ (y : ℕ). nat_eq number y ≡ false) (map (λ (d : OpeningDocument). d.kept.number) ds) →
-    list_all (other_number number) (each triples_kept ds) ≡ true
-others_number number [] h = refl
-others_number number (d ∷ ds) h =
-    all_both (other_number number) (triples_kept d) (each triples_kept ds)
-    (each_grant (other_number number) d.kept.number d.kept.grants (λ g. all_rights (other_number number) d.kept.number g (λ right. rw h.0 refl))) (others_number number ds h.1)
-
-triples_distinct : (ds : List OpeningDocument) → IsDistinct nat_eq (map (λ (d : OpeningDocument). d.kept.number) ds) → GrantsDiffer ds → IsDistinct same_triple (each triples_kept ds)
-unfolding IsDistinct
-triples_distinct [] h k = tt
-triples_distinct (d ∷ ds) h k =
-    IsDistinct-append same_triple (triples_kept d) (each triples_kept ds) (grants_distinct d.kept.number d.kept.grants k.0) (triples_distinct ds h.1 k.1)
-    (apart-kinds same_triple (has_number d.kept.number) (other_number d.kept.number) (numbers_apart d.kept.number) (triples_kept d) (each triples_kept ds)
-    (each_grant (has_number d.kept.number) d.kept.number d.kept.grants (λ g. all_rights (has_number d.kept.number) d.kept.number g (λ right. grind (arith, nat_tests))))
-    (others_number d.kept.number ds h.0))
+pub ordered_kept : (ds : List OpeningDocument) (rights : List Triple) → are_in_order rights ≡ true → are_in_order (fold with_grants rights ds) ≡ true
+ordered_kept [] rights h = h
+ordered_kept (d ∷ ds) rights h = ordered_kept ds (with_grants rights d) (ordered_grants d.kept.number d.kept.grants rights h)
 
 -- ---- the whole
 
@@ -291,8 +165,8 @@ sound-Valid o k = record {
   paths = list_all-map (λ (d : Document). is_host_path d.path) document_kept o.documents ∙ k.paths;
   applications_differ = subst (IsDistinct is_same) (sym k.applications) (first_named-distinct (each names_kept o.documents));
   names = ap (list_all is_app_name) k.applications ∙ first_named-all is_app_name (each names_kept o.documents) (all_each is_app_name names_kept o.documents k.names);
-  rights_differ = triples_distinct o.documents k.numbers_differ k.grants_differ;
-  rights_placed = placed_kept (opened o) o.documents (ap (λ (apps : List (List ℕ)). list_all (λ (d : OpeningDocument). is_live o.documents d.kept.number && list_all (is_numbered apps) (names_kept d)) o.documents) k.applications ∙ all_placed o.documents);
+  rights_in_order = ordered_kept o.documents [] refl;
+  rights_placed = placed_kept (opened o) o.documents [] (ap (λ (apps : List (List ℕ)). list_all (λ (d : OpeningDocument). is_live o.documents d.kept.number && list_all (is_numbered apps) (names_kept d)) o.documents) k.applications ∙ all_placed o.documents) refl;
   seats_differ = no_seats;
   connections_sound = refl;
   entries_differ = k.entries_differ;

@@ -1,4 +1,4 @@
--- Enter, which opens a connection: in the portal, and in one application's view.
+-- Enter, which opens a connection.
 use Rattle.std.specs.Prelude.{ℕ, List, [], ◌∷◌, ◌++◌, Option, Some, None}
 use Rattle.portal_base.specs.declared.who.Kind.{Kind}
 use Rattle.portal_base.specs.declared.who.Who.{Who}
@@ -6,7 +6,6 @@ use Rattle.portal_model.specs.declared.reply.Answer.{Answer}
 use Rattle.portal_model.specs.declared.reply.Code.TheVariants as Code
 use Rattle.portal_model.specs.declared.state.Connection.{Connection}
 use Rattle.portal_model.specs.State.{State, connection_of}
-use Rattle.portal_model.specs.View.{View}
 
 -- a connection with nothing presented, opened or unsent
 abbrev pub new_connection : ℕ → Who → Kind → Connection
@@ -22,14 +21,8 @@ abbrev pub enter_answer : Option Connection → Answer
 enter_answer None = Answer.Done
 enter_answer (Some c) = Answer.Refused Code.NotHere
 
--- in the portal: the state after, and the answer
+-- the state after, and the answer
 abbrev pub enter : State → ℕ → Who → Kind → State × Answer
 enter s seat who kind =
     let open_one = connection_of s.connections seat in
     (record s { connections = entered seat who kind s.connections open_one }, enter_answer open_one)
-
--- in the view of the application that enters: the view after, and the answer
-abbrev pub own_enter : View → ℕ → Who → Kind → View × Answer
-own_enter v seat who kind =
-    let open_one = connection_of v.connections seat in
-    (record v { connections = entered seat who kind v.connections open_one }, enter_answer open_one)

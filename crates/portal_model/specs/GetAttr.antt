@@ -1,4 +1,4 @@
--- FUSE_GETATTR (include/uapi/linux/fuse.h): in the portal, and in one application's view.
+-- FUSE_GETATTR (include/uapi/linux/fuse.h).
 use Rattle.std.specs.Prelude.{ℕ, ◌+◌, ◌/◌, ◌%◌, ◌==◌, List, [], ◌∷◌, Bool, Option, Some, None, cond}
 use Rattle.portal_base.specs.declared.files.Look.{Look}
 use Rattle.portal_base.specs.declared.who.Who.{Who}
@@ -7,11 +7,10 @@ use Rattle.portal_model.specs.declared.reply.Attr.{Attr}
 use Rattle.portal_model.specs.declared.reply.Code.TheVariants as Code
 use Rattle.portal_model.specs.declared.reply.NodeAnswer.TheVariants as NodeAnswer
 use Rattle.portal_model.specs.declared.request.NodeRequest.{NodeRequest}
-use Rattle.portal_model.specs.Content.{look_of, look_at}
+use Rattle.portal_model.specs.Content.{look_at}
 use Rattle.portal_model.specs.Errno.{enoent, eio, ebadf}
-use Rattle.portal_model.specs.Place.{Sight, SightOfFile, Place, DocumentFile, sight_at, place_named, place_of}
+use Rattle.portal_model.specs.Place.{Sight, SightOfFile, place_of}
 use Rattle.portal_model.specs.State.{State}
-use Rattle.portal_model.specs.View.{View, Seen, seen_document}
 
 -- FUSE_GETATTR_FH: the request names an open handle
 abbrev pub names_handle : ℕ → Bool
@@ -54,35 +53,9 @@ abbrev pub looks_at_place : (List ℕ → Look) → Option Sight → List Look
 looks_at_place look None = []
 looks_at_place look (Some (SightOfFile path may_write)) = look path ∷ []
 
--- in the portal
-
 abbrev pub get_attr_answer : State → Who → NodeRequest → ℕ → List Look → Answer
 get_attr_answer s who r flags looks = by_handle_or_place r flags (place_of s who r.node) looks
 
 -- the looks that the request takes, where none fails
 abbrev pub get_attr_looks : State → Who → NodeRequest → ℕ → List Look
 get_attr_looks s who r flags = cond (names_handle flags) [] (looks_at_place (look_at s.files) (place_of s who r.node))
-
--- in the view of the application that asks
-
-abbrev pub own_sight : Option Seen → Option Sight
-own_sight None = None
-own_sight (Some d) = cond d.held.read (Some (SightOfFile d.path d.held.write)) None
-
-abbrev pub own_place : View → ℕ → Option Sight
-own_place v node = sight_at (λ number. own_sight (seen_document v number)) (place_named node)
-
-abbrev pub own_looks_of : Option Seen → List Look
-own_looks_of None = []
-own_looks_of (Some d) = cond d.held.read (look_of d.content ∷ []) []
-
--- the looks at a place, as the view's contents show them
-abbrev pub own_looks : View → Option Place → List Look
-own_looks v None = []
-own_looks v (Some (DocumentFile number)) = own_looks_of (seen_document v number)
-
-abbrev pub own_get_attr_answer : View → NodeRequest → ℕ → List Look → Answer
-own_get_attr_answer v r flags looks = by_handle_or_place r flags (own_place v r.node) looks
-
-abbrev pub own_get_attr_looks : View → NodeRequest → ℕ → List Look
-own_get_attr_looks v r flags = cond (names_handle flags) [] (own_looks v (place_named r.node))

@@ -8,10 +8,9 @@ use Rattle.portal_model.specs.declared.request.NodeOp.{NodeOp}
 use Rattle.portal_model.specs.declared.request.Request.{Request}
 use Rattle.portal_model.specs.declared.state.Connection.{Connection}
 use Rattle.portal_model.specs.Lawful.{Lawful}
-use Rattle.portal_model.specs.State.{State, connection_of}
+use Rattle.portal_model.specs.State.{State, connection_of, is_app}
 use Rattle.portal_model.specs.Step.{after, reply_at}
 use Rattle.portal_model.specs.Valid.{Valid}
-use Rattle.portal_model.specs.View.{is_app}
 
 -- the state after all entries
 abbrev pub run : State → List Entry → State

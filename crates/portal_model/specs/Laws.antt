@@ -1,21 +1,13 @@
 -- Laws over histories, which the public functions of src/laws.rt state.
-use Rattle.std.specs.Prelude.{◌≡◌, ℕ, ◌+◌, ◌≤◌, List, [], ◌∷◌, ◌++◌, length, take, true, false, map, Some, is_some}
-use Rattle.portal_base.specs.Names.{is_same}
+use Rattle.std.specs.Prelude.{◌≡◌, ℕ, ◌+◌, ◌≤◌, List, [], ◌∷◌, ◌++◌, length, take, map, Some, is_some}
 use Rattle.portal_model.specs.declared.entry.Entry.{Entry}
-use Rattle.portal_model.specs.History.{run, Legal, cost, of_seat, makes, replies}
+use Rattle.portal_model.specs.History.{run, Legal, cost, of_seat}
 use Rattle.portal_model.specs.Opening.{SoundOpening, ValidOpening, file_of}
 use Rattle.portal_model.specs.State.{State}
 use Rattle.portal_model.specs.declared.opening.OpeningState.{OpeningState}
-use Rattle.portal_model.specs.declared.state.Document.{Document}
-use Rattle.portal_model.specs.declared.state.Triple.{Triple}
-use Rattle.portal_model.specs.Step.{after, reply_at}
-use Rattle.portal_model.specs.Effect.{apply_all}
-use Rattle.portal_model.specs.Lawful.{Lawful}
+use Rattle.portal_model.specs.Step.{after}
 use Rattle.portal_model.specs.Seated.{BeginsWith, bound, bound_by, exchange, exchanges, is_open}
 use Rattle.portal_model.specs.Valid.{Valid}
-use Rattle.portal_model.specs.View.{TakesAlike, held_of, view}
-use Rattle.rights_rule.specs.Rights.{holds_any}
-use Rattle.portal_model.specs.World.{app_run, app_step, own_of, touch, trace}
 
 -- a run of two lists joined is a run after a run
 abbrev pub RunsJoin : Type 0
@@ -62,31 +54,6 @@ pub record SeatsTell : Type 0 where
 pub record StaysValid : Type 0 where
   pub step : (s : State) (e : Entry) → Valid s → Valid (after s e)
   pub run : (s : State) (h : List Entry) → Valid s → Valid (run s h)
-
--- of a lawful entry over a tree that tells: where the application makes it, its own machine gives the
--- reply and the view after; where it does not, what is touched gives the view after
-pub record StepsSeen : Type 0 where
-  pub own : (app : List ℕ) (s : State) (e : Entry) → s.told ≡ true → Valid s → Lawful s e → makes app s e ≡ true → app_step (view s app) (own_of e) ≡ (view (after s e) app, reply_at s e)
-  pub other : (app : List ℕ) (s : State) (e : Entry) → Valid s → makes app s e ≡ false → apply_all (view s app) (touch app s e) ≡ view (after s e) app
-
-abbrev pub with_right : State → Triple → State
-with_right s t = record s { rights = s.rights ++ t ∷ [] }
-
-abbrev pub with_document : State → Document → State
-with_document s d = record s { documents = s.documents ++ d ∷ [] }
-
--- A view is a function of what it takes from the state alone. So another application's right leaves it,
--- be it in a document that both know or in one that comes with it; and so does a document in which the
--- application has no right, whatever the tree has at its path.
-pub record ViewsFramed : Type 0 where
-  pub alike : (app : List ℕ) (s t : State) → TakesAlike app s t → view s app ≡ view t app
-  pub granted : (app : List ℕ) (s : State) (t : Triple) → is_same t.app app ≡ false → view (with_right s t) app ≡ view s app
-  pub added : (app : List ℕ) (s : State) (d : Document) → holds_any (held_of s.rights app d.id.number) ≡ false → view (with_document s d) app ≡ view s app
-
--- in every legal history over a tree that tells, the replies to an application are what its own machine
--- replies to its trace
-abbrev pub Isolated : Type 0
-Isolated = (app : List ℕ) (s : State) (h : List Entry) → s.told ≡ true → Legal s h → replies app s h ≡ app_run (trace app s h)
 
 -- an opening state whose records are sound is valid, over a tree that tells its files
 abbrev pub OpeningsAreValid : Type 0

@@ -1,11 +1,10 @@
--- Leave, which ends the open connection of its seat: in the portal, and in one application's view.
+-- Leave, which ends the open connection of its seat.
 use Rattle.std.specs.Prelude.{ℕ, ◌==◌, List, not, Option, Some, None}
 use Rattle.std.specs.List.{filter}
 use Rattle.portal_model.specs.declared.reply.Answer.{Answer}
 use Rattle.portal_model.specs.declared.reply.Code.TheVariants as Code
 use Rattle.portal_model.specs.declared.state.Connection.{Connection}
 use Rattle.portal_model.specs.State.{State, connection_of}
-use Rattle.portal_model.specs.View.{View}
 
 -- the connections of other seats
 abbrev pub of_others : ℕ → List Connection → List Connection
@@ -20,14 +19,8 @@ abbrev pub leave_answer : Option Connection → Answer
 leave_answer None = Answer.Refused Code.NotHere
 leave_answer (Some c) = Answer.Done
 
--- in the portal: the state after, and the answer
+-- the state after, and the answer
 abbrev pub leave : State → ℕ → State × Answer
 leave s seat =
     let open_one = connection_of s.connections seat in
     (record s { connections = left seat s.connections open_one }, leave_answer open_one)
-
--- in the view of the application that leaves: the view after, and the answer
-abbrev pub own_leave : View → ℕ → View × Answer
-own_leave v seat =
-    let open_one = connection_of v.connections seat in
-    (record v { connections = left seat v.connections open_one }, leave_answer open_one)

@@ -1,9 +1,11 @@
 pub mod State
+pub mod Ordered
+pub mod Rights
+pub mod Documents
+pub mod Applications
 pub mod Content
 pub mod Place
 pub mod Errno
-pub mod View
-pub mod Effect
 pub mod Enter
 pub mod Leave
 pub mod Collect
@@ -14,7 +16,6 @@ pub mod Valid
 pub mod Opening
 pub mod RecordChanges
 pub mod History
-pub mod World
 pub mod Seated
 pub mod Laws
 pub mod Examples

@@ -1,5 +1,5 @@
 -- The state that an opening state of a portal stands for.
-use Rattle.std.specs.Prelude.{◌≡◌, ◌≤◌, ◌<◌, ◌^◌, length, nat_eq, ℕ, ◌==◌, ◌/◌, ◌%◌, List, [], ◌∷◌, ◌++◌, map, cond, not, Bool, true, false, Option, Some, None}
+use Rattle.std.specs.Prelude.{◌≡◌, ◌≤◌, ◌<◌, ◌^◌, length, nat_eq, ℕ, ◌==◌, ◌/◌, ◌%◌, List, [], ◌∷◌, map, fold, not, Bool, true, false, Option, Some, None}
 use Rattle.std.specs.List.{filter, flat_map, list_all, IsDistinct}
 use Rattle.portal_base.specs.Names.{is_same, is_app_name, is_host_path}
 use Rattle.portal_base.specs.declared.names.doc_id.DocId.{DocId}
@@ -13,7 +13,9 @@ use Rattle.portal_model.specs.declared.state.Document.{Document}
 use Rattle.portal_base.specs.declared.files.File.{File}
 use Rattle.portal_model.specs.declared.state.Triple.{Triple}
 use Rattle.portal_model.specs.Content.{is_folder}
+use Rattle.portal_model.specs.Rights.{add_rights}
 use Rattle.portal_model.specs.State.{State, bit_of}
+use Rattle.rights_rule.specs.Rights.{RightSet}
 use Rattle.portal_model.specs.Valid.{Valid, applications_limit, is_sound_entry, same_entry}
 
 abbrev pub id_of : ℕ → DocId
@@ -26,19 +28,28 @@ document_kept d = record { id = id_of d.kept.number; path = d.kept.path; persist
 abbrev pub has_bit : ℕ → Right → Bool
 has_bit rights right = rights / bit_of right % 2 == 1
 
-abbrev pub triple_kept : ℕ → GrantRecord → Right → List Triple
-triple_kept number grant right = cond (has_bit grant.rights right) (record { app = grant.app; id = id_of number; right = right } ∷ []) []
+-- the rights that a record's number stands for
+abbrev pub set_of_bits : ℕ → RightSet
+set_of_bits rights = record {
+  read = has_bit rights Read;
+  write = has_bit rights Write;
+  grant_permissions = has_bit rights GrantPermissions;
+  delete = has_bit rights Delete;
+}
 
--- what a record gives an application in a document
-abbrev pub triples_of : ℕ → GrantRecord → List Triple
-triples_of number grant = triple_kept number grant Read ++ (triple_kept number grant Write ++ (triple_kept number grant GrantPermissions ++ triple_kept number grant Delete))
+-- the rights with those that a record gives an application in a document
+abbrev pub with_grant : ℕ → List Triple → GrantRecord → List Triple
+with_grant number rights grant = add_rights grant.app (id_of number) (set_of_bits grant.rights) rights
+
+abbrev pub with_grants : List Triple → OpeningDocument → List Triple
+with_grants rights d = fold (with_grant d.kept.number) rights d.kept.grants
+
+abbrev pub rights_kept : List OpeningDocument → List Triple
+rights_kept documents = fold with_grants [] documents
 
 -- the lists that f makes of the items, one after another
 abbrev pub each : {X Y : Type 0} → (X → List Y) → List X → List Y
 each f xs = flat_map f xs
-
-abbrev pub triples_kept : OpeningDocument → List Triple
-triples_kept d = each (triples_of d.kept.number) d.kept.grants
 
 -- a file that is there from the start is the first that its path has
 abbrev pub file_of : FileItem → File
@@ -58,7 +69,7 @@ opened_over files o = record {
   limits = o.limits;
   documents = map document_kept o.documents;
   made = o.made;
-  rights = each triples_kept o.documents;
+  rights = rights_kept o.documents;
   applications = o.applications;
   connections = [];
   told = is_told files;

@@ -11,16 +11,14 @@ use Rattle.portal_model.specs.declared.reply.Change.{Change}
 use Rattle.portal_model.specs.declared.state.Connection.{Connection}
 use Rattle.portal_model.specs.declared.state.Triple.{Triple}
 use Rattle.portal_model.specs.Content.{is_folder}
-use Rattle.portal_model.specs.State.{State, document_of, same_right}
+use Rattle.portal_model.specs.Rights.{are_in_order}
+use Rattle.portal_model.specs.State.{State, document_of}
 
 abbrev pub is_made : List DocId → ℕ → Bool
 is_made made number = list_any (λ id. id.number == number) made
 
 abbrev pub is_numbered : List (List ℕ) → List ℕ → Bool
 is_numbered applications app = list_any (is_same app) applications
-
-abbrev pub same_triple : Triple → Triple → Bool
-same_triple t u = is_same t.app u.app && (t.id.number == u.id.number && same_right t.right u.right)
 
 -- the document is live, and the application is numbered
 abbrev pub is_placed : State → Triple → Bool
@@ -72,7 +70,8 @@ pub record Valid (s : State) : Type 0 where
   pub paths : list_all (λ d. is_host_path d.path) s.documents ≡ true
   pub applications_differ : IsDistinct is_same s.applications
   pub names : list_all is_app_name s.applications ≡ true
-  pub rights_differ : IsDistinct same_triple s.rights
+  -- rights stand in their one order, none twice
+  pub rights_in_order : are_in_order s.rights ≡ true
   pub rights_placed : list_all (is_placed s) s.rights ≡ true
   pub seats_differ : IsDistinct nat_eq (map (λ c. c.seat) s.connections)
   pub connections_sound : list_all (is_sound_connection s.limits.queued) s.connections ≡ true

@@ -8,11 +8,9 @@ ghost use Rattle.portal_model.specs.Examples.{
   AnswersOfSeats,
   AttributesOfGrantedFile,
   CostsOfRequests,
-  EffectsOnAView,
   FailedLook,
   ForeignIsAsMissing,
   LeaveAndCollect,
-  TracesTellWhatIsHeld,
 };
 
 /// An application that may read and write a document of five bytes is told
@@ -33,12 +31,6 @@ pub fn costs_of_requests()
     ensures { CostsOfRequests }
 {}
 
-/// Histories that differ only in what an application doesn't hold give it the
-/// same trace, and histories that differ in its own rights different ones.
-pub fn traces_tell_what_is_held()
-    ensures { TracesTellWhatIsHeld }
-{}
-
 /// A request on a node needs the seat's own open mount, an Enter a seat
 /// without a connection, and no handle is open yet.
 pub fn answers_of_seats()
@@ -54,10 +46,4 @@ pub fn leave_and_collect()
 /// A look that failed is answered EIO.
 pub fn a_failed_look()
     ensures { FailedLook }
-{}
-
-/// What others change of the documents that an application holds: rights that
-/// are gained and lost, documents that go, and contents.
-pub fn effects_on_a_view()
-    ensures { EffectsOnAView }
 {}

@@ -6,15 +6,12 @@ ghost use Rattle.portal_model.specs.Laws.{
   Beginnings,
   CostsJoin,
   ExchangesJoin,
-  Isolated,
   LegalJoins,
   OpeningsAreValid,
   RunsJoin,
   SeatsJoin,
   SeatsTell,
   StaysValid,
-  StepsSeen,
-  ViewsFramed,
 };
 
 /// The state after two histories joined is the one after the second, from the
@@ -63,26 +60,6 @@ pub fn seats_tell_their_connections()
 /// Every state that is reached from a valid state is valid.
 pub fn states_stay_valid()
     ensures { StaysValid }
-{}
-
-/// A step that leaves equal what a view takes from the state leaves the view
-/// equal: so does one that gives another application a right, or adds a
-/// document in which the application has none.
-pub fn views_are_framed()
-    ensures { ViewsFramed }
-{}
-
-/// One entry, as an application sees it: its own is answered by its own
-/// machine as in the portal, and another's changes its view as it is told.
-pub fn steps_are_seen()
-    ensures { StepsSeen }
-{}
-
-/// The replies to an application are a function of its trace: its own requests
-/// with what the outside gave them, and what others change of the documents,
-/// rights and bytes that it holds.
-pub fn applications_are_isolated()
-    ensures { Isolated }
 {}
 
 /// The state that sound records and files stand for is valid.

@@ -7,6 +7,7 @@ pub mod desk;
 pub mod entry;
 pub mod errno;
 pub mod examples;
+pub mod handle;
 pub mod laws;
 pub mod opening;
 pub mod place;

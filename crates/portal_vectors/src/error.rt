@@ -1,23 +1,26 @@
 //! Why a line has no other answer.
 
+use document_records::DocError;
 use portal_base::memory::WantOfMemory;
 use portal_base::names::NameError;
+use rights_rule::UnknownPermission;
 use script_form::error::ScriptError;
 use std::alloc::{AllocError, Global};
-use thiserror::Error;
 use vector_lines::error::LineError;
+use vector_lines::notation::debug;
 
 /// Why a line has no other answer.
-#[derive(Clone, Copy, Debug, PartialEq, Eq, Error)]
+#[derive(Clone, Copy)]
 pub enum VectorError {
     /// The line isn't understood.
-    #[error("{0}")]
     Line(LineError),
     /// The text is no name.
-    #[error("{0}")]
     Name(NameError),
+    /// A text names no right.
+    Permission(UnknownPermission),
+    /// A document isn't added.
+    Document(DocError),
     /// The text is no script.
-    #[error("{0}")]
     Script(ScriptError),
 }
 
@@ -25,9 +28,11 @@ impl VectorError {
     /// What is printed of it: the error as the call gave it.
     pub fn told(self, alloc: Global) -> Result<String, AllocError> {
         match self {
-            VectorError::Line(error) => format!(in alloc; "{error:?}"),
-            VectorError::Name(error) => format!(in alloc; "{error:?}"),
-            VectorError::Script(error) => format!(in alloc; "{error:?}"),
+            VectorError::Line(error) => debug(alloc, &error),
+            VectorError::Name(error) => debug(alloc, &error),
+            VectorError::Permission(error) => debug(alloc, &error),
+            VectorError::Document(error) => debug(alloc, &error),
+            VectorError::Script(error) => debug(alloc, &error),
         }
     }
 }
@@ -59,5 +64,17 @@ impl From<ScriptError> for VectorError {
 impl From<NameError> for VectorError {
     fn from(error: NameError) -> VectorError {
         VectorError::Name(error)
+    }
+}
+
+impl From<UnknownPermission> for VectorError {
+    fn from(error: UnknownPermission) -> VectorError {
+        VectorError::Permission(error)
+    }
+}
+
+impl From<DocError> for VectorError {
+    fn from(error: DocError) -> VectorError {
+        VectorError::Document(error)
     }
 }

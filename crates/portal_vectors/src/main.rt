@@ -1,4 +1,5 @@
-//! Vectors of scripts, of the portal and of connections.
+//! Vectors of all that needs no wire format: names, lists and devices, rights and
+//! the records of documents, scripts, the portal and connections.
 //!
 //! Reads lines from standard input. A line names a call, and what the call is
 //! given; its answer is printed as a line. Empty lines and lines that begin with
@@ -6,14 +7,27 @@
 //! numbers of those of the input. The modules say which lines there are.
 #![tactic(auto)]
 
+mod applications;
+mod copies;
+mod devices;
+mod documents;
 mod drip;
 mod error;
+mod grants;
+mod keepers;
+mod lists;
+mod names;
 mod opened;
 mod portal;
+mod rights;
+mod scripted;
 mod scripts;
 mod served;
+mod trees;
+mod waiting;
 
 use crate::error::VectorError;
+use rights_rule::Rights;
 use std::alloc::Global;
 use std::io;
 use std::io::{BufRead, BufReader};
@@ -48,11 +62,46 @@ fn answer(alloc: Global, line: &str) -> Result<String, VectorError> {
     let line = repeated(alloc, line)?;
     let (kind, rest) = cut(line.as_str());
     match kind {
+        "application" => names::application(alloc, rest),
+        "path" => names::path(alloc, rest),
+        "document" => names::document(alloc, rest),
+        "child" => names::child(alloc, rest),
+        "parent" => names::parent(alloc, rest),
+        "last" => names::last(alloc, rest),
+        "own" => names::own(alloc, rest),
+        "list" => lists::list(alloc, rest),
+        "text" => lists::text(alloc, rest),
+        "copy" => copies::copy(alloc, rest),
+        "source" => devices::source(alloc, rest),
+        "sink" => devices::sink(alloc, rest),
+        "memory-source" => devices::memory_source(alloc, rest),
+        "memory-sink" => devices::memory_sink(alloc, rest),
+        "clock" => devices::clock(alloc, rest),
+        "words" => devices::words(alloc, rest),
+        "tree" => trees::tree(alloc, rest),
+        "quiet" => trees::quiet(alloc, rest),
+        "keeper" => keepers::keeper(alloc, rest),
+        _ => answer_of_portal(alloc, kind, rest),
+    }
+}
+
+/// The answer of a line on rights and records, scripts, the portal or connections.
+fn answer_of_portal(alloc: Global, kind: &str, rest: &str) -> Result<String, VectorError> {
+    match kind {
+        "rights" => rights::rights_named(alloc, rest),
+        "all" => rights::listed(alloc, Rights::all()),
+        "none" => rights::listed(alloc, Rights::empty()),
+        "documents" => documents::documents(alloc, rest),
+        "grants" => grants::grants(alloc, rest),
+        "applications" => applications::applications(alloc, rest),
         "script" => scripts::script(alloc, rest),
         "line" => scripts::line(alloc, rest),
         "opening" => scripts::opening(alloc, rest),
         "portal" => portal::portal(alloc, rest),
+        "history" => portal::history(alloc),
         "serve" => served::serve(alloc, rest),
+        "waits" => served::waits(alloc, rest),
+        "feeds" => served::feeds(alloc, rest),
         _ => Err(VectorError::Line(LineError::BadLine)),
     }
 }

@@ -2,14 +2,18 @@
 
 use crate::error::VectorError;
 use crate::opened::{LONGEST, kind, opened_by, who};
+use portal_base::limits::Limits;
+use portal_base::list::List;
 use portal_core::local_desk::LocalDesk;
 use portal_core::portal::Portal;
+use portal_history::History;
 use portal_model::desk::Desk;
+use portal_model::entry::{Entry, Fault, Given};
 use portal_model::reply::{Refused, Reply};
 use portal_model::request::{NodeOp, NodeRequest, Request};
 use std::alloc::Global;
 use vector_lines::error::LineError;
-use vector_lines::notation::{self, cut, number, small_number};
+use vector_lines::notation::{self, cut, debug, number, small_number};
 
 /// `portal LIMIT SCRIPT | REQUEST | REQUEST ..`: what each request is answered by
 /// a portal that the script opens and whose history may cost LIMIT; and then how
@@ -100,9 +104,9 @@ fn shown(alloc: Global, reply: Result<Reply, Refused>) -> Result<String, VectorE
     match reply {
         Ok(reply) => {
             let answer = reply.answer;
-            Ok(format!(in alloc; "{answer:?}")?)
+            Ok(debug(alloc, &answer)?)
         }
-        Err(refused) => Ok(format!(in alloc; "{refused:?}")?),
+        Err(refused) => Ok(debug(alloc, &refused)?),
     }
 }
 
@@ -135,4 +139,37 @@ fn getattr(rest: &str) -> Result<Request, VectorError> {
             fh: number(fh)?,
         },
     }))
+}
+
+/// Limits under which one Collect fills the history.
+const ONE_COLLECT: Limits = Limits {
+    documents: 65_536,
+    made: 1_048_576,
+    history: 128,
+    handles: 1_024,
+    queued: 16,
+    file_bytes: 268_435_456,
+};
+
+/// `history`: how many entries a history has that one Collect fills, once it
+/// went into room that was taken for it; their cost, and the limit.
+pub fn history(alloc: Global) -> Result<String, VectorError> {
+    let mut history = History::new(alloc, &ONE_COLLECT);
+    history.reserve(1)?;
+    history.push(Entry {
+        seat: 7,
+        request: Request::Collect,
+        given: Given {
+            now: None,
+            words: List::new(alloc),
+            numbers: List::new(alloc),
+            looks: List::new(alloc),
+            full: false,
+            fault: Fault::None,
+        },
+    });
+    let entries = history.len();
+    let cost = history.cost();
+    let limit = history.limit();
+    Ok(format!(in alloc; "{entries} entries of {cost} in {limit}")?)
 }

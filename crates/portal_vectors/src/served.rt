@@ -1,10 +1,12 @@
 //! Connections, from their first byte to their end.
 
-ghost use Rattle.std.specs.Prelude.{◌≡◌, []};
+ghost use Rattle.std.specs.Prelude.{◌≡◌, [], false};
+ghost use Rattle.portal_model.specs.Seated.{is_open, state_seen};
 
 use crate::drip::Drip;
 use crate::error::VectorError;
 use crate::opened::{PLENTY, kind, limits, opened_by, who};
+use crate::waiting::{Counting, Waiting};
 use portal_base::limits::Settings;
 use portal_base::list::{ByteList, List};
 use portal_base::names::HostPath;
@@ -12,9 +14,12 @@ use portal_base::outside::{MemorySink, Sink, Source};
 use portal_base::who::{Kind, Who};
 use portal_core::local_desk::LocalDesk;
 use portal_core::portal::Portal;
+use portal_model::desk::Desk;
 use session::connection::serve_connection;
 use session::served::Served;
+use session::session::Session;
 use std::alloc::Global;
+use std::cell::Cell;
 use vector_lines::error::LineError;
 use vector_lines::notation::{bytes, cut, digits, number};
 
@@ -177,4 +182,105 @@ fn settings(alloc: Global) -> Result<Settings, VectorError> {
             0xcd, 0xef,
         ],
     })
+}
+
+/// `waits BYTES | BYTES`: how a bus of the host ends whose second bytes come only
+/// once something was written, how many entries the history has then, and how
+/// many pieces were written.
+pub fn waits(alloc: Global, rest: &str) -> Result<String, VectorError> {
+    let (first, second) = rest.split_once(" | ").unwrap_or((rest, ""));
+    let first = bytes(alloc, first)?;
+    let second = bytes(alloc, second)?;
+    let written = Cell::new(0);
+    let mut source = Waiting {
+        first: first.as_slice(),
+        second: second.as_slice(),
+        reads: 0,
+        written: &written,
+        faults: 0,
+    };
+    let mut sink = Counting { written: &written };
+    let came = served_to_host(alloc, &mut source, &mut sink)?;
+    let served = came.served;
+    let entries = came.entries;
+    let pieces = written.get();
+    Ok(format!(in alloc; "{served:?}, {entries} entries, {pieces} pieces")?)
+}
+
+/// Serves a bus of the host over these devices.
+fn served_to_host<S: Source, K: Sink>(
+    alloc: Global,
+    source: &mut S,
+    sink: &mut K,
+) -> Result<Came, VectorError> {
+    let settings = settings(alloc)?;
+    let mut portal = opened_by(alloc, SCRIPT, PLENTY)?;
+    let came = serve_portal(
+        alloc,
+        &mut portal,
+        &Who::Host,
+        Kind::Bus,
+        &settings,
+        source,
+        sink,
+    );
+    Ok(came)
+}
+
+/// `feeds BYTES | BYTES | BYTES`: what a session of a bus of the host answers to
+/// the three pieces one after another, and in the end; how many entries the
+/// history has then, and how many pieces were written.
+pub fn feeds(alloc: Global, rest: &str) -> Result<String, VectorError> {
+    let settings = settings(alloc)?;
+    let (first, rest) = rest.split_once(" | ").unwrap_or((rest, ""));
+    let (second, third) = rest.split_once(" | ").unwrap_or((rest, ""));
+    let pieces = [
+        bytes(alloc, first)?,
+        bytes(alloc, second)?,
+        bytes(alloc, third)?,
+    ];
+    let mut sink = MemorySink::new(alloc, 0);
+    let mut portal = opened_by(alloc, SCRIPT, PLENTY)?;
+    let told = fed_portal(alloc, &mut portal, &settings, &pieces, &mut sink)?;
+    let written = sink.pieces().len();
+    Ok(format!(in alloc; "{told}, {written} pieces")?)
+}
+
+/// The same of a portal that has no connection yet.
+fn fed_portal(
+    alloc: Global,
+    portal: &mut Portal,
+    settings: &Settings,
+    pieces: &[ByteList; 3],
+    sink: &mut MemorySink,
+) -> Result<String, VectorError>
+    requires { portal.old.history ≡ [] }
+{
+    let told = {
+        let mut desk = LocalDesk::new(portal, 1);
+        fed(alloc, &mut desk, settings, pieces, sink)
+    };
+    let entries = portal.history().len();
+    Ok(format!(in alloc; "{told}, {entries} entries", told = told?)?)
+}
+
+fn fed<D: Desk>(
+    alloc: Global,
+    desk: &mut D,
+    settings: &Settings,
+    pieces: &[ByteList; 3],
+    sink: &mut MemorySink,
+) -> Result<String, VectorError>
+    requires { is_open (state_seen (D.seated desk.old)) (D.seated desk.old).seat ≡ false }
+{
+    let [first, second, third] = pieces;
+    let mut session = match Session::begin(alloc, desk, &Who::Host, Kind::Bus, settings) {
+        Ok(session) => session,
+        Err(_) => return Err(VectorError::Line(LineError::Memory)),
+    };
+    let first = session.feed(alloc, desk, first.as_slice(), sink);
+    let second = session.feed(alloc, desk, second.as_slice(), sink);
+    let third = session.feed(alloc, desk, third.as_slice(), sink);
+    let served = session.end(alloc, desk);
+    Ok(format!(in alloc; "{first:?}, {second:?}, {third:?}, {served:?}")?)
 }

@@ -10,8 +10,8 @@ use Rattle.dbus_types.specs.declared.types.WireType.TheVariants as W
 use Rattle.dbus_types.specs.declared.types.Value.{Value, fold-Value}
 use Rattle.dbus_types.specs.declared.types.Value.TheVariants as V
 use Rattle.dbus_types.specs.declared.types.Value.TheOpen.{Value-F}
-use Rattle.dbus_marshal.specs.Spells.{Spells}
-use Rattle.dbus_marshal.specs.Spelling.{spelling}
+use Rattle.dbus_types.specs.Spells.{Spells}
+use Rattle.dbus_types.specs.Spelling.{spelling}
 use Rattle.portal_base.specs.Names.{is_app_name, is_host_path, is_same}
 use Rattle.portal_model.specs.Valid.{is_sound_entry, is_none}
 use Rattle.portal_model.specs.declared.records.DocRecord.{DocRecord}

@@ -4,7 +4,7 @@ ghost use Rattle.std.specs.Prelude.{◌≡◌, ◌≤◌, ◌↔◌, IfOk, IsTru
 ghost use Rattle.std.specs.List.{list_any, list_all};
 ghost use Rattle.dbus_types.specs.declared.types.Endian.TheVariants.{Little};
 ghost use Rattle.dbus_types.specs.declared.types.Value.{Value as Value'};
-ghost use Rattle.dbus_marshal.specs.Spelling.{spelling};
+ghost use Rattle.dbus_types.specs.Spelling.{spelling};
 ghost use Rattle.portal_base.specs.Names.{is_same};
 ghost use Rattle.portal_model.specs.Valid.{is_sound_entry as has_texts, has_texts as row_has_texts, is_text as is_text_of};
 ghost use Rattle.record_keeper.specs.SoundRecords.{IsRising, IsSoundEntry, HasDatum, own_table, is_empty_row as is_empty, changed_value as value_of_change, rows_value as value_of_rows, row_value as value_of_row, texts_value as value_of_texts};

@@ -10,7 +10,7 @@ use Rattle.portal_model.specs.History.{Legal, makes, of_seat, replies, run}
 use Rattle.portal_model.specs.Seated.{BeginsWith, Binding, Exchange, Known, Seated, bound, bound_by, is_open, state_seen}
 use Rattle.portal_model.specs.State.{State, connection_of}
 use Rattle.portal_model.specs.Step.{reply_at}
-use Rattle.portal_model.specs.World.{app_run, trace}
+use Rattle.app_world.specs.World.{app_run, trace}
 use Rattle.portal_model.proofs.Histories.{of_seat-append, run-append}
 use Rattle.portal_model.proofs.SeatLaws.{begins-between, exchanges-entries, run-bound}
 use Rattle.session.specs.declared.act.Act.{Act}

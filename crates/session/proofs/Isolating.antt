@@ -13,9 +13,9 @@ use Rattle.portal_model.specs.History.{Legal, is_by, makes, made_by, replies, ru
 use Rattle.portal_model.specs.Seated.{Binding, binding_of, bound_after, bound_by}
 use Rattle.portal_model.specs.State.{State}
 use Rattle.portal_model.specs.Step.{after, reply_at}
-use Rattle.portal_model.specs.World.{app_run, trace}
+use Rattle.app_world.specs.World.{app_run, trace}
 use Rattle.portal_model.proofs.Finds.{is_same-refl}
-use Rattle.portal_model.proofs.WorldLaws.{replies_of_trace}
+use Rattle.app_world.proofs.WorldLaws.{replies_of_trace}
 use Rattle.session.specs.declared.act.Client.{Client}
 use Rattle.session.specs.Sessions.{enter}
 use Rattle.session.proofs.Fitting.{EntriesFit, Fits, fits_plain}

@@ -5,7 +5,7 @@ use Rattle.portal_model.specs.declared.entry.Entry.{Entry}
 use Rattle.portal_model.specs.History.{run, replies}
 use Rattle.portal_model.specs.Seated.{Seated}
 use Rattle.portal_model.specs.Step.{reply_at}
-use Rattle.portal_model.specs.World.{app_run, trace}
+use Rattle.app_world.specs.World.{app_run, trace}
 
 -- What is replied to an entry of a history from which an application's seat entered is what the
 -- application's own machine replies over its trace, at the entry's place among all that it makes.

@@ -2,7 +2,8 @@
 
 use crate::error::LineError;
 use portal_base::list::{ByteList, List};
-use std::alloc::Global;
+use std::alloc::{AllocError, Global};
+use std::fmt::Debug;
 
 /// Says whether a line is printed as it is: an empty one, or a comment.
 pub fn is_comment(line: &str) -> bool {
@@ -12,6 +13,11 @@ pub fn is_comment(line: &str) -> bool {
 /// The first word, and what stands behind the space after it.
 pub fn cut(line: &str) -> (&str, &str) {
     line.split_once(' ').unwrap_or((line, ""))
+}
+
+/// A value as a programmer sees it.
+pub fn debug<T: Debug>(alloc: Global, value: &T) -> Result<String, AllocError> {
+    format!(in alloc; "{value:?}")
 }
 
 /// A number in decimal digits.

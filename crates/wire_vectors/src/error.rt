@@ -6,23 +6,19 @@ use dbus_types::errors::SignatureError;
 use portal_base::memory::WantOfMemory;
 use portal_base::names::NameError;
 use std::alloc::{AllocError, Global};
-use thiserror::Error;
 use vector_lines::error::LineError;
+use vector_lines::notation::debug;
 
 /// Why a line has no other answer.
-#[derive(Clone, Copy, Debug, PartialEq, Eq, Error)]
+#[derive(Clone, Copy)]
 pub enum VectorError {
     /// The line isn't understood.
-    #[error("{0}")]
     Line(LineError),
     /// The text is no signature.
-    #[error("{0}")]
     Signature(SignatureError),
     /// The bytes spell no value.
-    #[error("{0}")]
     Value(ReadError),
     /// The bytes are no message.
-    #[error("{0}")]
     Message(MessageError),
 }
 
@@ -30,10 +26,10 @@ impl VectorError {
     /// What is printed of it: the error as the call gave it.
     pub fn told(self, alloc: Global) -> Result<String, AllocError> {
         match self {
-            VectorError::Line(error) => format!(in alloc; "{error:?}"),
-            VectorError::Signature(error) => format!(in alloc; "{error:?}"),
-            VectorError::Value(error) => format!(in alloc; "{error:?}"),
-            VectorError::Message(error) => format!(in alloc; "{error:?}"),
+            VectorError::Line(error) => debug(alloc, &error),
+            VectorError::Signature(error) => debug(alloc, &error),
+            VectorError::Value(error) => debug(alloc, &error),
+            VectorError::Message(error) => debug(alloc, &error),
         }
     }
 }

@@ -10,7 +10,7 @@ use portal_base::split::Split;
 use portal_model::reply::{Attr, DirName, NodeAnswer};
 use std::alloc::Global;
 use vector_lines::error::LineError;
-use vector_lines::notation::{bytes, cut, digits, number, small_number};
+use vector_lines::notation::{bytes, cut, debug, digits, number, small_number};
 
 /// `frame BYTES`: whether a frame stands at the front of the bytes; and where
 /// they are one, its number and what it asks.
@@ -23,7 +23,7 @@ pub fn frame(alloc: Global, rest: &str) -> Result<String, VectorError> {
             let asked = read_request(alloc, bytes)?;
             Ok(format!(in alloc; "{unique}: {asked:?}")?)
         }
-        split => Ok(format!(in alloc; "{split:?}")?),
+        split => Ok(debug(alloc, &split)?),
     }
 }
 

@@ -11,13 +11,12 @@ use dbus_types::write::write_signature;
 use portal_base::split::Split;
 use portal_base::text::Text;
 use std::alloc::Global;
-use vector_lines::notation;
+use vector_lines::notation::{self, debug};
 
 /// `split BYTES`: whether a message stands at the front of the bytes.
 pub fn split_bytes(alloc: Global, rest: &str) -> Result<String, VectorError> {
     let bytes = notation::bytes(alloc, rest)?;
-    let split = split(bytes.as_slice());
-    Ok(format!(in alloc; "{split:?}")?)
+    Ok(debug(alloc, &split(bytes.as_slice()))?)
 }
 
 /// `message BYTES`: the message that the bytes are, or the rule that they break
@@ -29,7 +28,7 @@ pub fn message(alloc: Global, rest: &str) -> Result<String, VectorError> {
             shown_message(alloc, &read_message(alloc, bytes.as_slice())?)
         }
         Split::Bad { rule } => Err(VectorError::Message(MessageError::Bad { rule })),
-        split => Ok(format!(in alloc; "{split:?}")?),
+        split => Ok(debug(alloc, &split)?),
     }
 }
 

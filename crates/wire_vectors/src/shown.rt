@@ -2,7 +2,9 @@
 
 use crate::error::VectorError;
 use dbus_types::types::Value;
-use std::alloc::Global;
+use portal_base::text::Text;
+use std::alloc::{AllocError, Global};
+use vector_lines::notation::debug;
 
 /// A value as a text: a byte and a double by the digits of their bytes, texts
 /// between quotes, a variant as `<value>`, arrays as `[..]`, structs as
@@ -62,22 +64,27 @@ fn put_all(alloc: Global, out: &mut String, values: &[Value]) -> Result<(), Vect
 }
 
 /// A value that holds no other.
-fn leaf(alloc: Global, value: &Value) -> Result<String, VectorError> {
-    let text = match value {
-        Value::Byte(byte) => format!(in alloc; "0x{byte:02x}")?,
-        Value::Bool(truth) => format!(in alloc; "{truth}")?,
-        Value::I16(number) => format!(in alloc; "{number}")?,
-        Value::U16(number) => format!(in alloc; "{number}")?,
-        Value::I32(number) => format!(in alloc; "{number}")?,
-        Value::U32(number) => format!(in alloc; "{number}")?,
-        Value::I64(number) => format!(in alloc; "{number}")?,
-        Value::U64(number) => format!(in alloc; "{number}")?,
-        Value::Double(bits) => format!(in alloc; "0x{bits:016x}")?,
-        Value::Str(text) => format!(in alloc; "\"{}\"", text.as_str())?,
-        Value::ObjectPath(path) => format!(in alloc; "path \"{}\"", path.as_str())?,
-        Value::Signature(text) => format!(in alloc; "signature \"{}\"", text.as_str())?,
-        Value::Handle(index) => format!(in alloc; "handle {index}")?,
-        _ => String::new(alloc),
-    };
-    Ok(text)
+fn leaf(alloc: Global, value: &Value) -> Result<String, AllocError> {
+    match value {
+        Value::Byte(byte) => format!(in alloc; "0x{byte:02x}"),
+        Value::Bool(truth) => debug(alloc, truth),
+        Value::I16(number) => debug(alloc, number),
+        Value::U16(number) => debug(alloc, number),
+        Value::I32(number) => debug(alloc, number),
+        Value::U32(number) => debug(alloc, number),
+        Value::I64(number) => debug(alloc, number),
+        Value::U64(number) => debug(alloc, number),
+        Value::Double(bits) => format!(in alloc; "0x{bits:016x}"),
+        Value::Str(text) => quoted(alloc, "", text),
+        Value::ObjectPath(path) => quoted(alloc, "path ", path),
+        Value::Signature(text) => quoted(alloc, "signature ", text),
+        Value::Handle(index) => format!(in alloc; "handle {index}"),
+        _ => Ok(String::new(alloc)),
+    }
+}
+
+/// A text between quotes, behind the name of its type.
+fn quoted(alloc: Global, name: &str, text: &Text) -> Result<String, AllocError> {
+    let text = text.as_str();
+    format!(in alloc; "{name}\"{text}\"")
 }

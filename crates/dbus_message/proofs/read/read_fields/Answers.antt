@@ -1,7 +1,7 @@
 use Rattle.std.proofs.Common.{◌≡◌, ◌+◌, ◌-◌, List, ℕ, drop, take, length, sym, subst, arith}
 use Rattle.dbus_types.specs.declared.types.WireType.{WireType}
 use Rattle.dbus_types.specs.declared.types.Value.{Value}
-use Rattle.dbus_marshal.specs.Spells.{Spells}
+use Rattle.dbus_types.specs.Spells.{Spells}
 use Rattle.dbus_message.proofs.Arrays.{at_kind, fields_short, fields_good, fields_none, fields_bad}
 use Rattle.dbus_message.proofs.read.read_fields.Goals as goal
 

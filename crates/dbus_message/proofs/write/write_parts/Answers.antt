@@ -2,7 +2,7 @@ use Rattle.std.proofs.Common.{◌≡◌, List, ℕ, [], ◌∷◌, ◌++◌, len
 use Rattle.std.specs.Int.{w32}
 use Rattle.dbus_types.specs.declared.types.Endian.TheVariants.{Little}
 use Rattle.dbus_types.specs.declared.types.WireType.TheVariants as W
-use Rattle.dbus_marshal.specs.Spells.{number}
+use Rattle.dbus_types.specs.Spells.{number}
 use Rattle.dbus_message.specs.Fields.{field_type}
 use Rattle.dbus_message.proofs.Writing.{header_len, parts_laid}
 use Rattle.dbus_message.proofs.Sent.{spelled_at}

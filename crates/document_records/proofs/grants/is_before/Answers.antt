@@ -1,6 +1,6 @@
 use Rattle.std.proofs.Common.{◌≡◌, ◌==◌, List, ℕ, Bool, ltb, true, cond, ap, sym, ◌∙◌}
-use Rattle.document_records.specs.Ordered.{bytes_less}
-use Rattle.document_records.proofs.TripleOrder.{bytes-compared, nat-itself}
+use Rattle.portal_model.specs.Ordered.{bytes_less}
+use Rattle.portal_model.proofs.TripleOrder.{bytes-compared, nat-itself}
 use Rattle.document_records.proofs.grants.is_before.Goals as goal
 
 pub returns-then-grant-id : goal.returns-then-grant-id

@@ -3,7 +3,7 @@ use Rattle.std.proofs.lemmas.Bool.{leb-true, le-leb}
 use Rattle.dbus_types.specs.declared.types.Endian.TheVariants.{Little}
 use Rattle.dbus_types.specs.declared.types.Value.{Value}
 use Rattle.dbus_types.specs.declared.types.WireType.TheVariants as W
-use Rattle.dbus_marshal.specs.Spelling.{spelling}
+use Rattle.dbus_types.specs.Spelling.{spelling}
 use Rattle.portal_model.specs.declared.records.EntryRecord.{EntryRecord}
 use Rattle.record_keeper.specs.SoundRecords.{IsDatum, changed_length, changed_value, message_limit}
 use Rattle.record_keeper.proofs.sound.has_datum.Goals as goal

@@ -1,7 +1,8 @@
 use Rattle.std.proofs.Common.{◌∙◌, ap, sym, subst, length, Some, None, List, ℕ}
 use Rattle.std.specs.List.{IsDistinct}
 use Rattle.portal_base.specs.Names.{is_same}
-use Rattle.document_records.specs.Applications.{number_of, AreNumbered}
+use Rattle.portal_model.specs.Applications.{number_of}
+use Rattle.document_records.specs.Applications.{AreNumbered}
 use Rattle.document_records.proofs.ApplicationLemmas.{has-number, no-number, differ-more, gets-next, next-number, room-for-next, number-seen, added-seen}
 use Rattle.document_records.proofs.applications.Applications.number.Goals as goal
 

@@ -1,7 +1,8 @@
 use Rattle.std.proofs.Common.{◌≡◌, ◌≤◌, ◌∙◌, ap, subst, map, length, List}
 use Rattle.std.proofs.lemmas.List.{take_all}
 use Rattle.portal_model.specs.declared.state.Document.{Document}
-use Rattle.document_records.specs.Documents.{DocumentList, id_of_document}
+use Rattle.portal_model.specs.Documents.{id_of_document}
+use Rattle.document_records.specs.Documents.{DocumentList}
 use Rattle.document_records.proofs.documents.Documents.ids.Goals as goal
 
 pub returns : goal.returns

@@ -1,5 +1,5 @@
 use Rattle.std.proofs.Common.{◌≡◌, map, take}
-use Rattle.document_records.specs.Documents.{id_of_document}
+use Rattle.portal_model.specs.Documents.{id_of_document}
 use Rattle.document_records.proofs.documents.Documents.ids.Given as goal
 
 -- the numbers so far

@@ -1,5 +1,5 @@
 use Rattle.document_records.proofs.Unused.{Walked, left}
-use Rattle.document_records.specs.Documents.{above}
+use Rattle.portal_model.specs.Documents.{above}
 use Rattle.document_records.proofs.documents.Documents.unused_from.Given as goal
 
 abbrev pub invariant-loop-self : goal.invariant-loop-self

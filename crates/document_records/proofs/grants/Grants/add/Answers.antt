@@ -2,7 +2,7 @@ use Rattle.std.proofs.Common.{◌≡◌, ◌∙◌, ap, sym, true, not, None, Li
 use Rattle.std.specs.List.{find}
 use Rattle.document_records.specs.declared.grants.Grant.{Grant}
 use Rattle.document_records.specs.Grants.{is_of, triples_of_grants}
-use Rattle.document_records.specs.Rights.{add_rights}
+use Rattle.portal_model.specs.Rights.{add_rights}
 use Rattle.document_records.proofs.GrantLemmas.{kept-given, given-is, kept-new, new-is, unchanged-is, copied-some, not-some}
 use Rattle.document_records.proofs.grants.Grants.add.Goals as goal
 

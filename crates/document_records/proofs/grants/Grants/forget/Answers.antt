@@ -1,6 +1,6 @@
 use Rattle.std.proofs.Common.{ap, ◌∙◌}
 use Rattle.document_records.specs.Grants.{is_elsewhere, triples_of_grants}
-use Rattle.document_records.specs.Rights.{forget_document}
+use Rattle.portal_model.specs.Rights.{forget_document}
 use Rattle.document_records.proofs.GrantLemmas.{kept-some, forgotten-is}
 use Rattle.document_records.proofs.grants.Grants.forget.Goals as goal
 

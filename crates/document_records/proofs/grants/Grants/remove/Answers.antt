@@ -1,6 +1,6 @@
 use Rattle.std.proofs.Common.{ap, ◌∙◌}
 use Rattle.document_records.specs.Grants.{triples_of_grants}
-use Rattle.document_records.specs.Rights.{take_rights}
+use Rattle.portal_model.specs.Rights.{take_rights}
 use Rattle.document_records.proofs.GrantLemmas.{kept-taken, held-ones-are, taken-is}
 use Rattle.document_records.proofs.grants.Grants.remove.Goals as goal
 

@@ -2,10 +2,10 @@ use Rattle.std.proofs.Common.{◌≡◌, ◌∙◌, ap, sym, Some, None, List}
 use Rattle.std.specs.List.{find}
 use Rattle.std.specs.Option.{option_copied}
 use Rattle.portal_model.specs.declared.state.Triple.{Triple}
-use Rattle.portal_model.specs.View.{held_of}
+use Rattle.portal_model.specs.State.{held_of}
 use Rattle.document_records.specs.declared.grants.Grant.{Grant}
 use Rattle.document_records.specs.Grants.{is_of}
-use Rattle.document_records.specs.Rights.{are_in_order}
+use Rattle.portal_model.specs.Rights.{are_in_order}
 use Rattle.document_records.proofs.GrantLemmas.{held-some, held-none, rising-triples}
 use Rattle.document_records.proofs.grants.Grants.rights.Goals as goal
 

@@ -1,0 +1,251 @@
+-- What the effects of others do to a view: rights that are gained and lost, and documents that go.
+use Rattle.std.proofs.Common.{◌≡◌, ℕ, ◌==◌, List, [], ◌∷◌, map, Bool, true, false, not, ◌||◌, cond, Option, Some, None, refl, sym, ap, ◌∙◌, arith}
+use Rattle.std.specs.List.{filter}
+use Rattle.std.specs.Option.{option_map}
+use Rattle.portal_base.specs.Names.{is_same}
+use Rattle.portal_base.specs.declared.files.File.{File}
+use Rattle.portal_base.specs.declared.limits.Limits.{Limits}
+use Rattle.portal_base.specs.declared.names.doc_id.DocId.{DocId}
+use Rattle.rights_rule.specs.Rights.{RightSet, holds_any, minus, union}
+use Rattle.portal_model.specs.declared.state.Document.{Document}
+use Rattle.portal_model.specs.Content.{content_at}
+use Rattle.portal_model.specs.State.{document_of}
+use Rattle.portal_model.proofs.Finds.{is_same-eq, nat_is, find-filter, found_passes}
+use Rattle.portal_model.specs.Ordered.{put, is_rising}
+use Rattle.app_world.specs.Effect.{Gained, Lost, Gone, apply, is_other, less_held, with_content, with_more}
+use Rattle.app_world.specs.View.{HeldDocument, OwnConnection, PathContent, ahead, contents_at, found_content, found_document, held_documents, is_among, is_held, lower, named_paths, number_of, path_content, path_of, seen, view_over}
+use Rattle.app_world.proofs.ContentLaws.{contents-are, contents-fewer, contents-found, contents-rising}
+use Rattle.app_world.proofs.DocumentLaws.{documents-are, documents-found, documents-rising, kept-seen, seen-nothing}
+use Rattle.app_world.proofs.Found.{find-changed, find-kept, find-put, kept}
+use Rattle.app_world.proofs.HeldLaws.{nothing-minus, nothing-union}
+use Rattle.app_world.proofs.Orders.{numbers, paths}
+use Rattle.portal_model.proofs.Rising.{rising-filter, rising-map, rising-put}
+use Rattle.app_world.proofs.ViewLaws.{among-joined, documents-same, names-fewer-documents}
+
+-- ---- what is named
+
+abbrev doc_paths : List HeldDocument → List (List ℕ)
+doc_paths ds = map (λ d. d.document.path) ds
+
+paths-filter : (q : HeldDocument → Bool) (xs : List HeldDocument) (path : List ℕ) → is_among (doc_paths (filter q xs)) path ≡ true → is_among (doc_paths xs) path ≡ true
+paths-filter q [] path h = h
+paths-filter q (x ∷ xs) path h = grind (arith, paths-filter q xs path)
+
+paths-put : (x : HeldDocument) (xs : List HeldDocument) (path : List ℕ) → is_among (doc_paths (put lower x xs)) path ≡ true → (is_same x.document.path path || is_among (doc_paths xs) path) ≡ true
+paths-put x [] path h = grind arith
+paths-put x (y ∷ ys) path h = grind (arith, paths-put x ys path)
+
+with_more-document : (d : Document) (h : RightSet) (o : Option HeldDocument) → (with_more d h o).document ≡ d
+with_more-document d h None = refl
+with_more-document d h (Some x) = refl
+
+-- ---- rights gained
+
+gain-case : (d : Document) (more k : RightSet) (b : Bool) → holds_any k ≡ b →
+    kept is_held (Some (with_more d more (cond b (Some (record { document = d; rights = k })) None))) ≡ seen (union k more) (Some d)
+gain-case d more k true e = refl
+gain-case d more k false e = ap (λ (m : RightSet). seen m (Some d)) (sym (nothing-union k more e))
+
+content-stays : (files : List File) (path : List ℕ) (b : Bool) → with_content path (content_at files path) (cond b (Some (path_content files path)) None) ≡ path_content files path
+content-stays files path true = refl
+content-stays files path false = refl
+
+module _ (limits : Limits) (files : List File) (documents documents' : List Document) (held held' : ℕ → RightSet) (cs : List OwnConnection) (d : Document) (more : RightSet)
+    (live : (n : ℕ) → document_of documents' n ≡ cond (d.id.number == n) (Some d) (document_of documents n))
+    (rights : (n : ℕ) → held' n ≡ cond (d.id.number == n) (union (held n) more) (held n))
+    (there : seen (held d.id.number) (document_of documents d.id.number) ≡ seen (held d.id.number) (Some d)) where
+  abbrev old : List HeldDocument
+  old = held_documents held documents
+
+  abbrev new : HeldDocument
+  new = with_more d more (found_document old d.id.number)
+
+  abbrev after_put : List HeldDocument
+  after_put = put lower new old
+
+  abbrev after : List HeldDocument
+  after = filter is_held after_put
+
+  put-rising : is_rising lower after_put ≡ true
+  put-rising = rising-put _ _ number_of numbers new old (documents-rising held documents)
+
+  new-is : new ≡ with_more d more (seen (held d.id.number) (Some d))
+  new-is = ap (with_more d more) (documents-found held d.id.number documents ∙ there)
+
+  new-document : new.document ≡ d
+  new-document = with_more-document d more (found_document old d.id.number)
+
+  gained-at : (n : ℕ) (b : Bool) → (d.id.number == n) ≡ b →
+      kept is_held (cond b (Some new) (found_document old n)) ≡ seen (cond b (union (held n) more) (held n)) (cond b (Some d) (document_of documents n))
+  gained-at n true e =
+      ap (λ (x : HeldDocument). kept is_held (Some x)) new-is
+      ∙ (gain-case d more (held d.id.number) (holds_any (held d.id.number)) refl ∙ ap (λ (m : ℕ). seen (union (held m) more) (Some d)) (nat_is d.id.number n e))
+  gained-at n false e = ap (kept is_held) (documents-found held n documents) ∙ kept-seen (held n) (document_of documents n)
+
+  gained-found : (n : ℕ) → found_document after n ≡ seen (held' n) (document_of documents' n)
+  gained-found n =
+      find-kept _ _ number_of numbers is_held n after_put put-rising
+      ∙ (ap (kept is_held) (find-put _ _ number_of numbers n new old)
+      ∙ (ap (λ (x : Document). kept is_held (cond (x.id.number == n) (Some new) (found_document old n))) new-document
+      ∙ (gained-at n (d.id.number == n) refl ∙ (λ i. seen (sym (rights n) i) (sym (live n) i)))))
+
+  documents-gained : after ≡ held_documents held' documents'
+  documents-gained = documents-are held' documents' after (rising-filter _ _ number_of numbers is_held after_put put-rising) gained-found
+
+  abbrev had : List PathContent
+  had = contents_at files (named_paths old cs)
+
+  abbrev joining : PathContent
+  joining = with_content d.path (content_at files d.path) (found_content had d.path)
+
+  joining-is : joining ≡ path_content files d.path
+  joining-is = ap (with_content d.path (content_at files d.path)) (contents-found files d.path (named_paths old cs)) ∙ content-stays files d.path (is_among (named_paths old cs) d.path)
+
+  content-there : (path : List ℕ) (b c : Bool) → is_same d.path path ≡ b → (b || c) ≡ true →
+      cond b (Some (path_content files d.path)) (cond c (Some (path_content files path)) None) ≡ Some (path_content files path)
+  content-there path true c e g = ap (λ (p : List ℕ). Some (path_content files p)) (is_same-eq d.path path e)
+  content-there path false true e g = refl
+  content-there path false false e g = cc
+
+  -- what is named then was named before, or is the path of the document
+  or-three : (a b c x : Bool) → (a ≡ true → (x || b) ≡ true) → (a || c) ≡ true → (x || (b || c)) ≡ true
+  or-three a b c true f h = refl
+  or-three true b c false f h = grind (arith, f refl)
+  or-three false b c false f h = grind arith
+
+  named-then : (path : List ℕ) → is_among (named_paths after cs) path ≡ true → (is_same d.path path || is_among (named_paths old cs) path) ≡ true
+  named-then path h =
+      let rest : List (List ℕ) = named_paths [] cs in
+      let x : (is_among (doc_paths after) path || is_among rest path) ≡ true = sym (among-joined (doc_paths after) rest path) ∙ h in
+      ap (λ (b : Bool). is_same d.path path || b) (among-joined (doc_paths old) rest path)
+      ∙ or-three (is_among (doc_paths after) path) (is_among (doc_paths old) path) (is_among rest path) (is_same d.path path)
+      (λ k. ap (λ (y : Document). is_same y.path path || is_among (doc_paths old) path) (sym new-document) ∙ paths-put new old path (paths-filter is_held after_put path k)) x
+
+  contents-gained-found : (path : List ℕ) → is_among (named_paths after cs) path ≡ true → found_content (put ahead joining had) path ≡ Some (path_content files path)
+  contents-gained-found path e =
+      find-put _ _ path_of paths path joining had
+      ∙ (ap (λ (c : PathContent). cond (is_same (path_of c) path) (Some c) (found_content had path)) joining-is
+      ∙ (ap (λ (o : Option PathContent). cond (is_same d.path path) (Some (path_content files d.path)) o) (contents-found files path (named_paths old cs))
+      ∙ content-there path (is_same d.path path) (is_among (named_paths old cs) path) refl (named-then path e)))
+
+  contents-gained : filter (λ c. is_among (named_paths after cs) (path_of c)) (put ahead joining had) ≡ contents_at files (named_paths after cs)
+  contents-gained =
+      contents-are files (named_paths after cs) (put ahead joining had) (rising-put _ _ path_of paths joining had (contents-rising files (named_paths old cs))) contents-gained-found
+
+  -- in a document that is live afterwards
+  pub view-gained : apply (view_over limits files old cs) (Gained d more (content_at files d.path)) ≡ view_over limits files (held_documents held' documents') cs
+  view-gained =
+      ap (λ (c : List PathContent). record (view_over limits files after cs) { contents = c }) contents-gained
+      ∙ ap (λ (ds : List HeldDocument). view_over limits files ds cs) documents-gained
+
+-- ---- rights lost
+
+less_held-document : (number : ℕ) (less : RightSet) (x : HeldDocument) → (less_held number less x).document ≡ x.document
+less_held-document number less x = elim (number_of x == number) as (λ b. (cond b (record x { rights = minus x.rights less }) x).document ≡ x.document) [ true ↦ refl | false ↦ refl ]
+
+less_held-number : (number : ℕ) (less : RightSet) (x : HeldDocument) → number_of (less_held number less x) ≡ number_of x
+less_held-number number less x = ap (λ (d : Document). d.id.number) (less_held-document number less x)
+
+paths-less : (number : ℕ) (less : RightSet) (xs : List HeldDocument) → doc_paths (map (less_held number less) xs) ≡ doc_paths xs
+paths-less number less [] = refl
+paths-less number less (x ∷ xs) = λ i. (less_held-document number less x i).path ∷ paths-less number less xs i
+
+lose-one : (less k : RightSet) (d : Document) (b : Bool) → kept is_held (Some (cond b (record { document = d; rights = minus k less }) (record { document = d; rights = k }))) ≡ seen (cond b (minus k less) k) (Some d)
+lose-one less k d true = refl
+lose-one less k d false = refl
+
+lose-none : (less k : RightSet) (d : Document) (b : Bool) → holds_any k ≡ false → None ≡ seen (cond b (minus k less) k) (Some d)
+lose-none less k d true e = sym (seen-nothing (minus k less) (Some d) (nothing-minus k less e))
+lose-none less k d false e = sym (seen-nothing k (Some d) e)
+
+lose-held : (number : ℕ) (less k : RightSet) (d : Document) (c : Bool) → holds_any k ≡ c →
+    kept is_held (option_map (less_held number less) (cond c (Some (record { document = d; rights = k })) None)) ≡ seen (cond (d.id.number == number) (minus k less) k) (Some d)
+lose-held number less k d true e = lose-one less k d (d.id.number == number)
+lose-held number less k d false e = lose-none less k d (d.id.number == number) e
+
+lose-seen : (number n : ℕ) (less k : RightSet) (o : Option Document) → ((d : Document) → o ≡ Some d → d.id.number ≡ n) →
+    kept is_held (option_map (less_held number less) (seen k o)) ≡ seen (cond (n == number) (minus k less) k) o
+lose-seen number n less k None e = refl
+lose-seen number n less k (Some d) e = lose-held number less k d (holds_any k) refl ∙ ap (λ (m : ℕ). seen (cond (m == number) (minus k less) k) (Some d)) (e d refl)
+
+module _ (limits : Limits) (files : List File) (documents : List Document) (held held' : ℕ → RightSet) (cs : List OwnConnection) (id : DocId) (less : RightSet)
+    (rights : (n : ℕ) → held' n ≡ cond (n == id.number) (minus (held n) less) (held n)) where
+  abbrev before : List HeldDocument
+  before = held_documents held documents
+
+  abbrev lessened : List HeldDocument
+  lessened = map (less_held id.number less) before
+
+  lessened-rising : is_rising lower lessened ≡ true
+  lessened-rising = rising-map _ _ number_of numbers (less_held id.number less) (less_held-number id.number less) before (documents-rising held documents)
+
+  lost-found : (n : ℕ) → found_document (filter is_held lessened) n ≡ seen (held' n) (document_of documents n)
+  lost-found n =
+      find-kept _ _ number_of numbers is_held n lessened lessened-rising
+      ∙ (ap (kept is_held) (find-changed _ _ number_of numbers (less_held id.number less) (less_held-number id.number less) n before ∙ ap (option_map (less_held id.number less)) (documents-found held n documents))
+      ∙ (lose-seen id.number n less (held n) (document_of documents n) (λ d e. nat_is d.id.number n (found_passes (λ (x : Document). x.id.number == n) documents d e))
+      ∙ ap (λ (k : RightSet). seen k (document_of documents n)) (sym (rights n))))
+
+  fewer-lost : (path : List ℕ) → is_among (doc_paths (filter is_held lessened)) path ≡ true → is_among (doc_paths before) path ≡ true
+  fewer-lost path h = ap (λ (ps : List (List ℕ)). is_among ps path) (sym (paths-less id.number less before)) ∙ paths-filter is_held lessened path h
+
+  pub view-lost : apply (view_over limits files before cs) (Lost id less) ≡ view_over limits files (held_documents held' documents) cs
+  view-lost =
+      ap (λ (c : List PathContent). record (view_over limits files (filter is_held lessened) cs) { contents = c })
+      (contents-fewer files (named_paths before cs) (named_paths (filter is_held lessened) cs) (λ path. names-fewer-documents (doc_paths before) (doc_paths (filter is_held lessened)) (named_paths [] cs) path (fewer-lost path)))
+      ∙ ap (λ (ds : List HeldDocument). view_over limits files ds cs)
+      (documents-are held' documents (filter is_held lessened) (rising-filter _ _ number_of numbers is_held lessened lessened-rising) lost-found)
+
+-- ---- a document gone
+
+abbrev without : ℕ → List Document → List Document
+without number documents = filter (λ d. not (d.id.number == number)) documents
+
+turn : (b : Bool) (o : Option Document) → cond (not b) o None ≡ cond b None o
+turn true o = refl
+turn false o = refl
+
+found-left : (number n : ℕ) (documents : List Document) → document_of (without number documents) n ≡ cond (n == number) None (document_of documents n)
+found-left number n documents =
+    find-filter (λ (d : Document). d.id.number == n) (λ (d : Document). not (d.id.number == number)) (not (n == number)) (λ d e. ap (λ (m : ℕ). not (m == number)) (nat_is d.id.number n e)) documents
+    ∙ turn (n == number) (document_of documents n)
+
+gone-seen : (k k' : RightSet) (o : Option Document) (b : Bool) → (b ≡ false → k' ≡ k) → kept is_held (cond (not b) (seen k o) None) ≡ seen k' (cond b None o)
+gone-seen k k' o true e = refl
+gone-seen k k' o false e = kept-seen k o ∙ ap (λ (h : RightSet). seen h o) (sym (e refl))
+
+module _ (limits : Limits) (files : List File) (documents : List Document) (held held' : ℕ → RightSet) (cs : List OwnConnection) (id : DocId)
+    (rights : (n : ℕ) → (n == id.number) ≡ false → held' n ≡ held n) where
+  abbrev here : List HeldDocument
+  here = held_documents held documents
+
+  abbrev fewer : List HeldDocument
+  fewer = filter (is_other id.number) here
+
+  fewer-rising : is_rising lower fewer ≡ true
+  fewer-rising = rising-filter _ _ number_of numbers (is_other id.number) here (documents-rising held documents)
+
+  gone-found : (n : ℕ) → found_document (filter is_held fewer) n ≡ seen (held' n) (document_of (without id.number documents) n)
+  gone-found n =
+      find-kept _ _ number_of numbers is_held n fewer fewer-rising
+      ∙ (ap (kept is_held) (find-filter (λ (d : HeldDocument). number_of d == n) (is_other id.number) (not (n == id.number)) (λ d e. ap (λ (m : ℕ). not (m == id.number)) (nat_is (number_of d) n e)) here
+      ∙ ap (λ (o : Option HeldDocument). cond (not (n == id.number)) o None) (documents-found held n documents))
+      ∙ (gone-seen (held n) (held' n) (document_of documents n) (n == id.number) (rights n) ∙ ap (seen (held' n)) (sym (found-left id.number n documents))))
+
+  pub view-gone : apply (view_over limits files here cs) (Gone id) ≡ view_over limits files (held_documents held' (without id.number documents)) cs
+  view-gone =
+      ap (λ (c : List PathContent). record (view_over limits files (filter is_held fewer) cs) { contents = c })
+      (contents-fewer files (named_paths here cs) (named_paths (filter is_held fewer) cs) (λ path.
+      names-fewer-documents (doc_paths here) (doc_paths (filter is_held fewer)) (named_paths [] cs) path (λ h. paths-filter (is_other id.number) here path (paths-filter is_held fewer path h))))
+      ∙ ap (λ (ds : List HeldDocument). view_over limits files ds cs)
+      (documents-are held' (without id.number documents) (filter is_held fewer) (rising-filter _ _ number_of numbers is_held fewer fewer-rising) gone-found)
+
+  -- of which nothing was seen
+  unseen : holds_any (held id.number) ≡ false → (n : ℕ) (b : Bool) → (n == id.number) ≡ b → seen (held n) (document_of documents n) ≡ seen (held' n) (cond b None (document_of documents n))
+  unseen f n true e = ap (λ (m : ℕ). seen (held m) (document_of documents n)) (nat_is n id.number e) ∙ seen-nothing (held id.number) (document_of documents n) f
+  unseen f n false e = ap (λ (k : RightSet). seen k (document_of documents n)) (sym (rights n e))
+
+  pub view-gone-unseen : holds_any (held id.number) ≡ false → view_over limits files here cs ≡ view_over limits files (held_documents held' (without id.number documents)) cs
+  view-gone-unseen f =
+      ap (λ (ds : List HeldDocument). view_over limits files ds cs)
+      (documents-same held held' documents (without id.number documents) (λ n. unseen f n (n == id.number) refl ∙ ap (seen (held' n)) (sym (found-left id.number n documents))))

@@ -1,0 +1,14 @@
+pub mod Orders
+pub mod Found
+pub mod ContentLaws
+pub mod DocumentLaws
+pub mod HeldLaws
+pub mod ViewLaws
+pub mod EffectLaws
+pub mod EnterLaws
+pub mod LeaveLaws
+pub mod CollectLaws
+pub mod PlaceLaws
+pub mod GetAttrLaws
+pub mod WorldLaws
+pub mod ExampleProofs

@@ -1,0 +1,70 @@
+-- What others change of the view of one application.
+use Rattle.std.specs.Prelude.{ℕ, ◌==◌, List, [], ◌∷◌, not, map, cond, Bool, Option, Some, None}
+use Rattle.std.specs.List.{filter}
+use Rattle.portal_base.specs.Names.{is_same}
+use Rattle.portal_base.specs.declared.names.doc_id.DocId.{DocId}
+use Rattle.rights_rule.specs.Rights.{RightSet, union, minus}
+use Rattle.portal_model.specs.declared.state.Document.{Document}
+use Rattle.portal_model.specs.Content.{Content, OfFile, OfFolder, NotThere}
+use Rattle.portal_model.specs.Ordered.{put}
+use Rattle.app_world.specs.View.{AppView, HeldDocument, PathContent, number_of, lower, ahead, found_document, found_content, prune}
+
+pub data Effect : Type 0 where
+  -- rights in a document, which joins the view with its content where it was not there
+  Gained : Document → RightSet → Content → Effect
+  -- rights in a document are taken away
+  Lost : DocId → RightSet → Effect
+  -- a document is deleted
+  Gone : DocId → Effect
+  -- the file of this path and generation has another content
+  Bytes : List ℕ → ℕ → Content → Effect
+
+-- the document with more rights than it was held with, if it was
+abbrev pub with_more : Document → RightSet → Option HeldDocument → HeldDocument
+with_more d more None = record { document = d; rights = more }
+with_more d more (Some x) = record { document = d; rights = union x.rights more }
+
+-- what was there stays
+abbrev pub with_content : List ℕ → Content → Option PathContent → PathContent
+with_content path content None = record { path = path; content = content }
+with_content path content (Some c) = c
+
+-- the document of this number with fewer rights
+abbrev pub less_held : ℕ → RightSet → HeldDocument → HeldDocument
+less_held number less d = cond (number_of d == number) (record d { rights = minus d.rights less }) d
+
+abbrev pub is_other : ℕ → HeldDocument → Bool
+is_other number d = not (number_of d == number)
+
+-- a file of another generation stays, and so does a folder; where nothing is, a first file may
+-- come
+abbrev pub changed_content : ℕ → Content → Content → Content
+changed_content generation new (OfFile g bytes moment) =
+    cond (g == generation) new (OfFile g bytes moment)
+changed_content generation new OfFolder = OfFolder
+changed_content generation new (NotThere room) = cond (generation == 0) new (NotThere room)
+
+abbrev pub with_bytes : List ℕ → ℕ → Content → PathContent → PathContent
+with_bytes path generation new c =
+    cond (is_same c.path path)
+    (record c { content = changed_content generation new c.content })
+    c
+
+abbrev pub changed : AppView → Effect → AppView
+changed v (Gained d more content) = record v {
+  documents = put lower (with_more d more (found_document v.documents d.id.number)) v.documents;
+  contents = put ahead (with_content d.path content (found_content v.contents d.path)) v.contents;
+}
+changed v (Lost id less) = record v { documents = map (less_held id.number less) v.documents }
+changed v (Gone id) = record v { documents = filter (is_other id.number) v.documents }
+changed v (Bytes path generation new) = record v {
+  contents = map (with_bytes path generation new) v.contents;
+}
+
+-- and what then has no right or no name leaves the view
+abbrev pub apply : AppView → Effect → AppView
+apply v f = prune (changed v f)
+
+abbrev pub apply_all : AppView → List Effect → AppView
+apply_all v [] = v
+apply_all v (f ∷ fs) = apply_all (apply v f) fs

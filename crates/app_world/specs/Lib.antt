@@ -1,0 +1,9 @@
+pub mod View
+pub mod Effect
+pub mod Enter
+pub mod Leave
+pub mod Collect
+pub mod GetAttr
+pub mod World
+pub mod Laws
+pub mod Examples

@@ -1,0 +1,181 @@
+-- What the portal is to one application. It holds nothing of other applications' rights,
+-- documents, numbers or connections.
+use Rattle.std.specs.Prelude.{◌≡◌, ℕ, ◌==◌, nat_lt, List, [], ◌∷◌, ◌++◌, Bool, true, map, cond, Option, Some, None}
+use Rattle.std.specs.List.{filter, find, flat_map, list_any}
+use Rattle.portal_base.specs.Names.{is_same}
+use Rattle.portal_base.specs.declared.files.File.{File}
+use Rattle.portal_base.specs.declared.limits.Limits.{Limits}
+use Rattle.portal_base.specs.declared.who.Kind.{Kind}
+use Rattle.rights_rule.specs.Rights.{RightSet, holds_any}
+use Rattle.portal_model.specs.declared.handle.Handle.{Handle}
+use Rattle.portal_model.specs.declared.state.Connection.{Connection}
+use Rattle.portal_model.specs.declared.state.Document.{Document}
+use Rattle.portal_model.specs.Content.{Content, content_at}
+use Rattle.portal_model.specs.State.{State, document_of, held_of, is_app}
+use Rattle.portal_model.specs.Ordered.{bytes_less, put_all}
+
+-- a document in which the application has a right, and the rights that it has in it
+pub record HeldDocument : Type 0 where
+  pub document : Document
+  pub rights : RightSet
+
+pub record OwnHandle : Type 0 where
+  pub fh : ℕ
+  pub handle : Handle
+
+-- a connection that is bound to the application. Nothing waits to be told to one
+pub record OwnConnection : Type 0 where
+  pub seat : ℕ
+  pub app : List ℕ
+  pub kind : Kind
+  pub queue : List (List ℕ)
+  pub opens : ℕ
+  pub handles : List OwnHandle
+
+pub record PathContent : Type 0 where
+  pub path : List ℕ
+  pub content : Content
+
+pub record AppView : Type 0 where
+  -- the limits on open handles, on presented files that wait, and on the size of a file
+  pub handles : ℕ
+  pub queued : ℕ
+  pub file_bytes : ℕ
+  -- in rising order of their numbers
+  pub documents : List HeldDocument
+  -- in the order in which they were opened
+  pub connections : List OwnConnection
+  -- what the tree has at each path that a document or an open file names, in order of the paths
+  pub contents : List PathContent
+
+-- ---- the lists and their orders
+
+abbrev pub number_of : HeldDocument → ℕ
+number_of d = d.document.id.number
+
+abbrev pub path_of : PathContent → List ℕ
+path_of c = c.path
+
+abbrev pub lower : HeldDocument → HeldDocument → Bool
+lower x y = nat_lt (number_of x) (number_of y)
+
+abbrev pub ahead : PathContent → PathContent → Bool
+ahead x y = bytes_less (path_of x) (path_of y)
+
+abbrev pub found_document : List HeldDocument → ℕ → Option HeldDocument
+found_document documents number = find (λ d. number_of d == number) documents
+
+abbrev pub found_content : List PathContent → List ℕ → Option PathContent
+found_content contents path = find (λ c. is_same (path_of c) path) contents
+
+-- the open connection of a seat
+abbrev pub found_connection : List OwnConnection → ℕ → Option OwnConnection
+found_connection connections seat = find (λ c. c.seat == seat) connections
+
+-- ---- documents
+
+abbrev pub is_held : HeldDocument → Bool
+is_held d = holds_any d.rights
+
+-- where these are the application's rights in the document of each number
+abbrev pub held_document : (ℕ → RightSet) → Document → HeldDocument
+held_document held d = record { document = d; rights = held d.id.number }
+
+abbrev pub held_documents : (ℕ → RightSet) → List Document → List HeldDocument
+held_documents held documents = put_all lower (filter is_held (map (held_document held) documents))
+
+-- ---- connections
+
+-- no request opens a handle yet
+abbrev pub own_connection : List ℕ → Connection → OwnConnection
+own_connection app c = record {
+  seat = c.seat;
+  app = app;
+  kind = c.kind;
+  queue = c.queue;
+  opens = c.opens;
+  handles = [];
+}
+
+abbrev pub own_connections : List ℕ → List Connection → List OwnConnection
+own_connections app connections =
+    map (own_connection app) (filter (λ c. is_app app c.who) connections)
+
+-- ---- contents
+
+-- an open file names its path, an open folder none
+abbrev pub paths_of_handle : Handle → List (List ℕ)
+paths_of_handle (Handle.File name node read write) = name.path ∷ []
+paths_of_handle (Handle.Folder node names) = []
+
+abbrev pub paths_of_connection : OwnConnection → List (List ℕ)
+paths_of_connection c = flat_map (λ h. paths_of_handle h.handle) c.handles
+
+-- the paths that the documents and the open files name
+abbrev pub named_paths : List HeldDocument → List OwnConnection → List (List ℕ)
+named_paths documents connections =
+    map (λ d. d.document.path) documents ++ flat_map paths_of_connection connections
+
+abbrev pub is_among : List (List ℕ) → List ℕ → Bool
+is_among paths path = list_any (λ p. is_same p path) paths
+
+abbrev pub path_content : List File → List ℕ → PathContent
+path_content files path = record { path = path; content = content_at files path }
+
+abbrev pub contents_at : List File → List (List ℕ) → List PathContent
+contents_at files paths = put_all ahead (map (path_content files) paths)
+
+-- ---- the view
+
+abbrev pub view_over : Limits → List File → List HeldDocument → List OwnConnection → AppView
+view_over limits files documents connections = record {
+  handles = limits.handles;
+  queued = limits.queued;
+  file_bytes = limits.file_bytes;
+  documents = documents;
+  connections = connections;
+  contents = contents_at files (named_paths documents connections);
+}
+
+abbrev pub view : State → List ℕ → AppView
+view s app =
+    view_over s.limits s.files
+    (held_documents (held_of s.rights app) s.documents)
+    (own_connections app s.connections)
+
+-- documents without a right leave the view, and paths without a name
+abbrev pub pruned : List HeldDocument → AppView → AppView
+pruned documents v = record v {
+  documents = documents;
+  contents = filter (λ c. is_among (named_paths documents v.connections) (path_of c)) v.contents;
+}
+
+abbrev pub prune : AppView → AppView
+prune v = pruned (filter is_held v.documents) v
+
+-- ---- what a view takes from the state
+
+-- a document as these rights show it
+abbrev pub seen : RightSet → Option Document → Option HeldDocument
+seen held None = None
+seen held (Some d) = cond (holds_any held) (Some (record { document = d; rights = held })) None
+
+-- whether a document or an open file of the view names the path
+abbrev pub names : AppView → List ℕ → Bool
+names v path = is_among (named_paths v.documents v.connections) path
+
+-- the document of a number, as the application sees it
+abbrev pub seen_at : State → List ℕ → ℕ → Option HeldDocument
+seen_at s app number = seen (held_of s.rights app number) (document_of s.documents number)
+
+-- What the view takes from the state is the same in both: the limits that the application meets,
+-- its connections, the document of each number as it sees it, and what is at each path that it names.
+pub record TakesAlike (app : List ℕ) (s t : State) : Type 0 where
+  pub handles : s.limits.handles ≡ t.limits.handles
+  pub queued : s.limits.queued ≡ t.limits.queued
+  pub file_bytes : s.limits.file_bytes ≡ t.limits.file_bytes
+  pub connections : own_connections app s.connections ≡ own_connections app t.connections
+  pub documents : (number : ℕ) → seen_at s app number ≡ seen_at t app number
+  pub contents :
+      (path : List ℕ) → names (view s app) path ≡ true →
+      content_at s.files path ≡ content_at t.files path

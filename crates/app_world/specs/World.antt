@@ -1,0 +1,144 @@
+-- The world of one application: its own machine, which sees its view and its own requests alone,
+-- and its trace, which tells these and what others change of the view.
+use Rattle.std.specs.Prelude.{ℕ, List, [], ◌∷◌, ◌++◌, length, take, map, Bool, Option, Some, None, cond}
+use Rattle.portal_base.specs.declared.files.Look.{Look}
+use Rattle.portal_base.specs.declared.names.doc_id.DocId.{DocId}
+use Rattle.portal_model.specs.declared.entry.Entry.{Entry}
+use Rattle.portal_model.specs.declared.entry.Fault.{Fault}
+use Rattle.portal_model.specs.declared.entry.Given.{Given}
+use Rattle.portal_model.specs.declared.reply.Answer.{Answer}
+use Rattle.portal_model.specs.declared.reply.Reply.{Reply}
+use Rattle.portal_model.specs.declared.request.NodeOp.{NodeOp}
+use Rattle.portal_model.specs.declared.request.NodeRequest.{NodeRequest}
+use Rattle.portal_model.specs.declared.request.Request.{Request}
+use Rattle.portal_model.specs.Content.{Content}
+use Rattle.portal_model.specs.History.{makes}
+use Rattle.portal_model.specs.State.{State}
+use Rattle.portal_model.specs.Step.{after, is_mount, not_here, undefined_answer, with_signals}
+use Rattle.app_world.specs.Collect.{own_collect}
+use Rattle.app_world.specs.Effect.{Effect, apply}
+use Rattle.app_world.specs.Enter.{own_enter}
+use Rattle.app_world.specs.GetAttr.{own_get_attr_answer, own_get_attr_looks}
+use Rattle.app_world.specs.Leave.{own_leave}
+use Rattle.app_world.specs.View.{AppView, OwnConnection, found_connection, view}
+
+-- ---- the application's own machine
+
+-- a request of the application, and what the outside gave it
+pub record Own : Type 0 where
+  pub seat : ℕ
+  pub request : Request
+  pub now : Option ℕ
+  pub numbers : List DocId
+  -- of an Add: the content of each path that the tree was asked for, and of each file the
+  -- document that was there to be used again, if any
+  pub shown : List Content
+  pub reused : List (Option DocId)
+  -- how many looks succeeded
+  pub looks : ℕ
+  pub full : Bool
+  pub fault : Fault
+
+-- of the looks that a request takes, those that succeed: where a call of the tree failed, the
+-- ones ahead of it
+abbrev pub succeeding : Fault → ℕ → List Look → List Look
+succeeding Fault.None count looks = looks
+succeeding Fault.Tree count looks = take count looks
+succeeding Fault.Keeper count looks = looks
+
+-- the connection, where it is a mount
+abbrev pub own_mount_of : Option OwnConnection → Option OwnConnection
+own_mount_of None = None
+own_mount_of (Some c) = cond (is_mount c.kind) (Some c) None
+
+-- the connection, where it is a bus
+abbrev pub own_bus_of : Option OwnConnection → Option OwnConnection
+own_bus_of None = None
+own_bus_of (Some c) = cond (is_mount c.kind) None (Some c)
+
+abbrev pub own_node_answer : AppView → NodeRequest → NodeOp → Own → AppView × Answer
+own_node_answer v r (NodeOp.GetAttr flags fh) own =
+    let looks = succeeding own.fault own.looks (own_get_attr_looks v r flags) in
+    (v, own_get_attr_answer v r flags looks)
+own_node_answer v r op own = (v, undefined_answer)
+
+abbrev pub own_node_step : AppView → NodeRequest → Own → Option OwnConnection → AppView × Reply
+own_node_step v r own None = not_here v
+own_node_step v r own (Some c) = with_signals [] (own_node_answer v r r.op own)
+
+-- nothing waits to be told to an application
+abbrev pub own_collect_step : AppView → Option OwnConnection → AppView × Reply
+own_collect_step v None = not_here v
+own_collect_step v (Some c) = with_signals [] (own_collect v)
+
+abbrev pub own_request_step : AppView → Own → Request → AppView × Reply
+own_request_step v own (Request.Enter who kind) = with_signals [] (own_enter v own.seat who kind)
+own_request_step v own Request.Leave = with_signals [] (own_leave v own.seat)
+own_request_step v own Request.Collect =
+    own_collect_step v (own_bus_of (found_connection v.connections own.seat))
+own_request_step v own (Request.Node r) =
+    own_node_step v r own (own_mount_of (found_connection v.connections own.seat))
+
+-- the view after a request of the application, and the reply to it
+abbrev pub app_step : AppView → Own → AppView × Reply
+app_step v own = own_request_step v own own.request
+
+-- ---- the trace
+
+pub data TraceItem : Type 0 where
+  -- a request of the application
+  Asked : Own → TraceItem
+  -- what another changes of its view
+  Changed : Effect → TraceItem
+
+-- no request is an Add yet
+abbrev pub own_of : Entry → Own
+own_of e = record {
+  seat = e.seat;
+  request = e.request;
+  now = e.given.now;
+  numbers = e.given.numbers;
+  shown = [];
+  reused = [];
+  looks = length e.given.looks;
+  full = e.given.full;
+  fault = e.given.fault;
+}
+
+abbrev pub node_touch : List ℕ → State → NodeRequest → NodeOp → Given → List Effect
+node_touch app s r (NodeOp.GetAttr flags fh) given = []
+node_touch app s r op given = []
+
+abbrev pub request_touch : List ℕ → State → ℕ → Request → Given → List Effect
+request_touch app s seat (Request.Enter who kind) given = []
+request_touch app s seat Request.Leave given = []
+request_touch app s seat Request.Collect given = []
+request_touch app s seat (Request.Node r) given = node_touch app s r r.op given
+
+-- what an entry that the application does not make changes of its view
+abbrev pub touch : List ℕ → State → Entry → List Effect
+touch app s e = request_touch app s e.seat e.request e.given
+
+abbrev pub items_of : List ℕ → State → Entry → List TraceItem
+items_of app s e = cond (makes app s e) (Asked (own_of e) ∷ []) (map Changed (touch app s e))
+
+abbrev pub items : List ℕ → State → List Entry → List TraceItem
+items app s [] = []
+items app s (e ∷ es) = items_of app s e ++ items app (after s e) es
+
+pub record Trace : Type 0 where
+  pub opening : AppView
+  pub items : List TraceItem
+
+abbrev pub trace : List ℕ → State → List Entry → Trace
+trace app s h = record { opening = view s app; items = items app s h }
+
+-- ---- what the machine replies to a trace
+
+abbrev pub own_replies : AppView → List TraceItem → List Reply
+own_replies v [] = []
+own_replies v (Asked own ∷ more) = (app_step v own).1 ∷ own_replies (app_step v own).0 more
+own_replies v (Changed f ∷ more) = own_replies (apply v f) more
+
+abbrev pub app_run : Trace → List Reply
+app_run t = own_replies t.opening t.items

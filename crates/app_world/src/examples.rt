@@ -1,0 +1,19 @@
+//! Worked examples of the definitions of one application's world, computed by
+//! the checker over the definitions alone.
+//!
+//! Each function does nothing; its contract is the example. What is expected
+//! is worked out by hand, so that a wrong definition does not meet it.
+
+ghost use Rattle.app_world.specs.Examples.{EffectsOnAView, TracesTellWhatIsHeld};
+
+/// Histories that differ only in what an application doesn't hold give it the
+/// same trace, and histories that differ in its own rights different ones.
+pub fn traces_tell_what_is_held()
+    ensures { TracesTellWhatIsHeld }
+{}
+
+/// What others change of the documents that an application holds: rights that
+/// are gained and lost, documents that go, and contents.
+pub fn effects_on_a_view()
+    ensures { EffectsOnAView }
+{}

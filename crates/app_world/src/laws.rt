@@ -1,0 +1,25 @@
+//! The laws of the world of one application, for the crates that stand on it.
+//!
+//! Each function does nothing; its contract is the law.
+
+ghost use Rattle.app_world.specs.Laws.{Isolated, StepsSeen, ViewsFramed};
+
+/// A step that leaves equal what a view takes from the state leaves the view
+/// equal: so does one that gives another application a right, or adds a
+/// document in which the application has none.
+pub fn views_are_framed()
+    ensures { ViewsFramed }
+{}
+
+/// One entry, as an application sees it: its own is answered by its own
+/// machine as in the portal, and another's changes its view as it is told.
+pub fn steps_are_seen()
+    ensures { StepsSeen }
+{}
+
+/// The replies to an application are a function of its trace: its own requests
+/// with what the outside gave them, and what others change of the documents,
+/// rights and bytes that it holds.
+pub fn applications_are_isolated()
+    ensures { Isolated }
+{}

@@ -1,8 +1,0 @@
-use Rattle.portal_model.proofs.WorldLaws.{entry_own, step_other}
-use Rattle.portal_model.proofs.laws.steps_are_seen.Goals as goal
-
-pub returns : goal.returns
-returns c = record {
-  own = entry_own;
-  other = λ app s e v m. step_other app s e.seat e.request e.given v m;
-}

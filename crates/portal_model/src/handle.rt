@@ -1,0 +1,29 @@
+//! Open handles of the file view.
+
+use crate::reply::DirName;
+use portal_base::files::FileName;
+use portal_base::list::List;
+
+/// What an open handle stands for. It keeps that, whatever becomes of the
+/// document and of the rights in it.
+#[derive(Debug, Drop)]
+pub enum Handle {
+    /// An open file.
+    File {
+        /// The file.
+        name: FileName,
+        /// The node that was opened.
+        node: u64,
+        /// Whether it may be read.
+        read: bool,
+        /// Whether it may be written.
+        write: bool,
+    },
+    /// An open folder.
+    Folder {
+        /// The node that was opened.
+        node: u64,
+        /// The entries that it had then.
+        names: List<DirName>,
+    },
+}
