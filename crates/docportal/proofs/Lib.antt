@@ -12,3 +12,4 @@ pub mod OneOutput
 pub mod RunLines
 pub mod RunLine
 pub mod Running
+pub mod Counting

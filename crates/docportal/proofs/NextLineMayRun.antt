@@ -13,7 +13,8 @@ use Rattle.portal_model.specs.State.{State}
 use Rattle.portal_model.specs.Step.{after}
 use Rattle.portal_model.proofs.SeatLaws.{run-bound}
 use Rattle.script_form.specs.declared.script.ScriptLine.{ScriptLine}
-use Rattle.script_form.specs.declared.script.ScriptLine.TheVariants.{File, Doc, Open, Data, Close}
+use Rattle.script_form.specs.declared.script.ScriptLine.TheVariants.{File, Doc, Fail, Word, Now, Open, Data, Close}
+use Rattle.script_form.specs.declared.script.ScriptLine.TheVariants as line
 use Rattle.script_form.specs.Lines.{KeepsRules, line_text}
 use Rattle.script_form.specs.Order.{opens}
 use Rattle.session.specs.declared.act.Act.{Act}
@@ -158,6 +159,10 @@ close_agrees (Some at) a b seat es out agrees h = comes_agree a b seat (Request.
 pub does_agree : (line : ScriptLine) (a b : Scene) (es : List Entry) (out : List (List ℕ)) → Agrees a → IsNew a line → Does a line es out b → Agrees b
 does_agree (File path content) a b es out agrees new h = passes_agree a b es out agrees h
 does_agree (Doc id reusable path grants) a b es out agrees new h = passes_agree a b es out agrees h
+does_agree (Now moment) a b es out agrees new h = passes_agree a b es out agrees h
+does_agree (line.Entry entry) a b es out agrees new h = absurd h
+does_agree (Fail device call) a b es out agrees new h = absurd h
+does_agree (Word word) a b es out agrees new h = absurd h
 does_agree (Open seat kind who) a b es out agrees new h =
     let closed : bound a.portal seat ≡ None = agrees.bound_alike seat ∙ ap maybe_binding new in
     comes_agree a b seat (Request.Enter who kind ∷ []) [] (Some (fresh (client who kind run_settings))) es out agrees (record { goes_on = refl; between = refl })
@@ -216,6 +221,10 @@ close_cost (Some at) a b seat es out h = comes_cost a b seat (Request.Leave ∷ 
 pub does_cost : (line : ScriptLine) (a b : Scene) (es : List Entry) (out : List (List ℕ)) → Agrees a → KeepsRules line → Does a line es out b → cost es ≤ 8 * (length (line_text line) + 1)
 does_cost (File path content) a b es out agrees k h = let none = passes_cost a b es out h in omega arith
 does_cost (Doc id reusable path grants) a b es out agrees k h = let none = passes_cost a b es out h in omega arith
+does_cost (Now moment) a b es out agrees k h = let none = passes_cost a b es out h in omega arith
+does_cost (line.Entry entry) a b es out agrees k h = absurd h
+does_cost (Fail device call) a b es out agrees k h = absurd h
+does_cost (Word word) a b es out agrees k h = absurd h
 does_cost (Open seat kind who) a b es out agrees k h =
     let same = comes_cost a b seat (Request.Enter who kind ∷ []) _ _ es out h in
     let most = enter_cost who seat kind (omega (arith, k.1)) in
@@ -270,6 +279,10 @@ close_room (Some at) a b seat es out less more le room h = comes_room a b seat (
 pub does_room : (line : ScriptLine) (a b : Scene) (es : List Entry) (out : List (List ℕ)) (less : ℕ) → Agrees a → less ≤ longest → HaveRoom a (length (line_text line) + 1 + less) → Does a line es out b → HaveRoom b less
 does_room (File path content) a b es out less agrees short room h = passes_room a b es out less _ (omega arith) room h
 does_room (Doc id reusable path grants) a b es out less agrees short room h = passes_room a b es out less _ (omega arith) room h
+does_room (Now moment) a b es out less agrees short room h = passes_room a b es out less _ (omega arith) room h
+does_room (line.Entry entry) a b es out less agrees short room h = absurd h
+does_room (Fail device call) a b es out less agrees short room h = absurd h
+does_room (Word word) a b es out less agrees short room h = absurd h
 does_room (Open seat kind who) a b es out less agrees short room h = comes_room a b seat (Request.Enter who kind ∷ []) _ (Some (fresh (client who kind run_settings))) es out less _ (omega arith) room (omega arith) h
 does_room (Data seat bytes) a b es out less agrees short room h = data_room (a.sessions seat) a b seat bytes es out less agrees refl room h
 does_room (Close seat) a b es out less agrees short room h = close_room (a.sessions seat) a b seat es out less _ (omega arith) room h
@@ -335,6 +348,10 @@ opens_own n seat h k = grind (arith, nat_tests)
 pub does_close : (line : ScriptLine) (a b : Scene) (es : List Entry) (out : List (List ℕ)) (lines : List ScriptLine) → AreClosed lines a → Does a line es out b → AreClosed (lines ++ line ∷ []) b
 does_close (File path content) a b es out lines closed h = passes_closed a b es out lines (File path content) closed h
 does_close (Doc id reusable path grants) a b es out lines closed h = passes_closed a b es out lines (Doc id reusable path grants) closed h
+does_close (Now moment) a b es out lines closed h = passes_closed a b es out lines (Now moment) closed h
+does_close (line.Entry entry) a b es out lines closed h = absurd h
+does_close (Fail device call) a b es out lines closed h = absurd h
+does_close (Word word) a b es out lines closed h = absurd h
 does_close (Open seat kind who) a b es out lines closed h =
     comes_closed a b seat _ _ _ es out lines (Open seat kind who) closed (λ n k same. absurd (opens_own n seat (front_closed n lines (Open seat kind who) k).1 same)) h
 does_close (Data seat bytes) a b es out lines closed h = data_closed (a.sessions seat) a b seat bytes es out lines closed refl h

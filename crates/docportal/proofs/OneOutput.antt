@@ -5,7 +5,8 @@ use Rattle.portal_model.specs.declared.request.Request.{Request}
 use Rattle.portal_model.specs.History.{run}
 use Rattle.portal_model.specs.State.{State}
 use Rattle.script_form.specs.declared.script.ScriptLine.{ScriptLine}
-use Rattle.script_form.specs.declared.script.ScriptLine.TheVariants.{File, Doc, Open, Data, Close}
+use Rattle.script_form.specs.declared.script.ScriptLine.TheVariants.{File, Doc, Fail, Word, Now, Open, Data, Close}
+use Rattle.script_form.specs.declared.script.ScriptLine.TheVariants as line
 use Rattle.session.specs.declared.act.Act.{Act}
 use Rattle.session.specs.declared.act.Client.{Client}
 use Rattle.session.specs.declared.phase.Phase.{Phase}
@@ -99,6 +100,10 @@ close_one (Some at) a b c seat es fs out also h k = comes_one a b c seat _ _ _ e
 does_one : (line : ScriptLine) (a b c : Scene) (es fs : List Entry) (out also : List (List ℕ)) → Does a line es out b → Does a line fs also c → AreSame es fs out also b c
 does_one (File path content) a b c es fs out also h k = passes_one a b c es fs out also h k
 does_one (Doc id reusable path grants) a b c es fs out also h k = passes_one a b c es fs out also h k
+does_one (Now moment) a b c es fs out also h k = passes_one a b c es fs out also h k
+does_one (line.Entry entry) a b c es fs out also h k = absurd h
+does_one (Fail device call) a b c es fs out also h k = absurd h
+does_one (Word word) a b c es fs out also h k = absurd h
 does_one (Open seat kind who) a b c es fs out also h k = comes_one a b c seat _ _ _ es fs out also h k
 does_one (Data seat bytes) a b c es fs out also h k = data_one (a.sessions seat) a b c seat bytes es fs out also h k
 does_one (Close seat) a b c es fs out also h k = close_one (a.sessions seat) a b c seat es fs out also h k

@@ -11,7 +11,7 @@ use Rattle.portal_model.specs.Opening.{opened}
 use Rattle.portal_model.specs.State.{State}
 use Rattle.portal_model.proofs.Histories.{cost-append}
 use Rattle.script_form.specs.declared.script.ScriptLine.{ScriptLine}
-use Rattle.script_form.specs.declared.script.ScriptLine.TheVariants.{File, Doc, Open, Data, Close}
+use Rattle.script_form.specs.declared.script.ScriptLine.TheVariants.{Open}
 use Rattle.script_form.specs.Lines.{line_text, text_of}
 use Rattle.script_form.specs.Order.{StandBehind, goes_with}
 use Rattle.session.specs.Standings.{Standing}
@@ -194,11 +194,8 @@ no_true true h = cc
 no_true false h = refl
 
 line_new : (line : ScriptLine) (earlier : List ScriptLine) (a : Scene) → goes_with earlier line ≡ true → AreClosed earlier a → IsNew a line
-line_new (File path content) earlier a order closed = tt
-line_new (Doc id reusable path grants) earlier a order closed = tt
 line_new (Open seat kind who) earlier a order closed = closed seat (no_true _ order)
-line_new (Data seat bytes) earlier a order closed = tt
-line_new (Close seat) earlier a order closed = tt
+line_new line earlier a order closed = tt
 
 -- what lines ask costs at most eight times their text
 pub plays_cost : (front later earlier : List ScriptLine) (a b : Scene) (history : List Entry) (out : List (List ℕ)) → StandBehind earlier (front ++ later) → Agrees a → AreClosed earlier a → Plays a front history out b

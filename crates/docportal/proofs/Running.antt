@@ -14,14 +14,15 @@ use Rattle.portal_core.specs.Story.{Story}
 use Rattle.script_form.specs.declared.script.ScriptLine.{ScriptLine}
 use Rattle.script_form.specs.Lines.{text_of}
 use Rattle.script_form.specs.Opening.{HoldsScripts, opening}
-use Rattle.script_form.specs.Order.{IsBuilt, StandBehind}
+use Rattle.script_form.specs.Order.{IsRead, IsFault, IsScript, StandBehind}
 use Rattle.docportal.specs.declared.input.InputError.{InputError}
 use Rattle.docportal.specs.declared.input.InputError.TheVariants as input
 use Rattle.docportal.specs.declared.status.Status.{Status}
-use Rattle.docportal.specs.declared.status.Status.TheVariants.{Done, ReadFault, WriteFault, Memory, TooLong, Unbuilt}
+use Rattle.docportal.specs.declared.status.Status.TheVariants.{Done, Usage, ScriptFault, ReadFault, WriteFault, Memory, TooLong, Unbuilt}
 use Rattle.docportal.specs.Inputs.{script_limit, AtEnd, IsWhole, Stops}
 use Rattle.docportal.specs.Plays.{Plays, PlaysAll, PlaysPart, PlayStops, PlaysUpTo}
-use Rattle.docportal.specs.Runs.{Cause, IsReplay, Ran, Replays, Risen, WroteFront, ended_at, replay_words}
+use Rattle.docportal.specs.Commands.{replay_words, IsNoCommand, IsUnbuiltCommand}
+use Rattle.docportal.specs.Runs.{Cause, IsReplay, Ran, Replays, Risen, WroteFront}
 use Rattle.docportal.specs.Scenes.{Scene, first_scene, opening_state, run_limits}
 use Rattle.docportal.specs.Steps.{AreFirst, MayPlay, scene}
 use Rattle.docportal.proofs.Behind.{behind_none}
@@ -29,60 +30,37 @@ use Rattle.docportal.proofs.OneOutput.{plays_one}
 use Rattle.docportal.proofs.RunLines.{onto_none, plays_cost, text_joined}
 use Rattle.docportal.proofs.SoundHistory.{sound}
 
--- ---- the words
-
-first_word : (v w : List ℕ) → v ∷ [] ≡ w ∷ [] → v ≡ w
-first_word v w e = cc
-
-pub false_not : (b : Bool) → b ≡ false → IsTrue b → ⊥
-false_not b h t = cc
-
-one_word : (words : List (List ℕ)) (w : List ℕ) → length words ≡ 1 → w ≡ get_or words 0 w → words ≡ w ∷ []
-one_word [] w l e = absurd (omega arith)
-one_word (v ∷ []) w l e = ap (λ (x : List ℕ). x ∷ []) (sym e)
-one_word (v ∷ u ∷ us) w l e = absurd (omega arith)
-
--- the one word is that of the program exactly where it is spelled so
-pub word_known : (words : List (List ℕ)) (w : List ℕ) (r : Bool) → length words ≡ 1 → w ≡ get_or words 0 w → r ≡ is_same w (codes "replay")
-    → (IsTrue r → words ≡ replay_words) × (words ≡ replay_words → IsTrue r)
-word_known words w r l e s =
-    let one = one_word words w l e in (
-      λ t. one ∙ ap (λ (x : List ℕ). x ∷ []) (is_same-eq w (codes "replay") (sym s ∙ t)),
-      λ k. let same : w ≡ codes "replay" = first_word w (codes "replay") (sym one ∙ k) in s ∙ (ap (λ (x : List ℕ). is_same x (codes "replay")) same ∙ is_same-refl (codes "replay")),
-    )
-
 -- ---- a text
 
 -- what replaying a text comes to
 abbrev pub Replayed : List ℕ → Option (List (List ℕ)) → Option (List (List ℕ)) → Status → Type 0
 Replayed text told told' status = (pieces : List (List ℕ)) × (told' ≡ onto told pieces) × Replays text pieces status
 
-front_room : (text : List ℕ) (lines front later : List ScriptLine) (ends : Option ℕ) (history : List Entry) (out : List (List ℕ)) (last : Scene) → length text ≤ script_limit → IsBuilt text lines ends
+front_room : (text : List ℕ) (lines front later : List ScriptLine) (history : List Entry) (out : List (List ℕ)) (last : Scene) → length text ≤ script_limit → IsRead text lines
     → Plays (first_scene lines) front history out last → lines ≡ front ++ later → cost history + 8 * length (text_of later) ≤ run_limits.history
-front_room text lines front later ends history out last short script plays e =
+front_room text lines front later history out last short script plays e =
     let most = plays_cost front later [] (first_scene lines) last history out (subst (StandBehind []) e script.good) (record { idle = λ n. tt; bound_alike = λ n. refl }) (λ n h. refl) plays in
-    let cut : length text ≡ length (text_of lines) + length script.rest.0 = ap length script.rest.1 ∙ length-append (text_of lines) script.rest.0 in
+    let cut : length text ≡ length (text_of lines) = ap length script.whole in
     let both : length (text_of lines) ≡ length (text_of front) + length (text_of later) = ap (λ (z : List ScriptLine). length (text_of z)) e ∙ text_joined front later in
     omega arith
 
-is_replay : (text : List ℕ) (lines front : List ScriptLine) (ends : Option ℕ) (history : List Entry) (out : List (List ℕ)) (last : Scene) → length text ≤ script_limit → IsBuilt text lines ends → Valid (opening_state lines)
+is_replay : (text : List ℕ) (lines front : List ScriptLine) (history : List Entry) (out : List (List ℕ)) (last : Scene) → length text ≤ script_limit → IsRead text lines → Valid (opening_state lines)
     → Plays (first_scene lines) front history out last → IsReplay lines front history out last
-is_replay text lines front ends history out last short script valid plays = record {
+is_replay text lines front history out last short script valid plays = record {
   plays = plays;
   only = λ h o b p. plays_one front (first_scene lines) b last h history o out p plays;
   sound = sound lines front history out last valid plays;
-  room = λ later e. front_room text lines front later ends history out last short script plays e;
+  room = λ later e. front_room text lines front later history out last short script plays e;
 }
 
 -- a text of these lines, whose opening is valid, and a portal that opened so
-module _ (text : List ℕ) (lines : List ScriptLine) (ends : Option ℕ) (size : length text ≤ script_limit) (script : IsBuilt text lines ends) (valid : Valid (opening_state lines)) (told told' : Option (List (List ℕ))) where
+module _ (text : List ℕ) (lines : List ScriptLine) (size : length text ≤ script_limit) (script : IsRead text lines) (valid : Valid (opening_state lines)) (told told' : Option (List (List ℕ))) where
   played_part : (IsPart : List (List ℕ) → List (List ℕ) → Type 0) → PlaysPart IsPart (first_scene lines) lines told told' → (pieces : List (List ℕ)) × (told' ≡ onto told pieces) × WroteFront IsPart text pieces
   played_part IsPart p = (
     p.pieces,
     p.output,
     record {
       lines = lines;
-      ends = ends;
       script = script;
       front = p.front;
       later = p.plays.0;
@@ -90,7 +68,7 @@ module _ (text : List ℕ) (lines : List ScriptLine) (ends : Option ℕ) (size :
       history = p.history;
       out = p.out;
       last = p.last;
-      replay = is_replay text lines p.front ends p.history p.out p.last size script valid p.plays.2;
+      replay = is_replay text lines p.front p.history p.out p.last size script valid p.plays.2;
       output = p.part;
     },
   )
@@ -101,13 +79,12 @@ module _ (text : List ℕ) (lines : List ScriptLine) (ends : Option ℕ) (size :
     p.output,
     record {
       lines = lines;
-      ends = ends;
       script = script;
       front = p.front;
       history = p.history;
       last = p.last;
-      replay = is_replay text lines p.front ends p.history p.out p.last size script valid p.plays;
-      first = inr p.stops;
+      replay = is_replay text lines p.front p.history p.out p.last size script valid p.plays;
+      first = p.stops;
     },
   )
 
@@ -116,46 +93,32 @@ module _ (text : List ℕ) (lines : List ScriptLine) (ends : Option ℕ) (size :
 
   stopped : (faults faults' : ℕ) (status : Status) → PlayStops (first_scene lines) lines told faults told' faults' status → Replayed text told told' status
   stopped faults faults' Done p = absurd p
+  stopped faults faults' Usage p = absurd p
+  stopped faults faults' (ScriptFault line) p = absurd p
   stopped faults faults' ReadFault p = absurd p
   stopped faults faults' WriteFault p = played_part Short p.1
   stopped faults faults' Memory p = part_memory (played_part AreFirst p.1)
   stopped faults faults' TooLong p = absurd p
   stopped faults faults' (Unbuilt number) p = played_up_to number p.1
 
-ended : (text : List ℕ) (lines : List ScriptLine) (ends : Option ℕ) (told told' : Option (List (List ℕ))) (history : List Entry) (out : List (List ℕ)) (last : Scene)
-    → length text ≤ script_limit → IsBuilt text lines ends → Valid (opening_state lines) → Plays (first_scene lines) lines history out last → told' ≡ onto told out → Replayed text told told' (ended_at ends)
-ended text lines None told told' history out last size script valid plays output = (
+ended : (text : List ℕ) (lines : List ScriptLine) (told told' : Option (List (List ℕ))) (history : List Entry) (out : List (List ℕ)) (last : Scene)
+    → length text ≤ script_limit → IsRead text lines → Valid (opening_state lines) → Plays (first_scene lines) lines history out last → told' ≡ onto told out → Replayed text told told' Done
+ended text lines told told' history out last size script valid plays output = (
   out,
   output,
-  record { lines = lines; script = script; history = history; last = last; replay = is_replay text lines lines None history out last size script valid plays },
-)
-ended text lines (Some number) told told' history out last size script valid plays output = (
-  out,
-  output,
-  record {
-    lines = lines;
-    ends = Some number;
-    script = script;
-    front = lines;
-    history = history;
-    last = last;
-    replay = is_replay text lines lines (Some number) history out last size script valid plays;
-    first = inl (refl, refl);
-  },
+  record { lines = lines; script = script; history = history; last = last; replay = is_replay text lines lines history out last size script valid plays },
 )
 
 pub stopped_risen : (lines : List ScriptLine) (s : Scene) (told told' : Option (List (List ℕ))) (faults faults' : ℕ) (status : Status)
     → PlayStops s lines told faults told' faults' status → Risen status 0 0 faults faults'
 stopped_risen lines s told told' faults faults' Done p = absurd p
+stopped_risen lines s told told' faults faults' Usage p = absurd p
+stopped_risen lines s told told' faults faults' (ScriptFault line) p = absurd p
 stopped_risen lines s told told' faults faults' ReadFault p = absurd p
 stopped_risen lines s told told' faults faults' WriteFault p = (refl, p.0)
 stopped_risen lines s told told' faults faults' Memory p = (refl, p.0)
 stopped_risen lines s told told' faults faults' TooLong p = absurd p
 stopped_risen lines s told told' faults faults' (Unbuilt line) p = (refl, p.0)
-
-pub ended_risen : (ends : Option ℕ) (faults faults' : ℕ) → faults' ≡ faults → Risen (ended_at ends) 0 0 faults faults'
-ended_risen None faults faults' same = (refl, same)
-ended_risen (Some n) faults faults' same = (refl, same)
 
 pub replayed_none : (text : List ℕ) (told : Option (List (List ℕ))) → Replayed text told told Memory
 replayed_none text told = ([], onto_none told, inl refl)
@@ -174,9 +137,9 @@ opening_is limits lines o e h = h ∙ ap (λ (l : Limits). opening l lines) e
 abbrev started : OpeningState → Story
 started o = record { opening = o; history = [] }
 
-first_may : (text : List ℕ) (lines : List ScriptLine) (ends : Option ℕ) → length text ≤ script_limit → IsBuilt text lines ends → MayPlay [] (started (opening run_limits lines)) [] lines
-first_may text lines ends l b =
-    let cut : length text ≡ length (text_of lines) + length b.rest.0 = ap length b.rest.1 ∙ length-append (text_of lines) b.rest.0 in
+first_may : (text : List ℕ) (lines : List ScriptLine) → length text ≤ script_limit → IsRead text lines → MayPlay [] (started (opening run_limits lines)) [] lines
+first_may text lines l b =
+    let cut : length text ≡ length (text_of lines) = ap length b.whole in
     record {
       stand = b.good;
       agrees = record { idle = λ n. tt; bound_alike = λ n. refl };
@@ -186,33 +149,34 @@ first_may text lines ends l b =
       short = omega arith;
     }
 
-pub may_replay : (text : List ℕ) (lines slice : List ScriptLine) (ends : Option ℕ) (o : OpeningState) (p : Story)
-    → length text ≤ script_limit → IsBuilt text lines ends → slice ≡ lines → o ≡ opening run_limits lines → p ≡ started o → MayPlay [] p [] slice
-may_replay text lines slice ends o p l b s oe pe =
-    subst (λ (x : List ScriptLine). MayPlay [] p [] x) (sym s) (subst (λ (q : Story). MayPlay [] q [] lines) (sym (pe ∙ ap started oe)) (first_may text lines ends l b))
+pub may_replay : (text : List ℕ) (lines slice : List ScriptLine) (o : OpeningState) (p : Story)
+    → length text ≤ script_limit → IsRead text lines → slice ≡ lines → o ≡ opening run_limits lines → p ≡ started o → MayPlay [] p [] slice
+may_replay text lines slice o p l b s oe pe =
+    subst (λ (x : List ScriptLine). MayPlay [] p [] x) (sym s) (subst (λ (q : Story). MayPlay [] q [] lines) (sym (pe ∙ ap started oe)) (first_may text lines l b))
 
 scene_is : (lines : List ScriptLine) (o : OpeningState) (p : Story) → o ≡ opening run_limits lines → p ≡ started o → scene p [] ≡ first_scene lines
 scene_is lines o p oe pe = ap (λ (q : Story). scene q []) (pe ∙ ap started oe)
 
-pub replay_stops : (text : List ℕ) (lines slice : List ScriptLine) (ends : Option ℕ) (o : OpeningState) (p : Story) (told told' : Option (List (List ℕ))) (faults faults' : ℕ) (status : Status)
-    → length text ≤ script_limit → IsBuilt text lines ends → Valid (opened o) → slice ≡ lines → o ≡ opening run_limits lines → p ≡ started o → PlayStops (scene p []) slice told faults told' faults' status → Replayed text told told' status
-replay_stops text lines slice ends o p told told' faults faults' status size b valid s oe pe h =
-    stopped text lines ends size b (subst (λ (x : OpeningState). Valid (opened x)) oe valid) told told' faults faults' status
+pub replay_stops : (text : List ℕ) (lines slice : List ScriptLine) (o : OpeningState) (p : Story) (told told' : Option (List (List ℕ))) (faults faults' : ℕ) (status : Status)
+    → length text ≤ script_limit → IsRead text lines → Valid (opened o) → slice ≡ lines → o ≡ opening run_limits lines → p ≡ started o → PlayStops (scene p []) slice told faults told' faults' status → Replayed text told told' status
+replay_stops text lines slice o p told told' faults faults' status size b valid s oe pe h =
+    stopped text lines size b (subst (λ (x : OpeningState). Valid (opened x)) oe valid) told told' faults faults' status
     (subst (λ (x : List ScriptLine). PlayStops (first_scene lines) x told faults told' faults' status) s (subst (λ (x : Scene). PlayStops x slice told faults told' faults' status) (scene_is lines o p oe pe) h))
 
-pub replays_all : (text : List ℕ) (lines slice : List ScriptLine) (ends : Option ℕ) (o : OpeningState) (p q : Story) (told told' : Option (List (List ℕ))) (status : Status)
-    → length text ≤ script_limit → IsBuilt text lines ends → Valid (opened o) → slice ≡ lines → o ≡ opening run_limits lines → p ≡ started o → status ≡ ended_at ends → PlaysAll p q slice told told' → Replayed text told told' status
-replays_all text lines slice ends o p q told told' status size b valid s oe pe e h =
+pub replays_all : (text : List ℕ) (lines slice : List ScriptLine) (o : OpeningState) (p q : Story) (told told' : Option (List (List ℕ)))
+    → length text ≤ script_limit → IsRead text lines → Valid (opened o) → slice ≡ lines → o ≡ opening run_limits lines → p ≡ started o → PlaysAll p q slice told told' → Replayed text told told' Done
+replays_all text lines slice o p q told told' size b valid s oe pe h =
     let plays : Plays (first_scene lines) lines h.history h.out h.last =
     subst (λ (x : List ScriptLine). Plays (first_scene lines) x h.history h.out h.last) s (subst (λ (x : Scene). Plays x slice h.history h.out h.last) (scene_is lines o p oe pe) h.plays) in
-    subst (λ (x : Status). Replayed text told told' x) (sym e)
-    (ended text lines ends told told' h.history h.out h.last size b (subst (λ (x : OpeningState). Valid (opened x)) oe valid) plays h.output)
+    ended text lines told told' h.history h.out h.last size b (subst (λ (x : OpeningState). Valid (opened x)) oe valid) plays h.output
 
 -- ---- the whole run
 
 cause_of : (words : List (List ℕ)) (t : List ℕ) (left : Option (List ℕ)) (pieces : List (List ℕ)) (status : Status)
     → words ≡ replay_words → length t ≤ script_limit → AtEnd left → Replays t pieces status → Cause words t left pieces status
 cause_of words t left pieces Done w l e r = (w, l, e, r)
+cause_of words t left pieces Usage w l e r = absurd r
+cause_of words t left pieces (ScriptFault line) w l e r = (w, l, e, r.0, r.1)
 cause_of words t left pieces ReadFault w l e r = absurd r
 cause_of words t left pieces WriteFault w l e r = (w, l, e, r)
 cause_of words t left pieces Memory w l e r = (w, elim r as (λ _. (pieces ≡ []) ⊎ ((length t ≤ script_limit) × AtEnd left × WroteFront AreFirst t pieces)) [ inl none ↦ inl none | inr front ↦ inr (l, e, front) ])
@@ -226,6 +190,8 @@ ran_whole words text left left' told told' status w whole r =
 
 pub risen_whole : (status : Status) (text : List ℕ) (pieces : List (List ℕ)) (reads reads' writes writes' : ℕ) → reads' ≡ reads → Replays text pieces status → Risen status 0 0 writes writes' → Risen status reads reads' writes writes'
 risen_whole Done text pieces reads reads' writes writes' same r h = (same, h.1)
+risen_whole Usage text pieces reads reads' writes writes' same r h = absurd r
+risen_whole (ScriptFault line) text pieces reads reads' writes writes' same r h = (same, h.1)
 risen_whole ReadFault text pieces reads reads' writes writes' same r h = absurd r
 risen_whole WriteFault text pieces reads reads' writes writes' same r h = (same, h.1)
 risen_whole Memory text pieces reads reads' writes writes' same r h = (same, h.1)
@@ -244,5 +210,18 @@ ran_not words left left' told faults faults' input.Failed w s = record { text = 
 ran_not words left left' told faults faults' input.TooLong w s = record { text = s.1.0; pieces = []; read = s.1.1; wrote = onto_none told; cause = (w, s.1.2, refl) }
 ran_not words left left' told faults faults' input.Memory w s = record { text = s.1.0; pieces = []; read = s.1.1; wrote = onto_none told; cause = (w, inl refl) }
 
-pub ran_unknown : (words : List (List ℕ)) (left : Option (List ℕ)) (told : Option (List (List ℕ))) → words ≢ replay_words → Ran words left left told told (Unbuilt 0)
-ran_unknown words left told n = record { text = []; pieces = []; read = behind_none left; wrote = onto_none told; cause = inl (n, refl, refl, refl) }
+pub ran_unbuilt : (words : List (List ℕ)) (left : Option (List ℕ)) (told : Option (List (List ℕ))) → IsUnbuiltCommand words → Ran words left left told told (Unbuilt 0)
+ran_unbuilt words left told n = record { text = []; pieces = []; read = behind_none left; wrote = onto_none told; cause = inl (n, refl, refl, refl) }
+
+pub ran_unknown : (words : List (List ℕ)) (left : Option (List ℕ)) (told : Option (List (List ℕ))) → IsNoCommand words → Ran words left left told told Usage
+ran_unknown words left told n = record { text = []; pieces = []; read = behind_none left; wrote = onto_none told; cause = (n, refl, refl) }
+
+-- what a script's own text comes to is what the text comes to that is this script
+pub replayed_as : (text : List ℕ) (lines : List ScriptLine) (told told' : Option (List (List ℕ))) (status : Status) → text ≡ text_of lines → Replayed (text_of lines) told told' status → Replayed text told told' status
+replayed_as text lines told told' status same r = subst (λ (t : List ℕ). Replayed t told told' status) (sym same) r
+
+pub replayed_fault : (text : List ℕ) (told : Option (List (List ℕ))) (line : ℕ) → IsFault text line → Replayed text told told (ScriptFault line)
+replayed_fault text told line fault = ([], onto_none told, (fault, refl))
+
+pub itself : (lines : List ScriptLine) → IsScript lines → IsRead (text_of lines) lines
+itself lines good = record { good = good; whole = refl }

@@ -8,7 +8,8 @@ use Rattle.portal_model.specs.Valid.{Valid}
 use Rattle.portal_model.proofs.Histories.{EachLawful-append}
 use Rattle.app_world.proofs.WorldLaws.{replies_of_trace}
 use Rattle.script_form.specs.declared.script.ScriptLine.{ScriptLine}
-use Rattle.script_form.specs.declared.script.ScriptLine.TheVariants.{File, Doc, Open, Data, Close}
+use Rattle.script_form.specs.declared.script.ScriptLine.TheVariants.{File, Doc, Fail, Word, Now, Open, Data, Close}
+use Rattle.script_form.specs.declared.script.ScriptLine.TheVariants as line
 use Rattle.session.specs.declared.served.Rest.{Rest}
 use Rattle.session.specs.declared.served.Rest.TheVariants as rest
 use Rattle.session.specs.Standings.{Standing}
@@ -59,6 +60,10 @@ close_leads (Some at) a b seat es out h = comes_lead a b seat _ _ _ es out h (re
 pub does_lead : (line : ScriptLine) (a b : Scene) (es : List Entry) (out : List (List ℕ)) → Does a line es out b → Leads a es b
 does_lead (File path content) a b es out h = passes_lead a b es out h
 does_lead (Doc id reusable path grants) a b es out h = passes_lead a b es out h
+does_lead (Now moment) a b es out h = passes_lead a b es out h
+does_lead (line.Entry entry) a b es out h = absurd h
+does_lead (Fail device call) a b es out h = absurd h
+does_lead (Word word) a b es out h = absurd h
 does_lead (Open seat kind who) a b es out h = comes_lead a b seat _ _ _ es out h (refl, tt)
 does_lead (Data seat bytes) a b es out h = data_leads (a.sessions seat) a b seat bytes es out h
 does_lead (Close seat) a b es out h = close_leads (a.sessions seat) a b seat es out h

@@ -1,3 +1,4 @@
+pub mod Commands
 pub mod Inputs
 pub mod Entries
 pub mod Texts

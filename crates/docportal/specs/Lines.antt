@@ -7,7 +7,8 @@ use Rattle.portal_model.specs.declared.request.Request.{Request}
 use Rattle.portal_model.specs.History.{run}
 use Rattle.portal_model.specs.State.{State}
 use Rattle.script_form.specs.declared.script.ScriptLine.{ScriptLine}
-use Rattle.script_form.specs.declared.script.ScriptLine.TheVariants.{File, Doc, Open, Data, Close}
+use Rattle.script_form.specs.declared.script.ScriptLine.TheVariants.{File, Doc, Fail, Word, Now, Open, Data, Close}
+use Rattle.script_form.specs.declared.script.ScriptLine.TheVariants as line
 use Rattle.session.specs.declared.act.Act.{Act}
 use Rattle.session.specs.declared.served.Rest.{Rest}
 use Rattle.session.specs.declared.served.Rest.TheVariants as rest
@@ -83,9 +84,15 @@ CloseDoes a seat None entries out b = Passes a entries out b
 CloseDoes a seat (Some at) entries out b =
     Comes a seat (Request.Leave ∷ []) (end_line seat (ending_at at.rest) ∷ []) None entries out b
 
--- A line is run: from one scene to another, with these entries and this output.
+-- A line is run: from one scene to another, with these entries and this output. Files, documents and times are
+-- in the state that the script opens with: no request that is built reads the clock. A kept entry of the
+-- permission store, a call that fails and a word for a document's number need parts that aren't built.
 abbrev pub Does : Scene → ScriptLine → List Entry → List (List ℕ) → Scene → Type 0
 Does a (File path content) entries out b = Passes a entries out b
+Does a (line.Entry entry) entries out b = ⊥
+Does a (Fail device call) entries out b = ⊥
+Does a (Word word) entries out b = ⊥
+Does a (Now moment) entries out b = Passes a entries out b
 Does a (Doc id reusable path grants) entries out b = Passes a entries out b
 Does a (Open seat kind who) entries out b = Comes a seat (Request.Enter who kind ∷ []) []
     (Some (fresh (client who kind run_settings))) entries out b
@@ -110,8 +117,8 @@ DataIsUnbuilt bytes (Some at) =
 
 -- a line that needs a part which isn't built
 abbrev pub IsUnbuilt : Scene → ScriptLine → Type 0
-IsUnbuilt a (File path content) = ⊥
-IsUnbuilt a (Doc id reusable path grants) = ⊥
-IsUnbuilt a (Open seat kind who) = ⊥
+IsUnbuilt a (line.Entry entry) = Unit {0}
+IsUnbuilt a (Fail device call) = Unit {0}
+IsUnbuilt a (Word word) = Unit {0}
 IsUnbuilt a (Data seat bytes) = DataIsUnbuilt bytes (a.sessions seat)
-IsUnbuilt a (Close seat) = ⊥
+IsUnbuilt a line = ⊥

@@ -5,8 +5,8 @@ use Rattle.portal_core.specs.Story.{Story, state_now}
 use Rattle.portal_model.specs.declared.entry.Entry.{Entry}
 use Rattle.script_form.specs.declared.script.ScriptLine.{ScriptLine}
 use Rattle.docportal.specs.declared.status.Status.{Status}
-use Rattle.docportal.specs.declared.status.Status.TheVariants.{Done, ReadFault, WriteFault, Memory}
-use Rattle.docportal.specs.declared.status.Status.TheVariants.{TooLong, Unbuilt}
+use Rattle.docportal.specs.declared.status.Status.TheVariants.{Done, Usage, ScriptFault, ReadFault}
+use Rattle.docportal.specs.declared.status.Status.TheVariants.{WriteFault, Memory, TooLong, Unbuilt}
 use Rattle.docportal.specs.declared.error.LineError.{LineError}
 use Rattle.docportal.specs.declared.error.LineError.TheVariants as line
 use Rattle.docportal.specs.Lines.{Does, IsUnbuilt}
@@ -76,6 +76,8 @@ pub record PlaysUpTo (a : Scene) (lines : List ScriptLine) (number : ℕ)
 abbrev pub PlayStops : Scene → List ScriptLine → Option (List (List ℕ)) → ℕ → Option (List (List ℕ))
     → ℕ → Status → Type 0
 PlayStops a lines told faults told' faults' Done = ⊥
+PlayStops a lines told faults told' faults' Usage = ⊥
+PlayStops a lines told faults told' faults' (ScriptFault line) = ⊥
 PlayStops a lines told faults told' faults' ReadFault = ⊥
 PlayStops a lines told faults told' faults' WriteFault =
     HasRisen faults faults' × PlaysPart Short a lines told told'

@@ -6,9 +6,10 @@ use Rattle.portal_model.specs.History.{Legal, cost, replies}
 use Rattle.app_world.specs.World.{app_run, trace}
 use Rattle.script_form.specs.declared.script.ScriptLine.{ScriptLine}
 use Rattle.script_form.specs.Lines.{text_of}
-use Rattle.script_form.specs.Order.{IsBuilt}
+use Rattle.script_form.specs.Order.{IsRead, IsFault}
 use Rattle.docportal.specs.declared.status.Status.{Status}
-use Rattle.docportal.specs.declared.status.Status.TheVariants.{Done, ReadFault, WriteFault, Memory, TooLong, Unbuilt}
+use Rattle.docportal.specs.declared.status.Status.TheVariants.{Done, Usage, ScriptFault, ReadFault, WriteFault, Memory, TooLong, Unbuilt}
+use Rattle.docportal.specs.Commands.{replay_words, IsNoCommand, IsUnbuiltCommand}
 use Rattle.docportal.specs.Inputs.{script_limit, AtEnd}
 use Rattle.docportal.specs.Plays.{Plays, StopsAt}
 use Rattle.docportal.specs.Scenes.{Scene, first_scene, opening_state, run_limits}
@@ -32,34 +33,27 @@ pub record IsReplay (lines front : List ScriptLine) (history : List Entry) (out 
 -- the text is a script, all lines of which are built, and the pieces are its output
 pub record WroteAll (text : List ℕ) (pieces : List (List ℕ)) : Type 0 where
   pub lines : List ScriptLine
-  pub script : IsBuilt text lines None
+  pub script : IsRead text lines
   pub history : List Entry
   pub last : Scene
   pub replay : IsReplay lines lines history pieces last
 
--- this is the number of the first line that isn't built: of these lines, which are run up to this scene
--- ahead of it, or of the first behind them all, which is of no form that is built
-abbrev pub IsFirstUnbuilt : List ScriptLine → Option ℕ → List ScriptLine → Scene → ℕ → Type 0
-IsFirstUnbuilt lines ends front last number = ((front ≡ lines) × (ends ≡ Some number)) ⊎ StopsAt lines front last number
-
--- the pieces are the output of all lines of the text that stand ahead of the first that is not built,
--- which has this number
+-- the text is a script, and the pieces are the output of all its lines that stand ahead of the first that is not
+-- built, which has this number
 pub record WroteUpTo (text : List ℕ) (number : ℕ) (pieces : List (List ℕ)) : Type 0 where
   pub lines : List ScriptLine
-  pub ends : Option ℕ
-  pub script : IsBuilt text lines ends
+  pub script : IsRead text lines
   pub front : List ScriptLine
   pub history : List Entry
   pub last : Scene
   pub replay : IsReplay lines front history pieces last
-  pub first : IsFirstUnbuilt lines ends front last number
+  pub first : StopsAt lines front last number
 
--- The pieces are such a part of the output of some of its lines: some whole pieces, and at a fault a front of
--- the next or nothing.
+-- The text is a script, and the pieces are such a part of the output of some of its lines: some whole pieces, and
+-- at a fault a front of the next or nothing.
 pub record WroteFront (IsPart : List (List ℕ) → List (List ℕ) → Type 0) (text : List ℕ) (pieces : List (List ℕ)) : Type 0 where
   pub lines : List ScriptLine
-  pub ends : Option ℕ
-  pub script : IsBuilt text lines ends
+  pub script : IsRead text lines
   pub front : List ScriptLine
   pub later : List ScriptLine
   pub ahead : lines ≡ front ++ later
@@ -69,21 +63,19 @@ pub record WroteFront (IsPart : List (List ℕ) → List (List ℕ) → Type 0) 
   pub replay : IsReplay lines front history out last
   pub output : IsPart pieces out
 
--- the one word of the program
-abbrev pub replay_words : List (List ℕ)
-replay_words = codes "replay" ∷ []
-
 -- Why a run ends so that was told these words, read this text, left this of the source, and wrote these
 -- pieces.
 abbrev pub Cause : List (List ℕ) → List ℕ → Option (List ℕ) → List (List ℕ) → Status → Type 0
 Cause words text left pieces Done = (words ≡ replay_words) × (length text ≤ script_limit) × AtEnd left × WroteAll text pieces
+Cause words text left pieces Usage = IsNoCommand words × (text ≡ []) × (pieces ≡ [])
+Cause words text left pieces (ScriptFault line) = (words ≡ replay_words) × (length text ≤ script_limit) × AtEnd left × IsFault text line × (pieces ≡ [])
 Cause words text left pieces ReadFault = (words ≡ replay_words) × (length text ≤ script_limit) × (pieces ≡ [])
 Cause words text left pieces WriteFault = (words ≡ replay_words) × (length text ≤ script_limit) × AtEnd left × WroteFront Short text pieces
 Cause words text left pieces Memory = (words ≡ replay_words)
     × ((pieces ≡ []) ⊎ ((length text ≤ script_limit) × AtEnd left × WroteFront AreFirst text pieces))
 Cause words text left pieces TooLong = (words ≡ replay_words) × (script_limit < length text) × (pieces ≡ [])
 Cause words text left pieces (Unbuilt line) =
-    ((words ≢ replay_words) × (line ≡ 0) × (text ≡ []) × (pieces ≡ []))
+    (IsUnbuiltCommand words × (line ≡ 0) × (text ≡ []) × (pieces ≡ []))
     ⊎ ((words ≡ replay_words) × (length text ≤ script_limit) × AtEnd left × WroteUpTo text line pieces)
 
 -- a run: what it read stood ahead of what is left, and what it wrote stands behind what was written
@@ -97,6 +89,8 @@ pub record Ran (words : List (List ℕ)) (left left' : Option (List ℕ)) (told 
 -- Each fault of reading or writing is told: the counts of both rise where the status says so, and only there.
 abbrev pub Risen : Status → ℕ → ℕ → ℕ → ℕ → Type 0
 Risen Done reads reads' writes writes' = (reads' ≡ reads) × (writes' ≡ writes)
+Risen Usage reads reads' writes writes' = (reads' ≡ reads) × (writes' ≡ writes)
+Risen (ScriptFault line) reads reads' writes writes' = (reads' ≡ reads) × (writes' ≡ writes)
 Risen ReadFault reads reads' writes writes' = HasRisen reads reads' × (writes' ≡ writes)
 Risen WriteFault reads reads' writes writes' = (reads' ≡ reads) × HasRisen writes writes'
 Risen Memory reads reads' writes writes' = (reads' ≡ reads) × (writes' ≡ writes)
@@ -106,13 +100,10 @@ Risen (Unbuilt line) reads reads' writes writes' = (reads' ≡ reads) × (writes
 -- how a text of allowed length is replayed, with these pieces written
 abbrev pub Replays : List ℕ → List (List ℕ) → Status → Type 0
 Replays text pieces Done = WroteAll text pieces
+Replays text pieces Usage = ⊥
+Replays text pieces (ScriptFault line) = IsFault text line × (pieces ≡ [])
 Replays text pieces ReadFault = ⊥
 Replays text pieces WriteFault = WroteFront Short text pieces
 Replays text pieces Memory = (pieces ≡ []) ⊎ WroteFront AreFirst text pieces
 Replays text pieces TooLong = ⊥
 Replays text pieces (Unbuilt line) = WroteUpTo text line pieces
-
--- how a run ends whose lines were all run, where a line of this number is none
-abbrev pub ended_at : Option ℕ → Status
-ended_at None = Done
-ended_at (Some line) = Unbuilt line

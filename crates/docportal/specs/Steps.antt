@@ -9,7 +9,7 @@ use Rattle.portal_model.specs.declared.entry.Entry.{Entry}
 use Rattle.portal_model.specs.History.{cost}
 use Rattle.portal_model.specs.Seated.{Binding, bound}
 use Rattle.script_form.specs.declared.script.ScriptLine.{ScriptLine}
-use Rattle.script_form.specs.declared.script.ScriptLine.TheVariants.{File, Doc, Open, Data, Close}
+use Rattle.script_form.specs.declared.script.ScriptLine.TheVariants.{Open}
 use Rattle.script_form.specs.Lines.{KeepsRules, line_text, text_of}
 use Rattle.script_form.specs.Order.{StandBehind, opens, script_limit}
 use Rattle.session.specs.declared.served.Fed.TheVariants as fed
@@ -41,11 +41,8 @@ pub record Agrees (a : Scene) : Type 0 where
 
 -- a connection that is opened wasn't open before
 abbrev pub IsNew : Scene → ScriptLine → Type 0
-IsNew a (File path content) = Unit {0}
-IsNew a (Doc id reusable path grants) = Unit {0}
 IsNew a (Open seat kind who) = a.sessions seat ≡ None
-IsNew a (Data seat bytes) = Unit {0}
-IsNew a (Close seat) = Unit {0}
+IsNew a line = Unit {0}
 
 -- no session has so many bytes that these would be too many
 abbrev pub HaveRoom : Scene → ℕ → Type 0

@@ -48,6 +48,10 @@ pub fn run_line<K: Sink>(
     match line {
         ScriptLine::File { .. } => Ok(()),
         ScriptLine::Doc { .. } => Ok(()),
+        ScriptLine::Entry(_) => Err(LineError::Unbuilt),
+        ScriptLine::Fail { .. } => Err(LineError::Unbuilt),
+        ScriptLine::Word { .. } => Err(LineError::Unbuilt),
+        ScriptLine::Now { .. } => Ok(()),
         ScriptLine::Open { seat, kind, who } => {
             open(alloc, portal, connections, settings, *seat, *kind, who)
         }

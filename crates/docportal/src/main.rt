@@ -1,6 +1,7 @@
 //! The document portal and permission store of a desktop, in one program.
 #![tactic(auto)]
 
+mod command;
 mod connections;
 mod error;
 mod input;
@@ -33,8 +34,8 @@ fn main(rt: HostRuntime) -> ExitCode {
     ExitCode::from(status.number())
 }
 
-/// The words behind the program's name. One that isn't UTF-8 is no word that
-/// the program knows.
+/// The words behind the program's name. One that isn't UTF-8 is in none of the
+/// program's commands.
 fn words_of(rt: &HostRuntime) -> Result<List<Text>, Status> {
     let mut words = List::new(rt.alloc());
     let arguments = match env::args(rt) {
@@ -53,7 +54,7 @@ fn status_of(error: &io::Error) -> Status {
     if error.kind() == io::ErrorKind::OutOfMemory {
         Status::Memory
     } else {
-        Status::Unbuilt { line: 0 }
+        Status::Usage
     }
 }
 

@@ -10,6 +10,13 @@ use std::fmt;
 pub enum Status {
     /// All output was written, and the input was read to its end.
     Done,
+    /// The words are none of the program's commands.
+    Usage,
+    /// The input is no script; nothing is written.
+    ScriptFault {
+        /// The number of the first line that is no line of a script, from 1.
+        line: u64,
+    },
     /// A read failed.
     ReadFault,
     /// A write failed; a front of the output is written.
@@ -33,6 +40,8 @@ impl Status {
     {
         match self {
             Status::Done => 0,
+            Status::Usage => 1,
+            Status::ScriptFault { .. } => 2,
             Status::ReadFault => 3,
             Status::WriteFault => 4,
             Status::Memory => 5,
@@ -47,6 +56,8 @@ impl fmt::Display for Status {
     fn fmt<W: fmt::Write>(&self, f: &mut fmt::Formatter<W>) -> fmt::Result {
         match self {
             Status::Done => write!(f, "done"),
+            Status::Usage => write!(f, "usage"),
+            Status::ScriptFault { line } => write!(f, "script fault at line {line}"),
             Status::ReadFault => write!(f, "read fault"),
             Status::WriteFault => write!(f, "write fault"),
             Status::Memory => write!(f, "no memory"),

@@ -4,6 +4,7 @@ use document_records::DocError;
 use portal_base::memory::WantOfMemory;
 use portal_base::names::NameError;
 use rights_rule::UnknownPermission;
+use script_form::error::ScriptError;
 use std::alloc::{AllocError, Global};
 use vector_lines::error::LineError;
 use vector_lines::notation::debug;
@@ -19,6 +20,8 @@ pub enum VectorError {
     Permission(UnknownPermission),
     /// A document isn't added.
     Document(DocError),
+    /// The text is no script.
+    Script(ScriptError),
 }
 
 impl VectorError {
@@ -29,6 +32,7 @@ impl VectorError {
             VectorError::Name(error) => debug(alloc, &error),
             VectorError::Permission(error) => debug(alloc, &error),
             VectorError::Document(error) => debug(alloc, &error),
+            VectorError::Script(error) => debug(alloc, &error),
         }
     }
 }
@@ -48,6 +52,12 @@ impl From<AllocError> for VectorError {
 impl From<WantOfMemory> for VectorError {
     fn from(_error: WantOfMemory) -> VectorError {
         VectorError::Line(LineError::Memory)
+    }
+}
+
+impl From<ScriptError> for VectorError {
+    fn from(error: ScriptError) -> VectorError {
+        VectorError::Script(error)
     }
 }
 

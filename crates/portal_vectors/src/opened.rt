@@ -9,7 +9,7 @@ use portal_base::names::AppId;
 use portal_base::who::{Kind, Who};
 use portal_core::portal::Portal;
 use script_form::opening::opening_of;
-use script_form::reader::read_built;
+use script_form::reader::read_script;
 use std::alloc::Global;
 use vector_lines::error::LineError;
 
@@ -38,8 +38,8 @@ pub fn opened_by(alloc: Global, script: &[u8], history: u64) -> Result<Portal, V
     requires { length script.now ≤ LONGEST }
     ensures { IfOk result (λ portal. portal.history ≡ []) }
 {
-    let built = read_built(alloc, script)?;
-    let opening = opening_of(alloc, &built.script, limits(history))?;
+    let script = read_script(alloc, script)?;
+    let opening = opening_of(alloc, &script, limits(history))?;
     Ok(Portal::start(alloc, &opening)?)
 }
 

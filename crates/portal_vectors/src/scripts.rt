@@ -5,39 +5,35 @@ use crate::opened::{LONGEST, PLENTY, limits};
 use portal_base::names::AppId;
 use portal_base::who::{Kind, Who};
 use portal_model::opening::{FileItem, OpeningDocument};
-use portal_model::records::GrantRecord;
+use portal_model::records::{EntryRecord, GrantRecord};
 use script_form::opening::opening_of;
-use script_form::reader::{BuiltScript, read_built};
-use script_form::script::ScriptLine;
+use script_form::reader::read_script;
+use script_form::script::{Device, Script, ScriptLine};
 use std::alloc::Global;
 use vector_lines::error::LineError;
 use vector_lines::notation::{self, digits};
 
 /// Reads the script that a text is.
-fn read(alloc: Global, rest: &str) -> Result<BuiltScript, VectorError> {
+fn read(alloc: Global, rest: &str) -> Result<Script, VectorError> {
     let text = notation::text(alloc, rest)?;
     if text.len() > LONGEST {
         return Err(VectorError::Line(LineError::BadLine));
     }
-    Ok(read_built(alloc, text.as_slice())?)
+    Ok(read_script(alloc, text.as_slice())?)
 }
 
-/// `script TEXT`: how many good lines are at its front, and the number of the
-/// first that isn't.
+/// `script TEXT`: how many lines the script has, or the number of the first
+/// that is no line of a script.
 pub fn script(alloc: Global, rest: &str) -> Result<String, VectorError> {
-    let built = read(alloc, rest)?;
-    let count = built.script.lines.len();
-    match built.unbuilt {
-        Some(number) => Ok(format!(in alloc; "{count} good, not line {number}")?),
-        None => Ok(format!(in alloc; "{count} good")?),
-    }
+    let count = read(alloc, rest)?.lines.len();
+    Ok(format!(in alloc; "{count} lines")?)
 }
 
 /// `line TEXT`: what the lines of the script say.
 pub fn line(alloc: Global, rest: &str) -> Result<String, VectorError> {
-    let built = read(alloc, rest)?;
+    let script = read(alloc, rest)?;
     let mut out = String::new(alloc);
-    for (index, line) in built.script.lines.iter().enumerate() {
+    for (index, line) in script.lines.iter().enumerate() {
         if index > 0 {
             out.push_str("; ")?;
         }
@@ -67,6 +63,13 @@ fn shown(alloc: Global, line: &ScriptLine) -> Result<String, VectorError> {
                 "document {number} reusable {reusable} of {path} granted{grants}"
             )?)
         }
+        ScriptLine::Entry(entry) => shown_entry(alloc, entry),
+        ScriptLine::Fail { device, call } => {
+            let device = shown_device(*device);
+            Ok(format!(in alloc; "call {call} of {device} fails")?)
+        }
+        ScriptLine::Word { word } => Ok(format!(in alloc; "word {word}")?),
+        ScriptLine::Now { moment } => Ok(format!(in alloc; "the clock shows {moment}")?),
         ScriptLine::Open { seat, kind, who } => {
             let kind = shown_kind(*kind);
             let who = shown_who(alloc, who)?;
@@ -78,6 +81,30 @@ fn shown(alloc: Global, line: &ScriptLine) -> Result<String, VectorError> {
         }
         ScriptLine::Close { seat } => Ok(format!(in alloc; "{seat} closes")?),
     }
+}
+
+fn shown_device(device: Device) -> &'static str {
+    match device {
+        Device::Tree => "the tree",
+        Device::Keeper => "the keeper",
+    }
+}
+
+/// An entry with its data and rows, each application with its permissions.
+fn shown_entry(alloc: Global, entry: &EntryRecord) -> Result<String, VectorError> {
+    let table = entry.table.as_str();
+    let id = entry.id.as_str();
+    let datum = digits(alloc, entry.datum.as_slice())?;
+    let mut out = format!(in alloc; "entry {id} of {table} holds {datum}")?;
+    for row in entry.rows.iter() {
+        let app = row.app.as_str();
+        out.push_str(format!(in alloc; " {app}")?.as_str())?;
+        for name in row.names.iter() {
+            let name = name.as_str();
+            out.push_str(format!(in alloc; " +{name}")?.as_str())?;
+        }
+    }
+    Ok(out)
 }
 
 fn shown_kind(kind: Kind) -> &'static str {
@@ -113,8 +140,8 @@ pub fn opening(alloc: Global, rest: &str) -> Result<String, VectorError> {
     if text.len() > LONGEST {
         return Err(VectorError::Line(LineError::BadLine));
     }
-    let built = read_built(alloc, text.as_slice())?;
-    let opening = opening_of(alloc, &built.script, limits(PLENTY))?;
+    let script = read_script(alloc, text.as_slice())?;
+    let opening = opening_of(alloc, &script, limits(PLENTY))?;
     let mut out = String::new(alloc);
     put_applications(alloc, &mut out, opening.applications.as_slice())?;
     put_documents(alloc, &mut out, opening.documents.as_slice())?;

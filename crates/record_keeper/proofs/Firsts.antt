@@ -1,5 +1,5 @@
 -- The first of a list that passes a test, changed in its place.
-use Rattle.std.proofs.Common.{◌≡◌, ℕ, ◌+◌, ◌<◌, ◌≤◌, suc, List, [], ◌∷◌, length, get_or, set, Bool, true, false, not, ◌||◌, cond, ltb, Option, Some, None, refl, sym, ap, subst, ◌∙◌, arith}
+use Rattle.std.proofs.Common.{◌≡◌, ℕ, ◌+◌, ◌<◌, ◌≤◌, suc, List, [], ◌∷◌, length, get_or, set, Bool, true, false, not, ◌||◌, cond, ltb, Some, None, refl, ap, ◌∙◌, arith}
 use Rattle.std.proofs.lemmas.Bool.Decides.{nat_tests}
 use Rattle.std.specs.List.{prefix_len, position, list_any}
 use Rattle.portal_model.specs.RecordChanges.{change_first}

@@ -1,1 +1,4 @@
 pub mod Firsts
+pub mod NameSets
+pub mod Rising
+pub mod Stopped

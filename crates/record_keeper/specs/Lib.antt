@@ -1,2 +1,5 @@
 pub mod Devices
 pub mod Keepers
+pub mod SoundRecords
+pub mod NameOrder
+pub mod Reading

@@ -11,7 +11,8 @@ use Rattle.std.proofs.lemmas.List.Elements.{All-head, All-tail, All-cons, All-ni
 use Rattle.std.proofs.lemmas.List.Splits.{length-slice_split, join_with_byte-slice_split}
 use Rattle.portal_base.specs.Names.{is_app_name, has_app_form, is_name_byte, is_nothing_or_dots}
 use Rattle.portal_model.specs.declared.records.GrantRecord.{GrantRecord}
-use Rattle.script_form.specs.Lines.{letters, grant_text, grants_text, IsGrant, IsRising}
+use Rattle.record_keeper.specs.SoundRecords.{IsGrant, IsRising}
+use Rattle.script_form.specs.Lines.{letters, grant_text, grants_text}
 use Rattle.script_form.specs.Reading.{IsFree, CutsAt, AreGrants}
 use Rattle.script_form.proofs.TextFacts.{free_from, cut_same, not_free, split_joined}
 

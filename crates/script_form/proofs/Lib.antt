@@ -3,8 +3,12 @@ pub mod TextFacts
 pub mod WordFacts
 pub mod LineFacts
 pub mod PathFacts
+pub mod SetFacts
+pub mod JoinFacts
+pub mod RowFacts
 pub mod SameFacts
 pub mod ScriptFacts
+pub mod TrackFacts
 pub mod NamingFacts
 pub mod SoundFacts
 pub mod OneWay

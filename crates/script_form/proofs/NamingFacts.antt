@@ -5,6 +5,7 @@ use Rattle.std.specs.List.{list_any, filter, All}
 use Rattle.std.proofs.lemmas.List.{take_more}
 use Rattle.std.proofs.lemmas.List.Elements.{All-cons, All-nil}
 use Rattle.std.proofs.lemmas.List.Folds.{list_any-append}
+use Rattle.std.specs.Cmp.Lexicographic.{nat_list_eq_equiv}
 use Rattle.portal_base.specs.Names.{is_same}
 use Rattle.portal_model.specs.Opening.{each, first_named, names_kept}
 use Rattle.script_form.specs.Lines.{KeepsRules}
@@ -68,6 +69,21 @@ first_by_fold names = later names [] ∙ all_fresh (first_named names)
 fold_append : (xs ys acc : List (List ℕ)) → fold also_named acc (xs ++ ys) ≡ fold also_named (fold also_named acc xs) ys
 fold_append [] ys acc = refl
 fold_append (x ∷ xs) ys acc = fold_append xs ys (also_named acc x)
+
+-- one name more, in the list and in the set beside it
+pub named_with : (names known : List (List ℕ)) (key app name : List ℕ) → key ≡ app → list_any (is_same name) known ≡ list_any (λ k. is_same k name) names
+    → (is_same name key || list_any (is_same name) known) ≡ list_any (λ k. is_same k name) (names ++ (app ∷ []))
+named_with names known key app name same all =
+    ap (λ (k : List ℕ). is_same name k || list_any (is_same name) known) same ∙ ap (λ (b : Bool). is_same name app || b) all
+    ∙ turned (is_same name app) (list_any (λ k. is_same k name) names)
+    ∙ ap (λ (b : Bool). list_any (λ k. is_same k name) names || (b || false)) (nat_list_eq_equiv.symm name app)
+    ∙ sym (list_any-append (λ k. is_same k name) names (app ∷ []))
+  where
+    turned : (a b : Bool) → (a || b) ≡ (b || (a || false))
+    turned true true = refl
+    turned true false = refl
+    turned false true = refl
+    turned false false = refl
 
 -- the names of one line more
 pub named_more : (lines : List ScriptLine) (i : ℕ) (d : ScriptLine) → i < length lines

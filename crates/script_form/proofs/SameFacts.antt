@@ -19,14 +19,21 @@ use Rattle.portal_base.specs.declared.who.Kind.TheVariants.{Bus, Mount}
 use Rattle.portal_base.specs.declared.who.Who.{Who}
 use Rattle.portal_base.specs.declared.who.Who.TheVariants.{Host, App}
 use Rattle.portal_model.specs.declared.records.GrantRecord.{GrantRecord}
-use Rattle.script_form.specs.Lines.{line_text, KeepsRules, AreBytes, IsGrant, hex_text, flags_text, grants_text, grant_text, letters, is_script_path, is_plain, last_seat, kind_text, who_text, IsCaller}
+use Rattle.portal_model.specs.declared.records.EntryRecord.{EntryRecord}
+use Rattle.portal_model.specs.declared.records.Row.{Row}
+use Rattle.record_keeper.specs.SoundRecords.{IsGrant}
+use Rattle.script_form.specs.Lines.{line_text, KeepsRules, HasNames, IsNamedRow, AreBytes, hex_text, flags_text, grants_text, grant_text, row_text, rows_text, device_text, letters, is_script_path, is_plain, last_seat, kind_text, who_text, IsCaller}
+use Rattle.script_form.specs.declared.script.Device.{Device}
+use Rattle.script_form.specs.declared.script.Device.TheVariants.{Tree, Keeper}
 use Rattle.script_form.specs.Reading.{IsFree}
 use Rattle.script_form.specs.declared.script.ScriptLine.{ScriptLine}
-use Rattle.script_form.specs.declared.script.ScriptLine.TheVariants.{File, Doc, Open, Data, Close}
+use Rattle.script_form.specs.declared.script.ScriptLine.TheVariants.{File, Doc, Entry, Fail, Word, Now, Open, Data, Close}
 use Rattle.script_form.proofs.GrantFacts.{grant_same, grants_split, grant_free, letters_line, letters_some, name_free}
-use Rattle.script_form.proofs.LineFacts.{path_free, seat_free, id_free, id_again, flags_free, kind_free, differ_at, is_id}
+use Rattle.script_form.proofs.LineFacts.{path_free, seat_free, id_free, id_again, flags_free, kind_free, name_word, device_word, differ_at, apart, is_id}
 use Rattle.script_form.proofs.TextFacts.{free_from, cut_same}
-use Rattle.script_form.proofs.WordFacts.{all_digits, bytes_at}
+use Rattle.script_form.proofs.WordFacts.{all_digits, bytes_at, hex_free}
+use Rattle.script_form.proofs.JoinFacts.{append_free, joined_free}
+use Rattle.script_form.proofs.RowFacts.{row_free, rows_same}
 
 -- ---- words are written in one way
 
@@ -112,17 +119,18 @@ seat_same s t a b hs ht e =
     let halves = cut_same 32 (decimal s) a (decimal t) b (seat_free s hs) (seat_free t ht) e in
     (decimal_injective s t (seat_fits s hs) (seat_fits t ht) halves.0, halves.1)
 
+device_same : (a b : Device) → device_text a ≡ device_text b → a ≡ b
+device_same Tree Tree e = refl
+device_same Keeper Keeper e = refl
+device_same Tree Keeper e = absurd (cc (differ_at 0 116 _ _ e refl refl))
+device_same Keeper Tree e = absurd (cc (differ_at 0 107 _ _ e refl refl))
+
 pub line_same : (l m : ScriptLine) → KeepsRules l → KeepsRules m → line_text l ≡ line_text m → l ≡ m
 unfolding line_text
 line_same (File p c) (File q d) kl km e =
     let halves = cut_same 32 p (hex_text c) q (hex_text d) (path_free p kl.0) (path_free q km.0) (ap (drop 5) e) in
     let bytes = hex_same c d kl.2 km.2 halves.1 in
     cc (halves.0, bytes)
-line_same (File p c) (Doc i r q g) kl km e = absurd (cc (differ_at 0 102 _ _ e refl refl))
-line_same (File p c) (Open s k w) kl km e = absurd (cc (differ_at 0 102 _ _ e refl refl))
-line_same (File p c) (Data s b) kl km e = absurd (cc (differ_at 0 102 _ _ e refl refl))
-line_same (File p c) (Close s) kl km e = absurd (cc (differ_at 0 102 _ _ e refl refl))
-line_same (Doc i r p g) (File q d) kl km e = absurd (cc (differ_at 0 100 _ _ e refl refl))
 line_same (Doc i r p g) (Doc j f q h) kl km e =
     let one = cut_same 32 (doc_text i.number) (flags_text r ++ (32 ∷ (p ++ (32 ∷ grants_text g)))) (doc_text j.number) (flags_text f ++ (32 ∷ (q ++ (32 ∷ grants_text h))))
     (id_free i.number kl.0) (id_free j.number km.0) (ap (drop 4) e) in
@@ -130,34 +138,37 @@ line_same (Doc i r p g) (Doc j f q h) kl km e =
     let three = cut_same 32 p (grants_text g) q (grants_text h) (path_free p kl.1) (path_free q km.1) two.1 in
     let ids = id_same i j kl.0 km.0 one.0 in
     let flags = flags_same r f two.0 in
-    let grants = grants_same g h kl.2 km.2 three.1 in
+    let grants = grants_same g h kl.2.grants km.2.grants three.1 in
     cc (ids, flags, three.0, grants)
-line_same (Doc i r p g) (Open s k w) kl km e = absurd (cc (differ_at 0 100 _ _ e refl refl))
-line_same (Doc i r p g) (Data s b) kl km e = absurd (cc (differ_at 1 111 _ _ e refl refl))
-line_same (Doc i r p g) (Close s) kl km e = absurd (cc (differ_at 0 100 _ _ e refl refl))
-line_same (Open s k w) (File q d) kl km e = absurd (cc (differ_at 0 111 _ _ e refl refl))
-line_same (Open s k w) (Doc j f q h) kl km e = absurd (cc (differ_at 0 111 _ _ e refl refl))
 line_same (Open s k w) (Open t l v) kl km e =
     let one = seat_same s t (kind_text k ++ (32 ∷ who_text w)) (kind_text l ++ (32 ∷ who_text v)) kl.1 km.1 (ap (drop 5) e) in
     let two = cut_same 32 (kind_text k) (who_text w) (kind_text l) (who_text v) (kind_free k) (kind_free l) one.1 in
     let kinds = kind_same k l two.0 in
     let callers = who_same w v two.1 in
     cc (one.0, kinds, callers)
-line_same (Open s k w) (Data t b) kl km e = absurd (cc (differ_at 0 111 _ _ e refl refl))
-line_same (Open s k w) (Close t) kl km e = absurd (cc (differ_at 0 111 _ _ e refl refl))
-line_same (Data s b) (File q d) kl km e = absurd (cc (differ_at 0 100 _ _ e refl refl))
-line_same (Data s b) (Doc j f q h) kl km e = absurd (cc (differ_at 1 97 _ _ e refl refl))
-line_same (Data s b) (Open t k w) kl km e = absurd (cc (differ_at 0 100 _ _ e refl refl))
 line_same (Data s b) (Data t d) kl km e =
     let halves = seat_same s t (hex_text b) (hex_text d) kl.1 km.1 (ap (drop 5) e) in
     let bytes = hex_same b d kl.2 km.2 halves.1 in
     cc (halves.0, bytes)
-line_same (Data s b) (Close t) kl km e = absurd (cc (differ_at 0 100 _ _ e refl refl))
-line_same (Close s) (File q d) kl km e = absurd (cc (differ_at 0 99 _ _ e refl refl))
-line_same (Close s) (Doc j f q h) kl km e = absurd (cc (differ_at 0 99 _ _ e refl refl))
-line_same (Close s) (Open t k w) kl km e = absurd (cc (differ_at 0 99 _ _ e refl refl))
-line_same (Close s) (Data t b) kl km e = absurd (cc (differ_at 0 99 _ _ e refl refl))
 line_same (Close s) (Close t) kl km e = ap Close (decimal_injective s t (seat_fits s kl.1) (seat_fits t km.1) (ap (drop 6) e))
+line_same (Entry a) (Entry b) kl km e =
+    let one = cut_same 32 a.table (a.id ++ (32 ∷ (hex_text a.datum ++ (32 ∷ rows_text a.rows)))) b.table (b.id ++ (32 ∷ (hex_text b.datum ++ (32 ∷ rows_text b.rows))))
+    (name_word a.table kl.0.table) (name_word b.table km.0.table) (ap (drop 6) e) in
+    let two = cut_same 32 a.id (hex_text a.datum ++ (32 ∷ rows_text a.rows)) b.id (hex_text b.datum ++ (32 ∷ rows_text b.rows))
+    (name_word a.id kl.0.id) (name_word b.id km.0.id) one.1 in
+    let three = cut_same 32 (hex_text a.datum) (rows_text a.rows) (hex_text b.datum) (rows_text b.rows)
+    (hex_free 32 refl refl a.datum kl.0.bytes) (hex_free 32 refl refl b.datum km.0.bytes) two.1 in
+    let bytes = hex_same a.datum b.datum kl.0.bytes km.0.bytes three.0 in
+    let rows = rows_same a.rows b.rows kl.0.rows km.0.rows three.1 in
+    λ i. Entry (record { table = one.0 i; id = two.0 i; datum = bytes i; rows = rows i })
+line_same (Fail d k) (Fail f n) kl km e =
+    let halves = cut_same 32 (device_text d) (decimal k) (device_text f) (decimal n) (device_word d) (device_word f) (ap (drop 5) e) in
+    let devices = device_same d f halves.0 in
+    let calls = decimal_injective k n kl.1 km.1 halves.1 in
+    cc (devices, calls)
+line_same (Word v) (Word w) kl km e = ap Word (ap (λ (id : DocId). id.number) (id_same (record { number = v }) (record { number = w }) kl km (ap (drop 5) e)))
+line_same (Now v) (Now w) kl km e = ap Now (decimal_injective v w kl km (ap (drop 4) e))
+line_same l m kl km e = absurd (apart (line_text l) (line_text m) refl e)
 
 -- ---- no line has a line feed
 
@@ -171,10 +182,7 @@ word : (t : List ℕ) → list_all (λ b. not (b == 10)) t ≡ true → IsFree 1
 word t h = free_from (λ b. not (b == 10)) 10 refl t h
 
 hex_line : (bytes : List ℕ) → AreBytes bytes → IsFree 10 (hex_text bytes)
-hex_line [] h = word (codes "-") refl
-hex_line (b ∷ bs) h =
-    let read = decode_of-encode_lower (b ∷ bs) (bytes_at (b ∷ bs) h) in
-    free_from is_hex_digit 10 refl (hex_text (b ∷ bs)) (list_all-from_AllPass is_hex_digit (hex_text (b ∷ bs)) (decode_of-ok (hex_text (b ∷ bs)) (b ∷ bs) read).1)
+hex_line bytes h = hex_free 10 refl refl bytes h
 
 path_line : (path : List ℕ) → is_script_path path ≡ true → IsFree 10 path
 path_line path h = free_from is_plain 10 refl path (and_parts (is_host_path path) (list_all is_plain path) h).1
@@ -217,12 +225,35 @@ who_line : (who : Who) → IsCaller who → IsFree 10 (who_text who)
 who_line Host k = word (codes "host") refl
 who_line (App name) k = both (codes "app:") name (word (codes "app:") refl) (name_free 10 refl name k)
 
+row_lines : (rows : List Row) → All IsNamedRow rows → All (IsFree 10) (map row_text rows)
+row_lines [] all = All-nil (IsFree 10)
+row_lines (row ∷ rows) all =
+    All-cons (IsFree 10) (row_text row) (map row_text rows) (row_free 10 refl refl refl row (All-head IsNamedRow row rows all))
+    (row_lines rows (All-tail IsNamedRow row rows all))
+
+rows_line : (rows : List Row) → All IsNamedRow rows → IsFree 10 (rows_text rows)
+rows_line [] all = word (codes "-") refl
+rows_line (row ∷ rows) all = joined_free 10 44 refl (row_text row) (map row_text rows) (row_lines (row ∷ rows) all)
+
+device_line : (device : Device) → IsFree 10 (device_text device)
+device_line Tree = word (codes "tree") refl
+device_line Keeper = word (codes "keeper") refl
+
+number_line : (n : ℕ) → n < 2 ^ 64 → IsFree 10 (decimal n)
+number_line n h = free_from is_ascii_digit 10 refl (decimal n) (all_digits n h)
+
 pub line_free : (line : ScriptLine) → KeepsRules line → IsFree 10 (line_text line)
 unfolding line_text
 line_free (File path content) k = joined (codes "file") _ (word (codes "file") refl) (joined path _ (path_line path k.0) (hex_line content k.2))
 line_free (Doc id reusable path grants) k =
     joined (codes "doc") _ (word (codes "doc") refl) (joined (doc_text id.number) _ (id_line id.number k.0)
-    (joined (flags_text reusable) _ (flags_line reusable) (joined path _ (path_line path k.1) (grants_line grants k.2))))
+    (joined (flags_text reusable) _ (flags_line reusable) (joined path _ (path_line path k.1) (grants_line grants k.2.grants))))
+line_free (Entry entry) k =
+    joined (codes "entry") _ (word (codes "entry") refl) (joined entry.table _ (name_free 10 refl entry.table k.0.table)
+    (joined entry.id _ (name_free 10 refl entry.id k.0.id) (joined (hex_text entry.datum) _ (hex_line entry.datum k.0.bytes) (rows_line entry.rows k.0.rows))))
+line_free (Fail device call) k = joined (codes "fail") _ (word (codes "fail") refl) (joined (device_text device) _ (device_line device) (number_line call k.1))
+line_free (Word n) k = joined (codes "word") _ (word (codes "word") refl) (id_line n k)
+line_free (Now moment) k = joined (codes "now") _ (word (codes "now") refl) (number_line moment k)
 line_free (Open seat kind who) k =
     joined (codes "open") _ (word (codes "open") refl) (joined (decimal seat) _ (seat_line seat k.1)
     (joined (kind_text kind) (who_text who) (kind_line kind) (who_line who k.2)))

@@ -11,17 +11,19 @@ use Rattle.portal_model.specs.Opening.{each, first_named, names_kept}
 use Rattle.portal_model.specs.Valid.{applications_limit}
 use Rattle.portal_model.specs.declared.opening.OpeningDocument.{OpeningDocument}
 use Rattle.portal_model.specs.declared.records.GrantRecord.{GrantRecord}
-use Rattle.script_form.specs.Lines.{line_text, text_of, KeepsRules, IsGrant, grant_text, grants_text, flags_text, last_seat}
+use Rattle.record_keeper.specs.SoundRecords.{IsGrant}
+use Rattle.script_form.specs.Lines.{line_text, text_of, KeepsRules, grant_text, grants_text, flags_text, last_seat}
 use Rattle.script_form.specs.Opening.{documents_of, document_in, applications_of}
-use Rattle.script_form.specs.Order.{MayStand, StandBehind, IsScript, NoneStands, IsBuilt, goes_with, opens, closes, script_limit}
+use Rattle.script_form.specs.Order.{MayStand, StandBehind, IsScript, NoneStands, IsRead, IsFault, goes_with, opens, closes, script_limit}
 use Rattle.script_form.specs.Preceding.{Tracks, is_opened, is_closed}
 use Rattle.script_form.specs.Next.{TakesLine}
 use Rattle.script_form.specs.Reading.{CutsAt, IsFree}
 use Rattle.script_form.specs.declared.preceding.Number.{Number}
+use Rattle.script_form.specs.declared.preceding.Preceding.{Preceding}
 use Rattle.script_form.specs.declared.preceding.Number.TheVariants.{Unopened, Closed}
 use Rattle.script_form.specs.declared.preceding.Number.TheVariants as number
 use Rattle.script_form.specs.declared.script.ScriptLine.{ScriptLine}
-use Rattle.script_form.specs.declared.script.ScriptLine.TheVariants.{File, Doc, Open, Data, Close}
+use Rattle.script_form.specs.declared.script.ScriptLine.TheVariants.{Doc}
 use Rattle.script_form.proofs.SameFacts.{grant_long, line_same, line_free}
 use Rattle.script_form.proofs.TextFacts.{cut_same, not_free}
 
@@ -80,9 +82,8 @@ grants_long (g ∷ gs) all = joined_long g gs all
 
 line_names : (line : ScriptLine) → KeepsRules line → 4 * length (names_in line) ≤ length (line_text line) + 1
 unfolding line_text
-line_names (File path content) k = omega arith
 line_names (Doc id reusable path grants) k =
-    let long = grants_long grants k.2 in
+    let long = grants_long grants k.2.grants in
     let names = length-map grants (λ (g : GrantRecord). g.app) in
     omega (
       arith,
@@ -91,9 +92,7 @@ line_names (Doc id reusable path grants) k =
       length-append (flags_text reusable) (32 ∷ (path ++ (32 ∷ grants_text grants))),
       length-append (doc_text id.number) (32 ∷ (flags_text reusable ++ (32 ∷ (path ++ (32 ∷ grants_text grants))))),
     )
-line_names (Open seat kind who) k = omega arith
-line_names (Data seat bytes) k = omega arith
-line_names (Close seat) k = omega arith
+line_names line k = omega arith
 
 names_cons : (line : ScriptLine) (lines : List ScriptLine) → names_of (line ∷ lines) ≡ names_in line ++ names_of lines
 names_cons line lines = each_append names_kept (document_in line) (documents_of lines)
@@ -136,29 +135,18 @@ applications_fit lines line text after good k ahead short =
 
 -- ---- what is read
 
-pub new_tracks : (n : ℕ) (items : List Number) (lines : List ScriptLine) → lines ≡ [] → n ≡ 65536 → items ≡ replicate n Unopened → Tracks lines false items 0
-new_tracks n items lines none all filled = rw (none, filled) (record {
-  starts = refl;
-  seats = length-replicate n Unopened ∙ all;
-  opened = λ k inside. ap is_opened (get_or-replicate n k Unopened Unopened (omega arith));
-  closed = λ k inside. ap is_closed (get_or-replicate n k Unopened Unopened (omega arith));
-  count = refl;
-})
-
--- nothing comes on a number of which the table says that it isn't open
-pub none_goes : (lines : List ScriptLine) (begun : Bool) (numbers : List Number) (documents n : ℕ) (found : Number) → Tracks lines begun numbers documents
-    → found ≡ slice_index_or numbers n found → (found ≢ number.Open) → n ≤ last_seat → (list_any (opens n) lines && not (list_any (closes n) lines)) ≡ false
-none_goes lines begun numbers documents n found tracks is other high =
-    by found (ap is_opened at ∙ tracks.opened n (omega arith)) (ap is_closed at ∙ tracks.closed n (omega arith)) other
-  where
-    at : found ≡ slice_index_or numbers n Unopened
-    at = is ∙ get_or_default numbers n found Unopened (let e = tracks.seats in omega arith)
-
-    by : (f : Number) → is_opened f ≡ list_any (opens n) lines → is_closed f ≡ list_any (closes n) lines → (f ≢ number.Open)
-        → (list_any (opens n) lines && not (list_any (closes n) lines)) ≡ false
-    by Unopened o c other = rw (← o) refl
-    by number.Open o c other = absurd (other refl)
-    by Closed o c other = rw (← o, ← c) refl
+pub new_tracks : (p : Preceding) (n : ℕ) → p.lines ≡ [] → p.begun ≡ false → n ≡ 65536 → p.numbers.items ≡ replicate n Unopened → p.documents ≡ 0
+    → p.ids.keys ≡ [] → p.keys ≡ [] → p.paths ≡ [] → Tracks p
+new_tracks p n none begun all filled count ids keys paths = record {
+  starts = begun ∙ rw none refl;
+  seats = rw filled (length-replicate n Unopened ∙ all);
+  opened = λ k inside. rw (none, filled) (ap is_opened (get_or-replicate n k Unopened Unopened (omega arith)));
+  closed = λ k inside. rw (none, filled) (ap is_closed (get_or-replicate n k Unopened Unopened (omega arith)));
+  count = count ∙ rw none refl;
+  kept = λ k. rw (none, ids) refl;
+  stored = λ table id t i. rw (none, keys) refl;
+  clear = λ path. rw (none, paths) refl;
+}
 
 pub none_by_free : (lines : List ScriptLine) (text : List ℕ) → IsFree 10 text → NoneStands lines text
 none_by_free lines text free = λ line more e stands. not_free 10 (line_text line) more (rw e at free)
@@ -200,11 +188,12 @@ text_none lines text none = rw none refl
 pub good_none : (lines : List ScriptLine) → lines ≡ [] → IsScript lines
 good_none lines none = rw none tt
 
-pub built_some : (text : List ℕ) (lines : List ScriptLine) (rest : List ℕ) (read : List ScriptLine) (unbuilt : Option ℕ) (n : ℕ)
-    → text ≡ text_of lines ++ rest → IsScript lines → (rest ≢ []) → NoneStands lines rest → read ≡ lines → unbuilt ≡ Some n → n ≡ length lines + 1 → IsBuilt text read unbuilt
-built_some text lines rest read unbuilt n cut good some none same is number =
-    rw (same, is) (record { good = good; rest = (rest, cut, (some, none, number)) })
+pub fault_is : (text : List ℕ) (lines : List ScriptLine) (rest : List ℕ) (n : ℕ)
+    → text ≡ text_of lines ++ rest → IsScript lines → (rest ≢ []) → NoneStands lines rest → n ≡ length lines + 1 → IsFault text n
+fault_is text lines rest n cut good some none number =
+    record { lines = lines; rest = rest; good = good; parts = cut; some = some; none = none; number_is = number }
 
-pub built_all : (text : List ℕ) (lines : List ScriptLine) (rest : List ℕ) (read : List ScriptLine) (unbuilt : Option ℕ)
-    → text ≡ text_of lines ++ rest → IsScript lines → rest ≡ [] → read ≡ lines → unbuilt ≡ None → IsBuilt text read unbuilt
-built_all text lines rest read unbuilt cut good none same is = rw (same, is) (record { good = good; rest = (rest, cut, none) })
+pub read_is : (text : List ℕ) (lines : List ScriptLine) (rest : List ℕ) (read : List ScriptLine)
+    → text ≡ text_of lines ++ rest → IsScript lines → rest ≡ [] → read ≡ lines → IsRead text read
+read_is text lines rest read cut good none same =
+    rw same (record { good = good; whole = cut ∙ rw none (append_nil (text_of lines)) })

@@ -19,11 +19,15 @@ use Rattle.portal_model.specs.declared.opening.OpeningDocument.{OpeningDocument}
 use Rattle.portal_model.specs.declared.records.GrantRecord.{GrantRecord}
 use Rattle.portal_model.specs.declared.opening.OpeningState.{OpeningState}
 use Rattle.portal_model.proofs.OpeningLaws.{sound-ValidOpening}
-use Rattle.script_form.specs.Lines.{IsGrant, IsRising, is_script_path, is_plain}
-use Rattle.script_form.specs.Opening.{opening, documents_of, files_of, applications_of, HoldsScripts}
-use Rattle.script_form.specs.Order.{StandBehind, IsScript, clash, clashes, keeps, is_doc, document_limit}
+use Rattle.portal_model.specs.Valid.{same_entry, is_sound_entry}
+use Rattle.portal_model.specs.declared.records.EntryRecord.{EntryRecord}
+use Rattle.record_keeper.specs.SoundRecords.{IsGrant, IsRising}
+use Rattle.script_form.specs.Lines.{is_script_path, is_plain}
+use Rattle.script_form.specs.Paths.{clash}
+use Rattle.script_form.specs.Opening.{opening, documents_of, entries_of, files_of, files_from, time_behind, applications_of, HoldsScripts}
+use Rattle.script_form.specs.Order.{StandBehind, IsScript, clashes, keeps, stores, is_doc, document_limit}
 use Rattle.script_form.specs.declared.script.ScriptLine.{ScriptLine}
-use Rattle.script_form.specs.declared.script.ScriptLine.TheVariants.{File, Doc, Open, Data, Close}
+use Rattle.script_form.specs.declared.script.ScriptLine.TheVariants.{File, Doc, Entry}
 use Rattle.script_form.proofs.ScriptFacts.{append_nil}
 use Rattle.script_form.proofs.TextFacts.{no_true, eqb_yes}
 use Rattle.script_form.proofs.WordFacts.{same_from_test, same_refl}
@@ -54,7 +58,6 @@ doc_new earlier n b c h =
 
 later_numbers : (n : ℕ) (lines earlier : List ScriptLine) → list_any (keeps n) earlier ≡ true → StandBehind earlier lines → AllByRecursion (λ y. (n == y) ≡ false) (numbers lines)
 later_numbers n [] earlier kept all = tt
-later_numbers n (File path content ∷ ls) earlier kept all = later_numbers n ls _ (still (keeps n) earlier _ kept) all.1
 later_numbers n (Doc id reusable path grants ∷ ls) earlier kept all = (
   no_true (n == id.number) (λ same.
       let e : n ≡ id.number = grind (arith, nat_tests) in
@@ -62,21 +65,16 @@ later_numbers n (Doc id reusable path grants ∷ ls) earlier kept all = (
       cc (kept, new, e)),
   later_numbers n ls _ (still (keeps n) earlier _ kept) all.1,
 )
-later_numbers n (Open seat kind who ∷ ls) earlier kept all = later_numbers n ls _ (still (keeps n) earlier _ kept) all.1
-later_numbers n (Data seat bytes ∷ ls) earlier kept all = later_numbers n ls _ (still (keeps n) earlier _ kept) all.1
-later_numbers n (Close seat ∷ ls) earlier kept all = later_numbers n ls _ (still (keeps n) earlier _ kept) all.1
+later_numbers n (line ∷ ls) earlier kept all = later_numbers n ls _ (still (keeps n) earlier _ kept) all.1
 
 numbers_differ : (lines earlier : List ScriptLine) → StandBehind earlier lines → IsDistinct nat_eq (numbers lines)
 unfolding IsDistinct
 numbers_differ [] earlier all = tt
-numbers_differ (File path content ∷ ls) earlier all = numbers_differ ls _ all.1
 numbers_differ (Doc id reusable path grants ∷ ls) earlier all = (
   later_numbers id.number ls _ (now (keeps id.number) earlier (Doc id reusable path grants) (eqb_yes id.number)) all.1,
   numbers_differ ls _ all.1,
 )
-numbers_differ (Open seat kind who ∷ ls) earlier all = numbers_differ ls _ all.1
-numbers_differ (Data seat bytes ∷ ls) earlier all = numbers_differ ls _ all.1
-numbers_differ (Close seat ∷ ls) earlier all = numbers_differ ls _ all.1
+numbers_differ (line ∷ ls) earlier all = numbers_differ ls _ all.1
 
 path_is : (path : List ℕ) → is_script_path path ≡ true → is_host_path path ≡ true
 path_is path h = (and_parts (is_host_path path) (list_all is_plain path) h).0
@@ -86,11 +84,8 @@ both_true a b ha hb = rw (ha, hb) refl
 
 paths_are : (lines earlier : List ScriptLine) → StandBehind earlier lines → list_all (λ (d : OpeningDocument). is_host_path d.kept.path) (documents_of lines) ≡ true
 paths_are [] earlier all = refl
-paths_are (File path content ∷ ls) earlier all = paths_are ls _ all.1
 paths_are (Doc id reusable path grants ∷ ls) earlier all = both_true (is_host_path path) _ (path_is path all.0.itself.1) (paths_are ls _ all.1)
-paths_are (Open seat kind who ∷ ls) earlier all = paths_are ls _ all.1
-paths_are (Data seat bytes ∷ ls) earlier all = paths_are ls _ all.1
-paths_are (Close seat ∷ ls) earlier all = paths_are ls _ all.1
+paths_are (line ∷ ls) earlier all = paths_are ls _ all.1
 
 grant_names : (gs : List GrantRecord) → All IsGrant gs → list_all is_app_name (map (λ (g : GrantRecord). g.app) gs) ≡ true
 grant_names [] all = refl
@@ -98,11 +93,8 @@ grant_names (g ∷ gs) all = both_true (is_app_name g.app) _ (All-head IsGrant g
 
 names_are : (lines earlier : List ScriptLine) → StandBehind earlier lines → list_all (λ (d : OpeningDocument). list_all is_app_name (names_kept d)) (documents_of lines) ≡ true
 names_are [] earlier all = refl
-names_are (File path content ∷ ls) earlier all = names_are ls _ all.1
-names_are (Doc id reusable path grants ∷ ls) earlier all = both_true (list_all is_app_name (map (λ (g : GrantRecord). g.app) grants)) _ (grant_names grants all.0.itself.2) (names_are ls _ all.1)
-names_are (Open seat kind who ∷ ls) earlier all = names_are ls _ all.1
-names_are (Data seat bytes ∷ ls) earlier all = names_are ls _ all.1
-names_are (Close seat ∷ ls) earlier all = names_are ls _ all.1
+names_are (Doc id reusable path grants ∷ ls) earlier all = both_true (list_all is_app_name (map (λ (g : GrantRecord). g.app) grants)) _ (grant_names grants all.0.itself.2.grants) (names_are ls _ all.1)
+names_are (line ∷ ls) earlier all = names_are ls _ all.1
 
 less_differs : (a b : List ℕ) → slice_cmp nat_cmp a b ≡ Less → is_same a b ≡ false
 less_differs a b less = no_true (is_same a b) (λ same.
@@ -123,11 +115,8 @@ rising_differ (a ∷ b ∷ names) rising = (below_all a b names rising.0 rising.
 
 grants_differ : (lines earlier : List ScriptLine) → StandBehind earlier lines → GrantsDiffer (documents_of lines)
 grants_differ [] earlier all = tt
-grants_differ (File path content ∷ ls) earlier all = grants_differ ls _ all.1
-grants_differ (Doc id reusable path grants ∷ ls) earlier all = (rising_differ (map (λ (g : GrantRecord). g.app) grants) all.0.itself.3, grants_differ ls _ all.1)
-grants_differ (Open seat kind who ∷ ls) earlier all = grants_differ ls _ all.1
-grants_differ (Data seat bytes ∷ ls) earlier all = grants_differ ls _ all.1
-grants_differ (Close seat ∷ ls) earlier all = grants_differ ls _ all.1
+grants_differ (Doc id reusable path grants ∷ ls) earlier all = (rising_differ (map (λ (g : GrantRecord). g.app) grants) all.0.itself.2.rising, grants_differ ls _ all.1)
+grants_differ (line ∷ ls) earlier all = grants_differ ls _ all.1
 
 doc_room : (earlier : List ScriptLine) (b c : Bool) → (b && (c && nat_lt (count_by is_doc earlier) document_limit)) ≡ true → count_by is_doc earlier < 65536
 doc_room earlier b c h = ltb-true _ _ (and_parts c _ (and_parts b _ h).1).1
@@ -137,27 +126,46 @@ count_push line earlier = sum_by-append (λ (l : ScriptLine). cond (is_doc l) 1 
 
 documents_few : (lines earlier : List ScriptLine) → count_by is_doc earlier ≤ 65536 → StandBehind earlier lines → length (documents_of lines) + count_by is_doc earlier ≤ 65536
 documents_few [] earlier few all = omega arith
-documents_few (File path content ∷ ls) earlier few all =
-    let e = count_push (File path content) earlier in
-    let rest = documents_few ls (earlier ++ (File path content ∷ [])) (omega arith) all.1 in omega arith
 documents_few (Doc id reusable path grants ∷ ls) earlier few all =
     let e = count_push (Doc id reusable path grants) earlier in
     let room = doc_room earlier _ _ all.0.order in
     let rest = documents_few ls (earlier ++ (Doc id reusable path grants ∷ [])) (omega arith) all.1 in omega arith
-documents_few (Open seat kind who ∷ ls) earlier few all =
-    let e = count_push (Open seat kind who) earlier in
-    let rest = documents_few ls (earlier ++ (Open seat kind who ∷ [])) (omega arith) all.1 in omega arith
-documents_few (Data seat bytes ∷ ls) earlier few all =
-    let e = count_push (Data seat bytes) earlier in
-    let rest = documents_few ls (earlier ++ (Data seat bytes ∷ [])) (omega arith) all.1 in omega arith
-documents_few (Close seat ∷ ls) earlier few all =
-    let e = count_push (Close seat) earlier in
-    let rest = documents_few ls (earlier ++ (Close seat ∷ [])) (omega arith) all.1 in omega arith
+documents_few (line ∷ ls) earlier few all =
+    let e = count_push line earlier in
+    let rest = documents_few ls (earlier ++ (line ∷ [])) (omega arith) all.1 in omega arith
 
 applications_few : (lines earlier : List ScriptLine) → length (applications_of earlier) ≤ applications_limit → StandBehind earlier lines
     → length (applications_of (earlier ++ lines)) ≤ applications_limit
 applications_few [] earlier few all = rw append_nil few
 applications_few (line ∷ ls) earlier few all = rw (← append_assoc earlier (line ∷ []) ls) (applications_few ls (earlier ++ (line ∷ [])) all.0.applications all.1)
+
+-- ---- entries
+
+-- each entry before is of the table and the identifier where this one is
+abbrev Stored : EntryRecord → List ScriptLine → Type 0
+Stored e earlier = (f : EntryRecord) → same_entry e f ≡ true → list_any (stores f.table f.id) earlier ≡ true
+
+entry_new : (earlier : List ScriptLine) (f : EntryRecord) (b : Bool) → (b && not (list_any (stores f.table f.id) earlier)) ≡ true → list_any (stores f.table f.id) earlier ≡ false
+entry_new earlier f b h = not_true _ (and_parts b _ h).1
+
+later_entries : (e : EntryRecord) (lines earlier : List ScriptLine) → Stored e earlier → StandBehind earlier lines → AllByRecursion (λ f. same_entry e f ≡ false) (entries_of lines)
+later_entries e [] earlier stored all = tt
+later_entries e (Entry f ∷ ls) earlier stored all = (
+  no_true (same_entry e f) (λ same. let one = stored f same in let new = entry_new earlier f _ all.0.order in cc (one, new)),
+  later_entries e ls _ (λ g same. still (stores g.table g.id) earlier (Entry f) (stored g same)) all.1,
+)
+later_entries e (line ∷ ls) earlier stored all = later_entries e ls _ (λ g same. still (stores g.table g.id) earlier _ (stored g same)) all.1
+
+entries_differ : (lines earlier : List ScriptLine) → StandBehind earlier lines → IsDistinct same_entry (entries_of lines)
+unfolding IsDistinct
+entries_differ [] earlier all = tt
+entries_differ (Entry e ∷ ls) earlier all = (later_entries e ls _ (λ f same. now (stores f.table f.id) earlier (Entry e) same) all.1, entries_differ ls _ all.1)
+entries_differ (line ∷ ls) earlier all = entries_differ ls _ all.1
+
+entries_sound : (lines earlier : List ScriptLine) → StandBehind earlier lines → list_all is_sound_entry (entries_of lines) ≡ true
+entries_sound [] earlier all = refl
+entries_sound (Entry e ∷ ls) earlier all = both_true (is_sound_entry e) _ all.0.itself.1.texts (entries_sound ls _ all.1)
+entries_sound (line ∷ ls) earlier all = entries_sound ls _ all.1
 
 -- ---- files
 
@@ -165,8 +173,8 @@ applications_few (line ∷ ls) earlier few all = rw (← append_assoc earlier (l
 abbrev Known : List ℕ → List ScriptLine → Type 0
 Known p earlier = (q : List ℕ) → clash q p ≡ true → list_any (clashes q) earlier ≡ true
 
-abbrev paths : List ScriptLine → List (List ℕ)
-paths lines = map (λ (f : FileItem). f.path) (files_of lines)
+abbrev paths : ℕ → List ScriptLine → List (List ℕ)
+paths time lines = map (λ (f : FileItem). f.path) (files_from time lines)
 
 -- no two are the same, or above one another
 abbrev Clear : List ℕ → List (List ℕ) → Type 0
@@ -182,32 +190,23 @@ file_new earlier q b h = not_true _ (and_parts b _ h).1
 known_more : (p : List ℕ) (earlier : List ScriptLine) (line : ScriptLine) → Known p earlier → Known p (earlier ++ (line ∷ []))
 known_more p earlier line known = λ q c. still (clashes q) earlier line (known q c)
 
-later_clear : (p : List ℕ) (lines earlier : List ScriptLine) → Known p earlier → StandBehind earlier lines → Clear p (paths lines)
-later_clear p [] earlier known all = tt
-later_clear p (File q content ∷ ls) earlier known all = (
+later_clear : (p : List ℕ) (lines earlier : List ScriptLine) (time : ℕ) → Known p earlier → StandBehind earlier lines → Clear p (paths time lines)
+later_clear p [] earlier time known all = tt
+later_clear p (File q content ∷ ls) earlier time known all = (
   no_true (clash q p) (λ c. let one = known q c in let new = file_new earlier q _ all.0.order in cc (one, new)),
-  later_clear p ls _ (known_more p earlier (File q content) known) all.1,
+  later_clear p ls _ time (known_more p earlier (File q content) known) all.1,
 )
-later_clear p (Doc id reusable path grants ∷ ls) earlier known all = later_clear p ls _ (known_more p earlier _ known) all.1
-later_clear p (Open seat kind who ∷ ls) earlier known all = later_clear p ls _ (known_more p earlier _ known) all.1
-later_clear p (Data seat bytes ∷ ls) earlier known all = later_clear p ls _ (known_more p earlier _ known) all.1
-later_clear p (Close seat ∷ ls) earlier known all = later_clear p ls _ (known_more p earlier _ known) all.1
+later_clear p (line ∷ ls) earlier time known all = later_clear p ls _ (time_behind time line) (known_more p earlier _ known) all.1
 
-all_clear : (lines earlier : List ScriptLine) → StandBehind earlier lines → AllClear (paths lines)
-all_clear [] earlier all = tt
-all_clear (File p content ∷ ls) earlier all = (later_clear p ls _ (λ q c. now (clashes q) earlier (File p content) c) all.1, all_clear ls _ all.1)
-all_clear (Doc id reusable path grants ∷ ls) earlier all = all_clear ls _ all.1
-all_clear (Open seat kind who ∷ ls) earlier all = all_clear ls _ all.1
-all_clear (Data seat bytes ∷ ls) earlier all = all_clear ls _ all.1
-all_clear (Close seat ∷ ls) earlier all = all_clear ls _ all.1
+all_clear : (lines earlier : List ScriptLine) (time : ℕ) → StandBehind earlier lines → AllClear (paths time lines)
+all_clear [] earlier time all = tt
+all_clear (File p content ∷ ls) earlier time all = (later_clear p ls _ time (λ q c. now (clashes q) earlier (File p content) c) all.1, all_clear ls _ time all.1)
+all_clear (line ∷ ls) earlier time all = all_clear ls _ (time_behind time line) all.1
 
-no_root : (lines earlier : List ScriptLine) → StandBehind earlier lines → AllByRecursion (λ p. is_same p root ≡ false) (paths lines)
-no_root [] earlier all = tt
-no_root (File p content ∷ ls) earlier all = (no_true (is_same p root) (λ same. all.0.itself.1 (same_from_test p root same)), no_root ls _ all.1)
-no_root (Doc id reusable path grants ∷ ls) earlier all = no_root ls _ all.1
-no_root (Open seat kind who ∷ ls) earlier all = no_root ls _ all.1
-no_root (Data seat bytes ∷ ls) earlier all = no_root ls _ all.1
-no_root (Close seat ∷ ls) earlier all = no_root ls _ all.1
+no_root : (lines earlier : List ScriptLine) (time : ℕ) → StandBehind earlier lines → AllByRecursion (λ p. is_same p root ≡ false) (paths time lines)
+no_root [] earlier time all = tt
+no_root (File p content ∷ ls) earlier time all = (no_true (is_same p root) (λ same. all.0.itself.1 (same_from_test p root same)), no_root ls _ time all.1)
+no_root (line ∷ ls) earlier time all = no_root ls _ (time_behind time line) all.1
 
 same_clear : (p : List ℕ) (qs : List (List ℕ)) → Clear p qs → AllByRecursion (λ q. is_same p q ≡ false) qs
 same_clear p [] clear = tt
@@ -277,10 +276,10 @@ sound limits lines good holds =
       paths = paths_are lines [] good;
       names = names_are lines [] good;
       grants_differ = grants_differ lines [] good;
-      entries_differ = tt;
-      entries_sound = refl;
-      files_differ = clear_differ (paths lines) (all_clear lines [] good);
-      files_apart = files_apart (files_of lines) (files_of lines) (no_root lines [] good) (none_above (paths lines) (all_clear lines [] good));
+      entries_differ = entries_differ lines [] good;
+      entries_sound = entries_sound lines [] good;
+      files_differ = clear_differ (paths 0 lines) (all_clear lines [] 0 good);
+      files_apart = files_apart (files_of lines) (files_of lines) (no_root lines [] 0 good) (none_above (paths 0 lines) (all_clear lines [] 0 good));
       documents_within = omega arith;
       made_within = omega arith;
       applications_within = applications_few lines [] (omega arith) good;

@@ -1,23 +1,31 @@
 -- Facts on words.
-use Rattle.std.proofs.Common.{◌≡◌, ◌≢◌, ℕ, ◌+◌, ◌*◌, ◌/◌, ◌%◌, ◌^◌, ◌<◌, ◌≤◌, ◌&&◌, inl, inr, Bool, true, false, List, [], ◌∷◌, ◌++◌, length, take, drop, refl, sym, ap, eqb, ◌∙◌, arith, zero, suc, get_or}
-use Rattle.std.specs.Prelude.{codes, nat_le, nat_eq}
+use Rattle.std.proofs.Common.{◌≡◌, ◌≢◌, ℕ, ◌+◌, ◌*◌, ◌/◌, ◌%◌, ◌^◌, ◌<◌, ◌≤◌, ◌&&◌, ◌⊎◌, inl, inr, Bool, true, false, List, [], ◌∷◌, ◌++◌, length, take, drop, refl, sym, ap, eqb, ◌∙◌, arith, zero, suc, get_or}
+use Rattle.std.specs.Prelude.{codes, nat_le, nat_eq, if◌then◌else◌}
 use Rattle.std.specs.Cmp.Lexicographic.{pointwise}
 use Rattle.std.specs.Char.{is_ascii_digit}
 use Rattle.std.specs.Fmt.{decimal}
 use Rattle.std.specs.List.{list_all}
-use Rattle.std.specs.Prelude.{Ok}
+use Rattle.std.specs.Prelude.{Ok, Err}
 use Rattle.std.proofs.lemmas.Bool.{lt-leb, cases_lt, and_parts, eqb-true}
 use Rattle.std.proofs.lemmas.Bool.Decides.{nat_tests}
 use Rattle.std.specs.Prelude.{not, ◌==◌}
 use Rattle.std.proofs.Common.{lit<, add-one, zero-add, length-take, ◌-◌, ◌≢◌}
-use Rattle.std.proofs.lemmas.Fmt.{decimal_by_steps, decimal_step, decimal_digit, decimal_injective, first_decimal, length-decimal-le, decimal_nonempty}
+use Rattle.std.proofs.lemmas.Fmt.{decimal_by_steps, decimal_digit, decimal_injective, first_decimal, decimal_nonempty, decimal-digits_value, parse-decimal, IsAscii-decimal}
 use Rattle.std.proofs.lemmas.Grind.{get_or_default_zero}
 use Rattle.std.proofs.lemmas.List.{take-append-drop, get_or_past, take_more, take_all}
 use Rattle.std.proofs.lemmas.List.Folds.{list_all-append}
-use Rattle.std.proofs.lemmas.List.Sums.{AllPass-from_list_all}
-use Rattle.script_form.specs.Reading.{IsSeat}
-use Rattle.portal_base.specs.Names.{IsFirstBreak, has_app_form, app_limit, has_path_form, path_limit, is_app_name, is_host_path}
-use Rattle.hex.specs.Hex.{IsBytes, decode_of, encode_lower, encode_with}
+use Rattle.std.proofs.lemmas.List.Sums.{AllPass-from_list_all, list_all-from_AllPass}
+use Rattle.std.specs.Str.{IsUtf8, IsAscii, all_ascii_digits}
+use Rattle.std.specs.Str.Parse.{digits_value, ParsesUnsigned}
+use Rattle.std.proofs.lemmas.Str.{IsUtf8-from_ascii}
+use Rattle.std.proofs.lemmas.Str.Ascii.{IsAscii-nil, IsAscii-cons}
+use Rattle.std.proofs.lemmas.Str.Parse.{IsNumeralModel, numerals_by_value, tells_all_ascii_digits, parse_digits}
+use Rattle.script_form.specs.Reading.{are_digits, leads_with_zero}
+use Rattle.portal_base.specs.Names.{IsFirstBreak, has_app_form, app_limit, has_path_form, path_limit, is_app_name, is_host_path, is_name_byte, is_nothing_or_dots}
+use Rattle.std.proofs.lemmas.List.Elements.{All-nil, All-cons}
+use Rattle.script_form.specs.Reading.{IsFree, IsSeat}
+use Rattle.script_form.proofs.TextFacts.{free_from}
+use Rattle.hex.specs.Hex.{is_hex_digit, IsBytes, decode_of, encode_lower, encode_with}
 use Rattle.hex.proofs.HexLemmas.{decode_of-encode_lower, decode_of-ok}
 use Rattle.script_form.specs.Lines.{hex_text, AreBytes}
 
@@ -82,6 +90,13 @@ unfolding encode_with
 hex_some [] h = cc h
 hex_some (b ∷ bs) h = cc h
 
+-- the text of bytes has neither a separator that is no digit, nor one that is no dash
+pub hex_free : (s : ℕ) → is_hex_digit s ≡ false → (45 == s) ≡ false → (bytes : List ℕ) → AreBytes bytes → IsFree s (hex_text bytes)
+hex_free s other dash [] h = All-cons (λ b. (b == s) ≡ false) 45 [] dash (All-nil (λ b. (b == s) ≡ false))
+hex_free s other dash (b ∷ bs) h =
+    let read = decode_of-encode_lower (b ∷ bs) (bytes_at (b ∷ bs) h) in
+    free_from is_hex_digit s other (hex_text (b ∷ bs)) (list_all-from_AllPass is_hex_digit (hex_text (b ∷ bs)) (decode_of-ok (hex_text (b ∷ bs)) (b ∷ bs) read).1)
+
 -- ---- numbers
 
 digit_is : (d : ℕ) → d < 10 → list_all is_ascii_digit ((48 + d) ∷ []) ≡ true
@@ -89,12 +104,6 @@ digit_is d h = grind (arith, nat_tests)
 
 pub all_digits : (n : ℕ) → n < 2 ^ 64 → list_all is_ascii_digit (decimal n) ≡ true
 all_digits n h = decimal_by_steps (λ m ds. list_all is_ascii_digit ds ≡ true) (λ m small. digit_is m small) (λ m ds large front. rw (list_all-append, front) (digit_is (m % 10) (omega arith))) n h
-
-pub digit_more : (n d : ℕ) → 1 ≤ n → d < 10 → n * 10 + d < 2 ^ 64 → decimal (n * 10 + d) ≡ decimal n ++ ((48 + d) ∷ [])
-digit_more n d low small fits =
-    let high : (n * 10 + d) / 10 ≡ n = omega arith in
-    let last : (n * 10 + d) % 10 ≡ d = omega arith in
-    decimal_step (n * 10 + d) (omega arith) fits ∙ rw (high, last) refl
 
 eqb_yes : (n : ℕ) → eqb n n ≡ true
 eqb_yes n = grind (arith, nat_tests)
@@ -109,79 +118,52 @@ differ a b test e =
     let yes : pointwise nat_eq a b ≡ true = rw (← e) (same_refl a) in
     absurd (cc (yes, test))
 
-pub digit_range : (b : ℕ) → is_ascii_digit b ≡ true → (48 ≤ b) × (b ≤ 57)
-digit_range b h = (grind (arith, nat_tests), grind (arith, nat_tests))
+-- more than one byte, and a zero first
+pub leads_long : (word : List ℕ) → 1 < length word → leads_with_zero word ≡ (get_or word 0 0 == 48)
+leads_long [] h = absurd (omega arith)
+leads_long (b ∷ []) h = absurd (omega arith)
+leads_long (b ∷ c ∷ bs) h = refl
 
--- what is known of the digits of a connection's number
-pub record SeatWord (word : List ℕ) : Type 0 where
-  pub some : 1 ≤ length word
-  pub short : length word ≤ 5
-  pub low : 49 ≤ get_or word 0 0
-  pub high : get_or word 0 0 ≤ 57
-  pub digits : list_all is_ascii_digit word ≡ true
+pub leads_short : (word : List ℕ) → length word ≤ 1 → leads_with_zero word ≡ false
+leads_short [] h = refl
+leads_short (b ∷ []) h = refl
+leads_short (b ∷ c ∷ bs) h = absurd (omega arith)
 
-pub seat_word : (word : List ℕ) (n : ℕ) → IsSeat word n → SeatWord word
-seat_word word n s =
-    let low : 1 ≤ n = s.low in
-    let high : n ≤ 65535 = s.high in
-    let fits : n < 2 ^ 64 = omega arith in
-    let some : 1 ≤ length (decimal n) = decimal_nonempty n fits in
-    let digits = all_digits n fits in
-    rw s.same (record {
-      some = some;
-      short = length-decimal-le 5 n (lit< tt) (omega arith) fits;
-      low = first_decimal n low fits;
-      high = (digit_range (get_or (decimal n) 0 0) (AllPass-from_list_all is_ascii_digit (decimal n) digits 0 0 some)).1;
-      digits = digits;
-    })
+not_none : (n : ℕ) → (suc n == 0) ≡ false
+not_none n = grind (arith, nat_tests)
 
-pub same_seat : (word : List ℕ) (m n : ℕ) → m < 2 ^ 64 → word ≡ decimal m → IsSeat word n → m ≡ n
-same_seat word m n fits same s =
-    let high : n ≤ 65535 = s.high in
-    decimal_injective m n fits (omega arith) (sym same ∙ s.same)
+-- the digits of a number have no leading zero
+pub digits_of_number : (n : ℕ) → n < 2 ^ 64 → are_digits (decimal n) ≡ true
+digits_of_number n h = by (decimal n) (decimal_nonempty n h) (all_digits n h) (λ long. leading n h long)
+  where
+    leading : (n : ℕ) → n < 2 ^ 64 → 1 < length (decimal n) → get_or (decimal n) 0 0 ≢ 48
+    leading zero h long e = absurd (omega (arith, ap length (decimal_digit 0 (lit< tt))))
+    leading (suc n) h long e = let first = first_decimal (suc n) (omega arith) h in absurd (omega arith)
 
--- the digits of a number as they come: none of 0, since none begins with 0
-abbrev pub so_far : ℕ → List ℕ
-so_far zero = []
-so_far (suc n) = decimal (suc n)
+    by : (ds : List ℕ) → 0 < length ds → list_all is_ascii_digit ds ≡ true → (1 < length ds → get_or ds 0 0 ≢ 48) → are_digits ds ≡ true
+    by [] some all first = absurd (omega arith)
+    by (d ∷ []) some all first = all
+    by (d ∷ e ∷ ds) some all first =
+        let other : (d == 48) ≡ false = no_true (d == 48) (λ same. first (omega arith) (eqb-true d 48 same)) in
+        rw (not_none (suc (length ds)), other) all
 
-power_five : (i : ℕ) → i ≤ 5 → 10 ^ i ≤ 100000
-power_five zero h = omega arith
-power_five (suc zero) h = omega arith
-power_five (suc (suc zero)) h = omega arith
-power_five (suc (suc (suc zero))) h = omega arith
-power_five (suc (suc (suc (suc zero)))) h = omega arith
-power_five (suc (suc (suc (suc (suc zero))))) h = omega arith
-power_five (suc (suc (suc (suc (suc (suc n)))))) h = absurd (omega arith)
+own : IsNumeralModel (λ ds. all_ascii_digits ds ≡ true) (digits_value 10)
+own = numerals_by_value _ tells_all_ascii_digits
 
-pub seat_small : (seat i : ℕ) → seat < 10 ^ i → i ≤ 5 → seat < 100000
-seat_small seat i h short = let p = power_five i short in omega arith
+-- what is known of digits without a leading zero
+pub record DigitWord (word : List ℕ) : Type 0 where
+  pub some : 0 < length word
+  pub all : list_all is_ascii_digit word ≡ true
+  pub single : get_or word 0 0 ≡ 48 → length word ≡ 1
 
-so_far_some : (n : ℕ) → 1 ≤ n → so_far n ≡ decimal n
-so_far_some zero h = absurd (omega arith)
-so_far_some (suc n) h = refl
-
-so_far_more : (seat d : ℕ) → 1 ≤ seat * 10 + d → seat < 100000 → d < 10 → so_far (seat * 10 + d) ≡ so_far seat ++ ((48 + d) ∷ [])
-so_far_more zero zero low high small = absurd (omega arith)
-so_far_more zero (suc d) low high small = rw zero-add (decimal_digit (suc d) small)
-so_far_more (suc n) d low high small = so_far_some (suc n * 10 + d) (omega arith) ∙ digit_more (suc n) d (omega arith) small (omega arith)
-
-some_digit : (word : List ℕ) (i seat b : ℕ) → i < length word → (get_or word 0 0 ≢ 48) → get_or word i 0 ≡ b → 48 ≤ b
-    → take i word ≡ so_far seat → 1 ≤ seat * 10 + (b - 48)
-some_digit word zero seat b inside first at low digits = let other : b ≢ 48 = (λ e. first (at ∙ e)) in omega arith
-some_digit word (suc i) zero b inside first at low digits = let e = ap length digits in absurd (omega (arith, length-take (suc i) word))
-some_digit word (suc i) (suc n) b inside first at low digits = omega arith
-
--- one digit more
-pub seat_step : (word : List ℕ) (i seat b : ℕ) → i < length word → length word ≤ 5 → (get_or word 0 0 ≢ 48)
-    → get_or word i 0 ≡ b → 48 ≤ b → b ≤ 57 → take i word ≡ so_far seat → seat < 10 ^ i
-    → (take (i + 1) word ≡ so_far (seat * 10 + (b - 48))) × (seat * 10 + (b - 48) < 10 ^ (i + 1))
-seat_step word i seat b inside short first at low high digits small =
-    let bound = seat_small seat i small (omega arith) in
-    let some : 1 ≤ seat * 10 + (b - 48) = some_digit word i seat b inside first at low digits in
-    let byte : 48 + (b - 48) ≡ b = omega arith in
-    let next : so_far (seat * 10 + (b - 48)) ≡ so_far seat ++ (b ∷ []) = so_far_more seat (b - 48) some bound (omega arith) ∙ rw byte refl in
-    (rw (take_more word i 0 inside, digits, at, next) refl, rw add-one (omega arith))
+pub digit_word : (word : List ℕ) → are_digits word ≡ true → DigitWord word
+digit_word [] h = absurd (cc h)
+digit_word (b ∷ []) h = record { some = omega arith; all = h; single = λ e. refl }
+digit_word (b ∷ c ∷ bs) h = by (b == 48) refl (rw (not_none (suc (length bs))) at h)
+  where
+    by : (t : Bool) → (b == 48) ≡ t → (not t && list_all is_ascii_digit (b ∷ c ∷ bs)) ≡ true → DigitWord (b ∷ c ∷ bs)
+    by true e h = absurd (cc h)
+    by false e h = record { some = omega arith; all = h; single = λ same. absurd (grind (arith, nat_tests)) }
 
 pub same_from_test : (a b : List ℕ) → pointwise nat_eq a b ≡ true → a ≡ b
 same_from_test [] [] h = refl
@@ -214,8 +196,63 @@ pub is_empty : (a : List ℕ) → (length a == 0) ≡ true → a ≡ []
 is_empty [] h = refl
 is_empty (x ∷ xs) h = absurd (grind (arith, nat_tests))
 
--- all digits have come
-pub seat_done : (word : List ℕ) (i seat : ℕ) → length word ≤ i → take i word ≡ so_far seat → (length word == 0) ≡ false
-    → (1 ≤ seat) × (word ≡ decimal seat)
-seat_done word i zero past digits some = absurd (not_empty word some (sym (take_all i word past) ∙ digits))
-seat_done word i (suc n) past digits some = (omega arith, sym (take_all i word past) ∙ digits)
+-- ---- numbers that are read
+
+same_digits : (ds : List ℕ) → list_all is_ascii_digit ds ≡ all_ascii_digits ds
+same_digits [] = refl
+same_digits (d ∷ ds) = ap (λ (b : Bool). is_ascii_digit d && b) (same_digits ds)
+
+pub number_read : (E : Type 0) (word : List ℕ) (n : ℕ) → are_digits word ≡ true → ParsesUnsigned {E = E} 64 10 word (Ok n) → word ≡ decimal n
+number_read E word n h parsed =
+    let w = digit_word word h in
+    let all : all_ascii_digits word ≡ true = sym (same_digits word) ∙ w.all in
+    let o = parse_digits own {E = E} 64 word (Ok n) parsed all in
+    sym (decimal-digits_value own word all w.some w.single o.0.1) ∙ ap decimal (sym o.1)
+
+pub number_fits : (E : Type 0) (word : List ℕ) (n : ℕ) → ParsesUnsigned {E = E} 64 10 word (Ok n) → n < 2 ^ 64
+number_fits E word n parsed = let fits = parsed.0.1 in let same = parsed.1 in omega arith
+
+pub no_number : {E : Type 0} (word : List ℕ) (e : E) → ParsesUnsigned {E = E} 64 10 word (Err e) → (n : ℕ) → n < 2 ^ 64 → word ≢ decimal n
+no_number word e parsed n fits same = let r = parse-decimal 64 n word (Err e) fits fits same parsed in cc r
+
+pub no_text : (word : List ℕ) → ¬ (IsUtf8 word) → (n : ℕ) → n < 2 ^ 64 → word ≢ decimal n
+no_text word other n fits same = other (rw same (IsUtf8-from_ascii (decimal n) (IsAscii-decimal n fits)))
+
+pub no_digits : (word : List ℕ) → are_digits word ≡ false → (n : ℕ) → n < 2 ^ 64 → word ≢ decimal n
+no_digits word other n fits same = let yes = digits_of_number n fits in let no = rw same at other in cc (yes, no)
+
+-- ---- names
+
+name_byte : (b : ℕ) → is_name_byte b ≡ true → b < 128
+name_byte b h = grind (arith, nat_tests)
+
+name_ascii : (t : List ℕ) → list_all is_name_byte t ≡ true → IsAscii t
+name_ascii [] h = IsAscii-nil
+name_ascii (b ∷ bs) h =
+    let parts = and_parts (is_name_byte b) (list_all is_name_byte bs) h in
+    IsAscii-cons b bs (name_byte b parts.0) (name_ascii bs parts.1)
+
+pub name_utf8 : (t : List ℕ) → is_app_name t ≡ true → IsUtf8 t
+unfolding is_app_name
+name_utf8 t h =
+    let form = and_parts (has_app_form t) _ h in
+    let bytes = and_parts (list_all is_name_byte t) (not (is_nothing_or_dots t)) form.0 in
+    IsUtf8-from_ascii t (name_ascii t bytes.0)
+
+pub no_name : (t : List ℕ) → ¬ (IsUtf8 t) → is_app_name t ≡ false
+no_name t other = no_true (is_app_name t) (λ name. other (name_utf8 t name))
+
+-- ---- numbers of connections
+
+pub no_seat_of : (word : List ℕ) (n : ℕ) → n < 2 ^ 64 → word ≡ decimal n → (n ≡ 0) ⊎ (65535 < n) → (seat : ℕ) → IsSeat word seat → ⊥
+no_seat_of word n fits same out seat is =
+    let low = is.low in
+    let high = is.high in
+    let this : n ≡ seat = decimal_injective n seat fits (omega arith) (sym same ∙ is.same) in
+    elim out [ | inl none ↦ absurd (omega arith) | inr much ↦ absurd (omega arith) ]
+
+pub no_seat_text : (word : List ℕ) → ((n : ℕ) → n < 2 ^ 64 → word ≢ decimal n) → (seat : ℕ) → IsSeat word seat → ⊥
+no_seat_text word none seat is = let high = is.high in none seat (omega arith) is.same
+
+pub no_call : (call n : ℕ) → call < 2 ^ 64 → n < 2 ^ 64 → decimal call ≡ decimal n → call ≡ 0 → 1 ≤ n → ⊥
+no_call call n fits small same none some = let this = decimal_injective call n fits small same in absurd (omega arith)

@@ -1,14 +1,21 @@
 -- What is true of every script.
-use Rattle.std.specs.Prelude.{◌≡◌, ℕ, List, Option, None}
+use Rattle.std.specs.Prelude.{◌≡◌, ℕ, List}
 use Rattle.script_form.specs.Lines.{text_of}
-use Rattle.script_form.specs.Order.{IsBuilt, IsScript}
+use Rattle.script_form.specs.Order.{IsRead, IsFault, IsScript}
 use Rattle.script_form.specs.declared.script.ScriptLine.{ScriptLine}
 
 -- a text is read in one way
 abbrev pub ReadInOneWay : Type 0
-ReadInOneWay = (text : List ℕ) (lines others : List ScriptLine) (unbuilt other : Option ℕ)
-    → IsBuilt text lines unbuilt → IsBuilt text others other → (lines ≡ others) × (unbuilt ≡ other)
+ReadInOneWay = (text : List ℕ) (lines others : List ScriptLine) → IsRead text lines → IsRead text others → lines ≡ others
+
+-- it has one first line that is no line of a script
+abbrev pub RefusedInOneWay : Type 0
+RefusedInOneWay = (text : List ℕ) (number other : ℕ) → IsFault text number → IsFault text other → number ≡ other
+
+-- and none where it is a script
+abbrev pub ReadOrRefused : Type 0
+ReadOrRefused = (text : List ℕ) (lines : List ScriptLine) (number : ℕ) → IsRead text lines → IsFault text number → ⊥
 
 -- what a script's lines are written as is that script, whole
 abbrev pub ReadAgain : Type 0
-ReadAgain = (lines : List ScriptLine) → IsScript lines → IsBuilt (text_of lines) lines None
+ReadAgain = (lines : List ScriptLine) → IsScript lines → IsRead (text_of lines) lines

@@ -1,8 +1,11 @@
+pub mod Faults
 pub mod Laws
 pub mod Lines
 pub mod Naming
 pub mod Next
 pub mod Opening
 pub mod Order
+pub mod Outside
+pub mod Paths
 pub mod Preceding
 pub mod Reading

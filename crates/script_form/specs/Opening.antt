@@ -1,47 +1,62 @@
 -- The state that a script opens with.
-use Rattle.std.specs.Prelude.{ℕ, ◌^◌, ◌<◌, ◌≤◌, true, List, [], ◌∷◌, map}
+use Rattle.std.specs.Prelude.{ℕ, ◌^◌, ◌<◌, ◌≤◌, true, List, [], ◌∷◌, ◌++◌, map}
 use Rattle.portal_base.specs.declared.limits.Limits.{Limits}
 use Rattle.portal_model.specs.Opening.{each, first_named, id_of, names_kept}
 use Rattle.portal_model.specs.declared.opening.FileItem.{FileItem}
 use Rattle.portal_model.specs.declared.opening.OpeningDocument.{OpeningDocument}
 use Rattle.portal_model.specs.declared.opening.OpeningState.{OpeningState}
+use Rattle.portal_model.specs.declared.records.EntryRecord.{EntryRecord}
+use Rattle.script_form.specs.Lines.{kept_document}
 use Rattle.script_form.specs.declared.script.ScriptLine.{ScriptLine}
-use Rattle.script_form.specs.declared.script.ScriptLine.TheVariants.{File, Doc, Open, Data, Close}
+use Rattle.script_form.specs.declared.script.ScriptLine.TheVariants.{File, Doc, Entry, Now}
 
 -- the document that a line keeps
 abbrev pub document_in : ScriptLine → List OpeningDocument
-document_in (File path content) = []
-document_in (Doc id reusable path grants) = record { kept = record { number = id.number; path = path; reusable = reusable; grants = grants }; persistent = true } ∷ []
-document_in (Open seat kind who) = []
-document_in (Data seat bytes) = []
-document_in (Close seat) = []
+document_in (Doc id reusable path grants) = record { kept = kept_document id reusable path grants; persistent = true } ∷ []
+document_in line = []
 
--- the file that a line adds; no clock was set, so its moment is 0
-abbrev pub file_in : ScriptLine → List FileItem
-file_in (File path content) = record { path = path; content = content; moment = 0 } ∷ []
-file_in (Doc id reusable path grants) = []
-file_in (Open seat kind who) = []
-file_in (Data seat bytes) = []
-file_in (Close seat) = []
+-- the entry that a line keeps
+abbrev pub entry_in : ScriptLine → List EntryRecord
+entry_in (Entry entry) = entry ∷ []
+entry_in line = []
 
 abbrev pub documents_of : List ScriptLine → List OpeningDocument
 documents_of lines = each document_in lines
 
+abbrev pub entries_of : List ScriptLine → List EntryRecord
+entries_of lines = each entry_in lines
+
+-- the time behind a line, where it is this ahead of it
+abbrev pub time_behind : ℕ → ScriptLine → ℕ
+time_behind time (Now moment) = moment
+time_behind time line = time
+
+-- the file that a line adds, with the moment now in force
+abbrev pub file_in : ℕ → ScriptLine → List FileItem
+file_in time (File path content) = record { path = path; content = content; moment = time } ∷ []
+file_in time line = []
+
+-- the files that lines add behind this time
+abbrev pub files_from : ℕ → List ScriptLine → List FileItem
+files_from time [] = []
+files_from time (line ∷ lines) = file_in time line ++ files_from (time_behind time line) lines
+
+-- the clock begins at 0
 abbrev pub files_of : List ScriptLine → List FileItem
-files_of lines = each file_in lines
+files_of lines = files_from 0 lines
 
 -- the applications, in the order in which the documents' rights first name them
 abbrev pub applications_of : List ScriptLine → List (List ℕ)
 applications_of lines = first_named (each names_kept (documents_of lines))
 
--- the documents and the files of a script; each document persists, and no other was made
+-- the documents, the entries and the files of a script; each document persists, and no other was made
 abbrev pub opening : Limits → List ScriptLine → OpeningState
 opening limits lines = record {
   limits = limits;
   documents = documents_of lines;
   made = map (λ d. id_of d.kept.number) (documents_of lines);
   applications = applications_of lines;
-  entries = [];
+  entries = entries_of lines;
   files = files_of lines;
 }
 

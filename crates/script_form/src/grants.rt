@@ -1,7 +1,8 @@
 //! The rights in a `doc` line.
 
 ghost use Rattle.std.specs.Prelude.{◌≡◌, ◌≤◌, ◌↔◌, ◌++◌, ◌∷◌, [], IfOk, IsTrue, map};
-ghost use Rattle.script_form.specs.Lines.{letters, IsRising};
+ghost use Rattle.record_keeper.specs.SoundRecords.{IsRising};
+ghost use Rattle.script_form.specs.Lines.{letters};
 ghost use Rattle.script_form.specs.Reading.{ReadsRights, ReadsGrant, ReadsGrants};
 
 use crate::words::{cut, parts};

@@ -1,11 +1,13 @@
 //! What is true of every script.
 
-ghost use Rattle.script_form.specs.Laws.{ReadInOneWay, ReadAgain};
+ghost use Rattle.script_form.specs.Laws.{ReadInOneWay, RefusedInOneWay, ReadOrRefused, ReadAgain};
 
-/// A text has one longest front of good lines, and one first line that isn't
-/// good.
+/// A text is one script at most, or has one first line that is no line of a
+/// script, and not both.
 pub fn texts_are_read_in_one_way()
-    ensures { ReadInOneWay }
+    ensures read { ReadInOneWay }
+    ensures refused { RefusedInOneWay }
+    ensures either { ReadOrRefused }
 {}
 
 /// What the lines of a script are written as is read as that script.

@@ -1,20 +1,24 @@
 //! The reader of one line.
 
-ghost use Rattle.std.specs.Prelude.{◌≡◌, ◌++◌, ◌∷◌, IfOk, codes};
-ghost use Rattle.script_form.specs.Reading.{ReadsLine, ReadsFlags, ReadsId, ReadsKind, ReadsWho};
+ghost use Rattle.std.specs.Prelude.{◌≡◌, ◌++◌, ◌∷◌, IfOk, MatchOption, codes};
+ghost use Rattle.record_keeper.specs.SoundRecords.{IsSoundEntry};
+ghost use Rattle.script_form.specs.Reading.{ReadsLine, ReadsFlags, ReadsDevice, ReadsId, ReadsKind, ReadsWho};
 
 use crate::grants::read_grants;
-use crate::script::ScriptLine;
-use crate::words::{cut, read_bytes, read_path, read_seat};
+use crate::rows::read_rows;
+use crate::script::{Device, ScriptLine};
+use crate::words::{cut, read_bytes, read_name, read_number, read_path, read_seat};
 use portal_base::memory::WantOfMemory;
 use portal_base::names::NameError;
 use portal_base::names::app_id::AppId;
 use portal_base::names::doc_id::DocId;
 use portal_base::who::{Kind, Who};
+use portal_model::records::EntryRecord;
+use record_keeper::is_sound_entry;
 use std::alloc::Global;
 
 /// The line that a text is, without its line feed; `None` where it is of no
-/// built form or breaks a rule that doesn't speak of other lines.
+/// form or breaks a rule that doesn't speak of other lines.
 pub fn read_line(alloc: Global, line: &[u8]) -> Result<Option<ScriptLine>, WantOfMemory>
     ensures { IfOk result (λ read. ReadsLine line.now read) }
 {
@@ -26,6 +30,18 @@ pub fn read_line(alloc: Global, line: &[u8]) -> Result<Option<ScriptLine>, WantO
     }
     if command == b"doc".as_slice() {
         return read_doc(alloc, rest);
+    }
+    if command == b"entry".as_slice() {
+        return read_entry(alloc, rest);
+    }
+    if command == b"fail".as_slice() {
+        return Ok(read_fail(rest));
+    }
+    if command == b"word".as_slice() {
+        return Ok(read_word(rest));
+    }
+    if command == b"now".as_slice() {
+        return Ok(read_now(rest));
     }
     if command == b"open".as_slice() {
         return read_open(alloc, rest);
@@ -113,6 +129,105 @@ fn read_doc(alloc: Global, rest: &[u8]) -> Result<Option<ScriptLine>, WantOfMemo
         path,
         grants,
     }))
+}
+
+/// Reads `TABLE ID HEX ROWS` of an `entry` line.
+fn read_entry(alloc: Global, rest: &[u8]) -> Result<Option<ScriptLine>, WantOfMemory>
+    ensures { IfOk result (λ read. ReadsLine (codes "entry" ++ (32 ∷ rest.now)) read) }
+{
+    let Some((table, rest)) = cut(rest, b' ') else {
+        return Ok(None);
+    };
+    let Some((id, rest)) = cut(rest, b' ') else {
+        return Ok(None);
+    };
+    let Some((datum, rows)) = cut(rest, b' ') else {
+        return Ok(None);
+    };
+    let Some(table) = read_name(alloc, table)? else {
+        return Ok(None);
+    };
+    let Some(id) = read_name(alloc, id)? else {
+        return Ok(None);
+    };
+    let Some(datum) = read_bytes(alloc, datum)? else {
+        return Ok(None);
+    };
+    let Some(rows) = read_rows(alloc, rows)? else {
+        return Ok(None);
+    };
+    sound_entry(
+        alloc,
+        EntryRecord {
+            table,
+            id,
+            datum,
+            rows,
+        },
+    )
+}
+
+/// The line of an entry, where it may be kept.
+fn sound_entry(alloc: Global, entry: EntryRecord) -> Result<Option<ScriptLine>, WantOfMemory>
+    ensures { IfOk result (λ read. MatchOption read (IsSoundEntry entry → ⊥) (λ line. (line ≡ ScriptLine.Entry entry) × IsSoundEntry entry)) }
+{
+    if is_sound_entry(alloc, &entry)? {
+        Ok(Some(ScriptLine::Entry(entry)))
+    } else {
+        Ok(None)
+    }
+}
+
+/// Which device a word names.
+fn read_device(word: &[u8]) -> Option<Device>
+    ensures { ReadsDevice word.now result }
+{
+    if word == b"tree".as_slice() {
+        return Some(Device::Tree);
+    }
+    if word == b"keeper".as_slice() {
+        return Some(Device::Keeper);
+    }
+    None
+}
+
+/// Reads `tree K` or `keeper K` of a `fail` line.
+fn read_fail(rest: &[u8]) -> Option<ScriptLine>
+    ensures { ReadsLine (codes "fail" ++ (32 ∷ rest.now)) result }
+{
+    let Some((device, call)) = cut(rest, b' ') else {
+        return None;
+    };
+    let Some(device) = read_device(device) else {
+        return None;
+    };
+    let Some(call) = read_number(call) else {
+        return None;
+    };
+    if call == 0 {
+        return None;
+    }
+    Some(ScriptLine::Fail { device, call })
+}
+
+/// Reads `HEX` of a `word` line: eight lower-case digits.
+fn read_word(rest: &[u8]) -> Option<ScriptLine>
+    ensures { ReadsLine (codes "word" ++ (32 ∷ rest.now)) result }
+{
+    let Some(id) = read_id(rest) else {
+        return None;
+    };
+    Some(ScriptLine::Word { word: id.number })
+}
+
+/// Reads `N` of a `now` line.
+fn read_now(rest: &[u8]) -> Option<ScriptLine>
+    ensures { ReadsLine (codes "now" ++ (32 ∷ rest.now)) result }
+{
+    let Some(moment) = read_number(rest) else {
+        return None;
+    };
+    Some(ScriptLine::Now { moment })
 }
 
 /// What a connection speaks, by its name.

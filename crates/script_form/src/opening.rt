@@ -1,27 +1,27 @@
 //! The state that a script opens with.
 
-ghost use Rattle.std.specs.Prelude.{◌≡◌, ◌++◌, true, IfOk, OnOk, Some, fold, map};
-ghost use Rattle.std.specs.List.{All, list_any};
-ghost use Rattle.portal_base.specs.Names.{is_app_name, is_same};
+ghost use Rattle.std.specs.Prelude.{◌≡◌, ◌++◌, IfOk, OnOk, Some, fold, map};
+ghost use Rattle.std.specs.List.{All};
 ghost use Rattle.portal_model.specs.Opening.{each, names_kept, id_of, file_of, ValidOpening};
 ghost use Rattle.script_form.specs.Lines.{KeepsRules};
 ghost use Rattle.script_form.specs.Naming.{also_named};
-ghost use Rattle.script_form.specs.Opening.{opening, document_in, documents_of, file_in, files_of, applications_of, HoldsScripts};
+ghost use Rattle.script_form.specs.Opening.{opening, document_in, documents_of, entry_in, entries_of, file_in, files_of, time_behind as time_after, applications_of, HoldsScripts};
 ghost use Rattle.script_form.specs.Order.{IsScript};
 
+use crate::naming::Named;
 use crate::script::{Script, ScriptLine};
 use portal_base::limits::Limits;
 use portal_base::list::List;
 use portal_base::memory::{Replica, WantOfMemory};
-use portal_base::names::NameError;
 use portal_base::names::app_id::AppId;
 use portal_base::names::doc_id::DocId;
 use portal_model::opening::{FileItem, OpeningDocument, OpeningState};
-use portal_model::records::DocRecord;
+use portal_model::records::{DocRecord, EntryRecord};
 use std::alloc::Global;
 
-/// The state that a script opens with: its documents and files, and the
-/// applications that have rights, numbered as they are first named.
+/// The state that a script opens with: its documents, entries and files, each
+/// file with the moment that was in force at its line, and the applications
+/// that have rights, numbered as they are first named.
 ///
 /// It is a valid state where the limits hold whatever a script keeps: at
 /// least 65,536 live and made documents.
@@ -46,13 +46,14 @@ fn state_of(alloc: Global, script: &Script, limits: Limits) -> Result<OpeningSta
     let documents = documents_in(alloc, lines)?;
     let made = numbers_of(alloc, documents.as_slice())?;
     let applications = applications_in(alloc, lines)?;
+    let entries = entries_in(alloc, lines)?;
     let files = files_in(alloc, lines)?;
     Ok(OpeningState {
         limits,
         documents,
         made,
         applications,
-        entries: List::new(alloc),
+        entries,
         files,
     })
 }
@@ -91,10 +92,7 @@ fn add_document(
             },
             persistent: true,
         }),
-        ScriptLine::File { .. }
-        | ScriptLine::Open { .. }
-        | ScriptLine::Data { .. }
-        | ScriptLine::Close { .. } => Ok(()),
+        _ => Ok(()),
     }
 }
 
@@ -111,35 +109,70 @@ fn numbers_of(alloc: Global, documents: &[OpeningDocument]) -> Result<List<DocId
     Ok(numbers)
 }
 
+/// The entries that lines keep.
+fn entries_in(alloc: Global, lines: &[ScriptLine]) -> Result<List<EntryRecord>, WantOfMemory>
+    ensures { IfOk result (λ entries. entries ≡ entries_of lines.now) }
+{
+    let mut entries = List::new(alloc);
+    for line in lines {
+        add_entry(alloc, &mut entries, line)?;
+    }
+    Ok(entries)
+}
+
+/// Adds the entry that a line keeps.
+fn add_entry(
+    alloc: Global,
+    entries: &mut List<EntryRecord>,
+    line: &ScriptLine,
+) -> Result<(), WantOfMemory>
+    ensures { OnOk result (entries.new ≡ entries.old ++ entry_in line.now) }
+{
+    match line {
+        ScriptLine::Entry(entry) => entries.push(entry.replica(alloc)?),
+        _ => Ok(()),
+    }
+}
+
 /// The files that lines add.
 fn files_in(alloc: Global, lines: &[ScriptLine]) -> Result<List<FileItem>, WantOfMemory>
     ensures { IfOk result (λ files. files ≡ files_of lines.now) }
 {
     let mut files = List::new(alloc);
+    let mut time = 0;
     for line in lines {
-        add_file(alloc, &mut files, line)?;
+        add_file(alloc, &mut files, line, time)?;
+        time = time_behind(line, time);
     }
     Ok(files)
 }
 
-/// Adds the file of a line.
+/// The time behind a line, where it is this ahead of it.
+fn time_behind(line: &ScriptLine, time: u64) -> u64
+    ensures { result ≡ time_after time line.now }
+{
+    match line {
+        ScriptLine::Now { moment } => *moment,
+        _ => time,
+    }
+}
+
+/// Adds the file of a line, with the moment now in force.
 fn add_file(
     alloc: Global,
     files: &mut List<FileItem>,
     line: &ScriptLine,
+    time: u64,
 ) -> Result<(), WantOfMemory>
-    ensures { OnOk result (files.new ≡ files.old ++ file_in line.now) }
+    ensures { OnOk result (files.new ≡ files.old ++ file_in time line.now) }
 {
     match line {
         ScriptLine::File { path, content } => files.push(FileItem {
             path: List::copied(alloc, path.as_bytes())?,
             content: content.replica(alloc)?,
-            moment: 0,
+            moment: time,
         }),
-        ScriptLine::Doc { .. }
-        | ScriptLine::Open { .. }
-        | ScriptLine::Data { .. }
-        | ScriptLine::Close { .. } => Ok(()),
+        _ => Ok(()),
     }
 }
 
@@ -148,15 +181,15 @@ fn applications_in(alloc: Global, lines: &[ScriptLine]) -> Result<List<AppId>, W
     requires { All KeepsRules lines.now }
     ensures { IfOk result (λ named. named ≡ applications_of lines.now) }
 {
-    let mut named = List::new(alloc);
+    let mut named = Named::new(alloc);
     for line in lines {
         add_names(alloc, &mut named, line)?;
     }
-    Ok(named)
+    Ok(named.into_names())
 }
 
 /// Adds the names in a line that are new.
-fn add_names(alloc: Global, named: &mut List<AppId>, line: &ScriptLine) -> Result<(), WantOfMemory>
+fn add_names(alloc: Global, named: &mut Named, line: &ScriptLine) -> Result<(), WantOfMemory>
     requires { KeepsRules line.now }
     ensures { OnOk result (named.new ≡ fold also_named named.old (each names_kept (document_in line.now))) }
 {
@@ -164,29 +197,7 @@ fn add_names(alloc: Global, named: &mut List<AppId>, line: &ScriptLine) -> Resul
         return Ok(());
     };
     for grant in grants.as_slice() {
-        add_name(alloc, named, grant.app.as_slice())?;
+        named.add(alloc, grant.app.as_slice())?;
     }
     Ok(())
-}
-
-/// Whether a name is among those.
-fn is_named(named: &[AppId], name: &[u8]) -> bool
-    ensures { result ≡ list_any (λ known. is_same known name.now) named.now }
-{
-    named.iter().any(|known| known.as_bytes() == name)
-}
-
-/// Adds a name, if it is new.
-fn add_name(alloc: Global, named: &mut List<AppId>, name: &[u8]) -> Result<(), WantOfMemory>
-    requires { is_app_name name.now ≡ true }
-    ensures { OnOk result (named.new ≡ also_named named.old name.now) }
-{
-    if is_named(named.as_slice(), name) {
-        return Ok(());
-    }
-    match AppId::read(alloc, name) {
-        Ok(app) => named.push(app),
-        Err(NameError::Memory) => Err(WantOfMemory),
-        Err(NameError::BadName { at: _ }) => unreachable!(),
-    }
 }

@@ -1,16 +1,21 @@
 //! The lines so far, and what they say of the next one.
 
-ghost use Rattle.std.specs.Prelude.{◌≡◌, ◌++◌, ◌∷◌, [], true, IfOk, OnOk};
+ghost use Rattle.std.specs.Prelude.{◌≡◌, ◌≤◌, ◌++◌, ◌∷◌, ◌&&◌, [], true, not, nat_lt, count_by, IfOk, OnOk};
 ghost use Rattle.std.specs.List.{list_any};
-ghost use Rattle.script_form.specs.Lines.{KeepsRules};
-ghost use Rattle.script_form.specs.Order.{clash, clashes, keeps, goes_with};
-ghost use Rattle.script_form.specs.Preceding.{Tracks};
-ghost use Rattle.portal_model.specs.Content.{is_above};
+ghost use Rattle.script_form.specs.Lines.{KeepsRules, last_seat};
+ghost use Rattle.script_form.specs.Order.{goes_with, opens, closes, keeps, stores, clashes, is_doc, document_limit};
+ghost use Rattle.script_form.specs.Preceding.{Tracks, Notes, is_opened, is_closed, key_text};
+ghost use Rattle.script_form.specs.declared.script.ScriptLine.TheVariants.{Entry};
 
+use crate::paths::PathSet;
 use crate::script::ScriptLine;
 use portal_base::list::List;
-use portal_base::memory::WantOfMemory;
+use portal_base::memory::{Replica, WantOfMemory};
+use portal_base::names::host_path::HostPath;
+use portal_model::records::EntryRecord;
+use record_keeper::{Name, NameSet};
 use std::alloc::Global;
+use std::collections::BTreeSet;
 
 /// How many documents a script may keep.
 const DOCUMENT_LIMIT: usize = 65_536;
@@ -30,7 +35,7 @@ pub enum Number {
 }
 
 /// The lines so far. What each next line asks about them is kept beside them,
-/// so that no `open`, `data` or `close` line walks the lines before it.
+/// so that no line walks the lines before it.
 #[derive(Drop)]
 pub struct Preceding {
     /// The lines.
@@ -41,120 +46,179 @@ pub struct Preceding {
     pub numbers: Vec<Number>,
     /// How many documents they keep.
     pub documents: usize,
+    /// The numbers of these.
+    pub ids: BTreeSet<u32>,
+    /// The tables and identifiers of the entries that they keep.
+    pub keys: NameSet,
+    /// The paths of their files.
+    pub paths: PathSet,
 }
 
-/// Whether one path lies above another.
-fn lies_above(path: &[u8], below: &[u8]) -> bool
-    ensures { result ≡ is_above path.now below.now }
+/// The table and the identifier of an entry in one text.
+fn key_of(alloc: Global, entry: &EntryRecord) -> Result<Name, WantOfMemory>
+    ensures { IfOk result (λ name. name ≡ key_text entry.now.table entry.now.id) }
 {
-    match below.strip_prefix(path) {
-        Some(rest) => !rest.is_empty() && rest[0] == b'/',
-        None => false,
-    }
-}
-
-/// Whether two paths can't both be files.
-fn paths_clash(path: &[u8], other: &[u8]) -> bool
-    ensures { result ≡ clash path.now other.now }
-{
-    path == other || lies_above(other, path) || lies_above(path, other)
-}
-
-/// Whether a line is of a file that can't be beside a file of that path.
-fn line_clashes(path: &[u8], line: &ScriptLine) -> bool
-    ensures { result ≡ clashes path.now line.now }
-{
-    match line {
-        ScriptLine::File { path: other, .. } => paths_clash(path, other.as_bytes()),
-        ScriptLine::Doc { .. }
-        | ScriptLine::Open { .. }
-        | ScriptLine::Data { .. }
-        | ScriptLine::Close { .. } => false,
-    }
-}
-
-/// Whether a line keeps the document of that number.
-fn line_keeps(number: u32, line: &ScriptLine) -> bool
-    ensures { result ≡ keeps number line.now }
-{
-    match line {
-        ScriptLine::Doc { id, .. } => id.number == number,
-        ScriptLine::File { .. }
-        | ScriptLine::Open { .. }
-        | ScriptLine::Data { .. }
-        | ScriptLine::Close { .. } => false,
-    }
+    let mut key = List::copied(alloc, entry.table.as_bytes())?;
+    key.push(b' ')?;
+    key.extend_from_slice(entry.id.as_bytes())?;
+    Ok(Name::from_bytes(key))
 }
 
 impl Preceding {
     /// No lines.
     pub fn new(alloc: Global) -> Result<Preceding, WantOfMemory>
-        ensures { IfOk result (λ none. (none.lines ≡ []) × Tracks none.lines none.begun none.numbers.items none.documents) }
+        ensures { IfOk result (λ none. (none.lines ≡ []) × Tracks none) }
     {
         Ok(Preceding {
             lines: List::new(alloc),
             begun: false,
             numbers: vec![in alloc; Number::Unopened; SEATS]?,
             documents: 0,
+            ids: BTreeSet::new(alloc),
+            keys: NameSet::new(alloc),
+            paths: PathSet::new(alloc),
         })
     }
 
-    /// Whether a file of the lines can't be beside one of that path.
-    fn has_clash(&self, path: &[u8]) -> bool
-        ensures { result ≡ list_any (clashes path.now) self.now.lines }
+    /// What became of a connection's number.
+    fn number_at(&self, seat: u32) -> Number
+        requires tracks { Tracks self.now }
+        requires seat { seat ≤ last_seat }
+        ensures opened { is_opened result ≡ list_any (opens seat) self.now.lines }
+        ensures closed { is_closed result ≡ list_any (closes seat) self.now.lines }
     {
-        self.lines
-            .as_slice()
-            .iter()
-            .any(|line| line_clashes(path, line))
+        self.numbers[seat as usize]
     }
 
-    /// Whether a line keeps the document of that number.
-    fn has_kept(&self, number: u32) -> bool
+    /// Whether no line opens a connection of this number.
+    fn is_new(&self, seat: u32) -> bool
+        requires tracks { Tracks self.now }
+        requires seat { seat ≤ last_seat }
+        ensures { result ≡ not (list_any (opens seat) self.now.lines) }
+    {
+        match self.number_at(seat) {
+            Number::Unopened => true,
+            Number::Open => false,
+            Number::Closed => false,
+        }
+    }
+
+    /// Whether a line opens a connection of this number, and none closes it.
+    fn is_live(&self, seat: u32) -> bool
+        requires tracks { Tracks self.now }
+        requires seat { seat ≤ last_seat }
+        ensures { result ≡ (list_any (opens seat) self.now.lines && not (list_any (closes seat) self.now.lines)) }
+    {
+        match self.number_at(seat) {
+            Number::Unopened => false,
+            Number::Open => true,
+            Number::Closed => false,
+        }
+    }
+
+    /// Whether a line keeps the document of this number.
+    fn is_kept(&self, number: u32) -> bool
+        requires { Tracks self.now }
         ensures { result ≡ list_any (keeps number) self.now.lines }
     {
-        self.lines
-            .as_slice()
-            .iter()
-            .any(|line| line_keeps(number, line))
+        self.ids.contains(&number)
+    }
+
+    /// Whether the lines keep as many documents as a script may.
+    fn is_full(&self) -> bool
+        requires { Tracks self.now }
+        ensures { result ≡ not (nat_lt (count_by is_doc self.now.lines) document_limit) }
+    {
+        !(self.documents < DOCUMENT_LIMIT)
+    }
+
+    /// Whether a file of this path can be beside those of the lines.
+    fn is_clear(&self, path: &HostPath) -> bool
+        requires { Tracks self.now }
+        ensures { result ≡ not (list_any (clashes path.now) self.now.lines) }
+    {
+        !self.paths.has_clash(path)
+    }
+
+    /// Whether no line keeps the entry of this table and this identifier.
+    fn is_unstored(&self, alloc: Global, entry: &EntryRecord) -> Result<bool, WantOfMemory>
+        requires tracks { Tracks self.now }
+        requires rules { KeepsRules (Entry entry.now) }
+        ensures { IfOk result (λ unstored. unstored ≡ not (list_any (stores entry.now.table entry.now.id) self.now.lines)) }
+    {
+        let key = key_of(alloc, entry)?;
+        let stored = self.keys.has(&key);
+        Ok(!stored)
     }
 
     /// Whether the line goes with those so far.
-    pub fn allows(&self, line: &ScriptLine) -> bool
-        requires tracks { Tracks self.now.lines self.now.begun self.now.numbers.items self.now.documents }
+    pub fn allows(&self, alloc: Global, line: &ScriptLine) -> Result<bool, WantOfMemory>
+        requires tracks { Tracks self.now }
         requires rules { KeepsRules line.now }
-        ensures { result ≡ goes_with self.now.lines line.now }
+        ensures { IfOk result (λ allowed. allowed ≡ goes_with self.now.lines line.now) }
+    {
+        let first = !self.begun;
+        match line {
+            ScriptLine::File { path, .. } => Ok(first && self.is_clear(path)),
+            ScriptLine::Doc { id, .. } => {
+                Ok(first && (!self.is_kept(id.number) && !self.is_full()))
+            }
+            ScriptLine::Entry(entry) => {
+                let unstored = self.is_unstored(alloc, entry)?;
+                Ok(first && unstored)
+            }
+            ScriptLine::Fail { .. } => Ok(first),
+            ScriptLine::Word { .. } => Ok(true),
+            ScriptLine::Now { .. } => Ok(true),
+            ScriptLine::Open { seat, .. } => Ok(self.is_new(*seat)),
+            ScriptLine::Data { seat, .. } => Ok(self.is_live(*seat)),
+            ScriptLine::Close { seat } => Ok(self.is_live(*seat)),
+        }
+    }
+
+    /// Notes what a line says of those behind it.
+    fn note(&mut self, alloc: Global, line: &ScriptLine) -> Result<(), WantOfMemory>
+        requires tracks { Tracks self.old }
+        requires rules { KeepsRules line.now }
+        requires order { goes_with self.old.lines line.now ≡ true }
+        ensures { OnOk result (Notes self.old line.now self.new) }
     {
         match line {
-            ScriptLine::File { path, .. } => !self.begun && !self.has_clash(path.as_bytes()),
+            ScriptLine::File { path, .. } => self.paths.add(path.replica(alloc)?),
             ScriptLine::Doc { id, .. } => {
-                !self.begun && !self.has_kept(id.number) && self.documents < DOCUMENT_LIMIT
+                self.ids.insert(id.number)?;
+                self.documents += 1;
+                Ok(())
             }
+            ScriptLine::Entry(entry) => {
+                let key = key_of(alloc, entry)?;
+                self.keys.add(key)
+            }
+            ScriptLine::Fail { .. } => Ok(()),
+            ScriptLine::Word { .. } => Ok(()),
+            ScriptLine::Now { .. } => Ok(()),
             ScriptLine::Open { seat, .. } => {
-                matches!(self.numbers[*seat as usize], Number::Unopened)
+                self.begun = true;
+                self.numbers[*seat as usize] = Number::Open;
+                Ok(())
             }
-            ScriptLine::Data { seat, .. } | ScriptLine::Close { seat } => {
-                matches!(self.numbers[*seat as usize], Number::Open)
+            ScriptLine::Data { .. } => Ok(()),
+            ScriptLine::Close { seat } => {
+                self.numbers[*seat as usize] = Number::Closed;
+                Ok(())
             }
         }
     }
 
     /// Puts the line behind those so far, with which it goes.
-    pub fn push(&mut self, line: ScriptLine) -> Result<(), WantOfMemory>
-        requires tracks { Tracks self.old.lines self.old.begun self.old.numbers.items self.old.documents }
+    pub fn push(&mut self, alloc: Global, line: ScriptLine) -> Result<(), WantOfMemory>
+        requires tracks { Tracks self.old }
         requires rules { KeepsRules line }
         requires order { goes_with self.old.lines line ≡ true }
-        ensures { OnOk result ((self.new.lines ≡ self.old.lines ++ line ∷ []) × Tracks self.new.lines self.new.begun self.new.numbers.items self.new.documents) }
+        ensures { OnOk result ((self.new.lines ≡ self.old.lines ++ line ∷ []) × Tracks self.new) }
     {
-        match &line {
-            ScriptLine::File { .. } | ScriptLine::Data { .. } => {}
-            ScriptLine::Doc { .. } => self.documents += 1,
-            ScriptLine::Open { seat, .. } => {
-                self.begun = true;
-                self.numbers[*seat as usize] = Number::Open;
-            }
-            ScriptLine::Close { seat } => self.numbers[*seat as usize] = Number::Closed,
-        }
-        self.lines.push(line)
+        self.note(alloc, &line)?;
+        self.lines.push(line)?;
+        Ok(())
     }
 }

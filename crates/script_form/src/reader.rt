@@ -1,11 +1,13 @@
 //! The reader of scripts.
 
-ghost use Rattle.std.specs.Prelude.{◌≡◌, ◌+◌, ◌≤◌, length, IfOk, MatchOption};
+ghost use Rattle.std.specs.Prelude.{◌≡◌, ◌+◌, ◌≤◌, length, IfOk, IfErr, MatchOption};
 ghost use Rattle.script_form.specs.Lines.{text_of};
-ghost use Rattle.script_form.specs.Order.{IsBuilt, IsScript, NoneStands, script_limit};
+ghost use Rattle.script_form.specs.Order.{IsRead, IsScript, NoneStands, script_limit};
+ghost use Rattle.script_form.specs.Faults.{IsRefused};
 ghost use Rattle.script_form.specs.Preceding.{Tracks};
 ghost use Rattle.script_form.specs.Next.{TakesLine};
 
+use crate::error::ScriptError;
 use crate::line::read_line;
 use crate::preceding::Preceding;
 use crate::script::Script;
@@ -13,49 +15,42 @@ use crate::words::cut;
 use portal_base::memory::WantOfMemory;
 use std::alloc::Global;
 
-/// What was read of a text: its longest front of good lines.
-#[derive(Debug, Drop)]
-pub struct BuiltScript {
-    /// The good lines.
-    pub script: Script,
-    /// The number of the first line that isn't good, counted from 1, where
-    /// there is one.
-    pub unbuilt: Option<u64>,
-}
-
-/// Reads the lines of a script of at most 67,108,864 bytes, up to the first
-/// that is of another form or breaks a rule.
-pub fn read_built(alloc: Global, text: &[u8]) -> Result<BuiltScript, WantOfMemory>
+/// Reads a script of at most 67,108,864 bytes.
+///
+/// A text is a script where it is lines of the ten forms, each with its line
+/// feed, and each keeps the rules of lines beside those before it. Else the
+/// error tells the number of the first line that doesn't.
+pub fn read_script(alloc: Global, text: &[u8]) -> Result<Script, ScriptError>
     requires { length text.now ≤ script_limit }
-    ensures { IfOk result (λ built. IsBuilt text.now built.script.lines built.unbuilt) }
+    ensures read { IfOk result (λ script. IsRead text.now script.lines) }
+    ensures refused { IfErr result (IsRefused text.now) }
 {
     let mut preceding = Preceding::new(alloc)?;
     let mut rest = text;
     while !rest.is_empty() {
         let Some(after) = read_next(alloc, &mut preceding, rest)? else {
             let number = preceding.lines.len() as u64 + 1;
-            return Ok(built(preceding, Some(number)));
+            return Err(ScriptError::AtLine(number));
         };
         rest = after;
     }
-    Ok(built(preceding, None))
+    Ok(script_of(preceding))
 }
 
-/// What was read, with the lines that were good.
-fn built(preceding: Preceding, unbuilt: Option<u64>) -> BuiltScript
-    ensures lines { result.script.lines ≡ preceding.lines }
-    ensures number { result.unbuilt ≡ unbuilt }
+/// The lines that were read.
+fn script_of(preceding: Preceding) -> Script
+    ensures { result.lines ≡ preceding.lines }
 {
     let Preceding {
         lines,
         begun: _,
         numbers: _,
         documents: _,
+        ids: _,
+        keys: _,
+        paths: _,
     } = preceding;
-    BuiltScript {
-        script: Script { lines },
-        unbuilt,
-    }
+    Script { lines }
 }
 
 /// Takes the line at the front of a text that may stand behind those so far;
@@ -65,10 +60,10 @@ fn read_next<'a>(
     preceding: &mut Preceding,
     text: &'a [u8],
 ) -> Result<Option<&'a [u8]>, WantOfMemory>
-    requires tracks { Tracks preceding.old.lines preceding.old.begun preceding.old.numbers.items preceding.old.documents }
+    requires tracks { Tracks preceding.old }
     requires good { IsScript preceding.old.lines }
     requires short { length (text_of preceding.old.lines) + length text.now ≤ script_limit }
-    ensures { IfOk result (λ after. MatchOption after ((preceding.new.lines ≡ preceding.old.lines) × NoneStands preceding.old.lines text.entry.now) (λ a. TakesLine preceding.old.lines text.entry.now preceding.new.lines a.now) × Tracks preceding.new.lines preceding.new.begun preceding.new.numbers.items preceding.new.documents) }
+    ensures { IfOk result (λ after. MatchOption after ((preceding.new.lines ≡ preceding.old.lines) × NoneStands preceding.old.lines text.entry.now) (λ a. TakesLine preceding.old.lines text.entry.now preceding.new.lines a.now) × Tracks preceding.new) }
 {
     let Some((line, after)) = cut(text, b'\n') else {
         return Ok(None);
@@ -76,9 +71,10 @@ fn read_next<'a>(
     let Some(line) = read_line(alloc, line)? else {
         return Ok(None);
     };
-    if !preceding.allows(&line) {
+    let allowed = preceding.allows(alloc, &line)?;
+    if !allowed {
         return Ok(None);
     }
-    preceding.push(line)?;
+    preceding.push(alloc, line)?;
     Ok(Some(after))
 }

@@ -4,7 +4,16 @@ use portal_base::list::{ByteList, List};
 use portal_base::names::doc_id::DocId;
 use portal_base::names::host_path::HostPath;
 use portal_base::who::{Kind, Who};
-use portal_model::records::GrantRecord;
+use portal_model::records::{EntryRecord, GrantRecord};
+
+/// A device of which a call may fail.
+#[derive(Clone, Copy, Debug, PartialEq, Eq)]
+pub enum Device {
+    /// The tree of files.
+    Tree,
+    /// The keeper of records.
+    Keeper,
+}
 
 /// One line of a script.
 #[derive(Debug, Drop)]
@@ -26,6 +35,27 @@ pub enum ScriptLine {
         path: HostPath,
         /// The rights in it, in byte order of the applications' names.
         grants: List<GrantRecord>,
+    },
+    /// `entry TABLE ID HEX ROWS`: a kept entry of the permission store.
+    Entry(EntryRecord),
+    /// `fail tree K`, `fail keeper K`: a call that fails.
+    Fail {
+        /// The device.
+        device: Device,
+        /// The number of the call, from 1: of all calls of the tree, or of
+        /// those of the keeper that change records.
+        call: u64,
+    },
+    /// `word HEX`: the next of the words that new documents draw their numbers
+    /// from.
+    Word {
+        /// The word.
+        word: u32,
+    },
+    /// `now N`: the clock is set.
+    Now {
+        /// The time that it shows from then on, in seconds.
+        moment: u64,
     },
     /// `open N KIND WHO`: a connection is opened, with its seat.
     Open {

@@ -1,5 +1,5 @@
 use Rattle.std.proofs.Common.{refl}
-use Rattle.script_form.specs.declared.script.ScriptLine.TheVariants.{File, Doc}
+use Rattle.script_form.specs.declared.script.ScriptLine.TheVariants.{File, Doc, Now}
 use Rattle.docportal.proofs.RunLine.{opening_runs}
 use Rattle.docportal.proofs.line.run_line.Goals as goal
 
@@ -8,3 +8,6 @@ returns-in-File-clause-ok g c = opening_runs c.args.portal.now c.args.connection
 
 pub returns-in-Doc-clause-ok : goal.returns-in-Doc-clause-ok
 returns-in-Doc-clause-ok g c = opening_runs c.args.portal.now c.args.connections.now c.args.line.now (Doc c.in-Doc.id c.in-Doc.reusable c.in-Doc.path c.in-Doc.grants) _ c.in-Doc.is (λ a. (refl, refl, refl))
+
+pub returns-in-Now-clause-ok : goal.returns-in-Now-clause-ok
+returns-in-Now-clause-ok g c = opening_runs c.args.portal.now c.args.connections.now c.args.line.now (Now c.in-Now.moment) _ c.in-Now.is (λ a. (refl, refl, refl))

@@ -1,8 +1,9 @@
-use Rattle.std.proofs.Common.{◌≡◌, false, arith}
-use Rattle.docportal.proofs.Running.{false_not, ran_unknown}
+use Rattle.std.proofs.Common.{inl, inr}
+use Rattle.docportal.proofs.Running.{ran_unbuilt}
 use Rattle.docportal.proofs.run.run.Goals as goal
 
-pub returns-then-not-is_replay-clause-ran : goal.returns-then-not-is_replay-clause-ran
-returns-then-not-is_replay-clause-ran g c =
-    let no : c.is_replay.result ≡ false = grind arith in
-    ran_unknown _ _ _ (λ e. false_not c.is_replay.result no (c.is_replay.ensures.1 e))
+pub returns-in-Some-Worlds-clause-ran : goal.returns-in-Some-Worlds-clause-ran
+returns-in-Some-Worlds-clause-ran g c = ran_unbuilt c.args.words.now _ _ (inl (rw c.in-Some-Worlds.field-0-is at c.in-Some-Worlds.ensures))
+
+pub returns-in-Some-Generate-clause-ran : goal.returns-in-Some-Generate-clause-ran
+returns-in-Some-Generate-clause-ran g c = ran_unbuilt c.args.words.now _ _ (inr (rw c.in-Some-Generate.field-0-is at c.in-Some-Generate.ensures))

@@ -2,7 +2,6 @@ use Rattle.std.proofs.Common.{◌≡◌, ℕ, ◌+◌, ◌≤◌, length}
 use Rattle.std.specs.Vec.{vec_len, vec_capacity}
 use Rattle.std.specs.Vec.Iter.{into_iter_items, into_iter_len}
 use Rattle.portal_model.specs.RecordChanges.{changed_by}
-use Rattle.portal_model.specs.declared.records.Records.{Records}
 use Rattle.record_keeper.proofs.changes.make_all.Given as goal
 
 -- the changes to come make of the records what all make of the first ones, and there is room for them

@@ -1,4 +1,4 @@
-use Rattle.std.proofs.Common.{◌≡◌, Some, None, sym, ap, ◌∙◌, List}
+use Rattle.std.proofs.Common.{ap, ◌∙◌, List}
 use Rattle.std.specs.List.{position}
 use Rattle.portal_model.specs.RecordChanges.{is_numbered}
 use Rattle.portal_model.specs.declared.records.DocRecord.{DocRecord}

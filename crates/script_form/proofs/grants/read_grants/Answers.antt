@@ -1,6 +1,6 @@
 use Rattle.std.proofs.Common.{◌≡◌, ◌≢◌, ◌∷◌, [], sym, ◌∙◌, ap, map}
 use Rattle.std.proofs.lemmas.List.Elements.{All-push}
-use Rattle.script_form.specs.Lines.{IsGrant}
+use Rattle.record_keeper.specs.SoundRecords.{IsGrant}
 use Rattle.script_form.proofs.GrantFacts.{pieces_go, pieces_more, pieces_done, rising_next, grant_same, not_rising, rises_more}
 use Rattle.script_form.proofs.WordFacts.{differ}
 use Rattle.script_form.proofs.grants.read_grants.Goals as goal

@@ -1,6 +1,7 @@
 use Rattle.std.proofs.Common.{◌≡◌, map, take}
 use Rattle.std.specs.List.{All}
-use Rattle.script_form.specs.Lines.{grant_text, IsGrant, IsRising}
+use Rattle.record_keeper.specs.SoundRecords.{IsGrant, IsRising}
+use Rattle.script_form.specs.Lines.{grant_text}
 use Rattle.script_form.proofs.grants.read_grants.Given as goal
 
 -- the grants so far are those of the pieces so far

@@ -1,4 +1,4 @@
-use Rattle.script_form.proofs.LineFacts.{doc_line, doc_cut, doc_cut_flags, doc_cut_path, no_id, no_flags, no_path, doc_made}
+use Rattle.script_form.proofs.LineFacts.{doc_line, doc_cut, doc_cut_flags, doc_cut_path, no_id, no_flags, no_path, doc_made, script_path}
 use Rattle.script_form.proofs.line.read_doc.Goals as goal
 
 pub returns-in_default : goal.returns-in_default
@@ -33,13 +33,13 @@ pub returns-in_default-3 : goal.returns-in_default-3
 returns-in_default-3 c = λ line rules same.
     let t = doc_line c.args.rest.now line rules same in
     let halves = doc_cut_path c.args.rest.now _ _ _ _ _ _ t c.in-Some.ensures c.in-Some-cut.ensures c.in-Some-cut-2.ensures in
-    (rw c.in_default-3.is at c.in_ok-grants.ensures) t.grants (record { each = t.rules.2; rising = t.rules.3; same = halves.1 })
+    (rw c.in_default-3.is at c.in_ok-grants.ensures) t.grants (record { each = t.rules.2.grants; rising = t.rules.2.rising; same = halves.1 })
 
 pub returns : goal.returns
 returns c =
     let id = c.in-Some-read_id.ensures in
     let path = rw c.in-Some-2.is at c.in_ok-path.ensures in
     let grants = rw c.in-Some-3.is at c.in_ok-grants.ensures in (
-      (id.0, rw path.0 path.1, grants.each, grants.rising),
+      (id.0, rw path.0 path.1, record { path = rw path.0 (script_path _ path.1); grants = grants.each; rising = grants.rising }),
       doc_made c.args.rest.now _ _ _ _ _ _ _ _ _ _ c.in-Some.ensures c.in-Some-cut.ensures c.in-Some-cut-2.ensures id.1 c.in-Some-read_flags.ensures path.0 grants.same,
     )

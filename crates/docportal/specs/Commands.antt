@@ -1,0 +1,32 @@
+-- The words of the program.
+use Rattle.std.specs.Prelude.{◌≡◌, ◌⊎◌, ℕ, ◌≤◌, true, List, [], ◌∷◌, Option, MatchOption, codes}
+use Rattle.std.specs.Fmt.{decimal}
+use Rattle.portal_base.specs.Names.{is_app_name}
+use Rattle.docportal.specs.declared.command.Command.{Command}
+use Rattle.docportal.specs.declared.command.Command.TheVariants.{Replay, Worlds, Generate}
+
+-- the one word of a replay
+abbrev pub replay_words : List (List ℕ)
+replay_words = codes "replay" ∷ []
+
+-- the word is a number from 1 to 100,000, in decimal digits without leading zeros
+abbrev pub IsCount : List ℕ → Type 0
+IsCount word = (n : ℕ) × (word ≡ decimal n) × (1 ≤ n) × (n ≤ 100000)
+
+-- the words ask for this command: "replay", "worlds" and an application's name, or "generate" and a count
+abbrev pub IsCommand : List (List ℕ) → Command → Type 0
+IsCommand words Replay = words ≡ replay_words
+IsCommand words Worlds = (app : List ℕ) × (words ≡ codes "worlds" ∷ app ∷ []) × (is_app_name app ≡ true)
+IsCommand words Generate = (count : List ℕ) × (words ≡ codes "generate" ∷ count ∷ []) × IsCount count
+
+-- they ask for none
+abbrev pub IsNoCommand : List (List ℕ) → Type 0
+IsNoCommand words = (command : Command) → IsCommand words command → ⊥
+
+-- they ask for one that isn't built
+abbrev pub IsUnbuiltCommand : List (List ℕ) → Type 0
+IsUnbuiltCommand words = IsCommand words Worlds ⊎ IsCommand words Generate
+
+-- what was read of the words
+abbrev pub ReadsCommand : List (List ℕ) → Option Command → Type 0
+ReadsCommand words read = MatchOption read (IsNoCommand words) (IsCommand words)

@@ -1,0 +1,110 @@
+-- Which records may be kept: what each of them keeps by itself.
+-- The terms are those of the documentation of org.freedesktop.impl.portal.PermissionStore, where an entry is of a table and an identifier.
+use Rattle.std.specs.Prelude.{◌≡◌, ℕ, ◌+◌, ◌≤◌, false, true, Bool, List, [], ◌∷◌, length, map, codes, All}
+use Rattle.std.specs.List.{list_any}
+use Rattle.std.specs.Cmp.Lexicographic.{slice_cmp}
+use Rattle.std.specs.Ordering.{nat_cmp}
+use Rattle.std.specs.declared.cmp.Ordering.TheVariants.{Less}
+use Rattle.dbus_types.specs.declared.types.Endian.TheVariants.{Little}
+use Rattle.dbus_types.specs.declared.types.WireType.TheVariants as W
+use Rattle.dbus_types.specs.declared.types.Value.{Value, fold-Value}
+use Rattle.dbus_types.specs.declared.types.Value.TheVariants as V
+use Rattle.dbus_types.specs.declared.types.Value.TheOpen.{Value-F}
+use Rattle.dbus_types.specs.Spells.{Spells}
+use Rattle.dbus_types.specs.Spelling.{spelling}
+use Rattle.portal_base.specs.Names.{is_app_name, is_host_path, is_same}
+use Rattle.portal_model.specs.Valid.{is_sound_entry, is_none}
+use Rattle.portal_model.specs.declared.records.DocRecord.{DocRecord}
+use Rattle.portal_model.specs.declared.records.EntryRecord.{EntryRecord}
+use Rattle.portal_model.specs.declared.records.GrantRecord.{GrantRecord}
+use Rattle.portal_model.specs.declared.records.Row.{Row}
+
+-- each name stands behind the one before it, in the order of their bytes
+abbrev pub IsRising : List (List ℕ) → Type 0
+IsRising [] = Unit {0}
+IsRising (name ∷ []) = Unit {0}
+IsRising (name ∷ next ∷ names) = (slice_cmp nat_cmp name next ≡ Less) × IsRising (next ∷ names)
+
+-- ---- documents
+
+-- a name of an application, and at least one of the four rights
+pub record IsGrant (grant : GrantRecord) : Type 0 where
+  pub name : is_app_name grant.app ≡ true
+  pub some_right : 1 ≤ grant.rights
+  pub no_other : grant.rights ≤ 15
+
+-- a path on the host, and the rights of applications whose names rise
+pub record IsSoundDocument (document : DocRecord) : Type 0 where
+  pub path : is_host_path document.path ≡ true
+  pub grants : All IsGrant document.grants
+  pub rising : IsRising (map (λ grant. grant.app) document.grants)
+
+-- ---- data
+
+abbrev pub handle_step : Value-F Bool → Bool
+handle_step (Value-F.Handle n) = true
+handle_step (Value-F.Variant inside) = inside
+handle_step (Value-F.Array t inside) = list_any (λ b. b) inside
+handle_step (Value-F.Struct inside) = list_any (λ b. b) inside
+handle_step (Value-F.DictEntry key inside) = list_any (λ b. b) (key ∷ inside ∷ [])
+handle_step _ = false
+
+-- a value of type h stands in the value, or it is one
+abbrev pub holds_handle : Value → Bool
+holds_handle = fold-Value Bool handle_step
+
+-- the bytes are the whole spelling of a variant, with the lowest byte of each number first, and no handle is in it
+pub record IsDatum (datum : Value) (bytes : List ℕ) : Type 0 where
+  pub spelled : Spells Little 0 W.Variant datum bytes
+  pub no_handle : holds_handle datum ≡ false
+
+-- ---- entries
+
+abbrev pub texts_value : List (List ℕ) → Value
+texts_value texts = V.Array W.Str (map (λ t. V.Str t) texts)
+
+abbrev pub row_value : Row → Value
+row_value row = V.DictEntry (V.Str row.app) (texts_value row.names)
+
+-- rows as a{sas}
+abbrev pub rows_value : List Row → Value
+rows_value rows = V.Array (W.DictEntry W.Str (W.Array W.Str)) (map row_value rows)
+
+-- the values of the signal Changed(ssbva{sas}) of an entry with this data, which has not been deleted
+abbrev pub changed_value : EntryRecord → Value → Value
+changed_value entry datum = V.Struct (V.Str entry.table ∷ V.Str entry.id ∷ V.Bool false ∷ datum ∷ rows_value entry.rows ∷ [])
+
+-- How many bytes the header of this signal has: 12 of fixed fields, 4 of the length of the array of header
+-- fields, which go from 16 to 160: PATH /org/freedesktop/impl/portal/PermissionStore to 69, INTERFACE
+-- org.freedesktop.impl.portal.PermissionStore from 72 to 124, MEMBER Changed from 128 to 144, SIGNATURE
+-- ssbva{sas} to 160. D-Bus Specification, "Message Format".
+abbrev pub changed_header : ℕ
+changed_header = 160
+
+-- how many bytes the message of this signal has
+abbrev pub changed_length : EntryRecord → Value → ℕ
+changed_length entry datum = changed_header + length (spelling Little 0 (changed_value entry datum))
+
+-- the longest message of a connection, in bytes
+abbrev pub message_limit : ℕ
+message_limit = 16777216
+
+-- the data of an entry, with which the signal that tells of the entry is no longer than a message may be
+pub record HasDatum (entry : EntryRecord) (datum : Value) : Type 0 where
+  pub is : IsDatum datum entry.datum
+  pub told : changed_length entry datum ≤ message_limit
+
+-- the table that is the portal's own
+abbrev pub own_table : List ℕ
+own_table = codes "documents"
+
+abbrev pub is_empty_row : Row → Bool
+is_empty_row row = is_none row.names
+
+-- texts without zero bytes, rows in the order of their applications' keys and none of them empty, and data
+pub record IsSoundEntry (entry : EntryRecord) : Type 0 where
+  pub texts : is_sound_entry entry ≡ true
+  pub table : is_same entry.table own_table ≡ false
+  pub some : list_any is_empty_row entry.rows ≡ false
+  pub rising : IsRising (map (λ row. row.app) entry.rows)
+  pub datum : (datum : Value) × HasDatum entry datum

@@ -1,0 +1,193 @@
+//! Which records may be kept.
+
+ghost use Rattle.std.specs.Prelude.{◌≡◌, ◌≤◌, ◌↔◌, IfOk, IsTrue, length, map, codes};
+ghost use Rattle.std.specs.List.{list_any, list_all};
+ghost use Rattle.dbus_types.specs.declared.types.Endian.TheVariants.{Little};
+ghost use Rattle.dbus_types.specs.declared.types.Value.{Value as Value'};
+ghost use Rattle.dbus_types.specs.Spelling.{spelling};
+ghost use Rattle.portal_base.specs.Names.{is_same};
+ghost use Rattle.portal_model.specs.Valid.{is_sound_entry as has_texts, has_texts as row_has_texts, is_text as is_text_of};
+ghost use Rattle.record_keeper.specs.SoundRecords.{IsRising, IsSoundEntry, HasDatum, own_table, is_empty_row as is_empty, changed_value as value_of_change, rows_value as value_of_rows, row_value as value_of_row, texts_value as value_of_texts};
+
+use crate::datum::read_datum;
+use dbus_marshal::write::{one_spelling, write_value};
+use dbus_types::types::{Value, WireType};
+use portal_base::boxed::Boxed;
+use portal_base::list::List;
+use portal_base::memory::{Replica, WantOfMemory};
+use portal_base::text::Text;
+use portal_model::records::{EntryRecord, Row};
+use std::alloc::Global;
+use std::cmp::Ordering;
+
+/// The longest body of a Changed signal, in bytes: 160 bytes of its message
+/// stand ahead of the body, and a message has at most 16,777,216.
+const LONGEST_BODY: usize = 16_777_056;
+
+/// Whether an entry may be kept, as far as that depends on it alone: its texts
+/// have no zero byte, its table isn't `documents`, its rows stand in rising
+/// byte order of their applications' keys and none is empty, its data is the
+/// whole spelling of a variant without a handle, and the message that tells of
+/// it is no longer than 16,777,216 bytes.
+pub fn is_sound_entry(alloc: Global, entry: &EntryRecord) -> Result<bool, WantOfMemory>
+    ensures { IfOk result (λ sound. IsTrue sound ↔ IsSoundEntry entry.now) }
+{
+    if !has_sound_texts(entry) || entry.table.as_bytes() == b"documents".as_slice() {
+        return Ok(false);
+    }
+    let rows = entry.rows.as_slice();
+    if has_empty_row(rows) || !keys_rise(rows) {
+        return Ok(false);
+    }
+    has_datum(alloc, entry)
+}
+
+/// Whether a text has no zero byte.
+fn is_text(text: &[u8]) -> bool
+    ensures { result ≡ is_text_of text.now }
+{
+    text.iter().all(|byte| *byte != 0)
+}
+
+/// Whether none of the texts has a zero byte.
+fn are_texts(texts: &[Text]) -> bool
+    ensures { result ≡ list_all is_text_of texts.now }
+{
+    texts.iter().all(|text| is_text(text.as_bytes()))
+}
+
+/// Whether no text of a row has a zero byte.
+fn has_sound_row(row: &Row) -> bool
+    ensures { result ≡ row_has_texts row.now }
+{
+    is_text(row.app.as_bytes()) && are_texts(row.names.as_slice())
+}
+
+/// Whether no text of the rows has a zero byte.
+fn have_sound_rows(rows: &[Row]) -> bool
+    ensures { result ≡ list_all row_has_texts rows.now }
+{
+    rows.iter().all(|row| has_sound_row(row))
+}
+
+/// Whether no text of an entry has a zero byte.
+fn has_sound_texts(entry: &EntryRecord) -> bool
+    ensures { result ≡ has_texts entry.now }
+{
+    is_text(entry.table.as_bytes())
+        && is_text(entry.id.as_bytes())
+        && have_sound_rows(entry.rows.as_slice())
+}
+
+/// Whether a row has no permission.
+fn is_empty_row(row: &Row) -> bool
+    ensures { result ≡ is_empty row.now }
+{
+    match row.names.as_slice() {
+        [] => true,
+        [_, ..] => false,
+    }
+}
+
+/// Whether one of the rows has no permission.
+fn has_empty_row(rows: &[Row]) -> bool
+    ensures { result ≡ list_any is_empty rows.now }
+{
+    rows.iter().any(|row| is_empty_row(row))
+}
+
+/// Whether each row's key stands behind the one before it, in byte order.
+fn keys_rise(rows: &[Row]) -> bool
+    ensures { IsTrue result ↔ IsRising (map (λ row. row.app) rows.now) }
+{
+    let mut at = 1;
+    while at < rows.len() {
+        if !matches!(
+            rows[at - 1].app.as_bytes().cmp(rows[at].app.as_bytes()),
+            Ordering::Less
+        ) {
+            return false;
+        }
+        at += 1;
+    }
+    true
+}
+
+/// Whether an entry has data, with which the message that tells of the entry
+/// is short enough.
+fn has_datum(alloc: Global, entry: &EntryRecord) -> Result<bool, WantOfMemory>
+    ensures { IfOk result (λ has. IsTrue has ↔ ((datum : Value') × HasDatum entry.now datum)) }
+{
+    let Some(datum) = read_datum(alloc, entry.datum.as_slice())? else {
+        return Ok(false);
+    };
+    one_spelling();
+    Ok(body_length(alloc, entry, datum)? <= LONGEST_BODY)
+}
+
+/// How long the body of the Changed signal of an entry is.
+fn body_length(alloc: Global, entry: &EntryRecord, datum: Value) -> Result<usize, WantOfMemory>
+    ensures { IfOk result (λ bytes. bytes ≡ length (spelling Little 0 (value_of_change entry.now datum))) }
+{
+    let value = changed_value(alloc, entry, datum)?;
+    let mut body = List::new(alloc);
+    write_value(&mut body, &value)?;
+    Ok(body.len())
+}
+
+/// The values of the Changed signal of an entry.
+fn changed_value(alloc: Global, entry: &EntryRecord, datum: Value) -> Result<Value, WantOfMemory>
+    ensures { IfOk result (λ value. value ≡ value_of_change entry.now datum) }
+{
+    let mut values = List::new(alloc);
+    values.push(Value::Str(entry.table.replica(alloc)?))?;
+    values.push(Value::Str(entry.id.replica(alloc)?))?;
+    values.push(Value::Bool(false))?;
+    values.push(datum)?;
+    values.push(rows_value(alloc, entry.rows.as_slice())?)?;
+    Ok(Value::Struct(values))
+}
+
+/// Rows as a value of type `a{sas}`.
+fn rows_value(alloc: Global, rows: &[Row]) -> Result<Value, WantOfMemory>
+    ensures { IfOk result (λ value. value ≡ value_of_rows rows.now) }
+{
+    let mut items = List::new(alloc);
+    for row in rows {
+        items.push(row_value(alloc, row)?)?;
+    }
+    let names = WireType::Array(Boxed::new(alloc, WireType::Str)?);
+    let entry = WireType::DictEntry {
+        key: Boxed::new(alloc, WireType::Str)?,
+        value: Boxed::new(alloc, names)?,
+    };
+    Ok(Value::Array {
+        element: entry,
+        items,
+    })
+}
+
+fn row_value(alloc: Global, row: &Row) -> Result<Value, WantOfMemory>
+    ensures { IfOk result (λ value. value ≡ value_of_row row.now) }
+{
+    let key = Value::Str(row.app.replica(alloc)?);
+    let value = texts_value(alloc, row.names.as_slice())?;
+    Ok(Value::DictEntry {
+        key: Boxed::new(alloc, key)?,
+        value: Boxed::new(alloc, value)?,
+    })
+}
+
+/// Texts as a value of type `as`.
+fn texts_value(alloc: Global, texts: &[Text]) -> Result<Value, WantOfMemory>
+    ensures { IfOk result (λ value. value ≡ value_of_texts texts.now) }
+{
+    let mut items = List::new(alloc);
+    for text in texts {
+        items.push(Value::Str(text.replica(alloc)?))?;
+    }
+    Ok(Value::Array {
+        element: WireType::Str,
+        items,
+    })
+}
