@@ -12,4 +12,4 @@ no_count_of word n fits same out is =
     let low = is.2 in
     let high = is.3 in
     let this : n ≡ is.0 = decimal_injective n is.0 fits (omega arith) (sym same ∙ is.1) in
-    elim out [ | inl none ↦ absurd (omega arith) | inr much ↦ absurd (omega arith) ]
+    elim out [ inl none ↦ absurd (omega arith) | inr much ↦ absurd (omega arith) ]

@@ -86,13 +86,7 @@ fn replay_script<K: Sink>(alloc: Global, script: &Script, sink: &mut K) -> Statu
     let Ok(settings) = settings(alloc) else {
         return Status::Memory;
     };
-    match run_lines(
-        alloc,
-        &mut portal,
-        &settings,
-        script.lines.as_slice(),
-        sink,
-    ) {
+    match run_lines(alloc, &mut portal, &settings, script.lines.as_slice(), sink) {
         Ok(()) => Status::Done,
         Err(status) => status,
     }

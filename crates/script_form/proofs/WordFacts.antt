@@ -249,7 +249,7 @@ no_seat_of word n fits same out seat is =
     let low = is.low in
     let high = is.high in
     let this : n ≡ seat = decimal_injective n seat fits (omega arith) (sym same ∙ is.same) in
-    elim out [ | inl none ↦ absurd (omega arith) | inr much ↦ absurd (omega arith) ]
+    elim out [ inl none ↦ absurd (omega arith) | inr much ↦ absurd (omega arith) ]
 
 pub no_seat_text : (word : List ℕ) → ((n : ℕ) → n < 2 ^ 64 → word ≢ decimal n) → (seat : ℕ) → IsSeat word seat → ⊥
 no_seat_text word none seat is = let high = is.high in none seat (omega arith) is.same

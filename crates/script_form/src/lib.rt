@@ -21,4 +21,3 @@ pub mod script;
 mod words;
 
 pub use words::read_number;
-

@@ -61,9 +61,7 @@ impl PathSet {
     fn has_above(&self, path: &HostPath) -> bool
         ensures { result ≡ list_any (λ other. is_above other path.now) self.now }
     {
-        let mut ahead = self
-            .paths
-            .range((Bound::Unbounded, Bound::Excluded(path)));
+        let mut ahead = self.paths.range((Bound::Unbounded, Bound::Excluded(path)));
         match ahead.next_back() {
             Some(last) => lies_above(last.as_bytes(), path.as_bytes()),
             None => false,
@@ -74,9 +72,7 @@ impl PathSet {
     fn has_below(&self, path: &HostPath) -> bool
         ensures { result ≡ list_any (is_above path.now) self.now }
     {
-        let mut behind = self
-            .paths
-            .range((Bound::Excluded(path), Bound::Unbounded));
+        let mut behind = self.paths.range((Bound::Excluded(path), Bound::Unbounded));
         match behind.next() {
             Some(first) => lies_above(path.as_bytes(), first.as_bytes()),
             None => false,

@@ -52,12 +52,12 @@ returns c =
     c.sound_entry.ensures
     (record { table = rw table.0 table.1; id = rw id.0 id.1; bytes = bytes.0; rows = rows.each })
     (λ t.
-        let one = entry_cut c.args.rest.now _ _ t c.in-Some.ensures in
-        let two = entry_cut_id c.args.rest.now _ _ _ _ t c.in-Some.ensures c.in-Some-cut.ensures in
-        let three = entry_cut_datum c.args.rest.now _ _ _ _ _ _ t c.in-Some.ensures c.in-Some-cut.ensures c.in-Some-cut-2.ensures in
-        let tables = sym one.0 ∙ sym table.0 in
-        let ids = sym two.0 ∙ sym id.0 in
-        let same = hex_same t.entry.datum c.in-Some-4.datum t.rules.0.bytes bytes.0 (sym three.0 ∙ bytes.1) in
-        let all = rows_same t.entry.rows c.in-Some-5.rows t.rules.0.rows rows.each (sym three.1 ∙ rows.same) in
-        λ i. record { table = tables i; id = ids i; datum = same i; rows = all i })
+    let one = entry_cut c.args.rest.now _ _ t c.in-Some.ensures in
+    let two = entry_cut_id c.args.rest.now _ _ _ _ t c.in-Some.ensures c.in-Some-cut.ensures in
+    let three = entry_cut_datum c.args.rest.now _ _ _ _ _ _ t c.in-Some.ensures c.in-Some-cut.ensures c.in-Some-cut-2.ensures in
+    let tables = sym one.0 ∙ sym table.0 in
+    let ids = sym two.0 ∙ sym id.0 in
+    let same = hex_same t.entry.datum c.in-Some-4.datum t.rules.0.bytes bytes.0 (sym three.0 ∙ bytes.1) in
+    let all = rows_same t.entry.rows c.in-Some-5.rows t.rules.0.rows rows.each (sym three.1 ∙ rows.same) in
+    λ i. record { table = tables i; id = ids i; datum = same i; rows = all i })
     (entry_made c.args.rest.now _ _ _ _ _ _ _ c.in-Some.ensures c.in-Some-cut.ensures c.in-Some-cut-2.ensures table.0 id.0 bytes.1 rows.same)

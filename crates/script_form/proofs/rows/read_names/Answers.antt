@@ -9,7 +9,7 @@ pub returns-in_default : goal.returns-in_default
 returns-in_default c = λ names are.
     let split = ap (map (λ p. p.now)) c.as_slice-piece-items.ensures.value ∙ c.in_ok-pieces.ensures in
     let goes = pieces_go 43 itself IsName name_plus name_one c.args.word.now _ _ c.loop-piece.names c.loop-piece.piece-index names split c.loop-piece.invariant.same
-        c.loop-piece-test.true c.loop-piece.invariant.each are.each are.some (are.same ∙ ap (join_with_byte 43) (sym (themselves names))) in
+    c.loop-piece-test.true c.loop-piece.invariant.each are.each are.some (are.same ∙ ap (join_with_byte 43) (sym (themselves names))) in
     let none = rw c.in_default.is at c.in_ok-name.ensures in
     no_piece _ goes.next none goes.text_is goes.is
 

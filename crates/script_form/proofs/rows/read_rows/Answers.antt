@@ -12,7 +12,7 @@ returns-in_default c = λ rows are.
     let split = ap (map (λ p. p.now)) c.as_slice-piece-items.ensures.value ∙ c.in_ok-pieces.ensures in
     let is = rows_of_word c.args.word.now rows other are.same in
     let goes = pieces_go 44 row_text IsNamedRow row_comma row_same c.args.word.now _ _ c.loop-piece.rows c.loop-piece.piece-index rows split c.loop-piece.invariant.same
-        c.loop-piece-test.true c.loop-piece.invariant.each are.each is.0 is.1 in
+    c.loop-piece-test.true c.loop-piece.invariant.each are.each is.0 is.1 in
     (rw c.in_default.is at c.in_ok-row.ensures) goes.next goes.is goes.text_is
 
 pub loop-piece-preserved : goal.loop-piece-preserved
