@@ -11,6 +11,7 @@ use crate::error_name::ErrorName;
 use crate::method::Method;
 use crate::properties::{dictionary, interface_in, value_in, variant};
 use dbus_types::message::{Message, OutMessage};
+use dbus_types::shared::Shared;
 use dbus_types::types::{Value, WireType};
 use portal_base::limits::Settings;
 use portal_base::list::List;
@@ -128,7 +129,7 @@ fn closed_bytes(alloc: Global, bytes: &[u8]) -> Result<Value, WantOfMemory>
     }
     items.push(Value::Byte(0))?;
     Ok(Value::Array {
-        element: WireType::Byte,
+        element: Shared::new(alloc, WireType::Byte)?,
         items,
     })
 }

@@ -11,6 +11,7 @@ ghost use Rattle.dbus_dispatch.specs.Properties.{text_of, texts, value_in, inter
 use crate::error_name::ErrorName;
 use crate::interface::{Interface, interface_named};
 use crate::object::Object;
+use dbus_types::shared::Shared;
 use dbus_types::types::{Value, WireType};
 use portal_base::boxed::Boxed;
 use portal_base::list::List;
@@ -77,6 +78,7 @@ pub fn dictionary(alloc: Global, interface: Interface) -> Result<Value, WantOfMe
         key: Boxed::new(alloc, WireType::Str)?,
         value: Boxed::new(alloc, WireType::Variant)?,
     };
+    let element = Shared::new(alloc, element)?;
     Ok(Value::Array { element, items })
 }
 

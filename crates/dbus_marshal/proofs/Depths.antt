@@ -49,6 +49,9 @@ unfolding reads
 reads_more zero e t at bytes h = absurd (h refl)
 reads_more (suc n) e t at bytes h = let k : suc n - 1 ≡ n = omega arith in rw k refl
 
+pub out_byte : out-WireType W.Byte ≡ WireType-F.Byte
+out_byte = search the_lemmas
+
 out_array : (t : WireType) → out-WireType (W.Array t) ≡ WireType-F.Array t
 out_array t = search the_lemmas
 

@@ -12,7 +12,7 @@ use Rattle.dbus_types.specs.declared.types.Value.{Value}
 use Rattle.dbus_types.specs.declared.types.Value.TheVariants as V
 use Rattle.dbus_types.specs.declared.errors.SignatureError.{SignatureError}
 use Rattle.dbus_types.specs.declared.errors.SignatureError.TheVariants as Stop
-use Rattle.dbus_types.specs.Reading.{whole_at, single_at}
+use Rattle.dbus_types.specs.Reading.{whole_at, single_at, passed}
 use Rattle.dbus_types.specs.Types.{alignment, type_text, IsVariantType, IsSignature}
 use Rattle.dbus_types.specs.Values.{IsText, IsSignatureText}
 use Rattle.dbus_types.proofs.Whole.{short_reading, stops_no_memory}
@@ -22,7 +22,7 @@ use Rattle.dbus_marshal.specs.declared.error.ReadError.{ReadError}
 use Rattle.dbus_marshal.specs.declared.error.ReadError.TheVariants.{BadBool, BadText, TooLong, BadSignature, TooDeep}
 use Rattle.dbus_types.specs.Spells.{IsPath, Elements, NoneInside, SpellsWithin}
 use Rattle.dbus_marshal.specs.Breaks.{Break, Never, Ends, Behind, AlignedBreaks, BytesBreak, ZeroBreaks, BoolBreaks, TextBreaks, IsNoSignature, IsNoType, SignatureBreaks, VariantBreaks, MembersBreak, array_error, ElementsBreak, ArrayBreaks, RowBreaks, TooDeepInside, BreaksWithin}
-use Rattle.dbus_marshal.specs.Reads.{◌>>=◌, Read, moved, types_in, type_in, padded, number_at, ended, is_text, is_path_text, ended_with, text_at, numbered, texted, signature_with, signature_at, members, joined, elements, listed, within_array, fixed, flat, layer, reads}
+use Rattle.dbus_marshal.specs.Reads.{◌>>=◌, Read, moved, checked_in, type_in, padded, number_at, ended, is_text, is_path_text, ended_with, text_at, numbered, texted, signature_with, signature_at, members, joined, elements, listed, within_array, fixed, flat, layer, reads}
 use Rattle.dbus_marshal.proofs.Took.{Wide, two, four, eight, width, size, IsBytes, bytes_after, Took}
 use Rattle.dbus_marshal.proofs.Plain.{signature_text}
 use Rattle.dbus_marshal.proofs.Words.{text_is, is_text_of, path_is, is_path_of}
@@ -39,33 +39,33 @@ fail_exact {X = X} e d = ((λ eq. sym (err_is {A = X} e d eq)), (λ h. ap (faile
 
 -- ---- signatures
 
-types_halt : (at : ℕ) (text : List ℕ) → length text ≤ 255 → (d : ReadError) → types_in at text ≡ Err d → IsNoSignature text at d
-unfolding types_in
+types_halt : (at : ℕ) (text : List ℕ) → length text ≤ 255 → (d : ReadError) → checked_in at text ≡ Err d → IsNoSignature text at d
+unfolding checked_in
 types_halt at text short d eq = go (whole_at 32 32 text) refl eq
   where
-    go : (r : Result (List WireType) SignatureError) → whole_at 32 32 text ≡ r → moved at r ≡ Err d → IsNoSignature text at d
-    go (Ok ts) is eq = not_ok ts d eq
-    go (Err (Stop.BadSignature k)) is eq = inl (k, short_reading text (Err (Stop.BadSignature k)) short is, sym (err_is {A = List WireType} (BadSignature (at + k)) d eq))
-    go (Err (Stop.TooDeep k)) is eq = inr (k, short_reading text (Err (Stop.TooDeep k)) short is, sym (err_is {A = List WireType} (TooDeep (at + k)) d eq))
+    go : (r : Result (List WireType) SignatureError) → whole_at 32 32 text ≡ r → moved at (passed r) ≡ Err d → IsNoSignature text at d
+    go (Ok ts) is eq = not_ok tt d eq
+    go (Err (Stop.BadSignature k)) is eq = inl (k, short_reading text (Err (Stop.BadSignature k)) short is, sym (err_is {A = Unit {0}} (BadSignature (at + k)) d eq))
+    go (Err (Stop.TooDeep k)) is eq = inr (k, short_reading text (Err (Stop.TooDeep k)) short is, sym (err_is {A = Unit {0}} (TooDeep (at + k)) d eq))
     go (Err Stop.Memory) is eq = absurd (stops_no_memory text Stop.Memory is refl)
 
-types_back : (at : ℕ) (text : List ℕ) → length text ≤ 255 → (d : ReadError) → IsNoSignature text at d → types_in at text ≡ Err d
-unfolding types_in
+types_back : (at : ℕ) (text : List ℕ) → length text ≤ 255 → (d : ReadError) → IsNoSignature text at d → checked_in at text ≡ Err d
+unfolding checked_in
 types_back at text short d h = elim h [
-  | inl k ↦ ap (moved at) (reading_stops text short (Stop.BadSignature k.0) k.1) ∙ ap (failed (List WireType)) (sym k.2)
-  | inr k ↦ ap (moved at) (reading_stops text short (Stop.TooDeep k.0) k.1) ∙ ap (failed (List WireType)) (sym k.2)
+  | inl k ↦ ap (λ (r : Result (List WireType) SignatureError). moved at (passed r)) (reading_stops text short (Stop.BadSignature k.0) k.1) ∙ ap (failed (Unit {0})) (sym k.2)
+  | inr k ↦ ap (λ (r : Result (List WireType) SignatureError). moved at (passed r)) (reading_stops text short (Stop.TooDeep k.0) k.1) ∙ ap (failed (Unit {0})) (sym k.2)
 ]
 
-types_exact : {X : Type 0} (at : ℕ) (text : List ℕ) → length text ≤ 255 → (f : List WireType → Result X ReadError) (D : ReadError → Type 0) → ((ts : List WireType) → IsSignature ts text → Exact (f ts) D)
-    → Exact (types_in at text >>= f) (λ d. IsNoSignature text at d ⊎ (IsSignatureText text × D d))
+types_exact : {X : Type 0} (at : ℕ) (text : List ℕ) → length text ≤ 255 → (f : Unit {0} → Result X ReadError) (D : ReadError → Type 0) → ((checked : Unit {0}) → IsSignatureText text → Exact (f checked) D)
+    → Exact (checked_in at text >>= f) (λ d. IsNoSignature text at d ⊎ (IsSignatureText text × D d))
 types_exact at text short f D inner d = (
-  through (λ d. IsNoSignature text at d ⊎ (IsSignatureText text × D d)) (types_in at text) f
+  through (λ d. IsNoSignature text at d ⊎ (IsSignatureText text × D d)) (checked_in at text) f
       (λ e eq. inl (types_halt at text short e eq))
-      (λ ts eq d stop. let is : IsSignature ts text = IfOk-at_ok (λ us. IsSignature us text) eq (types_took at text short) in inr ((ts, is), (inner ts is d).0 stop))
+      (λ checked eq d stop. let is : IsSignatureText text = IfOk-at_ok (λ (u : Unit {0}). IsSignatureText text) eq (types_took at text short) in inr (is, (inner checked is d).0 stop))
       d,
   λ h. elim h [
-    | inl z ↦ stop_is (types_in at text) f d (types_back at text short d z)
-    | inr b ↦ go_is (types_in at text) f b.0.0 (Err d) (types_again at text b.0.0 b.0.1) ((inner b.0.0 b.0.1 d).1 b.1)
+    | inl z ↦ stop_is (checked_in at text) f d (types_back at text short d z)
+    | inr b ↦ go_is (checked_in at text) f tt (Err d) (types_again at text b.0.0 b.0.1) ((inner tt b.0 d).1 b.1)
   ],
 )
 
@@ -139,8 +139,8 @@ signature_exact : (at : ℕ) (bytes : List ℕ) → IsBytes bytes → Exact (sig
 unfolding signature_at
 signature_exact at bytes fits = byte_exact at bytes _ (λ n. BytesBreak n (λ text at rest d. IsNoSignature text at d ⊎ (IsSignatureText text × ZeroBreaks (BadSignature (at + length text)) Never (at + length text) rest d))) fits (λ n rest fits lt.
     taken_exact n (at + 1) rest _ (λ text at rest d. IsNoSignature text at d ⊎ (IsSignatureText text × ZeroBreaks (BadSignature (at + length text)) Never (at + length text) rest d)) fits (λ text rest len inside fits.
-    types_exact (at + 1) text (omega (arith, len, lt)) _ (λ d. ZeroBreaks (BadSignature (at + 1 + length text)) Never (at + 1 + length text) rest d) (λ ts is.
-    let good : is_text text ≡ true = is_text_of text (signature_text text (ts, is)) in
+    types_exact (at + 1) text (omega (arith, len, lt)) _ (λ d. ZeroBreaks (BadSignature (at + 1 + length text)) Never (at + 1 + length text) rest d) (λ checked is.
+    let good : is_text text ≡ true = is_text_of text (signature_text text is) in
     subst (λ (b : Bool). Exact (cond b (signature_with text (at + 1 + n) rest) (failed (List ℕ × ℕ × List ℕ) (BadSignature (at + 1)))) (ZeroBreaks (BadSignature (at + 1 + length text)) Never (at + 1 + length text) rest)) (sym good)
     (subst (λ (k : ℕ). Exact (signature_with text (at + 1 + n) rest) (ZeroBreaks (BadSignature (at + 1 + k)) Never (at + 1 + k) rest)) (sym len) (last_exact (BadSignature (at + 1 + n)) text (at + 1 + n) rest fits)))))
 

@@ -15,7 +15,7 @@ use Rattle.dbus_marshal.specs.declared.error.ReadError.TheVariants.{BadText, Too
 use Rattle.dbus_types.specs.Types.{alignment}
 use Rattle.dbus_types.specs.Values.{IsText, IsSignatureText}
 use Rattle.dbus_types.specs.Spells.{number, gap, Aligned, IsPath, bit, Members, Elements, BoolRow, NumberRow, TextRow, ArrayRow, StructRow, EntryRow, Flat, Row, NoneInside, SpellsWithin}
-use Rattle.dbus_marshal.specs.Reads.{◌>>=◌, Read, padded, taken, numbered, number_at, byte_at, ended, truth, is_text, is_path_text, text_at, texted, types_in, type_in, signature_at, joined, members, listed, elements, within_array, fixed, flat, layer, reads}
+use Rattle.dbus_marshal.specs.Reads.{◌>>=◌, Read, padded, taken, numbered, number_at, byte_at, ended, truth, is_text, is_path_text, text_at, texted, checked_in, type_in, signature_at, joined, members, listed, elements, within_array, fixed, flat, layer, reads}
 use Rattle.dbus_marshal.proofs.Signatures.{types_took, type_took}
 use Rattle.dbus_marshal.proofs.Words.{text_is, path_is}
 use Rattle.dbus_marshal.proofs.Took.{Wide, two, four, eight, width, IsBytes, bytes_before, Took, took, Then, took_then, took_as, number_len, bind, guard, guard_then, zeros_took, taken_took, byte_took, ended_took, number_took}
@@ -79,14 +79,14 @@ signature_took at bytes fits =
     bind _ _ (byte_at at bytes) _ (byte_took at bytes fits) (λ n a.
     bind _ _ (taken n.0 n.1 n.2) _ (taken_took n.0 n.1 n.2 a.fits) (λ text b.
     let len : length text.0 ≡ n.0 = sym (ap length b.holds.0) ∙ b.holds.1 in
-    bind _ _ (types_in n.1 text.0) _ (types_took n.1 text.0 (omega (arith, len, a.holds.1))) (λ ts is.
+    bind _ _ (checked_in n.1 text.0) _ (types_took n.1 text.0 (omega (arith, len, a.holds.1))) (λ checked is.
     guard_then _ (is_text text.0) (BadSignature n.1) _ (λ good.
     bind _ _ (ended (BadSignature text.1) text.1 text.2) _ (ended_took (BadSignature text.1) text.1 text.2 b.fits) (λ last c.
     record {
       text = length text.0 ∷ (text.0 ++ 0 ∷ []);
       parts = a.parts ∙ rw (a.holds.0, b.parts, b.holds.0, c.parts, c.holds, len) (ap (λ (w : List ℕ). n.0 ∷ w) (sym (append_assoc text.0 (0 ∷ []) last.1)));
       place = omega (arith, a.place, ap length a.holds.0, b.place, b.holds.1, c.place, ap length c.holds, len, length-append text.0 (0 ∷ []));
-      holds = (text_is text.0 good, (ts, is), refl);
+      holds = (text_is text.0 good, is, refl);
       fits = c.fits;
     })))))
 

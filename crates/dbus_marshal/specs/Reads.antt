@@ -14,7 +14,7 @@ use Rattle.dbus_marshal.specs.declared.error.ReadError.TheVariants.{Short, Paddi
 use Rattle.dbus_types.specs.declared.errors.SignatureError.{SignatureError}
 use Rattle.dbus_types.specs.declared.errors.SignatureError.TheVariants as Stop
 use Rattle.dbus_types.specs.Names.{is_path}
-use Rattle.dbus_types.specs.Reading.{whole_at, single_at}
+use Rattle.dbus_types.specs.Reading.{whole_at, single_at, passed}
 use Rattle.dbus_types.specs.Types.{alignment}
 use Rattle.dbus_types.specs.Spells.{gap}
 pub use Rattle.dbus_marshal.specs.Breaks.{array_error}
@@ -86,9 +86,9 @@ moved at (Err (Stop.BadSignature k)) = Err (BadSignature (at + k))
 moved at (Err (Stop.TooDeep k)) = Err (TooDeep (at + k))
 moved at (Err Stop.Memory) = Err Memory
 
--- the types of a signature
-unfoldable pub types_in : ℕ → List ℕ → Result (List WireType) ReadError
-types_in at text = moved at (whole_at 32 32 text)
+-- whether a signature stands there, and where it goes wrong
+unfoldable pub checked_in : ℕ → List ℕ → Result (Unit {0}) ReadError
+checked_in at text = moved at (passed (whole_at 32 32 text))
 
 -- the one type of a variant's signature
 unfoldable pub type_in : ℕ → List ℕ → Result WireType ReadError
@@ -105,7 +105,7 @@ unfoldable pub signature_at : ℕ → List ℕ → Read (List ℕ)
 signature_at at bytes = do
   n ← byte_at at bytes
   text ← taken n.0 n.1 n.2
-  ts ← types_in n.1 text.0
+  checked ← checked_in n.1 text.0
   if is_text text.0 then signature_with text.0 text.1 text.2 else Err (BadSignature n.1)
 
 -- a number of a width behind padding

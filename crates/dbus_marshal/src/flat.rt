@@ -9,7 +9,7 @@ use crate::error::ReadError;
 use crate::fields::{
     byte_at, ended, has_zero, number_16, number_32, number_64, skip_padding, taken, truth,
 };
-use crate::signature::types_at;
+use crate::signature::check_at;
 use dbus_types::names::is_object_path;
 use dbus_types::types::{Endian, Value, WireType};
 use portal_base::text::Text;
@@ -125,7 +125,7 @@ fn signature_at(alloc: Global, bytes: &[u8], at: usize) -> Result<(Text, usize),
 {
     let (count, start) = byte_at(bytes, at)?;
     let (raw, end) = taken(bytes, start, count as usize)?;
-    let _types = types_at(alloc, raw, start)?;
+    check_at(raw, start)?;
     match as_text(raw) {
         Some(text) => signature_before(alloc, bytes, end, text),
         None => Err(ReadError::BadSignature { at: start }),

@@ -11,4 +11,5 @@ pub mod laws;
 mod put;
 pub mod read;
 mod signature;
+mod skip;
 pub mod write;

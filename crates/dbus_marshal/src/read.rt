@@ -2,8 +2,10 @@
 //!
 //! Source: D-Bus Specification, "Marshaling (Wire Format)".
 
-ghost use Rattle.std.specs.Prelude.{◌≡◌, ◌+◌, ◌-◌, ◌<◌, ◌≤◌, ◌^◌, ℕ, List, ◌++◌, length, take, drop, IfOk};
+ghost use Rattle.std.specs.Prelude.{◌≡◌, ◌+◌, ◌-◌, ◌<◌, ◌≤◌, ◌^◌, ℕ, List, ◌++◌, [], length, map, take, drop, IfOk, IsTrue, ◌↔◌};
 ghost use Rattle.dbus_types.specs.declared.types.Value.{Value as Value'};
+ghost use Rattle.dbus_types.specs.declared.types.Value.TheVariants as V;
+ghost use Rattle.dbus_types.specs.declared.types.WireType.TheVariants as W;
 ghost use Rattle.dbus_types.specs.declared.types.WireType.{out-WireType};
 ghost use Rattle.dbus_types.specs.declared.types.WireType.TheOpen.{WireType-F};
 ghost use Rattle.dbus_types.specs.Types.{IsValidType};
@@ -17,11 +19,13 @@ use crate::error::ReadError;
 use crate::fields::{array_error, byte_at, ended, number_32, skip_padding, taken};
 use crate::flat::read_flat;
 use crate::signature::type_at;
+use crate::skip::count_elements;
 use dbus_types::layout::alignment_of;
+use dbus_types::shared::Shared;
 use dbus_types::types::{Endian, Value, WireType};
 use portal_base::boxed::Boxed;
 use portal_base::list::List;
-use portal_base::memory::Replica;
+use portal_base::memory::WantOfMemory;
 use std::alloc::Global;
 
 /// The greatest length of an array in bytes.
@@ -50,9 +54,7 @@ fn read_within(
         return Err(ReadError::TooDeep { at });
     }
     match kind {
-        WireType::Array(element) => {
-            read_array(alloc, endian, bytes, at, element.get(), depth - 1)
-        }
+        WireType::Array(element) => read_array(alloc, endian, bytes, at, element, depth - 1),
         WireType::Struct(kinds) => {
             read_struct(alloc, endian, bytes, at, kinds.as_slice(), depth - 1)
         }
@@ -71,13 +73,14 @@ fn read_array(
     endian: Endian,
     bytes: &[u8],
     at: usize,
-    element: &WireType,
+    shared: &Shared<WireType>,
     depth: u32,
 ) -> Result<(Value, usize), ReadError>
     requires { at ≤ length bytes.now }
-    ensures read { Gives (after bytes.now) result (layer (reads depth endian) endian (WireType-F.Array element.now) at (drop at bytes.now)) }
+    ensures read { Gives (after bytes.now) result (layer (reads depth endian) endian (WireType-F.Array shared.now) at (drop at bytes.now)) }
     ensures within { IfOk result (λ r. (at < r.1) × (r.1 ≤ length bytes.now)) }
 {
+    let element = shared.get();
     let start = skip_padding(bytes, at, 4)?;
     let (count, begins) = number_32(endian, bytes, start)?;
     if LONGEST_ARRAY < count {
@@ -87,11 +90,36 @@ fn read_array(
     let (body, end) = taken(bytes, from, count as usize)?;
     match read_elements(alloc, endian, &bytes[..end], from, element, depth) {
         Ok(items) => {
-            let element = element.replica(alloc)?;
+            let element = shared.share()?;
             Ok((Value::Array { element, items }, end))
         }
         Err(error) => Err(array_error(error)),
     }
+}
+
+/// An empty list with room for so many values.
+fn room_for(alloc: Global, count: usize) -> Result<List<Value>, WantOfMemory>
+    ensures { IfOk result (λ values. values ≡ []) }
+{
+    let room = Vec::with_capacity(alloc, count)?;
+    Ok(List::from_vec(room))
+}
+
+fn is_byte(kind: &WireType) -> bool
+    ensures { IsTrue result ↔ (kind.now ≡ W.Byte) }
+{
+    matches!(kind, WireType::Byte)
+}
+
+/// The elements of an array of bytes.
+fn read_bytes(alloc: Global, bytes: &[u8]) -> Result<List<Value>, WantOfMemory>
+    ensures { IfOk result (λ items. items ≡ map (λ n. V.Byte n) bytes.now) }
+{
+    let mut items = room_for(alloc, bytes.len())?;
+    for byte in bytes {
+        items.push(Value::Byte(*byte))?;
+    }
+    Ok(items)
 }
 
 #[cycle(read)]
@@ -106,7 +134,11 @@ fn read_elements(
     requires { at ≤ length bytes.now }
     ensures read { Gives (λ items. items) result (elements (length (drop at bytes.now)) (reads depth endian element.now) at (drop at bytes.now)) }
 {
-    let mut items = List::new(alloc);
+    if depth > 0 && is_byte(element) {
+        return Ok(read_bytes(alloc, &bytes[at..])?);
+    }
+    let count = count_elements(alloc, endian, bytes, at, element, depth);
+    let mut items = room_for(alloc, count)?;
     let mut next = at;
     while next < bytes.len() {
         match read_within(alloc, endian, bytes, next, element, depth) {
@@ -155,7 +187,7 @@ fn read_members(
     ensures read { Gives (after bytes.now) result (members (reads depth endian) kinds.now at (drop at bytes.now)) }
     ensures within { IfOk result (λ r. (at + length kinds.now ≤ r.1) × (r.1 ≤ length bytes.now)) }
 {
-    let mut values = List::new(alloc);
+    let mut values = room_for(alloc, kinds.len())?;
     let mut next = at;
     for kind in kinds {
         match read_within(alloc, endian, bytes, next, kind, depth) {

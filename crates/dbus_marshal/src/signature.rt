@@ -3,8 +3,7 @@
 //! Source: D-Bus Specification, "Type System".
 
 ghost use Rattle.std.specs.Prelude.{◌≡◌, ◌+◌, ◌<◌, ◌≤◌, ◌^◌, ◌++◌, OnOk, OnErr, length, take, drop};
-ghost use Rattle.dbus_types.specs.Reading.{whole_at};
-ghost use Rattle.dbus_marshal.specs.Reads.{Gives, types_in, type_in};
+ghost use Rattle.dbus_marshal.specs.Reads.{Gives, checked_in, type_in};
 ghost use Rattle.dbus_types.specs.Types.{type_text};
 ghost use Rattle.dbus_types.specs.Values.{type_of};
 ghost use Rattle.dbus_types.specs.Spelling.{Extends, signature_body};
@@ -12,22 +11,22 @@ ghost use Rattle.dbus_types.specs.Spelling.{Extends, signature_body};
 use crate::error::ReadError;
 use crate::put::overwrite_byte;
 use dbus_types::errors::SignatureError;
-use dbus_types::signature::{read_list, read_single};
+use dbus_types::signature::{check_signature, read_single};
 use dbus_types::types::{Value, WireType};
 use dbus_types::write::put_type_of;
-use portal_base::list::{ByteList, List};
+use portal_base::list::ByteList;
 use portal_base::memory::WantOfMemory;
 use std::alloc::Global;
 
-/// The types of a signature that begins at a place.
-#[tactic(auto, unfolding(crate::specs::Reads::types_in))]
-pub(crate) fn types_at(alloc: Global, text: &[u8], at: usize) -> Result<List<WireType>, ReadError>
+/// Says whether a signature begins at a place, and where it goes wrong.
+#[tactic(auto, using(crate::proofs::Signatures::checked_ok))]
+pub(crate) fn check_at(text: &[u8], at: usize) -> Result<(), ReadError>
     requires short { length text.now ≤ 255 }
     requires place { at ≤ 2 ^ 63 }
-    ensures { Gives (λ types. types) result (types_in at text.now) }
+    ensures { Gives (λ checked. checked) result (checked_in at text.now) }
 {
-    match read_list(alloc, text) {
-        Ok(types) => Ok(types),
+    match check_signature(text) {
+        Ok(()) => Ok(()),
         Err(SignatureError::BadSignature { at: stop }) => Err(ReadError::BadSignature {
             at: at + stop as usize,
         }),
@@ -39,7 +38,7 @@ pub(crate) fn types_at(alloc: Global, text: &[u8], at: usize) -> Result<List<Wir
 }
 
 /// The one type of a variant's signature that begins at a place.
-#[tactic(auto, unfolding(crate::specs::Reads::type_in))]
+#[tactic(auto, using(crate::proofs::Signatures::single_ok))]
 pub(crate) fn type_at(alloc: Global, text: &[u8], at: usize) -> Result<WireType, ReadError>
     requires short { length text.now ≤ 255 }
     requires place { at ≤ 2 ^ 63 }

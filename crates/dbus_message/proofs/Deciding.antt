@@ -12,10 +12,11 @@ use Rattle.dbus_types.specs.declared.types.Value.{Value}
 use Rattle.dbus_types.specs.declared.types.Value.TheVariants as V
 use Rattle.dbus_types.specs.declared.message.Message.{Message}
 use Rattle.dbus_types.specs.Types.{IsSignature}
-use Rattle.dbus_marshal.specs.declared.error.ReadError.{ReadError}
-use Rattle.dbus_marshal.specs.Reads.{Read, reads, types_in}
+use Rattle.dbus_types.specs.declared.errors.SignatureError.{SignatureError}
+use Rattle.dbus_types.specs.Reading.{whole_at}
+use Rattle.dbus_types.proofs.Whole.{short_reading, whole_again}
+use Rattle.dbus_marshal.specs.Reads.{Read, reads}
 use Rattle.dbus_types.specs.Spells.{Members, Spells}
-use Rattle.dbus_marshal.proofs.Signatures.{types_again, types_took}
 use Rattle.dbus_marshal.proofs.Sound.{reads_took}
 use Rattle.dbus_marshal.proofs.Took.{IsBytes, Took, bytes_after, bytes_before}
 use Rattle.dbus_marshal.proofs.Whole.{one_spelling, reads_again}
@@ -112,17 +113,17 @@ row e (t ∷ ts) at bytes fits =
 
 -- ---- the body
 
-types_read : (text : List ℕ) (r : Result (List WireType) ReadError) → length text ≤ 255 → types_in 0 text ≡ r → ((ts : List WireType) × IsReadTypes text (Ok ts)) ⊎ IsReadTypes text (Err (Bad 10))
+types_read : (text : List ℕ) (r : Result (List WireType) SignatureError) → length text ≤ 255 → whole_at 32 32 text ≡ r → ((ts : List WireType) × IsReadTypes text (Ok ts)) ⊎ IsReadTypes text (Err (Bad 10))
 types_read text (Ok ts) short is =
-    let found : IsSignature ts text = IfOk-at_ok (λ us. IsSignature us text) is (types_took 0 text short) in
+    let found : IsSignature ts text = short_reading text (Ok ts) short is in
     inl (ts, (found, λ us h. one_signature text us ts h found))
-types_read text (Err d) short is = inr (λ ts h. not_ok d ts (sym is ∙ types_again 0 text ts h), refl)
+types_read text (Err d) short is = inr (λ ts h. not_ok d ts (sym is ∙ whole_again ts text h.1 h.0), refl)
 
 types : (text : List ℕ) → ((ts : List WireType) × IsReadTypes text (Ok ts)) ⊎ IsReadTypes text (Err (Bad 10))
 types text =
     elim (cases_lt 255 (length text)) as (λ _. ((ts : List WireType) × IsReadTypes text (Ok ts)) ⊎ IsReadTypes text (Err (Bad 10))) [
       | inl long ↦ inr (λ ts h. let short = h.2 in absurd (omega arith), refl)
-      | inr short ↦ types_read text (types_in 0 text) short refl
+      | inr short ↦ types_read text (whole_at 32 32 text) short refl
     ]
 
 body : (e : Endian) (bytes : List ℕ) (ts : List WireType) → IsBytes bytes → ((vs : List Value) × IsReadBody e bytes ts (Ok vs)) ⊎ IsReadBody e bytes ts (Err (Bad 10))

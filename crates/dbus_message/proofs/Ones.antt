@@ -1,7 +1,8 @@
 -- Bytes are one message, and a message is written in one way.
-use Rattle.std.proofs.Common.{◌≡◌, ℕ, ◌+◌, List, [], ◌∷◌, ◌++◌, length, map, Option, Some, None, refl, sym, ap, ◌∙◌, subst}
+use Rattle.std.proofs.Common.{◌≡◌, ℕ, ◌+◌, List, [], ◌∷◌, ◌++◌, length, map, Option, Some, None, Result, Ok, Err, refl, sym, ap, ◌∙◌, subst}
 use Rattle.dbus_types.specs.declared.types.Endian.{Endian}
 use Rattle.dbus_types.specs.declared.types.Endian.TheVariants.{Little}
+use Rattle.dbus_types.specs.declared.errors.SignatureError.{SignatureError}
 use Rattle.dbus_types.specs.declared.types.WireType.{WireType}
 use Rattle.dbus_types.specs.declared.types.WireType.TheVariants as W
 use Rattle.dbus_types.specs.declared.types.Value.{Value}
@@ -12,8 +13,8 @@ use Rattle.dbus_types.specs.Types.{IsSignature}
 use Rattle.dbus_types.specs.Values.{type_of}
 use Rattle.dbus_types.specs.Spells.{Members}
 use Rattle.dbus_types.proofs.Same.{spells_same}
-use Rattle.dbus_marshal.proofs.Signatures.{types_again}
-use Rattle.dbus_marshal.proofs.Whole.{ok_is, one_spelling}
+use Rattle.dbus_types.proofs.Whole.{whole_again}
+use Rattle.dbus_marshal.proofs.Whole.{one_spelling}
 use Rattle.dbus_message.specs.declared.content.Content.{Content}
 use Rattle.dbus_message.specs.Header.{body_bytes, endian_of}
 use Rattle.dbus_message.specs.Fields.{field_type, text_of}
@@ -40,9 +41,13 @@ one_row e (t ∷ ts) (v ∷ vs) (w ∷ ws) at text h k =
     let behind = subst (λ (x : List ℕ). Members (Spelled e) ts ws (at + length h.0) x) (sym o.2) (subst (λ (n : ℕ). Members (Spelled e) ts ws n k.1) place k.4) in
     ap (λ (x : Value). x ∷ vs) o.0 ∙ ap (λ (xs : List Value). w ∷ xs) (one_row e ts vs ws (at + length h.0) h.1 h.4 behind)
 
+abbrev found : List WireType → Result (List WireType) SignatureError → List WireType
+found otherwise (Ok ts) = ts
+found otherwise (Err e) = otherwise
+
 -- a signature is of one list of types
 pub one_signature : (text : List ℕ) (ts us : List WireType) → IsSignature ts text → IsSignature us text → ts ≡ us
-one_signature text ts us h k = ok_is ts us (sym (types_again 0 text ts h) ∙ types_again 0 text us k)
+one_signature text ts us h k = ap (found ts) (sym (whole_again ts text h.1 h.0) ∙ whole_again us text k.1 k.0)
 
 one_content : (e : Endian) (signature : Option (List ℕ)) (bytes : List ℕ) (c d : Content) → IsContent e signature c.types c.values bytes → IsContent e signature d.types d.values bytes → c ≡ d
 one_content e None bytes c d h k = same_content c d (h.0 ∙ sym k.0) (h.1 ∙ sym k.1)

@@ -22,8 +22,8 @@ use crate::fields::{
 use crate::header::{body_start, endian_of, fields_end, number_at};
 use dbus_marshal::read::read_value;
 use dbus_types::message::Message;
+use dbus_types::shared::Shared;
 use dbus_types::types::{Endian, Value, WireType};
-use portal_base::boxed::Boxed;
 use portal_base::list::List;
 use portal_base::memory::WantOfMemory;
 use std::alloc::Global;
@@ -32,7 +32,7 @@ use std::alloc::Global;
 pub(crate) fn fields_type(alloc: Global) -> Result<WireType, WantOfMemory>
     ensures { IfOk result (λ kind. kind ≡ W.Array type_of_field) }
 {
-    Ok(WireType::Array(Boxed::new(alloc, field_type(alloc)?)?))
+    Ok(WireType::Array(Shared::new(alloc, field_type(alloc)?)?))
 }
 
 /// The type `(yv)`.

@@ -19,6 +19,7 @@ use crate::fields::{ERROR_NAME, INTERFACE, MEMBER, PATH, REPLY_SERIAL, SIGNATURE
 use crate::read::field_type;
 use dbus_marshal::write::write_value;
 use dbus_types::message::OutMessage;
+use dbus_types::shared::Shared;
 use dbus_types::types::Value;
 use dbus_types::write::signature_text;
 use portal_base::boxed::Boxed;
@@ -155,7 +156,7 @@ fn write_parts(
     bytes.extend_from_slice(&(body.len() as u32).to_le_bytes())?;
     bytes.extend_from_slice(&serial.to_le_bytes())?;
     let fields = Value::Array {
-        element: field_type(alloc)?,
+        element: Shared::new(alloc, field_type(alloc)?)?,
         items: fields,
     };
     write_value(&mut bytes, &fields)?;

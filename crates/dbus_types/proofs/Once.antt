@@ -6,11 +6,11 @@ use Rattle.dbus_types.specs.declared.types.WireType.{WireType}
 use Rattle.dbus_types.specs.declared.errors.SignatureError.{SignatureError}
 use Rattle.dbus_types.specs.declared.errors.SignatureError.TheVariants.{BadSignature, TooDeep, Memory}
 use Rattle.dbus_types.specs.Types.{type_text, IsComplete, IsValidType}
-use Rattle.dbus_types.specs.Reading.{whole_at, single_at}
-use Rattle.dbus_types.specs.Breaks.{Begins, BeginsOne, IsBadAt, IsTooDeepAt, IsNoTypeAt, IsTypeTooDeepAt, IsChecked}
+use Rattle.dbus_types.specs.Reading.{Gives, Tells, whole_at, single_at, passed}
+use Rattle.dbus_types.specs.Breaks.{Begins, BeginsOne, IsBadAt, IsTooDeepAt, IsNoTypeAt, IsTypeTooDeepAt, IsChecked, IsSingleReading}
 use Rattle.dbus_types.proofs.Stops.{Kinds, error_place}
-use Rattle.dbus_types.proofs.Whole.{begins_as, checked_none, short_reading, reading_checked, stops_no_memory}
-use Rattle.dbus_types.proofs.Single.{single_reading, single_no_memory}
+use Rattle.dbus_types.proofs.Whole.{begins_as, checked_none, short_reading, reading_checked, stops_no_memory, whole_again}
+use Rattle.dbus_types.proofs.Single.{single_reading, single_no_memory, single_again}
 
 -- a shorter front
 front_split : (text : List ℕ) (j k : ℕ) → j ≤ k → k ≤ length text → take k text ≡ take j text ++ drop j (take k text)
@@ -156,3 +156,15 @@ module _ (text : List ℕ) where
       go : (r : Result WireType SignatureError) → single_at 32 32 text ≡ r → single_at 32 32 text ≡ Err e
       go (Ok t) is = let k = single_reading text (Ok t) is in absurd (no_type e h t k.0 k.1)
       go (Err d) is = is ∙ ap (λ (x : SignatureError). Err x) (one_once d e (single_wrong d is) h)
+
+-- ---- what is answered is what reading from the left gives
+
+pub single_from_left : (text : List ℕ) (r : Result WireType SignatureError) → IsSingleReading text r → Gives (λ t. t) r (single_at 32 32 text)
+single_from_left text (Ok t) h = ap (single_at 32 32) h.1 ∙ single_again t h.0
+single_from_left text (Err (BadSignature at)) h = single_stops text (BadSignature at) h
+single_from_left text (Err (TooDeep at)) h = single_stops text (TooDeep at) h
+single_from_left text (Err Memory) h = tt
+
+pub checked_from_left : (text : List ℕ) (r : Result (Unit {0}) SignatureError) → length text ≤ 255 → IsChecked text r → Tells (λ u. u) r (passed (whole_at 32 32 text))
+checked_from_left text (Ok u) short h = ap passed (whole_again h.0 text h.1.1 h.1.0)
+checked_from_left text (Err e) short h = ap passed (reading_stops text short e h)

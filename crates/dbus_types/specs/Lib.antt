@@ -6,3 +6,4 @@ pub mod Names
 pub mod Values
 pub mod Spells
 pub mod Spelling
+pub mod formers

@@ -3,8 +3,7 @@
 -- or the place where the reading stops.
 --
 -- What the public functions promise is said by the definitions of Types and Breaks. These functions
--- say what the inner functions of the reader do; `read_list` and `read_single` give them too, for who
--- reads a signature inside other bytes.
+-- say what the inner functions of the reader do.
 use Rattle.std.specs.Prelude.{◌≡◌, ℕ, zero, suc, ◌+◌, ◌-◌, ◌==◌, List, [], ◌∷◌, length, drop, Result, Ok, Err, if◌then◌else◌}
 use Rattle.dbus_types.specs.declared.types.WireType.{WireType}
 use Rattle.dbus_types.specs.declared.types.WireType.TheVariants as W

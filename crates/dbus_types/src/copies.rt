@@ -27,10 +27,7 @@ fn copy_type(alloc: Global, kind: &WireType) -> Result<WireType, WantOfMemory>
         WireType::Signature => Ok(WireType::Signature),
         WireType::Handle => Ok(WireType::Handle),
         WireType::Variant => Ok(WireType::Variant),
-        WireType::Array(element) => {
-            let element = copy_type(alloc, element.get())?;
-            Ok(WireType::Array(Boxed::new(alloc, element)?))
-        }
+        WireType::Array(element) => Ok(WireType::Array(element.share()?)),
         WireType::Struct(members) => {
             let members = copy_types(alloc, members.as_slice())?;
             Ok(WireType::Struct(members))

@@ -16,6 +16,7 @@ pub mod names;
 pub mod nesting;
 pub mod roles;
 pub mod rules;
+pub mod shared;
 pub mod signature;
 pub mod types;
 pub mod typing;

@@ -4,12 +4,13 @@
 
 ghost use Rattle.std.specs.Prelude.{◌≡◌, ◌+◌, ◌<◌, ◌≤◌, List, length, drop, IfOk};
 ghost use Rattle.dbus_types.specs.declared.errors.SignatureError.TheVariants.{BadSignature};
-ghost use Rattle.dbus_types.specs.Reading.{Gives, Tells, after, place, coded as coded_in, code_at, key_at, closed as closed_in, members_at, element_at, placed, passed, type_at, whole_at, single_at};
+ghost use Rattle.dbus_types.specs.Reading.{Gives, Tells, after, place, coded as coded_in, code_at, key_at, closed as closed_in, members_at, element_at, placed, passed, type_at, whole_at};
 ghost use Rattle.dbus_types.specs.Breaks.{IsReading, IsReadAs, IsSingleReading, IsSingleReadAs, IsChecked};
 ghost use Rattle.dbus_types.specs.Types.{type_text, IsValidType, IsSignature};
 ghost use Rattle.dbus_types.specs.declared.types.WireType.{WireType as TheType};
 
 use crate::errors::SignatureError;
+use crate::shared::Shared;
 use crate::types::WireType;
 use portal_base::boxed::Boxed;
 use portal_base::list::List;
@@ -119,7 +120,7 @@ fn read_type(
                 return Err(SignatureError::TooDeep { at: at as u32 });
             }
             let (element, next) = read_element(alloc, text, at + 1, arrays - 1, brackets)?;
-            Ok((WireType::Array(Boxed::new(alloc, element)?), next))
+            Ok((WireType::Array(Shared::new(alloc, element)?), next))
         }
         Some(b'(') => {
             if brackets == 0 {
@@ -199,7 +200,7 @@ fn read_members(
 }
 
 /// Reads the types of a text of at most 255 bytes.
-pub fn read_list(alloc: Global, text: &[u8]) -> Result<List<WireType>, SignatureError>
+fn read_list(alloc: Global, text: &[u8]) -> Result<List<WireType>, SignatureError>
     requires short { length text.now ≤ 255 }
     ensures { Gives (λ ts. ts) result (whole_at 32 32 text.now) }
 {
@@ -227,8 +228,6 @@ pub fn read_single(alloc: Global, text: &[u8]) -> Result<WireType, SignatureErro
     requires { length text.now ≤ 255 }
     ensures reading { IsSingleReading text.now result }
     ensures only { (t : TheType) → IsValidType t → text.now ≡ type_text t → IsSingleReadAs t result }
-    // The place where it goes wrong is the one where reading from the left stops.
-    ensures from_left { Gives (λ t. t) result (single_at 32 32 text.now) }
 {
     match read_type(alloc, text, 0, MOST_ARRAYS, MOST_BRACKETS) {
         Ok((kind, end)) => {

@@ -11,6 +11,7 @@ pub enum Endian {
     Big,
 }
 
+use crate::shared::Shared;
 use portal_base::boxed::Boxed;
 use portal_base::list::List;
 use portal_base::text::Text;
@@ -46,8 +47,8 @@ pub enum WireType {
     Handle,
     /// `v`
     Variant,
-    /// `a` and the type of an element.
-    Array(Boxed<WireType>),
+    /// `a` and the type of an element, which the arrays of this type share.
+    Array(Shared<WireType>),
     /// `(`, the types of the members, `)`.
     Struct(List<WireType>),
     /// `{`, the type of the key, the type of the value, `}`.
@@ -92,8 +93,8 @@ pub enum Value {
     Variant(Boxed<Value>),
     /// Values of one type.
     Array {
-        /// The type of each item.
-        element: WireType,
+        /// The type of each item, which arrays of one type share.
+        element: Shared<WireType>,
         /// The items.
         items: List<Value>,
     },

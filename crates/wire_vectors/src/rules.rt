@@ -111,10 +111,7 @@ fn array(alloc: Global, made: &mut List<Value>, words: &str) -> Result<Value, Ve
     let (kind, count) = words.split_once(':').unwrap_or((words, ""));
     let items = last(alloc, made, count)?;
     match kind_of(alloc, kind)? {
-        WireType::Array(element) => Ok(Value::Array {
-            element: element.into_inner(),
-            items,
-        }),
+        WireType::Array(element) => Ok(Value::Array { element, items }),
         _ => Err(VectorError::Line(LineError::BadLine)),
     }
 }

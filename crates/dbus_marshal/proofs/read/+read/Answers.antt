@@ -1,8 +1,10 @@
-use Rattle.std.proofs.Common.{◌≡◌, refl, sym, subst, ◌∙◌, arith, drop, take, ltb, false}
+use Rattle.std.proofs.Common.{◌≡◌, refl, sym, ap, subst, ◌∙◌, ◌-◌, arith, length, map, drop, take, ltb, false, Ok}
 use Rattle.std.proofs.lemmas.Bool.{le-ltb}
-use Rattle.std.proofs.lemmas.List.{drop-take}
+use Rattle.std.proofs.lemmas.List.{drop-take, length-drop, take_all}
+use Rattle.dbus_types.specs.declared.types.Value.TheVariants as V
 use Rattle.dbus_marshal.specs.Reads.{Fails, reads, after, place}
 use Rattle.dbus_marshal.proofs.Loops.{members_step, members_end, members_fails, elements_step, elements_end, elements_fails, array_is, array_fails}
+use Rattle.dbus_marshal.proofs.Bytes.{bytes_read}
 use Rattle.dbus_marshal.proofs.Depths.{reads_array, reads_struct, reads_entry}
 use Rattle.dbus_marshal.proofs.read.+read.Goals as goal
 
@@ -10,21 +12,21 @@ pub read_array-returns-in_ok-element-in-Ok-clause-read : goal.read_array-returns
 read_array-returns-in_ok-element-in-Ok-clause-read t c =
     let bytes = c.args.bytes.now in
     let short : ltb 67_108_864 c.in_ok-count.count ≡ false = le-ltb _ _ (omega arith) in
-    let whole = array_is (reads c.args.depth c.args.endian) c.args.endian c.args.element.now c.args.at (drop c.args.at bytes)
+    let whole = array_is (reads c.args.depth c.args.endian) c.args.endian c.get-element.result.now c.args.at (drop c.args.at bytes)
     (place bytes c.in_ok-start.start) (after bytes (c.in_ok-count.count, c.in_ok-count.begins)) (place bytes c.in_ok-from.from) (after bytes (c.in_ok-body.body.now, c.in_ok-body.end))
     c.in_ok-start.ensures.read c.in_ok-count.ensures.read short (rw (← c.alignment_of.ensures.known) c.in_ok-from.ensures.read) c.in_ok-body.ensures.read in
     let window : drop c.in_ok-from.from (take c.in_ok-body.end bytes) ≡ c.in_ok-body.body.now = rw (c.in_ok-body.ensures.within.0, c.in_ok-body.ensures.body) (drop-take c.in_ok-from.from c.in_ok-count.count bytes) in
-    whole ∙ rw (← window, c.in-Ok.ensures.read, c.in_ok-element-in-Ok.ensures) refl
+    rw (← c.get-element.ensures) (whole ∙ rw (← window, c.in-Ok.ensures.read, c.in_ok-element-in-Ok.ensures, c.get-element.ensures) refl)
 
 pub read_array-returns-in-Err-clause-read : goal.read_array-returns-in-Err-clause-read
 read_array-returns-in-Err-clause-read t c =
     let bytes = c.args.bytes.now in
     let short : ltb 67_108_864 c.in_ok-count.count ≡ false = le-ltb _ _ (omega arith) in
-    let whole = array_is (reads c.args.depth c.args.endian) c.args.endian c.args.element.now c.args.at (drop c.args.at bytes)
+    let whole = array_is (reads c.args.depth c.args.endian) c.args.endian c.get-element.result.now c.args.at (drop c.args.at bytes)
     (place bytes c.in_ok-start.start) (after bytes (c.in_ok-count.count, c.in_ok-count.begins)) (place bytes c.in_ok-from.from) (after bytes (c.in_ok-body.body.now, c.in_ok-body.end))
     c.in_ok-start.ensures.read c.in_ok-count.ensures.read short (rw (← c.alignment_of.ensures.known) c.in_ok-from.ensures.read) c.in_ok-body.ensures.read in
     let window : drop c.in_ok-from.from (take c.in_ok-body.end bytes) ≡ c.in_ok-body.body.now = rw (c.in_ok-body.ensures.within.0, c.in_ok-body.ensures.body) (drop-take c.in_ok-from.from c.in_ok-count.count bytes) in
-    rw (whole, c.array_error.ensures, ← window) (array_fails c.in-Err.error _ _ c.in-Err.ensures.read)
+    rw (← c.get-element.ensures, whole, c.array_error.ensures, ← window) (array_fails c.in-Err.error _ _ c.in-Err.ensures.read)
 
 pub read_elements-loop-next-preserved : goal.read_elements-loop-next-preserved
 read_elements-loop-next-preserved t c =
@@ -57,10 +59,15 @@ pub read_members-returns-clause-read : goal.read_members-returns-clause-read
 read_members-returns-clause-read t c = c.loop-kind.invariant.rest ∙ members_end (reads c.args.depth c.args.endian) c.args.bytes.now c.args.kinds.now c.loop-kind.kind-index c.loop-kind.values c.loop-kind.next (omega arith)
 
 pub read_within-returns-in-Array-clause-read : goal.read_within-returns-in-Array-clause-read
-read_within-returns-in-Array-clause-read t c = rw (reads_array c.args.depth c.args.endian c.args.kind.now c.in-Array.element c.args.at (drop c.args.at c.args.bytes.now) c.if-depth-eq0.false c.in-Array.is, ← c.get.ensures) c.read_array.ensures.read
+read_within-returns-in-Array-clause-read t c = rw (reads_array c.args.depth c.args.endian c.args.kind.now c.in-Array.element c.args.at (drop c.args.at c.args.bytes.now) c.if-depth-eq0.false c.in-Array.is) c.read_array.ensures.read
 
 pub read_within-returns-in-Struct-clause-read : goal.read_within-returns-in-Struct-clause-read
 read_within-returns-in-Struct-clause-read t c = rw (reads_struct c.args.depth c.args.endian c.args.kind.now c.in-Struct.kinds c.args.at (drop c.args.at c.args.bytes.now) c.if-depth-eq0.false c.in-Struct.is, ← c.as_slice.ensures) c.read_struct.ensures.read
 
 pub read_within-returns-in-DictEntry-clause-read : goal.read_within-returns-in-DictEntry-clause-read
-read_within-returns-in-DictEntry-clause-read t c = rw (reads_entry c.args.depth c.args.endian c.args.kind.now c.in-DictEntry.key c.in-DictEntry.value c.args.at (drop c.args.at c.args.bytes.now) c.if-depth-eq0.false c.in-DictEntry.is, ← c.get-in-DictEntry.ensures, ← c.get-in-DictEntry-2.ensures) c.read_entry.ensures.read
+read_within-returns-in-DictEntry-clause-read t c = rw (reads_entry c.args.depth c.args.endian c.args.kind.now c.in-DictEntry.key c.in-DictEntry.value c.args.at (drop c.args.at c.args.bytes.now) c.if-depth-eq0.false c.in-DictEntry.is, ← c.get.ensures, ← c.get-in-DictEntry.ensures) c.read_entry.ensures.read
+
+pub read_elements-returns-then-is_byte : goal.read_elements-returns-then-is_byte
+read_elements-returns-then-is_byte t c =
+    let body = drop c.args.at c.args.bytes.now in
+    record { read = bytes_read (length body) c.args.depth c.args.endian c.args.element.now c.args.at body (λ z. omega (arith, z, c.if-depth-gt0.true)) (c.is_byte.ensures.0 c.if-is_byte.true) (omega arith) ∙ ap (λ l. Ok l) (sym (c.in_ok-read_bytes.ensures ∙ ap (λ bs. map (λ n. V.Byte n) bs) (take_all (length c.args.bytes.now - c.args.at) body (omega (arith, length-drop c.args.at c.args.bytes.now))))) }

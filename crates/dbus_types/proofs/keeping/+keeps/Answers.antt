@@ -41,7 +41,7 @@ keeps_within-returns-else-not-has_variant_type t c = variant_on c.keeps_within.r
     (and_on c.has_variant_type.result c.keeps_within.result (IsVariantType (type_of c.get-inner.result.now)) (KeepsWithin (c.args.depth - 1) c.get-inner.result.now) (cc) c.has_variant_type.ensures c.keeps_within.ensures)
 
 pub keeps_within-returns-else-depth-eq0-2 : goal.keeps_within-returns-else-depth-eq0-2
-keeps_within-returns-else-depth-eq0-2 t c = array_on c.items_keep.result c.args.depth (c.args.depth - 1) c.args.value.now c.in-Array.element c.in-Array.items c.as_slice.result.now (omega arith) c.in-Array.is c.as_slice.ensures c.items_keep.ensures
+keeps_within-returns-else-depth-eq0-2 t c = array_on c.items_keep.result c.args.depth (c.args.depth - 1) c.args.value.now c.in-Array.element c.in-Array.items c.as_slice.result.now (omega arith) c.in-Array.is c.as_slice.ensures (rw (← c.deref.ensures) c.items_keep.ensures)
 
 pub keeps_within-returns-else-depth-eq0-3 : goal.keeps_within-returns-else-depth-eq0-3
 keeps_within-returns-else-depth-eq0-3 t c = struct_on c.members_keep.result c.args.depth (c.args.depth - 1) c.args.value.now c.in-Struct.members c.as_slice-in-Struct.result.now (omega arith) c.in-Struct.is c.as_slice-in-Struct.ensures c.members_keep.ensures
