@@ -11,7 +11,7 @@ use Rattle.portal_model.specs.declared.request.Request.{Request}
 use Rattle.portal_model.specs.declared.state.Connection.{Connection}
 use Rattle.app_world.specs.Effect.{Effect, apply, apply_all}
 use Rattle.portal_model.specs.History.{made_by, makes, EachLawful, replies}
-use Rattle.portal_model.specs.Lawful.{Lawful, LooksAre, LawfulLooks}
+use Rattle.portal_model.specs.Lawful.{Lawful, LooksAre, LawfulLooks, is_defined}
 use Rattle.portal_model.specs.State.{State, connection_of, is_app}
 use Rattle.portal_model.specs.Step.{is_mount, bus_of, mount_of, all_told, with_signals, node_answer, node_step, request_step, after, reply_at, node_op_looks, node_looks, looks_taken, undefined_answer}
 use Rattle.portal_model.specs.Valid.{Valid}
@@ -79,20 +79,22 @@ module _ (app : List ℕ) (s : State) (seat : ℕ) (r : NodeRequest) (given : Gi
 -- ---- an entry, by its kind
 
 -- that the application makes: its machine gives the view after, and the reply
-pub step_own : (app : List ℕ) (s : State) (seat : ℕ) (request : Request) (given : Given) → Valid s → made_by app (connection_of s.connections seat) request ≡ true →
+pub step_own : (app : List ℕ) (s : State) (seat : ℕ) (request : Request) (given : Given) → Valid s → is_defined request ≡ true → made_by app (connection_of s.connections seat) request ≡ true →
     LooksAre (looks_taken s seat request) given.fault given.looks → app_step (view s app) (own_of (entry seat request given)) ≡ seen_step app (request_step s seat request given)
-step_own app s seat (Request.Enter who kind) given v m l = ap (λ (done : AppView × Answer). with_signals [] done) (enter_own app s seat who kind m)
-step_own app s seat Request.Leave given v m l = ap (λ (done : AppView × Answer). with_signals [] done) (leave_own app s seat m)
-step_own app s seat Request.Collect given v m l = collect_own app s seat v (connection_of s.connections seat) refl m
-step_own app s seat (Request.Node r) given v m l = node_own app s seat r given v (connection_of s.connections seat) refl m l
+step_own app s seat (Request.Enter who kind) given v d m l = ap (λ (done : AppView × Answer). with_signals [] done) (enter_own app s seat who kind m)
+step_own app s seat Request.Leave given v d m l = ap (λ (done : AppView × Answer). with_signals [] done) (leave_own app s seat m)
+step_own app s seat Request.Collect given v d m l = collect_own app s seat v (connection_of s.connections seat) refl m
+step_own app s seat (Request.Node r) given v d m l = node_own app s seat r given v (connection_of s.connections seat) refl m l
+step_own app s seat request given v d m l = cc
 
 -- that it does not make: what is touched gives the view after
-pub step_other : (app : List ℕ) (s : State) (seat : ℕ) (request : Request) (given : Given) → Valid s → made_by app (connection_of s.connections seat) request ≡ false →
+pub step_other : (app : List ℕ) (s : State) (seat : ℕ) (request : Request) (given : Given) → Valid s → is_defined request ≡ true → made_by app (connection_of s.connections seat) request ≡ false →
     apply_all (view s app) (touch app s (entry seat request given)) ≡ view (request_step s seat request given).0 app
-step_other app s seat (Request.Enter who kind) given v m = enter_other app s seat who kind m
-step_other app s seat Request.Leave given v m = leave_other app s seat v m
-step_other app s seat Request.Collect given v m = collect_other app s (bus_of (connection_of s.connections seat))
-step_other app s seat (Request.Node r) given v m = node_other app s seat r given v (mount_of (connection_of s.connections seat))
+step_other app s seat (Request.Enter who kind) given v d m = enter_other app s seat who kind m
+step_other app s seat Request.Leave given v d m = leave_other app s seat v m
+step_other app s seat Request.Collect given v d m = collect_other app s (bus_of (connection_of s.connections seat))
+step_other app s seat (Request.Node r) given v d m = node_other app s seat r given v (mount_of (connection_of s.connections seat))
+step_other app s seat request given v d m = cc
 
 -- ---- a history, by the laws of one step alone
 
@@ -103,17 +105,17 @@ own_replies-changed (f ∷ fs) v more = own_replies-changed fs (apply v f) more
 pub entry_own : (app : List ℕ) (s : State) (e : Entry) → s.told ≡ true → Valid s → Lawful s e → makes app s e ≡ true → app_step (view s app) (own_of e) ≡ (view (after s e) app, reply_at s e)
 entry_own app s e t v l m =
     let looks : LooksAre (looks_taken s e.seat e.request) e.given.fault e.given.looks = subst (λ (b : Bool). LawfulLooks b (looks_taken s e.seat e.request) e.given.fault e.given.looks) t l.looks in
-    step_own app s e.seat e.request e.given v m looks
+    step_own app s e.seat e.request e.given v l.defined m looks
 
 one_entry : (app : List ℕ) (s : State) (e : Entry) (b : Bool) (more : List TraceItem) → makes app s e ≡ b → s.told ≡ true → Valid s → Lawful s e →
     own_replies (view s app) (cond b (Asked (own_of e) ∷ []) (map Changed (touch app s e)) ++ more) ≡ cond b (reply_at s e ∷ []) [] ++ own_replies (view (after s e) app) more
 one_entry app s e true more m t v l = ap (λ (done : AppView × Reply). done.1 ∷ own_replies done.0 more) (entry_own app s e t v l m)
 one_entry app s e false more m t v l =
-    own_replies-changed (touch app s e) (view s app) more ∙ ap (λ (x : AppView). own_replies x more) (step_other app s e.seat e.request e.given v m)
+    own_replies-changed (touch app s e) (view s app) more ∙ ap (λ (x : AppView). own_replies x more) (step_other app s e.seat e.request e.given v l.defined m)
 
 -- the replies to an application are those of its trace
 pub replies_of_trace : (h : List Entry) (app : List ℕ) (s : State) → s.told ≡ true → Valid s → EachLawful s h → replies app s h ≡ app_run (trace app s h)
 replies_of_trace [] app s t v l = refl
 replies_of_trace (e ∷ es) app s t v l =
     sym (one_entry app s e (makes app s e) (items app (after s e) es) refl t v l.0
-    ∙ ap (λ (rs : List Reply). cond (makes app s e) (reply_at s e ∷ []) [] ++ rs) (sym (replies_of_trace es app (after s e) (step_told s e.seat e.request e.given ∙ t) (after-Valid s e v) l.1)))
+    ∙ ap (λ (rs : List Reply). cond (makes app s e) (reply_at s e ∷ []) [] ++ rs) (sym (replies_of_trace es app (after s e) (step_told s e.seat e.request e.given ∙ t) (after-Valid s e v l.0) l.1)))

@@ -22,7 +22,7 @@ pub record StepsSeen : Type 0 where
       s.told ≡ true → Valid s → Lawful s e → makes app s e ≡ true →
       app_step (view s app) (own_of e) ≡ (view (after s e) app, reply_at s e)
   pub other :
-      (app : List ℕ) (s : State) (e : Entry) → Valid s → makes app s e ≡ false →
+      (app : List ℕ) (s : State) (e : Entry) → Valid s → Lawful s e → makes app s e ≡ false →
       apply_all (view s app) (touch app s e) ≡ view (after s e) app
 
 abbrev pub with_right : State → Triple → State

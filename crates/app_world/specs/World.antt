@@ -78,6 +78,7 @@ own_request_step v own Request.Collect =
     own_collect_step v (own_bus_of (found_connection v.connections own.seat))
 own_request_step v own (Request.Node r) =
     own_node_step v r own (own_mount_of (found_connection v.connections own.seat))
+own_request_step v own request = with_signals [] (v, undefined_answer)
 
 -- the view after a request of the application, and the reply to it
 abbrev pub app_step : AppView → Own → AppView × Reply
@@ -114,6 +115,7 @@ request_touch app s seat (Request.Enter who kind) given = []
 request_touch app s seat Request.Leave given = []
 request_touch app s seat Request.Collect given = []
 request_touch app s seat (Request.Node r) given = node_touch app s r r.op given
+request_touch app s seat request given = []
 
 -- what an entry that the application does not make changes of its view
 abbrev pub touch : List ℕ → State → Entry → List Effect
