@@ -1,42 +1,30 @@
 -- An Add as a whole: what it is to the application that makes it, and to another.
-use Rattle.std.proofs.Common.{◌≡◌, ℕ, ◌==◌, ◌≤◌, length, List, [], ◌∷◌, ◌++◌, drop, fold, map, take, Bool, true, false, not, ◌&&◌, ◌||◌, cond, Option, Some, None, refl, sym, ap, ◌∙◌, subst, arith}
-use Rattle.std.specs.List.{flat_map, list_all}
-use Rattle.std.specs.Option.{option_map}
-use Rattle.std.proofs.lemmas.List.{append-nil}
-use Rattle.portal_base.specs.Names.{is_same}
-use Rattle.portal_base.specs.declared.files.File.{File}
+use Rattle.std.proofs.Common.{◌≡◌, ℕ, List, [], ◌∷◌, drop, Bool, true, false, not, ◌&&◌, ◌||◌, cond, Option, Some, None, refl, sym, ap, ◌∙◌, arith}
+use Rattle.std.specs.List.{list_all}
 use Rattle.portal_base.specs.declared.files.Look.{Look}
 use Rattle.portal_base.specs.declared.names.doc_id.DocId.{DocId}
 use Rattle.portal_base.specs.declared.who.Who.{Who}
 use Rattle.rights_rule.specs.Rights.{RightSet, contains, holds_any, no_rights, rights_named, union}
-use Rattle.portal_model.specs.declared.reply.Answer.{Answer}
 use Rattle.portal_model.specs.declared.reply.Code.{Code}
-use Rattle.portal_model.specs.declared.reply.Code.TheVariants as Code
 use Rattle.portal_model.specs.declared.request.AddRequest.{AddRequest}
 use Rattle.portal_model.specs.declared.state.Connection.{Connection}
 use Rattle.portal_model.specs.declared.state.Document.{Document}
-use Rattle.portal_model.specs.declared.state.Triple.{Triple}
 use Rattle.portal_model.specs.Add.{Added, add, add_allowed, add_looking, add_presented, add_shown, added, added_files, adding_rights, are_of_kind, may_list, may_list_all, rights_then, taken_from_queue, used_again}
-use Rattle.portal_model.specs.AddArguments.{are_add_arguments, are_presented, document_path, document_paths, is_left_out, names_nobody, paths_looked_at, paths_presented, paths_shown}
-use Rattle.portal_model.specs.Content.{Content, content_at}
+use Rattle.portal_model.specs.AddArguments.{are_add_arguments, are_presented, document_paths, is_left_out, names_nobody, paths_shown}
 use Rattle.portal_model.specs.Present.{with_queue}
 use Rattle.portal_model.specs.State.{State, document_of, held_of, is_app}
-use Rattle.portal_model.specs.Verdict.{Verdict, Refuses, Does, unless, walk_unless}
-use Rattle.portal_model.specs.Walk.{Walk, Answers, Looks, AtPath, looks_at_all, walked}
-use Rattle.app_world.specs.Add.{OwnAdded, OwnFile, add_touch, content_shown, held_in, names_app, own_add, own_add_allowed, own_add_presented, own_add_shown, own_added, own_added_files, own_call_files, own_files, own_may_list, own_may_list_all, own_rights_then, own_taken_from_queue, own_walk_unless, reused_of, first_reused}
+use Rattle.portal_model.specs.Verdict.{Verdict, walk_unless}
+use Rattle.portal_model.specs.Walk.{Walk, looks_at_all, walked}
+use Rattle.app_world.specs.Add.{OwnFile, add_touch, held_in, own_files, own_may_list, own_may_list_all, own_rights_then, own_taken_from_queue, reused_of, first_reused}
 use Rattle.app_world.specs.Effect.{Effect, apply_all}
-use Rattle.app_world.specs.Own.{Own}
 use Rattle.app_world.specs.Present.{own_with_queue}
-use Rattle.app_world.specs.OwnVerdict.{OwnVerdict, OwnDoes, OwnRefuses, own_unless}
-use Rattle.app_world.specs.View.{AppView, OwnConnection, found_connection, found_document, is_among, own_connection, own_connections, seen, view}
-use Rattle.app_world.proofs.AddLaws.{Again, Facts, Free, again-is, files-other, found-live, valid-facts}
-use Rattle.app_world.proofs.AddOwnLaws.{AreRead, Same, files-own, then_held}
+use Rattle.app_world.specs.View.{found_connection, own_connection, own_connections, seen, view}
+use Rattle.app_world.proofs.AddLaws.{Again, Facts, Free, again-is, files-other, found-live}
 use Rattle.app_world.proofs.BusLaws.{TouchedGiven}
 use Rattle.app_world.proofs.DocumentLaws.{documents-found}
 use Rattle.app_world.proofs.HeldLaws.{same-rights}
 use Rattle.app_world.proofs.PresentLaws.{view-elsewhere, view-requeued}
-use Rattle.app_world.proofs.ReachedLaws.{IsTouched, seen-unless, seen_verdict, touched-unless}
-use Rattle.app_world.proofs.ViewLaws.{among-joined}
+use Rattle.app_world.proofs.ReachedLaws.{touched-unless}
 use Rattle.portal_model.specs.Documents.{serves}
 use Rattle.portal_model.specs.AddArguments.{persists}
 

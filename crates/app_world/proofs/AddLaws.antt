@@ -1,26 +1,23 @@
 -- The files of an Add: what they are to an application that adds them, and to another.
-use Rattle.std.proofs.Common.{◌≡◌, ℕ, ◌==◌, nat_eq, List, [], ◌∷◌, ◌++◌, drop, fold, map, Bool, true, false, not, ◌&&◌, ◌||◌, cond, Option, Some, None, refl, sym, ap, ◌∙◌, subst, arith}
+use Rattle.std.proofs.Common.{◌≡◌, ℕ, ◌==◌, nat_eq, List, [], ◌∷◌, ◌++◌, fold, map, Bool, true, false, ◌||◌, cond, Option, Some, None, refl, sym, ap, ◌∙◌, subst, arith}
 use Rattle.std.specs.List.{find, list_any, list_all, IsDistinct, AllByRecursion}
 use Rattle.std.specs.Option.{option_map}
 use Rattle.std.proofs.lemmas.Bool.Decides.{nat_tests}
 use Rattle.std.proofs.lemmas.Cmp.{nat_eq_equiv}
-use Rattle.std.proofs.lemmas.List.{append_assoc, map-append}
+use Rattle.std.proofs.lemmas.List.{map-append}
 use Rattle.std.proofs.lemmas.Map.Keys.{IsDistinct-push}
-use Rattle.portal_base.specs.Names.{doc_text, is_same}
-use Rattle.portal_base.specs.declared.files.File.{File}
-use Rattle.portal_base.specs.declared.limits.Limits.{Limits}
+use Rattle.portal_base.specs.Names.{is_same}
 use Rattle.portal_base.specs.declared.names.doc_id.DocId.{DocId}
 use Rattle.portal_base.specs.declared.who.Who.{Who}
 use Rattle.rights_rule.specs.Rights.{RightSet, contains, holds_any, rights_named, union}
 use Rattle.portal_model.specs.declared.request.AddRequest.{AddRequest}
 use Rattle.portal_model.specs.declared.rights.Right.{Right}
 use Rattle.portal_model.specs.declared.rights.Right.TheVariants.{Read, Write, GrantPermissions, Delete}
-use Rattle.portal_model.specs.declared.state.Connection.{Connection}
 use Rattle.portal_model.specs.declared.state.Document.{Document}
 use Rattle.portal_model.specs.declared.state.Triple.{Triple}
-use Rattle.portal_model.specs.Add.{Added, add_file, adding_rights, caller_rights, first_number, listed_rights, new_document, use_document, used_again, with_new_document, with_rights_of}
+use Rattle.portal_model.specs.Add.{Added, add_file, adding_rights, caller_rights, first_number, new_document, use_document, used_again, with_new_document, with_rights_of}
 use Rattle.portal_model.specs.AddArguments.{is_left_out, names_nobody, persists, reuses}
-use Rattle.portal_model.specs.Content.{Content, content_at}
+use Rattle.portal_model.specs.Content.{content_at}
 use Rattle.portal_model.specs.Documents.{id_of_document, same_flag, serves}
 use Rattle.portal_model.specs.Grant.{given_rights}
 use Rattle.portal_model.specs.State.{State, app_has, document_of, gives, held_of, is_app}
@@ -122,7 +119,7 @@ pub valid-facts : (app : List ℕ) (s : State) → Valid s → Facts app s
 valid-facts app s v = record {
   differ = v.numbers_differ;
   unheld = λ n e. λ i. none_given s app n Read e s.rights v.rights_placed i || (none_given s app n Write e s.rights v.rights_placed i
-    || (none_given s app n GrantPermissions e s.rights v.rights_placed i || none_given s app n Delete e s.rights v.rights_placed i));
+      || (none_given s app n GrantPermissions e s.rights v.rights_placed i || none_given s app n Delete e s.rights v.rights_placed i));
 }
 
 turned : (a b : ℕ) → (a == b) ≡ false → nat_eq b a ≡ false

@@ -1,35 +1,33 @@
 -- An Add of the application itself: its own machine comes to the same in its view, and what its trace tells is what
 -- the machine needs.
-use Rattle.std.proofs.Common.{◌≡◌, ℕ, ◌+◌, ◌==◌, ◌≤◌, length, List, [], ◌∷◌, ◌++◌, fold, map, take, zero, suc, Bool, true, false, not, ◌&&◌, ◌||◌, cond, Option, Some, None, refl, sym, ap, ◌∙◌, subst, arith}
+use Rattle.std.proofs.Common.{◌≡◌, ℕ, ◌≤◌, length, List, [], ◌∷◌, fold, map, Bool, true, false, not, ◌&&◌, ◌||◌, cond, Option, Some, None, refl, sym, ap, ◌∙◌, arith}
 use Rattle.std.specs.List.{flat_map, list_all}
 use Rattle.std.specs.Option.{option_map}
 use Rattle.std.proofs.lemmas.List.{append-nil}
 use Rattle.portal_base.specs.Names.{child_of, is_same}
-use Rattle.portal_base.specs.declared.files.File.{File}
 use Rattle.portal_base.specs.declared.files.Look.{Look}
 use Rattle.portal_base.specs.declared.names.doc_id.DocId.{DocId}
 use Rattle.portal_base.specs.declared.who.Who.{Who}
 use Rattle.rights_rule.specs.Rights.{RightSet, contains, rights_named}
 use Rattle.portal_model.specs.declared.reply.Answer.{Answer}
 use Rattle.portal_model.specs.declared.reply.Code.{Code}
-use Rattle.portal_model.specs.declared.reply.Code.TheVariants as Code
 use Rattle.portal_model.specs.declared.request.AddRequest.{AddRequest}
 use Rattle.portal_model.specs.declared.state.Connection.{Connection}
-use Rattle.portal_model.specs.Add.{Added, add, add_allowed, add_looking, add_presented, add_shown, added, added_files, are_of_kind, may_list, may_list_all, rights_then, taken_from_queue, used_again}
+use Rattle.portal_model.specs.Add.{add, add_allowed, add_looking, add_presented, add_shown, added, added_files, are_of_kind, may_list, may_list_all, rights_then, used_again}
 use Rattle.portal_model.specs.AddArguments.{are_add_arguments, are_presented, document_path, document_paths, is_left_out, names_nobody, paths_looked_at, paths_presented, paths_shown}
 use Rattle.portal_model.specs.Arguments.{ahead_of_end}
 use Rattle.portal_model.specs.Content.{Content, content_at}
 use Rattle.portal_model.specs.State.{State, held_of}
-use Rattle.portal_model.specs.Verdict.{Verdict, unless, walk_unless}
+use Rattle.portal_model.specs.Verdict.{Verdict, walk_unless}
 use Rattle.portal_model.specs.Walk.{Walk, looks_at_all, walked}
 use Rattle.portal_model.proofs.Finds.{is_same-refl}
 use Rattle.app_world.specs.Add.{OwnAdded, content_shown, names_app, own_add, own_add_allowed, own_add_file, own_add_presented, own_add_shown, own_added, own_added_files, own_call_files, own_files, own_may_list_all, own_taken_from_queue, own_walk_unless, reused_of}
 use Rattle.app_world.specs.Own.{Own}
-use Rattle.app_world.specs.OwnVerdict.{OwnVerdict, OwnDoes, OwnRefuses, own_unless}
+use Rattle.app_world.specs.OwnVerdict.{OwnVerdict, OwnDoes}
 use Rattle.app_world.specs.View.{OwnConnection, is_among, own_connection, view}
 use Rattle.app_world.proofs.AddCallLaws.{begun, may_list-own, taken-facts, taken-keeps, taken-own}
 use Rattle.app_world.proofs.AddLaws.{Facts, Free}
-use Rattle.app_world.proofs.AddOwnLaws.{AreRead, IsRead, Same, files-own, then_held}
+use Rattle.app_world.proofs.AddOwnLaws.{AreRead, Same, files-own, then_held}
 use Rattle.app_world.proofs.ReachedLaws.{seen-unless, seen_verdict}
 use Rattle.app_world.proofs.ViewLaws.{among-joined}
 
@@ -102,7 +100,7 @@ module _ (app : List ℕ) (s : State) (a : AddRequest) (content : List ℕ → C
       r (document_path a p) (among-joined (paths_looked_at a p) (flat_map (paths_looked_at a) ps) (document_path a p) ∙ or-left _ _ (looked-at a p)),
     ),
     read-all ps (λ n. and-right (may_list s (Who.App app) a (document_path a p)) _ (l n)) (λ path h.
-    r path (among-joined (paths_looked_at a p) (flat_map (paths_looked_at a) ps) path ∙ or-right _ _ h)),
+        r path (among-joined (paths_looked_at a p) (flat_map (paths_looked_at a) ps) path ∙ or-right _ _ h)),
   )
 
   some-named : names_app app a ≡ true → names_nobody a ≡ false

@@ -1,6 +1,6 @@
 -- The files of an Add of the application itself: its own machine comes to the same in its view.
-use Rattle.std.proofs.Common.{◌≡◌, ℕ, ◌==◌, List, [], ◌∷◌, ◌++◌, drop, fold, Bool, true, false, not, ◌&&◌, ◌||◌, cond, Option, Some, None, refl, sym, ap, ◌∙◌, subst, arith}
-use Rattle.std.specs.List.{find, list_all}
+use Rattle.std.proofs.Common.{◌≡◌, ℕ, List, [], ◌∷◌, ◌++◌, drop, fold, Bool, true, false, not, ◌&&◌, ◌||◌, cond, Option, Some, None, refl, sym, ap, ◌∙◌, subst, arith}
+use Rattle.std.specs.List.{find}
 use Rattle.std.specs.Option.{option_map}
 use Rattle.std.proofs.lemmas.List.{append_assoc}
 use Rattle.portal_base.specs.Names.{doc_text}
@@ -17,7 +17,7 @@ use Rattle.portal_model.specs.Documents.{id_of_document, serves}
 use Rattle.portal_model.specs.State.{State, document_of, held_of}
 use Rattle.app_world.specs.Add.{OwnAdded, OwnFile, first_reused, id_or, names_app, own_add_file, own_again, own_files, own_use_document, reused_of}
 use Rattle.app_world.specs.Effect.{Gained, apply}
-use Rattle.app_world.specs.View.{AppView, view}
+use Rattle.app_world.specs.View.{view}
 use Rattle.app_world.proofs.AddLaws.{Facts, Free, IsBase, base-again, base-new, facts-own, grows-own, t-documents, t-files, used-own}
 
 -- ---- a document that was there before the call, or that the call made
@@ -121,8 +121,8 @@ module _ (app : List ℕ) (a : AddRequest) (before : List Document) (held : ℕ 
         numbers = ap (drop 1) s.numbers;
         ids = λ i. s.ids i ++ doc_text (first_number (s.numbers i)).number ∷ [];
         documents =
-          t-documents app (Who.App app) a done.state base id path b
-          ∙ ((λ i. s.documents i ++ same i ∷ []) ∙ append_assoc before mine.made (new_document a (first_number mine.numbers) path ∷ []));
+            t-documents app (Who.App app) a done.state base id path b
+            ∙ ((λ i. s.documents i ++ same i ∷ []) ∙ append_assoc before mine.made (new_document a (first_number mine.numbers) path ∷ []));
         files = t-files app (Who.App app) a done.state base id path b ∙ s.files;
         grows = λ m. grows-own app a done.state base id path b h m (held m) (s.grows m);
         facts = facts-own app a done.state base id path b h s.facts;

@@ -1,10 +1,9 @@
 -- What the trace tells of an Add is what its own machine needs: the documents that are used again, the contents, and
 -- the looks that succeeded.
-use Rattle.std.proofs.Common.{◌≡◌, ℕ, ◌+◌, ◌≤◌, length, List, [], ◌∷◌, drop, map, take, zero, suc, Bool, true, false, ◌&&◌, ◌||◌, cond, Option, Some, None, refl, sym, ap, ◌∙◌, subst, arith}
+use Rattle.std.proofs.Common.{◌≡◌, ℕ, ◌≤◌, length, List, [], ◌∷◌, drop, map, take, zero, suc, Bool, true, false, ◌||◌, cond, Some, None, refl, sym, ap, ◌∙◌, arith}
 use Rattle.portal_base.specs.Names.{is_same}
 use Rattle.portal_base.specs.declared.files.File.{File}
 use Rattle.portal_base.specs.declared.files.Look.{Look}
-use Rattle.portal_base.specs.declared.names.doc_id.DocId.{DocId}
 use Rattle.portal_model.specs.declared.request.AddRequest.{AddRequest}
 use Rattle.portal_model.specs.declared.state.Document.{Document}
 use Rattle.portal_model.specs.Add.{used_again}
@@ -12,7 +11,7 @@ use Rattle.portal_model.specs.AddArguments.{is_left_out, persists, reuses}
 use Rattle.portal_model.specs.Content.{Content, content_at, look_of}
 use Rattle.portal_model.specs.Documents.{reusable_of}
 use Rattle.portal_model.specs.Verdict.{Verdict}
-use Rattle.portal_model.specs.Walk.{Walk, Answers, Gives, looks_at_all}
+use Rattle.portal_model.specs.Walk.{Answers, Gives, looks_at_all}
 use Rattle.portal_model.proofs.Finds.{is_same-eq}
 use Rattle.app_world.specs.Add.{OwnFile, content_shown, first_reused, own_files, reused_of}
 use Rattle.app_world.specs.View.{is_among}

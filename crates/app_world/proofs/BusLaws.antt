@@ -1,20 +1,16 @@
 -- A request on a bus: what it is to the application that asks, and to another.
 use Rattle.std.proofs.Common.{◌≡◌, ℕ, List, [], Bool, true, false, cond, Option, Some, None, refl, sym, ap, ◌∙◌}
 use Rattle.std.specs.Option.{option_map}
-use Rattle.portal_base.specs.declared.who.Who.{Who}
 use Rattle.portal_model.specs.declared.entry.Fault.{Fault}
 use Rattle.portal_model.specs.declared.entry.Given.{Given}
 use Rattle.portal_model.specs.declared.reply.Answer.{Answer}
 use Rattle.portal_model.specs.declared.reply.Code.TheVariants as Code
-use Rattle.portal_model.specs.declared.request.Request.{Request}
-use Rattle.portal_model.specs.declared.state.Connection.{Connection}
 use Rattle.portal_model.specs.Bus.{kept, settled}
 use Rattle.portal_model.specs.State.{State}
 use Rattle.portal_model.specs.Verdict.{Doing, Verdict, Refuses, Does}
 use Rattle.app_world.specs.Bus.{own_kept, own_settled}
 use Rattle.app_world.specs.Effect.{Effect, apply_all}
 use Rattle.app_world.specs.Own.{Own}
-use Rattle.app_world.specs.OwnVerdict.{OwnVerdict}
 use Rattle.app_world.specs.Touched.{is_done}
 use Rattle.app_world.specs.View.{AppView, view}
 use Rattle.app_world.proofs.ReachedLaws.{IsTouched, seen_verdict}

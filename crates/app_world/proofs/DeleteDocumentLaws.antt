@@ -1,5 +1,5 @@
 -- Delete: what it is to the application that asks, and to another.
-use Rattle.std.proofs.Common.{◌≡◌, ℕ, ◌==◌, List, [], ◌∷◌, Bool, true, false, not, cond, Option, Some, None, refl, ap, ◌∙◌}
+use Rattle.std.proofs.Common.{◌≡◌, ℕ, List, [], ◌∷◌, Bool, true, false, not, cond, Option, Some, None, refl, ap, ◌∙◌}
 use Rattle.std.specs.Option.{option_map}
 use Rattle.portal_base.specs.declared.who.Who.{Who}
 use Rattle.rights_rule.specs.Rights.{RightSet, holds_any}

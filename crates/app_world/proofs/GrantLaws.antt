@@ -17,8 +17,8 @@ use Rattle.portal_model.specs.Verdict.{unless}
 use Rattle.portal_model.proofs.Finds.{nat_is}
 use Rattle.app_world.specs.Effect.{Gained, apply_all}
 use Rattle.app_world.specs.Grant.{gained_in, granted_to, grant_touch, own_grant, own_grant_reached}
-use Rattle.app_world.specs.OwnVerdict.{OwnVerdict, OwnDoes, own_unless}
-use Rattle.app_world.specs.View.{AppView, HeldDocument, held_document, own_connections, seen, view}
+use Rattle.app_world.specs.OwnVerdict.{OwnDoes, own_unless}
+use Rattle.app_world.specs.View.{AppView, held_document, own_connections, seen, view}
 use Rattle.app_world.proofs.EffectLaws.{view-gained}
 use Rattle.app_world.proofs.HeldLaws.{held-add, union-new, union-nothing}
 use Rattle.app_world.proofs.ReachedLaws.{IsTouched, own_reached-is, reached-live, reached-named, seen-unless, seen_verdict, touched-unless}
@@ -92,7 +92,7 @@ module _ (app : List ℕ) (s : State) (who : Who) (call : RightsCall) where
       touched-unless app s (grant_touch app s call) (not (may_grant (held_by s.rights who d.id.number) (rights_named call.names))) Code.NotAllowed (granted s call d) (
         refl,
         ap (λ (o : Option Document). apply_all (view s app) (cond (is_same call.app app) (granted_to app s call o) [])) (n d refl)
-        ∙ given-seen app s d (l d refl) call.app (rights_named call.names) (is_same call.app app) refl,
+            ∙ given-seen app s d (l d refl) call.app (rights_named call.names) (is_same call.app app) refl,
       )
 
   -- another's Grant gives the view after it by what it touches

@@ -1,5 +1,5 @@
 -- RevokePermissions: what it is to the application that asks, and to another.
-use Rattle.std.proofs.Common.{◌≡◌, ℕ, ◌==◌, List, [], ◌∷◌, Bool, true, false, not, ◌&&◌, cond, Option, Some, None, refl, sym, ap, ◌∙◌, subst, arith}
+use Rattle.std.proofs.Common.{◌≡◌, ℕ, ◌==◌, List, [], ◌∷◌, Bool, true, false, not, ◌&&◌, cond, Option, Some, None, refl, sym, ap, ◌∙◌, subst}
 use Rattle.std.specs.Option.{option_map}
 use Rattle.portal_base.specs.Names.{is_same}
 use Rattle.portal_base.specs.declared.who.Who.{Who}
@@ -13,16 +13,16 @@ use Rattle.portal_model.specs.Grant.{are_rights_arguments}
 use Rattle.portal_model.specs.Revoke.{may_revoke, names_itself, revoke, revoked, revoke_reached}
 use Rattle.portal_model.specs.Rights.{held_by, take_rights}
 use Rattle.portal_model.specs.State.{State, document_of, held_of}
-use Rattle.portal_model.specs.Verdict.{does, unless}
+use Rattle.portal_model.specs.Verdict.{does}
 use Rattle.portal_model.proofs.Finds.{nat_is}
 use Rattle.portal_model.proofs.TripleOrder.{is_same-sym}
 use Rattle.app_world.specs.Effect.{Lost, apply, apply_all}
-use Rattle.app_world.specs.OwnVerdict.{OwnDoes, own_unless}
+use Rattle.app_world.specs.OwnVerdict.{OwnDoes}
 use Rattle.app_world.specs.Revoke.{common, lost_in, own_revoke, own_revoked, own_revoke_reached, revoked_from, revoke_touch}
-use Rattle.app_world.specs.View.{AppView, HeldDocument, held_document, own_connections, seen, view}
+use Rattle.app_world.specs.View.{AppView, held_document, own_connections, seen, view}
 use Rattle.app_world.proofs.EffectLaws.{view-lost}
 use Rattle.app_world.proofs.HeldLaws.{held-take, minus-common, minus-nothing}
-use Rattle.app_world.proofs.ReachedLaws.{IsTouched, own_reached-is, reached-live, reached-named, seen-unless, seen_verdict, touched-unless}
+use Rattle.app_world.proofs.ReachedLaws.{IsTouched, own_reached-is, reached-named, seen-unless, seen_verdict, touched-unless}
 use Rattle.app_world.proofs.ViewLaws.{view-documents}
 
 -- ---- rights that are taken in a document

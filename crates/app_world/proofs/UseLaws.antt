@@ -1,24 +1,17 @@
 -- One document that an Add uses, new or again: what it is to an application.
-use Rattle.std.proofs.Common.{◌≡◌, ℕ, ◌==◌, nat_eq, List, [], ◌∷◌, ◌++◌, map, Bool, true, false, not, ◌&&◌, ◌||◌, cond, Option, Some, None, refl, sym, ap, ◌∙◌, subst, arith}
-use Rattle.std.specs.List.{find, list_any, IsDistinct, AllByRecursion}
-use Rattle.std.specs.Option.{option_map}
-use Rattle.std.proofs.lemmas.Bool.Decides.{nat_tests}
-use Rattle.std.proofs.lemmas.Cmp.{nat_eq_equiv}
-use Rattle.std.proofs.lemmas.Map.Keys.{IsDistinct-push}
-use Rattle.std.proofs.lemmas.List.{map-append}
+use Rattle.std.proofs.Common.{◌≡◌, ℕ, ◌==◌, List, [], ◌∷◌, ◌++◌, Bool, true, false, not, ◌&&◌, cond, Option, Some, None, refl, sym, ap, ◌∙◌, subst, arith}
 use Rattle.portal_base.specs.Names.{is_same}
 use Rattle.portal_base.specs.declared.names.doc_id.DocId.{DocId}
 use Rattle.portal_base.specs.declared.who.Who.{Who}
 use Rattle.rights_rule.specs.Rights.{RightSet, contains, holds_any, minus, rights_named, union}
 use Rattle.portal_model.specs.declared.request.AddRequest.{AddRequest}
 use Rattle.portal_model.specs.declared.state.Document.{Document}
-use Rattle.portal_model.specs.Add.{adding_rights, caller_rights, listed_rights, new_document, used_again, with_new_document, with_rights_of}
-use Rattle.portal_model.specs.AddArguments.{names_nobody, persists, reuses}
+use Rattle.portal_model.specs.Add.{adding_rights, caller_rights, listed_rights, with_rights_of}
+use Rattle.portal_model.specs.AddArguments.{names_nobody}
 use Rattle.portal_model.specs.Content.{content_at}
-use Rattle.portal_model.specs.Documents.{id_of_document, reusable_of, same_flag, serves}
 use Rattle.portal_model.specs.Grant.{given_rights}
 use Rattle.portal_model.specs.State.{State, document_of, held_of, is_app}
-use Rattle.portal_model.proofs.Finds.{found_passes, is_same-eq, is_same-refl, nat_is}
+use Rattle.portal_model.proofs.Finds.{is_same-refl, nat_is}
 use Rattle.app_world.specs.Add.{names_app}
 use Rattle.app_world.specs.Effect.{Gained, apply, apply_all}
 use Rattle.app_world.specs.Grant.{gained_in}

@@ -10,7 +10,6 @@ use Rattle.rights_rule.specs.Rights.{RightSet, contains, no_rights, rights_named
 use Rattle.portal_model.specs.declared.entry.Given.{Given}
 use Rattle.portal_model.specs.declared.reply.Answer.{Answer}
 use Rattle.portal_model.specs.declared.reply.Code.{Code}
-use Rattle.portal_model.specs.declared.reply.Code.TheVariants as Code
 use Rattle.portal_model.specs.declared.request.AddRequest.{AddRequest}
 use Rattle.portal_model.specs.declared.state.Connection.{Connection}
 use Rattle.portal_model.specs.declared.state.Document.{Document}
@@ -40,7 +39,8 @@ document_used a numbers path again = new_document a (id_or again (first_number n
 abbrev pub names_app : List ℕ → AddRequest → Bool
 names_app app a = not (names_nobody a) && is_same a.app app
 
--- per file that isn't left out, the listed rights that the application did not hold before this file
+-- per file that isn't left out, the listed rights that the application did not hold before this
+-- file
 abbrev pub file_touch : List ℕ → AddRequest → Added → List ℕ → List Effect
 file_touch app a done path =
     let d = document_used a done.numbers path (used_again done.state.documents a path) in
@@ -102,8 +102,8 @@ own_may_list v a f =
 abbrev pub own_may_list_all : AppView → AddRequest → List OwnFile → Bool
 own_may_list_all v a files = names_nobody a || list_all (own_may_list v a) files
 
--- what was added so far: the view, the numbers that are left for new documents, the identifiers, and the
--- documents that this call made
+-- what was added so far: the view, the numbers that are left for new documents, the identifiers,
+-- and the documents that this call made
 pub record OwnAdded : Type 0 where
   pub view : AppView
   pub numbers : List DocId

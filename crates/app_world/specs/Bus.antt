@@ -1,5 +1,5 @@
--- What a request of an application on a bus comes to in its view, and what then becomes of the view;
--- and what one of another touches.
+-- What a request of an application on a bus comes to in its view, and what then becomes of the
+-- view; and what one of another touches.
 use Rattle.std.specs.Prelude.{ℕ, List, [], Option, Some, None, cond}
 use Rattle.portal_model.specs.declared.entry.Fault.{Fault}
 use Rattle.portal_model.specs.declared.entry.Given.{Given}
@@ -67,8 +67,8 @@ abbrev pub add_touch_by : List ℕ → State → AddRequest → Given → Option
 add_touch_by app s a given None = []
 add_touch_by app s a given (Some c) = add_touch app s c a given.numbers
 
--- What a request that is done changes of the view of an application that did not make it; it came on
--- this connection
+-- What a request that is done changes of the view of an application that did not make it; it came
+-- on this connection
 abbrev pub bus_touch : List ℕ → State → Request → Given → Option Connection → List Effect
 bus_touch app s (Request.Add a) given o = add_touch_by app s a given o
 bus_touch app s (Request.Grant call) given o = grant_touch app s call

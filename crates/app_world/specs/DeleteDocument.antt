@@ -1,5 +1,5 @@
 -- Delete, in the view of the application that asks; and what it changes of another's.
-use Rattle.std.specs.Prelude.{ℕ, List, [], ◌∷◌, Bool, not, Option, Some, None, cond}
+use Rattle.std.specs.Prelude.{ℕ, List, [], ◌∷◌, not, Option, Some, None, cond}
 use Rattle.rights_rule.specs.Rights.{holds_any}
 use Rattle.portal_model.specs.declared.reply.Answer.{Answer}
 use Rattle.portal_model.specs.declared.reply.Code.TheVariants as Code
@@ -23,7 +23,8 @@ own_delete_document v doc = own_delete_reached v (own_reached v doc)
 
 abbrev pub deleted_from : List ℕ → State → Option Document → List Effect
 deleted_from app s None = []
-deleted_from app s (Some d) = cond (holds_any (held_of s.rights app d.id.number)) (Gone d.id ∷ []) []
+deleted_from app s (Some d) =
+    cond (holds_any (held_of s.rights app d.id.number)) (Gone d.id ∷ []) []
 
 -- where it is done: the document, if the application has a right in it
 abbrev pub delete_touch : List ℕ → State → List ℕ → List Effect

@@ -1,5 +1,5 @@
--- Worked examples of requests on documents in the world of one application. What is expected is worked
--- out by hand from the rules.
+-- Worked examples of requests on documents in the world of one application. What is expected is
+-- worked out by hand from the rules.
 use Rattle.std.specs.Prelude.{◌≡◌, ℕ, List, [], ◌∷◌, codes, map}
 use Rattle.portal_model.specs.declared.entry.Entry.{Entry}
 use Rattle.portal_model.specs.declared.opening.OpeningDocument.{OpeningDocument}
@@ -13,8 +13,8 @@ use Rattle.portal_model.specs.Opening.{opened}
 use Rattle.portal_model.specs.State.{State}
 use Rattle.app_world.specs.World.{app_run, trace}
 
--- over a tree with the file a.txt, and an empty one in the editor's own folder; with a bus of the editor at
--- seat 1 and one of the host at seat 2
+-- over a tree with the file a.txt, and an empty one in the editor's own folder; with a bus of the
+-- editor at seat 1 and one of the host at seat 2
 abbrev pub in_tree : List OpeningDocument → State
 in_tree documents = run (opened (opening documents (file n_text [] ∷ hello))) buses
 
@@ -24,8 +24,8 @@ own_answers app s h = map (λ r. r.answer) (app_run (trace app s h))
 
 -- ---- its own additions, and those of others
 
--- the host gives the viewer the right to read n.txt in a document that may be used again; then the editor
--- adds the same file
+-- the host gives the viewer the right to read n.txt in a document that may be used again; then the
+-- editor adds the same file
 abbrev pub held_by_another : List Entry
 held_by_another =
     presents 2 n_text
@@ -35,8 +35,8 @@ held_by_another =
     ∷ asked_alone 1 (Request.Grant (rights_call (codes "00000005") viewer (codes "write" ∷ [])))
     ∷ []
 
--- An application that adds uses a document again that its view does not hold, and finds the one that
--- its call made. Another's additions give it what it did not hold, and nothing the second time.
+-- An application that adds uses a document again that its view does not hold, and finds the one
+-- that its call made.
 pub record WorldsOfAdditions : Type 0 where
   pub once :
       own_answers editor (in_tree []) (two_files 1 (5 ∷ []))
@@ -52,7 +52,8 @@ pub record WorldsOfAdditions : Type 0 where
 
 abbrev pub two_documents : State
 two_documents =
-    in_tree (document 10 n_text (grant editor 5 ∷ []) ∷ document 11 n_text (grant editor 1 ∷ []) ∷ [])
+    in_tree
+    (document 10 n_text (grant editor 5 ∷ []) ∷ document 11 n_text (grant editor 1 ∷ []) ∷ [])
 
 -- the editor takes its right to read in the second document from itself
 abbrev pub from_itself : List Entry

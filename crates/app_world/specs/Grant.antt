@@ -1,5 +1,5 @@
 -- GrantPermissions, in the view of the application that asks; and what it changes of another's.
-use Rattle.std.specs.Prelude.{ℕ, List, [], ◌∷◌, Bool, not, Option, Some, None, cond}
+use Rattle.std.specs.Prelude.{ℕ, List, [], ◌∷◌, not, Option, Some, None, cond}
 use Rattle.portal_base.specs.Names.{is_same}
 use Rattle.rights_rule.specs.Rights.{RightSet, holds_any, minus, rights_named}
 use Rattle.portal_model.specs.declared.reply.Answer.{Answer}

@@ -38,9 +38,10 @@ is_no_add request = true
 abbrev pub asks_bus : ℕ → Request → Given → Entry
 asks_bus seat request given = record { seat = seat; request = request; given = given }
 
--- Of a request of a bus but an Add, on the open connection of its seat, whatever the outside gave it.
--- Where the connection is the application's, its own machine gives the reply and the view after; where
--- it is another's, what is touched gives the view after, and nothing is touched where it is not done.
+-- Of a request of a bus but an Add, on the open connection of its seat, whatever the outside gave
+-- it. Where the connection is the application's, its own machine gives the reply and the view
+-- after; where it is another's, what is touched gives the view after, and nothing is touched where
+-- it is not done.
 pub record BusSeen : Type 0 where
   pub own :
       (app : List ℕ) (s : State) (seat : ℕ) (request : Request) (given : Given) (c : Connection) →
@@ -48,7 +49,10 @@ pub record BusSeen : Type 0 where
       connection_of s.connections seat ≡ Some c → is_app app c.who ≡ true →
       own_bus_step (view s app) (own_of s (asks_bus seat request given)) request
       (own_bus_of (found_connection (view s app).connections seat))
-      ≡ (view (bus_step s request given (bus_of (Some c))).0 app, (bus_step s request given (bus_of (Some c))).1)
+      ≡ (
+        view (bus_step s request given (bus_of (Some c))).0 app,
+        (bus_step s request given (bus_of (Some c))).1,
+      )
   pub other :
       (app : List ℕ) (s : State) (seat : ℕ) (request : Request) (given : Given) (c : Connection) →
       Valid s → is_no_add request ≡ true →

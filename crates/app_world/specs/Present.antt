@@ -12,12 +12,15 @@ abbrev pub own_requeued : ℕ → (List (List ℕ) → List (List ℕ)) → OwnC
 own_requeued seat change c = cond (c.seat == seat) (record c { queue = change c.queue }) c
 
 abbrev pub own_with_queue : ℕ → (List (List ℕ) → List (List ℕ)) → AppView → AppView
-own_with_queue seat change v = record v { connections = map (own_requeued seat change) v.connections }
+own_with_queue seat change v =
+    record v { connections = map (own_requeued seat change) v.connections }
 
 abbrev pub own_queue_path : AppView → OwnConnection → List ℕ → OwnVerdict
 own_queue_path v c path =
     own_unless (not (nat_lt (length c.queue) v.queued)) Code.LimitsExceeded
-    (OwnDoes (own_with_queue c.seat (λ queue. queue ++ path ∷ []) v) (Answer.Place (length c.queue)))
+    (OwnDoes
+    (own_with_queue c.seat (λ queue. queue ++ path ∷ []) v)
+    (Answer.Place (length c.queue)))
 
 -- a path in its own folder
 abbrev pub own_present_path : AppView → OwnConnection → List ℕ → OwnVerdict
