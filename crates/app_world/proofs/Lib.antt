@@ -21,6 +21,7 @@ pub mod BusLaws
 pub mod AddCallLaws
 pub mod AddMadeLaws
 pub mod AddTold
+pub mod AddFree
 pub mod PlaceLaws
 pub mod GetAttrLaws
 pub mod WorldLaws

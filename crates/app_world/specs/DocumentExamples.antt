@@ -1,6 +1,6 @@
 -- Worked examples of requests on documents in the world of one application. What is expected is
 -- worked out by hand from the rules.
-use Rattle.std.specs.Prelude.{◌≡◌, ℕ, List, [], ◌∷◌, codes, map}
+use Rattle.std.specs.Prelude.{◌≡◌, ℕ, List, [], ◌∷◌, true, false, codes, map}
 use Rattle.portal_model.specs.declared.entry.Entry.{Entry}
 use Rattle.portal_model.specs.declared.opening.OpeningDocument.{OpeningDocument}
 use Rattle.portal_model.specs.declared.reply.Answer.{Answer}
@@ -11,7 +11,12 @@ use Rattle.portal_model.specs.Examples.{document, editor, file, grant, hello, op
 use Rattle.portal_model.specs.History.{run}
 use Rattle.portal_model.specs.Opening.{opened}
 use Rattle.portal_model.specs.State.{State}
-use Rattle.app_world.specs.World.{app_run, trace}
+use Rattle.portal_model.specs.declared.state.Document.{Document}
+use Rattle.portal_model.specs.Content.{OfFile}
+use Rattle.rights_rule.specs.Rights.{RightSet}
+use Rattle.app_world.specs.Effect.{Gained, Gone, Lost}
+use Rattle.app_world.specs.Examples.{id, reads}
+use Rattle.app_world.specs.World.{Changed, app_run, items, trace}
 
 -- over a tree with the file a.txt, and an empty one in the editor's own folder; with a bus of the
 -- editor at seat 1 and one of the host at seat 2
@@ -68,3 +73,34 @@ pub record WorldsOfRemovals : Type 0 where
   pub own :
       own_answers editor two_documents from_itself
       ≡ Answer.Done ∷ Answer.Refused Code.NotFound ∷ Answer.Refused Code.NotAllowed ∷ []
+
+-- ---- what others touch
+
+-- the editor may read and grant in the first document, and read in the second; both are of one path
+abbrev pub by_the_host : List Entry
+by_the_host =
+    asked_alone 2
+    (Request.Revoke
+    (rights_call (codes "0000000a") editor (codes "write" ∷ codes "read" ∷ [])))
+    ∷ asked_alone 2 (Request.DeleteDocument (codes "0000000b"))
+    ∷ asked_alone 2 (Request.DeleteDocument (codes "0000000b"))
+    ∷ asked_alone 2
+    (Request.Grant
+    (rights_call (codes "0000000a") editor (codes "grant-permissions" ∷ codes "delete" ∷ [])))
+    ∷ []
+
+abbrev pub a_document : Document
+a_document =
+    record { id = id 10; path = n_text; persistent = true; reusable = true }
+
+abbrev pub deletes : RightSet
+deletes = record { read = false; write = false; grant_permissions = false; delete = true }
+
+-- It is told of what it held before, and of what it did not; and nothing of what isn't done.
+pub record WhatIsTouched : Type 0 where
+  pub by_host :
+      items editor two_documents by_the_host
+      ≡ Changed (Lost (id 10) reads)
+      ∷ Changed (Gone (id 11))
+      ∷ Changed (Gained a_document deletes (OfFile 0 [] 0))
+      ∷ []
