@@ -1,11 +1,11 @@
 -- The rights that an application holds after some were added or taken, or all in a document went.
-use Rattle.std.proofs.Common.{◌≡◌, ℕ, ◌==◌, List, [], ◌∷◌, ◌++◌, Bool, true, false, not, ◌&&◌, ◌||◌, cond, refl, ap, ◌∙◌, arith}
+use Rattle.std.proofs.Common.{◌≡◌, ℕ, ◌==◌, List, [], ◌∷◌, ◌++◌, Bool, true, false, not, ◌&&◌, ◌||◌, cond, refl, sym, ap, ◌∙◌, arith}
 use Rattle.std.specs.List.{filter, list_any}
 use Rattle.std.proofs.lemmas.Bool.Decides.{nat_tests}
 use Rattle.std.proofs.lemmas.List.Folds.{list_any-append}
 use Rattle.portal_base.specs.Names.{is_same}
 use Rattle.portal_base.specs.declared.names.doc_id.DocId.{DocId}
-use Rattle.rights_rule.specs.Rights.{RightSet, holds_any, minus, union}
+use Rattle.rights_rule.specs.Rights.{RightSet, contains, holds_any, minus, union}
 use Rattle.portal_model.specs.declared.rights.Right.{Right}
 use Rattle.portal_model.specs.declared.rights.Right.TheVariants.{Read, Write, GrantPermissions, Delete}
 use Rattle.portal_model.specs.declared.state.Triple.{Triple}
@@ -13,6 +13,7 @@ use Rattle.portal_model.specs.State.{app_has, bit_of, gives, held_of, same_right
 use Rattle.portal_model.specs.Rights.{add_rights, forget_document, is_in, is_listed, take_rights, triple_less, triples_of}
 use Rattle.portal_model.proofs.FourTriples.{gives-of}
 use Rattle.portal_model.proofs.Rising.{any-put_all}
+use Rattle.app_world.specs.Revoke.{common}
 use Rattle.portal_model.proofs.TripleOrder.{bits-apart, is_same-eq, nat_is, triples}
 
 pub same-rights : (a b : RightSet) → a.read ≡ b.read → a.write ≡ b.write → a.grant_permissions ≡ b.grant_permissions → a.delete ≡ b.delete → a ≡ b
@@ -115,3 +116,13 @@ minus-nothing m less e = same-rights (minus m less) m (grind arith) (grind arith
 
 pub nothing-minus : (m less : RightSet) → holds_any m ≡ false → holds_any (minus m less) ≡ false
 nothing-minus m less e = grind arith
+
+-- to take what is in both sets is to take the set
+pub minus-common : (m set : RightSet) → minus m set ≡ minus m (common set m)
+minus-common m set =
+    same-rights (minus m set) (minus m (common set m))
+    (sym (not-both m.read set.read)) (sym (not-both m.write set.write)) (sym (not-both m.grant_permissions set.grant_permissions)) (sym (not-both m.delete set.delete))
+
+-- a set adds nothing to one that has it
+pub union-covered : (m set : RightSet) → contains m set ≡ true → union m set ≡ m
+union-covered m set e = same-rights (union m set) m (grind arith) (grind arith) (grind arith) (grind arith)

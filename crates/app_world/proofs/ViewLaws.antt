@@ -167,11 +167,11 @@ one_told app seat c more more' e = elim (c.seat == seat) as (λ b. cond (is_app 
   | false ↦ ap (λ (m : List OwnConnection). cond (is_app app c.who) (own_connection app c ∷ m) m) e
 ]
 
-own_first : (app : List ℕ) (c : Connection) (cs : List Connection) (b : Bool) → is_app app c.who ≡ b → own_connections app (c ∷ cs) ≡ cond b (own_connection app c ∷ own_connections app cs) (own_connections app cs)
+pub own_first : (app : List ℕ) (c : Connection) (cs : List Connection) (b : Bool) → is_app app c.who ≡ b → own_connections app (c ∷ cs) ≡ cond b (own_connection app c ∷ own_connections app cs) (own_connections app cs)
 own_first app c cs true e = rw e refl
 own_first app c cs false e = rw e refl
 
-own_told : (app : List ℕ) (seat : ℕ) (cs : List Connection) → own_connections app (map (told_of seat) cs) ≡ own_connections app cs
+pub own_told : (app : List ℕ) (seat : ℕ) (cs : List Connection) → own_connections app (map (told_of seat) cs) ≡ own_connections app cs
 own_told app seat [] = refl
 own_told app seat (c ∷ cs) =
     own_first app (told_of seat c) (map (told_of seat) cs) (is_app app (told_of seat c).who) refl

@@ -1,29 +1,56 @@
 -- The world of one application: one step, and a whole history.
-use Rattle.std.proofs.Common.{◌≡◌, ℕ, List, [], ◌∷◌, ◌++◌, Bool, true, false, cond, Option, Some, None, refl, sym, ap, ◌∙◌, subst, map}
+use Rattle.std.proofs.Common.{◌≡◌, ◌==◌, ℕ, List, [], ◌∷◌, ◌++◌, Bool, true, false, cond, Option, Some, None, refl, sym, ap, ◌∙◌, subst, map}
 use Rattle.portal_base.specs.declared.who.Who.{Who}
 use Rattle.portal_model.specs.declared.entry.Entry.{Entry}
 use Rattle.portal_model.specs.declared.entry.Given.{Given}
 use Rattle.portal_model.specs.declared.reply.Answer.{Answer}
+use Rattle.portal_model.specs.declared.reply.Code.TheVariants as Code
 use Rattle.portal_model.specs.declared.reply.Reply.{Reply}
 use Rattle.portal_model.specs.declared.request.NodeOp.{NodeOp}
 use Rattle.portal_model.specs.declared.request.NodeRequest.{NodeRequest}
 use Rattle.portal_model.specs.declared.request.Request.{Request}
 use Rattle.portal_model.specs.declared.state.Connection.{Connection}
-use Rattle.app_world.specs.Effect.{Effect, apply, apply_all}
-use Rattle.portal_model.specs.History.{made_by, makes, EachLawful, replies}
-use Rattle.portal_model.specs.Lawful.{Lawful, LooksAre, LawfulLooks}
+use Rattle.portal_model.specs.Bus.{bus_answer, settled}
+use Rattle.portal_model.specs.DeleteDocument.{delete_document}
+use Rattle.portal_model.specs.Grant.{grant}
+use Rattle.portal_model.specs.History.{is_by, made_by, maker, makes, EachLawful, replies}
+use Rattle.portal_model.specs.Info.{info}
+use Rattle.portal_model.specs.Lawful.{Lawful, LooksAre, LawfulLooks, is_defined}
+use Rattle.portal_model.specs.ListDocuments.{list_documents}
+use Rattle.portal_model.specs.LookupDocument.{lookup_document}
+use Rattle.portal_model.specs.Present.{present}
+use Rattle.portal_model.specs.Revoke.{revoke}
 use Rattle.portal_model.specs.State.{State, connection_of, is_app}
-use Rattle.portal_model.specs.Step.{is_mount, bus_of, mount_of, all_told, with_signals, node_answer, node_step, request_step, after, reply_at, node_op_looks, node_looks, looks_taken, undefined_answer}
+use Rattle.portal_model.specs.Step.{is_mount, bus_of, bus_step, mount_of, all_told, with_signals, node_answer, node_step, request_step, after, reply_at, node_op_looks, node_looks, looks_taken, undefined_answer}
 use Rattle.portal_model.specs.Valid.{Valid}
-use Rattle.app_world.specs.View.{AppView, OwnConnection, found_connection, own_connection, own_connections, view}
-use Rattle.app_world.specs.World.{Own, TraceItem, Asked, Changed, own_mount_of, own_of, own_node_answer, own_node_step, app_step, node_touch, touch, items, own_replies, trace, app_run}
-use Rattle.app_world.proofs.CollectLaws.{collect_own, collect_other}
-use Rattle.app_world.proofs.EnterLaws.{enter_own, enter_other}
+use Rattle.portal_model.specs.Verdict.{Verdict, does}
+use Rattle.portal_model.proofs.Finds.{found_passes, nat_is}
 use Rattle.portal_model.proofs.Kept.{step_told}
-use Rattle.app_world.proofs.GetAttrLaws.{get_attr_own}
-use Rattle.app_world.proofs.LeaveLaws.{leave_own, leave_other}
 use Rattle.portal_model.proofs.ValidLaws.{after-Valid}
-use Rattle.app_world.proofs.ViewLaws.{is_app-named, own-some, own_unsent, view-told}
+use Rattle.app_world.specs.Bus.{bus_touch, own_bus_answer, own_bus_step, own_bus_verdict, own_refused_view, own_settled}
+use Rattle.app_world.specs.DeleteDocument.{delete_touch, own_delete_document}
+use Rattle.app_world.specs.Effect.{Effect, apply, apply_all}
+use Rattle.app_world.specs.Grant.{grant_touch, own_grant}
+use Rattle.app_world.specs.Laws.{is_no_add}
+use Rattle.app_world.specs.Own.{Own}
+use Rattle.app_world.specs.OwnVerdict.{OwnVerdict, OwnRefuses}
+use Rattle.app_world.specs.Present.{own_present}
+use Rattle.app_world.specs.Revoke.{own_revoke, revoke_touch}
+use Rattle.app_world.specs.Touched.{is_done}
+use Rattle.app_world.specs.View.{AppView, OwnConnection, found_connection, own_connection, own_connections, view}
+use Rattle.app_world.specs.World.{TraceItem, Asked, Changed, app_run, app_step, items, own_bus_of, own_mount_of, own_node_answer, own_node_step, own_of, own_replies, touch, trace}
+use Rattle.app_world.proofs.BusLaws.{seen_answer, settled-other, settled-own}
+use Rattle.app_world.proofs.CollectLaws.{collect_own, collect_other}
+use Rattle.app_world.proofs.DeleteDocumentLaws.{delete-other, delete-own}
+use Rattle.app_world.proofs.EnterLaws.{enter_own, enter_other}
+use Rattle.app_world.proofs.GetAttrLaws.{get_attr_own}
+use Rattle.app_world.proofs.GrantLaws.{grant-other, grant-own}
+use Rattle.app_world.proofs.LeaveLaws.{leave_own, leave_other}
+use Rattle.app_world.proofs.PresentLaws.{own-other, present-other, present-own}
+use Rattle.app_world.proofs.ReachedLaws.{IsTouched, seen_verdict}
+use Rattle.app_world.proofs.ReadingLaws.{info-other, list-other, lookup-other}
+use Rattle.app_world.proofs.RevokeLaws.{revoke-other, revoke-own}
+use Rattle.app_world.proofs.ViewLaws.{is_app-named, own-some, own_told, own_unsent, view-told}
 
 -- a step, as the view sees it
 abbrev seen_step : {X : Type 0} → List ℕ → State × X → AppView × X
@@ -36,25 +63,19 @@ entry seat request given = record { seat = seat; request = request; given = give
 
 node_answer_own : (app : List ℕ) (s : State) (told : ℕ) (r : NodeRequest) (op : NodeOp) (seat : ℕ) (request : Request) (given : Given) → Valid s →
     LooksAre (node_op_looks s (Who.App app) r op) given.fault given.looks →
-    own_node_answer (view s app) r op (own_of (entry seat request given)) ≡ seen_step app (node_answer (all_told told s) (Who.App app) r op given)
+    own_node_answer (view s app) r op (own_of s (entry seat request given)) ≡ seen_step app (node_answer (all_told told s) (Who.App app) r op given)
 node_answer_own app s told r (NodeOp.GetAttr flags fh) seat request given v l = λ i. (sym (view-told app s told) i, get_attr_own app s r flags given.fault given.looks l i)
 node_answer_own app s told r op seat request given v l = λ i. (sym (view-told app s told) i, undefined_answer)
 
-node_answer_other : (app : List ℕ) (s : State) (told : ℕ) (who : Who) (r : NodeRequest) (op : NodeOp) (given : Given) → Valid s →
-    apply_all (view s app) (node_touch app s r op given) ≡ view (node_answer (all_told told s) who r op given).0 app
-node_answer_other app s told who r (NodeOp.GetAttr flags fh) given v = sym (view-told app s told)
-node_answer_other app s told who r op given v = sym (view-told app s told)
-
--- nothing is touched where nobody is asked
-node_touch_nobody : (app : List ℕ) (s : State) (r : NodeRequest) (op : NodeOp) (given : Given) → apply_all (view s app) (node_touch app s r op given) ≡ view s app
-node_touch_nobody app s r (NodeOp.GetAttr flags fh) given = refl
-node_touch_nobody app s r op given = refl
+node_answer_other : (app : List ℕ) (s : State) (told : ℕ) (who : Who) (r : NodeRequest) (op : NodeOp) (given : Given) → view s app ≡ view (node_answer (all_told told s) who r op given).0 app
+node_answer_other app s told who r (NodeOp.GetAttr flags fh) given = sym (view-told app s told)
+node_answer_other app s told who r op given = sym (view-told app s told)
 
 -- ---- by the connection that asks
 
 module _ (app : List ℕ) (s : State) (seat : ℕ) (r : NodeRequest) (given : Given) (v : Valid s) where
   abbrev own : Own
-  own = own_of (entry seat (Request.Node r) given)
+  own = own_of s (entry seat (Request.Node r) given)
 
   node_mount_own : (c : Connection) (m : Bool) → connection_of s.connections seat ≡ Some c → is_app app c.who ≡ true → LooksAre (node_looks s r (cond m (Some c) None)) given.fault given.looks →
       own_node_step (view s app) r own (cond m (Some (own_connection app c)) None) ≡ seen_step app (node_step s r given (cond m (Some c) None))
@@ -72,27 +93,116 @@ module _ (app : List ℕ) (s : State) (seat : ℕ) (r : NodeRequest) (given : Gi
       ap (λ (o : Option OwnConnection). own_node_step (view s app) r own (own_mount_of o)) (own-some app seat s.connections c e h)
       ∙ node_mount_own c (is_mount c.kind) e h l
 
-  node_other : (o : Option Connection) → apply_all (view s app) (node_touch app s r r.op given) ≡ view (node_step s r given o).0 app
-  node_other None = node_touch_nobody app s r r.op given
-  node_other (Some c) = node_answer_other app s c.seat c.who r r.op given v
+  node_other : (o : Option Connection) → view s app ≡ view (node_step s r given o).0 app
+  node_other None = refl
+  node_other (Some c) = node_answer_other app s c.seat c.who r r.op given
+
+-- ---- a request on a bus, by its kind
+
+module _ (app : List ℕ) (s : State) (c : Connection) (given : Given) (own : Own) (full : own.full ≡ given.full) (fault : own.fault ≡ given.fault) (named : c.who ≡ Who.App app) where
+  abbrev v : AppView
+  v = view s app
+
+  -- what it comes to is the same in the state and in the view
+  same_verdict : (request : Request) (mine : OwnVerdict) (verdict : Verdict) → own_bus_verdict v (own_connection app c) own request ≡ Some mine → own_refused_view v (own_connection app c) request ≡ v → mine ≡ seen_verdict app verdict →
+      own_bus_answer v (own_connection app c) own request ≡ seen_answer app (settled s s given (Some verdict))
+  same_verdict request mine verdict e l f =
+      (λ i. own_settled v (l i) own ((e ∙ ap Some f) i)) ∙ settled-own app s s given own full fault (Some verdict)
+
+  bus_answer_own : (request : Request) → is_no_add request ≡ true → own_bus_answer v (own_connection app c) own request ≡ seen_answer app (bus_answer s c request given)
+  bus_answer_own (Request.Present path) d = same_verdict (Request.Present path) (own_present v (own_connection app c) path) (present s c path) refl refl (present-own app s c path named)
+  bus_answer_own (Request.Add a) d = cc
+  bus_answer_own (Request.Grant call) d =
+      same_verdict (Request.Grant call) (own_grant v call) (grant s c.who call) refl refl (grant-own app s call ∙ ap (λ (who : Who). seen_verdict app (grant s who call)) (sym named))
+  bus_answer_own (Request.Revoke call) d =
+      same_verdict (Request.Revoke call) (own_revoke app v call) (revoke s c.who call) refl refl (revoke-own app s call ∙ ap (λ (who : Who). seen_verdict app (revoke s who call)) (sym named))
+  bus_answer_own (Request.DeleteDocument doc) d =
+      same_verdict (Request.DeleteDocument doc) (own_delete_document v doc) (delete_document s c.who doc) refl refl (delete-own app s doc ∙ ap (λ (who : Who). seen_verdict app (delete_document s who doc)) (sym named))
+  bus_answer_own (Request.LookupDocument path) d =
+      same_verdict (Request.LookupDocument path) (OwnRefuses Code.NotAllowed) (lookup_document s c.who path) refl refl (ap (λ (who : Who). seen_verdict app (lookup_document s who path)) (sym named))
+  bus_answer_own (Request.Info doc) d =
+      same_verdict (Request.Info doc) (OwnRefuses Code.NotAllowed) (info s c.who doc) refl refl (ap (λ (who : Who). seen_verdict app (info s who doc)) (sym named))
+  bus_answer_own (Request.ListDocuments name) d =
+      same_verdict (Request.ListDocuments name) (OwnRefuses Code.NotAllowed) (list_documents s c.who name) refl refl (ap (λ (who : Who). seen_verdict app (list_documents s who name)) (sym named))
+  bus_answer_own request d = settled-own app s s given own full fault (Some (does s Answer.Done))
+
+module _ (app : List ℕ) (s : State) (c : Connection) (given : Given) (e : found_connection (own_connections app s.connections) c.seat ≡ None) where
+  abbrev t : State
+  t = all_told c.seat s
+
+  touches : (fs : List Effect) (verdict : Verdict) → IsTouched app t fs verdict → apply_all (view s app) (cond (is_done (settled t t given (Some verdict)).1) fs []) ≡ view (settled t t given (Some verdict)).0 app
+  touches fs verdict h = settled-other app t t (view s app) given fs (view-told app s c.seat) (view-told app s c.seat) (Some verdict) h
+
+  bus_answer_other : (request : Request) → is_no_add request ≡ true → apply_all (view s app) (cond (is_done (bus_answer t c request given).1) (bus_touch app s request given (Some c)) []) ≡ view (bus_answer t c request given).0 app
+  bus_answer_other (Request.Present path) d =
+      touches [] (present t c path) (present-other app t c path (ap (λ (cs : List OwnConnection). found_connection cs c.seat) (own_told app c.seat s.connections) ∙ e))
+  bus_answer_other (Request.Add a) d = cc
+  bus_answer_other (Request.Grant call) d = touches (grant_touch app s call) (grant t c.who call) (grant-other app t c.who call)
+  bus_answer_other (Request.Revoke call) d = touches (revoke_touch app s call) (revoke t c.who call) (revoke-other app t c.who call)
+  bus_answer_other (Request.DeleteDocument doc) d = touches (delete_touch app s doc) (delete_document t c.who doc) (delete-other app t c.who doc)
+  bus_answer_other (Request.LookupDocument path) d = touches [] (lookup_document t c.who path) (lookup-other app t c.who path)
+  bus_answer_other (Request.Info doc) d = touches [] (info t c.who doc) (info-other app t c.who doc)
+  bus_answer_other (Request.ListDocuments name) d = touches [] (list_documents t c.who name) (list-other app t c.who name)
+  bus_answer_other request d = touches [] (does t Answer.Done) (refl, refl)
+
+module _ (app : List ℕ) (s : State) (seat : ℕ) (request : Request) (given : Given) (v : Valid s) (d : is_no_add request ≡ true) where
+  abbrev mine : Own
+  mine = own_of s (entry seat request given)
+
+  bus_kind_own : (c : Connection) (m : Bool) → connection_of s.connections seat ≡ Some c → is_app app c.who ≡ true →
+      own_bus_step (view s app) mine request (cond m None (Some (own_connection app c))) ≡ seen_step app (bus_step s request given (cond m None (Some c)))
+  bus_kind_own c true e h = refl
+  bus_kind_own c false e h =
+      ap (λ (x : AppView). with_signals [] (own_bus_answer x (own_connection app c) mine request)) (sym (view-told app s c.seat))
+      ∙ (ap (λ (done : AppView × Answer). with_signals [] done) (bus_answer_own app (all_told c.seat s) c given mine refl refl (is_app-named app c.who h) request d)
+      ∙ (λ i. seen_step app (with_signals (sym (own_unsent app s seat c v e h) i) (bus_answer (all_told c.seat s) c request given))))
+
+  pub bus_own : (o : Option Connection) → connection_of s.connections seat ≡ o → (o ≡ None → ⊥) → is_by app (maker o request) ≡ true →
+      own_bus_step (view s app) mine request (own_bus_of (found_connection (own_connections app s.connections) seat)) ≡ seen_step app (bus_step s request given (bus_of o))
+  bus_own None e b h = absurd (b refl)
+  bus_own (Some c) e b h =
+      ap (λ (o : Option OwnConnection). own_bus_step (view s app) mine request (own_bus_of o)) (own-some app seat s.connections c e h) ∙ bus_kind_own c (is_mount c.kind) e h
+
+  bus_kind_other : (c : Connection) (m : Bool) → found_connection (own_connections app s.connections) c.seat ≡ None →
+      apply_all (view s app) (cond (is_done (bus_step s request given (cond m None (Some c))).1.answer) (bus_touch app s request given (cond m None (Some c))) []) ≡ view (bus_step s request given (cond m None (Some c))).0 app
+  bus_kind_other c true e = refl
+  bus_kind_other c false e = bus_answer_other app s c given e request d
+
+  pub bus_other : (o : Option Connection) → connection_of s.connections seat ≡ o → is_by app (maker o request) ≡ false →
+      apply_all (view s app) (cond (is_done (bus_step s request given (bus_of o)).1.answer) (bus_touch app s request given (bus_of o)) []) ≡ view (bus_step s request given (bus_of o)).0 app
+  bus_other None e h = refl
+  bus_other (Some c) e h =
+      let same : c.seat ≡ seat = nat_is c.seat seat (found_passes (λ (x : Connection). x.seat == seat) s.connections c e) in
+      bus_kind_other c (is_mount c.kind) (ap (λ (n : ℕ). found_connection (own_connections app s.connections) n) same ∙ own-other app seat s.connections c v.seats_differ e h)
 
 -- ---- an entry, by its kind
 
+-- no Add is an entry yet
+defined-no_add : (request : Request) → is_defined request ≡ true → is_no_add request ≡ true
+defined-no_add (Request.Add a) d = cc
+defined-no_add request d = refl
+
+nothing-touched : (v : AppView) (b : Bool) → apply_all v (cond b [] []) ≡ v
+nothing-touched v true = refl
+nothing-touched v false = refl
+
 -- that the application makes: its machine gives the view after, and the reply
-pub step_own : (app : List ℕ) (s : State) (seat : ℕ) (request : Request) (given : Given) → Valid s → made_by app (connection_of s.connections seat) request ≡ true →
-    LooksAre (looks_taken s seat request) given.fault given.looks → app_step (view s app) (own_of (entry seat request given)) ≡ seen_step app (request_step s seat request given)
-step_own app s seat (Request.Enter who kind) given v m l = ap (λ (done : AppView × Answer). with_signals [] done) (enter_own app s seat who kind m)
-step_own app s seat Request.Leave given v m l = ap (λ (done : AppView × Answer). with_signals [] done) (leave_own app s seat m)
-step_own app s seat Request.Collect given v m l = collect_own app s seat v (connection_of s.connections seat) refl m
-step_own app s seat (Request.Node r) given v m l = node_own app s seat r given v (connection_of s.connections seat) refl m l
+pub step_own : (app : List ℕ) (s : State) (seat : ℕ) (request : Request) (given : Given) → Valid s → is_defined request ≡ true → made_by app (connection_of s.connections seat) request ≡ true →
+    LooksAre (looks_taken s seat request) given.fault given.looks → app_step (view s app) (own_of s (entry seat request given)) ≡ seen_step app (request_step s seat request given)
+step_own app s seat (Request.Enter who kind) given v d m l = ap (λ (done : AppView × Answer). with_signals [] done) (enter_own app s seat who kind m)
+step_own app s seat Request.Leave given v d m l = ap (λ (done : AppView × Answer). with_signals [] done) (leave_own app s seat m)
+step_own app s seat Request.Collect given v d m l = collect_own app s seat v (connection_of s.connections seat) refl m
+step_own app s seat (Request.Node r) given v d m l = node_own app s seat r given v (connection_of s.connections seat) refl m l
+step_own app s seat request given v d m l = bus_own app s seat request given v (defined-no_add request d) (connection_of s.connections seat) refl (λ e. cc) m
 
 -- that it does not make: what is touched gives the view after
-pub step_other : (app : List ℕ) (s : State) (seat : ℕ) (request : Request) (given : Given) → Valid s → made_by app (connection_of s.connections seat) request ≡ false →
+pub step_other : (app : List ℕ) (s : State) (seat : ℕ) (request : Request) (given : Given) → Valid s → is_defined request ≡ true → made_by app (connection_of s.connections seat) request ≡ false →
     apply_all (view s app) (touch app s (entry seat request given)) ≡ view (request_step s seat request given).0 app
-step_other app s seat (Request.Enter who kind) given v m = enter_other app s seat who kind m
-step_other app s seat Request.Leave given v m = leave_other app s seat v m
-step_other app s seat Request.Collect given v m = collect_other app s (bus_of (connection_of s.connections seat))
-step_other app s seat (Request.Node r) given v m = node_other app s seat r given v (mount_of (connection_of s.connections seat))
+step_other app s seat (Request.Enter who kind) given v d m = nothing-touched (view s app) _ ∙ enter_other app s seat who kind m
+step_other app s seat Request.Leave given v d m = nothing-touched (view s app) _ ∙ leave_other app s seat v m
+step_other app s seat Request.Collect given v d m = nothing-touched (view s app) _ ∙ collect_other app s (bus_of (connection_of s.connections seat))
+step_other app s seat (Request.Node r) given v d m = nothing-touched (view s app) _ ∙ node_other app s seat r given v (mount_of (connection_of s.connections seat))
+step_other app s seat request given v d m = bus_other app s seat request given v (defined-no_add request d) (connection_of s.connections seat) refl m
 
 -- ---- a history, by the laws of one step alone
 
@@ -100,20 +210,20 @@ own_replies-changed : (fs : List Effect) (v : AppView) (more : List TraceItem) �
 own_replies-changed [] v more = refl
 own_replies-changed (f ∷ fs) v more = own_replies-changed fs (apply v f) more
 
-pub entry_own : (app : List ℕ) (s : State) (e : Entry) → s.told ≡ true → Valid s → Lawful s e → makes app s e ≡ true → app_step (view s app) (own_of e) ≡ (view (after s e) app, reply_at s e)
+pub entry_own : (app : List ℕ) (s : State) (e : Entry) → s.told ≡ true → Valid s → Lawful s e → makes app s e ≡ true → app_step (view s app) (own_of s e) ≡ (view (after s e) app, reply_at s e)
 entry_own app s e t v l m =
     let looks : LooksAre (looks_taken s e.seat e.request) e.given.fault e.given.looks = subst (λ (b : Bool). LawfulLooks b (looks_taken s e.seat e.request) e.given.fault e.given.looks) t l.looks in
-    step_own app s e.seat e.request e.given v m looks
+    step_own app s e.seat e.request e.given v l.defined m looks
 
 one_entry : (app : List ℕ) (s : State) (e : Entry) (b : Bool) (more : List TraceItem) → makes app s e ≡ b → s.told ≡ true → Valid s → Lawful s e →
-    own_replies (view s app) (cond b (Asked (own_of e) ∷ []) (map Changed (touch app s e)) ++ more) ≡ cond b (reply_at s e ∷ []) [] ++ own_replies (view (after s e) app) more
+    own_replies (view s app) (cond b (Asked (own_of s e) ∷ []) (map Changed (touch app s e)) ++ more) ≡ cond b (reply_at s e ∷ []) [] ++ own_replies (view (after s e) app) more
 one_entry app s e true more m t v l = ap (λ (done : AppView × Reply). done.1 ∷ own_replies done.0 more) (entry_own app s e t v l m)
 one_entry app s e false more m t v l =
-    own_replies-changed (touch app s e) (view s app) more ∙ ap (λ (x : AppView). own_replies x more) (step_other app s e.seat e.request e.given v m)
+    own_replies-changed (touch app s e) (view s app) more ∙ ap (λ (x : AppView). own_replies x more) (step_other app s e.seat e.request e.given v l.defined m)
 
 -- the replies to an application are those of its trace
 pub replies_of_trace : (h : List Entry) (app : List ℕ) (s : State) → s.told ≡ true → Valid s → EachLawful s h → replies app s h ≡ app_run (trace app s h)
 replies_of_trace [] app s t v l = refl
 replies_of_trace (e ∷ es) app s t v l =
     sym (one_entry app s e (makes app s e) (items app (after s e) es) refl t v l.0
-    ∙ ap (λ (rs : List Reply). cond (makes app s e) (reply_at s e ∷ []) [] ++ rs) (sym (replies_of_trace es app (after s e) (step_told s e.seat e.request e.given ∙ t) (after-Valid s e v) l.1)))
+    ∙ ap (λ (rs : List Reply). cond (makes app s e) (reply_at s e ∷ []) [] ++ rs) (sym (replies_of_trace es app (after s e) (step_told s e.seat e.request e.given ∙ t) (after-Valid s e v l.0) l.1)))

@@ -1,18 +1,23 @@
 -- Laws of the world of one application, which the public functions of src/laws.rt state.
-use Rattle.std.specs.Prelude.{◌≡◌, ℕ, List, [], ◌∷◌, ◌++◌, true, false}
+use Rattle.std.specs.Prelude.{◌≡◌, ℕ, List, [], ◌∷◌, ◌++◌, Bool, true, false, cond, Some}
 use Rattle.portal_base.specs.Names.{is_same}
 use Rattle.portal_model.specs.declared.entry.Entry.{Entry}
+use Rattle.portal_model.specs.declared.entry.Given.{Given}
+use Rattle.portal_model.specs.declared.request.Request.{Request}
+use Rattle.portal_model.specs.declared.state.Connection.{Connection}
 use Rattle.portal_model.specs.declared.state.Document.{Document}
 use Rattle.portal_model.specs.declared.state.Triple.{Triple}
 use Rattle.portal_model.specs.History.{Legal, makes, replies}
 use Rattle.portal_model.specs.Lawful.{Lawful}
-use Rattle.portal_model.specs.State.{State, held_of}
-use Rattle.portal_model.specs.Step.{after, reply_at}
+use Rattle.portal_model.specs.State.{State, connection_of, held_of, is_app}
+use Rattle.portal_model.specs.Step.{after, bus_of, bus_step, reply_at}
 use Rattle.portal_model.specs.Valid.{Valid}
 use Rattle.rights_rule.specs.Rights.{holds_any}
+use Rattle.app_world.specs.Bus.{bus_touch, own_bus_step}
 use Rattle.app_world.specs.Effect.{apply_all}
-use Rattle.app_world.specs.View.{TakesAlike, view}
-use Rattle.app_world.specs.World.{app_run, app_step, own_of, touch, trace}
+use Rattle.app_world.specs.Touched.{is_done}
+use Rattle.app_world.specs.View.{TakesAlike, found_connection, view}
+use Rattle.app_world.specs.World.{app_run, app_step, own_bus_of, own_of, touch, trace}
 
 -- of a lawful entry over a tree that tells: where the application makes it, its own machine gives
 -- the reply and the view after; where it does not, what is touched gives the view after
@@ -20,10 +25,42 @@ pub record StepsSeen : Type 0 where
   pub own :
       (app : List ℕ) (s : State) (e : Entry) →
       s.told ≡ true → Valid s → Lawful s e → makes app s e ≡ true →
-      app_step (view s app) (own_of e) ≡ (view (after s e) app, reply_at s e)
+      app_step (view s app) (own_of s e) ≡ (view (after s e) app, reply_at s e)
   pub other :
-      (app : List ℕ) (s : State) (e : Entry) → Valid s → makes app s e ≡ false →
+      (app : List ℕ) (s : State) (e : Entry) → Valid s → Lawful s e → makes app s e ≡ false →
       apply_all (view s app) (touch app s e) ≡ view (after s e) app
+
+-- the requests of a bus whose laws ask nothing of what the outside gave
+abbrev pub is_no_add : Request → Bool
+is_no_add (Request.Add a) = false
+is_no_add request = true
+
+abbrev pub asks_bus : ℕ → Request → Given → Entry
+asks_bus seat request given = record { seat = seat; request = request; given = given }
+
+-- Of a request of a bus but an Add, on the open connection of its seat, whatever the outside gave
+-- it. Where the connection is the application's, its own machine gives the reply and the view
+-- after; where it is another's, what is touched gives the view after, and nothing is touched where
+-- it is not done.
+pub record BusSeen : Type 0 where
+  pub own :
+      (app : List ℕ) (s : State) (seat : ℕ) (request : Request) (given : Given) (c : Connection) →
+      Valid s → is_no_add request ≡ true →
+      connection_of s.connections seat ≡ Some c → is_app app c.who ≡ true →
+      own_bus_step (view s app) (own_of s (asks_bus seat request given)) request
+      (own_bus_of (found_connection (view s app).connections seat))
+      ≡ (
+        view (bus_step s request given (bus_of (Some c))).0 app,
+        (bus_step s request given (bus_of (Some c))).1,
+      )
+  pub other :
+      (app : List ℕ) (s : State) (seat : ℕ) (request : Request) (given : Given) (c : Connection) →
+      Valid s → is_no_add request ≡ true →
+      connection_of s.connections seat ≡ Some c → is_app app c.who ≡ false →
+      apply_all (view s app)
+      (cond (is_done (bus_step s request given (bus_of (Some c))).1.answer)
+      (bus_touch app s request given (bus_of (Some c))) [])
+      ≡ view (bus_step s request given (bus_of (Some c))).0 app
 
 abbrev pub with_right : State → Triple → State
 with_right s t = record s { rights = s.rights ++ t ∷ [] }

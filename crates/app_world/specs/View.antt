@@ -169,7 +169,8 @@ abbrev pub seen_at : State → List ℕ → ℕ → Option HeldDocument
 seen_at s app number = seen (held_of s.rights app number) (document_of s.documents number)
 
 -- What the view takes from the state is the same in both: the limits that the application meets,
--- its connections, the document of each number as it sees it, and what is at each path that it names.
+-- its connections, the document of each number as it sees it, and what is at each path that it
+-- names.
 pub record TakesAlike (app : List ℕ) (s t : State) : Type 0 where
   pub handles : s.limits.handles ≡ t.limits.handles
   pub queued : s.limits.queued ≡ t.limits.queued

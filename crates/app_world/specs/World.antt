@@ -1,6 +1,6 @@
 -- The world of one application: its own machine, which sees its view and its own requests alone,
 -- and its trace, which tells these and what others change of the view.
-use Rattle.std.specs.Prelude.{ℕ, List, [], ◌∷◌, ◌++◌, length, take, map, Bool, Option, Some, None, cond}
+use Rattle.std.specs.Prelude.{ℕ, List, [], ◌∷◌, ◌++◌, length, take, map, Option, Some, None, cond}
 use Rattle.portal_base.specs.declared.files.Look.{Look}
 use Rattle.portal_base.specs.declared.names.doc_id.DocId.{DocId}
 use Rattle.portal_model.specs.declared.entry.Entry.{Entry}
@@ -11,33 +11,23 @@ use Rattle.portal_model.specs.declared.reply.Reply.{Reply}
 use Rattle.portal_model.specs.declared.request.NodeOp.{NodeOp}
 use Rattle.portal_model.specs.declared.request.NodeRequest.{NodeRequest}
 use Rattle.portal_model.specs.declared.request.Request.{Request}
+use Rattle.portal_model.specs.declared.state.Connection.{Connection}
 use Rattle.portal_model.specs.Content.{Content}
 use Rattle.portal_model.specs.History.{makes}
-use Rattle.portal_model.specs.State.{State}
-use Rattle.portal_model.specs.Step.{after, is_mount, not_here, undefined_answer, with_signals}
+use Rattle.portal_model.specs.State.{State, connection_of}
+use Rattle.portal_model.specs.Step.{after, bus_of, is_mount, not_here, reply_at, undefined_answer, with_signals}
+use Rattle.app_world.specs.Add.{reused_by, shown_to}
+use Rattle.app_world.specs.Bus.{bus_touch, own_bus_step}
 use Rattle.app_world.specs.Collect.{own_collect}
 use Rattle.app_world.specs.Effect.{Effect, apply}
 use Rattle.app_world.specs.Enter.{own_enter}
 use Rattle.app_world.specs.GetAttr.{own_get_attr_answer, own_get_attr_looks}
 use Rattle.app_world.specs.Leave.{own_leave}
+use Rattle.app_world.specs.Own.{Own}
+use Rattle.app_world.specs.Touched.{is_done}
 use Rattle.app_world.specs.View.{AppView, OwnConnection, found_connection, view}
 
 -- ---- the application's own machine
-
--- a request of the application, and what the outside gave it
-pub record Own : Type 0 where
-  pub seat : ℕ
-  pub request : Request
-  pub now : Option ℕ
-  pub numbers : List DocId
-  -- of an Add: the content of each path that the tree was asked for, and of each file the
-  -- document that was there to be used again, if any
-  pub shown : List Content
-  pub reused : List (Option DocId)
-  -- how many looks succeeded
-  pub looks : ℕ
-  pub full : Bool
-  pub fault : Fault
 
 -- of the looks that a request takes, those that succeed: where a call of the tree failed, the
 -- ones ahead of it
@@ -78,6 +68,8 @@ own_request_step v own Request.Collect =
     own_collect_step v (own_bus_of (found_connection v.connections own.seat))
 own_request_step v own (Request.Node r) =
     own_node_step v r own (own_mount_of (found_connection v.connections own.seat))
+own_request_step v own request =
+    own_bus_step v own request (own_bus_of (found_connection v.connections own.seat))
 
 -- the view after a request of the application, and the reply to it
 abbrev pub app_step : AppView → Own → AppView × Reply
@@ -91,36 +83,43 @@ pub data TraceItem : Type 0 where
   -- what another changes of its view
   Changed : Effect → TraceItem
 
--- no request is an Add yet
-abbrev pub own_of : Entry → Own
-own_of e = record {
-  seat = e.seat;
-  request = e.request;
-  now = e.given.now;
-  numbers = e.given.numbers;
-  shown = [];
-  reused = [];
-  looks = length e.given.looks;
-  full = e.given.full;
-  fault = e.given.fault;
-}
+-- what is told of an Add alone
+abbrev pub contents_shown : State → Request → Given → Option Connection → List Content
+contents_shown s (Request.Add a) given (Some c) = shown_to s c a given
+contents_shown s request given o = []
 
-abbrev pub node_touch : List ℕ → State → NodeRequest → NodeOp → Given → List Effect
-node_touch app s r (NodeOp.GetAttr flags fh) given = []
-node_touch app s r op given = []
+abbrev pub documents_reused : State → Request → Option Connection → List (Option DocId)
+documents_reused s (Request.Add a) (Some c) = reused_by s c a
+documents_reused s request o = []
 
+abbrev pub own_of : State → Entry → Own
+own_of s e =
+    let o = bus_of (connection_of s.connections e.seat) in
+    record {
+      seat = e.seat;
+      request = e.request;
+      now = e.given.now;
+      numbers = e.given.numbers;
+      shown = contents_shown s e.request e.given o;
+      reused = documents_reused s e.request o;
+      looks = length e.given.looks;
+      full = e.given.full;
+      fault = e.given.fault;
+    }
+
+-- of a request on a node none changes anything yet
 abbrev pub request_touch : List ℕ → State → ℕ → Request → Given → List Effect
-request_touch app s seat (Request.Enter who kind) given = []
-request_touch app s seat Request.Leave given = []
-request_touch app s seat Request.Collect given = []
-request_touch app s seat (Request.Node r) given = node_touch app s r r.op given
+request_touch app s seat (Request.Node r) given = []
+request_touch app s seat request given =
+    bus_touch app s request given (bus_of (connection_of s.connections seat))
 
--- what an entry that the application does not make changes of its view
+-- what an entry that the application does not make changes of its view, where it is done
 abbrev pub touch : List ℕ → State → Entry → List Effect
-touch app s e = request_touch app s e.seat e.request e.given
+touch app s e =
+    cond (is_done (reply_at s e).answer) (request_touch app s e.seat e.request e.given) []
 
 abbrev pub items_of : List ℕ → State → Entry → List TraceItem
-items_of app s e = cond (makes app s e) (Asked (own_of e) ∷ []) (map Changed (touch app s e))
+items_of app s e = cond (makes app s e) (Asked (own_of s e) ∷ []) (map Changed (touch app s e))
 
 abbrev pub items : List ℕ → State → List Entry → List TraceItem
 items app s [] = []

@@ -4,6 +4,7 @@
 //! Each function does nothing; its contract is the example. What is expected
 //! is worked out by hand, so that a wrong definition does not meet it.
 
+ghost use Rattle.app_world.specs.DocumentExamples.{WhatIsTouched, WorldsOfAdditions, WorldsOfRemovals};
 ghost use Rattle.app_world.specs.Examples.{EffectsOnAView, TracesTellWhatIsHeld};
 
 /// Histories that differ only in what an application doesn't hold give it the
@@ -16,4 +17,22 @@ pub fn traces_tell_what_is_held()
 /// are gained and lost, documents that go, and contents.
 pub fn effects_on_a_view()
     ensures { EffectsOnAView }
+{}
+
+/// An application's own machine answers its additions: of two equal files of one
+/// call, and of a file whose document another holds and that is used again.
+pub fn additions_in_a_world()
+    ensures { WorldsOfAdditions }
+{}
+
+/// An application's own machine answers a revocation that names the application
+/// itself, and what it asks of the document then.
+pub fn removals_in_a_world()
+    ensures { WorldsOfRemovals }
+{}
+
+/// An application is told of the rights that another takes as far as it held
+/// them, and of those that it is given as far as it did not.
+pub fn what_is_touched()
+    ensures { WhatIsTouched }
 {}

@@ -2,7 +2,7 @@
 //!
 //! Each function does nothing; its contract is the law.
 
-ghost use Rattle.app_world.specs.Laws.{Isolated, StepsSeen, ViewsFramed};
+ghost use Rattle.app_world.specs.Laws.{BusSeen, Isolated, StepsSeen, ViewsFramed};
 
 /// A step that leaves equal what a view takes from the state leaves the view
 /// equal: so does one that gives another application a right, or adds a
@@ -15,6 +15,13 @@ pub fn views_are_framed()
 /// machine as in the portal, and another's changes its view as it is told.
 pub fn steps_are_seen()
     ensures { StepsSeen }
+{}
+
+/// One request of a bus but an Add, as an application sees it: its own comes to
+/// the same in its view as in the portal, and another's changes its view as it is
+/// told, whatever the outside gave.
+pub fn requests_of_a_bus_are_seen()
+    ensures { BusSeen }
 {}
 
 /// The replies to an application are a function of its trace: its own requests

@@ -95,7 +95,7 @@ module _ (o : OpeningState) (h : List Entry) (limit : ℕ) (ds : List Document) 
   stands_more : (e : Entry) (cs' : List Connection) → Lawful (state_of o ds rs cs) e → after (state_of o ds rs cs) e ≡ state_of o ds rs cs' → cost h + cost_of e.request ≤ o.limits.history →
       Stands o (h ++ e ∷ []) limit ds rs cs'
   stands_more e cs' k a room = record {
-    legal = Legal-append h (e ∷ []) (opened o) p.legal (record { opening = run-Valid h (opened o) p.legal.opening; lawful = (subst (λ (s : State). Lawful s e) (sym p.state_is) k, tt) });
+    legal = Legal-append h (e ∷ []) (opened o) p.legal (record { opening = run-Valid h (opened o) p.legal; lawful = (subst (λ (s : State). Lawful s e) (sym p.state_is) k, tt) });
     state_is = run-append h (e ∷ []) (opened o) ∙ (ap (λ (s : State). after s e) p.state_is ∙ a);
     limit_is = p.limit_is;
     within = rw (cost-append h (e ∷ [])) (omega arith);

@@ -15,14 +15,14 @@ use crate::lists::{bus_of, connection_of, mount_of, of_others};
 use crate::opening;
 use document_records::Grants;
 use portal_base::files::Look;
-use portal_base::list::List;
+use portal_base::list::{ByteList, List};
 use portal_base::memory::{Replica, WantOfMemory};
 use portal_base::who::{Kind, Who};
 use portal_history::{History, cost_of};
 use portal_model::entry::{Entry, Fault, Given};
 use portal_model::opening::OpeningState;
 use portal_model::reply::{Answer, Code, Refused, Reply};
-use portal_model::request::{NodeOp, NodeRequest, Request};
+use portal_model::request::{AddRequest, NodeOp, NodeRequest, Request, RightsCall};
 use portal_model::state::{Connection, Document};
 use std::alloc::Global;
 use std::marker::Model;
@@ -137,6 +137,11 @@ impl Portal {
             Request::Leave => Ok(self.leave(alloc, seat)?),
             Request::Collect => Ok(self.collect(alloc, seat)?),
             Request::Node(node) => Ok(self.node(alloc, seat, node)?),
+            Request::Present { path } | Request::LookupDocument { path } => not_asked(path),
+            Request::Add(add) => not_asked_add(add),
+            Request::Grant(call) | Request::Revoke(call) => not_asked_rights(call),
+            Request::DeleteDocument { doc } | Request::Info { doc } => not_asked(doc),
+            Request::ListDocuments { app } => not_asked(app),
         }
     }
 
@@ -258,6 +263,26 @@ impl Portal {
             *flags,
         ))
     }
+}
+
+/// Refuses a request that nobody asks yet: what it comes to is defined ahead of
+/// it.
+fn not_asked(_argument: ByteList) -> Result<Reply, Refused>
+    ensures { result ≡ Err Refused.Memory }
+{
+    Err(Refused::Memory)
+}
+
+fn not_asked_add(_add: AddRequest) -> Result<Reply, Refused>
+    ensures { result ≡ Err Refused.Memory }
+{
+    Err(Refused::Memory)
+}
+
+fn not_asked_rights(_call: RightsCall) -> Result<Reply, Refused>
+    ensures { result ≡ Err Refused.Memory }
+{
+    Err(Refused::Memory)
 }
 
 /// The answer to a Collect of a seat with this bus. Nothing waits to be told,

@@ -1,10 +1,12 @@
 //! What a request costs in the history.
 
-ghost use Rattle.std.specs.Prelude.{◌≡◌, ◌-◌, ◌^◌, min};
-ghost use Rattle.portal_model.specs.History.{cost_of as request_cost, node_bytes as bytes_of_node, who_bytes};
+ghost use Rattle.std.specs.Prelude.{◌≡◌, ◌+◌, ◌-◌, ◌^◌, min};
+ghost use Rattle.portal_model.specs.History.{add_bytes as bytes_of_add, cost_of as request_cost, node_bytes as bytes_of_node, rights_call_bytes as bytes_of_call, texts_bytes as bytes_of_texts, who_bytes};
 
+use portal_base::list::List;
+use portal_base::text::Text;
 use portal_base::who::Who;
-use portal_model::request::{NodeOp, Request};
+use portal_model::request::{AddRequest, NodeOp, Request, RightsCall};
 
 /// What any request but Leave costs besides the bytes that it carries, in
 /// bytes.
@@ -13,9 +15,13 @@ pub const REQUEST_COST: u64 = 128;
 /// What each node of a FUSE_BATCH_FORGET costs, in bytes.
 const FORGET_COST: u64 = 16;
 
+/// What each handle of an addition costs, in bytes.
+const HANDLE_COST: u64 = 4;
+
 /// What a request costs in the history, in bytes: 128, and the bytes of the
-/// names and the content that it carries, and 16 per node of a
-/// FUSE_BATCH_FORGET, but at most the greatest `u64`. A Leave is free.
+/// texts and the content that it carries, 4 per handle of an addition, and 16
+/// per node of a FUSE_BATCH_FORGET, but at most the greatest `u64`. A Leave is
+/// free.
 pub fn cost_of(request: &Request) -> u64
     ensures { result ≡ request_cost request.now }
 {
@@ -23,8 +29,47 @@ pub fn cost_of(request: &Request) -> u64
         Request::Enter { who, .. } => REQUEST_COST.saturating_add(name_length(who)),
         Request::Leave => 0,
         Request::Collect => REQUEST_COST,
+        Request::Present { path } | Request::LookupDocument { path } => carrying(path.len() as u64),
+        Request::Add(add) => carrying(add_bytes(add)),
+        Request::Grant(call) | Request::Revoke(call) => carrying(call_bytes(call)),
+        Request::DeleteDocument { doc } | Request::Info { doc } => carrying(doc.len() as u64),
+        Request::ListDocuments { app } => carrying(app.len() as u64),
         Request::Node(request) => REQUEST_COST.saturating_add(node_bytes(&request.op)),
     }
+}
+
+/// What a request costs that carries so many bytes.
+fn carrying(bytes: u64) -> u64
+    ensures { result ≡ min (128 + bytes) (2 ^ 64 - 1) }
+{
+    REQUEST_COST.saturating_add(bytes)
+}
+
+fn add_bytes(add: &AddRequest) -> u64
+    ensures { result ≡ min (bytes_of_add add.now) (2 ^ 64 - 1) }
+{
+    HANDLE_COST
+        .saturating_mul(add.handles.len() as u64)
+        .saturating_add(add.name.len() as u64)
+        .saturating_add(add.app.len() as u64)
+        .saturating_add(texts_bytes(&add.names))
+}
+
+fn call_bytes(call: &RightsCall) -> u64
+    ensures { result ≡ min (bytes_of_call call.now) (2 ^ 64 - 1) }
+{
+    let named = (call.doc.len() as u64).saturating_add(call.app.len() as u64);
+    named.saturating_add(texts_bytes(&call.names))
+}
+
+fn texts_bytes(texts: &List<Text>) -> u64
+    ensures { result ≡ min (bytes_of_texts texts.now) (2 ^ 64 - 1) }
+{
+    let mut bytes: u64 = 0;
+    for text in texts.as_slice() {
+        bytes = bytes.saturating_add(text.len() as u64);
+    }
+    bytes
 }
 
 fn node_bytes(op: &NodeOp) -> u64

@@ -1,5 +1,5 @@
 -- Lists whose items differ: joined, filtered, and made of the parts of other lists.
-use Rattle.std.proofs.Common.{◌≡◌, List, [], ◌∷◌, ◌++◌, Bool, true, false, not, cond, refl, arith}
+use Rattle.std.proofs.Common.{◌≡◌, List, [], ◌∷◌, Bool, true, false, not, cond, refl, arith}
 use Rattle.std.specs.List.{list_all, filter, IsDistinct, AllByRecursion}
 
 module _ {X : Type 0} (same : X → X → Bool) where

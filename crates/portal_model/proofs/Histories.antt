@@ -34,7 +34,7 @@ pub Legal-front : (h more : List Entry) (s : State) → Legal s (h ++ more) → 
 Legal-front h more s l = record { opening = l.opening; lawful = EachLawful-front h more s l.lawful }
 
 pub Legal-rest : (h more : List Entry) (s : State) → Legal s (h ++ more) → Legal (run s h) more
-Legal-rest h more s l = record { opening = run-Valid h s l.opening; lawful = EachLawful-rest h more s l.lawful }
+Legal-rest h more s l = record { opening = run-Valid h s (Legal-front h more s l); lawful = EachLawful-rest h more s l.lawful }
 
 pub cost-append : (h more : List Entry) → cost (h ++ more) ≡ cost h + cost more
 cost-append h more = sum_by-append (λ (e : Entry). cost_of e.request) h more

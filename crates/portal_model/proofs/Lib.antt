@@ -1,4 +1,5 @@
 pub mod Finds
+pub mod BusLaws
 pub mod ValidLaws
 pub mod Histories
 pub mod Silence
@@ -11,3 +12,5 @@ pub mod RightsLaws
 pub mod OpeningLaws
 pub mod SeatLaws
 pub mod ExampleProofs
+pub mod DocumentExampleProofs
+pub mod AllowedLaws

@@ -16,9 +16,11 @@ use Rattle.portal_model.specs.declared.state.Connection.{Connection}
 use Rattle.portal_model.specs.Enter.{entered, new_connection}
 use Rattle.portal_model.specs.History.{run, of_seat}
 use Rattle.portal_model.specs.Leave.{left, of_others}
+use Rattle.portal_model.specs.Present.{requeued}
 use Rattle.portal_model.specs.Seated.{BeginsWith, Binding, Exchange, binding_of, bound, bound_after, bound_by, exchange, exchanges, is_open}
 use Rattle.portal_model.specs.State.{State, connection_of}
-use Rattle.portal_model.specs.Step.{after, all_told, bus_of, collect_step, mount_of, node_answer, node_step, request_step, told_of}
+use Rattle.portal_model.specs.Step.{after, all_told, bus_of, bus_step, collect_step, mount_of, node_answer, node_step, request_step, told_of}
+use Rattle.portal_model.proofs.BusLaws.{bus_step-holds}
 use Rattle.portal_model.proofs.Finds.{find-filter}
 
 -- ---- what a list begins with
@@ -157,11 +159,33 @@ node_bound : (s : State) (r : NodeRequest) (given : Given) (o : Option Connectio
 node_bound s r given None seat = refl
 node_bound s r given (Some c) seat = node_answer_bound (all_told c.seat s) c.who r r.op given seat ∙ binding-told seat c.seat s.connections
 
+requeued_first : (seat other : ℕ) (change : List (List ℕ) → List (List ℕ)) (c : Connection) (b : Bool) (o p : Option Connection) → option_map binding_of o ≡ option_map binding_of p →
+    option_map binding_of (cond ((cond b (record c { queue = change c.queue }) c).seat == seat) (Some (cond b (record c { queue = change c.queue }) c)) o) ≡ option_map binding_of (cond (c.seat == seat) (Some c) p)
+requeued_first seat other change c true o p h = elim (c.seat == seat) as (λ m. option_map binding_of (cond m (Some (record c { queue = change c.queue })) o) ≡ option_map binding_of (cond m (Some c) p)) [
+  | true ↦ refl
+  | false ↦ h
+]
+requeued_first seat other change c false o p h = elim (c.seat == seat) as (λ m. option_map binding_of (cond m (Some c) o) ≡ option_map binding_of (cond m (Some c) p)) [
+  | true ↦ refl
+  | false ↦ h
+]
+
+binding-requeued : (seat other : ℕ) (change : List (List ℕ) → List (List ℕ)) (cs : List Connection) → binding (map (requeued other change) cs) seat ≡ binding cs seat
+binding-requeued seat other change [] = refl
+binding-requeued seat other change (c ∷ cs) =
+    requeued_first seat other change c (c.seat == other) (connection_of (map (requeued other change) cs) seat) (connection_of cs seat) (binding-requeued seat other change cs)
+
+bus_bound : (s : State) (request : Request) (given : Given) (o : Option Connection) (seat : ℕ) → bound (bus_step s request given o).0 seat ≡ bound s seat
+bus_bound s request given o seat =
+    bus_step-holds (λ (t : State). bound t seat ≡ bound s seat) (λ t told h. binding-told seat told t.connections ∙ h)
+    (λ t other change h. binding-requeued seat other change t.connections ∙ h) (λ t ds made rights apps h. h) s request given o refl
+
 own_bound : (s : State) (seat : ℕ) (request : Request) (given : Given) → bound (request_step s seat request given).0 seat ≡ bound_after (bound s seat) request
 own_bound s seat (Request.Enter who kind) given = enter_bound seat who kind s.connections (connection_of s.connections seat) refl
 own_bound s seat Request.Leave given = leave_bound seat s.connections (connection_of s.connections seat) refl
 own_bound s seat Request.Collect given = collect_bound s (bus_of (connection_of s.connections seat)) seat
 own_bound s seat (Request.Node r) given = node_bound s r given (mount_of (connection_of s.connections seat)) seat
+own_bound s seat request given = bus_bound s request given (bus_of (connection_of s.connections seat)) seat
 
 -- ---- and a request of another
 
@@ -186,6 +210,7 @@ other_bound s seat other (Request.Enter who kind) given h = enter_other seat oth
 other_bound s seat other Request.Leave given h = leave_other seat other s.connections (connection_of s.connections other) h
 other_bound s seat other Request.Collect given h = collect_bound s (bus_of (connection_of s.connections other)) seat
 other_bound s seat other (Request.Node r) given h = node_bound s r given (mount_of (connection_of s.connections other)) seat
+other_bound s seat other request given h = bus_bound s request given (bus_of (connection_of s.connections other)) seat
 
 -- ---- a history
 

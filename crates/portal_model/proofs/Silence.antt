@@ -12,10 +12,12 @@ use Rattle.portal_model.specs.declared.state.Connection.{Connection}
 use Rattle.portal_model.specs.Enter.{entered, new_connection}
 use Rattle.portal_model.specs.Leave.{left}
 use Rattle.portal_model.specs.History.{run}
+use Rattle.portal_model.specs.Present.{requeued}
 use Rattle.portal_model.specs.State.{State, connection_of}
-use Rattle.portal_model.specs.Step.{after, all_told, bus_of, collect_step, told_of, node_answer, node_step, request_step, mount_of, with_signals}
+use Rattle.portal_model.specs.Step.{after, all_told, bus_of, bus_step, collect_step, told_of, node_answer, node_step, request_step, mount_of, with_signals}
 use Rattle.portal_model.specs.Valid.{is_none, is_silent}
 use Rattle.portal_model.proofs.Apart.{list_all-filter}
+use Rattle.portal_model.proofs.BusLaws.{bus_step-holds}
 use Rattle.portal_model.proofs.Finds.{found_in_all}
 
 pub none-nil : {X : Type 0} (xs : List X) → is_none xs ≡ true → xs ≡ []
@@ -68,11 +70,27 @@ node_step_kept : (s : State) (r : NodeRequest) (given : Given) (o : Option Conne
 node_step_kept s r given None h = h
 node_step_kept s r given (Some c) h = node_answer-silent (all_told c.seat s) c.who r r.op given (subst (λ (t : State). is_silent t.connections ≡ true) (sym (all_told-silent c.seat s h)) h)
 
+requeued-silent : (seat : ℕ) (change : List (List ℕ) → List (List ℕ)) (cs : List Connection) → is_silent cs ≡ true → is_silent (map (requeued seat change) cs) ≡ true
+requeued-silent seat change [] h = refl
+requeued-silent seat change (c ∷ cs) h =
+    let one : is_none c.unsent ≡ true = grind arith in
+    let all : is_silent (map (requeued seat change) cs) ≡ true = requeued-silent seat change cs (grind arith) in
+    elim (c.seat == seat) as (λ b. is_silent (cond b (record c { queue = change c.queue }) c ∷ map (requeued seat change) cs) ≡ true) [
+      | true ↦ grind (arith, one, all)
+      | false ↦ grind (arith, one, all)
+    ]
+
+bus_step-silent : (s : State) (request : Request) (given : Given) (o : Option Connection) → is_silent s.connections ≡ true → is_silent (bus_step s request given o).0.connections ≡ true
+bus_step-silent = bus_step-holds (λ (t : State). is_silent t.connections ≡ true)
+    (λ t seat h. subst (λ (u : State). is_silent u.connections ≡ true) (sym (all_told-silent seat t h)) h)
+    (λ t seat change h. requeued-silent seat change t.connections h) (λ t ds made rights apps h. h)
+
 request_step-silent : (s : State) (seat : ℕ) (request : Request) (given : Given) → is_silent s.connections ≡ true → is_silent (request_step s seat request given).0.connections ≡ true
 request_step-silent s seat (Request.Enter who kind) given h = entered-silent seat who kind s.connections (connection_of s.connections seat) h
 request_step-silent s seat Request.Leave given h = left-silent seat s.connections (connection_of s.connections seat) h
 request_step-silent s seat Request.Collect given h = collect_kept s (bus_of (connection_of s.connections seat)) h
 request_step-silent s seat (Request.Node r) given h = node_step_kept s r given (mount_of (connection_of s.connections seat)) h
+request_step-silent s seat request given h = bus_step-silent s request given (bus_of (connection_of s.connections seat)) h
 
 pub after-silent : (s : State) (e : Entry) → is_silent s.connections ≡ true → is_silent (after s e).connections ≡ true
 after-silent s e h = request_step-silent s e.seat e.request e.given h

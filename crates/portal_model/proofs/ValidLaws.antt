@@ -15,7 +15,8 @@ use Rattle.portal_model.specs.declared.request.Request.{Request}
 use Rattle.portal_model.specs.declared.state.Connection.{Connection}
 use Rattle.portal_model.specs.Enter.{entered, new_connection}
 use Rattle.portal_model.specs.Leave.{left, of_others}
-use Rattle.portal_model.specs.History.{run}
+use Rattle.portal_model.specs.History.{run, EachLawful, Legal}
+use Rattle.portal_model.specs.Lawful.{Lawful, is_defined}
 use Rattle.portal_model.specs.State.{State, connection_of}
 use Rattle.portal_model.specs.Step.{after, all_told, bus_of, collect_step, told_of, node_answer, node_step, request_step, mount_of}
 use Rattle.portal_model.specs.Valid.{Valid, is_sound_connection}
@@ -123,17 +124,21 @@ node_step-Valid : (s : State) (r : NodeRequest) (given : Given) (o : Option Conn
 node_step-Valid s r given None v = v
 node_step-Valid s r given (Some c) v = node_answer-Valid (all_told c.seat s) c.who r r.op given (all_told-Valid s c.seat v)
 
-request_step-Valid : (s : State) (seat : ℕ) (request : Request) (given : Given) → Valid s → Valid (request_step s seat request given).0
-request_step-Valid s seat (Request.Enter who kind) given v =
+request_step-Valid : (s : State) (seat : ℕ) (request : Request) (given : Given) → is_defined request ≡ true → Valid s → Valid (request_step s seat request given).0
+request_step-Valid s seat (Request.Enter who kind) given d v =
     Valid-connections s _ v (entered_sound seat who kind s.limits.queued s.connections (connection_of s.connections seat) refl (v.seats_differ, v.connections_sound))
-request_step-Valid s seat Request.Leave given v =
+request_step-Valid s seat Request.Leave given d v =
     Valid-connections s _ v (left_sound seat s.limits.queued s.connections (connection_of s.connections seat) (v.seats_differ, v.connections_sound))
-request_step-Valid s seat Request.Collect given v = collect_step-Valid s (bus_of (connection_of s.connections seat)) v
-request_step-Valid s seat (Request.Node r) given v = node_step-Valid s r given (mount_of (connection_of s.connections seat)) v
+request_step-Valid s seat Request.Collect given d v = collect_step-Valid s (bus_of (connection_of s.connections seat)) v
+request_step-Valid s seat (Request.Node r) given d v = node_step-Valid s r given (mount_of (connection_of s.connections seat)) v
+request_step-Valid s seat request given d v = cc
 
-pub after-Valid : (s : State) (e : Entry) → Valid s → Valid (after s e)
-after-Valid s e v = request_step-Valid s e.seat e.request e.given v
+pub after-Valid : (s : State) (e : Entry) → Valid s → Lawful s e → Valid (after s e)
+after-Valid s e v l = request_step-Valid s e.seat e.request e.given l.defined v
 
-pub run-Valid : (h : List Entry) (s : State) → Valid s → Valid (run s h)
-run-Valid [] s v = v
-run-Valid (e ∷ es) s v = run-Valid es (after s e) (after-Valid s e v)
+pub lawful-Valid : (h : List Entry) (s : State) → Valid s → EachLawful s h → Valid (run s h)
+lawful-Valid [] s v l = v
+lawful-Valid (e ∷ es) s v l = lawful-Valid es (after s e) (after-Valid s e v l.0) l.1
+
+pub run-Valid : (h : List Entry) (s : State) → Legal s h → Valid (run s h)
+run-Valid h s l = lawful-Valid h s l.opening l.lawful

@@ -6,15 +6,18 @@ use Rattle.portal_model.specs.Valid.{is_numbered, applications_limit}
 
 -- the number of an application that has one
 abbrev pub number_of : List (List ℕ) → List ℕ → Option ℕ
-number_of applications app = option_map (λ at. at + 1) (position (λ name. is_same name app) applications)
+number_of applications app =
+    option_map (λ at. at + 1) (position (λ name. is_same name app) applications)
 
 -- an application that has no number gets the next one
 abbrev pub numbered : List (List ℕ) → List ℕ → List (List ℕ)
-numbered applications app = cond (is_numbered applications app) applications (applications ++ app ∷ [])
+numbered applications app =
+    cond (is_numbered applications app) applications (applications ++ app ∷ [])
 
 -- the application has a number, or there is one left for it
 abbrev pub HasNumberLeft : List (List ℕ) → List ℕ → Type 0
-HasNumberLeft applications app = (is_numbered applications app ≡ true) ⊎ (length applications < applications_limit)
+HasNumberLeft applications app =
+    (is_numbered applications app ≡ true) ⊎ (length applications < applications_limit)
 
 -- the application of a number
 abbrev pub name_of_number : List (List ℕ) → ℕ → Option (List ℕ)

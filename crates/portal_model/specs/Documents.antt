@@ -20,7 +20,8 @@ id_of_document d = d.id
 
 -- the first that may stand for a new one
 abbrev pub reusable_of : List Document → List ℕ → Bool → Option DocId
-reusable_of documents path persistent = option_map id_of_document (find (serves path persistent) documents)
+reusable_of documents path persistent =
+    option_map id_of_document (find (serves path persistent) documents)
 
 -- the first of a path
 abbrev pub first_of : List Document → List ℕ → Option DocId
@@ -33,4 +34,5 @@ above word number = (number + (2 ^ 32 - word)) % 2 ^ 32
 -- the first number at or above the word that no made document has
 pub record IsUnused (made : List DocId) (word number : ℕ) : Type 0 where
   pub unused : is_made made number ≡ false
-  pub first : (other : ℕ) → other < 2 ^ 32 → above word other < above word number → is_made made other ≡ true
+  pub first : (other : ℕ) → other < 2 ^ 32 → above word other < above word number →
+      is_made made other ≡ true

@@ -4,8 +4,10 @@ use Rattle.std.specs.List.{filter, sum_by}
 use Rattle.portal_base.specs.declared.who.Who.{Who}
 use Rattle.portal_model.specs.declared.entry.Entry.{Entry}
 use Rattle.portal_model.specs.declared.reply.Reply.{Reply}
+use Rattle.portal_model.specs.declared.request.AddRequest.{AddRequest}
 use Rattle.portal_model.specs.declared.request.NodeOp.{NodeOp}
 use Rattle.portal_model.specs.declared.request.Request.{Request}
+use Rattle.portal_model.specs.declared.request.RightsCall.{RightsCall}
 use Rattle.portal_model.specs.declared.state.Connection.{Connection}
 use Rattle.portal_model.specs.Lawful.{Lawful}
 use Rattle.portal_model.specs.State.{State, connection_of, is_app}
@@ -41,6 +43,16 @@ abbrev pub who_bytes : Who → ℕ
 who_bytes Who.Host = 0
 who_bytes (Who.App name) = length name
 
+abbrev pub texts_bytes : List (List ℕ) → ℕ
+texts_bytes texts = sum_by (λ t. length t) texts
+
+-- a handle counts as 4 bytes
+abbrev pub add_bytes : AddRequest → ℕ
+add_bytes a = 4 * length a.handles + (length a.name + (length a.app + texts_bytes a.names))
+
+abbrev pub rights_call_bytes : RightsCall → ℕ
+rights_call_bytes call = length call.doc + (length call.app + texts_bytes call.names)
+
 -- what a request that carries so many bytes costs: at most the greatest number that is counted
 abbrev pub cost_of_bytes : ℕ → ℕ
 cost_of_bytes count = min (128 + count) (2 ^ 64 - 1)
@@ -50,6 +62,14 @@ abbrev pub cost_of : Request → ℕ
 cost_of (Request.Enter who kind) = cost_of_bytes (who_bytes who)
 cost_of Request.Leave = 0
 cost_of Request.Collect = cost_of_bytes 0
+cost_of (Request.Present path) = cost_of_bytes (length path)
+cost_of (Request.Add a) = cost_of_bytes (add_bytes a)
+cost_of (Request.Grant call) = cost_of_bytes (rights_call_bytes call)
+cost_of (Request.Revoke call) = cost_of_bytes (rights_call_bytes call)
+cost_of (Request.DeleteDocument doc) = cost_of_bytes (length doc)
+cost_of (Request.LookupDocument path) = cost_of_bytes (length path)
+cost_of (Request.Info doc) = cost_of_bytes (length doc)
+cost_of (Request.ListDocuments app) = cost_of_bytes (length app)
 cost_of (Request.Node r) = cost_of_bytes (node_bytes r.op)
 
 abbrev pub cost : List Entry → ℕ
@@ -65,9 +85,7 @@ of_seat seat h = filter (λ e. e.seat == seat) h
 abbrev pub maker : Option Connection → Request → Option Who
 maker (Some c) request = Some c.who
 maker None (Request.Enter who kind) = Some who
-maker None Request.Leave = None
-maker None Request.Collect = None
-maker None (Request.Node r) = None
+maker None request = None
 
 abbrev pub is_by : List ℕ → Option Who → Bool
 is_by app None = false

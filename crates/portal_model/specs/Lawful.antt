@@ -15,8 +15,11 @@ is_defined_op op = false
 
 -- the requests whose answers are defined
 abbrev pub is_defined : Request → Bool
+is_defined (Request.Enter who kind) = true
+is_defined Request.Leave = true
+is_defined Request.Collect = true
 is_defined (Request.Node r) = is_defined_op r.op
-is_defined request = true
+is_defined request = false
 
 -- over a tree that tells: the looks are those that the request takes; where a call of the tree
 -- failed, those ahead of it; and the keeper fails only where records change, which no request does yet

@@ -2,6 +2,7 @@
 use Rattle.std.specs.Prelude.{◌≡◌, ℕ, ◌+◌, ◌≤◌, List, [], ◌∷◌, ◌++◌, length, take, map, Some, is_some}
 use Rattle.portal_model.specs.declared.entry.Entry.{Entry}
 use Rattle.portal_model.specs.History.{run, Legal, cost, of_seat}
+use Rattle.portal_model.specs.Lawful.{Lawful}
 use Rattle.portal_model.specs.Opening.{SoundOpening, ValidOpening, file_of}
 use Rattle.portal_model.specs.State.{State}
 use Rattle.portal_model.specs.declared.opening.OpeningState.{OpeningState}
@@ -50,10 +51,10 @@ pub record SeatsTell : Type 0 where
   pub binding : (seat : ℕ) (s : State) (h : List Entry) → bound (run s h) seat ≡ bound_by (bound s seat) (of_seat seat h)
   pub open_one : (seat : ℕ) (s : State) (h : List Entry) → is_open (run s h) seat ≡ is_some (bound_by (bound s seat) (of_seat seat h))
 
--- a valid state stays valid
+-- a valid state stays valid under lawful entries
 pub record StaysValid : Type 0 where
-  pub step : (s : State) (e : Entry) → Valid s → Valid (after s e)
-  pub run : (s : State) (h : List Entry) → Valid s → Valid (run s h)
+  pub step : (s : State) (e : Entry) → Valid s → Lawful s e → Valid (after s e)
+  pub run : (s : State) (h : List Entry) → Legal s h → Valid (run s h)
 
 -- an opening state whose records are sound is valid, over a tree that tells its files
 abbrev pub OpeningsAreValid : Type 0

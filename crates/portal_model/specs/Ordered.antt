@@ -3,7 +3,8 @@ use Rattle.std.specs.Prelude.{ℕ, ◌==◌, nat_lt, List, [], ◌∷◌, Bool, 
 use Rattle.std.specs.List.{list_all}
 
 module _ {X : Type 0} (before : X → X → Bool) where
-  -- ahead of the first that it is before; in place of one that stands at the same place in the order
+  -- ahead of the first that it is before; in place of one that stands at the same place in the
+  -- order
   abbrev pub put : X → List X → List X
   put x [] = x ∷ []
   put x (y ∷ ys) = cond (before x y) (x ∷ y ∷ ys) (cond (before y x) (y ∷ put x ys) (x ∷ ys))

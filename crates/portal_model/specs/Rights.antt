@@ -1,5 +1,5 @@
--- Which application has which right in which document: triples in one order, by the number of the document,
--- by the bytes of the application's name, and by the right.
+-- Which application has which right in which document: triples in one order, by the number of the
+-- document, by the bytes of the application's name, and by the right.
 use Rattle.std.specs.Prelude.{ℕ, ◌==◌, nat_lt, List, [], ◌∷◌, ◌++◌, Bool, not, ◌&&◌, cond}
 use Rattle.std.specs.List.{filter}
 use Rattle.portal_base.specs.Names.{is_same}

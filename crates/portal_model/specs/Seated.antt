@@ -63,13 +63,15 @@ binding_of c = record { who = c.who; kind = c.kind }
 abbrev pub bound : State → ℕ → Option Binding
 bound s seat = option_map binding_of (connection_of s.connections seat)
 
+abbrev pub bound_entering : Option Binding → Who → Kind → Option Binding
+bound_entering None who kind = Some (record { who = who; kind = kind })
+bound_entering (Some b) who kind = Some b
+
 -- the same after a request of the seat itself: an Enter opens a connection where none is open, a Leave ends it
 abbrev pub bound_after : Option Binding → Request → Option Binding
-bound_after None (Request.Enter who kind) = Some (record { who = who; kind = kind })
-bound_after (Some b) (Request.Enter who kind) = Some b
+bound_after open_one (Request.Enter who kind) = bound_entering open_one who kind
 bound_after open_one Request.Leave = None
-bound_after open_one Request.Collect = open_one
-bound_after open_one (Request.Node r) = open_one
+bound_after open_one request = open_one
 
 -- the same after entries of the seat itself
 abbrev pub bound_by : Option Binding → List Entry → Option Binding

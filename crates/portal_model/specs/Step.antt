@@ -13,6 +13,7 @@ use Rattle.portal_model.specs.declared.request.NodeOp.{NodeOp}
 use Rattle.portal_model.specs.declared.request.NodeRequest.{NodeRequest}
 use Rattle.portal_model.specs.declared.request.Request.{Request}
 use Rattle.portal_model.specs.declared.state.Connection.{Connection}
+use Rattle.portal_model.specs.Bus.{bus_answer}
 use Rattle.portal_model.specs.Collect.{collect}
 use Rattle.portal_model.specs.Enter.{enter}
 use Rattle.portal_model.specs.Errno.{enosys}
@@ -53,6 +54,13 @@ with_signals signals done = (done.0, reply_with signals done.1)
 abbrev pub not_here : {X : Type 0} → X → X × Reply
 not_here x = (x, reply_with [] (Answer.Refused Code.NotHere))
 
+-- Served on an open connection of the request's kind: what the connection was not told yet rides
+-- ahead of the answer. Where the seat has none, nothing changes.
+abbrev pub on_connection :
+    State → (State → Connection → State × Answer) → Option Connection → State × Reply
+on_connection s answered None = not_here s
+on_connection s answered (Some c) = with_signals c.unsent (answered (all_told c.seat s) c)
+
 -- ---- the step
 
 -- the answer in place of those that have no definition yet: a request with it is no lawful entry
@@ -65,19 +73,24 @@ node_answer s who r (NodeOp.GetAttr flags fh) given = (s, get_attr_answer s who 
 node_answer s who r op given = (s, undefined_answer)
 
 abbrev pub node_step : State → NodeRequest → Given → Option Connection → State × Reply
-node_step s r given None = not_here s
-node_step s r given (Some c) = with_signals c.unsent (node_answer (all_told c.seat s) c.who r r.op given)
+node_step s r given o = on_connection s (λ s c. node_answer s c.who r r.op given) o
 
 abbrev pub collect_step : State → Option Connection → State × Reply
-collect_step s None = not_here s
-collect_step s (Some c) = with_signals c.unsent (collect (all_told c.seat s))
+collect_step s o = on_connection s (λ s c. collect s) o
+
+abbrev pub bus_step : State → Request → Given → Option Connection → State × Reply
+bus_step s request given o = on_connection s (λ s c. bus_answer s c request given) o
 
 -- an Enter and a Leave tell no change
 abbrev pub request_step : State → ℕ → Request → Given → State × Reply
 request_step s seat (Request.Enter who kind) given = with_signals [] (enter s seat who kind)
 request_step s seat Request.Leave given = with_signals [] (leave s seat)
-request_step s seat Request.Collect given = collect_step s (bus_of (connection_of s.connections seat))
-request_step s seat (Request.Node r) given = node_step s r given (mount_of (connection_of s.connections seat))
+request_step s seat Request.Collect given =
+    collect_step s (bus_of (connection_of s.connections seat))
+request_step s seat (Request.Node r) given =
+    node_step s r given (mount_of (connection_of s.connections seat))
+request_step s seat request given =
+    bus_step s request given (bus_of (connection_of s.connections seat))
 
 -- the state after an entry, and the reply to it
 abbrev pub step : State → Entry → State × Reply
@@ -104,3 +117,4 @@ looks_taken s seat (Request.Enter who kind) = []
 looks_taken s seat Request.Leave = []
 looks_taken s seat Request.Collect = []
 looks_taken s seat (Request.Node r) = node_looks s r (mount_of (connection_of s.connections seat))
+looks_taken s seat request = []

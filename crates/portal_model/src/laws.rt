@@ -57,7 +57,7 @@ pub fn seats_tell_their_connections()
     ensures { SeatsTell }
 {}
 
-/// Every state that is reached from a valid state is valid.
+/// Every state that is reached from a valid state by lawful entries is valid.
 pub fn states_stay_valid()
     ensures { StaysValid }
 {}

@@ -4,6 +4,8 @@
 #![tactic(auto)]
 
 pub mod desk;
+pub mod document_examples;
+pub mod document_laws;
 pub mod entry;
 pub mod errno;
 pub mod examples;

@@ -1,12 +1,28 @@
 //! What the portal answers.
 
+use crate::records::Row;
 use portal_base::list::{ByteList, List};
 use portal_base::memory::WantOfMemory;
+use portal_base::names::doc_id::DocId;
 use portal_base::text::Text;
 
 /// Why a request is refused.
 #[derive(Clone, Copy, Debug, PartialEq, Eq)]
 pub enum Code {
+    /// The presented files or the arguments aren't those of the call.
+    InvalidArgs,
+    /// The caller may not call this.
+    AccessDenied,
+    /// A limit would be passed.
+    LimitsExceeded,
+    /// There is no such document, or the caller has no right in it.
+    NotFound,
+    /// The caller may not do this.
+    NotAllowed,
+    /// An argument is none that the call takes.
+    InvalidArgument,
+    /// A device failed.
+    Failed,
     /// A request on a node, by the number that the kernel's headers give the
     /// error.
     Errno(u32),
@@ -120,6 +136,15 @@ pub enum NodeAnswer {
     Statfs,
 }
 
+/// A document in a list of documents.
+#[derive(Debug, Drop)]
+pub struct ListedDocument {
+    /// Its number.
+    pub id: DocId,
+    /// Its path on the host, without a closing zero byte.
+    pub path: ByteList,
+}
+
 /// The answer to a request.
 #[derive(Debug, Drop)]
 pub enum Answer {
@@ -127,6 +152,21 @@ pub enum Answer {
     Done,
     /// It was refused.
     Refused(Code),
+    /// The place of a presented file in the queue, from 0.
+    Place(u32),
+    /// The identifiers of documents, for each file that was to be added or for
+    /// the path that was looked up: empty where there is no document.
+    Ids(List<Text>),
+    /// What is known of a document.
+    Info {
+        /// Its path on the host, without a closing zero byte.
+        path: ByteList,
+        /// The permissions of each application that has one, in byte order of
+        /// the names.
+        rights: List<Row>,
+    },
+    /// Documents, in order of their identifiers.
+    Listed(List<ListedDocument>),
     /// What a request on a node was answered.
     Node(NodeAnswer),
 }

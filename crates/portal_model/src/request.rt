@@ -6,6 +6,7 @@ ghost use Rattle.portal_model.specs.Lawful.{is_defined_op};
 
 use portal_base::list::{ByteList, List};
 use portal_base::memory::{Replica, WantOfMemory};
+use portal_base::text::Text;
 use portal_base::who::{Kind, Who};
 use std::alloc::Global;
 
@@ -172,7 +173,44 @@ pub struct NodeRequest {
     pub op: NodeOp,
 }
 
-/// A request to the portal.
+/// What an Add, AddFull, AddNamed or AddNamedFull of
+/// `org.freedesktop.portal.Documents` asks: files are to become documents.
+#[derive(Debug, Drop)]
+pub struct AddRequest {
+    /// Whether the files are named in the folders that were presented.
+    pub named: bool,
+    /// Whether it is a full call, whose answer tells the mount point too.
+    pub full: bool,
+    /// The places of the files among the presented ones, from 0.
+    pub handles: List<u32>,
+    /// How many presented files the call takes.
+    pub fds: u32,
+    /// The name of the file in its folder, with the zero byte that ends it;
+    /// empty where the files aren't named.
+    pub name: ByteList,
+    /// The flags: 1 to use a document again, 2 to keep it beyond the run, 4 to
+    /// leave out what the application holds in its own folder.
+    pub flags: u32,
+    /// The application that is given permissions, or nothing.
+    pub app: ByteList,
+    /// The permissions that it is given.
+    pub names: List<Text>,
+}
+
+/// What a GrantPermissions or a RevokePermissions of
+/// `org.freedesktop.portal.Documents` asks.
+#[derive(Debug, Drop)]
+pub struct RightsCall {
+    /// The identifier of the document.
+    pub doc: ByteList,
+    /// The application.
+    pub app: ByteList,
+    /// The permissions.
+    pub names: List<Text>,
+}
+
+/// A request to the portal. An identifier, an application's name and a path are
+/// held as they came, whatever is in them.
 #[derive(Debug, Drop)]
 pub enum Request {
     /// A connection is opened.
@@ -187,6 +225,37 @@ pub enum Request {
     /// A bus asks for the changes of the permission store that it was not told
     /// yet, and for nothing else.
     Collect,
+    /// A file joins the queue of the connection.
+    Present {
+        /// Its path on the host, with the zero byte that ends it.
+        path: ByteList,
+    },
+    /// Presented files become documents.
+    Add(AddRequest),
+    /// An application is given permissions in a document.
+    Grant(RightsCall),
+    /// Permissions of an application in a document are taken away.
+    Revoke(RightsCall),
+    /// A document is removed.
+    DeleteDocument {
+        /// Its identifier.
+        doc: ByteList,
+    },
+    /// Which document has a path.
+    LookupDocument {
+        /// The path on the host, with the zero byte that ends it.
+        path: ByteList,
+    },
+    /// The path of a document, and who has which permissions in it.
+    Info {
+        /// Its identifier.
+        doc: ByteList,
+    },
+    /// The documents in which an application has a permission, or all.
+    ListDocuments {
+        /// The application, or nothing for all documents.
+        app: ByteList,
+    },
     /// A request on a node.
     Node(NodeRequest),
 }
@@ -200,8 +269,51 @@ impl Replica for Request {
             }),
             Request::Leave => Ok(Request::Leave),
             Request::Collect => Ok(Request::Collect),
+            Request::Present { path } => Ok(Request::Present {
+                path: path.replica(alloc)?,
+            }),
+            Request::Add(add) => Ok(Request::Add(add.replica(alloc)?)),
+            Request::Grant(call) => Ok(Request::Grant(call.replica(alloc)?)),
+            Request::Revoke(call) => Ok(Request::Revoke(call.replica(alloc)?)),
+            Request::DeleteDocument { doc } => Ok(Request::DeleteDocument {
+                doc: doc.replica(alloc)?,
+            }),
+            Request::LookupDocument { path } => Ok(Request::LookupDocument {
+                path: path.replica(alloc)?,
+            }),
+            Request::Info { doc } => Ok(Request::Info {
+                doc: doc.replica(alloc)?,
+            }),
+            Request::ListDocuments { app } => Ok(Request::ListDocuments {
+                app: app.replica(alloc)?,
+            }),
             Request::Node(request) => Ok(Request::Node(request.replica(alloc)?)),
         }
+    }
+}
+
+impl Replica for AddRequest {
+    fn replica(&self, alloc: Global) -> Result<AddRequest, WantOfMemory> {
+        Ok(AddRequest {
+            named: self.named,
+            full: self.full,
+            handles: List::copied(alloc, self.handles.as_slice())?,
+            fds: self.fds,
+            name: self.name.replica(alloc)?,
+            flags: self.flags,
+            app: self.app.replica(alloc)?,
+            names: self.names.replica(alloc)?,
+        })
+    }
+}
+
+impl Replica for RightsCall {
+    fn replica(&self, alloc: Global) -> Result<RightsCall, WantOfMemory> {
+        Ok(RightsCall {
+            doc: self.doc.replica(alloc)?,
+            app: self.app.replica(alloc)?,
+            names: self.names.replica(alloc)?,
+        })
     }
 }
 

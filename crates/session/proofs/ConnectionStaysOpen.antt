@@ -37,8 +37,7 @@ entries_of xs = map (λ (x : Exchange). x.entry) xs
 abbrev pub IsPlain : Request → Type 0
 IsPlain (Request.Enter who kind) = ⊥
 IsPlain Request.Leave = ⊥
-IsPlain Request.Collect = Unit {0}
-IsPlain (Request.Node r) = Unit {0}
+IsPlain request = Unit {0}
 
 abbrev pub ArePlain : List Request → Type 0
 ArePlain [] = Unit {0}
@@ -60,10 +59,7 @@ act_plain (Local unique told) = tt
 pub bound_stays : (r : Request) (o : Option Binding) → IsPlain r → bound_after o r ≡ o
 bound_stays (Request.Enter who kind) o h = absurd h
 bound_stays Request.Leave o h = absurd h
-bound_stays Request.Collect None h = refl
-bound_stays Request.Collect (Some b) h = refl
-bound_stays (Request.Node n) None h = refl
-bound_stays (Request.Node n) (Some b) h = refl
+bound_stays request o h = refl
 
 pub bound-append : (xs ys : List Entry) (o : Option Binding) → bound_by o (xs ++ ys) ≡ bound_by (bound_by o xs) ys
 bound-append [] ys o = refl

@@ -80,10 +80,12 @@ fits_met s seat Kind.Mount (Request.Enter who k) given b h is f = absurd f
 fits_met s seat Kind.Mount Request.Leave given b h is f = absurd f
 fits_met s seat Kind.Mount Request.Collect given b h is f = absurd f
 fits_met s seat Kind.Mount (Request.Node r) given b h is f = node_told s r given (connection_of s.connections seat) b h is
+fits_met s seat Kind.Mount request given b h is f = absurd f
 fits_met s seat Kind.Bus (Request.Enter who k) given b h is f = absurd f
 fits_met s seat Kind.Bus Request.Leave given b h is f = absurd f
 fits_met s seat Kind.Bus Request.Collect given b h is f = collect_done s (connection_of s.connections seat) b h is
 fits_met s seat Kind.Bus (Request.Node r) given b h is f = absurd f
+fits_met s seat Kind.Bus request given b h is f = absurd f
 
 met_by : (c : Client) (s : State) (seat : ℕ) (request : Request) (given : Given) (o : Option Binding) → bound s seat ≡ o → IsAskedAt c o request → Meets request (request_step s seat request given).1.answer
 met_by c s seat request given None h a = subst (λ (r : Request). Meets r (request_step s seat r given).1.answer) (sym a) (enter_done (connection_of s.connections seat) h)

@@ -51,10 +51,12 @@ fits_plain Kind.Mount (Request.Enter who k) h = absurd h
 fits_plain Kind.Mount Request.Leave h = absurd h
 fits_plain Kind.Mount Request.Collect h = absurd h
 fits_plain Kind.Mount (Request.Node r) h = tt
+fits_plain Kind.Mount request h = absurd h
 fits_plain Kind.Bus (Request.Enter who k) h = absurd h
 fits_plain Kind.Bus Request.Leave h = absurd h
 fits_plain Kind.Bus Request.Collect h = tt
 fits_plain Kind.Bus (Request.Node r) h = absurd h
+fits_plain Kind.Bus request h = absurd h
 
 -- ---- items
 

@@ -11,15 +11,16 @@ use Rattle.portal_model.specs.declared.reply.Refused.{Refused}
 use Rattle.portal_model.specs.declared.reply.Refused.TheVariants.{Memory, Full}
 use Rattle.portal_model.specs.Errno.{enomem, enospc}
 
--- what a frame tells of an answer; a seat without an open connection is told nothing
+-- What a frame tells of an answer: nothing to a seat without an open connection, and nothing of an answer that only
+-- a bus gets.
 abbrev pub told_code : Code → Option NodeAnswer
 told_code (Errno errno) = Some (Error errno)
-told_code NotHere = None
+told_code code = None
 
 abbrev pub told_of : Answer → Option NodeAnswer
-told_of answer.Done = None
 told_of (answer.Refused code) = told_code code
 told_of (answer.Node told) = Some told
+told_of answered = None
 
 -- the frame that tells this to the request of this number; a quiet answer has none
 abbrev pub frames_of : ℕ → NodeAnswer → List (List ℕ)

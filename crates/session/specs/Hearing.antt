@@ -10,12 +10,13 @@ use Rattle.portal_model.specs.Seated.{Seated}
 use Rattle.portal_model.specs.Step.{reply_at}
 use Rattle.session.specs.Frames.{told_of}
 
--- of a request on a node a frame tells the answer, and any other is done
+-- of a request on a node a frame tells the answer, and any other is done; a connection asks no other
 abbrev pub Meets : Request → Answer → Type 0
 Meets (Request.Enter who kind) met = met ≡ answer.Done
 Meets Request.Leave met = met ≡ answer.Done
 Meets Request.Collect met = met ≡ answer.Done
 Meets (Request.Node r) met = (told : NodeAnswer) × (told_of met ≡ Some told)
+Meets request met = ⊥
 
 -- So it is with each new entry of the seat: none meets a seat without an open connection.
 abbrev pub IsHeard : Seated → Seated → Type 0

@@ -62,15 +62,28 @@ fn errno_of(refused: Refused) -> u32
     }
 }
 
-/// What a frame tells of an answer. No connection that is open meets an answer
-/// of which nothing is told.
+/// What a frame tells of an answer. No mount that is open meets an answer of
+/// which nothing is told.
 fn told_of(answer: Answer) -> Option<NodeAnswer>
     ensures { result ≡ told_of answer }
 {
     match answer {
         Answer::Node(answer) => Some(answer),
         Answer::Refused(Code::Errno(errno)) => Some(NodeAnswer::Error { errno }),
-        Answer::Refused(Code::NotHere) => None,
-        Answer::Done => None,
+        Answer::Refused(
+            Code::InvalidArgs
+            | Code::AccessDenied
+            | Code::LimitsExceeded
+            | Code::NotFound
+            | Code::NotAllowed
+            | Code::InvalidArgument
+            | Code::Failed
+            | Code::NotHere,
+        ) => None,
+        Answer::Done
+        | Answer::Place(_)
+        | Answer::Ids(_)
+        | Answer::Info { .. }
+        | Answer::Listed(_) => None,
     }
 }

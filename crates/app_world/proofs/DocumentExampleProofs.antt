@@ -1,0 +1,18 @@
+-- The worked examples of requests on documents, by computation.
+use lib.Utf8.{encode}
+use Rattle.std.proofs.Common.{refl}
+use Rattle.std.specs.Str.{is_utf8, chars}
+use Rattle.portal_base.specs.Names.{is_host_path, is_app_name, child_of, own_folder, is_in_own_folder, is_doc_id, hex_number, doc_text, parent_of}
+use Rattle.app_world.specs.DocumentExamples.{WhatIsTouched, WorldsOfAdditions, WorldsOfRemovals}
+
+pub additions : WorldsOfAdditions
+unfolding is_host_path is_app_name is_utf8 chars encode child_of own_folder is_in_own_folder is_doc_id hex_number doc_text parent_of
+additions = record { once = refl; twice = refl; foreign = refl }
+
+pub removals : WorldsOfRemovals
+unfolding is_host_path is_app_name is_utf8 chars encode child_of own_folder is_in_own_folder is_doc_id hex_number doc_text parent_of
+removals = record { own = refl }
+
+pub touched : WhatIsTouched
+unfolding is_host_path is_app_name is_utf8 chars encode child_of own_folder is_in_own_folder is_doc_id hex_number doc_text parent_of
+touched = record { by_host = refl }

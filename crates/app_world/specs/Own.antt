@@ -1,0 +1,20 @@
+-- A request of the application, and what the outside gave it.
+use Rattle.std.specs.Prelude.{ℕ, List, Bool, Option}
+use Rattle.portal_base.specs.declared.names.doc_id.DocId.{DocId}
+use Rattle.portal_model.specs.declared.entry.Fault.{Fault}
+use Rattle.portal_model.specs.declared.request.Request.{Request}
+use Rattle.portal_model.specs.Content.{Content}
+
+pub record Own : Type 0 where
+  pub seat : ℕ
+  pub request : Request
+  pub now : Option ℕ
+  pub numbers : List DocId
+  -- of an Add: the content of each path that the tree was asked for, and of each file the
+  -- document that was there to be used again, if any
+  pub shown : List Content
+  pub reused : List (Option DocId)
+  -- how many looks succeeded
+  pub looks : ℕ
+  pub full : Bool
+  pub fault : Fault

@@ -1,0 +1,236 @@
+-- Refusals change nothing but queues, and what is allowed is done.
+use Rattle.std.proofs.Common.{◌≡◌, ℕ, List, [], ◌∷◌, ◌++◌, map, length, nat_lt, drop, Bool, true, false, not, ◌&&◌, ◌||◌, cond, Option, Some, None, refl, sym, ap, subst, ◌∙◌, arith}
+use Rattle.portal_base.specs.Names.{is_app_name, is_same}
+use Rattle.portal_base.specs.declared.files.File.{File}
+use Rattle.portal_base.specs.declared.files.Look.{Look}
+use Rattle.portal_base.specs.declared.names.doc_id.DocId.{DocId}
+use Rattle.portal_base.specs.declared.who.Who.{Who}
+use Rattle.rights_rule.specs.Rights.{holds_any, rights_named}
+use Rattle.portal_model.specs.declared.entry.Fault.{Fault}
+use Rattle.portal_model.specs.declared.entry.Given.{Given}
+use Rattle.portal_model.specs.declared.reply.Answer.{Answer}
+use Rattle.portal_model.specs.declared.reply.Code.{Code}
+use Rattle.portal_model.specs.declared.reply.Code.TheVariants as Code
+use Rattle.portal_model.specs.declared.request.AddRequest.{AddRequest}
+use Rattle.portal_model.specs.declared.request.Request.{Request}
+use Rattle.portal_model.specs.declared.request.RightsCall.{RightsCall}
+use Rattle.portal_model.specs.declared.rights.Right.TheVariants.{Delete, GrantPermissions}
+use Rattle.portal_model.specs.declared.state.Connection.{Connection}
+use Rattle.portal_model.specs.declared.state.Document.{Document}
+use Rattle.portal_model.specs.declared.state.Triple.{Triple}
+use Rattle.portal_model.specs.Add.{add, add_allowed, add_looking, add_presented, add_shown, added, added_files, are_of_kind, may_list_all, taken_from_queue}
+use Rattle.portal_model.specs.AddArguments.{are_add_arguments, are_presented, document_paths, paths_shown}
+use Rattle.portal_model.specs.Allowed.{has_place, is_allowed, is_host, is_live, is_refusal, may_add, may_delete_in, may_grant_in, may_revoke_in}
+use Rattle.portal_model.specs.Arguments.{ahead_of_end, document_named, if_reached, is_ended_path, reached}
+use Rattle.portal_model.specs.Bus.{bus_answer, bus_walk, is_tree, kept, moment_given, refused_state, settled, verdict_given}
+use Rattle.portal_model.specs.Content.{look_at}
+use Rattle.portal_model.specs.DeleteDocument.{delete_reached, deleted}
+use Rattle.portal_model.specs.DocumentLaws.{AllowedIsDone, RefusalsKeep}
+use Rattle.portal_model.specs.Grant.{are_rights_arguments, grant_reached, granted, may_grant}
+use Rattle.portal_model.specs.Documents.{first_of}
+use Rattle.portal_model.specs.Info.{info, info_of}
+use Rattle.portal_model.specs.ListDocuments.{documents_listed, list_documents}
+use Rattle.portal_model.specs.LookupDocument.{lookup_document, text_of}
+use Rattle.portal_model.specs.Outside.{LawfulBus, files_told}
+use Rattle.portal_model.specs.Present.{may_present, present, present_path, queue_path, with_queue}
+use Rattle.portal_model.specs.Revoke.{may_revoke, names_itself, revoke_reached, revoked}
+use Rattle.portal_model.specs.Rights.{held_by}
+use Rattle.portal_model.specs.State.{State, who_has}
+use Rattle.portal_model.specs.Verdict.{Doing, Verdict, Refuses, Does, does, unless, walk_unless}
+use Rattle.portal_model.specs.Walk.{Walk, Answers, Gives, looks_at_all, walked}
+use Rattle.portal_model.proofs.BusLaws.{HoldsGiven, bus_walk-holds, walked-holds}
+
+-- ---- refusals
+
+-- nothing that is done is answered by a refusal
+abbrev NoRefusal : Option Verdict → Type 0
+NoRefusal v = HoldsGiven (λ (t : State). Unit {0}) (λ t seat h. h) (λ t seat change h. h) (λ t ds made rights apps h. h) v
+
+never_refused : (s : State) (c : Connection) (request : Request) (given : Given) → NoRefusal (verdict_given (bus_walk s c request given.numbers) given)
+never_refused s c request given =
+    walked-holds (λ (t : State). Unit {0}) (λ t seat h. h) (λ t seat change h. h) (λ t ds made rights apps h. h) (bus_walk s c request given.numbers) (moment_given given.now) given.looks (is_tree given.fault)
+    (bus_walk-holds (λ (t : State). Unit {0}) (λ t seat h. h) (λ t seat change h. h) (λ t ds made rights apps h. h) s c request given.numbers tt)
+
+abbrev Keeps : State → State → Type 0
+Keeps s t = t ≡ record s { connections = t.connections }
+
+kept_refused : (s : State) (fault : Fault) (d : Doing) (code : Code) → is_refusal d.answer ≡ false → (kept s fault d).1 ≡ Answer.Refused code → Keeps s (kept s fault d).0
+kept_refused s Fault.None d code n e = let no : is_refusal d.answer ≡ true = ap is_refusal e in cc
+kept_refused s Fault.Tree d code n e = let no : is_refusal d.answer ≡ true = ap is_refusal e in cc
+kept_refused s Fault.Keeper d code n e = refl
+
+full_refused : (s refused : State) (full : Bool) (fault : Fault) (d : Doing) (code : Code) → is_refusal d.answer ≡ false → Keeps s refused →
+    (cond full (refused, Answer.Refused Code.LimitsExceeded) (kept s fault d)).1 ≡ Answer.Refused code → Keeps s (cond full (refused, Answer.Refused Code.LimitsExceeded) (kept s fault d)).0
+full_refused s refused true fault d code n k e = k
+full_refused s refused false fault d code n k e = kept_refused s fault d code n e
+
+settled_refused : (s refused : State) (given : Given) (v : Option Verdict) (code : Code) → NoRefusal v → Keeps s refused → (settled s refused given v).1 ≡ Answer.Refused code → Keeps s (settled s refused given v).0
+settled_refused s refused given None code n k e = refl
+settled_refused s refused given (Some (Refuses other)) code n k e = k
+settled_refused s refused given (Some (Does d)) code n k e = full_refused s refused given.full given.fault d code n.1 k e
+
+keeps_either : (s : State) (seat : ℕ) (change : List (List ℕ) → List (List ℕ)) (b : Bool) → Keeps s (cond b (with_queue seat change s) s)
+keeps_either s seat change true = refl
+keeps_either s seat change false = refl
+
+refused_keeps : (s : State) (c : Connection) (request : Request) → Keeps s (refused_state s c request)
+refused_keeps s c (Request.Add a) = keeps_either s c.seat (drop a.fds) (are_presented c.queue a)
+refused_keeps s c request = refl
+
+pub refusals-keep : RefusalsKeep
+refusals-keep s c request given code e =
+    settled_refused s (refused_state s c request) given (verdict_given (bus_walk s c request given.numbers) given) code (never_refused s c request given) (refused_keeps s c request) e
+
+-- ---- what is allowed
+
+abbrev Done : Verdict → Type 0
+Done (Refuses code) = ⊥
+Done (Does d) = is_refusal d.answer ≡ false
+
+abbrev DoneGiven : Option Verdict → Type 0
+DoneGiven None = ⊥
+DoneGiven (Some v) = Done v
+
+passes : (b : Bool) (code : Code) (v : Verdict) → b ≡ true → Done v → Done (unless (not b) code v)
+passes true code v e h = h
+passes false code v e h = cc
+
+walk_passes : (b : Bool) (code : Code) (w : Walk Verdict) (now : ℕ) (looks : List Look) → b ≡ true → DoneGiven (walked w now looks false) → DoneGiven (walked (walk_unless (not b) code w) now looks false)
+walk_passes true code w now looks e h = h
+walk_passes false code w now looks e h = cc
+
+-- the looks of a walk behind a check that passes
+gives_behind : (files : Option (List File)) (b : Bool) (code : Code) (w : Walk Verdict) (looks : List Look) → b ≡ true → Gives files (walk_unless (not b) code w) looks false → Gives files w looks false
+gives_behind files true code w looks e g = g
+gives_behind files false code w looks e g = cc
+
+both_true : (a b : Bool) → (a && b) ≡ true → (a ≡ true) × (b ≡ true)
+both_true true true h = (refl, refl)
+both_true true false h = cc
+both_true false b h = cc
+
+reaches : (rights : List Triple) (who : Who) (d : Document) → holds_any (held_by rights who d.id.number) ≡ true → if_reached rights who (Some d) ≡ Some d
+reaches rights who d h = ap (λ (b : Bool). cond b (Some d) None) h
+
+grant_done : (s : State) (who : Who) (call : RightsCall) (o : Option Document) → may_grant_in s who call o ≡ true → Done (grant_reached s who call (if_reached s.rights who o))
+grant_done s who call None h = cc
+grant_done s who call (Some d) h =
+    let any : holds_any (held_by s.rights who d.id.number) ≡ true = grind arith in
+    subst (λ (o : Option Document). Done (grant_reached s who call o)) (sym (reaches s.rights who d any))
+    (passes (may_grant (held_by s.rights who d.id.number) (rights_named call.names)) Code.NotAllowed (granted s call d) h refl)
+
+gives_is : (rights : List Triple) (who : Who) (n : ℕ) → who_has rights who n GrantPermissions ≡ (held_by rights who n).grant_permissions
+gives_is rights Who.Host n = refl
+gives_is rights (Who.App app) n = refl
+
+deletes_is : (rights : List Triple) (who : Who) (n : ℕ) → who_has rights who n Delete ≡ (held_by rights who n).delete
+deletes_is rights Who.Host n = refl
+deletes_is rights (Who.App app) n = refl
+
+revoke_done : (s : State) (who : Who) (call : RightsCall) (o : Option Document) → may_revoke_in s who call o ≡ true → Done (revoke_reached s who call (if_reached s.rights who o))
+revoke_done s who call None h = cc
+revoke_done s who call (Some d) h =
+    let held = held_by s.rights who d.id.number in
+    let may : (held.grant_permissions || (names_itself who call.app && holds_any held)) ≡ true = ap (λ (b : Bool). b || (names_itself who call.app && holds_any held)) (sym (gives_is s.rights who d.id.number)) ∙ h in
+    let any : holds_any held ≡ true = grind arith in
+    let allowed : may_revoke held (names_itself who call.app) ≡ true = grind arith in
+    subst (λ (o : Option Document). Done (revoke_reached s who call o)) (sym (reaches s.rights who d any))
+    (passes (may_revoke held (names_itself who call.app)) Code.NotAllowed (Does (record { state = revoked s call d; answer = Answer.Done; makes = 0; exceeds = false })) allowed refl)
+
+delete_done : (s : State) (who : Who) (o : Option Document) → may_delete_in s who o ≡ true → Done (delete_reached s who (if_reached s.rights who o))
+delete_done s who None h = cc
+delete_done s who (Some d) h =
+    let held = held_by s.rights who d.id.number in
+    let may : held.delete ≡ true = sym (deletes_is s.rights who d.id.number) ∙ h in
+    let any : holds_any held ≡ true = grind arith in
+    subst (λ (o : Option Document). Done (delete_reached s who o)) (sym (reaches s.rights who d any))
+    (passes held.delete Code.NotAllowed (Does (record { state = deleted s d.id.number; answer = Answer.Done; makes = 0; exceeds = false })) may refl)
+
+info_done : (s : State) (o : Option Document) → is_live o ≡ true → Done (info_of s o)
+info_done s None h = cc
+info_done s (Some d) h = refl
+
+-- ---- looks
+
+shown_walked : (files : List File) (paths : List (List ℕ)) (v : List Look → Verdict) (looks : List Look) (now : ℕ) → Gives (Some files) (looks_at_all paths (λ ls. Answers (v ls))) looks false →
+    walked (looks_at_all paths (λ ls. Answers (v ls))) now looks false ≡ Some (v (map (look_at files) paths))
+shown_walked files [] v looks now g = refl
+shown_walked files (p ∷ ps) v [] now g = cc
+shown_walked files (p ∷ ps) v (look ∷ looks) now g =
+    shown_walked files ps (λ ls. v (look ∷ ls)) looks now g.1 ∙ ap (λ (l : Look). Some (v (l ∷ map (look_at files) ps))) g.0
+
+-- ---- each kind
+
+add_done : (s : State) (c : Connection) (a : AddRequest) (numbers : List DocId) (looks : List Look) (now : ℕ) → may_add s c a ≡ true → Gives (Some s.files) (add s c a numbers) looks false →
+    DoneGiven (walked (add s c a numbers) now looks false)
+add_done s c a numbers looks now h g =
+    let paths = document_paths c.queue a in
+    let first = both_true (are_presented c.queue a) (are_add_arguments c.queue a && (may_list_all s c.who a paths && are_of_kind a (map (look_at s.files) (paths_shown c.queue a)))) h in
+    let second = both_true (are_add_arguments c.queue a) (may_list_all s c.who a paths && are_of_kind a (map (look_at s.files) (paths_shown c.queue a))) first.1 in
+    let third = both_true (may_list_all s c.who a paths) (are_of_kind a (map (look_at s.files) (paths_shown c.queue a))) second.1 in
+    let g1 = gives_behind (Some s.files) (are_presented c.queue a) Code.InvalidArgs (add_presented s c a numbers) looks first.0 g in
+    let g2 = gives_behind (Some s.files) (are_add_arguments c.queue a) Code.InvalidArgument (add_allowed s c a numbers) looks second.0 g1 in
+    let g3 = gives_behind (Some s.files) (may_list_all s c.who a paths) Code.NotAllowed (add_looking s c a numbers) looks third.0 g2 in
+    let v : List Look → Verdict = λ ls. unless (not (are_of_kind a ls)) Code.InvalidArgument (added s (added_files s c a numbers)) in
+    let shown : walked (add_looking s c a numbers) now looks false ≡ Some (v (map (look_at s.files) (paths_shown c.queue a))) = shown_walked s.files (paths_shown c.queue a) v looks now g3 in
+    let done : Done (v (map (look_at s.files) (paths_shown c.queue a))) = passes (are_of_kind a (map (look_at s.files) (paths_shown c.queue a))) Code.InvalidArgument (added s (added_files s c a numbers)) third.1 refl in
+    walk_passes (are_presented c.queue a) Code.InvalidArgs (add_presented s c a numbers) now looks first.0
+    (walk_passes (are_add_arguments c.queue a) Code.InvalidArgument (add_allowed s c a numbers) now looks second.0
+    (walk_passes (may_list_all s c.who a paths) Code.NotAllowed (add_looking s c a numbers) now looks third.0
+    (subst DoneGiven (sym shown) done)))
+
+present_done : (s : State) (c : Connection) (bytes : List ℕ) → (is_ended_path bytes && may_present c.who (ahead_of_end bytes)) ≡ true → nat_lt (length c.queue) s.limits.queued ≡ true → Done (present s c bytes)
+present_done s c bytes h k =
+    let path = ahead_of_end bytes in
+    let both = both_true (is_ended_path bytes) (may_present c.who path) h in
+    let queued = Does (record { state = with_queue c.seat (λ queue. queue ++ path ∷ []) s; answer = Answer.Place (length c.queue); makes = 0; exceeds = false }) in
+    passes (is_ended_path bytes) Code.InvalidArgument (present_path s c path) both.0
+    (passes (may_present c.who path) Code.NotAllowed (queue_path s c path) both.1
+    (passes (nat_lt (length c.queue) s.limits.queued) Code.LimitsExceeded queued k refl))
+
+lookup_done : (s : State) (who : Who) (bytes : List ℕ) → (is_host who && is_ended_path bytes) ≡ true → Done (lookup_document s who bytes)
+lookup_done s (Who.App app) bytes h = cc
+lookup_done s Who.Host bytes h = passes (is_ended_path bytes) Code.InvalidArgument (does s (Answer.Ids (text_of (first_of s.documents (ahead_of_end bytes)) ∷ []))) h refl
+
+info_host : (s : State) (who : Who) (doc : List ℕ) → (is_host who && is_live (document_named s.documents doc)) ≡ true → Done (info s who doc)
+info_host s (Who.App app) doc h = cc
+info_host s Who.Host doc h = info_done s (document_named s.documents doc) h
+
+list_done : (s : State) (who : Who) (app : List ℕ) → (is_host who && (is_same app [] || is_app_name app)) ≡ true → Done (list_documents s who app)
+list_done s (Who.App caller) app h = cc
+list_done s Who.Host app h = passes (is_same app [] || is_app_name app) Code.InvalidArgument (does s (Answer.Listed (documents_listed s app))) h refl
+
+walk_done : (s : State) (c : Connection) (request : Request) (numbers : List DocId) (looks : List Look) (now : ℕ) → is_allowed s c request ≡ true → has_place s c request ≡ true →
+    Gives (Some s.files) (bus_walk s c request numbers) looks false → DoneGiven (walked (bus_walk s c request numbers) now looks false)
+walk_done s c (Request.Present path) numbers looks now h k g = present_done s c path h k
+walk_done s c (Request.Add a) numbers looks now h k g = add_done s c a numbers looks now h g
+walk_done s c (Request.Grant call) numbers looks now h k g =
+    let o = document_named s.documents call.doc in
+    let both = both_true (are_rights_arguments call) (may_grant_in s c.who call o) h in
+    passes (are_rights_arguments call) Code.InvalidArgument (grant_reached s c.who call (reached s c.who call.doc)) both.0 (grant_done s c.who call o both.1)
+walk_done s c (Request.Revoke call) numbers looks now h k g =
+    let o = document_named s.documents call.doc in
+    let both = both_true (are_rights_arguments call) (may_revoke_in s c.who call o) h in
+    passes (are_rights_arguments call) Code.InvalidArgument (revoke_reached s c.who call (reached s c.who call.doc)) both.0 (revoke_done s c.who call o both.1)
+walk_done s c (Request.DeleteDocument doc) numbers looks now h k g = delete_done s c.who (document_named s.documents doc) h
+walk_done s c (Request.LookupDocument path) numbers looks now h k g = lookup_done s c.who path h
+walk_done s c (Request.Info doc) numbers looks now h k g = info_host s c.who doc h
+walk_done s c (Request.ListDocuments app) numbers looks now h k g = list_done s c.who app h
+walk_done s c Request.Collect numbers looks now h k g = refl
+walk_done s c request numbers looks now h k g = cc
+
+settled_done : (s refused : State) (given : Given) (v : Option Verdict) → given.fault ≡ Fault.None → given.full ≡ false → DoneGiven v → is_refusal (settled s refused given v).1 ≡ false
+settled_done s refused given None e f h = absurd h
+settled_done s refused given (Some (Refuses code)) e f h = absurd h
+settled_done s refused given (Some (Does d)) e f h =
+    ap (λ (full : Bool). is_refusal (cond full (refused, Answer.Refused Code.LimitsExceeded) (kept s given.fault d)).1) f
+    ∙ (ap (λ (fault : Fault). is_refusal (kept s fault d).1) e ∙ h)
+
+pub allowed-done : AllowedIsDone
+allowed-done s c request given t h k l e f =
+    let w = bus_walk s c request given.numbers in
+    let calm : is_tree given.fault ≡ false = ap is_tree e in
+    let told : files_told s ≡ Some s.files = ap (λ (b : Bool). cond b (Some s.files) None) t in
+    let gives : Gives (Some s.files) w given.looks false = subst (λ (failed : Bool). Gives (Some s.files) w given.looks failed) calm (subst (λ (files : Option (List File)). Gives files w given.looks (is_tree given.fault)) told l.looks) in
+    settled_done s (refused_state s c request) given (verdict_given w given) e f
+    (subst (λ (failed : Bool). DoneGiven (walked w (moment_given given.now) given.looks failed)) (sym calm) (walk_done s c request given.numbers given.looks (moment_given given.now) h k gives))

@@ -1,0 +1,46 @@
+-- The worked examples of the requests on documents, by computation.
+use lib.Utf8.{encode}
+use Rattle.std.proofs.Common.{◌≡◌, ◌<◌, ◌^◌, ℕ, [], ◌∷◌, true, refl, arith}
+use Rattle.std.proofs.lemmas.Bool.Decides.{nat_tests}
+use Rattle.std.specs.Str.{is_utf8, chars}
+use Rattle.portal_base.specs.Names.{is_host_path, is_app_name, child_of, own_folder, is_in_own_folder, is_doc_id, hex_number, doc_text}
+use Rattle.portal_model.specs.DocumentExamples.{AddsAndReuses, NumbersWrap, AddsOfOneFile, QueueIsFull, Grants, Informs, RevokesItsOwn, AddsWhatAnotherHolds}
+use Rattle.portal_model.specs.Documents.{above}
+use Rattle.portal_model.specs.Opening.{id_of}
+use Rattle.portal_model.specs.Valid.{is_made}
+
+pub adds_and_reuses : AddsAndReuses
+unfolding is_host_path is_app_name is_utf8 chars encode child_of own_folder is_in_own_folder is_doc_id hex_number doc_text
+adds_and_reuses = record { answers_are = refl }
+
+pub adds_of_one_file : AddsOfOneFile
+unfolding is_host_path is_app_name is_utf8 chars encode child_of own_folder is_in_own_folder is_doc_id hex_number doc_text
+adds_of_one_file = record { reused = refl; unique = refl; left = refl; not_a_file = refl }
+
+pub queue_is_full : QueueIsFull
+unfolding is_host_path is_app_name is_utf8 chars encode child_of own_folder is_in_own_folder is_doc_id hex_number doc_text
+queue_is_full = record { one_more = refl; places = refl; too_many = refl; bad_handle = refl }
+
+pub grants_in_a_document : Grants
+unfolding is_host_path is_app_name is_utf8 chars encode child_of own_folder is_in_own_folder is_doc_id hex_number doc_text
+grants_in_a_document = record { answers_are = refl }
+
+pub informs_the_host : Informs
+unfolding is_host_path is_app_name is_utf8 chars encode child_of own_folder is_in_own_folder is_doc_id hex_number doc_text
+informs_the_host = record { host = refl; lookup = refl; application = refl }
+
+pub revokes_its_own : RevokesItsOwn
+unfolding is_host_path is_app_name is_utf8 chars encode child_of own_folder is_in_own_folder is_doc_id hex_number doc_text
+revokes_its_own = record { answers_are = refl }
+
+pub adds_what_another_holds : AddsWhatAnotherHolds
+unfolding is_host_path is_app_name is_utf8 chars encode child_of own_folder is_in_own_folder is_doc_id hex_number doc_text
+adds_what_another_holds = record { answers_are = refl }
+
+only_last : (other : ℕ) → other < 2 ^ 32 → above 4294967295 other < above 4294967295 0 → is_made (id_of 4294967295 ∷ []) other ≡ true
+only_last other h l =
+    let e : other ≡ 4294967295 = omega arith in
+    grind (arith, nat_tests, e)
+
+pub numbers_wrap : NumbersWrap
+numbers_wrap = record { unused = record { unused = refl; first = only_last } }

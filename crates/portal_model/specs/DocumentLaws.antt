@@ -1,0 +1,33 @@
+-- Laws of the requests of a bus, which the public functions of src/document_laws.rt state.
+use Rattle.std.specs.Prelude.{◌≡◌, true, false}
+use Rattle.portal_model.specs.declared.entry.Fault.{Fault}
+use Rattle.portal_model.specs.declared.entry.Given.{Given}
+use Rattle.portal_model.specs.declared.reply.Answer.{Answer}
+use Rattle.portal_model.specs.declared.reply.Code.{Code}
+use Rattle.portal_model.specs.declared.request.Request.{Request}
+use Rattle.portal_model.specs.declared.state.Connection.{Connection}
+use Rattle.portal_model.specs.Allowed.{has_place, is_allowed, is_refusal}
+use Rattle.portal_model.specs.Bus.{bus_answer}
+use Rattle.portal_model.specs.Outside.{LawfulBus}
+use Rattle.portal_model.specs.State.{State}
+
+abbrev pub after_bus : State → Connection → Request → Given → State
+after_bus s c request given = (bus_answer s c request given).0
+
+abbrev pub answer_of_bus : State → Connection → Request → Given → Answer
+answer_of_bus s c request given = (bus_answer s c request given).1
+
+-- A refusal leaves documents, rights, applications, files and entries as they were: all but
+-- the connections, of which a queue may have changed.
+abbrev pub RefusalsKeep : Type 0
+RefusalsKeep = (s : State) (c : Connection) (request : Request) (given : Given) (code : Code) →
+    answer_of_bus s c request given ≡ Answer.Refused code →
+    after_bus s c request given ≡ record s { connections = (after_bus s c request given).connections }
+
+-- What is allowed is done, over a tree that tells, where no device fails, no limit of
+-- documents or applications is met, and the queue has a place.
+abbrev pub AllowedIsDone : Type 0
+AllowedIsDone = (s : State) (c : Connection) (request : Request) (given : Given) →
+    s.told ≡ true → is_allowed s c request ≡ true → has_place s c request ≡ true →
+    LawfulBus s c request given → given.fault ≡ Fault.None → given.full ≡ false →
+    is_refusal (answer_of_bus s c request given) ≡ false

@@ -1,0 +1,103 @@
+-- The calls of the tree of files that a request makes, one after another: what comes next is told
+-- by what was shown so far. What the tree gives to a request, where a call may fail and whether
+-- the clock is read follow from this, once for all requests.
+use Rattle.std.specs.Prelude.{◌≡◌, ℕ, List, [], ◌∷◌, length, Bool, true, false, Option, Some, None, cond, is_some}
+use Rattle.portal_base.specs.declared.files.FileName.{FileName}
+use Rattle.portal_base.specs.declared.files.File.{File}
+use Rattle.portal_base.specs.declared.files.Look.{Look}
+use Rattle.portal_base.specs.Content.{file_named, has_room, look_at}
+
+-- what is looked at: what stands at a path, or the file of a name
+pub data Target : Type 0 where
+  AtPath : List ℕ → Target
+  Named : FileName → Target
+
+-- the last call of a walk: it needs the file of a name and leaves its moment, or changes it; or
+-- it makes a file at a path, whose parent has to be a folder
+pub data LastCall : Type 0 where
+  Uses : FileName → LastCall
+  Changes : FileName → LastCall
+  Makes : List ℕ → LastCall
+
+-- A walk answers. Or it looks at a target, and goes on as that shows. Or it ends with a call: the
+-- one answer, by the moment of now, where that is done; the other where there was no such file,
+-- or no place for one.
+pub data Walk (X : Type 0) : Type 0 where
+  Answers : X → Walk X
+  Looks : Target → (Look → Walk X) → Walk X
+  Ends : LastCall → (ℕ → X) → X → Walk X
+
+-- paths looked at one after another, whatever they show; what comes then is told by all of it
+abbrev pub looks_at_all : {X : Type 0} → List (List ℕ) → (List Look → Walk X) → Walk X
+looks_at_all [] next = next []
+looks_at_all (path ∷ paths) next =
+    Looks (AtPath path) (λ look. looks_at_all paths (λ looks. next (look ∷ looks)))
+
+-- ---- what comes of a walk
+
+-- what is shown is given in order, and `failed` says that the call behind it failed; then there
+-- is no answer
+abbrev pub walked : {X : Type 0} → Walk X → ℕ → List Look → Bool → Option X
+walked (Answers x) now looks failed = Some x
+walked (Looks target next) now [] failed = None
+walked (Looks target next) now (look ∷ looks) failed = walked (next look) now looks failed
+walked (Ends call done missing) now [] true = None
+walked (Ends call done missing) now [] false = Some (done now)
+walked (Ends call done missing) now (look ∷ looks) failed = Some missing
+
+abbrev pub changes_file : LastCall → Bool
+changes_file (Uses name) = false
+changes_file (Changes name) = true
+changes_file (Makes path) = true
+
+-- the clock is read where a call is reached that changes or makes a file
+abbrev pub reads_clock : {X : Type 0} → Walk X → List Look → Bool
+reads_clock (Answers x) looks = false
+reads_clock (Looks target next) [] = false
+reads_clock (Looks target next) (look ∷ looks) = reads_clock (next look) looks
+reads_clock (Ends call done missing) looks = changes_file call
+
+-- ---- what a tree may give to a walk
+
+-- what these files show at a target, and whether a last call finds what it needs
+abbrev pub look_of_file : Option File → Look
+look_of_file None = Look.Missing
+look_of_file (Some f) = Look.File f.generation (length f.bytes) f.moment
+
+abbrev pub shown_at : List File → Target → Look
+shown_at files (AtPath path) = look_at files path
+shown_at files (Named name) = look_of_file (file_named files name)
+
+abbrev pub is_found : List File → LastCall → Bool
+is_found files (Uses name) = is_some (file_named files name)
+is_found files (Changes name) = is_some (file_named files name)
+is_found files (Makes path) = has_room files path
+
+-- a tree that tells its files shows what it has, any other whatever it likes
+abbrev pub IsShown : Option (List File) → Target → Look → Type 0
+IsShown None target look = Unit {0}
+IsShown (Some files) target look = look ≡ shown_at files target
+
+abbrev pub IsFound : Option (List File) → LastCall → Bool → Type 0
+IsFound None call found = Unit {0}
+IsFound (Some files) call found = found ≡ is_found files call
+
+-- The looks are just those that the walk uses. Where a call failed, they are those ahead of it,
+-- and the walk makes that call. A last call that found nothing shows one look more, that nothing
+-- is there.
+abbrev pub Gives : {X : Type 0} → Option (List File) → Walk X → List Look → Bool → Type 0
+Gives tree (Answers x) looks failed = (looks ≡ []) × (failed ≡ false)
+Gives tree (Looks target next) [] failed = failed ≡ true
+Gives tree (Looks target next) (look ∷ looks) failed =
+    IsShown tree target look × Gives tree (next look) looks failed
+Gives tree (Ends call done missing) [] true = Unit {0}
+Gives tree (Ends call done missing) [] false = IsFound tree call true
+Gives tree (Ends call done missing) (look ∷ looks) failed =
+    (look ≡ Look.Missing) × (looks ≡ []) × (failed ≡ false) × IsFound tree call false
+
+-- the looks that a tree of these files gives, where nothing fails
+abbrev pub looks_shown : {X : Type 0} → List File → Walk X → List Look
+looks_shown files (Answers x) = []
+looks_shown files (Looks target next) =
+    shown_at files target ∷ looks_shown files (next (shown_at files target))
+looks_shown files (Ends call done missing) = cond (is_found files call) [] (Look.Missing ∷ [])

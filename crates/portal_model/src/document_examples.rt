@@ -1,0 +1,60 @@
+//! Worked examples of the requests on documents, computed by the checker over
+//! the definitions alone.
+//!
+//! Each function does nothing; its contract is the example. What is expected
+//! is worked out by hand, so that a wrong definition does not meet it.
+
+ghost use Rattle.portal_model.specs.DocumentExamples.{
+  AddsAndReuses,
+  AddsOfOneFile,
+  AddsWhatAnotherHolds,
+  Grants,
+  Informs,
+  NumbersWrap,
+  QueueIsFull,
+  RevokesItsOwn,
+};
+
+/// A document that may be used again is used again; one that may not is made
+/// anew, and may be deleted by who added it.
+pub fn documents_are_added_and_used_again()
+    ensures { AddsAndReuses }
+{}
+
+/// Behind the greatest number comes 0.
+pub fn numbers_wrap()
+    ensures { NumbersWrap }
+{}
+
+/// Two equal files of one call become one document where it may be used again,
+/// and two where not; a file in the own folder of the named application is left
+/// out.
+pub fn equal_files_of_one_call()
+    ensures { AddsOfOneFile }
+{}
+
+/// A queue holds 16 presented files, and a call takes those that are there.
+pub fn presented_files_wait_in_a_queue()
+    ensures { QueueIsFull }
+{}
+
+/// Who may give rights in a document gives those that it has.
+pub fn rights_are_granted()
+    ensures { Grants }
+{}
+
+/// The host alone is told who has which rights.
+pub fn the_host_is_informed()
+    ensures { Informs }
+{}
+
+/// An application takes its own rights away, and those alone that it lists.
+pub fn an_application_revokes_its_own_rights()
+    ensures { RevokesItsOwn }
+{}
+
+/// An application adds a file of which another holds a document: the document
+/// is used, and each keeps its rights.
+pub fn an_application_adds_what_another_holds()
+    ensures { AddsWhatAnotherHolds }
+{}
