@@ -52,7 +52,8 @@ row guid command.AuthExternalWithIdentity = (ok guid, error WaitingForData, erro
 row guid command.AuthExternal = (asks_data, error WaitingForData, error WaitingForBegin)
 row guid command.AuthOther = (rejected, error WaitingForData, error WaitingForBegin)
 row guid command.CancelOrError = (rejected, rejected, rejected)
-row guid command.NegotiateUnixFd = (error WaitingForAuth, error WaitingForData, error WaitingForBegin)
+row guid command.NegotiateUnixFd =
+    (error WaitingForAuth, error WaitingForData, error WaitingForBegin)
 row guid command.Begin = (early WaitingForAuth, early WaitingForData, messages)
 row guid command.Data = (error WaitingForAuth, ok guid, error WaitingForBegin)
 row guid command.Unknown = (error WaitingForAuth, error WaitingForData, error WaitingForBegin)

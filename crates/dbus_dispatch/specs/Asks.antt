@@ -42,8 +42,11 @@ closed_bytes bytes = V.Array W.Byte (map V.Byte (bytes ++ 0 ∷ []))
 -- what a call of a method asks that no rule refuses, by the mount point
 abbrev pub asked : List ℕ → Message → Method → Ask
 asked mountpoint call M.Ping = Local (returned call [])
-asked mountpoint call M.Get = Local (answered call variant_of (value_in (object_of call) (texts call.body)))
-asked mountpoint call M.GetAll = Local (answered call (λ interface. dictionary (properties_of interface)) (interface_in (object_of call) (texts call.body)))
+asked mountpoint call M.Get = Local (answered call variant_of
+    (value_in (object_of call) (texts call.body)))
+asked mountpoint call M.GetAll =
+    Local (answered call (λ interface. dictionary (properties_of interface))
+    (interface_in (object_of call) (texts call.body)))
 asked mountpoint call M.GetMountPoint = Local (returned call (closed_bytes mountpoint ∷ []))
 asked mountpoint call _ = Unbuilt
 
@@ -54,4 +57,5 @@ asked_or_refused mountpoint call (Err error) = Local (error_to call error)
 
 -- what a message asks; one that isn't a call asks nothing
 abbrev pub ask_of : Settings → Message → Ask
-ask_of settings message = if is_call message then asked_or_refused settings.mountpoint message (called message) else Ignore
+ask_of settings message = if is_call message
+    then asked_or_refused settings.mountpoint message (called message) else Ignore

@@ -1,5 +1,5 @@
--- What a call means, and which refusal comes first (D-Bus Specification, "Message Protocol", "Header
--- Fields" and "Method Calls"; "Standard Interfaces").
+-- What a call means, and which refusal comes first (D-Bus Specification, "Message Protocol",
+-- "Header Fields" and "Method Calls"; "Standard Interfaces").
 use Rattle.std.specs.Prelude.{ℕ, List, [], find, Bool, true, false, not, ◌&&◌, if◌then◌else◌, Option, is_none, unwrap_or, Result, Ok, Err, ok_or}
 use Rattle.std.specs.List.{flat_map}
 use Rattle.std.specs.Option.{option_map_or, option_to_list}
@@ -23,7 +23,8 @@ object_at path = unwrap_or (find (λ object. bytes_eq path (path_of object)) obj
 
 -- the interface of this name among some
 abbrev pub interface_among : List Interface → List ℕ → Option Interface
-interface_among interfaces name = find (λ interface. bytes_eq name (interface_name interface)) interfaces
+interface_among interfaces name =
+    find (λ interface. bytes_eq name (interface_name interface)) interfaces
 
 -- the interface of this name that an object has
 abbrev pub interface_named : Object → List ℕ → Option Interface
@@ -45,7 +46,9 @@ member_of call = unwrap_or call.member []
 -- The interfaces that a call can mean: the one that it names, and where it names none those of its
 -- object.
 abbrev pub interfaces_meant : Message → List Interface
-interfaces_meant call = option_map_or (λ name. option_to_list (interface_named (object_of call) name)) call.interface (interfaces_of (object_of call))
+interfaces_meant call = option_map_or (λ name.
+    option_to_list (interface_named (object_of call) name)) call.interface
+    (interfaces_of (object_of call))
 
 -- the method that a call means
 abbrev pub method_meant : Message → Option Method
@@ -53,7 +56,8 @@ method_meant call = method_among (flat_map methods_of (interfaces_meant call)) (
 
 -- Ping with its interface named, which is answered on every path
 abbrev pub names_ping : Message → Bool
-names_ping call = bytes_eq (unwrap_or call.interface []) (interface_name I.Peer) && bytes_eq (member_of call) (row M.Ping).member
+names_ping call = bytes_eq (unwrap_or call.interface []) (interface_name I.Peer)
+    && bytes_eq (member_of call) (row M.Ping).member
 
 -- ## The refusals, in their order
 
@@ -65,7 +69,8 @@ abbrev pub lacks_object : Message → Bool
 lacks_object call = is_nothing (object_of call) && not (names_ping call)
 
 abbrev pub lacks_interface : Message → Bool
-lacks_interface call = option_map_or (λ name. is_none (interface_named (object_of call) name)) call.interface false
+lacks_interface call = option_map_or (λ name.
+    is_none (interface_named (object_of call) name)) call.interface false
 
 -- the method that a call means, or the first refusal of its object, interface and member
 abbrev pub found : Message → Result Method ErrorName
@@ -76,7 +81,8 @@ found call =
 
 -- the same, and last the refusal of a call that hasn't its method's signature
 abbrev pub with_signature : Message → Result Method ErrorName → Result Method ErrorName
-with_signature call (Ok method) = if bytes_eq (types_text call.signature) (row method).takes then Ok method else Err InvalidArgs
+with_signature call (Ok method) = if bytes_eq (types_text call.signature) (row method).takes
+    then Ok method else Err InvalidArgs
 with_signature call (Err error) = Err error
 
 -- the method that a call asks for, or the first refusal that applies

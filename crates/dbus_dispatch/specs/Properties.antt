@@ -28,7 +28,8 @@ interface_or object name = ok_or (interface_named object name) UnknownInterface
 
 -- the value of the property of this name
 abbrev pub value_named : List ℕ → Interface → Option ℕ
-value_named name interface = option_map (λ property. property.value) (find (λ property. bytes_eq name property.name) (properties_of interface))
+value_named name interface = option_map (λ property. property.value)
+    (find (λ property. bytes_eq name property.name) (properties_of interface))
 
 abbrev pub value_or : List ℕ → Result Interface ErrorName → Result ℕ ErrorName
 value_or name (Ok interface) = ok_or (value_named name interface) UnknownProperty
@@ -51,4 +52,5 @@ variant_of value = V.Variant (V.U32 value)
 
 -- properties as `a{sv}`
 abbrev pub dictionary : List Property → Value
-dictionary properties = V.Array (W.DictEntry W.Str W.Variant) (map (λ property. V.DictEntry (V.Str property.name) (variant_of property.value)) properties)
+dictionary properties = V.Array (W.DictEntry W.Str W.Variant)
+    (map (λ property. V.DictEntry (V.Str property.name) (variant_of property.value)) properties)

@@ -15,13 +15,18 @@ ghost use Rattle.dbus_dispatch.specs.Tables.{objects, path_of, interfaces_of, in
 /// object's interfaces at most.
 pub fn names_are_told_apart()
     ensures paths { IsTrue (are_apart (map path_of objects)) }
-    ensures interfaces { (object : AnObject) → IsTrue (are_apart (map interface_name (interfaces_of object))) }
-    ensures members { (object : AnObject) → IsTrue (are_apart (map (λ method. (row method).member) (flat_map methods_of (interfaces_of object)))) }
+    ensures interfaces { (object : AnObject)
+        → IsTrue (are_apart (map interface_name (interfaces_of object))) }
+    ensures members { (object : AnObject)
+        → IsTrue (are_apart (map (λ method. (row method).member)
+        (flat_map methods_of (interfaces_of object)))) }
 {}
 
 /// What a message is answered can be written, with each serial that isn't 0:
 /// its values keep the rules, and it is no longer than a message may be. The
 /// mount point is a path on the host, and so at most 4,095 bytes long.
 pub fn answers_can_be_written()
-    ensures { (settings : TheSettings) (message : AMessage) → is_host_path settings.mountpoint ≡ true → message.serial < 2 ^ 32 → CanBeAnswered (ask_of settings message) }
+    ensures { (settings : TheSettings) (message : AMessage)
+        → is_host_path settings.mountpoint ≡ true → message.serial < 2 ^ 32
+        → CanBeAnswered (ask_of settings message) }
 {}

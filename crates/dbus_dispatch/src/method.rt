@@ -199,7 +199,8 @@ fn peer_method(member: &[u8]) -> Option<Method>
 
 /// A method that each object has.
 fn shared_method(member: &[u8]) -> Option<Method>
-    ensures { result ≡ method_among (methods_of Interface.Properties ++ methods_of Interface.Peer) member.now }
+    ensures { result ≡ method_among (methods_of Interface.Properties
+        ++ methods_of Interface.Peer) member.now }
 {
     if member == b"Get".as_slice() {
         Some(Method::Get)

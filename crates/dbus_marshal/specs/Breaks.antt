@@ -89,7 +89,8 @@ IsNoType text at error = ((k : ℕ) × IsNoTypeAt text k × (error ≡ BadSignat
 -- the number of a signature's bytes in one byte, the signature, and a zero byte
 abbrev pub SignatureBreaks : Break
 SignatureBreaks = ByteBreaks (λ n. BytesBreak n (λ text at rest error. IsNoSignature text at error
-    ⊎ (IsSignatureText text × ZeroBreaks (BadSignature (at + length text)) Never (at + length text) rest error)))
+    ⊎ (IsSignatureText text × ZeroBreaks (BadSignature (at + length text)) Never
+    (at + length text) rest error)))
 
 -- the signature of one type, as a signature is spelled, and then a value of that type
 abbrev pub VariantBreaks : (WireType → Break) → Break
@@ -98,7 +99,8 @@ VariantBreaks B = ByteBreaks (λ n. BytesBreak n (λ text at rest error. IsNoTyp
     × ZeroBreaks (BadSignature (at + length text)) (B t) (at + length text) rest error)))
 
 -- one after another: the first goes wrong, or it is spelled and the others go wrong
-abbrev pub MembersBreak : (WireType → ℕ → Value → List ℕ → Type 0) → (WireType → Break) → List WireType → Break
+abbrev pub MembersBreak : (WireType → ℕ → Value → List ℕ → Type 0) → (WireType → Break)
+    → List WireType → Break
 MembersBreak S B [] at bytes error = ⊥
 MembersBreak S B (t ∷ ts) at bytes error = B t at bytes error
     ⊎ ((v : Value) × Behind (S t at v) (MembersBreak S B ts) at bytes error)
@@ -109,14 +111,17 @@ array_error (Short at) = BadArray at
 array_error e = e
 
 -- the bytes of an array's elements: some are spelled, and the next goes wrong
-abbrev pub ElementsBreak : (WireType → ℕ → Value → List ℕ → Type 0) → (WireType → Break) → WireType → Break
-ElementsBreak S B t at bytes error = (vs : List Value) × Behind (Elements S t vs at) (λ next rest error.
+abbrev pub ElementsBreak : (WireType → ℕ → Value → List ℕ → Type 0) → (WireType → Break) → WireType
+    → Break
+ElementsBreak S B t at bytes error = (vs : List Value)
+    × Behind (Elements S t vs at) (λ next rest error.
     (inner : ReadError) × (0 < length rest) × B t next rest inner × (error ≡ array_error inner))
     at bytes error
 
 -- the number of the elements' bytes, at most 64 MiB; the padding ahead of the first; as many bytes;
 -- and then the elements in them
-abbrev pub ArrayBreaks : (WireType → ℕ → Value → List ℕ → Type 0) → (WireType → Break) → Endian → WireType → Break
+abbrev pub ArrayBreaks : (WireType → ℕ → Value → List ℕ → Type 0) → (WireType → Break) → Endian
+    → WireType → Break
 ArrayBreaks S B e t start bytes error = NumberBreaks e w32 (λ n at rest error.
     ((67_108_864 < n) × (error ≡ TooLong start))
     ⊎ ((n ≤ 67_108_864) × AlignedBreaks (alignment t) (BytesBreak n (λ body at rest error.
@@ -124,7 +129,8 @@ ArrayBreaks S B e t start bytes error = NumberBreaks e w32 (λ n at rest error.
 
 -- the rows of Spells, where S says what spells the values inside, and B where those go wrong; no
 -- struct is without members
-abbrev pub RowBreaks : (WireType → ℕ → Value → List ℕ → Type 0) → (WireType → Break) → Endian → WireType-F WireType → Break
+abbrev pub RowBreaks : (WireType → ℕ → Value → List ℕ → Type 0) → (WireType → Break) → Endian
+    → WireType-F WireType → Break
 RowBreaks S B e WireType-F.Byte = Ends 1
 RowBreaks S B e WireType-F.Bool = AlignedBreaks 4 (BoolBreaks e)
 RowBreaks S B e WireType-F.I16 = AlignedBreaks 2 (Ends 2)

@@ -5,7 +5,8 @@ use Rattle.dbus_marshal.specs.declared.error.ReadError.TheVariants.{Memory}
 
 -- one step, and then the next where the first gave something
 infixl 10 ◌>>=◌
-abbrev pub ◌>>=◌ : {A B : Type 0} → Result A ReadError → (A → Result B ReadError) → Result B ReadError
+abbrev pub ◌>>=◌ : {A B : Type 0} → Result A ReadError → (A → Result B ReadError)
+    → Result B ReadError
 (Ok x) >>= f = f x
 (Err e) >>= f = Err e
 

@@ -1,4 +1,5 @@
--- Reading a value of a type from an offset, with the first break that is met. What is read from is the offset and the list of the bytes from there on.
+-- Reading a value of a type from an offset, with the first break that is met. What is read from is
+-- the offset and the list of the bytes from there on.
 use Rattle.std.specs.Prelude.{ℕ, zero, suc, ◌+◌, ◌==◌, List, [], ◌∷◌, ◌++◌, length, take, drop, Result, Ok, Err, nat_lt, if◌then◌else◌, Bool, true, false}
 use Rattle.std.specs.Int.{Width, w16, w32, w64, byte_len, from_le_bytes, from_be_bytes, cast_signed}
 use Rattle.std.specs.List.{list_any}
@@ -32,7 +33,8 @@ padded to at bytes = zeros (gap to at) at bytes
 
 -- so many bytes
 unfoldable pub taken : ℕ → ℕ → List ℕ → Read (List ℕ)
-taken n at bytes = if nat_lt (length bytes) n then Err (Short at) else Ok (take n bytes, at + n, drop n bytes)
+taken n at bytes = if nat_lt (length bytes) n then Err (Short at)
+    else Ok (take n bytes, at + n, drop n bytes)
 
 abbrev pub from_number : Endian → Width → List ℕ → ℕ
 from_number Little w bytes = from_le_bytes w bytes
@@ -133,7 +135,8 @@ joined vs (Ok more) = Ok (vs ++ more.0, more.1, more.2)
 joined vs (Err e) = Err e
 
 -- members one after another
-unfoldable pub members : (WireType → ℕ → List ℕ → Read Value) → List WireType → ℕ → List ℕ → Read (List Value)
+unfoldable pub members : (WireType → ℕ → List ℕ → Read Value) → List WireType → ℕ → List ℕ
+    → Read (List Value)
 members r [] at bytes = Ok ([], at, bytes)
 members r (t ∷ ts) at bytes = do
   first ← r t at bytes
@@ -184,7 +187,8 @@ flat e WireType-F.Signature at bytes = do
   Ok (V.Signature text.0, text.1, text.2)
 flat e t at bytes = fixed e t at bytes
 
-unfoldable pub layer : (WireType → ℕ → List ℕ → Read Value) → Endian → WireType-F WireType → ℕ → List ℕ → Read Value
+unfoldable pub layer : (WireType → ℕ → List ℕ → Read Value) → Endian → WireType-F WireType → ℕ
+    → List ℕ → Read Value
 layer r e (WireType-F.Array t) at bytes = do
   start ← padded 4 at bytes
   n ← number_at e w32 start.0 start.1

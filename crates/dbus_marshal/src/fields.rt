@@ -50,10 +50,12 @@ pub(crate) fn skip_padding(bytes: &[u8], at: usize, to: usize) -> Result<usize, 
 #[tactic(auto, unfolding(crate::specs::Reads::taken))]
 pub(crate) fn taken(bytes: &[u8], at: usize, count: usize) -> Result<(&[u8], usize), ReadError>
     requires { at ≤ length bytes.now }
-    ensures read { Gives (λ r. after bytes.now (r.0.now, r.1)) result (taken_in count at (drop at bytes.now)) }
+    ensures read { Gives (λ r. after bytes.now (r.0.now, r.1)) result
+        (taken_in count at (drop at bytes.now)) }
     ensures window { IfOk result (λ r. drop at (take r.1 bytes.now) ≡ r.0.now) }
     ensures body { IfOk result (λ r. r.0.now ≡ take count (drop at bytes.now)) }
-    ensures within { IfOk result (λ r. (r.1 ≡ at + count) × (r.1 ≤ length bytes.now) × (length r.0.now ≡ count)) }
+    ensures within { IfOk result (λ r. (r.1 ≡ at + count) × (r.1 ≤ length bytes.now)
+        × (length r.0.now ≡ count)) }
 {
     if bytes.len() - at < count {
         return Err(ReadError::Short { at });

@@ -19,7 +19,8 @@ use std::str;
 /// The bytes as a text, where they are UTF-8 without zero bytes.
 #[tactic(auto, using(crate::proofs::Places::not_utf8, crate::proofs::Places::utf8))]
 fn as_text(raw: &[u8]) -> Option<&str>
-    ensures { MatchOption result (is_text raw.now ≡ false) (λ text. (is_text raw.now ≡ true) × (text.now ≡ raw.now)) }
+    ensures { MatchOption result (is_text raw.now ≡ false) (λ text. (is_text raw.now ≡ true)
+        × (text.now ≡ raw.now)) }
 {
     match str::from_utf8(raw) {
         Ok(text) => {
@@ -34,7 +35,8 @@ fn as_text(raw: &[u8]) -> Option<&str>
 
 /// The bytes as the path of an object, where they are one.
 fn as_path(raw: &[u8]) -> Option<&str>
-    ensures { MatchOption result (is_path_text raw.now ≡ false) (λ text. (is_path_text raw.now ≡ true) × (text.now ≡ raw.now)) }
+    ensures { MatchOption result (is_path_text raw.now ≡ false)
+        (λ text. (is_path_text raw.now ≡ true) × (text.now ≡ raw.now)) }
 {
     match as_text(raw) {
         Some(text) => {
@@ -90,7 +92,8 @@ fn path_at(
     at: usize,
 ) -> Result<(Text, usize), ReadError>
     requires { at ≤ length bytes.now }
-    ensures read { Gives (after bytes.now) result (text_at endian is_path_text at (drop at bytes.now)) }
+    ensures read { Gives (after bytes.now) result
+        (text_at endian is_path_text at (drop at bytes.now)) }
     ensures within { IfOk result (λ r. (at < r.1) × (r.1 ≤ length bytes.now)) }
 {
     let (count, start) = number_32(endian, bytes, at)?;
@@ -109,7 +112,8 @@ fn signature_before(
     text: &str,
 ) -> Result<(Text, usize), ReadError>
     requires { end ≤ length bytes.now }
-    ensures read { Gives (after bytes.now) result (signature_with text.now end (drop end bytes.now)) }
+    ensures read { Gives (after bytes.now) result
+        (signature_with text.now end (drop end bytes.now)) }
     ensures within { IfOk result (λ r. (end < r.1) × (r.1 ≤ length bytes.now)) }
 {
     let next = ended(bytes, end, ReadError::BadSignature { at: end })?;
@@ -135,7 +139,8 @@ fn signature_at(alloc: Global, bytes: &[u8], at: usize) -> Result<(Text, usize),
 /// The number at the next multiple of two.
 fn padded_16(endian: Endian, bytes: &[u8], at: usize) -> Result<(u16, usize), ReadError>
     requires { at ≤ length bytes.now }
-    ensures read { Gives (after bytes.now) result (padded_number endian 2 w16 at (drop at bytes.now)) }
+    ensures read { Gives (after bytes.now) result
+        (padded_number endian 2 w16 at (drop at bytes.now)) }
     ensures within { IfOk result (λ r. (at < r.1) × (r.1 ≤ length bytes.now)) }
 {
     let start = skip_padding(bytes, at, 2)?;
@@ -145,7 +150,8 @@ fn padded_16(endian: Endian, bytes: &[u8], at: usize) -> Result<(u16, usize), Re
 /// The number at the next multiple of four.
 fn padded_32(endian: Endian, bytes: &[u8], at: usize) -> Result<(u32, usize), ReadError>
     requires { at ≤ length bytes.now }
-    ensures read { Gives (after bytes.now) result (padded_number endian 4 w32 at (drop at bytes.now)) }
+    ensures read { Gives (after bytes.now) result
+        (padded_number endian 4 w32 at (drop at bytes.now)) }
     ensures within { IfOk result (λ r. (at < r.1) × (r.1 ≤ length bytes.now)) }
 {
     let start = skip_padding(bytes, at, 4)?;
@@ -155,7 +161,8 @@ fn padded_32(endian: Endian, bytes: &[u8], at: usize) -> Result<(u32, usize), Re
 /// The number at the next multiple of eight.
 fn padded_64(endian: Endian, bytes: &[u8], at: usize) -> Result<(u64, usize), ReadError>
     requires { at ≤ length bytes.now }
-    ensures read { Gives (after bytes.now) result (padded_number endian 8 w64 at (drop at bytes.now)) }
+    ensures read { Gives (after bytes.now) result
+        (padded_number endian 8 w64 at (drop at bytes.now)) }
     ensures within { IfOk result (λ r. (at < r.1) × (r.1 ≤ length bytes.now)) }
 {
     let start = skip_padding(bytes, at, 8)?;
@@ -170,7 +177,8 @@ fn read_fixed(
     kind: &WireType,
 ) -> Result<(Value, usize), ReadError>
     requires { at ≤ length bytes.now }
-    ensures read { Gives (after bytes.now) result (fixed endian (out-WireType kind.now) at (drop at bytes.now)) }
+    ensures read { Gives (after bytes.now) result
+        (fixed endian (out-WireType kind.now) at (drop at bytes.now)) }
     ensures within { IfOk result (λ r. (at < r.1) × (r.1 ≤ length bytes.now)) }
 {
     match kind {
@@ -220,7 +228,8 @@ pub(crate) fn read_flat(
     kind: &WireType,
 ) -> Result<(Value, usize), ReadError>
     requires { at ≤ length bytes.now }
-    ensures read { Gives (after bytes.now) result (flat endian (out-WireType kind.now) at (drop at bytes.now)) }
+    ensures read { Gives (after bytes.now) result
+        (flat endian (out-WireType kind.now) at (drop at bytes.now)) }
     ensures within { IfOk result (λ r. (at < r.1) × (r.1 ≤ length bytes.now)) }
 {
     match kind {

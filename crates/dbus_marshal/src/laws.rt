@@ -16,7 +16,8 @@ ghost use Rattle.dbus_types.specs.Spelling.{spelling};
 /// at each offset: what is written for it, where that has at most 67,108,864
 /// bytes, which is as many as an array's elements may have.
 pub fn every_value_is_spelled()
-    ensures { (endian : Endian') (at : ℕ) (value : Value') → KeepsRules value → length (spelling endian at value) ≤ 67_108_864
+    ensures { (endian : Endian') (at : ℕ) (value : Value') → KeepsRules value
+        → length (spelling endian at value) ≤ 67_108_864
         → Spells endian at (type_of value) value (spelling endian at value) }
 {}
 

@@ -76,7 +76,8 @@ pub(crate) fn put_length(out: &mut ByteList, number: usize) -> Result<(), WantOf
 
 #[tactic(auto, using(crate::proofs::Extending::extends_refl, crate::proofs::Extending::extends_append, crate::proofs::Extending::extends_trans))]
 pub(crate) fn put_16(out: &mut ByteList, number: u16) -> Result<(), WantOfMemory>
-    ensures ok { OnOk result (out.new ≡ out.old ++ aligned 2 (λ start. number_bytes Little w16 number) (length out.old)) }
+    ensures ok { OnOk result (out.new ≡ out.old
+        ++ aligned 2 (λ start. number_bytes Little w16 number) (length out.old)) }
     ensures err { OnErr result (Extends out.old out.new) }
 {
     pad(out, 2)?;
@@ -85,7 +86,8 @@ pub(crate) fn put_16(out: &mut ByteList, number: u16) -> Result<(), WantOfMemory
 
 #[tactic(auto, using(crate::proofs::Extending::extends_refl, crate::proofs::Extending::extends_append, crate::proofs::Extending::extends_trans))]
 pub(crate) fn put_32(out: &mut ByteList, number: u32) -> Result<(), WantOfMemory>
-    ensures ok { OnOk result (out.new ≡ out.old ++ aligned 4 (λ start. number_bytes Little w32 number) (length out.old)) }
+    ensures ok { OnOk result (out.new ≡ out.old
+        ++ aligned 4 (λ start. number_bytes Little w32 number) (length out.old)) }
     ensures err { OnErr result (Extends out.old out.new) }
 {
     pad(out, 4)?;
@@ -94,7 +96,8 @@ pub(crate) fn put_32(out: &mut ByteList, number: u32) -> Result<(), WantOfMemory
 
 #[tactic(auto, using(crate::proofs::Extending::extends_refl, crate::proofs::Extending::extends_append, crate::proofs::Extending::extends_trans))]
 pub(crate) fn put_64(out: &mut ByteList, number: u64) -> Result<(), WantOfMemory>
-    ensures ok { OnOk result (out.new ≡ out.old ++ aligned 8 (λ start. number_bytes Little w64 number) (length out.old)) }
+    ensures ok { OnOk result (out.new ≡ out.old
+        ++ aligned 8 (λ start. number_bytes Little w64 number) (length out.old)) }
     ensures err { OnErr result (Extends out.old out.new) }
 {
     pad(out, 8)?;
@@ -104,7 +107,8 @@ pub(crate) fn put_64(out: &mut ByteList, number: u64) -> Result<(), WantOfMemory
 /// A text with its length in four bytes.
 #[tactic(auto, using(crate::proofs::Extending::extends_refl, crate::proofs::Extending::extends_append, crate::proofs::Extending::extends_trans))]
 pub(crate) fn put_text(out: &mut ByteList, text: &[u8]) -> Result<(), WantOfMemory>
-    ensures ok { OnOk result (out.new ≡ out.old ++ aligned 4 (λ start. text_body Little text.now) (length out.old)) }
+    ensures ok { OnOk result (out.new ≡ out.old
+        ++ aligned 4 (λ start. text_body Little text.now) (length out.old)) }
     ensures err { OnErr result (Extends out.old out.new) }
 {
     pad(out, 4)?;

@@ -47,7 +47,8 @@ fn read_within(
     depth: u32,
 ) -> Result<(Value, usize), ReadError>
     requires { at ≤ length bytes.now }
-    ensures read { Gives (after bytes.now) result (reads depth endian kind.now at (drop at bytes.now)) }
+    ensures read { Gives (after bytes.now) result
+        (reads depth endian kind.now at (drop at bytes.now)) }
     ensures within { IfOk result (λ r. (at < r.1) × (r.1 ≤ length bytes.now)) }
 {
     if depth == 0 {
@@ -77,7 +78,8 @@ fn read_array(
     depth: u32,
 ) -> Result<(Value, usize), ReadError>
     requires { at ≤ length bytes.now }
-    ensures read { Gives (after bytes.now) result (layer (reads depth endian) endian (WireType-F.Array shared.now) at (drop at bytes.now)) }
+    ensures read { Gives (after bytes.now) result
+        (layer (reads depth endian) endian (WireType-F.Array shared.now) at (drop at bytes.now)) }
     ensures within { IfOk result (λ r. (at < r.1) × (r.1 ≤ length bytes.now)) }
 {
     let element = shared.get();
@@ -132,7 +134,9 @@ fn read_elements(
     depth: u32,
 ) -> Result<List<Value>, ReadError>
     requires { at ≤ length bytes.now }
-    ensures read { Gives (λ items. items) result (elements (length (drop at bytes.now)) (reads depth endian element.now) at (drop at bytes.now)) }
+    ensures read { Gives (λ items. items) result
+        (elements (length (drop at bytes.now)) (reads depth endian element.now) at
+        (drop at bytes.now)) }
 {
     if depth > 0 && is_byte(element) {
         return Ok(read_bytes(alloc, &bytes[at..])?);
@@ -163,7 +167,8 @@ fn read_struct(
     depth: u32,
 ) -> Result<(Value, usize), ReadError>
     requires { at ≤ length bytes.now }
-    ensures read { Gives (after bytes.now) result (layer (reads depth endian) endian (WireType-F.Struct kinds.now) at (drop at bytes.now)) }
+    ensures read { Gives (after bytes.now) result
+        (layer (reads depth endian) endian (WireType-F.Struct kinds.now) at (drop at bytes.now)) }
     ensures within { IfOk result (λ r. (at < r.1) × (r.1 ≤ length bytes.now)) }
 {
     if kinds.is_empty() {
@@ -184,7 +189,8 @@ fn read_members(
     depth: u32,
 ) -> Result<(List<Value>, usize), ReadError>
     requires { at ≤ length bytes.now }
-    ensures read { Gives (after bytes.now) result (members (reads depth endian) kinds.now at (drop at bytes.now)) }
+    ensures read { Gives (after bytes.now) result
+        (members (reads depth endian) kinds.now at (drop at bytes.now)) }
     ensures within { IfOk result (λ r. (at + length kinds.now ≤ r.1) × (r.1 ≤ length bytes.now)) }
 {
     let mut values = room_for(alloc, kinds.len())?;
@@ -213,7 +219,9 @@ fn read_entry(
     depth: u32,
 ) -> Result<(Value, usize), ReadError>
     requires { at ≤ length bytes.now }
-    ensures read { Gives (after bytes.now) result (layer (reads depth endian) endian (WireType-F.DictEntry key.now value.now) at (drop at bytes.now)) }
+    ensures read { Gives (after bytes.now) result
+        (layer (reads depth endian) endian (WireType-F.DictEntry key.now value.now) at
+        (drop at bytes.now)) }
     ensures within { IfOk result (λ r. (at < r.1) × (r.1 ≤ length bytes.now)) }
 {
     let start = skip_padding(bytes, at, 8)?;
@@ -234,7 +242,8 @@ fn read_variant(
     depth: u32,
 ) -> Result<(Value, usize), ReadError>
     requires { at ≤ length bytes.now }
-    ensures read { Gives (after bytes.now) result (layer (reads depth endian) endian WireType-F.Variant at (drop at bytes.now)) }
+    ensures read { Gives (after bytes.now) result
+        (layer (reads depth endian) endian WireType-F.Variant at (drop at bytes.now)) }
     ensures within { IfOk result (λ r. (at < r.1) × (r.1 ≤ length bytes.now)) }
 {
     let (count, begins) = byte_at(bytes, at)?;
@@ -274,12 +283,16 @@ pub fn read_value(
     ensures found { IfOk result (λ r. (at ≤ r.next) × (r.next ≤ length bytes.now)
         × Spells endian at kind.now r.value (take (r.next - at) (drop at bytes.now))) }
     // What is spelled there is read, unless memory runs out.
-    ensures only { (value : Value') (text rest : List ℕ) → Spells endian at kind.now value text → drop at bytes.now ≡ text ++ rest
+    ensures only { (value : Value') (text rest : List ℕ) → Spells endian at kind.now value text
+        → drop at bytes.now ≡ text ++ rest
         → IsRead result (λ r. (r.value ≡ value) × (r.next ≡ at + length text)) }
-    // What is read has the type, and keeps the rules of values: each stands in at most 64 others, among them.
-    ensures keeps { IsValidType kind.now → IfOk result (λ r. (type_of r.value ≡ kind.now) × KeepsRules r.value) }
+    // What is read has the type, and keeps the rules of values: each stands in at most 64 others,
+    // among them.
+    ensures keeps { IsValidType kind.now
+        → IfOk result (λ r. (type_of r.value ≡ kind.now) × KeepsRules r.value) }
     // What is refused goes wrong so.
-    ensures broken { IsStopped result (λ error. Breaks endian at kind.now (drop at bytes.now) error) }
+    ensures broken { IsStopped result
+        (λ error. Breaks endian at kind.now (drop at bytes.now) error) }
     // What goes wrong so is refused for just this, unless memory runs out.
     ensures first { (error : ReadError') → Breaks endian at kind.now (drop at bytes.now) error
         → IsRefused error result }

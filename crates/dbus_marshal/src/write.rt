@@ -96,8 +96,11 @@ fn write_all(out: &mut ByteList, values: &[Value]) -> Result<(), WantOfMemory>
 /// Where there is no memory the list stays as it was. What is put for a value
 /// that breaks a rule, and so has no spelling, is `spelling` all the same.
 pub fn write_value(out: &mut ByteList, value: &Value) -> Result<(), WantOfMemory>
-    ensures written { OnOk result (out.new ≡ out.old ++ spelling Little (length out.old) value.now) }
-    ensures ok { (kind : WireType') (text : List ℕ) → Spells Little (length out.old) kind value.now text → OnOk result (out.new ≡ out.old ++ text) }
+    ensures written { OnOk result (out.new ≡ out.old
+        ++ spelling Little (length out.old) value.now) }
+    ensures ok { (kind : WireType') (text : List ℕ)
+        → Spells Little (length out.old) kind value.now text
+        → OnOk result (out.new ≡ out.old ++ text) }
     ensures err { OnErr result (out.new ≡ out.old) }
 {
     let len = out.len();
@@ -113,6 +116,8 @@ pub fn write_value(out: &mut ByteList, value: &Value) -> Result<(), WantOfMemory
 /// No spelling begins another of the same type at the same offset: what was
 /// written is read again, whatever follows.
 pub fn one_spelling()
-    ensures { (endian : Endian') (at : ℕ) (kind : WireType') (value other : Value') (text last rest more : List ℕ) → Spells endian at kind value text → Spells endian at kind other last
+    ensures { (endian : Endian') (at : ℕ) (kind : WireType') (value other : Value')
+        (text last rest more : List ℕ) → Spells endian at kind value text
+        → Spells endian at kind other last
         → text ++ rest ≡ last ++ more → (value ≡ other) × (text ≡ last) × (rest ≡ more) }
 {}

@@ -28,7 +28,8 @@ items_in _ = None
 
 -- the fields that the bytes from byte 12 on spell
 abbrev pub IsReadFields : Endian → List ℕ → Result (List Value) MessageError → Type 0
-IsReadFields e bytes = FindsOne (λ fields. Spells e 12 (W.Array field_type) (V.Array field_type fields) bytes) (λ rule. rule ≡ 6)
+IsReadFields e bytes = FindsOne (λ fields.
+    Spells e 12 (W.Array field_type) (V.Array field_type fields) bytes) (λ rule. rule ≡ 6)
 
 -- the types of a signature
 abbrev pub IsReadTypes : List ℕ → Result (List WireType) MessageError → Type 0
@@ -41,4 +42,5 @@ IsReadBody e bytes types = FindsOne (λ values. IsBody e types values bytes) (λ
 -- the types and values of a body
 abbrev pub IsReadContent : Endian → Option (List ℕ) → List ℕ → Result Content MessageError → Type 0
 IsReadContent e signature bytes = FindsOne (λ c. IsContent e signature c.types c.values bytes)
-    (λ rule. Checked (IsSpelled e signature bytes) 10 rule (Checked (IsExplained signature bytes) 11 rule ⊥))
+    (λ rule. Checked (IsSpelled e signature bytes) 10 rule
+    (Checked (IsExplained signature bytes) 11 rule ⊥))

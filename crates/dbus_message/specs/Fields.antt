@@ -16,7 +16,8 @@ field_type = W.Struct (W.Byte ∷ W.Variant ∷ [])
 
 -- The message's fields are these: from byte 12 on stands their array, an `a(yv)`.
 abbrev pub AreFieldsOf : List ℕ → List Value → Type 0
-AreFieldsOf bytes fields = Spells (endian_of bytes) 12 (W.Array field_type) (V.Array field_type fields) (field_bytes bytes)
+AreFieldsOf bytes fields = Spells (endian_of bytes) 12 (W.Array field_type)
+    (V.Array field_type fields) (field_bytes bytes)
 
 abbrev pub members_of : Value-F Value → List Value
 members_of (Value-F.Struct vs) = vs

@@ -14,18 +14,23 @@ use Rattle.dbus_message.specs.Rules.{IsWhole, KeepsHeader, IsFirstBroken}
 
 -- what the fixed part says
 abbrev pub SaysHeader : List ℕ → Message → Type 0
-SaysHeader bytes m = (m.endian ≡ endian_of bytes) × (m.kind ≡ kind_of bytes) × (m.flags ≡ flags_of bytes) × (m.serial ≡ serial_of bytes)
+SaysHeader bytes m = (m.endian ≡ endian_of bytes) × (m.kind ≡ kind_of bytes)
+    × (m.flags ≡ flags_of bytes) × (m.serial ≡ serial_of bytes)
 
 -- what the fields say
 abbrev pub SaysFields : List Value → Message → Type 0
-SaysFields fields m = (m.path ≡ text_of 1 fields) × (m.interface ≡ text_of 2 fields) × (m.member ≡ text_of 3 fields)
-    × (m.error ≡ text_of 4 fields) × (m.reply_serial ≡ number_of 5 fields) × (m.fds ≡ unwrap_or (number_of 9 fields) 0)
+SaysFields fields m = (m.path ≡ text_of 1 fields) × (m.interface ≡ text_of 2 fields)
+    × (m.member ≡ text_of 3 fields)
+    × (m.error ≡ text_of 4 fields) × (m.reply_serial ≡ number_of 5 fields)
+    × (m.fds ≡ unwrap_or (number_of 9 fields) 0)
 
 -- The bytes are the message: its header, the fields as a spelling of `a(yv)`, zero bytes up to a
 -- multiple of 8, and the body as the spellings of its values; and the rules hold.
 abbrev pub IsMessage : List ℕ → Message → Type 0
-IsMessage bytes m = (fields : List Value) × IsWhole bytes × AreFieldsOf bytes fields × IsTrue (are_good fields) × IsTrue (has_needed (kind_of bytes) fields)
-    × IsTrue (list_all (λ b. b == 0) (padding_bytes bytes)) × SaysHeader bytes m × SaysFields fields m
+IsMessage bytes m = (fields : List Value) × IsWhole bytes × AreFieldsOf bytes fields
+    × IsTrue (are_good fields) × IsTrue (has_needed (kind_of bytes) fields)
+    × IsTrue (list_all (λ b. b == 0) (padding_bytes bytes)) × SaysHeader bytes m
+    × SaysFields fields m
     × IsContent (endian_of bytes) (text_of 8 fields) m.signature m.body (body_bytes bytes)
 
 -- It is this message that is read, unless memory ran out.
@@ -49,6 +54,8 @@ IsReading bytes (Err Memory) = Unit {0}
 -- What stands at the front of a stream: too few bytes for the fixed part or for what it states, a
 -- message as long as it states, or bytes that break one of the first five rules.
 abbrev pub IsSplit : List ℕ → Split → Type 0
-IsSplit bytes S.More = (length bytes < 16) ⊎ ((16 ≤ length bytes) × KeepsHeader bytes × (length bytes < stated_len bytes))
-IsSplit bytes (S.Whole len) = (16 ≤ length bytes) × KeepsHeader bytes × (len ≡ stated_len bytes) × (len ≤ length bytes)
+IsSplit bytes S.More = (length bytes < 16)
+    ⊎ ((16 ≤ length bytes) × KeepsHeader bytes × (length bytes < stated_len bytes))
+IsSplit bytes (S.Whole len) = (16 ≤ length bytes) × KeepsHeader bytes × (len ≡ stated_len bytes)
+    × (len ≤ length bytes)
 IsSplit bytes (S.Bad rule) = (16 ≤ length bytes) × (rule ≤ 5) × IsFirstBroken bytes rule

@@ -48,11 +48,13 @@ HasZeroPadding bytes = IsTrue (list_all (λ b. b == 0) (padding_bytes bytes))
 
 -- 10: the body spells values of the signature's types, and no byte is left
 abbrev pub HasSpelledBody : List ℕ → Type 0
-HasSpelledBody bytes = OfFields bytes (λ fields. IsSpelled (endian_of bytes) (text_of 8 fields) (body_bytes bytes))
+HasSpelledBody bytes = OfFields bytes (λ fields.
+    IsSpelled (endian_of bytes) (text_of 8 fields) (body_bytes bytes))
 
 -- 11: a body that isn't empty has a signature
 abbrev pub HasExplainedBody : List ℕ → Type 0
-HasExplainedBody bytes = OfFields bytes (λ fields. IsExplained (text_of 8 fields) (body_bytes bytes))
+HasExplainedBody bytes = OfFields bytes (λ fields.
+    IsExplained (text_of 8 fields) (body_bytes bytes))
 
 -- Either the rule with this number doesn't hold, and is the first, or it holds and a later one is.
 abbrev pub Checked : Type 0 → ℕ → ℕ → Type 0 → Type 0
@@ -75,7 +77,8 @@ IsFirstBroken bytes first =
 
 -- the rules that are looked at as soon as 16 bytes are there
 abbrev pub KeepsHeader : List ℕ → Type 0
-KeepsHeader bytes = HasEndian bytes × HasKind bytes × HasVersion bytes × HasSerial bytes × IsShort bytes
+KeepsHeader bytes = HasEndian bytes × HasKind bytes × HasVersion bytes × HasSerial bytes
+    × IsShort bytes
 
 -- the bytes of a message, as far as its header tells: no more and no fewer than it states
 abbrev pub IsWhole : List ℕ → Type 0

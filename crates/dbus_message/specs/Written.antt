@@ -48,13 +48,17 @@ return_fields to (v ∷ vs) = field 5 (V.U32 to) ∷ signature_field (v ∷ vs) 
 -- the fields, in rising order of their codes
 abbrev pub fields_out : OutMessage → List Value
 fields_out (Return to body) = return_fields to body
-fields_out (Error to name) = field 4 (V.Str name) ∷ field 5 (V.U32 to) ∷ signature_field (V.Str (last_part name) ∷ []) ∷ []
-fields_out (Signal path interface member body) = field 1 (V.ObjectPath path) ∷ field 2 (V.Str interface) ∷ field 3 (V.Str member) ∷ signature_field body ∷ []
+fields_out (Error to name) = field 4 (V.Str name) ∷ field 5 (V.U32 to)
+    ∷ signature_field (V.Str (last_part name) ∷ []) ∷ []
+fields_out (Signal path interface member body) = field 1 (V.ObjectPath path)
+    ∷ field 2 (V.Str interface) ∷ field 3 (V.Str member) ∷ signature_field body ∷ []
 
--- a little-endian message of version 1, with the flag that no reply is expected: its type, its serial,
--- the bytes of its fields, and those of its body
+-- a little-endian message of version 1, with the flag that no reply is expected: its type, its
+-- serial, the bytes of its fields, and those of its body
 abbrev pub laid : ℕ → ℕ → List ℕ → List ℕ → List ℕ
-laid kind serial fields body = 108 ∷ kind ∷ 1 ∷ 1 ∷ (number Little w32 (length body) ++ (number Little w32 serial ++ (fields ++ (replicate (gap 8 (12 + length fields)) 0 ++ body))))
+laid kind serial fields body = 108 ∷ kind ∷ 1 ∷ 1
+    ∷ (number Little w32 (length body)
+    ++ (number Little w32 serial ++ (fields ++ (replicate (gap 8 (12 + length fields)) 0 ++ body))))
 
 -- The bytes are the one spelling of the message with a serial.
 abbrev pub IsWritten : OutMessage → ℕ → List ℕ → Type 0
@@ -63,10 +67,11 @@ IsWritten out serial bytes = (fields body : List ℕ)
     × IsBody Little (map type_of (body_out out)) (body_out out) body
     × (bytes ≡ laid (kind_out out) serial fields body)
 
--- The bytes of the message with a serial: those of the array of its fields, from byte 12 on, and those
--- of its body's values, one after another.
+-- The bytes of the message with a serial: those of the array of its fields, from byte 12 on, and
+-- those of its body's values, one after another.
 abbrev pub message_bytes : OutMessage → ℕ → List ℕ
-message_bytes out serial = laid (kind_out out) serial (spelling Little 12 (V.Array field_type (fields_out out))) (spellings Little 0 (body_out out))
+message_bytes out serial = laid (kind_out out) serial
+    (spelling Little 12 (V.Array field_type (fields_out out))) (spellings Little 0 (body_out out))
 
 -- The values of a body keep the rules, and their types have a signature.
 abbrev pub IsGoodBody : List Value → Type 0
@@ -76,12 +81,14 @@ IsGoodBody body = All KeepsRules body × (length (types_text (map type_of body))
 abbrev pub KeepsKinds : OutMessage → Type 0
 KeepsKinds (Return to body) = (to < 2 ^ 32) × IsGoodBody body
 KeepsKinds (Error to name) = (to < 2 ^ 32) × IsTrue (is_interface_name name)
-KeepsKinds (Signal path interface member body) = IsTrue (is_path path) × IsTrue (is_interface_name interface) × IsTrue (is_member_name member) × IsGoodBody body
+KeepsKinds (Signal path interface member body) = IsTrue (is_path path)
+    × IsTrue (is_interface_name interface) × IsTrue (is_member_name member) × IsGoodBody body
 
--- The message may be written with the serial: its parts are of their kinds, and it is no longer than a
--- message may be.
+-- The message may be written with the serial: its parts are of their kinds, and it is no longer
+-- than a message may be.
 abbrev pub CanWrite : OutMessage → ℕ → Type 0
-CanWrite out serial = (serial ≢ 0) × KeepsKinds out × (length (message_bytes out serial) ≤ 16_777_216)
+CanWrite out serial = (serial ≢ 0) × KeepsKinds out
+    × (length (message_bytes out serial) ≤ 16_777_216)
 
 abbrev pub path_out : OutMessage → Option (List ℕ)
 path_out (Signal path interface member body) = Some path

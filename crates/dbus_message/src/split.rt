@@ -15,7 +15,8 @@ const LONGEST: usize = 16_777_216;
 /// The first of the five rules of the header that the bytes break.
 fn broken_header(bytes: &[u8]) -> Option<u32>
     requires { 16 ≤ length bytes.now }
-    ensures { MatchOption result (KeepsHeader bytes.now) (λ rule. (rule ≤ 5) × IsFirstBroken bytes.now rule) }
+    ensures { MatchOption result (KeepsHeader bytes.now) (λ rule. (rule ≤ 5)
+        × IsFirstBroken bytes.now rule) }
 {
     if bytes[0] != b'l' && bytes[0] != b'B' {
         return Some(1);

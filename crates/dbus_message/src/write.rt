@@ -108,7 +108,8 @@ fn fields_of(
 
 /// The spellings of values, one after another, from offset 0.
 fn body_bytes(alloc: Global, body: &[Value]) -> Result<ByteList, WantOfMemory>
-    ensures { (text : List ℕ) → IsBody Little (map type_in body.now) body.now text → IfOk result (λ bytes. bytes ≡ text) }
+    ensures { (text : List ℕ) → IsBody Little (map type_in body.now) body.now text
+        → IfOk result (λ bytes. bytes ≡ text) }
 {
     let mut bytes = List::new(alloc);
     for value in body {
@@ -148,7 +149,8 @@ fn write_parts(
     body: &[u8],
 ) -> Result<ByteList, WantOfMemory>
     requires { length body.now < 2 ^ 32 }
-    ensures { (text : List ℕ) → Spells Little 12 (W.Array type_of_field) (V.Array type_of_field fields) text
+    ensures { (text : List ℕ) → Spells Little 12 (W.Array type_of_field)
+        (V.Array type_of_field fields) text
         → IfOk result (λ bytes. bytes ≡ laid kind serial text body.now) }
 {
     let mut bytes = List::new(alloc);
@@ -174,7 +176,8 @@ fn write_with(
 ) -> Result<ByteList, WantOfMemory>
     requires body { body.now ≡ body_out message.now }
     requires can { CanWrite message.now serial }
-    ensures { (text : List ℕ) → IsWritten message.now serial text → IfOk result (λ bytes. bytes ≡ text) }
+    ensures { (text : List ℕ) → IsWritten message.now serial text
+        → IfOk result (λ bytes. bytes ≡ text) }
 {
     let fields = fields_of(alloc, message, body)?;
     let body = body_bytes(alloc, body)?;
@@ -193,7 +196,8 @@ pub fn write_message(
     requires { CanWrite message.now serial }
     ensures written { IfOk result (λ bytes. IsWritten message.now serial bytes) }
     // There is no other spelling.
-    ensures one { (text : List ℕ) → IsWritten message.now serial text → IfOk result (λ bytes. bytes ≡ text) }
+    ensures one { (text : List ℕ) → IsWritten message.now serial text
+        → IfOk result (λ bytes. bytes ≡ text) }
     // What was written is read again.
     ensures message { IfOk result (λ bytes. IsMessage bytes (stands_for message.now serial)) }
 {

@@ -19,7 +19,8 @@ IsBadAt text at = Begins IsValidType (take at text) × (((at ≡ 255) × (255 < 
 -- Up to this place the text goes on as a signature does, and with this byte only as types do that
 -- nest too deep.
 abbrev pub IsTooDeepAt : List ℕ → ℕ → Type 0
-IsTooDeepAt text at = (at < length text) × (at < 255) × Begins IsValidType (take at text) × Begins IsComplete (take (at + 1) text) × (Begins IsValidType (take (at + 1) text) → ⊥)
+IsTooDeepAt text at = (at < length text) × (at < 255) × Begins IsValidType (take at text)
+    × Begins IsComplete (take (at + 1) text) × (Begins IsValidType (take (at + 1) text) → ⊥)
 
 -- what the reader of a signature answers
 abbrev pub IsReading : List ℕ → Result (List WireType) SignatureError → Type 0
@@ -47,16 +48,19 @@ IsChecked text (Err Memory) = ⊥
 abbrev pub BeginsOne : (WireType → Type 0) → List ℕ → Type 0
 BeginsOne P front = (t : WireType) × (rest : List ℕ) × P t × (type_text t ≡ front ++ rest)
 
--- Up to this place the text goes on as that of one type does, and here it doesn't: it ends too soon;
--- or no type, however deep, has a text that goes on with this byte, as where a second type begins.
+-- Up to this place the text goes on as that of one type does, and here it doesn't: it ends too
+-- soon; or no type, however deep, has a text that goes on with this byte, as where a second type
+-- begins.
 abbrev pub IsNoTypeAt : List ℕ → ℕ → Type 0
-IsNoTypeAt text at = BeginsOne IsValidType (take at text) × (((at ≡ length text) × ((t : WireType) → IsValidType t → text ≡ type_text t → ⊥))
+IsNoTypeAt text at = BeginsOne IsValidType (take at text)
+    × (((at ≡ length text) × ((t : WireType) → IsValidType t → text ≡ type_text t → ⊥))
     ⊎ ((at < length text) × (BeginsOne IsComplete (take (at + 1) text) → ⊥)))
 
 -- Up to this place the text goes on as that of one type does, and with this byte only as those of
 -- types that nest too deep.
 abbrev pub IsTypeTooDeepAt : List ℕ → ℕ → Type 0
-IsTypeTooDeepAt text at = (at < length text) × BeginsOne IsValidType (take at text) × BeginsOne IsComplete (take (at + 1) text) × (BeginsOne IsValidType (take (at + 1) text) → ⊥)
+IsTypeTooDeepAt text at = (at < length text) × BeginsOne IsValidType (take at text)
+    × BeginsOne IsComplete (take (at + 1) text) × (BeginsOne IsValidType (take (at + 1) text) → ⊥)
 
 -- what the reader of one type answers
 abbrev pub IsSingleReading : List ℕ → Result WireType SignatureError → Type 0

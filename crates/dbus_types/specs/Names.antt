@@ -30,7 +30,9 @@ is_element (b ∷ bs) = is_first_byte b && list_all is_word_byte bs
 -- two elements or more, with a `.` between them, in at most 255 bytes; the names of errors have the
 -- same form
 abbrev pub is_interface_name : List ℕ → Bool
-is_interface_name text = nat_le (length text) 255 && (nat_le 2 (length (slice_split (λ c. c == 46) text)) && list_all is_element (slice_split (λ c. c == 46) text))
+is_interface_name text = nat_le (length text) 255
+    && (nat_le 2 (length (slice_split (λ c. c == 46) text))
+    && list_all is_element (slice_split (λ c. c == 46) text))
 
 -- one element, in at most 255 bytes
 abbrev pub is_member_name : List ℕ → Bool

@@ -28,13 +28,15 @@ abbrev pub text_body : Endian → List ℕ → List ℕ
 text_body e text = number e w32 (length text) ++ (text ++ 0 ∷ [])
 
 abbrev pub array_body : Endian → ℕ → List Spelled → ℕ → List ℕ
-array_body e to ss start = number e w32 (length (in_row ss (start + 4 + gap to (start + 4)))) ++ (replicate (gap to (start + 4)) 0 ++ in_row ss (start + 4 + gap to (start + 4)))
+array_body e to ss start = number e w32 (length (in_row ss (start + 4 + gap to (start + 4))))
+    ++ (replicate (gap to (start + 4)) 0 ++ in_row ss (start + 4 + gap to (start + 4)))
 
 abbrev pub signature_body : List ℕ → List ℕ
 signature_body text = to_le_bytes w8 (length text) ++ (text ++ 0 ∷ [])
 
 abbrev pub variant_body : List ℕ → (ℕ → List ℕ) → ℕ → List ℕ
-variant_body text inside at = to_le_bytes w8 (length text) ++ (text ++ 0 ∷ inside (at + (1 + length text + 1)))
+variant_body text inside at = to_le_bytes w8 (length text)
+    ++ (text ++ 0 ∷ inside (at + (1 + length text + 1)))
 
 abbrev pub spell_step : Endian → Value-F Spelled → Spelled
 spell_step e (Value-F.Byte n) = (W.Byte, λ at. n ∷ [])

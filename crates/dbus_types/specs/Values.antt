@@ -60,7 +60,8 @@ LeafKeeps (Value-F.DictEntry k v) = ⊥
 LeafKeeps (Value-F.Bool b) = Unit {0}
 
 -- The rules of one value, where Inside says what those inside it keep: each item of an array has
--- the type of the array's element, and a variant's value a type whose signature a variant can carry.
+-- the type of the array's element, and a variant's value a type whose signature a variant can
+-- carry.
 abbrev pub ValueKeeps : (Value → Type 0) → Value-F Value → Type 0
 ValueKeeps Inside (Value-F.Variant v) = IsVariantType (type_of v) × Inside v
 ValueKeeps Inside (Value-F.Array t vs) = All (λ v. (type_of v ≡ t) × Inside v) vs
@@ -91,7 +92,7 @@ nesting_step (Value-F.Struct ns) = one_around ns
 nesting_step (Value-F.DictEntry k v) = max k v + 1
 nesting_step _ = 0
 
--- in how many arrays, structs, dict entries and variants of a value the innermost of those inside it
--- stands: in none where nothing is inside, as in an empty array
+-- in how many arrays, structs, dict entries and variants of a value the innermost of those inside
+-- it stands: in none where nothing is inside, as in an empty array
 abbrev pub nesting : Value → ℕ
 nesting = fold-Value ℕ nesting_step

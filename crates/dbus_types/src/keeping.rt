@@ -112,7 +112,8 @@ fn types_brackets_within(values: &[Value], limit: u32) -> bool
 /// How many of so many bytes the text of a type leaves.
 #[cycle(text)]
 fn text_leaves(kind: &WireType, limit: u32) -> Option<u32>
-    ensures { MatchOption result (limit < length (type_text kind.now)) (λ left. left + length (type_text kind.now) ≡ limit) }
+    ensures { MatchOption result (limit < length (type_text kind.now))
+        (λ left. left + length (type_text kind.now) ≡ limit) }
 {
     match kind {
         WireType::Array(element) => text_leaves(element.get(), limit.checked_sub(1)?),
@@ -127,7 +128,8 @@ fn text_leaves(kind: &WireType, limit: u32) -> Option<u32>
 
 #[cycle(text)]
 fn texts_leave(kinds: &[WireType], limit: u32) -> Option<u32>
-    ensures { MatchOption result (limit < length (types_text kinds.now)) (λ left. left + length (types_text kinds.now) ≡ limit) }
+    ensures { MatchOption result (limit < length (types_text kinds.now))
+        (λ left. left + length (types_text kinds.now) ≡ limit) }
 {
     let mut left = limit;
     for kind in kinds {
@@ -142,7 +144,8 @@ fn texts_leave(kinds: &[WireType], limit: u32) -> Option<u32>
 /// How many of so many bytes the text of a value's type leaves.
 #[cycle(type_text)]
 fn type_leaves(value: &Value, limit: u32) -> Option<u32>
-    ensures { MatchOption result (limit < length (type_text (type_of value.now))) (λ left. left + length (type_text (type_of value.now)) ≡ limit) }
+    ensures { MatchOption result (limit < length (type_text (type_of value.now)))
+        (λ left. left + length (type_text (type_of value.now)) ≡ limit) }
 {
     match value {
         Value::Array { element, .. } => text_leaves(element, limit.checked_sub(1)?),
@@ -157,7 +160,8 @@ fn type_leaves(value: &Value, limit: u32) -> Option<u32>
 
 #[cycle(type_text)]
 fn types_leave(values: &[Value], limit: u32) -> Option<u32>
-    ensures { MatchOption result (limit < length (types_text (map type_of values.now))) (λ left. left + length (types_text (map type_of values.now)) ≡ limit) }
+    ensures { MatchOption result (limit < length (types_text (map type_of values.now)))
+        (λ left. left + length (types_text (map type_of values.now)) ≡ limit) }
 {
     let mut left = limit;
     for value in values {

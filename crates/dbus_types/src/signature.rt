@@ -145,7 +145,8 @@ fn read_element(
 ) -> Result<(WireType, usize), SignatureError>
     requires place { at ≤ length text.now }
     requires short { length text.now ≤ 255 }
-    ensures read { Gives (after text.now) result (element_at (type_at arrays) brackets at (drop at text.now)) }
+    ensures read { Gives (after text.now) result
+        (element_at (type_at arrays) brackets at (drop at text.now)) }
     ensures within { IfOk result (λ r. (at < r.1) × (r.1 ≤ length text.now)) }
 {
     match text.get(at) {
@@ -178,7 +179,8 @@ fn read_members(
 ) -> Result<(List<WireType>, usize), SignatureError>
     requires place { at ≤ length text.now }
     requires short { length text.now ≤ 255 }
-    ensures read { Gives (after text.now) result (members_at (type_at arrays brackets) at (drop at text.now)) }
+    ensures read { Gives (after text.now) result
+        (members_at (type_at arrays brackets) at (drop at text.now)) }
     ensures within { IfOk result (λ r. (at < r.1) × (r.1 ≤ length text.now)) }
 {
     let (first, mut next) = read_type(alloc, text, at, arrays, brackets)?;
@@ -227,7 +229,8 @@ fn read_list(alloc: Global, text: &[u8]) -> Result<List<WireType>, SignatureErro
 pub fn read_single(alloc: Global, text: &[u8]) -> Result<WireType, SignatureError>
     requires { length text.now ≤ 255 }
     ensures reading { IsSingleReading text.now result }
-    ensures only { (t : TheType) → IsValidType t → text.now ≡ type_text t → IsSingleReadAs t result }
+    ensures only { (t : TheType) → IsValidType t → text.now ≡ type_text t
+        → IsSingleReadAs t result }
 {
     match read_type(alloc, text, 0, MOST_ARRAYS, MOST_BRACKETS) {
         Ok((kind, end)) => {
@@ -245,7 +248,8 @@ pub fn read_single(alloc: Global, text: &[u8]) -> Result<WireType, SignatureErro
 fn check_type(text: &[u8], at: usize, arrays: u32, brackets: u32) -> Result<usize, SignatureError>
     requires place { at ≤ length text.now }
     requires short { length text.now ≤ 255 }
-    ensures read { Tells (place text.now) result (placed (type_at arrays brackets at (drop at text.now))) }
+    ensures read { Tells (place text.now) result
+        (placed (type_at arrays brackets at (drop at text.now))) }
     ensures within { IfOk result (λ next. (at < next) × (next ≤ length text.now)) }
 {
     match text.get(at) {
@@ -279,7 +283,8 @@ fn check_element(
 ) -> Result<usize, SignatureError>
     requires place { at ≤ length text.now }
     requires short { length text.now ≤ 255 }
-    ensures read { Tells (place text.now) result (placed (element_at (type_at arrays) brackets at (drop at text.now))) }
+    ensures read { Tells (place text.now) result
+        (placed (element_at (type_at arrays) brackets at (drop at text.now))) }
     ensures within { IfOk result (λ next. (at < next) × (next ≤ length text.now)) }
 {
     match text.get(at) {
@@ -306,7 +311,8 @@ fn check_members(
 ) -> Result<usize, SignatureError>
     requires place { at ≤ length text.now }
     requires short { length text.now ≤ 255 }
-    ensures read { Tells (place text.now) result (placed (members_at (type_at arrays brackets) at (drop at text.now))) }
+    ensures read { Tells (place text.now) result
+        (placed (members_at (type_at arrays brackets) at (drop at text.now))) }
     ensures within { IfOk result (λ next. (at < next) × (next ≤ length text.now)) }
 {
     let mut next = check_type(text, at, arrays, brackets)?;

@@ -13,11 +13,14 @@ replay_words = codes "replay" ∷ []
 abbrev pub IsCount : List ℕ → Type 0
 IsCount word = (n : ℕ) × (word ≡ decimal n) × (1 ≤ n) × (n ≤ 100000)
 
--- the words ask for this command: "replay", "worlds" and an application's name, or "generate" and a count
+-- the words ask for this command: "replay", "worlds" and an application's name, or "generate" and a
+-- count
 abbrev pub IsCommand : List (List ℕ) → Command → Type 0
 IsCommand words Replay = words ≡ replay_words
-IsCommand words Worlds = (app : List ℕ) × (words ≡ codes "worlds" ∷ app ∷ []) × (is_app_name app ≡ true)
-IsCommand words Generate = (count : List ℕ) × (words ≡ codes "generate" ∷ count ∷ []) × IsCount count
+IsCommand words Worlds = (app : List ℕ) × (words ≡ codes "worlds" ∷ app ∷ [])
+    × (is_app_name app ≡ true)
+IsCommand words Generate = (count : List ℕ) × (words ≡ codes "generate" ∷ count ∷ [])
+    × IsCount count
 
 -- they ask for none
 abbrev pub IsNoCommand : List (List ℕ) → Type 0

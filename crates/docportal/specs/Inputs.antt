@@ -22,6 +22,9 @@ pub record IsWhole (old : Option (List ℕ)) (text : List ℕ) (new : Option (Li
 -- and after: a read failed behind bytes that a script may have, more bytes came than that, or there
 -- was no memory. Only a fault is counted
 abbrev pub Stops : Option (List ℕ) → ℕ → Option (List ℕ) → ℕ → InputError → Type 0
-Stops old faults new faults' Failed = HasRisen faults faults' × ((text : List ℕ) × (old ≡ behind text new) × (length text ≤ script_limit))
-Stops old faults new faults' TooLong = (faults' ≡ faults) × ((text : List ℕ) × (old ≡ behind text new) × (script_limit < length text))
-Stops old faults new faults' Memory = (faults' ≡ faults) × ((text : List ℕ) × (old ≡ behind text new))
+Stops old faults new faults' Failed = HasRisen faults faults'
+    × ((text : List ℕ) × (old ≡ behind text new) × (length text ≤ script_limit))
+Stops old faults new faults' TooLong = (faults' ≡ faults)
+    × ((text : List ℕ) × (old ≡ behind text new) × (script_limit < length text))
+Stops old faults new faults' Memory = (faults' ≡ faults)
+    × ((text : List ℕ) × (old ≡ behind text new))

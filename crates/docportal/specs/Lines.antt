@@ -84,9 +84,10 @@ CloseDoes a seat None entries out b = Passes a entries out b
 CloseDoes a seat (Some at) entries out b =
     Comes a seat (Request.Leave ∷ []) (end_line seat (ending_at at.rest) ∷ []) None entries out b
 
--- A line is run: from one scene to another, with these entries and this output. Files, documents and times are
--- in the state that the script opens with: no request that is built reads the clock. A kept entry of the
--- permission store, a call that fails and a word for a document's number need parts that aren't built.
+-- A line is run: from one scene to another, with these entries and this output. Files, documents
+-- and times are in the state that the script opens with: no request that is built reads the clock.
+-- A kept entry of the permission store, a call that fails and a word for a document's number need
+-- parts that aren't built.
 abbrev pub Does : Scene → ScriptLine → List Entry → List (List ℕ) → Scene → Type 0
 Does a (File path content) entries out b = Passes a entries out b
 Does a (line.Entry entry) entries out b = ⊥

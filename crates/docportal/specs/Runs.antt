@@ -15,20 +15,25 @@ use Rattle.docportal.specs.Plays.{Plays, StopsAt}
 use Rattle.docportal.specs.Scenes.{Scene, first_scene, opening_state, run_limits}
 use Rattle.docportal.specs.Steps.{AreFirst}
 
--- the history of the lines is legal, and the replies to each application are those of its own machine
--- over its trace
+-- the history of the lines is legal, and the replies to each application are those of its own
+-- machine over its trace
 pub record IsSound (lines : List ScriptLine) (history : List Entry) : Type 0 where
   pub legal : Legal (opening_state lines) history
-  pub isolated : (app : List ℕ) → replies app (opening_state lines) history ≡ app_run (trace app (opening_state lines) history)
+  pub isolated : (app : List ℕ)
+      → replies app (opening_state lines) history
+      ≡ app_run (trace app (opening_state lines) history)
 
--- The lines of a front have this history and this output, from the state that the lines open with, and no
--- others; the history is sound, and within its limit with all that the lines behind can ask, at eight times
--- the bytes of their text.
-pub record IsReplay (lines front : List ScriptLine) (history : List Entry) (out : List (List ℕ)) (last : Scene) : Type 0 where
+-- The lines of a front have this history and this output, from the state that the lines open with,
+-- and no others; the history is sound, and within its limit with all that the lines behind can ask,
+-- at eight times the bytes of their text.
+pub record IsReplay (lines front : List ScriptLine) (history : List Entry) (out : List (List ℕ))
+    (last : Scene) : Type 0 where
   pub plays : Plays (first_scene lines) front history out last
-  pub only : (h : List Entry) (o : List (List ℕ)) (b : Scene) → Plays (first_scene lines) front h o b → (h ≡ history) × (o ≡ out) × (b ≡ last)
+  pub only : (h : List Entry) (o : List (List ℕ)) (b : Scene)
+      → Plays (first_scene lines) front h o b → (h ≡ history) × (o ≡ out) × (b ≡ last)
   pub sound : IsSound lines history
-  pub room : (later : List ScriptLine) → lines ≡ front ++ later → cost history + 8 * length (text_of later) ≤ run_limits.history
+  pub room : (later : List ScriptLine) → lines ≡ front ++ later
+      → cost history + 8 * length (text_of later) ≤ run_limits.history
 
 -- the text is a script, all lines of which are built, and the pieces are its output
 pub record WroteAll (text : List ℕ) (pieces : List (List ℕ)) : Type 0 where
@@ -38,8 +43,8 @@ pub record WroteAll (text : List ℕ) (pieces : List (List ℕ)) : Type 0 where
   pub last : Scene
   pub replay : IsReplay lines lines history pieces last
 
--- the text is a script, and the pieces are the output of all its lines that stand ahead of the first that is not
--- built, which has this number
+-- the text is a script, and the pieces are the output of all its lines that stand ahead of the
+-- first that is not built, which has this number
 pub record WroteUpTo (text : List ℕ) (number : ℕ) (pieces : List (List ℕ)) : Type 0 where
   pub lines : List ScriptLine
   pub script : IsRead text lines
@@ -49,9 +54,10 @@ pub record WroteUpTo (text : List ℕ) (number : ℕ) (pieces : List (List ℕ))
   pub replay : IsReplay lines front history pieces last
   pub first : StopsAt lines front last number
 
--- The text is a script, and the pieces are such a part of the output of some of its lines: some whole pieces, and
--- at a fault a front of the next or nothing.
-pub record WroteFront (IsPart : List (List ℕ) → List (List ℕ) → Type 0) (text : List ℕ) (pieces : List (List ℕ)) : Type 0 where
+-- The text is a script, and the pieces are such a part of the output of some of its lines: some
+-- whole pieces, and at a fault a front of the next or nothing.
+pub record WroteFront (IsPart : List (List ℕ) → List (List ℕ)
+    → Type 0) (text : List ℕ) (pieces : List (List ℕ)) : Type 0 where
   pub lines : List ScriptLine
   pub script : IsRead text lines
   pub front : List ScriptLine
@@ -63,30 +69,39 @@ pub record WroteFront (IsPart : List (List ℕ) → List (List ℕ) → Type 0) 
   pub replay : IsReplay lines front history out last
   pub output : IsPart pieces out
 
--- Why a run ends so that was told these words, read this text, left this of the source, and wrote these
--- pieces.
+-- Why a run ends so that was told these words, read this text, left this of the source, and wrote
+-- these pieces.
 abbrev pub Cause : List (List ℕ) → List ℕ → Option (List ℕ) → List (List ℕ) → Status → Type 0
-Cause words text left pieces Done = (words ≡ replay_words) × (length text ≤ script_limit) × AtEnd left × WroteAll text pieces
+Cause words text left pieces Done = (words ≡ replay_words) × (length text ≤ script_limit)
+    × AtEnd left × WroteAll text pieces
 Cause words text left pieces Usage = IsNoCommand words × (text ≡ []) × (pieces ≡ [])
-Cause words text left pieces (ScriptFault line) = (words ≡ replay_words) × (length text ≤ script_limit) × AtEnd left × IsFault text line × (pieces ≡ [])
-Cause words text left pieces ReadFault = (words ≡ replay_words) × (length text ≤ script_limit) × (pieces ≡ [])
-Cause words text left pieces WriteFault = (words ≡ replay_words) × (length text ≤ script_limit) × AtEnd left × WroteFront Short text pieces
+Cause words text left pieces (ScriptFault line) = (words ≡ replay_words)
+    × (length text ≤ script_limit) × AtEnd left × IsFault text line × (pieces ≡ [])
+Cause words text left pieces ReadFault = (words ≡ replay_words) × (length text ≤ script_limit)
+    × (pieces ≡ [])
+Cause words text left pieces WriteFault = (words ≡ replay_words) × (length text ≤ script_limit)
+    × AtEnd left × WroteFront Short text pieces
 Cause words text left pieces Memory = (words ≡ replay_words)
-    × ((pieces ≡ []) ⊎ ((length text ≤ script_limit) × AtEnd left × WroteFront AreFirst text pieces))
-Cause words text left pieces TooLong = (words ≡ replay_words) × (script_limit < length text) × (pieces ≡ [])
+    × ((pieces ≡ []) ⊎ ((length text ≤ script_limit) × AtEnd left
+    × WroteFront AreFirst text pieces))
+Cause words text left pieces TooLong = (words ≡ replay_words) × (script_limit < length text)
+    × (pieces ≡ [])
 Cause words text left pieces (Unbuilt line) =
     (IsUnbuiltCommand words × (line ≡ 0) × (text ≡ []) × (pieces ≡ []))
-    ⊎ ((words ≡ replay_words) × (length text ≤ script_limit) × AtEnd left × WroteUpTo text line pieces)
+    ⊎ ((words ≡ replay_words) × (length text ≤ script_limit) × AtEnd left
+    × WroteUpTo text line pieces)
 
 -- a run: what it read stood ahead of what is left, and what it wrote stands behind what was written
-pub record Ran (words : List (List ℕ)) (left left' : Option (List ℕ)) (told told' : Option (List (List ℕ))) (status : Status) : Type 0 where
+pub record Ran (words : List (List ℕ)) (left left' : Option (List ℕ))
+    (told told' : Option (List (List ℕ))) (status : Status) : Type 0 where
   pub text : List ℕ
   pub pieces : List (List ℕ)
   pub read : left ≡ behind text left'
   pub wrote : told' ≡ onto told pieces
   pub cause : Cause words text left' pieces status
 
--- Each fault of reading or writing is told: the counts of both rise where the status says so, and only there.
+-- Each fault of reading or writing is told: the counts of both rise where the status says so, and
+-- only there.
 abbrev pub Risen : Status → ℕ → ℕ → ℕ → ℕ → Type 0
 Risen Done reads reads' writes writes' = (reads' ≡ reads) × (writes' ≡ writes)
 Risen Usage reads reads' writes writes' = (reads' ≡ reads) × (writes' ≡ writes)

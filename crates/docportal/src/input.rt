@@ -40,7 +40,9 @@ impl From<WantOfMemory> for InputError {
 pub fn read_to_end<S: Source>(alloc: Global, source: &mut S) -> Result<ByteList, InputError>
     ensures ok { IfOk result (λ text. IsWhole (S.left source.old) text (S.left source.new)) }
     ensures counts { OnOk result (S.faults source.new ≡ S.faults source.old) }
-    ensures err { IfErr result (Stops (S.left source.old) (S.faults source.old) (S.left source.new) (S.faults source.new)) }
+    ensures err { IfErr result
+        (Stops (S.left source.old) (S.faults source.old) (S.left source.new)
+        (S.faults source.new)) }
 {
     let mut text = List::new(alloc);
     let mut buffer = [0; PIECE];

@@ -33,8 +33,10 @@ pub fn run<S: Source, K: Sink>(
     source: &mut S,
     sink: &mut K,
 ) -> Status
-    ensures ran { Ran words.now (S.left source.old) (S.left source.new) (K.told sink.old) (K.told sink.new) result }
-    ensures risen { Risen result (S.faults source.old) (S.faults source.new) (K.faults sink.old) (K.faults sink.new) }
+    ensures ran { Ran words.now (S.left source.old) (S.left source.new) (K.told sink.old)
+        (K.told sink.new) result }
+    ensures risen { Risen result (S.faults source.old) (S.faults source.new) (K.faults sink.old)
+        (K.faults sink.new) }
 {
     match command_of(words) {
         Some(Command::Replay) => replay_source(alloc, source, sink),
@@ -46,8 +48,10 @@ pub fn run<S: Source, K: Sink>(
 
 /// Reads a source to its end, and runs the script that it gave.
 fn replay_source<S: Source, K: Sink>(alloc: Global, source: &mut S, sink: &mut K) -> Status
-    ensures ran { Ran replay_words (S.left source.old) (S.left source.new) (K.told sink.old) (K.told sink.new) result }
-    ensures risen { Risen result (S.faults source.old) (S.faults source.new) (K.faults sink.old) (K.faults sink.new) }
+    ensures ran { Ran replay_words (S.left source.old) (S.left source.new) (K.told sink.old)
+        (K.told sink.new) result }
+    ensures risen { Risen result (S.faults source.old) (S.faults source.new) (K.faults sink.old)
+        (K.faults sink.new) }
 {
     match read_to_end(alloc, source) {
         Ok(text) => replay(alloc, text.as_slice(), sink),
@@ -60,7 +64,8 @@ fn replay_source<S: Source, K: Sink>(alloc: Global, source: &mut S, sink: &mut K
 /// Runs the script that a text is.
 fn replay<K: Sink>(alloc: Global, text: &[u8], sink: &mut K) -> Status
     requires { length text.now ≤ script_limit }
-    ensures replays { (pieces : List (List ℕ)) × (K.told sink.new ≡ onto (K.told sink.old) pieces) × Replays text.now pieces result }
+    ensures replays { (pieces : List (List ℕ)) × (K.told sink.new ≡ onto (K.told sink.old) pieces)
+        × Replays text.now pieces result }
     ensures risen { Risen result 0 0 (K.faults sink.old) (K.faults sink.new) }
 {
     match read_script(alloc, text) {
@@ -74,7 +79,8 @@ fn replay<K: Sink>(alloc: Global, text: &[u8], sink: &mut K) -> Status
 fn replay_script<K: Sink>(alloc: Global, script: &Script, sink: &mut K) -> Status
     requires script { IsScript script.now.lines }
     requires short { length (text_of script.now.lines) ≤ script_limit }
-    ensures replays { (pieces : List (List ℕ)) × (K.told sink.new ≡ onto (K.told sink.old) pieces) × Replays (text_of script.now.lines) pieces result }
+    ensures replays { (pieces : List (List ℕ)) × (K.told sink.new ≡ onto (K.told sink.old) pieces)
+        × Replays (text_of script.now.lines) pieces result }
     ensures risen { Risen result 0 0 (K.faults sink.old) (K.faults sink.new) }
 {
     let Ok(opening) = opening_of(alloc, script, limits()) else {

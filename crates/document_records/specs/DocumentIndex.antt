@@ -25,7 +25,8 @@ pub record AreKept (s : DocumentList) : Type 0 where
   pub live_within : length s.live ≤ s.most_live
   pub made_within : length s.made ≤ s.most_made
 
-pub record IsIndexed (most_live most_made : ℕ) (live : List Document) (made : List DocId) (numbers : BTreeSet ℕ) : Type 0 where
+pub record IsIndexed (most_live most_made : ℕ) (live : List Document) (made : List DocId)
+    (numbers : BTreeSet ℕ) : Type 0 where
   -- live numbers differ, and are made
   pub live_differ : IsDistinct nat_eq (live_numbers live)
   pub live_made : list_all (λ d. is_made made d.id.number) live ≡ true

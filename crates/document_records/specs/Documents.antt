@@ -16,7 +16,8 @@ pub record DocumentList : Type 0 where
 
 -- none, under these limits
 abbrev pub no_documents : ℕ → ℕ → DocumentList
-no_documents most_live most_made = record { most_live = most_live; most_made = most_made; live = []; made = [] }
+no_documents most_live most_made =
+    record { most_live = most_live; most_made = most_made; live = []; made = [] }
 
 -- how many more may be added
 abbrev pub room : DocumentList → ℕ

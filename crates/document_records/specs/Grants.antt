@@ -19,7 +19,8 @@ is_of app number g = g.id.number == number && is_same g.app app
 
 -- by number, then by the bytes of the name
 abbrev pub is_before : List ℕ → ℕ → Grant → Bool
-is_before app number g = cond (g.id.number == number) (bytes_less g.app app) (nat_lt g.id.number number)
+is_before app number g = cond (g.id.number == number) (bytes_less g.app app)
+    (nat_lt g.id.number number)
 
 abbrev pub grant_less : Grant → Grant → Bool
 grant_less g h = is_before h.app h.id.number g

@@ -54,7 +54,12 @@ impl Model for Documents {
 
     ghost Value = { DocumentList };
 
-    ghost view = { λ a. record { most_live = a.most_live; most_made = a.most_made; live = a.live; made = a.made } };
+    ghost view = { λ a. record {
+      most_live = a.most_live;
+      most_made = a.most_made;
+      live = a.live;
+      made = a.made;
+    } };
 
     ghost invariant = { λ a. IsIndexed a.most_live a.most_made a.live a.made a.numbers };
 }

@@ -2,6 +2,22 @@
 //! application has which right in which of them, and how applications are
 //! numbered.
 //!
+//! **It promises** that each is the list of its definition after every call, equal
+//! in every place that the call doesn't name; `Full` comes exactly at a limit; a
+//! removed document's number stays made; a refusal changes nothing.
+//!
+//! | Room | Holds |
+//! |---|---|
+//! | `documents` | [`Documents`]: the live ones by number, and the made numbers |
+//! | `grants` | [`Grants`]: who holds which rights in which document |
+//! | `applications` | [`Applications`]: the numbers of applications, from 1 |
+//!
+//! ```text
+//! let id = documents.unused_from(word);
+//! documents.add(Document { id, path, persistent: false, reusable: true })?;
+//! grants.add(&app, id, Rights::READ)?;
+//! ```
+//!
 //! Source: XDG Desktop Portal documentation,
 //! `org.freedesktop.portal.Documents`.
 #![tactic(auto)]

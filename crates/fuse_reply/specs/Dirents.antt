@@ -25,21 +25,24 @@ dirent_size namelen = aligned (name_offset + namelen)
 abbrev pub padding_of : ℕ → ℕ
 padding_of namelen = dirent_size namelen - (name_offset + namelen)
 
--- struct fuse_dirent: ino, off, namelen, type; the name follows. From the place in off the folder is read
--- on, so it is that of the next entry.
+-- struct fuse_dirent: ino, off, namelen, type; the name follows. From the place in off the folder
+-- is read on, so it is that of the next entry.
 abbrev pub fuse_dirent : DirName → ℕ → List Field
-fuse_dirent entry off = Eight entry.node ∷ Eight off ∷ Four (length entry.name) ∷ Four (type_of entry.folder) ∷ []
+fuse_dirent entry off = Eight entry.node ∷ Eight off ∷ Four (length entry.name)
+    ∷ Four (type_of entry.folder) ∷ []
 
 -- an entry: the struct, the name, and zeros up to a multiple of eight
 abbrev pub dirent : DirName → ℕ → List ℕ
-dirent entry off = spelled (fuse_dirent entry off) ++ (entry.name ++ replicate (padding_of (length entry.name)) 0)
+dirent entry off = spelled (fuse_dirent entry off)
+    ++ (entry.name ++ replicate (padding_of (length entry.name)) 0)
 
 -- the longest front of entries, of which the first has this place, that fits into a size
 abbrev pub fitting : List DirName → ℕ → ℕ → List ℕ
 fitting [] place size = []
 fitting (entry ∷ entries) place size =
     if nat_le (dirent_size (length entry.name)) size
-    then dirent entry (place + 1) ++ fitting entries (place + 1) (size - dirent_size (length entry.name))
+    then dirent entry (place + 1)
+    ++ fitting entries (place + 1) (size - dirent_size (length entry.name))
     else []
 
 -- the whole entries from a place on that fit into a size

@@ -17,7 +17,8 @@ header_len = 16
 
 -- the header and the body; len counts both, as a number of 32 bits
 abbrev pub frame_of : ℕ → ℕ → List ℕ → List ℕ
-frame_of error unique body = spelled (fuse_out_header ((header_len + length body) % 2 ^ 32) error unique) ++ body
+frame_of error unique body = spelled (fuse_out_header
+    ((header_len + length body) % 2 ^ 32) error unique) ++ body
 
 -- an error is a signed number below 0, in two's complement
 abbrev pub negated : ℕ → ℕ
@@ -29,9 +30,11 @@ abbrev pub fuse_attr : Attr → List Field
 fuse_attr a =
     Eight a.node ∷ Eight a.size ∷ Eight a.blocks ∷ Eight a.moment ∷ Eight a.moment ∷ Eight a.moment
     ∷ Four 0 ∷ Four 0 ∷ Four 0
-    ∷ Four a.mode ∷ Four a.links ∷ Four a.uid ∷ Four a.gid ∷ Four 0 ∷ Four a.block_size ∷ Four 0 ∷ []
+    ∷ Four a.mode ∷ Four a.links ∷ Four a.uid ∷ Four a.gid ∷ Four 0 ∷ Four a.block_size ∷ Four 0
+    ∷ []
 
--- struct fuse_entry_out: nodeid, generation, entry_valid, attr_valid, the two parts below a second, attr
+-- struct fuse_entry_out: nodeid, generation, entry_valid, attr_valid, the two parts below a second,
+-- attr
 abbrev pub fuse_entry_out : Attr → List Field
 fuse_entry_out a = Eight a.node ∷ Eight 0 ∷ Eight 0 ∷ Eight 0 ∷ Four 0 ∷ Four 0 ∷ fuse_attr a
 
@@ -60,7 +63,8 @@ nodes = 1048576
 abbrev pub name_length : ℕ
 name_length = 255
 
--- struct fuse_kstatfs: blocks, bfree, bavail, files, ffree, bsize, namelen, frsize, padding, spare[6]
+-- struct fuse_kstatfs: blocks, bfree, bavail, files, ffree, bsize, namelen, frsize, padding,
+-- spare[6]
 abbrev pub fuse_kstatfs : List Field
 fuse_kstatfs =
     Eight blocks ∷ Eight blocks ∷ Eight blocks ∷ Eight nodes ∷ Eight nodes
@@ -69,13 +73,15 @@ fuse_kstatfs =
 
 -- max_pages, map_alignment, unused[8]
 abbrev pub init_rest : List Field
-init_rest = Two 0 ∷ Two 0 ∷ Four 0 ∷ Four 0 ∷ Four 0 ∷ Four 0 ∷ Four 0 ∷ Four 0 ∷ Four 0 ∷ Four 0 ∷ []
+init_rest = Two 0 ∷ Two 0 ∷ Four 0 ∷ Four 0 ∷ Four 0 ∷ Four 0 ∷ Four 0 ∷ Four 0 ∷ Four 0 ∷ Four 0
+    ∷ []
 
--- struct fuse_init_out: major, minor, max_readahead, flags, max_background, congestion_threshold, max_write,
--- time_gran, and the rest
+-- struct fuse_init_out: major, minor, max_readahead, flags, max_background, congestion_threshold,
+-- max_write, time_gran, and the rest
 abbrev pub fuse_init_out : ℕ → ℕ → ℕ → ℕ → ℕ → ℕ → ℕ → ℕ → List Field
 fuse_init_out major minor readahead flags background congestion max_write time_gran =
-    Four major ∷ Four minor ∷ Four readahead ∷ Four flags ∷ Two background ∷ Two congestion ∷ Four max_write
+    Four major ∷ Four minor ∷ Four readahead ∷ Four flags ∷ Two background ∷ Two congestion
+    ∷ Four max_write
     ∷ Four time_gran ∷ init_rest
 
 -- the error that a header tells; 0 is none
@@ -105,4 +111,5 @@ is_quiet told = false
 
 -- the frame that carries an answer; a quiet one has none
 abbrev pub reply_of : ℕ → NodeAnswer → Option (List ℕ)
-reply_of unique told = if is_quiet told then None else Some (frame_of (error_of told) unique (body_of told))
+reply_of unique told = if is_quiet told then None
+    else Some (frame_of (error_of told) unique (body_of told))

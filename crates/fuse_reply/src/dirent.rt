@@ -70,7 +70,8 @@ pub fn fitting_len(names: &[DirName], offset: u64, size: u32) -> usize {
 /// The length of an entry whose name has this length, where it is at most
 /// `left`.
 fn fitting_size(name_len: usize, left: u32) -> Option<u32>
-    ensures { MatchOption result (left < size_of_dirent name_len) (λ size. (size ≡ size_of_dirent name_len) × (size ≤ left) × (name_len < 2 ^ 32)) }
+    ensures { MatchOption result (left < size_of_dirent name_len)
+        (λ size. (size ≡ size_of_dirent name_len) × (size ≤ left) × (name_len < 2 ^ 32)) }
 {
     if name_len > left as usize {
         return None;
@@ -95,7 +96,8 @@ fn put_dirent(bytes: &mut Vec<u8>, entry: &DirName, off: u64) -> Result<(), Want
 /// Puts what stands ahead of an entry's name.
 fn put_head(bytes: &mut Vec<u8>, entry: &DirName, off: u64) -> Result<(), WantOfMemory>
     requires { length entry.now.name < 2 ^ 32 }
-    ensures { OnOk result (bytes.new.items ≡ bytes.old.items ++ spelled (fuse_dirent entry.now off)) }
+    ensures { OnOk result (bytes.new.items ≡ bytes.old.items
+        ++ spelled (fuse_dirent entry.now off)) }
 {
     let fields = [
         Field::Eight(entry.node),

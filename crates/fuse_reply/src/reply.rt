@@ -175,7 +175,8 @@ fn put_entry(frame: &mut Vec<u8>, attr: &Attr) -> Result<(), WantOfMemory>
 
 /// A `fuse_entry_out` and a `fuse_open_out`.
 fn put_created(frame: &mut Vec<u8>, attr: &Attr, fh: u64) -> Result<(), WantOfMemory>
-    ensures { OnOk result (frame.new.items ≡ frame.old.items ++ (spelled (fuse_entry_out attr.now) ++ spelled (fuse_open_out fh))) }
+    ensures { OnOk result (frame.new.items ≡ frame.old.items
+        ++ (spelled (fuse_entry_out attr.now) ++ spelled (fuse_open_out fh))) }
 {
     put_entry(frame, attr)?;
     put_opened(frame, fh)

@@ -27,19 +27,22 @@ sized len body asked = if length body == len then Some asked else None
 abbrev pub write_op : List ℕ → Option NodeOp
 write_op body =
     if nat_le write_in_len (length body)
-    then sized (write_in_len + (write_in body).size) body (op.Write (write_in body).fh (write_in body).offset (drop write_in_len body))
+    then sized (write_in_len + (write_in body).size) body
+    (op.Write (write_in body).fh (write_in body).offset (drop write_in_len body))
     else None
 
 -- FUSE_BATCH_FORGET: the struct and as many nodes as it says
 abbrev pub batch_forget_op : List ℕ → Option NodeOp
 batch_forget_op body =
     if nat_le batch_forget_in_len (length body)
-    then sized (batch_forget_in_len + forget_one_len * (batch_forget_in body).count) body (op.BatchForget (forget_ones (batch_forget_in body).count (drop batch_forget_in_len body)))
+    then sized (batch_forget_in_len + forget_one_len * (batch_forget_in body).count) body
+    (op.BatchForget (forget_ones (batch_forget_in body).count (drop batch_forget_in_len body)))
     else None
 
 -- FUSE_CREATE: the struct and the name
 abbrev pub create_op : List ℕ → Option NodeOp
-create_op body = option_map (λ name. op.Create name (create_in body).flags) (name_of (drop create_in_len body))
+create_op body = option_map (λ name. op.Create name (create_in body).flags)
+    (name_of (drop create_in_len body))
 
 -- FUSE_LOOKUP: the name
 abbrev pub lookup_op : List ℕ → Option NodeOp
@@ -49,7 +52,12 @@ lookup_op body = option_map op.Lookup (name_of body)
 
 -- the portal, of the header's node and for its user
 abbrev pub asked_of : InHeader → NodeOp → FuseAsk
-asked_of header asked = Portal (record { node = header.nodeid; uid = header.uid; gid = header.gid; op = asked })
+asked_of header asked = Portal (record {
+  node = header.nodeid;
+  uid = header.uid;
+  gid = header.gid;
+  op = asked;
+})
 
 -- where the body is of another form, an error says so
 abbrev pub portal : InHeader → Option NodeOp → FuseAsk
@@ -68,26 +76,41 @@ local (Some told) = Local told
 -- The table: what is asked with an opcode and a body. A body has the length of its struct.
 abbrev pub IsFuse : Opcode → InHeader → List ℕ → FuseAsk
 IsFuse Opcode.Lookup header body = portal header (lookup_op body)
-IsFuse Opcode.Forget header body = quiet header (sized forget_in_len body (op.Forget (forget_in body).nlookup))
-IsFuse Opcode.GetAttr header body = portal header (sized getattr_in_len body (op.GetAttr (getattr_in body).getattr_flags (getattr_in body).fh))
-IsFuse Opcode.SetAttr header body = portal header (sized setattr_in_len body (op.SetAttr (setattr_in body).valid (setattr_in body).fh (setattr_in body).size))
+IsFuse Opcode.Forget header body =
+    quiet header (sized forget_in_len body (op.Forget (forget_in body).nlookup))
+IsFuse Opcode.GetAttr header body =
+    portal header (sized getattr_in_len body
+    (op.GetAttr (getattr_in body).getattr_flags (getattr_in body).fh))
+IsFuse Opcode.SetAttr header body =
+    portal header (sized setattr_in_len body
+    (op.SetAttr (setattr_in body).valid (setattr_in body).fh (setattr_in body).size))
 IsFuse Opcode.MkNod header body = Local (Error eperm)
 IsFuse Opcode.MkDir header body = Local (Error eperm)
 IsFuse Opcode.Unlink header body = Local (Error eperm)
 IsFuse Opcode.RmDir header body = Local (Error eperm)
 IsFuse Opcode.Rename header body = Local (Error eperm)
-IsFuse Opcode.Open header body = portal header (sized open_in_len body (op.Open (open_in body).flags))
-IsFuse Opcode.Read header body = portal header (sized read_in_len body (op.Read (read_in body).fh (read_in body).offset (read_in body).size))
+IsFuse Opcode.Open header body =
+    portal header (sized open_in_len body (op.Open (open_in body).flags))
+IsFuse Opcode.Read header body =
+    portal header (sized read_in_len body
+    (op.Read (read_in body).fh (read_in body).offset (read_in body).size))
 IsFuse Opcode.Write header body = portal header (write_op body)
 IsFuse Opcode.Statfs header body = local (sized 0 body answer.Statfs)
-IsFuse Opcode.Release header body = portal header (sized release_in_len body (op.Release (release_in body).fh))
-IsFuse Opcode.Fsync header body = portal header (sized fsync_in_len body (op.Fsync (fsync_in body).fh))
-IsFuse Opcode.Flush header body = portal header (sized flush_in_len body (op.Flush (flush_in body).fh))
+IsFuse Opcode.Release header body =
+    portal header (sized release_in_len body (op.Release (release_in body).fh))
+IsFuse Opcode.Fsync header body =
+    portal header (sized fsync_in_len body (op.Fsync (fsync_in body).fh))
+IsFuse Opcode.Flush header body =
+    portal header (sized flush_in_len body (op.Flush (flush_in body).fh))
 IsFuse Opcode.Init header body = local (init_ask body)
 IsFuse Opcode.OpenDir header body = portal header (sized open_in_len body op.OpenDir)
-IsFuse Opcode.ReadDir header body = portal header (sized read_in_len body (op.ReadDir (read_in body).fh (read_in body).offset (read_in body).size))
-IsFuse Opcode.ReleaseDir header body = portal header (sized release_in_len body (op.ReleaseDir (release_in body).fh))
-IsFuse Opcode.Access header body = portal header (sized access_in_len body (op.Access (access_in body).mask))
+IsFuse Opcode.ReadDir header body =
+    portal header (sized read_in_len body
+    (op.ReadDir (read_in body).fh (read_in body).offset (read_in body).size))
+IsFuse Opcode.ReleaseDir header body =
+    portal header (sized release_in_len body (op.ReleaseDir (release_in body).fh))
+IsFuse Opcode.Access header body =
+    portal header (sized access_in_len body (op.Access (access_in body).mask))
 IsFuse Opcode.Create header body = portal header (create_op body)
 IsFuse Opcode.Interrupt header body = Ignore
 IsFuse Opcode.Destroy header body = Local Empty

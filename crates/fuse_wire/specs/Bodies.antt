@@ -1,5 +1,5 @@
--- The bodies of requests: the structs of include/uapi/linux/fuse.h, field by field in their order, each
--- field at its offset from the end of the header.
+-- The bodies of requests: the structs of include/uapi/linux/fuse.h, field by field in their order,
+-- each field at its offset from the end of the header.
 use Rattle.std.specs.Prelude.{ℕ, zero, suc, ◌+◌, ◌*◌, ◌-◌, ◌==◌, ◌&&◌, nat_lt, List, [], ◌∷◌, length, take, drop, slice_index, Bool, not, Option, Some, None, if◌then◌else◌}
 use Rattle.std.specs.List.{list_all}
 use Rattle.fuse_wire.specs.Frames.{number_at}
@@ -25,7 +25,11 @@ abbrev pub getattr_in_len : ℕ
 getattr_in_len = 16
 
 abbrev pub getattr_in : List ℕ → GetAttrIn
-getattr_in body = record { getattr_flags = number_at 0 4 body; dummy = number_at 4 4 body; fh = number_at 8 8 body }
+getattr_in body = record {
+  getattr_flags = number_at 0 4 body;
+  dummy = number_at 4 4 body;
+  fh = number_at 8 8 body;
+}
 
 -- struct fuse_setattr_in
 pub record SetAttrIn : Type 0 where
@@ -91,7 +95,12 @@ abbrev pub create_in_len : ℕ
 create_in_len = 16
 
 abbrev pub create_in : List ℕ → CreateIn
-create_in body = record { flags = number_at 0 4 body; mode = number_at 4 4 body; umask = number_at 8 4 body; padding = number_at 12 4 body }
+create_in body = record {
+  flags = number_at 0 4 body;
+  mode = number_at 4 4 body;
+  umask = number_at 8 4 body;
+  padding = number_at 12 4 body;
+}
 
 -- struct fuse_release_in
 pub record ReleaseIn : Type 0 where
@@ -104,7 +113,12 @@ abbrev pub release_in_len : ℕ
 release_in_len = 24
 
 abbrev pub release_in : List ℕ → ReleaseIn
-release_in body = record { fh = number_at 0 8 body; flags = number_at 8 4 body; release_flags = number_at 12 4 body; lock_owner = number_at 16 8 body }
+release_in body = record {
+  fh = number_at 0 8 body;
+  flags = number_at 8 4 body;
+  release_flags = number_at 12 4 body;
+  lock_owner = number_at 16 8 body;
+}
 
 -- struct fuse_flush_in
 pub record FlushIn : Type 0 where
@@ -117,7 +131,12 @@ abbrev pub flush_in_len : ℕ
 flush_in_len = 24
 
 abbrev pub flush_in : List ℕ → FlushIn
-flush_in body = record { fh = number_at 0 8 body; unused = number_at 8 4 body; padding = number_at 12 4 body; lock_owner = number_at 16 8 body }
+flush_in body = record {
+  fh = number_at 0 8 body;
+  unused = number_at 8 4 body;
+  padding = number_at 12 4 body;
+  lock_owner = number_at 16 8 body;
+}
 
 -- struct fuse_read_in
 pub record ReadIn : Type 0 where
@@ -177,7 +196,11 @@ abbrev pub fsync_in_len : ℕ
 fsync_in_len = 16
 
 abbrev pub fsync_in : List ℕ → FsyncIn
-fsync_in body = record { fh = number_at 0 8 body; fsync_flags = number_at 8 4 body; padding = number_at 12 4 body }
+fsync_in body = record {
+  fh = number_at 0 8 body;
+  fsync_flags = number_at 8 4 body;
+  padding = number_at 12 4 body;
+}
 
 -- struct fuse_access_in
 pub record AccessIn : Type 0 where
@@ -221,7 +244,8 @@ name_in bytes = take (length bytes - 1) bytes
 
 -- it is not empty, and has no other zero byte
 abbrev pub is_name : List ℕ → Bool
-is_name bytes = nat_lt 1 (length bytes) && (slice_index bytes (length bytes - 1) == 0 && list_all (λ b. not (b == 0)) (name_in bytes))
+is_name bytes = nat_lt 1 (length bytes)
+    && (slice_index bytes (length bytes - 1) == 0 && list_all (λ b. not (b == 0)) (name_in bytes))
 
 abbrev pub name_of : List ℕ → Option (List ℕ)
 name_of bytes = if is_name bytes then Some (name_in bytes) else None

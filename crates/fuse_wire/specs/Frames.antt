@@ -22,7 +22,8 @@ longest = 135168
 abbrev pub length_rule : ℕ
 length_rule = 14
 
--- struct fuse_in_header: its fields at their offsets; two numbers of 16 bits follow, which are not looked at
+-- struct fuse_in_header: its fields at their offsets; two numbers of 16 bits follow, which are not
+-- looked at
 abbrev pub header_of : List ℕ → InHeader
 header_of frame = record {
   len = number_at 0 4 frame;
@@ -38,8 +39,8 @@ header_of frame = record {
 abbrev pub is_bad_len : ℕ → Bool
 is_bad_len len = nat_lt len header_len || nat_lt longest len
 
--- what stands at the front of a stream: too few bytes for a header or for the length that it states,
--- a frame of that length, or a length that no frame has
+-- what stands at the front of a stream: too few bytes for a header or for the length that it
+-- states, a frame of that length, or a length that no frame has
 abbrev pub split_of : List ℕ → Split
 split_of bytes =
     if nat_lt (length bytes) header_len then More

@@ -8,7 +8,12 @@ use Rattle.portal_model.specs.declared.reply.NodeAnswer.TheVariants.{Error, Init
 
 -- struct fuse_init_in; what follows is not looked at
 abbrev pub init_in : List ℕ → InitIn
-init_in body = record { major = number_at 0 4 body; minor = number_at 4 4 body; max_readahead = number_at 8 4 body; flags = number_at 12 4 body }
+init_in body = record {
+  major = number_at 0 4 body;
+  minor = number_at 4 4 body;
+  max_readahead = number_at 8 4 body;
+  flags = number_at 12 4 body;
+}
 
 abbrev pub init_in_len : ℕ
 init_in_len = 16
@@ -24,7 +29,8 @@ abbrev pub least_minor_version : ℕ
 least_minor_version = 23
 
 abbrev pub is_too_old : InitIn → Bool
-is_too_old asked = nat_lt asked.major kernel_version || (asked.major == kernel_version && nat_lt asked.minor least_minor_version)
+is_too_old asked = nat_lt asked.major kernel_version
+    || (asked.major == kernel_version && nat_lt asked.minor least_minor_version)
 
 abbrev pub max_readahead : ℕ
 max_readahead = 131072
@@ -45,12 +51,15 @@ time_gran = 1
 abbrev pub granted_flags : ℕ
 granted_flags = 40
 
--- what both sides speak: to a kernel of a later major version the own one is told alone, and it asks again
+-- what both sides speak: to a kernel of a later major version the own one is told alone, and it
+-- asks again
 abbrev pub init_answer : InitIn → NodeAnswer
 init_answer asked =
     if is_too_old asked then Error eproto
-    else if nat_lt kernel_version asked.major then Init kernel_version kernel_minor_version 0 0 0 0 0 0
-    else Init kernel_version kernel_minor_version (min asked.max_readahead max_readahead) (bit_and asked.flags granted_flags)
+    else if nat_lt kernel_version asked.major
+    then Init kernel_version kernel_minor_version 0 0 0 0 0 0
+    else Init kernel_version kernel_minor_version (min asked.max_readahead max_readahead)
+    (bit_and asked.flags granted_flags)
     max_background congestion_threshold max_write time_gran
 
 -- what is answered to a body, which may be longer than the struct

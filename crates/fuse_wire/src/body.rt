@@ -104,7 +104,8 @@ fn forget_one(bytes: &[u8]) -> ForgetItem
 
 /// FUSE_GETATTR: a `fuse_getattr_in`.
 pub fn getattr(body: &[u8]) -> Option<NodeOp>
-    ensures { result ≡ sized getattr_in_len body.now (op.GetAttr (getattr_in body.now).getattr_flags (getattr_in body.now).fh) }
+    ensures { result ≡ sized getattr_in_len body.now
+        (op.GetAttr (getattr_in body.now).getattr_flags (getattr_in body.now).fh) }
 {
     if body.len() != GETATTR_IN_LEN {
         return None;
@@ -117,7 +118,9 @@ pub fn getattr(body: &[u8]) -> Option<NodeOp>
 
 /// FUSE_SETATTR: a `fuse_setattr_in`.
 pub fn setattr(body: &[u8]) -> Option<NodeOp>
-    ensures { result ≡ sized setattr_in_len body.now (op.SetAttr (setattr_in body.now).valid (setattr_in body.now).fh (setattr_in body.now).size) }
+    ensures { result ≡ sized setattr_in_len body.now
+        (op.SetAttr (setattr_in body.now).valid (setattr_in body.now).fh
+        (setattr_in body.now).size) }
 {
     if body.len() != SETATTR_IN_LEN {
         return None;
@@ -159,7 +162,8 @@ pub fn create(alloc: Global, body: &[u8]) -> Result<Option<NodeOp>, WantOfMemory
 
 /// FUSE_READ: a `fuse_read_in`.
 pub fn read(body: &[u8]) -> Option<NodeOp>
-    ensures { result ≡ sized read_in_len body.now (op.Read (read_in body.now).fh (read_in body.now).offset (read_in body.now).size) }
+    ensures { result ≡ sized read_in_len body.now
+        (op.Read (read_in body.now).fh (read_in body.now).offset (read_in body.now).size) }
 {
     if body.len() != READ_IN_LEN {
         return None;
@@ -237,7 +241,8 @@ pub fn opendir(body: &[u8]) -> Option<NodeOp>
 
 /// FUSE_READDIR: a `fuse_read_in`.
 pub fn readdir(body: &[u8]) -> Option<NodeOp>
-    ensures { result ≡ sized read_in_len body.now (op.ReadDir (read_in body.now).fh (read_in body.now).offset (read_in body.now).size) }
+    ensures { result ≡ sized read_in_len body.now
+        (op.ReadDir (read_in body.now).fh (read_in body.now).offset (read_in body.now).size) }
 {
     if body.len() != READ_IN_LEN {
         return None;

@@ -11,7 +11,12 @@ pub record TreeState : Type 0 where
   pub count : Counted
 
 abbrev pub tree_of : TreeState → TreeIs
-tree_of s = record { began = Some s.began; told = Some s.files; faults = s.count.faults; calls = Some s.count.calls }
+tree_of s = record {
+  began = Some s.began;
+  told = Some s.files;
+  faults = s.count.faults;
+  calls = Some s.count.calls;
+}
 
 -- the same of a tree that never fails, whose calls are numbered all the same
 pub record QuietState : Type 0 where
@@ -20,7 +25,12 @@ pub record QuietState : Type 0 where
   pub made : ℕ
 
 abbrev pub quiet_tree_of : QuietState → TreeIs
-quiet_tree_of s = record { began = Some s.began; told = Some s.files; faults = 0; calls = Some (record { made = s.made; failing = [] }) }
+quiet_tree_of s = record {
+  began = Some s.began;
+  told = Some s.files;
+  faults = 0;
+  calls = Some (record { made = s.made; failing = [] });
+}
 
 -- one more file, of those that it began with too
 abbrev pub with_file : File → TreeState → TreeState

@@ -17,7 +17,8 @@ stored_of f = record { bytes = f.bytes; moment = f.moment }
 
 abbrev pub stored_written : ℕ → List ℕ → ℕ → Stored → Stored
 stored_written offset [] moment s = s
-stored_written offset (b ∷ bs) moment s = record { bytes = overlaid s.bytes offset (b ∷ bs); moment = moment }
+stored_written offset (b ∷ bs) moment s =
+    record { bytes = overlaid s.bytes offset (b ∷ bs); moment = moment }
 
 abbrev pub stored_resized : ℕ → ℕ → Stored → Stored
 stored_resized size moment s = record { bytes = cut_to size s.bytes; moment = moment }

@@ -34,7 +34,11 @@ pub record TreeIs : Type 0 where
 
 -- the tree after a call that failed or didn't, with these files
 abbrev pub after_call : TreeIs → Bool → Option (List File) → TreeIs
-after_call tree failed told = record tree { told = told; faults = count_after tree.faults failed; calls = option_map next_call tree.calls }
+after_call tree failed told = record tree {
+  told = told;
+  faults = count_after tree.faults failed;
+  calls = option_map next_call tree.calls;
+}
 
 -- ---- answers
 
@@ -69,7 +73,8 @@ abbrev pub attributes_of : File → ℕ × ℕ
 attributes_of f = (length f.bytes, f.moment)
 
 abbrev pub Attrs : Option (List File) → FileName → AttrAnswer → Type 0
-Attrs told name (attr.Is size moment) = IfSome told (λ files. option_map attributes_of (file_named files name) ≡ Some (size, moment))
+Attrs told name (attr.Is size moment) =
+    IfSome told (λ files. option_map attributes_of (file_named files name) ≡ Some (size, moment))
 Attrs told name attr.NotFile = IfSome told (λ files. file_named files name ≡ None)
 Attrs told name attr.Failed = Unit {0}
 
@@ -78,7 +83,9 @@ abbrev pub bytes_from : List ℕ → ℕ → ℕ → List ℕ
 bytes_from bytes offset size = take size (drop offset bytes)
 
 abbrev pub Gets : Option (List File) → FileName → ℕ → ℕ → TreeRead → Type 0
-Gets told name offset size (read.Got bytes) = (length bytes ≤ size) × IfSome told (λ files. option_map (λ f. bytes_from f.bytes offset size) (file_named files name) ≡ Some bytes)
+Gets told name offset size (read.Got bytes) = (length bytes ≤ size)
+    × IfSome told (λ files. option_map (λ f. bytes_from f.bytes offset size) (file_named files name)
+    ≡ Some bytes)
 Gets told name offset size read.NotFile = IfSome told (λ files. file_named files name ≡ None)
 Gets told name offset size read.Failed = Unit {0}
 Gets told name offset size read.Memory = Unit {0}
@@ -91,7 +98,8 @@ cut_to size bytes = take size bytes ++ replicate (size - length bytes) 0
 
 -- what stood ahead of the offset, the content, and what stood behind
 abbrev pub overlaid : List ℕ → ℕ → List ℕ → List ℕ
-overlaid bytes offset content = cut_to offset bytes ++ (content ++ drop (offset + length content) bytes)
+overlaid bytes offset content = cut_to offset bytes
+    ++ (content ++ drop (offset + length content) bytes)
 
 abbrev pub with_bytes : List ℕ → ℕ → File → File
 with_bytes bytes moment f = record f { bytes = bytes; moment = moment }
@@ -111,7 +119,8 @@ change_named name change files = map (λ f. cond (is_named name f) (change f) f)
 -- a new file at its place in the order of paths
 abbrev pub put_file : File → List File → List File
 put_file new [] = new ∷ []
-put_file new (f ∷ fs) = cond (is_lt (path_order new.path f.path)) (new ∷ f ∷ fs) (f ∷ put_file new fs)
+put_file new (f ∷ fs) = cond (is_lt (path_order new.path f.path)) (new ∷ f ∷ fs) (f
+    ∷ put_file new fs)
 
 -- the files but that of a path
 abbrev pub without : List ℕ → List File → List File
@@ -125,13 +134,17 @@ new_file path moment = file_with path [] moment
 
 -- whether nothing stands at the path and its parent is a folder
 abbrev pub may_create : List File → List ℕ → Bool
-may_create files path = not (is_some (file_at files path)) && (not (is_folder files path) && has_room files path)
+may_create files path = not (is_some (file_at files path))
+    && (not (is_folder files path) && has_room files path)
 
 -- Done where the files allow it, and then they are changed; NotFile where they don't; where the
 -- answer isn't Done they stay.
-abbrev pub Does : (List File → Bool) → (List File → List File) → Option (List File) → TreeDone → Option (List File) → Type 0
-Does allows change told done.Done new = (new ≡ option_map change told) × IfSome told (λ files. allows files ≡ true)
-Does allows change told done.NotFile new = (new ≡ told) × IfSome told (λ files. allows files ≡ false)
+abbrev pub Does : (List File → Bool) → (List File → List File) → Option (List File) → TreeDone
+    → Option (List File) → Type 0
+Does allows change told done.Done new = (new ≡ option_map change told)
+    × IfSome told (λ files. allows files ≡ true)
+Does allows change told done.NotFile new = (new ≡ told)
+    × IfSome told (λ files. allows files ≡ false)
 Does allows change told done.Failed new = new ≡ told
 Does allows change told done.Memory new = new ≡ told
 
@@ -150,7 +163,8 @@ pub record Asks (old : TreeIs) (failed : Bool) (new : TreeIs) : Type 0 where
   pub fails : FailsAsTold old.calls failed
 
 -- A call that changes the files, or doesn't.
-pub record Changes (allows : List File → Bool) (change : List File → List File) (old : TreeIs) (answer : TreeDone) (new : TreeIs) : Type 0 where
+pub record Changes (allows : List File → Bool) (change : List File
+    → List File) (old : TreeIs) (answer : TreeDone) (new : TreeIs) : Type 0 where
   pub goes : new ≡ after_call old (is_done_fault answer) new.told
   pub does : Does allows change old.told answer new.told
   pub fails : FailsAsTold old.calls (is_done_fault answer)

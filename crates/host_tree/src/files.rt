@@ -205,7 +205,9 @@ impl Files {
         content: &[u8],
         now: u64,
     ) -> TreeDone
-        ensures does { Does (has_file name.now) (change_named name.now (written offset content.now now)) (Some self.old) result (Some self.new) }
+        ensures does { Does (has_file name.now)
+            (change_named name.now (written offset content.now now)) (Some self.old) result
+            (Some self.new) }
         ensures no_fault { is_done_fault result ≡ false }
     {
         write_in(&mut self.map, name, offset, content, now)
@@ -213,7 +215,8 @@ impl Files {
 
     /// Cuts or fills a file to a length.
     pub(crate) fn set_len(&mut self, name: &FileName, size: u64, now: u64) -> TreeDone
-        ensures does { Does (has_file name.now) (change_named name.now (resized size now)) (Some self.old) result (Some self.new) }
+        ensures does { Does (has_file name.now) (change_named name.now (resized size now))
+            (Some self.old) result (Some self.new) }
         ensures no_fault { is_done_fault result ≡ false }
     {
         set_len_in(&mut self.map, name, size, now)
@@ -221,7 +224,8 @@ impl Files {
 
     /// Makes an empty file where nothing stands and the parent is a folder.
     pub(crate) fn create(&mut self, alloc: Global, path: &HostPath, now: u64) -> TreeDone
-        ensures does { Does (λ files. may_create files path.now) (put_file (new_file path.now now)) (Some self.old) result (Some self.new) }
+        ensures does { Does (λ files. may_create files path.now) (put_file (new_file path.now now))
+            (Some self.old) result (Some self.new) }
         ensures no_fault { is_done_fault result ≡ false }
     {
         match self.may_create(alloc, path) {
@@ -268,7 +272,8 @@ fn write_in(
     content: &[u8],
     now: u64,
 ) -> TreeDone
-    ensures does { Does (has_file name.now) (change_named name.now (written offset content.now now)) (Some (files_of map.old.entries)) result (Some (files_of map.new.entries)) }
+    ensures does { Does (has_file name.now) (change_named name.now (written offset content.now now))
+        (Some (files_of map.old.entries)) result (Some (files_of map.new.entries)) }
     ensures no_fault { is_done_fault result ≡ false }
     ensures keys { keys map.new ≡ keys map.old }
 {
@@ -288,7 +293,8 @@ fn set_len_in(
     size: u64,
     now: u64,
 ) -> TreeDone
-    ensures does { Does (has_file name.now) (change_named name.now (resized size now)) (Some (files_of map.old.entries)) result (Some (files_of map.new.entries)) }
+    ensures does { Does (has_file name.now) (change_named name.now (resized size now))
+        (Some (files_of map.old.entries)) result (Some (files_of map.new.entries)) }
     ensures no_fault { is_done_fault result ≡ false }
     ensures keys { keys map.new ≡ keys map.old }
 {

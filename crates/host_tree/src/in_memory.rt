@@ -55,8 +55,10 @@ impl MemoryTree {
         moment: u64,
     ) -> Result<(), WantOfMemory>
         requires fresh { self.old.count.calls.made ≡ 0 }
-        requires began { ArePlaced (paths_of (put_file (file_with path content moment) self.old.began)) }
-        requires files { ArePlaced (paths_of (put_file (file_with path content moment) self.old.files)) }
+        requires began { ArePlaced
+            (paths_of (put_file (file_with path content moment) self.old.began)) }
+        requires files { ArePlaced
+            (paths_of (put_file (file_with path content moment) self.old.files)) }
         ensures ok { OnOk result (self.new ≡ with_file (file_with path content moment) self.old) }
         ensures err { OnErr result (self.new ≡ self.old) }
     {
@@ -169,9 +171,12 @@ impl QuietTree {
         moment: u64,
     ) -> Result<(), WantOfMemory>
         requires fresh { self.old.made ≡ 0 }
-        requires began { ArePlaced (paths_of (put_file (file_with path content moment) self.old.began)) }
-        requires files { ArePlaced (paths_of (put_file (file_with path content moment) self.old.files)) }
-        ensures ok { OnOk result (self.new ≡ quiet_with_file (file_with path content moment) self.old) }
+        requires began { ArePlaced
+            (paths_of (put_file (file_with path content moment) self.old.began)) }
+        requires files { ArePlaced
+            (paths_of (put_file (file_with path content moment) self.old.files)) }
+        ensures ok { OnOk result
+            (self.new ≡ quiet_with_file (file_with path content moment) self.old) }
         ensures err { OnErr result (self.new ≡ self.old) }
     {
         add_to_both(
@@ -244,7 +249,8 @@ fn add_to_both(
 ) -> Result<(), WantOfMemory>
     requires began { ArePlaced (paths_of (put_file (file_with path content moment) began.old)) }
     requires files { ArePlaced (paths_of (put_file (file_with path content moment) files.old)) }
-    ensures ok { OnOk result ((began.new ≡ put_file (file_with path content moment) began.old) × (files.new ≡ put_file (file_with path content moment) files.old)) }
+    ensures ok { OnOk result ((began.new ≡ put_file (file_with path content moment) began.old)
+        × (files.new ≡ put_file (file_with path content moment) files.old)) }
     ensures err { OnErr result ((began.new ≡ began.old) × (files.new ≡ files.old)) }
 {
     let first_path = path.replica(alloc)?;

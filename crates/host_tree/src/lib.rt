@@ -1,5 +1,21 @@
 //! The tree of files on the host: the trait by which the portal reaches it,
 //! and trees in memory.
+//!
+//! **It promises**, of each call, what it answers in both directions, and what the
+//! files are afterwards, equal in every other place. `Failed`, `NotFile` and
+//! `Memory` change nothing; a call of a tree that tells its calls fails exactly
+//! where its number is among those that are to.
+//!
+//! | Room | Holds |
+//! |---|---|
+//! | `tree` | the trait [`HostTree`] and its answers |
+//! | `in_memory` | [`MemoryTree`], with its list of failing calls, and [`QuietTree`], which never fails |
+//! | `files` | the files of a tree in memory, by path |
+//!
+//! ```text
+//! let mut tree = QuietTree::new(alloc);
+//! tree.create(&path, 5);                      // Done: an empty file of the moment 5
+//! ```
 #![tactic(auto)]
 
 mod files;

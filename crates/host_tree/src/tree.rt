@@ -95,16 +95,20 @@ pub trait HostTree {
     /// A gap behind the former end is filled with zero bytes. A write of no
     /// bytes changes nothing.
     fn write(&mut self, file: &FileName, offset: u64, content: &[u8], now: u64) -> TreeDone
-        ensures { Changes (has_file file.now) (change_named file.now (written offset content.now now)) (is self.old) result (is self.new) };
+        ensures { Changes (has_file file.now)
+            (change_named file.now (written offset content.now now)) (is self.old) result
+            (is self.new) };
 
     /// Cuts a file to a length, or fills it with zero bytes up to it, and sets
     /// its moment.
     fn set_len(&mut self, file: &FileName, size: u64, now: u64) -> TreeDone
-        ensures { Changes (has_file file.now) (change_named file.now (resized size now)) (is self.old) result (is self.new) };
+        ensures { Changes (has_file file.now) (change_named file.now (resized size now))
+            (is self.old) result (is self.new) };
 
     /// Makes an empty file where nothing stands and the parent is a folder.
     fn create(&mut self, path: &HostPath, now: u64) -> TreeDone
-        ensures { Changes (λ files. may_create files path.now) (put_file (new_file path.now now)) (is self.old) result (is self.new) };
+        ensures { Changes (λ files. may_create files path.now) (put_file (new_file path.now now))
+            (is self.old) result (is self.new) };
 
     /// Brings a file's bytes to rest.
     fn sync(&mut self, file: &FileName) -> TreeDone

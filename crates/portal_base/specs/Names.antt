@@ -57,7 +57,8 @@ is_byte_of_path b = not (b == 0)
 
 -- a path but for the limit of its length
 abbrev pub has_path_form : List ℕ → Bool
-has_path_form t = is_utf8 t && list_all is_byte_of_path t && (is_same t root || is_rooted (slice_split is_slash t))
+has_path_form t = is_utf8 t && list_all is_byte_of_path t
+    && (is_same t root || is_rooted (slice_split is_slash t))
 
 abbrev pub path_limit : ℕ
 path_limit = 4095
@@ -84,7 +85,8 @@ own_folder app = codes "/app/" ++ app
 
 -- the path is the application's own folder, or lies below it
 unfoldable pub is_in_own_folder : List ℕ → List ℕ → Bool
-is_in_own_folder app path = is_same path (own_folder app) || starts_with nat_eq path (own_folder app ++ (47 ∷ []))
+is_in_own_folder app path = is_same path (own_folder app)
+    || starts_with nat_eq path (own_folder app ++ (47 ∷ []))
 
 -- ---- where a text breaks a rule
 
@@ -95,7 +97,8 @@ Begins has_form front = (rest : List ℕ) × (has_form (front ++ rest) ≡ true)
 -- the text ends at n and isn't of that form; or its byte at n is past the limit, or one
 -- with which no text of that form goes on
 abbrev pub GoesWrong : (List ℕ → Bool) → ℕ → List ℕ → ℕ → Type 0
-GoesWrong has_form limit t n = ((n ≡ length t) × (has_form t ≡ false)) ⊎ ((n < length t) × ((n ≡ limit) ⊎ ¬ (Begins has_form (take (n + 1) t))))
+GoesWrong has_form limit t n = ((n ≡ length t) × (has_form t ≡ false))
+    ⊎ ((n < length t) × ((n ≡ limit) ⊎ ¬ (Begins has_form (take (n + 1) t))))
 
 -- n is the least place at which the text breaks the rule of that form and limit
 pub record IsFirstBreak (has_form : List ℕ → Bool) (limit : ℕ) (t : List ℕ) (n : ℕ) : Type 0 where

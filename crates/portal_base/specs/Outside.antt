@@ -42,7 +42,8 @@ Short (w ∷ ws) (p ∷ ps) = ((w ≡ p) × Short ws ps) ⊎ ((k : ℕ) × (w �
 -- What a write does: done, the bytes are one more piece; failed, at most a front of them is.
 abbrev pub Writes : Option (List (List ℕ)) → List ℕ → WriteAnswer → Option (List (List ℕ)) → Type 0
 Writes old bytes Done new = new ≡ onto old (bytes ∷ [])
-Writes old bytes Failed new = (written : List (List ℕ)) × Short written (bytes ∷ []) × (new ≡ onto old written)
+Writes old bytes Failed new = (written : List (List ℕ)) × Short written (bytes ∷ [])
+    × (new ≡ onto old written)
 
 -- only a fault is counted
 abbrev pub WriteCounts : ℕ → WriteAnswer → ℕ → Type 0
@@ -52,7 +53,8 @@ WriteCounts old Failed new = (old ≤ new) × HasRisen old new
 -- What a read does to what is left: the bytes got stand at the buffer's front and were the next;
 -- the end is told exactly where nothing is left; a fault takes nothing.
 abbrev pub Reads : Option (List ℕ) → List ℕ → ReadAnswer → Option (List ℕ) → Type 0
-Reads old buffer (read.Got n) new = (1 ≤ n) × (n ≤ length buffer) × (old ≡ behind (take n buffer) new)
+Reads old buffer (read.Got n) new = (1 ≤ n) × (n ≤ length buffer)
+    × (old ≡ behind (take n buffer) new)
 Reads old buffer read.End new = (new ≡ old) × IfSome old (λ left. left ≡ [])
 Reads old buffer read.Failed new = new ≡ old
 

@@ -34,7 +34,8 @@ after_other Named = Some Named
 
 -- what the part is after one more byte, where there can be such a path
 abbrev pub part_after : Part → ℕ → Option Part
-part_after s b = if b == 0 then None else (if b == 47 then after_slash s else (if b == 46 then after_dot s else after_other s))
+part_after s b = if b == 0 then None
+    else (if b == 47 then after_slash s else (if b == 46 then after_dot s else after_other s))
 
 -- a path may end here
 abbrev pub is_whole_part : Part → Bool
@@ -48,9 +49,13 @@ is_whole_part Named = true
 -- ---- UTF-8 (Unicode, table 3-7)
 
 abbrev pub after_lead : ℕ → Option Next
-after_lead b = if nat_lt b 0x80 then Some Lead else (if nat_lt b 0xC2 then None else (if nat_lt b 0xE0 then Some Last
-    else (if b == 0xE0 then Some AfterE0 else (if b == 0xED then Some AfterEd else (if nat_lt b 0xF0 then Some TwoMore
-    else (if b == 0xF0 then Some AfterF0 else (if nat_lt b 0xF4 then Some ThreeMore else (if b == 0xF4 then Some AfterF4 else None))))))))
+after_lead b = if nat_lt b 0x80 then Some Lead
+    else (if nat_lt b 0xC2 then None else (if nat_lt b 0xE0 then Some Last
+    else (if b == 0xE0 then Some AfterE0
+    else (if b == 0xED then Some AfterEd else (if nat_lt b 0xF0 then Some TwoMore
+    else (if b == 0xF0 then Some AfterF0
+    else (if nat_lt b 0xF4 then Some ThreeMore
+    else (if b == 0xF4 then Some AfterF4 else None))))))))
 
 -- these bytes go on, and others don't
 abbrev pub within : ℕ → ℕ → ℕ → Next → Option Next

@@ -109,7 +109,8 @@ impl<T> List<T> {
 
     /// The last item goes; its value, or `None` of the empty list.
     pub fn pop(&mut self) -> Option<T>
-        ensures { MatchOption result ((self.old ≡ []) × (self.new ≡ [])) (λ last. self.old ≡ self.new ++ last ∷ []) }
+        ensures { MatchOption result ((self.old ≡ [])
+            × (self.new ≡ [])) (λ last. self.old ≡ self.new ++ last ∷ []) }
     {
         self.inner.pop()
     }
@@ -131,7 +132,8 @@ impl<T: Copy> List<T> {
     /// Writes items over as many others, from a place on.
     pub fn overwrite(&mut self, at: usize, items: &[T])
         requires { at + length items.now ≤ length self.old }
-        ensures { self.new ≡ take at self.old ++ (items.now ++ drop (at + length items.now) self.old) }
+        ensures { self.new ≡ take at self.old
+            ++ (items.now ++ drop (at + length items.now) self.old) }
     {
         self.inner[at..at + items.len()].copy_from_slice(items);
     }
@@ -139,7 +141,8 @@ impl<T: Copy> List<T> {
     /// Leaves the first `len` items, and puts copies of `item` behind them
     /// until there are `len`.
     pub fn resize(&mut self, len: usize, item: T) -> Result<(), WantOfMemory>
-        ensures ok { OnOk result (self.new ≡ take len self.old ++ replicate (len - length self.old) item) }
+        ensures ok { OnOk result (self.new ≡ take len self.old
+            ++ replicate (len - length self.old) item) }
         ensures err { OnErr result (self.new ≡ self.old) }
     {
         self.inner.resize(len, item)?;

@@ -1,5 +1,5 @@
--- A history that is kept, seen as a list of entries from a state: how an answer lets it grow, and why a request
--- is refused.
+-- A history that is kept, seen as a list of entries from a state: how an answer lets it grow, and
+-- why a request is refused.
 use Rattle.std.specs.Prelude.{◌≡◌, ◌+◌, ◌<◌, ◌≤◌, ℕ, List, [], ◌∷◌, ◌++◌}
 use Rattle.portal_model.specs.declared.entry.Entry.{Entry}
 use Rattle.portal_model.specs.declared.reply.Refused.{Refused}
@@ -14,8 +14,11 @@ use Rattle.portal_model.specs.Step.{reply_at}
 abbrev pub cost_after : List Entry → Request → ℕ
 cost_after h request = cost h + cost_of request
 
--- the history grew by one entry, of this seat and request, of which this is said; the reply is that of the step
-pub record GrowsBy (says : Entry → Type 0) (s : State) (old new : List Entry) (seat : ℕ) (request : Request) (reply : Reply) : Type 0 where
+-- the history grew by one entry, of this seat and request, of which this is said; the reply is that
+-- of the step
+pub record GrowsBy (says : Entry
+    → Type 0) (s : State) (old new : List Entry) (seat : ℕ) (request : Request)
+    (reply : Reply) : Type 0 where
   pub entry : Entry
   pub grown : new ≡ old ++ entry ∷ []
   pub seat_is : entry.seat ≡ seat
@@ -23,7 +26,9 @@ pub record GrowsBy (says : Entry → Type 0) (s : State) (old new : List Entry) 
   pub reply_is : reply ≡ reply_at (run s old) entry
   pub said : says entry
 
--- why a request is no entry: want of memory, which is free, or a history that would cost too much, told by both numbers
+-- why a request is no entry: want of memory, which is free, or a history that would cost too much,
+-- told by both numbers
 abbrev pub RefusedFor : State → List Entry → Request → Refused → Type 0
 RefusedFor s h request Memory = cost_after h request ≤ s.limits.history
-RefusedFor s h request (Full cost_now limit) = (cost_now ≡ cost h) × (limit ≡ s.limits.history) × (s.limits.history < cost_after h request)
+RefusedFor s h request (Full cost_now limit) = (cost_now ≡ cost h) × (limit ≡ s.limits.history)
+    × (s.limits.history < cost_after h request)

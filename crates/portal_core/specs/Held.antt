@@ -11,10 +11,12 @@ use Rattle.portal_model.specs.State.{State}
 
 -- the state of an opening state whose documents, rights and connections are these by now
 abbrev pub state_of : OpeningState → List Document → List Triple → List Connection → State
-state_of o documents rights connections = record (opened o) { documents = documents; rights = rights; connections = connections }
+state_of o documents rights connections =
+    record (opened o) { documents = documents; rights = rights; connections = connections }
 
 -- the history is legal and within its limit, and the lists are those of the state after it
-pub record Stands (o : OpeningState) (history : List Entry) (limit : ℕ) (documents : List Document) (rights : List Triple) (connections : List Connection) : Type 0 where
+pub record Stands (o : OpeningState) (history : List Entry) (limit : ℕ) (documents : List Document)
+    (rights : List Triple) (connections : List Connection) : Type 0 where
   pub legal : Legal (opened o) history
   pub state_is : run (opened o) history ≡ state_of o documents rights connections
   pub limit_is : limit ≡ o.limits.history

@@ -19,7 +19,9 @@ use Rattle.portal_model.specs.Step.{node_step, node_looks, mount_of, reply_with}
 
 -- what a caller sees at a node, where these documents are live and these rights are held
 abbrev pub sight_in : List Document → List Triple → Who → ℕ → Option Sight
-sight_in documents rights who node = sight_at (λ number. sight_of_document rights who (document_of documents number)) (place_named node)
+sight_in documents rights who node =
+    sight_at (λ number. sight_of_document rights who (document_of documents number))
+    (place_named node)
 
 -- the looks that were taken, of which there is one at most
 abbrev pub taken : Option Look → List Look
@@ -28,7 +30,14 @@ taken (Some look) = look ∷ []
 
 -- what the outside gives where only the tree is asked, and doesn't fail
 abbrev pub looked : List Look → Given
-looked looks = record { now = None; words = []; numbers = []; looks = looks; full = false; fault = Fault.None }
+looked looks = record {
+  now = None;
+  words = [];
+  numbers = [];
+  looks = looks;
+  full = false;
+  fault = Fault.None;
+}
 
 -- an entry to which the outside gave these looks alone
 abbrev pub entry_of : ℕ → Request → List Look → Entry
@@ -40,7 +49,9 @@ collect_answer None = Answer.Refused Code.NotHere
 collect_answer (Some c) = Answer.Done
 
 -- the request has a definition, and the answer and the look are those of the step
-pub record Serves (s : State) (seat : ℕ) (r : NodeRequest) (answer : Answer) (look : Option Look) : Type 0 where
+pub record Serves (s : State) (seat : ℕ) (r : NodeRequest) (answer : Answer)
+    (look : Option Look) : Type 0 where
   pub defined : is_defined_op r.op ≡ true
-  pub answer_is : reply_with [] answer ≡ (node_step s r (looked (taken look)) (mount_of (connection_of s.connections seat))).1
+  pub answer_is : reply_with [] answer
+      ≡ (node_step s r (looked (taken look)) (mount_of (connection_of s.connections seat))).1
   pub look_is : taken look ≡ node_looks s r (mount_of (connection_of s.connections seat))

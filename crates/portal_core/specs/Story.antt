@@ -40,7 +40,9 @@ pub record Answers (old new : Story) (seat : ℕ) (request : Request) (reply : R
   pub faultless : entry.given.fault ≡ Fault.None
   pub reply_is : reply ≡ reply_at (state_now old) entry
 
--- why a request is no entry: want of memory, which is free, or a history that would cost too much, told by both numbers
+-- why a request is no entry: want of memory, which is free, or a history that would cost too much,
+-- told by both numbers
 abbrev pub HasCause : Story → Request → Refused → Type 0
 HasCause p request Memory = cost_with p request ≤ limit_of p
-HasCause p request (Full cost_now limit) = (cost_now ≡ cost p.history) × (limit ≡ limit_of p) × (limit_of p < cost_with p request)
+HasCause p request (Full cost_now limit) = (cost_now ≡ cost p.history) × (limit ≡ limit_of p)
+    × (limit_of p < cost_with p request)

@@ -62,8 +62,13 @@ pub fn get_attr(
     request: &NodeRequest,
     flags: u32,
 ) -> NodeDone
-    ensures answer { result.answer ≡ by_handle_or_place request.now flags (sight_in documents.now rights.now who.now request.now.node) (taken result.look) }
-    ensures look { taken result.look ≡ (if is_by_handle flags then [] else looks_at_place (look_shown (map file_of files.now)) (sight_in documents.now rights.now who.now request.now.node)) }
+    ensures answer { result.answer
+        ≡ by_handle_or_place request.now flags
+        (sight_in documents.now rights.now who.now request.now.node) (taken result.look) }
+    ensures look { taken result.look
+        ≡ (if is_by_handle flags then []
+        else looks_at_place (look_shown (map file_of files.now))
+        (sight_in documents.now rights.now who.now request.now.node)) }
 {
     if names_handle(flags) {
         return NodeDone::refused(Code::Errno(EBADF));

@@ -50,9 +50,13 @@ impl<'a, S: Storied> Desk for LocalDesk<'a, S> {
     ghost use Rattle.std.specs.Prelude.{refl};
     ghost use Rattle.std.proofs.Common.{◌∙◌};
 
-    ghost seated = { λ d. seated_at (S.opening d.portal.now) (S.entries d.portal.now) d.seat d.refusals };
+    ghost seated = { λ d. seated_at (S.opening d.portal.now)
+        (S.entries d.portal.now) d.seat d.refusals };
 
-    ghost goes = { λ d e. (e.portal.ghost_name ≡ d.portal.ghost_name) × GoesOn S.says (seated_at (S.opening d.portal.now) (S.entries d.portal.now) d.seat d.refusals) (seated_at (S.opening e.portal.now) (S.entries e.portal.now) e.seat e.refusals) };
+    ghost goes = { λ d e. (e.portal.ghost_name ≡ d.portal.ghost_name)
+        × GoesOn S.says (seated_at (S.opening d.portal.now)
+        (S.entries d.portal.now) d.seat d.refusals)
+        (seated_at (S.opening e.portal.now) (S.entries e.portal.now) e.seat e.refusals) };
 
     fn ask(&mut self, alloc: Global, request: Request) -> Result<Reply, Refused> {
         match self.portal.ask(alloc, self.seat, request) {

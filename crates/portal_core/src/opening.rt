@@ -94,7 +94,8 @@ fn add_grant(
     grant: &GrantRecord,
 ) -> Result<(), WantOfMemory>
     requires order { are_in_order rights.old ≡ true }
-    requires names { list_all (λ t. is_app_name t.app) (with_grant number rights.old grant.now) ≡ true }
+    requires names { list_all (λ t. is_app_name t.app) (with_grant number rights.old grant.now)
+        ≡ true }
     ensures { OnOk result (rights.new ≡ with_grant number rights.old grant.now) }
 {
     let given = set_of_bits(grant.rights);

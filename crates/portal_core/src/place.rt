@@ -28,7 +28,9 @@ pub fn sight_at<'a>(
     who: &Who,
     node: u64,
 ) -> Option<FileSight<'a>>
-    ensures { MatchOption result (sight_in documents.now rights.now who.now node ≡ None) (λ sight. sight_in documents.now rights.now who.now node ≡ Some (SightOfFile sight.path.now sight.may_write)) }
+    ensures { MatchOption result (sight_in documents.now rights.now who.now node ≡ None)
+        (λ sight. sight_in documents.now rights.now who.now node
+        ≡ Some (SightOfFile sight.path.now sight.may_write)) }
 {
     let number = file_number(node)?;
     let document = document_of(documents, number)?;

@@ -51,7 +51,8 @@ impl Model for Portal {
     ghost view = { λ p. record { opening = p.opening; history = p.history.entries } };
 
     // Room is kept for a Leave of each open connection.
-    ghost invariant = { λ p. Stands p.opening p.history.entries p.history.limit p.documents p.rights p.connections × (length p.connections ≤ p.history.spare) };
+    ghost invariant = { λ p. Stands p.opening p.history.entries p.history.limit p.documents p.rights p.connections
+        × (length p.connections ≤ p.history.spare) };
 }
 
 impl Portal {
@@ -106,11 +107,13 @@ impl Portal {
         ensures err { OnErr result (self.new ≡ self.old) }
 
         // Both ways: it is full exactly where the cost would pass the limit.
-        ensures full { limit_of self.old < cost_with self.old request → result ≡ Err (Refused.Full (cost self.old.history) (limit_of self.old)) }
+        ensures full { limit_of self.old < cost_with self.old request
+            → result ≡ Err (Refused.Full (cost self.old.history) (limit_of self.old)) }
         ensures cause { IfErr result (HasCause self.old request) }
 
         // Enter took the room for it.
-        ensures leave { request ≡ Request.Leave → is_open (state_now self.old) seat ≡ true → IsOk result }
+        ensures leave { request ≡ Request.Leave → is_open (state_now self.old) seat ≡ true
+            → IsOk result }
 
         // Whatever it answers.
         ensures legal { Legal (opened self.new.opening) self.new.history }
@@ -127,9 +130,11 @@ impl Portal {
         ensures opening { self.new.opening ≡ self.old.opening }
         ensures ok { IfOk result (Answers self.old self.new seat request) }
         ensures err { OnErr result (self.new ≡ self.old) }
-        ensures full { limit_of self.old < cost_with self.old request → result ≡ Err (Refused.Full (cost self.old.history) (limit_of self.old)) }
+        ensures full { limit_of self.old < cost_with self.old request
+            → result ≡ Err (Refused.Full (cost self.old.history) (limit_of self.old)) }
         ensures cause { IfErr result (HasCause self.old request) }
-        ensures leave { request ≡ Request.Leave → is_open (state_now self.old) seat ≡ true → IsOk result }
+        ensures leave { request ≡ Request.Leave → is_open (state_now self.old) seat ≡ true
+            → IsOk result }
     {
         self.check_cost(&request)?;
         match request {
@@ -149,7 +154,9 @@ impl Portal {
     fn check_cost(&self, request: &Request) -> Result<(), Refused>
         ensures leave { request.now ≡ Request.Leave → IsOk result }
         ensures fits { OnOk result (cost_with self.now request.now ≤ limit_of self.now) }
-        ensures full { IfErr result (λ e. (e ≡ Refused.Full (cost self.now.history) (limit_of self.now)) × (limit_of self.now < cost_with self.now request.now)) }
+        ensures full { IfErr result
+            (λ e. (e ≡ Refused.Full (cost self.now.history) (limit_of self.now))
+            × (limit_of self.now < cost_with self.now request.now)) }
     {
         let cost = self.history.cost();
         let limit = self.history.limit();
@@ -246,7 +253,8 @@ impl Portal {
     /// Serves a request of a seat on a node, which changes nothing. `None` of a
     /// request whose answer isn't defined.
     fn serve(&self, seat: u32, request: &NodeRequest) -> Option<NodeDone>
-        ensures { IfSome result (λ done. Serves (state_now self.now) seat request.now done.answer done.look) }
+        ensures { IfSome result
+            (λ done. Serves (state_now self.now) seat request.now done.answer done.look) }
     {
         let NodeOp::GetAttr { flags, .. } = &request.op else {
             return None;

@@ -39,14 +39,18 @@ pub trait Storied {
         requires { 1 ≤ seat }
 
         ensures opening { opening self.new ≡ opening self.old }
-        ensures answered { IfOk result (GrowsBy says (opening self.old) (entries self.old) (entries self.new) seat request) }
+        ensures answered { IfOk result
+            (GrowsBy says (opening self.old) (entries self.old) (entries self.new) seat request) }
         ensures refused { OnErr result (entries self.new ≡ entries self.old) }
 
         // Both ways: it is full exactly where the cost would pass the limit.
-        ensures full { (opening self.old).limits.history < cost_after (entries self.old) request → result ≡ Err (Refused.Full (cost (entries self.old)) (opening self.old).limits.history) }
+        ensures full { (opening self.old).limits.history < cost_after (entries self.old) request
+            → result ≡ Err (Refused.Full (cost (entries self.old))
+            (opening self.old).limits.history) }
         ensures cause { IfErr result (RefusedFor (opening self.old) (entries self.old) request) }
 
-        ensures leave { request ≡ Request.Leave → is_open (run (opening self.old) (entries self.old)) seat ≡ true → IsOk result }
+        ensures leave { request ≡ Request.Leave
+            → is_open (run (opening self.old) (entries self.old)) seat ≡ true → IsOk result }
 
         // Whatever it answers.
         ensures legal { Legal (opening self.new) (entries self.new) }

@@ -29,7 +29,8 @@ pub fn look_at(files: &[FileItem], path: &[u8]) -> Look
 }
 
 fn look_without_file(files: &[FileItem], path: &[u8]) -> Look
-    ensures { result ≡ (if is_folder_of (map file_of files.now) path.now then Look.Folder else Look.Missing) }
+    ensures { result ≡ (if is_folder_of (map file_of files.now) path.now then Look.Folder
+        else Look.Missing) }
 {
     if is_folder(files, path) {
         Look::Folder

@@ -33,7 +33,11 @@ impl Model for History {
 
     ghost Value = { Stored };
 
-    ghost view = { λ h. record { entries = h.entries.items; spare = vec_capacity h.entries - vec_len h.entries; limit = h.limit } };
+    ghost view = { λ h. record {
+      entries = h.entries.items;
+      spare = vec_capacity h.entries - vec_len h.entries;
+      limit = h.limit;
+    } };
 
     ghost invariant = { λ h. (h.cost ≡ total_cost h.entries.items) × (h.cost ≤ h.limit) };
 }
@@ -88,7 +92,11 @@ impl History {
     pub fn push(&mut self, entry: Entry)
         requires room { 0 < self.old.spare }
         requires within { cost self.old.entries + request_cost entry.request ≤ self.old.limit }
-        ensures { self.new ≡ record { entries = self.old.entries ++ entry ∷ []; spare = self.old.spare - 1; limit = self.old.limit } }
+        ensures { self.new ≡ record {
+          entries = self.old.entries ++ entry ∷ [];
+          spare = self.old.spare - 1;
+          limit = self.old.limit;
+        } }
     {
         self.cost += cost_of(&entry.request);
         self.entries.push_reserved(entry);

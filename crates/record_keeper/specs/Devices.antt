@@ -11,4 +11,9 @@ pub record KeeperState : Type 0 where
   pub count : Counted
 
 abbrev pub keeper_of : KeeperState → KeeperIs
-keeper_of s = record { began = Some s.began; told = Some s.records; faults = s.count.faults; calls = Some s.count.calls }
+keeper_of s = record {
+  began = Some s.began;
+  told = Some s.records;
+  faults = s.count.faults;
+  calls = Some s.count.calls;
+}

@@ -20,7 +20,12 @@ pub record KeeperIs : Type 0 where
 
 -- the keeper after a call that failed or didn't, with these records
 abbrev pub after_call : KeeperIs → Bool → Option Records → KeeperIs
-after_call keeper failed told = record keeper { told = told; faults = count_after keeper.faults failed; calls = option_map next_call keeper.calls }
+after_call keeper failed told =
+    record keeper {
+      told = told;
+      faults = count_after keeper.faults failed;
+      calls = option_map next_call keeper.calls;
+    }
 
 abbrev pub is_load_fault : KeeperLoad → Bool
 is_load_fault (load.Got records) = false
@@ -51,6 +56,7 @@ pub record Loads (old : KeeperIs) (answer : KeeperLoad) (new : KeeperIs) : Type 
   pub fails : FailsAsTold old.calls (is_load_fault answer)
 
 -- Changes.
-pub record Applies (changes : List RecordChange) (old : KeeperIs) (answer : KeeperDone) (new : KeeperIs) : Type 0 where
+pub record Applies (changes : List RecordChange) (old : KeeperIs) (answer : KeeperDone)
+    (new : KeeperIs) : Type 0 where
   pub goes : new ≡ after_call old (is_done_fault answer) (told_after changes old.told answer)
   pub fails : FailsAsTold old.calls (is_done_fault answer)

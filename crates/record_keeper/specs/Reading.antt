@@ -5,4 +5,5 @@ use Rattle.record_keeper.specs.SoundRecords.{IsDatum}
 
 -- the data that bytes are, or none where they are none
 abbrev pub ReadsDatum : List ℕ → Option Value → Type 0
-ReadsDatum bytes read = MatchOption read ((datum : Value) → IsDatum datum bytes → ⊥) (λ datum. IsDatum datum bytes)
+ReadsDatum bytes read = MatchOption read ((datum : Value) → IsDatum datum bytes
+    → ⊥) (λ datum. IsDatum datum bytes)

@@ -1,5 +1,6 @@
--- Which records may be kept: what each of them keeps by itself.
--- The terms are those of the documentation of org.freedesktop.impl.portal.PermissionStore, where an entry is of a table and an identifier.
+-- Which records may be kept: what each of them keeps by itself. The terms are those of the
+-- documentation of org.freedesktop.impl.portal.PermissionStore, where an entry is of a table and an
+-- identifier.
 use Rattle.std.specs.Prelude.{◌≡◌, ℕ, ◌+◌, ◌≤◌, false, true, Bool, List, [], ◌∷◌, length, map, codes, All}
 use Rattle.std.specs.List.{list_any}
 use Rattle.std.specs.Cmp.Lexicographic.{slice_cmp}
@@ -53,7 +54,8 @@ handle_step _ = false
 abbrev pub holds_handle : Value → Bool
 holds_handle = fold-Value Bool handle_step
 
--- the bytes are the whole spelling of a variant, with the lowest byte of each number first, and no handle is in it
+-- the bytes are the whole spelling of a variant, with the lowest byte of each number first, and no
+-- handle is in it
 pub record IsDatum (datum : Value) (bytes : List ℕ) : Type 0 where
   pub spelled : Spells Little 0 W.Variant datum bytes
   pub no_handle : holds_handle datum ≡ false
@@ -70,14 +72,16 @@ row_value row = V.DictEntry (V.Str row.app) (texts_value row.names)
 abbrev pub rows_value : List Row → Value
 rows_value rows = V.Array (W.DictEntry W.Str (W.Array W.Str)) (map row_value rows)
 
--- the values of the signal Changed(ssbva{sas}) of an entry with this data, which has not been deleted
+-- the values of the signal Changed(ssbva{sas}) of an entry with this data, which has not been
+-- deleted
 abbrev pub changed_value : EntryRecord → Value → Value
-changed_value entry datum = V.Struct (V.Str entry.table ∷ V.Str entry.id ∷ V.Bool false ∷ datum ∷ rows_value entry.rows ∷ [])
+changed_value entry datum = V.Struct (V.Str entry.table ∷ V.Str entry.id ∷ V.Bool false ∷ datum
+    ∷ rows_value entry.rows ∷ [])
 
--- How many bytes the header of this signal has: 12 of fixed fields, 4 of the length of the array of header
--- fields, which go from 16 to 160: PATH /org/freedesktop/impl/portal/PermissionStore to 69, INTERFACE
--- org.freedesktop.impl.portal.PermissionStore from 72 to 124, MEMBER Changed from 128 to 144, SIGNATURE
--- ssbva{sas} to 160. D-Bus Specification, "Message Format".
+-- How many bytes the header of this signal has: 12 of fixed fields, 4 of the length of the array of
+-- header fields, which go from 16 to 160: PATH /org/freedesktop/impl/portal/PermissionStore to 69,
+-- INTERFACE org.freedesktop.impl.portal.PermissionStore from 72 to 124, MEMBER Changed from 128 to
+-- 144, SIGNATURE ssbva{sas} to 160. D-Bus Specification, "Message Format".
 abbrev pub changed_header : ℕ
 changed_header = 160
 
@@ -89,7 +93,8 @@ changed_length entry datum = changed_header + length (spelling Little 0 (changed
 abbrev pub message_limit : ℕ
 message_limit = 16777216
 
--- the data of an entry, with which the signal that tells of the entry is no longer than a message may be
+-- the data of an entry, with which the signal that tells of the entry is no longer than a message
+-- may be
 pub record HasDatum (entry : EntryRecord) (datum : Value) : Type 0 where
   pub is : IsDatum datum entry.datum
   pub told : changed_length entry datum ≤ message_limit
@@ -101,7 +106,8 @@ own_table = codes "documents"
 abbrev pub is_empty_row : Row → Bool
 is_empty_row row = is_none row.names
 
--- texts without zero bytes, rows in the order of their applications' keys and none of them empty, and data
+-- texts without zero bytes, rows in the order of their applications' keys and none of them empty,
+-- and data
 pub record IsSoundEntry (entry : EntryRecord) : Type 0 where
   pub texts : is_sound_entry entry ≡ true
   pub table : is_same entry.table own_table ≡ false

@@ -16,7 +16,16 @@ pub(crate) fn make_all(
 )
     requires documents { vec_len documents.old + length changes ≤ vec_capacity documents.old }
     requires entries { vec_len entries.old + length changes ≤ vec_capacity entries.old }
-    ensures { (version : ℕ) → record { version = version; documents = documents.new.items; entries = entries.new.items } ≡ changed_by changes (record { version = version; documents = documents.old.items; entries = entries.old.items }) }
+    ensures { (version : ℕ) → record {
+      version = version;
+      documents = documents.new.items;
+      entries = entries.new.items;
+    }
+        ≡ changed_by changes (record {
+          version = version;
+          documents = documents.old.items;
+          entries = entries.old.items;
+        }) }
 {
     for change in changes.into_vec() {
         make(documents, entries, change);
@@ -27,9 +36,17 @@ pub(crate) fn make_all(
 fn make(documents: &mut Vec<DocRecord>, entries: &mut Vec<EntryRecord>, change: RecordChange)
     requires documents { vec_len documents.old < vec_capacity documents.old }
     requires entries { vec_len entries.old < vec_capacity entries.old }
-    ensures made { (version : ℕ) → record { version = version; documents = documents.new.items; entries = entries.new.items } ≡ changed change (record { version = version; documents = documents.old.items; entries = entries.old.items }) }
-    ensures documents { (vec_len documents.new ≤ vec_len documents.old + 1) × (vec_capacity documents.new ≡ vec_capacity documents.old) }
-    ensures entries { (vec_len entries.new ≤ vec_len entries.old + 1) × (vec_capacity entries.new ≡ vec_capacity entries.old) }
+    ensures made { (version : ℕ)
+        → record { version = version; documents = documents.new.items; entries = entries.new.items }
+        ≡ changed change (record {
+          version = version;
+          documents = documents.old.items;
+          entries = entries.old.items;
+        }) }
+    ensures documents { (vec_len documents.new ≤ vec_len documents.old + 1)
+        × (vec_capacity documents.new ≡ vec_capacity documents.old) }
+    ensures entries { (vec_len entries.new ≤ vec_len entries.old + 1)
+        × (vec_capacity entries.new ≡ vec_capacity entries.old) }
 {
     match change {
         RecordChange::AddDocument(document) => documents.push_reserved(document),
@@ -51,7 +68,9 @@ fn remove_document(documents: &mut Vec<DocRecord>, number: u32)
 
 /// The document of a number has these rights given, in its place.
 fn set_grants(documents: &mut Vec<DocRecord>, number: u32, grants: List<GrantRecord>)
-    ensures items { documents.new.items ≡ change_first (is_numbered number) (λ d. record d { grants = grants }) documents.old.items }
+    ensures items { documents.new.items
+        ≡ change_first (is_numbered number)
+        (λ d. record d { grants = grants }) documents.old.items }
     ensures len { vec_len documents.new ≡ vec_len documents.old }
     ensures capacity { vec_capacity documents.new ≡ vec_capacity documents.old }
 {

@@ -28,7 +28,15 @@ impl Model for MemoryKeeper {
 
     ghost Value = { KeeperState };
 
-    ghost view = { λ k. record { began = k.began; records = record { version = k.version; documents = k.documents.items; entries = k.entries.items }; count = k.count } };
+    ghost view = { λ k. record {
+      began = k.began;
+      records = record {
+        version = k.version;
+        documents = k.documents.items;
+        entries = k.entries.items;
+      };
+      count = k.count;
+    } };
 }
 
 impl MemoryKeeper {
@@ -39,7 +47,11 @@ impl MemoryKeeper {
         records: Records,
         fails: List<u64>,
     ) -> Result<MemoryKeeper, WantOfMemory>
-        ensures { IfOk result (λ keeper. keeper ≡ record { began = records; records = records; count = uncalled fails }) }
+        ensures { IfOk result (λ keeper. keeper ≡ record {
+          began = records;
+          records = records;
+          count = uncalled fails;
+        }) }
     {
         let began = records.replica(alloc)?;
         let Records {
@@ -96,7 +108,8 @@ fn reserve(
     entries: &mut Vec<EntryRecord>,
     count: usize,
 ) -> Result<(), WantOfMemory>
-    ensures same { (documents.new.items ≡ documents.old.items) × (entries.new.items ≡ entries.old.items) }
+    ensures same { (documents.new.items ≡ documents.old.items)
+        × (entries.new.items ≡ entries.old.items) }
     ensures documents { OnOk result (vec_len documents.new + count ≤ vec_capacity documents.new) }
     ensures entries { OnOk result (vec_len entries.new + count ≤ vec_capacity entries.new) }
 {
@@ -112,7 +125,11 @@ fn copies(
     documents: &[DocRecord],
     entries: &[EntryRecord],
 ) -> Result<Records, WantOfMemory>
-    ensures { IfOk result (λ records. records ≡ record { version = version; documents = documents.now; entries = entries.now }) }
+    ensures { IfOk result (λ records. records ≡ record {
+      version = version;
+      documents = documents.now;
+      entries = entries.now;
+    }) }
 {
     Ok(Records {
         version,

@@ -1,5 +1,24 @@
 //! The records that outlive a run: which of them may be kept, the trait of
 //! their keeper by which the portal reaches it, and a keeper in memory.
+//!
+//! **It promises** that a load gives the records that are kept, and that changes
+//! are made all or not at all, each as its definition says: an added document goes
+//! last, changed grants and an old entry stay in their place. `Failed` and
+//! `Memory` change nothing. An entry of the permission store is told to be sound
+//! exactly where it may be kept, as far as that depends on it alone.
+//!
+//! | Room | Holds |
+//! |---|---|
+//! | `keeper` | the trait [`Keeper`] and its answers |
+//! | `in_memory` | [`MemoryKeeper`], with its list of failing calls |
+//! | `changes` | what each change does to records |
+//! | `sound`, `datum` | which entries may be kept, and the value of one |
+//! | `name_set` | names that were seen, in order |
+//!
+//! ```text
+//! let mut keeper = MemoryKeeper::new(alloc, records, List::new(alloc))?;
+//! match keeper.load() { KeeperLoad::Got(records) => .., .. }
+//! ```
 #![tactic(auto)]
 
 mod changes;

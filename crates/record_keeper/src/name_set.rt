@@ -81,7 +81,8 @@ impl PartialOrd for Name {
 
     ghost partial_cmp = { λ a b. Some (slice_cmp nat_cmp a b) };
 
-    ghost laws = { partial_order_from_agreeing_total (slice_cmp nat_cmp) nat_list_cmp_total (λ a b. refl) byte_order_ties };
+    ghost laws = { partial_order_from_agreeing_total (slice_cmp nat_cmp) nat_list_cmp_total
+        (λ a b. refl) byte_order_ties };
 
     fn partial_cmp(&self, other: &Name) -> Option<Ordering> {
         Some(self.cmp(other))
@@ -141,7 +142,8 @@ impl NameSet {
     /// Puts a name into the set, in which it wasn't.
     pub fn add(&mut self, name: Name) -> Result<(), WantOfMemory>
         requires { list_any (is_same name) self.old ≡ false }
-        ensures ok { OnOk result ((test : List ℕ → Bool) → list_any test self.new ≡ (test name || list_any test self.old)) }
+        ensures ok { OnOk result ((test : List ℕ → Bool)
+            → list_any test self.new ≡ (test name || list_any test self.old)) }
         ensures err { OnErr result (self.new ≡ self.old) }
     {
         self.names.insert(name)?;

@@ -127,7 +127,8 @@ fn has_datum(alloc: Global, entry: &EntryRecord) -> Result<bool, WantOfMemory>
 
 /// How long the body of the Changed signal of an entry is.
 fn body_length(alloc: Global, entry: &EntryRecord, datum: Value) -> Result<usize, WantOfMemory>
-    ensures { IfOk result (λ bytes. bytes ≡ length (spelling Little 0 (value_of_change entry.now datum))) }
+    ensures { IfOk result (λ bytes. bytes
+        ≡ length (spelling Little 0 (value_of_change entry.now datum))) }
 {
     let value = changed_value(alloc, entry, datum)?;
     let mut body = List::new(alloc);

@@ -1,5 +1,6 @@
--- The permissions that an application may have in a document.
--- Source: XDG Desktop Portal documentation, org.freedesktop.portal.Documents, GrantPermissions: "Possible values are 'read', 'write', 'grant-permissions' and 'delete'".
+-- The permissions that an application may have in a document. Source: XDG Desktop Portal
+-- documentation, org.freedesktop.portal.Documents, GrantPermissions: "Possible values are 'read',
+-- 'write', 'grant-permissions' and 'delete'".
 use Rattle.std.specs.Prelude.{◌≡◌, ℕ, ◌++◌, List, [], ◌∷◌, take, min, slice_get, Some, codes, Bool, true, false, not, ◌&&◌, ◌||◌, cond}
 use Rattle.std.specs.List.{list_any, list_all}
 use Rattle.portal_base.specs.Names.{is_same}
@@ -43,7 +44,9 @@ is_no_right a = not (holds_any a)
 
 -- each right of the second set is in the first
 abbrev pub contains : RightSet → RightSet → Bool
-contains a b = (not b.read || a.read) && ((not b.write || a.write) && ((not b.grant_permissions || a.grant_permissions) && (not b.delete || a.delete)))
+contains a b = (not b.read || a.read)
+    && ((not b.write || a.write)
+    && ((not b.grant_permissions || a.grant_permissions) && (not b.delete || a.delete)))
 
 -- ---- names
 
@@ -60,7 +63,8 @@ abbrev pub delete_name : List ℕ
 delete_name = codes "delete"
 
 abbrev pub is_right_name : List ℕ → Bool
-is_right_name t = is_same t read_name || (is_same t write_name || (is_same t grant_permissions_name || is_same t delete_name))
+is_right_name t = is_same t read_name
+    || (is_same t write_name || (is_same t grant_permissions_name || is_same t delete_name))
 
 -- the right of that name, or no right
 abbrev pub right_named : List ℕ → RightSet
@@ -102,4 +106,6 @@ name_if b name = cond b (name ∷ []) []
 
 -- the names of the rights, always in this order
 abbrev pub names_of : RightSet → List (List ℕ)
-names_of a = name_if a.read read_name ++ (name_if a.write write_name ++ (name_if a.grant_permissions grant_permissions_name ++ name_if a.delete delete_name))
+names_of a = name_if a.read read_name
+    ++ (name_if a.write write_name
+    ++ (name_if a.grant_permissions grant_permissions_name ++ name_if a.delete delete_name))

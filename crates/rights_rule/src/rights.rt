@@ -21,9 +21,19 @@ impl Model for Rights {
 
     ghost Value = { RightSet };
 
-    ghost view = { λ a. record { read = a.read; write = a.write; grant_permissions = a.grant_permissions; delete = a.delete } };
+    ghost view = { λ a. record {
+      read = a.read;
+      write = a.write;
+      grant_permissions = a.grant_permissions;
+      delete = a.delete;
+    } };
 
-    ghost inverse = { λ a. record { read = a.read; write = a.write; grant_permissions = a.grant_permissions; delete = a.delete } };
+    ghost inverse = { λ a. record {
+      read = a.read;
+      write = a.write;
+      grant_permissions = a.grant_permissions;
+      delete = a.delete;
+    } };
 }
 
 impl Rights {

@@ -6,15 +6,18 @@ use Rattle.script_form.specs.declared.script.ScriptLine.{ScriptLine}
 
 -- a text is read in one way
 abbrev pub ReadInOneWay : Type 0
-ReadInOneWay = (text : List ℕ) (lines others : List ScriptLine) → IsRead text lines → IsRead text others → lines ≡ others
+ReadInOneWay = (text : List ℕ) (lines others : List ScriptLine) → IsRead text lines
+    → IsRead text others → lines ≡ others
 
 -- it has one first line that is no line of a script
 abbrev pub RefusedInOneWay : Type 0
-RefusedInOneWay = (text : List ℕ) (number other : ℕ) → IsFault text number → IsFault text other → number ≡ other
+RefusedInOneWay = (text : List ℕ) (number other : ℕ) → IsFault text number → IsFault text other
+    → number ≡ other
 
 -- and none where it is a script
 abbrev pub ReadOrRefused : Type 0
-ReadOrRefused = (text : List ℕ) (lines : List ScriptLine) (number : ℕ) → IsRead text lines → IsFault text number → ⊥
+ReadOrRefused = (text : List ℕ) (lines : List ScriptLine) (number : ℕ) → IsRead text lines
+    → IsFault text number → ⊥
 
 -- what a script's lines are written as is that script, whole
 abbrev pub ReadAgain : Type 0

@@ -32,7 +32,8 @@ letter rights right byte = if rights / right % 2 == 1 then byte ∷ [] else []
 
 -- "r" for read, "w" for write, "g" for grant-permissions and "d" for delete, in this order
 abbrev pub letters : ℕ → List ℕ
-letters rights = letter rights 1 114 ++ (letter rights 2 119 ++ (letter rights 4 103 ++ letter rights 8 100))
+letters rights = letter rights 1 114
+    ++ (letter rights 2 119 ++ (letter rights 4 103 ++ letter rights 8 100))
 
 -- NAME=LETTERS
 abbrev pub grant_text : GrantRecord → List ℕ
@@ -71,8 +72,10 @@ device_text Keeper = codes "keeper"
 -- the words of a line
 abbrev pub words_of : ScriptLine → List (List ℕ)
 words_of (File path content) = codes "file" ∷ path ∷ hex_text content ∷ []
-words_of (Doc id reusable path grants) = codes "doc" ∷ doc_text id.number ∷ flags_text reusable ∷ path ∷ grants_text grants ∷ []
-words_of (Entry entry) = codes "entry" ∷ entry.table ∷ entry.id ∷ hex_text entry.datum ∷ rows_text entry.rows ∷ []
+words_of (Doc id reusable path grants) = codes "doc" ∷ doc_text id.number ∷ flags_text reusable
+    ∷ path ∷ grants_text grants ∷ []
+words_of (Entry entry) = codes "entry" ∷ entry.table ∷ entry.id ∷ hex_text entry.datum
+    ∷ rows_text entry.rows ∷ []
 words_of (Fail device call) = codes "fail" ∷ device_text device ∷ decimal call ∷ []
 words_of (Word word) = codes "word" ∷ doc_text word ∷ []
 words_of (Now moment) = codes "now" ∷ decimal moment ∷ []
@@ -104,7 +107,8 @@ AreBytes = All (λ b. b < 256)
 
 -- the record of a kept document
 abbrev pub kept_document : DocId → Bool → List ℕ → List GrantRecord → DocRecord
-kept_document id reusable path grants = record { number = id.number; path = path; reusable = reusable; grants = grants }
+kept_document id reusable path grants =
+    record { number = id.number; path = path; reusable = reusable; grants = grants }
 
 -- a key and permissions, at least one, which are written as applications' names are
 pub record IsNamedRow (row : Row) : Type 0 where
@@ -130,7 +134,8 @@ last_seat = 65535
 -- the rules of a line that don't speak of other lines
 abbrev pub KeepsRules : ScriptLine → Type 0
 KeepsRules (File path content) = (is_script_path path ≡ true) × (path ≢ root) × AreBytes content
-KeepsRules (Doc id reusable path grants) = (id.number < 2 ^ 32) × (is_script_path path ≡ true) × IsSoundDocument (kept_document id reusable path grants)
+KeepsRules (Doc id reusable path grants) = (id.number < 2 ^ 32) × (is_script_path path ≡ true)
+    × IsSoundDocument (kept_document id reusable path grants)
 KeepsRules (Entry entry) = HasNames entry × IsSoundEntry entry
 KeepsRules (Fail device call) = (1 ≤ call) × (call < 2 ^ 64)
 KeepsRules (Word word) = word < 2 ^ 32

@@ -5,4 +5,5 @@ use Rattle.portal_base.specs.Names.{is_same}
 
 -- the name behind those that are there, where it isn't one of them
 abbrev pub also_named : List (List ℕ) → List ℕ → List (List ℕ)
-also_named named name = if list_any (λ known. is_same known name) named then named else named ++ name ∷ []
+also_named named name = if list_any (λ known. is_same known name) named then named else named
+    ++ name ∷ []

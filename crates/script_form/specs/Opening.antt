@@ -12,7 +12,8 @@ use Rattle.script_form.specs.declared.script.ScriptLine.TheVariants.{File, Doc, 
 
 -- the document that a line keeps
 abbrev pub document_in : ScriptLine → List OpeningDocument
-document_in (Doc id reusable path grants) = record { kept = kept_document id reusable path grants; persistent = true } ∷ []
+document_in (Doc id reusable path grants) =
+    record { kept = kept_document id reusable path grants; persistent = true } ∷ []
 document_in line = []
 
 -- the entry that a line keeps
@@ -49,7 +50,8 @@ files_of lines = files_from 0 lines
 abbrev pub applications_of : List ScriptLine → List (List ℕ)
 applications_of lines = first_named (each names_kept (documents_of lines))
 
--- the documents, the entries and the files of a script; each document persists, and no other was made
+-- the documents, the entries and the files of a script; each document persists, and no other was
+-- made
 abbrev pub opening : Limits → List ScriptLine → OpeningState
 opening limits lines = record {
   limits = limits;

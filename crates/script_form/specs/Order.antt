@@ -44,21 +44,26 @@ clashes path line = false
 abbrev pub document_limit : ℕ
 document_limit = 65536
 
--- The line goes with those before it: files, documents, entries and calls that fail come before each open;
--- no path clashes with that of another file; no number is that of another document, no table and identifier
--- are those of another entry, and no connection's number is opened twice; data and a close come on what is
--- open, which is what was opened and not closed. Words and times may stand anywhere.
+-- The line goes with those before it: files, documents, entries and calls that fail come before
+-- each open; no path clashes with that of another file; no number is that of another document, no
+-- table and identifier are those of another entry, and no connection's number is opened twice; data
+-- and a close come on what is open, which is what was opened and not closed. Words and times may
+-- stand anywhere.
 abbrev pub goes_with : List ScriptLine → ScriptLine → Bool
-goes_with earlier (File path content) = not (list_any is_open earlier) && not (list_any (clashes path) earlier)
+goes_with earlier (File path content) = not (list_any is_open earlier)
+    && not (list_any (clashes path) earlier)
 goes_with earlier (Doc id reusable path grants) = not (list_any is_open earlier)
     && (not (list_any (keeps id.number) earlier) && nat_lt (count_by is_doc earlier) document_limit)
-goes_with earlier (Entry entry) = not (list_any is_open earlier) && not (list_any (stores entry.table entry.id) earlier)
+goes_with earlier (Entry entry) = not (list_any is_open earlier)
+    && not (list_any (stores entry.table entry.id) earlier)
 goes_with earlier (Fail device call) = not (list_any is_open earlier)
 goes_with earlier (Word word) = true
 goes_with earlier (Now moment) = true
 goes_with earlier (Open seat kind who) = not (list_any (opens seat) earlier)
-goes_with earlier (Data seat bytes) = list_any (opens seat) earlier && not (list_any (closes seat) earlier)
-goes_with earlier (Close seat) = list_any (opens seat) earlier && not (list_any (closes seat) earlier)
+goes_with earlier (Data seat bytes) = list_any (opens seat) earlier
+    && not (list_any (closes seat) earlier)
+goes_with earlier (Close seat) = list_any (opens seat) earlier
+    && not (list_any (closes seat) earlier)
 
 -- the line may stand behind these lines
 pub record MayStand (earlier : List ScriptLine) (line : ScriptLine) : Type 0 where
@@ -69,7 +74,8 @@ pub record MayStand (earlier : List ScriptLine) (line : ScriptLine) : Type 0 whe
 -- each of the lines may stand behind those before it, and `earlier` before them all
 abbrev pub StandBehind : List ScriptLine → List ScriptLine → Type 0
 StandBehind earlier [] = Unit {0}
-StandBehind earlier (line ∷ lines) = MayStand earlier line × StandBehind (earlier ++ line ∷ []) lines
+StandBehind earlier (line ∷ lines) = MayStand earlier line
+    × StandBehind (earlier ++ line ∷ []) lines
 
 -- each line may stand behind those before it
 abbrev pub IsScript : List ScriptLine → Type 0
@@ -77,15 +83,17 @@ IsScript lines = StandBehind [] lines
 
 -- no front of the text is a line that may stand behind these
 abbrev pub NoneStands : List ScriptLine → List ℕ → Type 0
-NoneStands lines text = (line : ScriptLine) (more : List ℕ) → text ≡ line_text line ++ (10 ∷ more) → MayStand lines line → ⊥
+NoneStands lines text = (line : ScriptLine) (more : List ℕ) → text ≡ line_text line ++ (10 ∷ more)
+    → MayStand lines line → ⊥
 
 -- the text is that of these lines, each of which may stand where it does
 pub record IsRead (text : List ℕ) (lines : List ScriptLine) : Type 0 where
   pub good : IsScript lines
   pub whole : text ≡ text_of lines
 
--- The line of this number, counted from 1, is the first that is no line of a script: those ahead of it are a
--- script, something stands behind them, and it doesn't begin with a line that may stand there.
+-- The line of this number, counted from 1, is the first that is no line of a script: those ahead of
+-- it are a script, something stands behind them, and it doesn't begin with a line that may stand
+-- there.
 pub record IsFault (text : List ℕ) (number : ℕ) : Type 0 where
   pub lines : List ScriptLine
   pub rest : List ℕ

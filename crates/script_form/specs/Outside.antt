@@ -1,4 +1,5 @@
--- What a script says of the outside of a run: its words, its clock, and the calls of its devices that fail.
+-- What a script says of the outside of a run: its words, its clock, and the calls of its devices
+-- that fail.
 use Rattle.std.specs.Prelude.{ℕ, List, [], ◌∷◌}
 use Rattle.portal_base.specs.Calls.{Calls, next_call}
 use Rattle.portal_base.specs.Outside.{rises_by}
@@ -19,8 +20,8 @@ abbrev pub tree_call_in : ScriptLine → List ℕ
 tree_call_in (Fail Tree call) = call ∷ []
 tree_call_in line = []
 
--- the keeper's first call is that which loads the records, so its call that changes them for the K-th time is
--- the one behind call K; the numbers of calls stop at the greatest of 64 bits
+-- the keeper's first call is that which loads the records, so its call that changes them for the
+-- K-th time is the one behind call K; the numbers of calls stop at the greatest of 64 bits
 abbrev pub keeper_call_in : ScriptLine → List ℕ
 keeper_call_in (Fail Keeper call) = rises_by call 1 ∷ []
 keeper_call_in line = []
@@ -35,7 +36,8 @@ told_of lines = record {
 
 -- ---- what stands between two uses
 
--- the words to come, after which only 0 comes; what the clock shows; and the calls of the tree and of the keeper
+-- the words to come, after which only 0 comes; what the clock shows; and the calls of the tree and
+-- of the keeper
 pub record Outside : Type 0 where
   pub words : List ℕ
   pub clock : ℕ

@@ -11,4 +11,5 @@ clash path other = is_same path other || (is_above other path || is_above path o
 -- none lies above one that comes behind it
 abbrev pub AreApart : List (List ℕ) → Type 0
 AreApart [] = Unit {0}
-AreApart (path ∷ paths) = AllByRecursion (λ other. is_above path other ≡ false) paths × AreApart paths
+AreApart (path ∷ paths) = AllByRecursion (λ other. is_above path other ≡ false) paths
+    × AreApart paths

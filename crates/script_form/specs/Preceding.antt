@@ -29,13 +29,15 @@ abbrev pub key_text : List ℕ → List ℕ → List ℕ
 key_text table id = table ++ (32 ∷ id)
 
 -- it says of the lines what it is kept for: whether one opens a connection, which numbers they open
--- and which they close, how many documents they keep and of which numbers, of which tables and identifiers
--- they keep entries, and which paths can't be a further file's
+-- and which they close, how many documents they keep and of which numbers, of which tables and
+-- identifiers they keep entries, and which paths can't be a further file's
 pub record Tracks (p : Preceding) : Type 0 where
   pub starts : p.begun ≡ list_any is_open p.lines
   pub seats : length p.numbers.items ≡ 65536
-  pub opened : (n : ℕ) → n < 65536 → is_opened (slice_index_or p.numbers.items n Unopened) ≡ list_any (opens n) p.lines
-  pub closed : (n : ℕ) → n < 65536 → is_closed (slice_index_or p.numbers.items n Unopened) ≡ list_any (closes n) p.lines
+  pub opened : (n : ℕ) → n < 65536
+      → is_opened (slice_index_or p.numbers.items n Unopened) ≡ list_any (opens n) p.lines
+  pub closed : (n : ℕ) → n < 65536
+      → is_closed (slice_index_or p.numbers.items n Unopened) ≡ list_any (closes n) p.lines
   pub count : p.documents ≡ count_by is_doc p.lines
   pub kept : (n : ℕ) → contains nat_cmp p.ids n ≡ list_any (keeps n) p.lines
   pub stored : (table id : List ℕ) → is_app_name table ≡ true → is_app_name id ≡ true
@@ -48,9 +50,15 @@ HasMore one old new = (test : List ℕ → Bool) → list_any test new ≡ (test
 
 -- what is kept beside the lines is that with this line, which isn't put behind them yet
 abbrev pub Notes : Preceding → ScriptLine → Preceding → Type 0
-Notes p (line.File path content) q = (q ≡ record p { paths = q.paths }) × HasMore path p.paths q.paths
-Notes p (line.Doc id reusable path grants) q = (q ≡ record p { documents = p.documents + 1; ids = q.ids }) × (q.ids.keys ≡ insert_key nat_cmp p.ids.keys id.number)
-Notes p (line.Entry entry) q = (q ≡ record p { keys = q.keys }) × HasMore (key_text entry.table entry.id) p.keys q.keys
-Notes p (line.Open seat kind who) q = (q ≡ record p { begun = true; numbers = q.numbers }) × (q.numbers.items ≡ slice_set p.numbers.items seat Open)
-Notes p (line.Close seat) q = (q ≡ record p { numbers = q.numbers }) × (q.numbers.items ≡ slice_set p.numbers.items seat Closed)
+Notes p (line.File path content) q = (q ≡ record p { paths = q.paths })
+    × HasMore path p.paths q.paths
+Notes p (line.Doc id reusable path grants) q =
+    (q ≡ record p { documents = p.documents + 1; ids = q.ids })
+    × (q.ids.keys ≡ insert_key nat_cmp p.ids.keys id.number)
+Notes p (line.Entry entry) q = (q ≡ record p { keys = q.keys })
+    × HasMore (key_text entry.table entry.id) p.keys q.keys
+Notes p (line.Open seat kind who) q = (q ≡ record p { begun = true; numbers = q.numbers })
+    × (q.numbers.items ≡ slice_set p.numbers.items seat Open)
+Notes p (line.Close seat) q = (q ≡ record p { numbers = q.numbers })
+    × (q.numbers.items ≡ slice_set p.numbers.items seat Closed)
 Notes p other q = q ≡ p

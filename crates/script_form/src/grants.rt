@@ -74,7 +74,8 @@ fn read_grant(alloc: Global, word: &[u8]) -> Result<Option<GrantRecord>, WantOfM
 
 /// Whether a name stands behind those of the grants, in byte order.
 fn rises(grants: &[GrantRecord], name: &[u8]) -> bool
-    ensures { IsRising (map (λ grant. grant.app) grants.now) → (IsTrue result ↔ IsRising (map (λ grant. grant.app) grants.now ++ name.now ∷ [])) }
+    ensures { IsRising (map (λ grant. grant.app) grants.now)
+        → (IsTrue result ↔ IsRising (map (λ grant. grant.app) grants.now ++ name.now ∷ [])) }
 {
     match grants.split_last() {
         Some((last, _)) => matches!(last.app.as_slice().cmp(name), Ordering::Less),

@@ -169,7 +169,8 @@ fn read_entry(alloc: Global, rest: &[u8]) -> Result<Option<ScriptLine>, WantOfMe
 
 /// The line of an entry, where it may be kept.
 fn sound_entry(alloc: Global, entry: EntryRecord) -> Result<Option<ScriptLine>, WantOfMemory>
-    ensures { IfOk result (λ read. MatchOption read (IsSoundEntry entry → ⊥) (λ line. (line ≡ ScriptLine.Entry entry) × IsSoundEntry entry)) }
+    ensures { IfOk result (λ read. MatchOption read (IsSoundEntry entry
+        → ⊥) (λ line. (line ≡ ScriptLine.Entry entry) × IsSoundEntry entry)) }
 {
     if is_sound_entry(alloc, &entry)? {
         Ok(Some(ScriptLine::Entry(entry)))

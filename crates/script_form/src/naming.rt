@@ -29,7 +29,8 @@ impl Model for Named {
 
     ghost view = { λ a. a.names };
 
-    ghost invariant = { λ a. (name : List ℕ) → list_any (is_same name) a.known ≡ list_any (λ known. is_same known name) a.names };
+    ghost invariant = { λ a. (name : List ℕ)
+        → list_any (is_same name) a.known ≡ list_any (λ known. is_same known name) a.names };
 }
 
 impl Named {

@@ -32,7 +32,8 @@ pub fn opening_of(
 ) -> Result<OpeningState, WantOfMemory>
     requires { IsScript script.now.lines }
     ensures state { IfOk result (λ state. state ≡ opening limits script.now.lines) }
-    ensures valid { HoldsScripts limits → IfOk result (λ state. ValidOpening (Some (map file_of state.files)) state) }
+    ensures valid { HoldsScripts limits
+        → IfOk result (λ state. ValidOpening (Some (map file_of state.files)) state) }
 {
     state_of(alloc, script, limits)
 }
@@ -191,7 +192,8 @@ fn applications_in(alloc: Global, lines: &[ScriptLine]) -> Result<List<AppId>, W
 /// Adds the names in a line that are new.
 fn add_names(alloc: Global, named: &mut Named, line: &ScriptLine) -> Result<(), WantOfMemory>
     requires { KeepsRules line.now }
-    ensures { OnOk result (named.new ≡ fold also_named named.old (each names_kept (document_in line.now))) }
+    ensures { OnOk result (named.new ≡ fold also_named named.old
+        (each names_kept (document_in line.now))) }
 {
     let ScriptLine::Doc { grants, .. } = line else {
         return Ok(());

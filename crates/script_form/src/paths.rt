@@ -82,7 +82,8 @@ impl PathSet {
     /// Puts a path to those that may be files beside it.
     pub fn add(&mut self, path: HostPath) -> Result<(), WantOfMemory>
         requires { list_any (clash path) self.old ≡ false }
-        ensures ok { OnOk result ((test : List ℕ → Bool) → list_any test self.new ≡ (test path || list_any test self.old)) }
+        ensures ok { OnOk result ((test : List ℕ → Bool)
+            → list_any test self.new ≡ (test path || list_any test self.old)) }
         ensures err { OnErr result (self.new ≡ self.old) }
     {
         self.paths.insert(path)?;

@@ -107,7 +107,8 @@ impl Preceding {
     fn is_live(&self, seat: u32) -> bool
         requires tracks { Tracks self.now }
         requires seat { seat ≤ last_seat }
-        ensures { result ≡ (list_any (opens seat) self.now.lines && not (list_any (closes seat) self.now.lines)) }
+        ensures { result ≡ (list_any (opens seat) self.now.lines
+            && not (list_any (closes seat) self.now.lines)) }
     {
         match self.number_at(seat) {
             Number::Unopened => false,
@@ -144,7 +145,8 @@ impl Preceding {
     fn is_unstored(&self, alloc: Global, entry: &EntryRecord) -> Result<bool, WantOfMemory>
         requires tracks { Tracks self.now }
         requires rules { KeepsRules (Entry entry.now) }
-        ensures { IfOk result (λ unstored. unstored ≡ not (list_any (stores entry.now.table entry.now.id) self.now.lines)) }
+        ensures { IfOk result (λ unstored. unstored
+            ≡ not (list_any (stores entry.now.table entry.now.id) self.now.lines)) }
     {
         let key = key_of(alloc, entry)?;
         let stored = self.keys.has(&key);

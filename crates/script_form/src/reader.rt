@@ -63,7 +63,10 @@ fn read_next<'a>(
     requires tracks { Tracks preceding.old }
     requires good { IsScript preceding.old.lines }
     requires short { length (text_of preceding.old.lines) + length text.now ≤ script_limit }
-    ensures { IfOk result (λ after. MatchOption after ((preceding.new.lines ≡ preceding.old.lines) × NoneStands preceding.old.lines text.entry.now) (λ a. TakesLine preceding.old.lines text.entry.now preceding.new.lines a.now) × Tracks preceding.new) }
+    ensures { IfOk result (λ after. MatchOption after ((preceding.new.lines ≡ preceding.old.lines)
+        × NoneStands preceding.old.lines text.entry.now)
+        (λ a. TakesLine preceding.old.lines text.entry.now preceding.new.lines a.now)
+        × Tracks preceding.new) }
 {
     let Some((line, after)) = cut(text, b'\n') else {
         return Ok(None);

@@ -21,7 +21,8 @@ const LAST_SEAT: u64 = 65_535;
 
 /// What stands ahead of the first separator, and what behind it.
 pub fn cut<'a>(text: &'a [u8], separator: u8) -> Option<(&'a [u8], &'a [u8])>
-    ensures { MatchOption result (IsFree separator text.entry.now) (λ halves. CutsAt separator text.entry.now halves.0.now halves.1.now) }
+    ensures { MatchOption result (IsFree separator text.entry.now)
+        (λ halves. CutsAt separator text.entry.now halves.0.now halves.1.now) }
 {
     let at = text.iter().position(|b| *b == separator)?;
     Some((&text[..at], &text[at + 1..]))
@@ -29,7 +30,8 @@ pub fn cut<'a>(text: &'a [u8], separator: u8) -> Option<(&'a [u8], &'a [u8])>
 
 /// The parts of a text between the separators.
 pub fn parts<'a>(alloc: Global, text: &'a [u8], separator: u8) -> Result<Vec<&'a [u8]>, AllocError>
-    ensures { IfOk result (λ parts. map (λ p. p.now) parts.items ≡ slice_split (λ b. b == separator) text.entry.now) }
+    ensures { IfOk result (λ parts. map (λ p. p.now) parts.items
+        ≡ slice_split (λ b. b == separator) text.entry.now) }
 {
     text.split(|b| *b == separator).collect(alloc)
 }

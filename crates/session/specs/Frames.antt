@@ -11,8 +11,8 @@ use Rattle.portal_model.specs.declared.reply.Refused.{Refused}
 use Rattle.portal_model.specs.declared.reply.Refused.TheVariants.{Memory, Full}
 use Rattle.portal_model.specs.Errno.{enomem, enospc}
 
--- What a frame tells of an answer: nothing to a seat without an open connection, and nothing of an answer that only
--- a bus gets.
+-- What a frame tells of an answer: nothing to a seat without an open connection, and nothing of an
+-- answer that only a bus gets.
 abbrev pub told_code : Code → Option NodeAnswer
 told_code (Errno errno) = Some (Error errno)
 told_code code = None

@@ -10,7 +10,8 @@ use Rattle.portal_model.specs.Seated.{Seated}
 use Rattle.portal_model.specs.Step.{reply_at}
 use Rattle.session.specs.Frames.{told_of}
 
--- of a request on a node a frame tells the answer, and any other is done; a connection asks no other
+-- of a request on a node a frame tells the answer, and any other is done; a connection asks no
+-- other
 abbrev pub Meets : Request → Answer → Type 0
 Meets (Request.Enter who kind) met = met ≡ answer.Done
 Meets Request.Leave met = met ≡ answer.Done

@@ -68,9 +68,8 @@ fn pump<D: Desk, S: Source, K: Sink>(
 /// Serves one connection from Enter to Leave.
 ///
 /// Every item is asked and answered as soon as it is whole: an answer is
-/// written before the next piece is read, as the test
-/// `an_answer_is_written_before_more_is_read` of `session_tests` shows. The
-/// desk's seat has no open connection.
+/// written before the next piece is read, as the line `waits` of
+/// `portal_vectors` shows. The desk's seat has no open connection.
 pub fn serve_connection<D: Desk, S: Source, K: Sink>(
     alloc: Global,
     desk: &mut D,

@@ -46,11 +46,11 @@ pub fn same(alloc: Global, rest: &str) -> Result<String, VectorError> {
     Ok(format!(in alloc; "{same} {copy}")?)
 }
 
-/// `keeps WORD ..`: whether a value keeps the rules, in how many containers of it
-/// a value inside stands at most, and its signature. The words make it from the inside: `byte:N`, `bool:N`, `u32:N`,
-/// `text:T`, `path:T` and `signature:T` make a value; `variant` puts the last one
-/// made into a variant, `entry` the last two into a dict entry, `struct:N` the
-/// last N into a struct, and `array:TYPE:N` the last N into an array of this type.
+/// `keeps WORD ..`: whether a value keeps the rules, in how many containers of it a value inside
+/// stands at most, and its signature. The words make it from the inside: `byte:N`, `bool:N`,
+/// `u32:N`, `text:T`, `path:T` and `signature:T` make a value; `variant` puts the last one made
+/// into a variant, `entry` the last two into a dict entry, `struct:N` the last N into a struct, and
+/// `array:TYPE:N` the last N into an array of this type.
 pub fn keeps(alloc: Global, rest: &str) -> Result<String, VectorError> {
     let value = built(alloc, rest)?;
     let keeps = keeps_rules(&value);

@@ -58,7 +58,8 @@ impl HostPath {
     /// The path with a name behind it; `BadName` tells the place in the joined
     /// bytes, as [`HostPath::read`] of these does.
     pub fn child(&self, alloc: Global, name: &[u8]) -> Result<HostPath, NameError>
-        ensures ok { IfOk result (λ path. (path ≡ child_of self.now name.now) × (is_host_path (child_of self.now name.now) ≡ true)) }
+        ensures ok { IfOk result (λ path. (path ≡ child_of self.now name.now)
+            × (is_host_path (child_of self.now name.now) ≡ true)) }
         ensures bad { IfErr result (RefusesPath (child_of self.now name.now)) }
     {
         let text = joined(alloc, self.as_bytes(), name)?;
@@ -141,7 +142,8 @@ impl PartialOrd for HostPath {
 
     ghost partial_cmp = { λ a b. Some (path_order a b) };
 
-    ghost laws = { partial_order_from_agreeing_total path_order path_order_total (λ a b. refl) path_order_ties };
+    ghost laws = { partial_order_from_agreeing_total path_order path_order_total
+        (λ a b. refl) path_order_ties };
 
     fn partial_cmp(&self, other: &HostPath) -> Option<Ordering> {
         Some(self.cmp(other))

@@ -20,7 +20,10 @@ impl Model for CallCount {
 
     ghost Value = { Counted };
 
-    ghost view = { λ c. record { calls = record { made = c.made; failing = c.failing }; faults = c.faults } };
+    ghost view = { λ c. record {
+      calls = record { made = c.made; failing = c.failing };
+      faults = c.faults;
+    } };
 }
 
 impl CallCount {

@@ -24,7 +24,12 @@ impl Model for MemorySource {
 
     ghost Value = { SourceState };
 
-    ghost view = { λ s. record { left = drop s.at s.bytes; calls = s.calls; fail_at = s.fail_at; faults = s.faults } };
+    ghost view = { λ s. record {
+      left = drop s.at s.bytes;
+      calls = s.calls;
+      fail_at = s.fail_at;
+      faults = s.faults;
+    } };
 
     ghost invariant = { λ s. s.at ≤ length s.bytes };
 }
@@ -103,7 +108,12 @@ impl Model for MemorySink {
 
     ghost Value = { SinkState };
 
-    ghost view = { λ s. record { pieces = s.pieces; calls = s.calls; fail_at = s.fail_at; faults = s.faults } };
+    ghost view = { λ s. record {
+      pieces = s.pieces;
+      calls = s.calls;
+      fail_at = s.fail_at;
+      faults = s.faults;
+    } };
 }
 
 impl MemorySink {
