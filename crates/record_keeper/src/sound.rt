@@ -11,6 +11,7 @@ ghost use Rattle.record_keeper.specs.SoundRecords.{IsRising, IsSoundEntry, HasDa
 
 use crate::datum::read_datum;
 use dbus_marshal::write::{one_spelling, write_value};
+use dbus_types::shared::Shared;
 use dbus_types::types::{Value, WireType};
 use portal_base::boxed::Boxed;
 use portal_base::list::List;
@@ -157,13 +158,13 @@ fn rows_value(alloc: Global, rows: &[Row]) -> Result<Value, WantOfMemory>
     for row in rows {
         items.push(row_value(alloc, row)?)?;
     }
-    let names = WireType::Array(Boxed::new(alloc, WireType::Str)?);
+    let names = WireType::Array(Shared::new(alloc, WireType::Str)?);
     let entry = WireType::DictEntry {
         key: Boxed::new(alloc, WireType::Str)?,
         value: Boxed::new(alloc, names)?,
     };
     Ok(Value::Array {
-        element: entry,
+        element: Shared::new(alloc, entry)?,
         items,
     })
 }
@@ -188,7 +189,7 @@ fn texts_value(alloc: Global, texts: &[Text]) -> Result<Value, WantOfMemory>
         items.push(Value::Str(text.replica(alloc)?))?;
     }
     Ok(Value::Array {
-        element: WireType::Str,
+        element: Shared::new(alloc, WireType::Str)?,
         items,
     })
 }
