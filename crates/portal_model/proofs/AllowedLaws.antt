@@ -10,7 +10,6 @@ use Rattle.portal_model.specs.declared.entry.Fault.{Fault}
 use Rattle.portal_model.specs.declared.entry.Given.{Given}
 use Rattle.portal_model.specs.declared.reply.Answer.{Answer}
 use Rattle.portal_model.specs.declared.reply.Code.{Code}
-use Rattle.portal_model.specs.declared.reply.Code.TheVariants as Code
 use Rattle.portal_model.specs.declared.request.AddRequest.{AddRequest}
 use Rattle.portal_model.specs.declared.request.Request.{Request}
 use Rattle.portal_model.specs.declared.request.RightsCall.{RightsCall}
@@ -18,20 +17,20 @@ use Rattle.portal_model.specs.declared.rights.Right.TheVariants.{Delete, GrantPe
 use Rattle.portal_model.specs.declared.state.Connection.{Connection}
 use Rattle.portal_model.specs.declared.state.Document.{Document}
 use Rattle.portal_model.specs.declared.state.Triple.{Triple}
-use Rattle.portal_model.specs.Add.{add, add_allowed, add_looking, add_presented, add_shown, added, added_files, are_of_kind, may_list_all, taken_from_queue}
+use Rattle.portal_model.specs.Add.{add, add_allowed, add_looking, add_presented, added, added_files, are_of_kind, may_list_all}
 use Rattle.portal_model.specs.AddArguments.{are_add_arguments, are_presented, document_paths, paths_shown}
 use Rattle.portal_model.specs.Allowed.{has_place, is_allowed, is_host, is_live, is_refusal, may_add, may_delete_in, may_grant_in, may_revoke_in}
 use Rattle.portal_model.specs.Arguments.{ahead_of_end, document_named, if_reached, is_ended_path, reached}
-use Rattle.portal_model.specs.Bus.{bus_answer, bus_walk, is_tree, kept, moment_given, refused_state, settled, verdict_given}
+use Rattle.portal_model.specs.Bus.{bus_walk, is_tree, kept, moment_given, refused_state, settled, verdict_given}
 use Rattle.portal_model.specs.Content.{look_at}
 use Rattle.portal_model.specs.DeleteDocument.{delete_reached, deleted}
-use Rattle.portal_model.specs.DocumentLaws.{AllowedIsDone, RefusalsKeep}
+use Rattle.portal_model.specs.DocumentLaws.{AllowedIsDone, RefusalsKeep, ToldForAdd}
 use Rattle.portal_model.specs.Grant.{are_rights_arguments, grant_reached, granted, may_grant}
 use Rattle.portal_model.specs.Documents.{first_of}
 use Rattle.portal_model.specs.Info.{info, info_of}
 use Rattle.portal_model.specs.ListDocuments.{documents_listed, list_documents}
 use Rattle.portal_model.specs.LookupDocument.{lookup_document, text_of}
-use Rattle.portal_model.specs.Outside.{LawfulBus, files_told}
+use Rattle.portal_model.specs.Outside.{files_told}
 use Rattle.portal_model.specs.Present.{may_present, present, present_path, queue_path, with_queue}
 use Rattle.portal_model.specs.Revoke.{may_revoke, names_itself, revoke_reached, revoked}
 use Rattle.portal_model.specs.Rights.{held_by}
@@ -200,24 +199,26 @@ list_done : (s : State) (who : Who) (app : List ℕ) → (is_host who && (is_sam
 list_done s (Who.App caller) app h = cc
 list_done s Who.Host app h = passes (is_same app [] || is_app_name app) Code.InvalidArgument (does s (Answer.Listed (documents_listed s app))) h refl
 
-walk_done : (s : State) (c : Connection) (request : Request) (numbers : List DocId) (looks : List Look) (now : ℕ) → is_allowed s c request ≡ true → has_place s c request ≡ true →
-    Gives (Some s.files) (bus_walk s c request numbers) looks false → DoneGiven (walked (bus_walk s c request numbers) now looks false)
-walk_done s c (Request.Present path) numbers looks now h k g = present_done s c path h k
-walk_done s c (Request.Add a) numbers looks now h k g = add_done s c a numbers looks now h g
-walk_done s c (Request.Grant call) numbers looks now h k g =
+walk_done : (s : State) (c : Connection) (request : Request) (numbers : List DocId) (looks : List Look) (now : ℕ) → ToldForAdd s request → is_allowed s c request ≡ true → has_place s c request ≡ true →
+    Gives (files_told s) (bus_walk s c request numbers) looks false → DoneGiven (walked (bus_walk s c request numbers) now looks false)
+walk_done s c (Request.Present path) numbers looks now t h k g = present_done s c path h k
+walk_done s c (Request.Add a) numbers looks now t h k g =
+    let told : files_told s ≡ Some s.files = ap (λ (b : Bool). cond b (Some s.files) None) t in
+    add_done s c a numbers looks now h (subst (λ (files : Option (List File)). Gives files (add s c a numbers) looks false) told g)
+walk_done s c (Request.Grant call) numbers looks now t h k g =
     let o = document_named s.documents call.doc in
     let both = both_true (are_rights_arguments call) (may_grant_in s c.who call o) h in
     passes (are_rights_arguments call) Code.InvalidArgument (grant_reached s c.who call (reached s c.who call.doc)) both.0 (grant_done s c.who call o both.1)
-walk_done s c (Request.Revoke call) numbers looks now h k g =
+walk_done s c (Request.Revoke call) numbers looks now t h k g =
     let o = document_named s.documents call.doc in
     let both = both_true (are_rights_arguments call) (may_revoke_in s c.who call o) h in
     passes (are_rights_arguments call) Code.InvalidArgument (revoke_reached s c.who call (reached s c.who call.doc)) both.0 (revoke_done s c.who call o both.1)
-walk_done s c (Request.DeleteDocument doc) numbers looks now h k g = delete_done s c.who (document_named s.documents doc) h
-walk_done s c (Request.LookupDocument path) numbers looks now h k g = lookup_done s c.who path h
-walk_done s c (Request.Info doc) numbers looks now h k g = info_host s c.who doc h
-walk_done s c (Request.ListDocuments app) numbers looks now h k g = list_done s c.who app h
-walk_done s c Request.Collect numbers looks now h k g = refl
-walk_done s c request numbers looks now h k g = cc
+walk_done s c (Request.DeleteDocument doc) numbers looks now t h k g = delete_done s c.who (document_named s.documents doc) h
+walk_done s c (Request.LookupDocument path) numbers looks now t h k g = lookup_done s c.who path h
+walk_done s c (Request.Info doc) numbers looks now t h k g = info_host s c.who doc h
+walk_done s c (Request.ListDocuments app) numbers looks now t h k g = list_done s c.who app h
+walk_done s c Request.Collect numbers looks now t h k g = refl
+walk_done s c request numbers looks now t h k g = cc
 
 settled_done : (s refused : State) (given : Given) (v : Option Verdict) → given.fault ≡ Fault.None → given.full ≡ false → DoneGiven v → is_refusal (settled s refused given v).1 ≡ false
 settled_done s refused given None e f h = absurd h
@@ -230,7 +231,6 @@ pub allowed-done : AllowedIsDone
 allowed-done s c request given t h k l e f =
     let w = bus_walk s c request given.numbers in
     let calm : is_tree given.fault ≡ false = ap is_tree e in
-    let told : files_told s ≡ Some s.files = ap (λ (b : Bool). cond b (Some s.files) None) t in
-    let gives : Gives (Some s.files) w given.looks false = subst (λ (failed : Bool). Gives (Some s.files) w given.looks failed) calm (subst (λ (files : Option (List File)). Gives files w given.looks (is_tree given.fault)) told l.looks) in
+    let gives : Gives (files_told s) w given.looks false = subst (λ (failed : Bool). Gives (files_told s) w given.looks failed) calm l.looks in
     settled_done s (refused_state s c request) given (verdict_given w given) e f
-    (subst (λ (failed : Bool). DoneGiven (walked w (moment_given given.now) given.looks failed)) (sym calm) (walk_done s c request given.numbers given.looks (moment_given given.now) h k gives))
+    (subst (λ (failed : Bool). DoneGiven (walked w (moment_given given.now) given.looks failed)) (sym calm) (walk_done s c request given.numbers given.looks (moment_given given.now) t h k gives))

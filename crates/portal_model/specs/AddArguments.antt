@@ -1,6 +1,10 @@
 -- What an Add, AddFull, AddNamed or AddNamedFull asks: the files among the presented ones, the
 -- flags, the application that is named and the permissions that are listed for it. Source: XDG
--- Desktop Portal documentation, org.freedesktop.portal.Documents, AddFull and AddNamedFull.
+-- Desktop Portal documentation, org.freedesktop.portal.Documents, AddFull and AddNamedFull, for the
+-- arguments and for what the flags 1, 2 and 4 mean. Rules of this project's own: that the files are
+-- presented, and that an application has an own folder; that a call has at most 16 files; that a
+-- file name has at most 255 bytes and ends with a zero byte; and that flag 8, to export a folder,
+-- is refused as every unknown flag is.
 use Rattle.std.specs.Prelude.{ℕ, ◌/◌, ◌%◌, ◌==◌, List, [], ◌∷◌, get_or, length, map, nat_le, nat_lt, take, Bool, not, ◌&&◌, ◌||◌, cond}
 use Rattle.std.specs.List.{flat_map, list_all, list_any}
 use Rattle.portal_base.specs.Names.{child_of, is_app_name, is_host_path, is_in_own_folder, is_same, is_slash}
@@ -20,6 +24,7 @@ persists a = a.flags / 2 % 2 == 1
 abbrev pub is_as_needed : AddRequest → Bool
 is_as_needed a = a.flags / 4 % 2 == 1
 
+-- this project's own rule: 8, to export a folder, is refused too
 abbrev pub are_flags : ℕ → Bool
 are_flags flags = nat_lt flags 8
 
@@ -59,6 +64,7 @@ is_left_out a path = is_as_needed a && (not (names_nobody a) && is_in_own_folder
 
 -- ---- the arguments
 
+-- limits of this project's own
 abbrev pub files_limit : ℕ
 files_limit = 16
 

@@ -56,7 +56,8 @@ abbrev pub is_live : Option Document → Bool
 is_live None = false
 is_live (Some d) = true
 
--- a request of a bus, of this connection
+-- A request of this connection, which is a bus. It speaks of the requests of a bus alone: an
+-- Enter, a Leave and a request on a node have rules of their own, and are none here.
 abbrev pub is_allowed : State → Connection → Request → Bool
 is_allowed s c (Request.Present path) = is_ended_path path && may_present c.who (ahead_of_end path)
 is_allowed s c (Request.Add a) = may_add s c a
@@ -69,7 +70,9 @@ is_allowed s c (Request.LookupDocument path) = is_host c.who && is_ended_path pa
 is_allowed s c (Request.Info doc) = is_host c.who && is_live (document_named s.documents doc)
 is_allowed s c (Request.ListDocuments app) = is_host c.who && (is_same app [] || is_app_name app)
 is_allowed s c Request.Collect = true
-is_allowed s c request = false
+is_allowed s c (Request.Enter who kind) = false
+is_allowed s c Request.Leave = false
+is_allowed s c (Request.Node r) = false
 
 -- a queue has a place for one more file, where one is presented
 abbrev pub has_place : State → Connection → Request → Bool

@@ -19,7 +19,8 @@ use Rattle.portal_model.specs.State.{State}
 use Rattle.portal_model.specs.Verdict.{Doing, Verdict, Refuses, Does, answers}
 use Rattle.portal_model.specs.Walk.{Walk, Answers, walked}
 
--- numbers are those that new documents get
+-- Numbers are those that new documents get. Nothing comes of the requests that are none on
+-- documents: their step doesn't ask this walk.
 abbrev pub bus_walk : State → Connection → Request → List DocId → Walk Verdict
 bus_walk s c (Request.Present path) numbers = Answers (present s c path)
 bus_walk s c (Request.Add a) numbers = add s c a numbers
@@ -29,7 +30,10 @@ bus_walk s c (Request.DeleteDocument doc) numbers = Answers (delete_document s c
 bus_walk s c (Request.LookupDocument path) numbers = Answers (lookup_document s c.who path)
 bus_walk s c (Request.Info doc) numbers = Answers (info s c.who doc)
 bus_walk s c (Request.ListDocuments app) numbers = Answers (list_documents s c.who app)
-bus_walk s c request numbers = answers s Answer.Done
+bus_walk s c (Request.Enter who kind) numbers = answers s Answer.Done
+bus_walk s c Request.Leave numbers = answers s Answer.Done
+bus_walk s c Request.Collect numbers = answers s Answer.Done
+bus_walk s c (Request.Node r) numbers = answers s Answer.Done
 
 -- the state after a refusal: the presented files that an Add takes have left the queue
 abbrev pub refused_state : State → Connection → Request → State

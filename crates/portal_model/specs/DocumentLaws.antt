@@ -24,10 +24,15 @@ RefusalsKeep = (s : State) (c : Connection) (request : Request) (given : Given) 
     answer_of_bus s c request given ≡ Answer.Refused code →
     after_bus s c request given ≡ record s { connections = (after_bus s c request given).connections }
 
--- What is allowed is done, over a tree that tells, where no device fails, no limit of
--- documents or applications is met, and the queue has a place.
+-- The condition of an Add alone speaks of what the tree has, so it needs a tree that tells.
+abbrev pub ToldForAdd : State → Request → Type 0
+ToldForAdd s (Request.Add a) = s.told ≡ true
+ToldForAdd s request = Unit {0}
+
+-- What is allowed is done, an Add over a tree that tells and all else over any tree, where no
+-- device fails, no limit of documents or applications is met, and the queue has a place.
 abbrev pub AllowedIsDone : Type 0
 AllowedIsDone = (s : State) (c : Connection) (request : Request) (given : Given) →
-    s.told ≡ true → is_allowed s c request ≡ true → has_place s c request ≡ true →
+    ToldForAdd s request → is_allowed s c request ≡ true → has_place s c request ≡ true →
     LawfulBus s c request given → given.fault ≡ Fault.None → given.full ≡ false →
     is_refusal (answer_of_bus s c request given) ≡ false

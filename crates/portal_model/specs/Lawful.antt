@@ -1,4 +1,6 @@
--- What the outside may have given to an entry.
+-- What the outside may have given to an entry. Four kinds of requests are entries today: an Enter,
+-- a Leave, a Collect and a GETATTR. What it may give to a request on documents is `LawfulBus` in
+-- Outside.antt, which joins `Lawful` as these become entries.
 use Rattle.std.specs.Prelude.{◌≡◌, ℕ, ◌<◌, List, [], length, take, Bool, true, false, None}
 use Rattle.portal_base.specs.declared.files.Look.{Look}
 use Rattle.portal_model.specs.declared.entry.Entry.{Entry}
@@ -13,7 +15,7 @@ abbrev pub is_defined_op : NodeOp → Bool
 is_defined_op (NodeOp.GetAttr flags fh) = true
 is_defined_op op = false
 
--- the requests whose answers are defined
+-- the requests that may be entries; those on documents are defined too, and join them later
 abbrev pub is_defined : Request → Bool
 is_defined (Request.Enter who kind) = true
 is_defined Request.Leave = true
@@ -22,7 +24,7 @@ is_defined (Request.Node r) = is_defined_op r.op
 is_defined request = false
 
 -- over a tree that tells: the looks are those that the request takes; where a call of the tree
--- failed, those ahead of it; and the keeper fails only where records change, which no request does yet
+-- failed, those ahead of it. The keeper fails only where records change: no entry changes any
 abbrev pub LooksAre : List Look → Fault → List Look → Type 0
 LooksAre taken Fault.None looks = looks ≡ taken
 LooksAre taken Fault.Tree looks = (looks ≡ take (length looks) taken) × (length looks < length taken)
@@ -38,8 +40,8 @@ abbrev pub LawfulLooks : Bool → List Look → Fault → List Look → Type 0
 LawfulLooks true taken fault looks = LooksAre taken fault looks
 LawfulLooks false taken fault looks = LooksCount (length taken) fault (length looks)
 
--- no request reads the clock, draws a word, makes a document or meets a limit of documents yet; and one
--- without a definition is no entry
+-- none of the four kinds reads the clock, draws a word, makes a document or meets a limit of
+-- documents; and no other request is an entry
 pub record Lawful (s : State) (e : Entry) : Type 0 where
   pub defined : is_defined e.request ≡ true
   pub clock : e.given.now ≡ None

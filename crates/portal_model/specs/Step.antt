@@ -102,7 +102,12 @@ after s e = (step s e).0
 abbrev pub reply_at : State → Entry → Reply
 reply_at s e = (step s e).1
 
--- ---- the looks that a request takes at the tree, where none fails
+-- ---- looks at the tree
+
+-- The looks that a lawful entry takes where none fails: a GETATTR's, and none of an Enter, a Leave
+-- and a Collect. What a tree gives to a request on documents, an Add's looks too, is told by its
+-- walk, in `LawfulBus`. Neither such a request nor another request on a node is a lawful entry
+-- yet, and the empty lists here say nothing of them.
 
 abbrev pub node_op_looks : State → Who → NodeRequest → NodeOp → List Look
 node_op_looks s who r (NodeOp.GetAttr flags fh) = get_attr_looks s who r flags

@@ -6,12 +6,16 @@
 
 ghost use Rattle.portal_model.specs.DocumentExamples.{
   AddsAndReuses,
+  AddsNamed,
   AddsOfOneFile,
   AddsWhatAnotherHolds,
+  CostsOfDocuments,
   Grants,
   Informs,
+  ListsWhatItHolds,
   NumbersWrap,
   QueueIsFull,
+  RefusesAdditions,
   RevokesItsOwn,
 };
 
@@ -21,7 +25,7 @@ pub fn documents_are_added_and_used_again()
     ensures { AddsAndReuses }
 {}
 
-/// Behind the greatest number comes 0.
+/// Behind the greatest number comes 0, in an identifier that is answered too.
 pub fn numbers_wrap()
     ensures { NumbersWrap }
 {}
@@ -57,4 +61,26 @@ pub fn an_application_revokes_its_own_rights()
 /// is used, and each keeps its rights.
 pub fn an_application_adds_what_another_holds()
     ensures { AddsWhatAnotherHolds }
+{}
+
+/// The files that a refused addition takes leave the queue, at a limit of
+/// documents too; where the tree fails they stay.
+pub fn additions_are_refused()
+    ensures { RefusesAdditions }
+{}
+
+/// An application lists for another what it holds in each file of a call, or
+/// nothing is added.
+pub fn an_application_lists_what_it_holds()
+    ensures { ListsWhatItHolds }
+{}
+
+/// A file that isn't there yet is named in its folder.
+pub fn files_are_named_in_folders()
+    ensures { AddsNamed }
+{}
+
+/// What requests on documents cost.
+pub fn requests_on_documents_cost_their_bytes()
+    ensures { CostsOfDocuments }
 {}

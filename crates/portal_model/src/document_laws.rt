@@ -11,7 +11,8 @@ pub fn refusals_keep_documents()
     ensures { RefusalsKeep }
 {}
 
-/// What is allowed is done, where no device fails and no limit is met.
+/// What is allowed is done, where no device fails and no limit is met: an Add
+/// over a tree that tells its files, all else over any tree.
 pub fn what_is_allowed_is_done()
     ensures { AllowedIsDone }
 {}

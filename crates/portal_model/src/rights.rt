@@ -7,7 +7,7 @@ pub enum Right {
     Read,
     /// To write its file.
     Write,
-    /// To give rights that it has to others, and to take them.
+    /// To give rights that it has to others, and to take any.
     GrantPermissions,
     /// To remove the document.
     Delete,
