@@ -51,7 +51,8 @@ impl Model for Portal {
     ghost view = { λ p. record { opening = p.opening; history = p.history.entries } };
 
     // Room is kept for a Leave of each open connection.
-    ghost invariant = { λ p. Stands p.opening p.history.entries p.history.limit p.documents p.rights p.connections
+    ghost invariant = { λ p. Stands p.opening p.history.entries p.history.limit p.documents p.rights
+        p.connections
         × (length p.connections ≤ p.history.spare) };
 }
 

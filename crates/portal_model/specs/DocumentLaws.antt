@@ -22,7 +22,8 @@ answer_of_bus s c request given = (bus_answer s c request given).1
 abbrev pub RefusalsKeep : Type 0
 RefusalsKeep = (s : State) (c : Connection) (request : Request) (given : Given) (code : Code) →
     answer_of_bus s c request given ≡ Answer.Refused code →
-    after_bus s c request given ≡ record s { connections = (after_bus s c request given).connections }
+    after_bus s c request given
+    ≡ record s { connections = (after_bus s c request given).connections }
 
 -- The condition of an Add alone speaks of what the tree has, so it needs a tree that tells.
 abbrev pub ToldForAdd : State → Request → Type 0

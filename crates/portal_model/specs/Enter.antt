@@ -9,7 +9,8 @@ use Rattle.portal_model.specs.State.{State, connection_of}
 
 -- a connection with nothing presented, opened or unsent
 abbrev pub new_connection : ℕ → Who → Kind → Connection
-new_connection seat who kind = record { seat = seat; who = who; kind = kind; queue = []; opens = 0; unsent = [] }
+new_connection seat who kind =
+    record { seat = seat; who = who; kind = kind; queue = []; opens = 0; unsent = [] }
 
 -- the connections after an Enter of a seat with that open connection
 abbrev pub entered : ℕ → Who → Kind → List Connection → Option Connection → List Connection

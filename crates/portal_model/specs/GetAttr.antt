@@ -31,7 +31,8 @@ attr_of_file r may_write size moment = record {
 }
 
 abbrev pub by_look : NodeRequest → Bool → Look → Answer
-by_look r may_write (Look.File generation size moment) = Answer.Node (NodeAnswer.Attr (attr_of_file r may_write size moment))
+by_look r may_write (Look.File generation size moment) =
+    Answer.Node (NodeAnswer.Attr (attr_of_file r may_write size moment))
 by_look r may_write Look.Folder = Answer.Refused (Code.Errno enoent)
 by_look r may_write Look.Missing = Answer.Refused (Code.Errno enoent)
 
@@ -46,7 +47,8 @@ by_place r (Some (SightOfFile path may_write)) looks = by_looks r may_write look
 
 -- no connection has an open handle yet
 abbrev pub by_handle_or_place : NodeRequest → ℕ → Option Sight → List Look → Answer
-by_handle_or_place r flags sight looks = cond (names_handle flags) (Answer.Refused (Code.Errno ebadf)) (by_place r sight looks)
+by_handle_or_place r flags sight looks =
+    cond (names_handle flags) (Answer.Refused (Code.Errno ebadf)) (by_place r sight looks)
 
 -- a file's place takes one look at the document's path
 abbrev pub looks_at_place : (List ℕ → Look) → Option Sight → List Look
@@ -58,4 +60,5 @@ get_attr_answer s who r flags looks = by_handle_or_place r flags (place_of s who
 
 -- the looks that the request takes, where none fails
 abbrev pub get_attr_looks : State → Who → NodeRequest → ℕ → List Look
-get_attr_looks s who r flags = cond (names_handle flags) [] (looks_at_place (look_at s.files) (place_of s who r.node))
+get_attr_looks s who r flags =
+    cond (names_handle flags) [] (looks_at_place (look_at s.files) (place_of s who r.node))

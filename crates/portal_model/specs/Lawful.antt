@@ -27,7 +27,8 @@ is_defined request = false
 -- failed, those ahead of it. The keeper fails only where records change: no entry changes any
 abbrev pub LooksAre : List Look → Fault → List Look → Type 0
 LooksAre taken Fault.None looks = looks ≡ taken
-LooksAre taken Fault.Tree looks = (looks ≡ take (length looks) taken) × (length looks < length taken)
+LooksAre taken Fault.Tree looks = (looks ≡ take (length looks) taken)
+    × (length looks < length taken)
 LooksAre taken Fault.Keeper looks = ⊥
 
 -- over a tree that does not tell: as many looks, whatever they show

@@ -16,7 +16,8 @@ RunsJoin = (s : State) (h more : List Entry) → run s (h ++ more) ≡ run (run 
 
 -- a legal history that goes on legally is legal, and each part of a legal history is
 pub record LegalJoins : Type 0 where
-  pub join : (s : State) (h more : List Entry) → Legal s h → Legal (run s h) more → Legal s (h ++ more)
+  pub join : (s : State) (h more : List Entry) → Legal s h → Legal (run s h) more
+      → Legal s (h ++ more)
   pub front : (s : State) (h more : List Entry) → Legal s (h ++ more) → Legal s h
   pub rest : (s : State) (h more : List Entry) → Legal s (h ++ more) → Legal (run s h) more
 
@@ -25,7 +26,8 @@ abbrev pub CostsJoin : Type 0
 CostsJoin = (h more : List Entry) → cost (h ++ more) ≡ cost h + cost more
 
 abbrev pub SeatsJoin : Type 0
-SeatsJoin = (seat : ℕ) (h more : List Entry) → of_seat seat (h ++ more) ≡ of_seat seat h ++ of_seat seat more
+SeatsJoin = (seat : ℕ) (h more : List Entry)
+    → of_seat seat (h ++ more) ≡ of_seat seat h ++ of_seat seat more
 
 -- what a list begins with: an order of lists, by their lengths where one list begins with both
 pub record Beginnings : Type 0 where
@@ -35,21 +37,28 @@ pub record Beginnings : Type 0 where
   pub taken : (h i : List Entry) → BeginsWith h i → take (length i) h ≡ i
   pub lengths : (h i : List Entry) → BeginsWith h i → length i ≤ length h
   pub whole : (h i : List Entry) → BeginsWith h i → length h ≤ length i → h ≡ i
-  pub between : (h i j : List Entry) → BeginsWith h i → BeginsWith h j → length j ≤ length i → BeginsWith i j
+  pub between : (h i j : List Entry) → BeginsWith h i → BeginsWith h j → length j ≤ length i
+      → BeginsWith i j
 
 -- the exchanges of a seat in lists that are joined, and their entries
 pub record ExchangesJoin : Type 0 where
-  pub join : (seat : ℕ) (s : State) (h more : List Entry) → exchanges seat s (h ++ more) ≡ exchanges seat s h ++ exchanges seat (run s h) more
-  pub own : (seat : ℕ) (s : State) (h : List Entry) (e : Entry) → e.seat ≡ seat → exchanges seat s (h ++ e ∷ []) ≡ exchanges seat s h ++ exchange (run s h) e ∷ []
-  pub other : (seat : ℕ) (s : State) (h : List Entry) (e : Entry) → (e.seat ≡ seat → ⊥) → exchanges seat s (h ++ e ∷ []) ≡ exchanges seat s h
-  pub entries : (seat : ℕ) (s : State) (h : List Entry) → map (λ x. x.entry) (exchanges seat s h) ≡ of_seat seat h
+  pub join : (seat : ℕ) (s : State) (h more : List Entry)
+      → exchanges seat s (h ++ more) ≡ exchanges seat s h ++ exchanges seat (run s h) more
+  pub own : (seat : ℕ) (s : State) (h : List Entry) (e : Entry) → e.seat ≡ seat
+      → exchanges seat s (h ++ e ∷ []) ≡ exchanges seat s h ++ exchange (run s h) e ∷ []
+  pub other : (seat : ℕ) (s : State) (h : List Entry) (e : Entry) → (e.seat ≡ seat → ⊥)
+      → exchanges seat s (h ++ e ∷ []) ≡ exchanges seat s h
+  pub entries : (seat : ℕ) (s : State) (h : List Entry)
+      → map (λ x. x.entry) (exchanges seat s h) ≡ of_seat seat h
   pub lengths : (seat : ℕ) (s : State) (h : List Entry) → length (exchanges seat s h) ≤ length h
 
--- whether a seat has an open connection, whom it is bound to and what it speaks, is told by the entries of
--- that seat alone
+-- whether a seat has an open connection, whom it is bound to and what it speaks, is told by the
+-- entries of that seat alone
 pub record SeatsTell : Type 0 where
-  pub binding : (seat : ℕ) (s : State) (h : List Entry) → bound (run s h) seat ≡ bound_by (bound s seat) (of_seat seat h)
-  pub open_one : (seat : ℕ) (s : State) (h : List Entry) → is_open (run s h) seat ≡ is_some (bound_by (bound s seat) (of_seat seat h))
+  pub binding : (seat : ℕ) (s : State) (h : List Entry)
+      → bound (run s h) seat ≡ bound_by (bound s seat) (of_seat seat h)
+  pub open_one : (seat : ℕ) (s : State) (h : List Entry)
+      → is_open (run s h) seat ≡ is_some (bound_by (bound s seat) (of_seat seat h))
 
 -- a valid state stays valid under lawful entries
 pub record StaysValid : Type 0 where

@@ -10,7 +10,8 @@ use Rattle.portal_model.specs.State.{State, connection_of}
 abbrev pub of_others : ℕ → List Connection → List Connection
 of_others seat connections = filter (λ c. not (c.seat == seat)) connections
 
--- the connections after a Leave of a seat with that open connection, which goes with all that it has
+-- the connections after a Leave of a seat with that open connection, which goes with all that it
+-- has
 abbrev pub left : ℕ → List Connection → Option Connection → List Connection
 left seat connections None = connections
 left seat connections (Some c) = of_others seat connections

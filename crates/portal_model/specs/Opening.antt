@@ -22,7 +22,12 @@ abbrev pub id_of : ℕ → DocId
 id_of number = record { number = number }
 
 abbrev pub document_kept : OpeningDocument → Document
-document_kept d = record { id = id_of d.kept.number; path = d.kept.path; persistent = d.persistent; reusable = d.kept.reusable }
+document_kept d = record {
+  id = id_of d.kept.number;
+  path = d.kept.path;
+  persistent = d.persistent;
+  reusable = d.kept.reusable;
+}
 
 -- whether a record of rights has this one
 abbrev pub has_bit : ℕ → Right → Bool
@@ -39,7 +44,8 @@ set_of_bits rights = record {
 
 -- the rights with those that a record gives an application in a document
 abbrev pub with_grant : ℕ → List Triple → GrantRecord → List Triple
-with_grant number rights grant = add_rights grant.app (id_of number) (set_of_bits grant.rights) rights
+with_grant number rights grant =
+    add_rights grant.app (id_of number) (set_of_bits grant.rights) rights
 
 abbrev pub with_grants : List Triple → OpeningDocument → List Triple
 with_grants rights d = fold (with_grant d.kept.number) rights d.kept.grants
@@ -89,7 +95,8 @@ first_named (name ∷ names) = name ∷ filter (λ other. not (is_same name othe
 abbrev pub names_kept : OpeningDocument → List (List ℕ)
 names_kept d = map (λ g. g.app) d.kept.grants
 
--- no document was made but those that are live, and the applications are numbered as the records first name them
+-- no document was made but those that are live, and the applications are numbered as the records
+-- first name them
 pub record ValidOpening (files : Option (List File)) (o : OpeningState) : Type 0 where
   pub valid : Valid (opened_over files o)
   pub made : o.made ≡ map (λ d. id_of d.kept.number) o.documents

@@ -22,7 +22,8 @@ pub data Place : Type 0 where
   DocumentFile : ℕ → Place
 
 abbrev pub place_named : ℕ → Option Place
-place_named node = cond (view_of_node node == 0 && kind_of_node node == 2) (Some (DocumentFile (id_of_node node))) None
+place_named node = cond (view_of_node node == 0 && kind_of_node node == 2)
+    (Some (DocumentFile (id_of_node node))) None
 
 -- what a caller sees at a place
 pub data Sight : Type 0 where
@@ -37,7 +38,9 @@ sight_at file (Some (DocumentFile number)) = file number
 -- a document is seen exactly where the subject has the right to read it
 abbrev pub sight_of_document : List Triple → Who → Option Document → Option Sight
 sight_of_document rights who None = None
-sight_of_document rights who (Some d) = cond (who_has rights who d.id.number Read) (Some (SightOfFile d.path (who_has rights who d.id.number Write))) None
+sight_of_document rights who (Some d) =
+    cond (who_has rights who d.id.number Read)
+    (Some (SightOfFile d.path (who_has rights who d.id.number Write))) None
 
 abbrev pub sight_of_file : State → Who → ℕ → Option Sight
 sight_of_file s who number = sight_of_document s.rights who (document_of s.documents number)

@@ -1,5 +1,5 @@
--- What a change does to the records that outlive a run.
--- The terms are those of the documentation of org.freedesktop.impl.portal.PermissionStore, where an entry is of a table and an identifier.
+-- What a change does to the records that outlive a run. The terms are those of the documentation of
+-- org.freedesktop.impl.portal.PermissionStore, where an entry is of a table and an identifier.
 use Rattle.std.specs.Prelude.{ℕ, ◌==◌, List, [], ◌∷◌, ◌++◌, Bool, not, ◌&&◌, cond}
 use Rattle.std.specs.List.{filter, list_any}
 use Rattle.portal_base.specs.Names.{is_same}
@@ -36,8 +36,13 @@ set_entry entry entries =
 -- one change
 abbrev pub changed : RecordChange → Records → Records
 changed (AddDocument document) r = record r { documents = r.documents ++ document ∷ [] }
-changed (RemoveDocument number) r = record r { documents = filter (is_other_number number) r.documents }
-changed (SetGrants number grants) r = record r { documents = change_first (is_numbered number) (λ d. record d { grants = grants }) r.documents }
+changed (RemoveDocument number) r =
+    record r { documents = filter (is_other_number number) r.documents }
+changed (SetGrants number grants) r =
+    record r {
+      documents = change_first (is_numbered number)
+          (λ d. record d { grants = grants }) r.documents;
+    }
 changed (SetEntry entry) r = record r { entries = set_entry entry r.entries }
 changed (RemoveEntry table id) r = record r { entries = filter (is_other_key table id) r.entries }
 

@@ -24,7 +24,8 @@ exchange s e = record { entry = e; reply = reply_at s e }
 -- the entries of a seat in a history from a state, each with its reply
 abbrev pub exchanges : ℕ → State → List Entry → List Exchange
 exchanges seat s [] = []
-exchanges seat s (e ∷ es) = cond (e.seat == seat) (exchange s e ∷ []) [] ++ exchanges seat (after s e) es
+exchanges seat s (e ∷ es) = cond (e.seat == seat) (exchange s e ∷ []) []
+    ++ exchanges seat (after s e) es
 
 -- the one list begins with the other
 abbrev pub BeginsWith : List Entry → List Entry → Type 0
@@ -34,8 +35,8 @@ BeginsWith whole front = (more : List Entry) × (whole ≡ front ++ more)
 abbrev pub rises_by : ℕ → ℕ → ℕ
 rises_by count more = max count (min (count + more) (2 ^ 64 - 1))
 
--- what a seat knows: the state that the history began in, its own number, the history as far as it has
--- seen it, its own entries with their replies, and how many of its requests were refused
+-- what a seat knows: the state that the history began in, its own number, the history as far as it
+-- has seen it, its own entries with their replies, and how many of its requests were refused
 pub record Seated : Type 0 where
   pub opening : State
   pub seat : ℕ
@@ -67,7 +68,8 @@ abbrev pub bound_entering : Option Binding → Who → Kind → Option Binding
 bound_entering None who kind = Some (record { who = who; kind = kind })
 bound_entering (Some b) who kind = Some b
 
--- the same after a request of the seat itself: an Enter opens a connection where none is open, a Leave ends it
+-- the same after a request of the seat itself: an Enter opens a connection where none is open, a
+-- Leave ends it
 abbrev pub bound_after : Option Binding → Request → Option Binding
 bound_after open_one (Request.Enter who kind) = bound_entering open_one who kind
 bound_after open_one Request.Leave = None
@@ -78,7 +80,8 @@ abbrev pub bound_by : Option Binding → List Entry → Option Binding
 bound_by open_one [] = open_one
 bound_by open_one (e ∷ es) = bound_by (bound_after open_one e.request) es
 
--- what is true at each moment: a legal history is seen, and its own entries are those of the seat in it
+-- what is true at each moment: a legal history is seen, and its own entries are those of the seat
+-- in it
 pub record Known (d : Seated) : Type 0 where
   pub legal : Legal d.opening d.seen
   pub mine : exchanges d.seat d.opening d.seen ≡ d.mine
@@ -89,8 +92,8 @@ pub record Moved (old new : Seated) : Type 0 where
   pub seat : new.seat ≡ old.seat
   pub begins : BeginsWith new.seen old.seen
 
--- after the entries of others, this request is the last that was seen, and alone is new of the seat's own;
--- the reply is that of the step
+-- after the entries of others, this request is the last that was seen, and alone is new of the
+-- seat's own; the reply is that of the step
 pub record Made (old new : Seated) (request : Request) (reply : Reply) : Type 0 where
   pub entry : Entry
   pub others : List Entry
@@ -101,12 +104,15 @@ pub record Made (old new : Seated) (request : Request) (reply : Reply) : Type 0 
   pub mine : new.mine ≡ old.mine ++ record { entry = entry; reply = reply } ∷ []
   pub refusals : new.refusals ≡ old.refusals
 
--- why a request is refused: want of memory, which is free, or a history that would cost too much, told by both numbers
+-- why a request is refused: want of memory, which is free, or a history that would cost too much,
+-- told by both numbers
 abbrev pub HasCause : Seated → Request → Refused → Type 0
 HasCause d request Memory = Unit {0}
-HasCause d request (Full now limit) = (now ≡ cost d.seen) × (limit ≡ d.opening.limits.history) × (limit < now + cost_of request)
+HasCause d request (Full now limit) = (now ≡ cost d.seen) × (limit ≡ d.opening.limits.history)
+    × (limit < now + cost_of request)
 
--- the refusal is counted, and nothing is new of the seat's own. The Leave of an open connection is never refused
+-- the refusal is counted, and nothing is new of the seat's own. The Leave of an open connection is
+-- never refused
 pub record Denied (old new : Seated) (request : Request) (why : Refused) : Type 0 where
   pub refusals : new.refusals ≡ rises_by old.refusals 1
   pub mine : new.mine ≡ old.mine
@@ -118,6 +124,7 @@ Answered old new request (Ok reply) = Made old new request reply
 Answered old new request (Err why) = Denied old new request why
 
 -- what an ask does
-pub record Asks (old : Seated) (request : Request) (result : Result Reply Refused) (new : Seated) : Type 0 where
+pub record Asks (old : Seated) (request : Request) (result : Result Reply Refused)
+    (new : Seated) : Type 0 where
   pub moved : Moved old new
   pub answered : Answered old new request result

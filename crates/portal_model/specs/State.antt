@@ -1,5 +1,6 @@
--- The state of the sequential portal: plain lists, and what is looked up in them.
--- The terms are those of the documentation of org.freedesktop.portal.Documents, where an application has permissions in documents.
+-- The state of the sequential portal: plain lists, and what is looked up in them. The terms are
+-- those of the documentation of org.freedesktop.portal.Documents, where an application has
+-- permissions in documents.
 use Rattle.std.specs.Prelude.{ℕ, ◌==◌, ◌&&◌, List, Bool, true, false, Option, is_some}
 use Rattle.std.specs.List.{find, list_any}
 use Rattle.portal_base.specs.Names.{is_same}
@@ -21,7 +22,8 @@ pub record State : Type 0 where
   pub documents : List Document
   -- the numbers of all documents that were ever made
   pub made : List DocId
-  -- which application has which right in which document: by number, application and right, none twice
+  -- which application has which right in which document: by number, application and right, none
+  -- twice
   pub rights : List Triple
   -- the names of the numbered applications: application k is the k-th
   pub applications : List (List ℕ)
@@ -63,7 +65,8 @@ who_has rights Who.Host number right = true
 who_has rights (Who.App app) number right = app_has rights app number right
 
 abbrev pub has : State → Who → ℕ → Right → Bool
-has s who number right = is_some (document_of s.documents number) && who_has s.rights who number right
+has s who number right = is_some (document_of s.documents number)
+    && who_has s.rights who number right
 
 -- the rights that an application has in the document of a number
 abbrev pub held_of : List Triple → List ℕ → ℕ → RightSet

@@ -20,7 +20,8 @@ const DOCUMENT_FILE: u64 = 2;
 
 /// The number of the document whose file a node is, in the caller's own view.
 pub fn file_number(node: u64) -> Option<u32>
-    ensures { MatchOption result (place_named node ≡ None) (λ number. place_named node ≡ Some (DocumentFile number)) }
+    ensures { MatchOption result (place_named node ≡ None)
+        (λ number. place_named node ≡ Some (DocumentFile number)) }
 {
     if node >> VIEW_SHIFT == OWN_VIEW && (node >> KIND_SHIFT) & KIND_MASK == DOCUMENT_FILE {
         Some((node & ID_MASK) as u32)
