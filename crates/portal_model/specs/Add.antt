@@ -62,9 +62,9 @@ is_folder_look Look.Missing = false
 -- each is a folder and then a file or nothing in it
 abbrev pub are_folders_and_files : List Look → Bool
 are_folders_and_files [] = true
-are_folders_and_files (folder ∷ []) = false
-are_folders_and_files (folder ∷ file ∷ looks) =
-    is_folder_look folder && (not (is_folder_look file) && are_folders_and_files looks)
+are_folders_and_files (above ∷ []) = false
+are_folders_and_files (above ∷ named ∷ looks) =
+    is_folder_look above && (not (is_folder_look named) && are_folders_and_files looks)
 
 abbrev pub are_of_kind : AddRequest → List Look → Bool
 are_of_kind a looks = cond a.named (are_folders_and_files looks) (list_all is_file looks)
