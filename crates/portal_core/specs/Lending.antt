@@ -63,10 +63,12 @@ goes_further says d e f p q = record {
   moved = record {
     opening = q.moved.opening ∙ p.moved.opening;
     seat = q.moved.seat ∙ p.moved.seat;
-    begins = (p.moved.begins.0 ++ q.moved.begins.0,
+    begins = (
+      p.moved.begins.0 ++ q.moved.begins.0,
       q.moved.begins.1
-        ∙ (ap (λ (x : List Entry). x ++ q.moved.begins.0) p.moved.begins.1
-        ∙ append_assoc d.seen p.moved.begins.0 q.moved.begins.0));
+          ∙ (ap (λ (x : List Entry). x ++ q.moved.begins.0) p.moved.begins.1
+          ∙ append_assoc d.seen p.moved.begins.0 q.moved.begins.0),
+    );
   };
   count = let a = p.count in let b = q.count in omega arith;
   own = own_further says d.seat d.seen e.seen f.seen p.own
