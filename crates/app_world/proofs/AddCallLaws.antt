@@ -13,7 +13,7 @@ use Rattle.portal_model.specs.Add.{Added, add, add_allowed, add_looking, add_pre
 use Rattle.portal_model.specs.AddArguments.{are_add_arguments, are_presented, document_paths, is_left_out, names_nobody, paths_shown}
 use Rattle.portal_model.specs.Present.{with_queue}
 use Rattle.portal_model.specs.State.{State, document_of, held_of, is_app}
-use Rattle.portal_model.specs.Verdict.{Verdict, walk_unless}
+use Rattle.portal_model.specs.Verdict.{Verdict, unless, walk_unless}
 use Rattle.portal_model.specs.Walk.{Walk, looks_at_all, walked}
 use Rattle.app_world.specs.Add.{OwnFile, add_touch, held_in, own_files, own_may_list, own_may_list_all, own_rights_then, own_taken_from_queue, reused_of, first_reused}
 use Rattle.app_world.specs.Effect.{Effect, apply_all}
@@ -24,7 +24,7 @@ use Rattle.app_world.proofs.BusLaws.{TouchedGiven}
 use Rattle.app_world.proofs.DocumentLaws.{documents-found}
 use Rattle.app_world.proofs.HeldLaws.{same-rights}
 use Rattle.app_world.proofs.PresentLaws.{view-elsewhere, view-requeued}
-use Rattle.app_world.proofs.ReachedLaws.{touched-unless}
+use Rattle.app_world.proofs.ReachedLaws.{IsTouched}
 use Rattle.portal_model.specs.Documents.{serves}
 use Rattle.portal_model.specs.AddArguments.{persists}
 
@@ -65,30 +65,36 @@ begun s c a numbers = record { state = taken_from_queue c a s; numbers = numbers
 
 -- ---- of another
 
-touched-walk : (app : List ℕ) (s : State) (fs : List Effect) (paths : List (List ℕ)) (next : List Look → Walk Verdict) → ((looks : List Look) (now : ℕ) (more : List Look) (failed : Bool) → TouchedGiven app s fs (walked (next looks) now more failed)) →
-    (now : ℕ) (looks : List Look) (failed : Bool) → TouchedGiven app s fs (walked (looks_at_all paths next) now looks failed)
-touched-walk app s fs [] next h now looks failed = h [] now looks failed
-touched-walk app s fs (path ∷ paths) next h now [] failed = tt
-touched-walk app s fs (path ∷ paths) next h now (look ∷ looks) failed = touched-walk app s fs paths (λ more. next (look ∷ more)) (λ more. h (look ∷ more)) now looks failed
+touched-walk : (app : List ℕ) (s : State) (fs : List Effect) (paths : List (List ℕ)) (next : List Look → Walk Verdict) (now : ℕ) (looks : List Look) (failed : Bool) →
+    ((all : List Look) (now2 : ℕ) (more : List Look) (failed2 : Bool) → walked (looks_at_all paths next) now looks failed ≡ walked (next all) now2 more failed2 → TouchedGiven app s fs (walked (next all) now2 more failed2)) →
+    TouchedGiven app s fs (walked (looks_at_all paths next) now looks failed)
+touched-walk app s fs [] next now looks failed h = h [] now looks failed refl
+touched-walk app s fs (path ∷ paths) next now [] failed h = tt
+touched-walk app s fs (path ∷ paths) next now (look ∷ looks) failed h = touched-walk app s fs paths (λ more. next (look ∷ more)) now looks failed (λ all. h (look ∷ all))
 
-touched-check : (app : List ℕ) (s : State) (fs : List Effect) (wrong : Bool) (code : Code) (walk : Walk Verdict) (now : ℕ) (looks : List Look) (failed : Bool) → TouchedGiven app s fs (walked walk now looks failed) →
+touched-check : (app : List ℕ) (s : State) (fs : List Effect) (wrong : Bool) (code : Code) (walk : Walk Verdict) (now : ℕ) (looks : List Look) (failed : Bool) →
+    (walked (walk_unless wrong code walk) now looks failed ≡ walked walk now looks failed → TouchedGiven app s fs (walked walk now looks failed)) →
     TouchedGiven app s fs (walked (walk_unless wrong code walk) now looks failed)
 touched-check app s fs true code walk now looks failed t = tt
-touched-check app s fs false code walk now looks failed t = t
+touched-check app s fs false code walk now looks failed t = t refl
 
--- another's Add gives the view after it by what it touches, where the numbers it takes are free
+touched-kind : (app : List ℕ) (s : State) (fs : List Effect) (wrong : Bool) (code : Code) (verdict : Verdict) → (Some (unless wrong code verdict) ≡ Some verdict → IsTouched app s fs verdict) → IsTouched app s fs (unless wrong code verdict)
+touched-kind app s fs true code verdict t = tt
+touched-kind app s fs false code verdict t = t refl
+
+-- another's Add gives the view after it by what it touches, where the numbers that it takes as it is done are free
 pub add-other : (app : List ℕ) (s : State) (c : Connection) (a : AddRequest) (numbers : List DocId) → Facts app s → found_connection (own_connections app s.connections) c.seat ≡ None → is_app app c.who ≡ false →
-    Free c.who a (begun s c a numbers) (document_paths c.queue a) →
-    (now : ℕ) (looks : List Look) (failed : Bool) → TouchedGiven app s (add_touch app s c a numbers) (walked (add s c a numbers) now looks failed)
-add-other app s c a numbers f e o n now looks failed =
+    (now : ℕ) (looks : List Look) (failed : Bool) → (walked (add s c a numbers) now looks failed ≡ Some (added s (added_files s c a numbers)) → Free c.who a (begun s c a numbers) (document_paths c.queue a)) →
+    TouchedGiven app s (add_touch app s c a numbers) (walked (add s c a numbers) now looks failed)
+add-other app s c a numbers f e o now looks failed n =
     let fs : List Effect = add_touch app s c a numbers in
-    let done : apply_all (view s app) fs ≡ view (added_files s c a numbers).state app =
-    ap (λ v. apply_all v fs) (taken-other app c a s e) ∙ files-other app c.who a o (document_paths c.queue a) (begun s c a numbers) (taken-facts app c a s f) n in
-    touched-check app s fs (not (are_presented c.queue a)) Code.InvalidArgs (add_presented s c a numbers) now looks failed
-    (touched-check app s fs (not (are_add_arguments c.queue a)) Code.InvalidArgument (add_allowed s c a numbers) now looks failed
-    (touched-check app s fs (not (may_list_all s c.who a (document_paths c.queue a))) Code.NotAllowed (add_looking s c a numbers) now looks failed
-    (touched-walk app s fs (paths_shown c.queue a) (add_shown s c a numbers)
-    (λ more now2 looks2 failed2. touched-unless app s fs (not (are_of_kind a more)) Code.InvalidArgument (added s (added_files s c a numbers)) (refl, done)) now looks failed)))
+    let done : Free c.who a (begun s c a numbers) (document_paths c.queue a) → apply_all (view s app) fs ≡ view (added_files s c a numbers).state app =
+    λ free. ap (λ v. apply_all v fs) (taken-other app c a s e) ∙ files-other app c.who a o (document_paths c.queue a) (begun s c a numbers) (taken-facts app c a s f) free in
+    touched-check app s fs (not (are_presented c.queue a)) Code.InvalidArgs (add_presented s c a numbers) now looks failed (λ i.
+    touched-check app s fs (not (are_add_arguments c.queue a)) Code.InvalidArgument (add_allowed s c a numbers) now looks failed (λ j.
+    touched-check app s fs (not (may_list_all s c.who a (document_paths c.queue a))) Code.NotAllowed (add_looking s c a numbers) now looks failed (λ k.
+    touched-walk app s fs (paths_shown c.queue a) (add_shown s c a numbers) now looks failed (λ all now2 more failed2 m.
+    touched-kind app s fs (not (are_of_kind a all)) Code.InvalidArgument (added s (added_files s c a numbers)) (λ w. (refl, done (n (i ∙ (j ∙ (k ∙ (m ∙ w)))))))))))
 
 -- ---- of the application itself: what it may list
 

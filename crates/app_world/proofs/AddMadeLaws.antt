@@ -1,6 +1,6 @@
 -- An Add of the application itself: its own machine comes to the same in its view, and what its trace tells is what
 -- the machine needs.
-use Rattle.std.proofs.Common.{◌≡◌, ℕ, ◌≤◌, length, List, [], ◌∷◌, fold, map, Bool, true, false, not, ◌&&◌, ◌||◌, cond, Option, Some, None, refl, sym, ap, ◌∙◌, arith}
+use Rattle.std.proofs.Common.{◌≡◌, ℕ, ◌≤◌, length, List, [], ◌∷◌, fold, map, Bool, true, false, not, ◌&&◌, ◌||◌, cond, Option, Some, None, refl, sym, ap, ◌∙◌, subst, arith}
 use Rattle.std.specs.List.{flat_map, list_all}
 use Rattle.std.specs.Option.{option_map}
 use Rattle.std.proofs.lemmas.List.{append-nil}
@@ -18,36 +18,46 @@ use Rattle.portal_model.specs.AddArguments.{are_add_arguments, are_presented, do
 use Rattle.portal_model.specs.Arguments.{ahead_of_end}
 use Rattle.portal_model.specs.Content.{Content, content_at}
 use Rattle.portal_model.specs.State.{State, held_of}
-use Rattle.portal_model.specs.Verdict.{Verdict, walk_unless}
+use Rattle.portal_model.specs.Verdict.{Verdict, unless, walk_unless}
 use Rattle.portal_model.specs.Walk.{Walk, looks_at_all, walked}
 use Rattle.portal_model.proofs.Finds.{is_same-refl}
 use Rattle.app_world.specs.Add.{OwnAdded, content_shown, names_app, own_add, own_add_allowed, own_add_file, own_add_presented, own_add_shown, own_added, own_added_files, own_call_files, own_files, own_may_list_all, own_taken_from_queue, own_walk_unless, reused_of}
 use Rattle.app_world.specs.Own.{Own}
-use Rattle.app_world.specs.OwnVerdict.{OwnVerdict, OwnDoes}
+use Rattle.app_world.specs.OwnVerdict.{OwnVerdict, OwnDoes, own_unless}
 use Rattle.app_world.specs.View.{OwnConnection, is_among, own_connection, view}
 use Rattle.app_world.proofs.AddCallLaws.{begun, may_list-own, taken-facts, taken-keeps, taken-own}
 use Rattle.app_world.proofs.AddLaws.{Facts, Free}
 use Rattle.app_world.proofs.AddOwnLaws.{AreRead, Same, files-own, then_held}
-use Rattle.app_world.proofs.ReachedLaws.{seen-unless, seen_verdict}
+use Rattle.app_world.proofs.BusLaws.{limited}
+use Rattle.app_world.proofs.ReachedLaws.{seen_verdict}
 use Rattle.app_world.proofs.ViewLaws.{among-joined}
 
 -- ---- walks
 
--- checks in their order
-seen-check : (app : List ℕ) (fine : Bool) (code : Code) (own : Walk OwnVerdict) (walk : Walk Verdict) (now : ℕ) (looks : List Look) (failed : Bool) →
-    (fine ≡ true → walked own now looks failed ≡ option_map (seen_verdict app) (walked walk now looks failed)) →
-    walked (own_walk_unless (not fine) code own) now looks failed ≡ option_map (seen_verdict app) (walked (walk_unless (not fine) code walk) now looks failed)
-seen-check app true code own walk now looks failed h = h refl
-seen-check app false code own walk now looks failed h = refl
+-- both come to the same, but for what g tells apart
+module _ (app : List ℕ) (g : OwnVerdict → OwnVerdict) where
+  abbrev AreSame : Option OwnVerdict → Option Verdict → Type 0
+  AreSame own verdict = option_map g own ≡ option_map g (option_map (seen_verdict app) verdict)
 
--- what comes behind the looks is the same where all of them succeeded
-seen-walk : (app : List ℕ) (paths : List (List ℕ)) (own : List Look → Walk OwnVerdict) (next : List Look → Walk Verdict) (now : ℕ) (looks : List Look) (failed : Bool) →
-    (length paths ≤ length looks → (all : List Look) (now2 : ℕ) (more : List Look) (failed2 : Bool) → walked (own all) now2 more failed2 ≡ option_map (seen_verdict app) (walked (next all) now2 more failed2)) →
-    walked (looks_at_all paths own) now looks failed ≡ option_map (seen_verdict app) (walked (looks_at_all paths next) now looks failed)
-seen-walk app [] own next now looks failed h = h (omega arith) [] now looks failed
-seen-walk app (path ∷ paths) own next now [] failed h = refl
-seen-walk app (path ∷ paths) own next now (look ∷ looks) failed h =
-    seen-walk app paths (λ more. own (look ∷ more)) (λ more. next (look ∷ more)) now looks failed (λ e all. h (grind arith) (look ∷ all))
+  -- checks in their order
+  seen-check : (fine : Bool) (code : Code) (own : Walk OwnVerdict) (walk : Walk Verdict) (now : ℕ) (looks : List Look) (failed : Bool) →
+      (fine ≡ true → walked (walk_unless (not fine) code walk) now looks failed ≡ walked walk now looks failed → AreSame (walked own now looks failed) (walked walk now looks failed)) →
+      AreSame (walked (own_walk_unless (not fine) code own) now looks failed) (walked (walk_unless (not fine) code walk) now looks failed)
+  seen-check true code own walk now looks failed h = h refl refl
+  seen-check false code own walk now looks failed h = refl
+
+  -- what comes behind the looks is the same where all of them succeeded
+  seen-walk : (paths : List (List ℕ)) (own : List Look → Walk OwnVerdict) (next : List Look → Walk Verdict) (now : ℕ) (looks : List Look) (failed : Bool) →
+      (length paths ≤ length looks → (all : List Look) (now2 : ℕ) (more : List Look) (failed2 : Bool) → walked (looks_at_all paths next) now looks failed ≡ walked (next all) now2 more failed2 → AreSame (walked (own all) now2 more failed2) (walked (next all) now2 more failed2)) →
+      AreSame (walked (looks_at_all paths own) now looks failed) (walked (looks_at_all paths next) now looks failed)
+  seen-walk [] own next now looks failed h = h (omega arith) [] now looks failed refl
+  seen-walk (path ∷ paths) own next now [] failed h = refl
+  seen-walk (path ∷ paths) own next now (look ∷ looks) failed h =
+      seen-walk paths (λ more. own (look ∷ more)) (λ more. next (look ∷ more)) now looks failed (λ e all. h (grind arith) (look ∷ all))
+
+  seen-kind : (fine : Bool) (code : Code) (own : OwnVerdict) (verdict : Verdict) → (fine ≡ true → g own ≡ g (seen_verdict app verdict)) → AreSame (Some (own_unless (not fine) code own)) (Some (unless (not fine) code verdict))
+  seen-kind true code own verdict h = ap Some (h refl)
+  seen-kind false code own verdict h = refl
 
 -- ---- what is read of each file
 
@@ -114,6 +124,11 @@ module _ (app : List ℕ) (s : State) (a : AddRequest) (content : List ℕ → C
 contains-itself : (k : RightSet) → contains k k ≡ true
 contains-itself k = grind arith
 
+-- what the trace tells of the files, and of their contents where all looks succeeded
+pub record IsTold (s : State) (c : Connection) (a : AddRequest) (own : Own) (looks : List Look) : Type 0 where
+  pub files : are_presented c.queue a ≡ true → are_add_arguments c.queue a ≡ true → own_files a (document_paths c.queue a) own.reused ≡ own_files a (document_paths c.queue a) (reused_of s.documents a (document_paths c.queue a))
+  pub contents : length (paths_shown c.queue a) ≤ length looks → (path : List ℕ) → is_among (paths_shown c.queue a) path ≡ true → content_shown (paths_shown c.queue a) own.shown path ≡ content_at s.files path
+
 module _ (app : List ℕ) (s : State) (c0 : Connection) (a : AddRequest) (own : Own) (f : Facts app s) where
   -- the connection is the application's
   abbrev c : Connection
@@ -139,12 +154,7 @@ module _ (app : List ℕ) (s : State) (c0 : Connection) (a : AddRequest) (own : 
     facts = taken-facts app c a s f;
   }
 
-  -- what the trace tells of the files, and of their contents where all looks succeeded
-  pub record IsTold (looks : List Look) : Type 0 where
-    pub files : are_presented c.queue a ≡ true → are_add_arguments c.queue a ≡ true → own_call_files o a own ≡ own_files a (document_paths c.queue a) (reused_of s.documents a (document_paths c.queue a))
-    pub contents : length (paths_shown c.queue a) ≤ length looks → (path : List ℕ) → is_among (paths_shown c.queue a) path ≡ true → content path ≡ content_at s.files path
-
-  added-same : (looks : List Look) → IsTold looks → Free (Who.App app) a (begun s c a own.numbers) (document_paths c.queue a) → are_presented c.queue a ≡ true → are_add_arguments c.queue a ≡ true →
+  added-same : (looks : List Look) → IsTold s c0 a own looks → Free (Who.App app) a (begun s c a own.numbers) (document_paths c.queue a) → are_presented c.queue a ≡ true → are_add_arguments c.queue a ≡ true →
       may_list_all s (Who.App app) a (document_paths c.queue a) ≡ true → length (paths_shown c.queue a) ≤ length looks →
       own_added (own_added_files (view s app) o a own) ≡ seen_verdict app (added s (added_files s c a own.numbers))
   added-same looks t n p g l e =
@@ -153,19 +163,38 @@ module _ (app : List ℕ) (s : State) (c0 : Connection) (a : AddRequest) (own : 
       let m = files-own app a s.documents (held_of s.rights app) s.files content (document_paths c.queue a) (begun s c a own.numbers) made same-begun n r in
       ap (λ fs. own_added (fold (own_add_file a content) made fs)) (t.files p g) ∙ (λ i. OwnDoes (m.seen i) (Answer.Ids (m.ids i)))
 
-  own-called : (now : ℕ) (looks : List Look) (failed : Bool) → IsTold looks → Free (Who.App app) a (begun s c a own.numbers) (document_paths c.queue a) →
-      walked (own_add (view s app) o a own) now looks failed ≡ option_map (seen_verdict app) (walked (add s c a own.numbers) now looks failed)
-  own-called now looks failed t n =
-      seen-check app (are_presented c.queue a) Code.InvalidArgs (own_add_presented (view s app) o a own) (add_presented s c a own.numbers) now looks failed (λ p.
-      seen-check app (are_add_arguments c.queue a) Code.InvalidArgument (own_add_allowed (view s app) o a own) (add_allowed s c a own.numbers) now looks failed (λ g.
-      ap (λ (b : Bool). walked (own_walk_unless (not b) Code.NotAllowed (looks_at_all (paths_shown c.queue a) (own_add_shown (view s app) o a own))) now looks failed)
-      (ap (own_may_list_all (view s app) a) (t.files p g) ∙ may_list-own app s a f (document_paths c.queue a))
-      ∙ seen-check app (may_list_all s (Who.App app) a (document_paths c.queue a)) Code.NotAllowed (looks_at_all (paths_shown c.queue a) (own_add_shown (view s app) o a own)) (add_looking s c a own.numbers) now looks failed (λ l.
-      seen-walk app (paths_shown c.queue a) (own_add_shown (view s app) o a own) (add_shown s c a own.numbers) now looks failed (λ e all now2 more failed2.
-      ap Some (seen-unless app (not (are_of_kind a all)) Code.InvalidArgument (own_added (own_added_files (view s app) o a own)) (added s (added_files s c a own.numbers)) (added-same looks t n p g l e))))))
+  -- it is done: all checks pass
+  abbrev IsAdded : ℕ → List Look → Bool → Type 0
+  IsAdded now looks failed = walked (add s c a own.numbers) now looks failed ≡ Some (added s (added_files s c a own.numbers))
 
-  -- the application's own Add comes to the same in its view, where its trace tells what it is to tell
-  pub add-own : c0.who ≡ Who.App app → (now : ℕ) (looks : List Look) (failed : Bool) → IsTold looks → Free (Who.App app) a (begun s c a own.numbers) (document_paths c.queue a) →
-      walked (own_add (view s app) (own_connection app c0) a own) now looks failed ≡ option_map (seen_verdict app) (walked (add s c0 a own.numbers) now looks failed)
-  add-own named now looks failed t n =
-      own-called now looks failed t n ∙ (λ i. option_map (seen_verdict app) (walked (add s (record c0 { who = sym named i }) a own.numbers) now looks failed))
+  own-called : (g : OwnVerdict → OwnVerdict) (now : ℕ) (looks : List Look) (failed : Bool) → IsTold s c0 a own looks →
+      (are_presented c.queue a ≡ true → are_add_arguments c.queue a ≡ true → may_list_all s (Who.App app) a (document_paths c.queue a) ≡ true → length (paths_shown c.queue a) ≤ length looks → IsAdded now looks failed →
+      g (own_added (own_added_files (view s app) o a own)) ≡ g (seen_verdict app (added s (added_files s c a own.numbers)))) →
+      option_map g (walked (own_add (view s app) o a own) now looks failed) ≡ option_map g (option_map (seen_verdict app) (walked (add s c a own.numbers) now looks failed))
+  own-called g now looks failed t same =
+      seen-check app g (are_presented c.queue a) Code.InvalidArgs (own_add_presented (view s app) o a own) (add_presented s c a own.numbers) now looks failed (λ p i.
+      seen-check app g (are_add_arguments c.queue a) Code.InvalidArgument (own_add_allowed (view s app) o a own) (add_allowed s c a own.numbers) now looks failed (λ q j.
+      ap (λ (b : Bool). option_map g (walked (own_walk_unless (not b) Code.NotAllowed (looks_at_all (paths_shown c.queue a) (own_add_shown (view s app) o a own))) now looks failed))
+      (ap (own_may_list_all (view s app) a) (t.files p q) ∙ may_list-own app s a f (document_paths c.queue a))
+      ∙ seen-check app g (may_list_all s (Who.App app) a (document_paths c.queue a)) Code.NotAllowed (looks_at_all (paths_shown c.queue a) (own_add_shown (view s app) o a own)) (add_looking s c a own.numbers) now looks failed (λ l k.
+      seen-walk app g (paths_shown c.queue a) (own_add_shown (view s app) o a own) (add_shown s c a own.numbers) now looks failed (λ e all now2 more failed2 m.
+      seen-kind app g (are_of_kind a all) Code.InvalidArgument (own_added (own_added_files (view s app) o a own)) (added s (added_files s c a own.numbers)) (λ n.
+      same p q l e (i ∙ (j ∙ (k ∙ (m ∙ ap (λ (b : Bool). Some (unless (not b) Code.InvalidArgument (added s (added_files s c a own.numbers)))) n)))))))))
+
+  by_limit : (full : Bool) (now : ℕ) (looks : List Look) (failed : Bool) → IsTold s c0 a own looks → (full ≡ false → IsAdded now looks failed → Free (Who.App app) a (begun s c a own.numbers) (document_paths c.queue a)) →
+      option_map (limited full) (walked (own_add (view s app) o a own) now looks failed) ≡ option_map (limited full) (option_map (seen_verdict app) (walked (add s c a own.numbers) now looks failed))
+  by_limit true now looks failed t n = own-called (limited true) now looks failed t (λ p q l e w. refl)
+  by_limit false now looks failed t n = own-called (limited false) now looks failed t (λ p q l e w. added-same looks t (n refl w) p q l e)
+
+-- where a caller is the application
+abbrev IsOwn : List ℕ → State → Connection → AddRequest → Own → Bool → ℕ → List Look → Bool → Who → Type 0
+IsOwn app s c a own full now looks failed who =
+    let x : Connection = record c { who = who } in
+    (full ≡ false → walked (add s x a own.numbers) now looks failed ≡ Some (added s (added_files s x a own.numbers)) → Free who a (begun s x a own.numbers) (document_paths c.queue a)) →
+    option_map (limited full) (walked (own_add (view s app) (own_connection app c) a own) now looks failed) ≡ option_map (limited full) (option_map (seen_verdict app) (walked (add s x a own.numbers) now looks failed))
+
+-- The application's own Add comes to the same in its view, where its trace tells what it is to tell: at a limit of
+-- documents it is refused, whatever it would have come to; and where it is done its numbers have to be free.
+pub add-own : (app : List ℕ) (s : State) (c : Connection) (a : AddRequest) (own : Own) → Facts app s → c.who ≡ Who.App app → (full : Bool) (now : ℕ) (looks : List Look) (failed : Bool) → IsTold s c a own looks →
+    IsOwn app s c a own full now looks failed c.who
+add-own app s c a own f named full now looks failed t = subst (IsOwn app s c a own full now looks failed) (sym named) (by_limit app s c a own f full now looks failed t)

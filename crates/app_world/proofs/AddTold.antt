@@ -65,7 +65,7 @@ take-none : {X : Type 0} (xs : List X) → take 0 xs ≡ []
 take-none [] = refl
 take-none (x ∷ xs) = refl
 
-none-given : (looks : List Look) (cs : List Content) → looks ≡ [] → map look_of (take (length looks) cs) ≡ looks
+pub none-given : (looks : List Look) (cs : List Content) → looks ≡ [] → map look_of (take (length looks) cs) ≡ looks
 none-given [] cs e = ap (map look_of) (take-none cs)
 none-given (look ∷ looks) cs e = cc
 

@@ -11,6 +11,7 @@ use Rattle.portal_model.specs.Verdict.{Doing, Verdict, Refuses, Does}
 use Rattle.app_world.specs.Bus.{own_kept, own_settled}
 use Rattle.app_world.specs.Effect.{Effect, apply_all}
 use Rattle.app_world.specs.Own.{Own}
+use Rattle.app_world.specs.OwnVerdict.{OwnVerdict, OwnDoes, OwnRefuses}
 use Rattle.app_world.specs.Touched.{is_done}
 use Rattle.app_world.specs.View.{AppView, view}
 use Rattle.app_world.proofs.ReachedLaws.{IsTouched, seen_verdict}
@@ -38,6 +39,24 @@ settled-own app s refused given own f g (Some (Does d)) =
     by_limit true = refl
     by_limit false = kept-own app s given.fault d
 
+-- ---- where a limit of documents is met, it is one to what is done
+
+abbrev pub limited : Bool → OwnVerdict → OwnVerdict
+limited false own = own
+limited true (OwnRefuses code) = OwnRefuses code
+limited true (OwnDoes v answer) = OwnRefuses Code.LimitsExceeded
+
+settled-limit : (v refused : AppView) (own : Own) (full : Bool) → own.full ≡ full → (o : Option OwnVerdict) → own_settled v refused own o ≡ own_settled v refused own (option_map (limited full) o)
+settled-limit v refused own full e None = refl
+settled-limit v refused own false e (Some x) = refl
+settled-limit v refused own true e (Some (OwnRefuses code)) = refl
+settled-limit v refused own true e (Some (OwnDoes after answer)) = ap (λ (b : Bool). cond b (refused, Answer.Refused Code.LimitsExceeded) (own_kept v own.fault after answer)) e
+
+pub settled-same : (v refused : AppView) (own : Own) (full : Bool) → own.full ≡ full → (o more : Option OwnVerdict) → option_map (limited full) o ≡ option_map (limited full) more → own_settled v refused own o ≡ own_settled v refused own more
+settled-same v refused own full e o more h = settled-limit v refused own full e o ∙ (ap (own_settled v refused own) h ∙ sym (settled-limit v refused own full e more))
+
+-- ---- of another
+
 abbrev pub TouchedGiven : List ℕ → State → List Effect → Option Verdict → Type 0
 TouchedGiven app s fs None = Unit {0}
 TouchedGiven app s fs (Some v) = IsTouched app s fs v
@@ -48,13 +67,13 @@ module _ (app : List ℕ) (s : State) (refused : State) (v : AppView) (given : G
   kept-other Fault.Tree d a t = ap (λ (b : Bool). apply_all v (cond b fs [])) a ∙ (ap (λ (x : AppView). apply_all x fs) (sym same) ∙ t)
   kept-other Fault.Keeper d a t = sym same
 
-  limited-other : (b : Bool) (d : Doing) → is_done d.answer ≡ true → apply_all (view s app) fs ≡ view d.state app →
+  limited-other : (b : Bool) (d : Doing) → (b ≡ false → IsTouched app s fs (Does d)) →
       apply_all v (cond (is_done (cond b (refused, Answer.Refused Code.LimitsExceeded) (kept s given.fault d)).1) fs []) ≡ view (cond b (refused, Answer.Refused Code.LimitsExceeded) (kept s given.fault d)).0 app
-  limited-other true d a t = sym left
-  limited-other false d a t = kept-other given.fault d a t
+  limited-other true d t = sym left
+  limited-other false d t = kept-other given.fault d (t refl).0 (t refl).1
 
   -- what is touched gives the view after, and nothing where it isn't done
-  pub settled-other : (o : Option Verdict) → TouchedGiven app s fs o → apply_all v (cond (is_done (settled s refused given o).1) fs []) ≡ view (settled s refused given o).0 app
+  pub settled-other : (o : Option Verdict) → (given.full ≡ false → TouchedGiven app s fs o) → apply_all v (cond (is_done (settled s refused given o).1) fs []) ≡ view (settled s refused given o).0 app
   settled-other None t = sym same
   settled-other (Some (Refuses code)) t = sym left
-  settled-other (Some (Does d)) t = limited-other given.full d t.0 t.1
+  settled-other (Some (Does d)) t = limited-other given.full d t

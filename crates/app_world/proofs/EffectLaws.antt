@@ -35,9 +35,10 @@ paths-put : (x : HeldDocument) (xs : List HeldDocument) (path : List ℕ) → is
 paths-put x [] path h = grind arith
 paths-put x (y ∷ ys) path h = grind (arith, paths-put x ys path)
 
-with_more-document : (d : Document) (h : RightSet) (o : Option HeldDocument) → (with_more d h o).document ≡ d
-with_more-document d h None = refl
-with_more-document d h (Some x) = refl
+-- what was seen of the document stays
+with_more-document : (d : Document) (more k : RightSet) (b : Bool) → (with_more d more (cond b (Some (record { document = d; rights = k })) None)).document ≡ d
+with_more-document d more k true = refl
+with_more-document d more k false = refl
 
 -- ---- rights gained
 
@@ -73,7 +74,7 @@ module _ (limits : Limits) (files : List File) (documents documents' : List Docu
   new-is = ap (with_more d more) (documents-found held d.id.number documents ∙ there)
 
   new-document : new.document ≡ d
-  new-document = with_more-document d more (found_document old d.id.number)
+  new-document = ap (λ (x : HeldDocument). x.document) new-is ∙ with_more-document d more (held d.id.number) (holds_any (held d.id.number))
 
   gained-at : (n : ℕ) (b : Bool) → (d.id.number == n) ≡ b →
       kept is_held (cond b (Some new) (found_document old n)) ≡ seen (cond b (union (held n) more) (held n)) (cond b (Some d) (document_of documents n))

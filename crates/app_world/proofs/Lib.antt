@@ -22,6 +22,7 @@ pub mod AddCallLaws
 pub mod AddMadeLaws
 pub mod AddTold
 pub mod AddFree
+pub mod AddGiven
 pub mod PlaceLaws
 pub mod GetAttrLaws
 pub mod WorldLaws

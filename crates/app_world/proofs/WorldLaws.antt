@@ -1,11 +1,12 @@
 -- The world of one application: one step, and a whole history.
-use Rattle.std.proofs.Common.{◌≡◌, ◌==◌, ℕ, List, [], ◌∷◌, ◌++◌, Bool, true, false, cond, Option, Some, None, refl, sym, ap, ◌∙◌, subst, map}
+use Rattle.std.proofs.Common.{◌≡◌, ◌==◌, ℕ, List, [], ◌∷◌, ◌++◌, Bool, true, false, cond, Option, Some, None, refl, sym, ap, ◌∙◌, subst, length, map}
 use Rattle.portal_base.specs.declared.who.Who.{Who}
 use Rattle.portal_model.specs.declared.entry.Entry.{Entry}
 use Rattle.portal_model.specs.declared.entry.Given.{Given}
 use Rattle.portal_model.specs.declared.reply.Answer.{Answer}
 use Rattle.portal_model.specs.declared.reply.Code.TheVariants as Code
 use Rattle.portal_model.specs.declared.reply.Reply.{Reply}
+use Rattle.portal_model.specs.declared.request.AddRequest.{AddRequest}
 use Rattle.portal_model.specs.declared.request.NodeOp.{NodeOp}
 use Rattle.portal_model.specs.declared.request.NodeRequest.{NodeRequest}
 use Rattle.portal_model.specs.declared.request.Request.{Request}
@@ -26,19 +27,20 @@ use Rattle.portal_model.specs.Valid.{Valid}
 use Rattle.portal_model.specs.Verdict.{Verdict, does}
 use Rattle.portal_model.proofs.Finds.{found_passes, nat_is}
 use Rattle.portal_model.proofs.Kept.{step_told}
-use Rattle.portal_model.proofs.ValidLaws.{after-Valid}
+use Rattle.portal_model.proofs.ValidLaws.{after-Valid, all_told-Valid}
 use Rattle.app_world.specs.Bus.{bus_touch, own_bus_answer, own_bus_step, own_bus_verdict, own_refused_view, own_settled}
 use Rattle.app_world.specs.DeleteDocument.{delete_touch, own_delete_document}
 use Rattle.app_world.specs.Effect.{Effect, apply, apply_all}
 use Rattle.app_world.specs.Grant.{grant_touch, own_grant}
-use Rattle.app_world.specs.Laws.{is_no_add}
+use Rattle.app_world.specs.Laws.{GivenToAdd, ToldToAdd}
 use Rattle.app_world.specs.Own.{Own}
 use Rattle.app_world.specs.OwnVerdict.{OwnVerdict, OwnRefuses}
 use Rattle.app_world.specs.Present.{own_present}
 use Rattle.app_world.specs.Revoke.{own_revoke, revoke_touch}
 use Rattle.app_world.specs.Touched.{is_done}
 use Rattle.app_world.specs.View.{AppView, OwnConnection, found_connection, own_connection, own_connections, view}
-use Rattle.app_world.specs.World.{TraceItem, Asked, Changed, app_run, app_step, items, own_bus_of, own_mount_of, own_node_answer, own_node_step, own_of, own_replies, touch, trace}
+use Rattle.app_world.specs.World.{TraceItem, Asked, Changed, app_run, app_step, items, own_bus_of, own_mount_of, own_node_answer, own_node_step, own_of, own_replies, reused_on, shown_by, touch, trace}
+use Rattle.app_world.proofs.AddGiven.{add_answer-other, add_answer-own, told_of_add}
 use Rattle.app_world.proofs.BusLaws.{seen_answer, settled-other, settled-own}
 use Rattle.app_world.proofs.CollectLaws.{collect_own, collect_other}
 use Rattle.app_world.proofs.DeleteDocumentLaws.{delete-other, delete-own}
@@ -109,9 +111,14 @@ module _ (app : List ℕ) (s : State) (c : Connection) (given : Given) (own : Ow
   same_verdict request mine verdict e l f =
       (λ i. own_settled v (l i) own ((e ∙ ap Some f) i)) ∙ settled-own app s s given own full fault (Some verdict)
 
-  bus_answer_own : (request : Request) → is_no_add request ≡ true → own_bus_answer v (own_connection app c) own request ≡ seen_answer app (bus_answer s c request given)
+  -- of an Add this is shown apart
+  abbrev AddIsOwn : Request → Type 0
+  AddIsOwn (Request.Add a) = own_bus_answer v (own_connection app c) own (Request.Add a) ≡ seen_answer app (bus_answer s c (Request.Add a) given)
+  AddIsOwn request = Unit {0}
+
+  bus_answer_own : (request : Request) → AddIsOwn request → own_bus_answer v (own_connection app c) own request ≡ seen_answer app (bus_answer s c request given)
   bus_answer_own (Request.Present path) d = same_verdict (Request.Present path) (own_present v (own_connection app c) path) (present s c path) refl refl (present-own app s c path named)
-  bus_answer_own (Request.Add a) d = cc
+  bus_answer_own (Request.Add a) d = d
   bus_answer_own (Request.Grant call) d =
       same_verdict (Request.Grant call) (own_grant v call) (grant s c.who call) refl refl (grant-own app s call ∙ ap (λ (who : Who). seen_verdict app (grant s who call)) (sym named))
   bus_answer_own (Request.Revoke call) d =
@@ -126,17 +133,20 @@ module _ (app : List ℕ) (s : State) (c : Connection) (given : Given) (own : Ow
       same_verdict (Request.ListDocuments name) (OwnRefuses Code.NotAllowed) (list_documents s c.who name) refl refl (ap (λ (who : Who). seen_verdict app (list_documents s who name)) (sym named))
   bus_answer_own request d = settled-own app s s given own full fault (Some (does s Answer.Done))
 
-module _ (app : List ℕ) (s : State) (c : Connection) (given : Given) (e : found_connection (own_connections app s.connections) c.seat ≡ None) where
+module _ (app : List ℕ) (s : State) (c : Connection) (given : Given) (valid : Valid s) (apart : is_app app c.who ≡ false) (e : found_connection (own_connections app s.connections) c.seat ≡ None) where
   abbrev t : State
   t = all_told c.seat s
 
   touches : (fs : List Effect) (verdict : Verdict) → IsTouched app t fs verdict → apply_all (view s app) (cond (is_done (settled t t given (Some verdict)).1) fs []) ≡ view (settled t t given (Some verdict)).0 app
-  touches fs verdict h = settled-other app t t (view s app) given fs (view-told app s c.seat) (view-told app s c.seat) (Some verdict) h
+  touches fs verdict h = settled-other app t t (view s app) given fs (view-told app s c.seat) (view-told app s c.seat) (Some verdict) (λ f. h)
 
-  bus_answer_other : (request : Request) → is_no_add request ≡ true → apply_all (view s app) (cond (is_done (bus_answer t c request given).1) (bus_touch app s request given (Some c)) []) ≡ view (bus_answer t c request given).0 app
+  abbrev there : found_connection (own_connections app t.connections) c.seat ≡ None
+  there = ap (λ (cs : List OwnConnection). found_connection cs c.seat) (own_told app c.seat s.connections) ∙ e
+
+  bus_answer_other : (request : Request) → GivenToAdd s c request given → apply_all (view s app) (cond (is_done (bus_answer t c request given).1) (bus_touch app s request given (Some c)) []) ≡ view (bus_answer t c request given).0 app
   bus_answer_other (Request.Present path) d =
-      touches [] (present t c path) (present-other app t c path (ap (λ (cs : List OwnConnection). found_connection cs c.seat) (own_told app c.seat s.connections) ∙ e))
-  bus_answer_other (Request.Add a) d = cc
+      touches [] (present t c path) (present-other app t c path there)
+  bus_answer_other (Request.Add a) d = add_answer-other app s c.seat c a given (all_told-Valid s c.seat valid) d apart there (view-told app s c.seat)
   bus_answer_other (Request.Grant call) d = touches (grant_touch app s call) (grant t c.who call) (grant-other app t c.who call)
   bus_answer_other (Request.Revoke call) d = touches (revoke_touch app s call) (revoke t c.who call) (revoke-other app t c.who call)
   bus_answer_other (Request.DeleteDocument doc) d = touches (delete_touch app s doc) (delete_document t c.who doc) (delete-other app t c.who doc)
@@ -145,42 +155,61 @@ module _ (app : List ℕ) (s : State) (c : Connection) (given : Given) (e : foun
   bus_answer_other (Request.ListDocuments name) d = touches [] (list_documents t c.who name) (list-other app t c.who name)
   bus_answer_other request d = touches [] (does t Answer.Done) (refl, refl)
 
-module _ (app : List ℕ) (s : State) (seat : ℕ) (request : Request) (given : Given) (v : Valid s) (d : is_no_add request ≡ true) where
+module _ (app : List ℕ) (s : State) (seat : ℕ) (c : Connection) (given : Given) (v : Valid s) (e : connection_of s.connections seat ≡ Some c) (k : is_mount c.kind ≡ false) (named : c.who ≡ Who.App app) where
+  abbrev told : State
+  told = all_told c.seat s
+
+  -- what the trace tells of an Add
+  told-is : (a : AddRequest) → own_of s (entry seat (Request.Add a) given) ≡ told_of_add seat told c a given
+  told-is a =
+      let is : bus_of (connection_of s.connections seat) ≡ Some c = ap bus_of e ∙ ap (λ (b : Bool). cond b None (Some c)) k in
+      λ i. record {
+        seat = seat;
+        request = Request.Add a;
+        now = given.now;
+        numbers = given.numbers;
+        shown = shown_by s a given (is i);
+        reused = reused_on s a (is i);
+        looks = length given.looks;
+        full = given.full;
+        fault = given.fault;
+      }
+
+  add_own : (request : Request) → ToldToAdd s request → GivenToAdd s c request given → AddIsOwn app told c given (own_of s (entry seat request given)) refl refl named request
+  add_own (Request.Add a) t l =
+      ap (λ (mine : Own). own_bus_answer (view told app) (own_connection app c) mine (Request.Add a)) (told-is a) ∙ add_answer-own app told seat c a given (all_told-Valid s c.seat v) t l named
+  add_own request t l = tt
+
+module _ (app : List ℕ) (s : State) (seat : ℕ) (request : Request) (given : Given) (v : Valid s) where
   abbrev mine : Own
   mine = own_of s (entry seat request given)
 
-  bus_kind_own : (c : Connection) (m : Bool) → connection_of s.connections seat ≡ Some c → is_app app c.who ≡ true →
+  bus_kind_own : (c : Connection) (m : Bool) → is_mount c.kind ≡ m → connection_of s.connections seat ≡ Some c → is_app app c.who ≡ true → ToldToAdd s request → GivenToAdd s c request given →
       own_bus_step (view s app) mine request (cond m None (Some (own_connection app c))) ≡ seen_step app (bus_step s request given (cond m None (Some c)))
-  bus_kind_own c true e h = refl
-  bus_kind_own c false e h =
+  bus_kind_own c true k e h t l = refl
+  bus_kind_own c false k e h t l =
+      let named : c.who ≡ Who.App app = is_app-named app c.who h in
       ap (λ (x : AppView). with_signals [] (own_bus_answer x (own_connection app c) mine request)) (sym (view-told app s c.seat))
-      ∙ (ap (λ (done : AppView × Answer). with_signals [] done) (bus_answer_own app (all_told c.seat s) c given mine refl refl (is_app-named app c.who h) request d)
+      ∙ (ap (λ (done : AppView × Answer). with_signals [] done) (bus_answer_own app (all_told c.seat s) c given mine refl refl named request (add_own app s seat c given v e k named request t l))
       ∙ (λ i. seen_step app (with_signals (sym (own_unsent app s seat c v e h) i) (bus_answer (all_told c.seat s) c request given))))
 
-  pub bus_own : (o : Option Connection) → connection_of s.connections seat ≡ o → (o ≡ None → ⊥) → is_by app (maker o request) ≡ true →
-      own_bus_step (view s app) mine request (own_bus_of (found_connection (own_connections app s.connections) seat)) ≡ seen_step app (bus_step s request given (bus_of o))
-  bus_own None e b h = absurd (b refl)
-  bus_own (Some c) e b h =
-      ap (λ (o : Option OwnConnection). own_bus_step (view s app) mine request (own_bus_of o)) (own-some app seat s.connections c e h) ∙ bus_kind_own c (is_mount c.kind) e h
+  pub bus_own : (c : Connection) → connection_of s.connections seat ≡ Some c → is_app app c.who ≡ true → ToldToAdd s request → GivenToAdd s c request given →
+      own_bus_step (view s app) mine request (own_bus_of (found_connection (own_connections app s.connections) seat)) ≡ seen_step app (bus_step s request given (bus_of (Some c)))
+  bus_own c e h t l =
+      ap (λ (o : Option OwnConnection). own_bus_step (view s app) mine request (own_bus_of o)) (own-some app seat s.connections c e h) ∙ bus_kind_own c (is_mount c.kind) refl e h t l
 
-  bus_kind_other : (c : Connection) (m : Bool) → found_connection (own_connections app s.connections) c.seat ≡ None →
+  bus_kind_other : (c : Connection) (m : Bool) → found_connection (own_connections app s.connections) c.seat ≡ None → is_app app c.who ≡ false → GivenToAdd s c request given →
       apply_all (view s app) (cond (is_done (bus_step s request given (cond m None (Some c))).1.answer) (bus_touch app s request given (cond m None (Some c))) []) ≡ view (bus_step s request given (cond m None (Some c))).0 app
-  bus_kind_other c true e = refl
-  bus_kind_other c false e = bus_answer_other app s c given e request d
+  bus_kind_other c true e h l = refl
+  bus_kind_other c false e h l = bus_answer_other app s c given v h e request l
 
-  pub bus_other : (o : Option Connection) → connection_of s.connections seat ≡ o → is_by app (maker o request) ≡ false →
-      apply_all (view s app) (cond (is_done (bus_step s request given (bus_of o)).1.answer) (bus_touch app s request given (bus_of o)) []) ≡ view (bus_step s request given (bus_of o)).0 app
-  bus_other None e h = refl
-  bus_other (Some c) e h =
+  pub bus_other : (c : Connection) → connection_of s.connections seat ≡ Some c → is_app app c.who ≡ false → GivenToAdd s c request given →
+      apply_all (view s app) (cond (is_done (bus_step s request given (bus_of (Some c))).1.answer) (bus_touch app s request given (bus_of (Some c))) []) ≡ view (bus_step s request given (bus_of (Some c))).0 app
+  bus_other c e h l =
       let same : c.seat ≡ seat = nat_is c.seat seat (found_passes (λ (x : Connection). x.seat == seat) s.connections c e) in
-      bus_kind_other c (is_mount c.kind) (ap (λ (n : ℕ). found_connection (own_connections app s.connections) n) same ∙ own-other app seat s.connections c v.seats_differ e h)
+      bus_kind_other c (is_mount c.kind) (ap (λ (n : ℕ). found_connection (own_connections app s.connections) n) same ∙ own-other app seat s.connections c v.seats_differ e h) h l
 
 -- ---- an entry, by its kind
-
--- no Add is an entry yet
-defined-no_add : (request : Request) → is_defined request ≡ true → is_no_add request ≡ true
-defined-no_add (Request.Add a) d = cc
-defined-no_add request d = refl
 
 nothing-touched : (v : AppView) (b : Bool) → apply_all v (cond b [] []) ≡ v
 nothing-touched v true = refl
@@ -193,7 +222,7 @@ step_own app s seat (Request.Enter who kind) given v d m l = ap (λ (done : AppV
 step_own app s seat Request.Leave given v d m l = ap (λ (done : AppView × Answer). with_signals [] done) (leave_own app s seat m)
 step_own app s seat Request.Collect given v d m l = collect_own app s seat v (connection_of s.connections seat) refl m
 step_own app s seat (Request.Node r) given v d m l = node_own app s seat r given v (connection_of s.connections seat) refl m l
-step_own app s seat request given v d m l = bus_own app s seat request given v (defined-no_add request d) (connection_of s.connections seat) refl (λ e. cc) m
+step_own app s seat request given v d m l = cc
 
 -- that it does not make: what is touched gives the view after
 pub step_other : (app : List ℕ) (s : State) (seat : ℕ) (request : Request) (given : Given) → Valid s → is_defined request ≡ true → made_by app (connection_of s.connections seat) request ≡ false →
@@ -202,7 +231,7 @@ step_other app s seat (Request.Enter who kind) given v d m = nothing-touched (vi
 step_other app s seat Request.Leave given v d m = nothing-touched (view s app) _ ∙ leave_other app s seat v m
 step_other app s seat Request.Collect given v d m = nothing-touched (view s app) _ ∙ collect_other app s (bus_of (connection_of s.connections seat))
 step_other app s seat (Request.Node r) given v d m = nothing-touched (view s app) _ ∙ node_other app s seat r given v (mount_of (connection_of s.connections seat))
-step_other app s seat request given v d m = bus_other app s seat request given v (defined-no_add request d) (connection_of s.connections seat) refl m
+step_other app s seat request given v d m = cc
 
 -- ---- a history, by the laws of one step alone
 

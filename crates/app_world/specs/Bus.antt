@@ -23,7 +23,8 @@ use Rattle.app_world.specs.Present.{own_present}
 use Rattle.app_world.specs.Revoke.{own_revoke, revoke_touch}
 use Rattle.app_world.specs.View.{AppView, OwnConnection}
 
--- the host alone may look a path up, and ask for what is known of documents
+-- The host alone may look a path up, and ask for what is known of documents. Nothing comes of the
+-- requests that are none on documents: their step doesn't ask this.
 abbrev pub own_bus_verdict : AppView → OwnConnection → Own → Request → Option OwnVerdict
 own_bus_verdict v c own (Request.Present path) = Some (own_present v c path)
 own_bus_verdict v c own (Request.Add a) =
@@ -34,7 +35,10 @@ own_bus_verdict v c own (Request.DeleteDocument doc) = Some (own_delete_document
 own_bus_verdict v c own (Request.LookupDocument path) = Some (OwnRefuses Code.NotAllowed)
 own_bus_verdict v c own (Request.Info doc) = Some (OwnRefuses Code.NotAllowed)
 own_bus_verdict v c own (Request.ListDocuments app) = Some (OwnRefuses Code.NotAllowed)
-own_bus_verdict v c own request = Some (OwnDoes v Answer.Done)
+own_bus_verdict v c own (Request.Enter who kind) = Some (OwnDoes v Answer.Done)
+own_bus_verdict v c own Request.Leave = Some (OwnDoes v Answer.Done)
+own_bus_verdict v c own Request.Collect = Some (OwnDoes v Answer.Done)
+own_bus_verdict v c own (Request.Node r) = Some (OwnDoes v Answer.Done)
 
 -- after all checks: the keeper fails, or it is done
 abbrev pub own_kept : AppView → Fault → AppView → Answer → AppView × Answer
@@ -52,7 +56,17 @@ own_settled v refused own (Some (OwnDoes after answer)) =
 -- the view after a refusal: the presented files that an Add takes have left the queue
 abbrev pub own_refused_view : AppView → OwnConnection → Request → AppView
 own_refused_view v c (Request.Add a) = own_taken_from_queue c a v
-own_refused_view v c request = v
+own_refused_view v c (Request.Present path) = v
+own_refused_view v c (Request.Grant call) = v
+own_refused_view v c (Request.Revoke call) = v
+own_refused_view v c (Request.DeleteDocument doc) = v
+own_refused_view v c (Request.LookupDocument path) = v
+own_refused_view v c (Request.Info doc) = v
+own_refused_view v c (Request.ListDocuments app) = v
+own_refused_view v c (Request.Enter who kind) = v
+own_refused_view v c Request.Leave = v
+own_refused_view v c Request.Collect = v
+own_refused_view v c (Request.Node r) = v
 
 abbrev pub own_bus_answer : AppView → OwnConnection → Own → Request → AppView × Answer
 own_bus_answer v c own request =
@@ -74,4 +88,11 @@ bus_touch app s (Request.Add a) given o = add_touch_by app s a given o
 bus_touch app s (Request.Grant call) given o = grant_touch app s call
 bus_touch app s (Request.Revoke call) given o = revoke_touch app s call
 bus_touch app s (Request.DeleteDocument doc) given o = delete_touch app s doc
-bus_touch app s request given o = []
+bus_touch app s (Request.Present path) given o = []
+bus_touch app s (Request.LookupDocument path) given o = []
+bus_touch app s (Request.Info doc) given o = []
+bus_touch app s (Request.ListDocuments name) given o = []
+bus_touch app s (Request.Enter who kind) given o = []
+bus_touch app s Request.Leave given o = []
+bus_touch app s Request.Collect given o = []
+bus_touch app s (Request.Node r) given o = []

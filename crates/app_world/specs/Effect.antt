@@ -19,10 +19,10 @@ pub data Effect : Type 0 where
   -- the file of this path and generation has another content
   Bytes : List ℕ → ℕ → Content → Effect
 
--- the document with more rights than it was held with, if it was
+-- A document that was there stays as it was, with more rights. One that was not joins with these
 abbrev pub with_more : Document → RightSet → Option HeldDocument → HeldDocument
 with_more d more None = record { document = d; rights = more }
-with_more d more (Some x) = record { document = d; rights = union x.rights more }
+with_more d more (Some x) = record x { rights = union x.rights more }
 
 -- what was there stays
 abbrev pub with_content : List ℕ → Content → Option PathContent → PathContent

@@ -8,6 +8,7 @@ use Rattle.portal_model.specs.declared.entry.Fault.{Fault}
 use Rattle.portal_model.specs.declared.entry.Given.{Given}
 use Rattle.portal_model.specs.declared.reply.Answer.{Answer}
 use Rattle.portal_model.specs.declared.reply.Reply.{Reply}
+use Rattle.portal_model.specs.declared.request.AddRequest.{AddRequest}
 use Rattle.portal_model.specs.declared.request.NodeOp.{NodeOp}
 use Rattle.portal_model.specs.declared.request.NodeRequest.{NodeRequest}
 use Rattle.portal_model.specs.declared.request.Request.{Request}
@@ -50,7 +51,21 @@ abbrev pub own_node_answer : AppView → NodeRequest → NodeOp → Own → AppV
 own_node_answer v r (NodeOp.GetAttr flags fh) own =
     let looks = succeeding own.fault own.looks (own_get_attr_looks v r flags) in
     (v, own_get_attr_answer v r flags looks)
-own_node_answer v r op own = (v, undefined_answer)
+own_node_answer v r (NodeOp.Lookup name) own = (v, undefined_answer)
+own_node_answer v r (NodeOp.Forget count) own = (v, undefined_answer)
+own_node_answer v r (NodeOp.BatchForget nodes) own = (v, undefined_answer)
+own_node_answer v r (NodeOp.SetAttr valid fh size) own = (v, undefined_answer)
+own_node_answer v r (NodeOp.Open flags) own = (v, undefined_answer)
+own_node_answer v r (NodeOp.Create name flags) own = (v, undefined_answer)
+own_node_answer v r (NodeOp.Read fh offset size) own = (v, undefined_answer)
+own_node_answer v r (NodeOp.Write fh offset content) own = (v, undefined_answer)
+own_node_answer v r (NodeOp.Flush fh) own = (v, undefined_answer)
+own_node_answer v r (NodeOp.Fsync fh) own = (v, undefined_answer)
+own_node_answer v r (NodeOp.Release fh) own = (v, undefined_answer)
+own_node_answer v r NodeOp.OpenDir own = (v, undefined_answer)
+own_node_answer v r (NodeOp.ReadDir fh offset size) own = (v, undefined_answer)
+own_node_answer v r (NodeOp.ReleaseDir fh) own = (v, undefined_answer)
+own_node_answer v r (NodeOp.Access mask) own = (v, undefined_answer)
 
 abbrev pub own_node_step : AppView → NodeRequest → Own → Option OwnConnection → AppView × Reply
 own_node_step v r own None = not_here v
@@ -68,8 +83,22 @@ own_request_step v own Request.Collect =
     own_collect_step v (own_bus_of (found_connection v.connections own.seat))
 own_request_step v own (Request.Node r) =
     own_node_step v r own (own_mount_of (found_connection v.connections own.seat))
-own_request_step v own request =
-    own_bus_step v own request (own_bus_of (found_connection v.connections own.seat))
+own_request_step v own (Request.Present path) =
+    own_bus_step v own (Request.Present path) (own_bus_of (found_connection v.connections own.seat))
+own_request_step v own (Request.Add a) =
+    own_bus_step v own (Request.Add a) (own_bus_of (found_connection v.connections own.seat))
+own_request_step v own (Request.Grant call) =
+    own_bus_step v own (Request.Grant call) (own_bus_of (found_connection v.connections own.seat))
+own_request_step v own (Request.Revoke call) =
+    own_bus_step v own (Request.Revoke call) (own_bus_of (found_connection v.connections own.seat))
+own_request_step v own (Request.DeleteDocument doc) =
+    own_bus_step v own (Request.DeleteDocument doc) (own_bus_of (found_connection v.connections own.seat))
+own_request_step v own (Request.LookupDocument path) =
+    own_bus_step v own (Request.LookupDocument path) (own_bus_of (found_connection v.connections own.seat))
+own_request_step v own (Request.Info doc) =
+    own_bus_step v own (Request.Info doc) (own_bus_of (found_connection v.connections own.seat))
+own_request_step v own (Request.ListDocuments app) =
+    own_bus_step v own (Request.ListDocuments app) (own_bus_of (found_connection v.connections own.seat))
 
 -- the view after a request of the application, and the reply to it
 abbrev pub app_step : AppView → Own → AppView × Reply
@@ -83,14 +112,42 @@ pub data TraceItem : Type 0 where
   -- what another changes of its view
   Changed : Effect → TraceItem
 
+abbrev pub shown_by : State → AddRequest → Given → Option Connection → List Content
+shown_by s a given None = []
+shown_by s a given (Some c) = shown_to s c a given
+
+abbrev pub reused_on : State → AddRequest → Option Connection → List (Option DocId)
+reused_on s a None = []
+reused_on s a (Some c) = reused_by s c a
+
 -- what is told of an Add alone
 abbrev pub contents_shown : State → Request → Given → Option Connection → List Content
-contents_shown s (Request.Add a) given (Some c) = shown_to s c a given
-contents_shown s request given o = []
+contents_shown s (Request.Add a) given o = shown_by s a given o
+contents_shown s (Request.Present path) given o = []
+contents_shown s (Request.Grant call) given o = []
+contents_shown s (Request.Revoke call) given o = []
+contents_shown s (Request.DeleteDocument doc) given o = []
+contents_shown s (Request.LookupDocument path) given o = []
+contents_shown s (Request.Info doc) given o = []
+contents_shown s (Request.ListDocuments name) given o = []
+contents_shown s (Request.Enter who kind) given o = []
+contents_shown s Request.Leave given o = []
+contents_shown s Request.Collect given o = []
+contents_shown s (Request.Node r) given o = []
 
 abbrev pub documents_reused : State → Request → Option Connection → List (Option DocId)
-documents_reused s (Request.Add a) (Some c) = reused_by s c a
-documents_reused s request o = []
+documents_reused s (Request.Add a) o = reused_on s a o
+documents_reused s (Request.Present path) o = []
+documents_reused s (Request.Grant call) o = []
+documents_reused s (Request.Revoke call) o = []
+documents_reused s (Request.DeleteDocument doc) o = []
+documents_reused s (Request.LookupDocument path) o = []
+documents_reused s (Request.Info doc) o = []
+documents_reused s (Request.ListDocuments name) o = []
+documents_reused s (Request.Enter who kind) o = []
+documents_reused s Request.Leave o = []
+documents_reused s Request.Collect o = []
+documents_reused s (Request.Node r) o = []
 
 abbrev pub own_of : State → Entry → Own
 own_of s e =
@@ -107,11 +164,29 @@ own_of s e =
       fault = e.given.fault;
     }
 
--- of a request on a node none changes anything yet
+-- An Enter, a Leave and a Collect change nothing of another's view, and no request on a node does
+-- yet
 abbrev pub request_touch : List ℕ → State → ℕ → Request → Given → List Effect
+request_touch app s seat (Request.Enter who kind) given = []
+request_touch app s seat Request.Leave given = []
+request_touch app s seat Request.Collect given = []
 request_touch app s seat (Request.Node r) given = []
-request_touch app s seat request given =
-    bus_touch app s request given (bus_of (connection_of s.connections seat))
+request_touch app s seat (Request.Present path) given =
+    bus_touch app s (Request.Present path) given (bus_of (connection_of s.connections seat))
+request_touch app s seat (Request.Add a) given =
+    bus_touch app s (Request.Add a) given (bus_of (connection_of s.connections seat))
+request_touch app s seat (Request.Grant call) given =
+    bus_touch app s (Request.Grant call) given (bus_of (connection_of s.connections seat))
+request_touch app s seat (Request.Revoke call) given =
+    bus_touch app s (Request.Revoke call) given (bus_of (connection_of s.connections seat))
+request_touch app s seat (Request.DeleteDocument doc) given =
+    bus_touch app s (Request.DeleteDocument doc) given (bus_of (connection_of s.connections seat))
+request_touch app s seat (Request.LookupDocument path) given =
+    bus_touch app s (Request.LookupDocument path) given (bus_of (connection_of s.connections seat))
+request_touch app s seat (Request.Info doc) given =
+    bus_touch app s (Request.Info doc) given (bus_of (connection_of s.connections seat))
+request_touch app s seat (Request.ListDocuments name) given =
+    bus_touch app s (Request.ListDocuments name) given (bus_of (connection_of s.connections seat))
 
 -- what an entry that the application does not make changes of its view, where it is done
 abbrev pub touch : List ℕ → State → Entry → List Effect
