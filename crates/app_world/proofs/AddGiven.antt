@@ -1,6 +1,6 @@
 -- What the outside gives to an Add: the numbers that it takes as it is done are free, and the looks that its own
 -- machine is told of are those that were given.
-use Rattle.std.proofs.Common.{◌≡◌, ℕ, ◌+◌, ◌-◌, ◌≤◌, length, List, [], ◌∷◌, ◌++◌, drop, fold, map, take, Bool, true, false, not, ◌&&◌, cond, Option, Some, None, refl, sym, ap, ◌∙◌, subst, arith}
+use Rattle.std.proofs.Common.{◌≡◌, ℕ, ◌+◌, ◌-◌, ◌≤◌, length, List, [], ◌∷◌, ◌++◌, drop, map, take, Bool, true, false, not, ◌&&◌, cond, Option, Some, None, refl, sym, ap, ◌∙◌, subst, arith}
 use Rattle.std.specs.Option.{option_map}
 use Rattle.portal_base.specs.Names.{doc_text}
 use Rattle.portal_base.specs.declared.files.File.{File}
@@ -9,24 +9,23 @@ use Rattle.portal_base.specs.declared.names.doc_id.DocId.{DocId}
 use Rattle.portal_base.specs.declared.who.Who.{Who}
 use Rattle.rights_rule.specs.Rights.{rights_named}
 use Rattle.portal_model.specs.declared.entry.Given.{Given}
-use Rattle.portal_model.specs.declared.reply.Answer.{Answer}
 use Rattle.portal_model.specs.declared.reply.Code.{Code}
 use Rattle.portal_model.specs.declared.request.AddRequest.{AddRequest}
 use Rattle.portal_model.specs.declared.request.Request.{Request}
 use Rattle.portal_model.specs.declared.state.Connection.{Connection}
-use Rattle.portal_model.specs.Add.{Added, add, add_allowed, add_file, add_looking, add_presented, add_shown, added, added_files, caller_rights, first_number, are_of_kind, listed_rights, may_list_all, new_document, taken_from_queue, use_document, used_again, with_new_document, with_rights_of}
+use Rattle.portal_model.specs.Add.{Added, add, add_allowed, add_file, add_looking, add_presented, added, added_files, caller_rights, first_number, are_of_kind, listed_rights, may_list_all, new_document, taken_from_queue, use_document, used_again, with_new_document, with_rights_of}
 use Rattle.portal_model.specs.AddArguments.{are_add_arguments, are_presented, document_paths, is_left_out, names_nobody, paths_shown, reuses}
 use Rattle.portal_model.specs.Bus.{bus_answer, is_tree, moment_given}
-use Rattle.portal_model.specs.Content.{Content, content_at, look_of}
+use Rattle.portal_model.specs.Content.{content_at, look_of}
 use Rattle.portal_model.specs.Grant.{exceeds_limits, given_rights}
-use Rattle.portal_model.specs.Outside.{AreDrawn, LawfulBus, files_told, meets_limit, words_drawn}
+use Rattle.portal_model.specs.Outside.{AreDrawn, LawfulBus, meets_limit, words_drawn}
 use Rattle.portal_model.specs.Present.{with_queue}
 use Rattle.portal_model.specs.State.{State, is_app}
 use Rattle.portal_model.specs.Step.{all_told}
 use Rattle.portal_model.specs.Valid.{Valid}
 use Rattle.portal_model.specs.Verdict.{Verdict, unless, walk_unless}
 use Rattle.portal_model.specs.Walk.{Gives, Walk, walked}
-use Rattle.app_world.specs.Add.{add_touch, asked, document_used, file_touch, files_touch, own_add, own_files, own_looks, own_taken_from_queue, reused_by, reused_of, shown_to}
+use Rattle.app_world.specs.Add.{add_touch, asked, file_touch, files_touch, own_add, own_files, own_taken_from_queue, reused_by, reused_of, shown_to}
 use Rattle.app_world.specs.Bus.{bus_touch, own_bus_answer, own_settled}
 use Rattle.app_world.specs.Effect.{Effect, apply_all}
 use Rattle.app_world.specs.Own.{Own}
@@ -34,10 +33,10 @@ use Rattle.app_world.specs.Touched.{is_done}
 use Rattle.app_world.specs.View.{AppView, OwnConnection, found_connection, own_connection, own_connections, view}
 use Rattle.app_world.proofs.AddCallLaws.{add-other, begun, taken-other, taken-own}
 use Rattle.app_world.proofs.AddFree.{HasNumbers, LiveMade, Unused, drawn-unused, files-free, valid-live}
-use Rattle.app_world.proofs.AddLaws.{Facts, Free, valid-facts}
+use Rattle.app_world.proofs.AddLaws.{Free, valid-facts}
 use Rattle.app_world.proofs.AddMadeLaws.{IsTold, add-own}
 use Rattle.app_world.proofs.AddTold.{contents-told, looks-told, none-given, reused-told}
-use Rattle.app_world.proofs.BusLaws.{limited, seen_answer, settled-other, settled-own, settled-same}
+use Rattle.app_world.proofs.BusLaws.{seen_answer, settled-other, settled-own, settled-same}
 use Rattle.app_world.proofs.ReachedLaws.{seen_verdict}
 
 -- ---- numbers

@@ -57,6 +57,7 @@ effects = record {
   joins_below = refl;
   joins_above = refl;
   gains = refl;
+  stays_as_it_was = refl;
   same_path = refl;
   loses_one = refl;
   loses_last = refl;

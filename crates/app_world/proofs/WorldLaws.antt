@@ -14,7 +14,7 @@ use Rattle.portal_model.specs.declared.state.Connection.{Connection}
 use Rattle.portal_model.specs.Bus.{bus_answer, settled}
 use Rattle.portal_model.specs.DeleteDocument.{delete_document}
 use Rattle.portal_model.specs.Grant.{grant}
-use Rattle.portal_model.specs.History.{is_by, made_by, maker, makes, EachLawful, replies}
+use Rattle.portal_model.specs.History.{made_by, makes, EachLawful, replies}
 use Rattle.portal_model.specs.Info.{info}
 use Rattle.portal_model.specs.Lawful.{Lawful, LooksAre, LawfulLooks, is_defined}
 use Rattle.portal_model.specs.ListDocuments.{list_documents}

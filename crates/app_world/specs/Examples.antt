@@ -134,6 +134,9 @@ pub record EffectsOnAView : Type 0 where
   pub gains :
       apply (a_view reads old_file) (Gained (held 10 a_text reads).document writes new_file)
       ≡ a_view both old_file
+  pub stays_as_it_was :
+      apply (a_view reads old_file) (Gained (held 10 b_text writes).document writes new_file)
+      ≡ a_view both old_file
   pub same_path :
       apply (a_view reads old_file) (Gained (held 12 a_text writes).document writes new_file)
       ≡ two_views reads writes

@@ -17,9 +17,10 @@ pub fn steps_are_seen()
     ensures { StepsSeen }
 {}
 
-/// One request of a bus but an Add, as an application sees it: its own comes to
-/// the same in its view as in the portal, and another's changes its view as it is
-/// told, whatever the outside gave.
+/// One request of a bus, as an application sees it: its own comes to the same in
+/// its view as in the portal, and another's changes its view as it is told. Of an
+/// Add this is said where what the outside gave it is lawful, of its own over a
+/// tree that tells; of every other request whatever the outside gave.
 pub fn requests_of_a_bus_are_seen()
     ensures { BusSeen }
 {}
