@@ -103,15 +103,15 @@ costs = record { enter = refl; attributes = refl; leave = refl; collect = refl; 
 
 pub attributes : AttributesOfGrantedFile
 attributes = record {
-  legal = record { opening = valid_read_write; lawful = (record { defined = refl; clock = refl; words = refl; numbers = refl; full = refl; looks = refl }, (record { defined = refl; clock = refl; words = refl; numbers = refl; full = refl; looks = refl }, tt)) };
+  legal = record { opening = valid_read_write; lawful = (record { defined = refl; given = refl }, (record { defined = refl; given = record { clock = refl; words = refl; numbers = refl; full = refl; looks = refl } }, tt)) };
   replies_are = refl;
 }
 
 pub foreign : ForeignIsAsMissing
 foreign = record {
-  legal_foreign = record { opening = valid_of_other; lawful = (record { defined = refl; clock = refl; words = refl; numbers = refl; full = refl; looks = refl }, (record { defined = refl; clock = refl; words = refl; numbers = refl; full = refl; looks = refl }, tt)) };
+  legal_foreign = record { opening = valid_of_other; lawful = (record { defined = refl; given = refl }, (record { defined = refl; given = record { clock = refl; words = refl; numbers = refl; full = refl; looks = refl } }, tt)) };
   foreign = refl;
-  legal_missing = record { opening = valid_of_nobody; lawful = (record { defined = refl; clock = refl; words = refl; numbers = refl; full = refl; looks = refl }, (record { defined = refl; clock = refl; words = refl; numbers = refl; full = refl; looks = refl }, tt)) };
+  legal_missing = record { opening = valid_of_nobody; lawful = (record { defined = refl; given = refl }, (record { defined = refl; given = record { clock = refl; words = refl; numbers = refl; full = refl; looks = refl } }, tt)) };
   missing = refl;
 }
 
@@ -122,7 +122,7 @@ seats = record {
   twice = refl;
   on_a_bus = refl;
   by_handle = refl;
-  by_handle_lawful = record { defined = refl; clock = refl; words = refl; numbers = refl; full = refl; looks = refl };
+  by_handle_lawful = record { defined = refl; given = record { clock = refl; words = refl; numbers = refl; full = refl; looks = refl } };
 }
 
 pub endings : LeaveAndCollect
@@ -135,11 +135,11 @@ endings = record {
   nothing_waits = refl;
   tells = refl;
   tells_once = refl;
-  lawful = record { defined = refl; clock = refl; words = refl; numbers = refl; full = refl; looks = refl };
+  lawful = record { defined = refl; given = refl };
 }
 
 pub failed : FailedLook
 failed = record {
   reply = refl;
-  lawful = record { defined = refl; clock = refl; words = refl; numbers = refl; full = refl; looks = (refl, omega arith) };
+  lawful = record { defined = refl; given = record { clock = refl; words = refl; numbers = refl; full = refl; looks = (refl, omega arith) } };
 }

@@ -1,6 +1,6 @@
 pub mod Finds
+pub mod Sound
 pub mod BusLaws
-pub mod ValidLaws
 pub mod Histories
 pub mod Silence
 pub mod Kept
@@ -9,6 +9,17 @@ pub mod Rising
 pub mod TripleOrder
 pub mod FourTriples
 pub mod RightsLaws
+pub mod Documented
+pub mod Queues
+pub mod Doings
+pub mod Drawn
+pub mod Lives
+pub mod PresentValid
+pub mod GrantValid
+pub mod RevokeValid
+pub mod DeleteDocumentValid
+pub mod AddValid
+pub mod ValidLaws
 pub mod OpeningLaws
 pub mod SeatLaws
 pub mod ExampleProofs

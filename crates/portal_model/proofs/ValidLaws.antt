@@ -1,56 +1,53 @@
 -- A valid state stays valid.
-use Rattle.std.proofs.Common.{◌≡◌, ℕ, ◌==◌, nat_eq, List, [], ◌∷◌, ◌++◌, map, Bool, true, false, not, cond, Option, Some, None, refl, sym, ap, subst, arith}
+use Rattle.std.proofs.Common.{◌≡◌, ℕ, ◌==◌, nat_eq, drop, length, List, [], ◌∷◌, ◌++◌, map, Bool, true, false, not, ◌||◌, cond, Option, Some, None, refl, sym, ap, subst, ◌∙◌, arith}
 use Rattle.std.specs.List.{filter, list_any, list_all, IsDistinct}
 use Rattle.std.proofs.lemmas.Bool.Decides.{nat_tests}
 use Rattle.std.proofs.lemmas.List.Folds.{list_all-append}
 use Rattle.std.proofs.lemmas.Cmp.{nat_eq_equiv}
 use Rattle.std.proofs.lemmas.Map.Keys.{IsDistinct-push}
+use Rattle.portal_base.specs.Names.{is_app_name, is_same}
+use Rattle.portal_base.specs.declared.names.doc_id.DocId.{DocId}
 use Rattle.portal_base.specs.declared.who.Kind.{Kind}
 use Rattle.portal_base.specs.declared.who.Who.{Who}
 use Rattle.portal_model.specs.declared.entry.Entry.{Entry}
+use Rattle.portal_model.specs.declared.entry.Fault.{Fault}
 use Rattle.portal_model.specs.declared.entry.Given.{Given}
+use Rattle.portal_model.specs.declared.reply.Answer.{Answer}
+use Rattle.portal_model.specs.declared.reply.Code.{Code}
+use Rattle.portal_model.specs.declared.request.AddRequest.{AddRequest}
 use Rattle.portal_model.specs.declared.request.NodeOp.{NodeOp}
 use Rattle.portal_model.specs.declared.request.NodeRequest.{NodeRequest}
 use Rattle.portal_model.specs.declared.request.Request.{Request}
 use Rattle.portal_model.specs.declared.state.Connection.{Connection}
+use Rattle.portal_model.specs.declared.state.Document.{Document}
+use Rattle.portal_model.specs.AddArguments.{are_presented}
+use Rattle.portal_model.specs.Arguments.{ahead_of_end, document_named, is_ended_path}
+use Rattle.portal_model.specs.Bus.{bus_answer, bus_walk, is_tree, kept, moment_given, refused_state, settled}
+use Rattle.portal_model.specs.Documents.{first_of}
 use Rattle.portal_model.specs.Enter.{entered, new_connection}
-use Rattle.portal_model.specs.Leave.{left, of_others}
 use Rattle.portal_model.specs.History.{run, EachLawful, Legal}
-use Rattle.portal_model.specs.Lawful.{Lawful, is_defined}
+use Rattle.portal_model.specs.Info.{info, info_of}
+use Rattle.portal_model.specs.Lawful.{Lawful, LawfulGiven, LawfulOnBus}
+use Rattle.portal_model.specs.Leave.{left, of_others}
+use Rattle.portal_model.specs.ListDocuments.{documents_listed, list_documents}
+use Rattle.portal_model.specs.LookupDocument.{lookup_document, text_of}
+use Rattle.portal_model.specs.Outside.{AreDrawn, LawfulBus, is_caller, meets_limit, verdict_of, words_drawn}
+use Rattle.portal_model.specs.Present.{with_queue}
 use Rattle.portal_model.specs.State.{State, connection_of}
-use Rattle.portal_model.specs.Step.{after, all_told, bus_of, collect_step, told_of, node_answer, node_step, request_step, mount_of}
+use Rattle.portal_model.specs.Step.{after, all_told, bus_of, bus_step, collect_step, is_mount, told_of, node_answer, node_step, request_step, mount_of}
 use Rattle.portal_model.specs.Valid.{Valid, is_sound_connection}
+use Rattle.portal_model.specs.Verdict.{Doing, Verdict, Refuses, Does, does}
+use Rattle.portal_model.proofs.AddValid.{add-valid}
 use Rattle.portal_model.proofs.Apart.{IsDistinct-filter, list_all-filter}
-
-abbrev seats : List Connection → List ℕ
-seats cs = map (λ (c : Connection). c.seat) cs
-
--- what a step that touches connections alone has to keep
-abbrev SoundConnections : ℕ → List Connection → Type 0
-SoundConnections queued cs = IsDistinct nat_eq (seats cs) × (list_all (is_sound_connection queued) cs ≡ true)
-
-pub Valid-connections : (s : State) (cs : List Connection) → Valid s → SoundConnections s.limits.queued cs → Valid (record s { connections = cs })
-Valid-connections s cs v k = record {
-  numbers_differ = v.numbers_differ;
-  numbers_made = v.numbers_made;
-  paths = v.paths;
-  applications_differ = v.applications_differ;
-  names = v.names;
-  rights_in_order = v.rights_in_order;
-  rights_placed = v.rights_placed;
-  seats_differ = k.0;
-  connections_sound = k.1;
-  entries_differ = v.entries_differ;
-  entries_sound = v.entries_sound;
-  files_differ = v.files_differ;
-  files_apart = v.files_apart;
-  files_told = v.files_told;
-  documents_within = v.documents_within;
-  made_within = v.made_within;
-  applications_within = v.applications_within;
-  made_limit = v.made_limit;
-  queued_limit = v.queued_limit;
-}
+use Rattle.portal_model.proofs.DeleteDocumentValid.{delete-valid}
+use Rattle.portal_model.proofs.Doings.{IfDoes, IfGiven, OnWalk, if-passes, on-walked}
+use Rattle.portal_model.proofs.Drawn.{Unused, drawn-length, drawn-unused}
+use Rattle.portal_model.proofs.Finds.{found_passes, nat_is}
+use Rattle.portal_model.proofs.GrantValid.{grant-valid}
+use Rattle.portal_model.proofs.PresentValid.{present-valid}
+use Rattle.portal_model.proofs.Queues.{dropped-connections, found_told, seats}
+use Rattle.portal_model.proofs.RevokeValid.{revoke-valid}
+use Rattle.portal_model.proofs.Sound.{SoundConnections, Valid-connections}
 
 -- ---- Enter
 
@@ -124,17 +121,115 @@ node_step-Valid : (s : State) (r : NodeRequest) (given : Given) (o : Option Conn
 node_step-Valid s r given None v = v
 node_step-Valid s r given (Some c) v = node_answer-Valid (all_told c.seat s) c.who r r.op given (all_told-Valid s c.seat v)
 
-request_step-Valid : (s : State) (seat : ℕ) (request : Request) (given : Given) → is_defined request ≡ true → Valid s → Valid (request_step s seat request given).0
-request_step-Valid s seat (Request.Enter who kind) given d v =
+-- ---- a request on documents
+
+-- what a walk does leaves a valid state, where no limit is met and the numbers of new documents are as many as it makes
+abbrev Good : State → List DocId → Doing → Type 0
+Good s numbers d = d.exceeds ≡ false → length numbers ≡ d.makes → Unused s.made numbers → Valid d.state
+
+module _ (s : State) (c found : Connection) (numbers : List DocId) (f : connection_of s.connections c.seat ≡ Some found) (q : found.queue ≡ c.queue) (caller : is_caller c.who ≡ true) (v : Valid s) where
+  abbrev P : Doing → Type 0
+  P = Good s numbers
+
+  always : (d : Doing) → Valid d.state → P d
+  always d h = λ e l u. h
+
+  info_of-valid : (o : Option Document) → IfDoes P (info_of s o)
+  info_of-valid None = tt
+  info_of-valid (Some d) = λ e l u. v
+
+  lookup-valid : (who : Who) (bytes : List ℕ) → IfDoes P (lookup_document s who bytes)
+  lookup-valid (Who.App app) bytes = tt
+  lookup-valid Who.Host bytes = if-passes P (is_ended_path bytes) Code.InvalidArgument (does s (Answer.Ids (text_of (first_of s.documents (ahead_of_end bytes)) ∷ []))) (λ ended. λ e l u. v)
+
+  info-valid : (who : Who) (doc : List ℕ) → IfDoes P (info s who doc)
+  info-valid (Who.App app) doc = tt
+  info-valid Who.Host doc = info_of-valid (document_named s.documents doc)
+
+  list-valid : (who : Who) (app : List ℕ) → IfDoes P (list_documents s who app)
+  list-valid (Who.App caller) app = tt
+  list-valid Who.Host app = if-passes P (is_same app [] || is_app_name app) Code.InvalidArgument (does s (Answer.Listed (documents_listed s app))) (λ named. λ e l u. v)
+
+  walk-valid : (request : Request) → OnWalk P (bus_walk s c request numbers)
+  walk-valid (Request.Present path) = present-valid P always s c found path f q v
+  walk-valid (Request.Add a) = add-valid P s c found a numbers (λ d h. h) f q caller v
+  walk-valid (Request.Grant call) = grant-valid P (λ d h. λ e l u. h e) s c.who call v
+  walk-valid (Request.Revoke call) = revoke-valid P always s c.who call v
+  walk-valid (Request.DeleteDocument doc) = delete-valid P always s c.who v doc
+  walk-valid (Request.LookupDocument path) = lookup-valid c.who path
+  walk-valid (Request.Info doc) = info-valid c.who doc
+  walk-valid (Request.ListDocuments app) = list-valid c.who app
+  walk-valid (Request.Enter who kind) = λ e l u. v
+  walk-valid Request.Leave = λ e l u. v
+  walk-valid Request.Collect = λ e l u. v
+  walk-valid (Request.Node r) = λ e l u. v
+
+  taken-valid : (a : AddRequest) (b : Bool) → Valid (cond b (with_queue c.seat (drop a.fds) s) s)
+  taken-valid a true = Valid-connections s _ v (dropped-connections s.limits.queued c.seat a.fds s.connections (v.seats_differ, v.connections_sound))
+  taken-valid a false = v
+
+  refused-valid : (request : Request) → Valid (refused_state s c request)
+  refused-valid (Request.Add a) = taken-valid a (are_presented c.queue a)
+  refused-valid request = v
+
+  kept-valid : (fault : Fault) (d : Doing) → Valid d.state → Valid (kept s fault d).0
+  kept-valid Fault.None d h = h
+  kept-valid Fault.Tree d h = h
+  kept-valid Fault.Keeper d h = v
+
+  done-valid : (refused : State) (full : Bool) (fault : Fault) (d : Doing) → Valid refused → (full ≡ false → Valid d.state) → Valid (cond full (refused, Answer.Refused Code.LimitsExceeded) (kept s fault d)).0
+  done-valid refused true fault d r h = r
+  done-valid refused false fault d r h = kept-valid fault d (h refl)
+
+  -- as many words as documents are made, where no limit is met
+  words_made : (d : Doing) → d.exceeds ≡ false → words_drawn (Some (Does d)) ≡ d.makes
+  words_made d e = ap (λ (b : Bool). cond b 0 d.makes) e
+
+  settled-valid : (refused : State) (given : Given) (w : Option Verdict) → Valid refused → AreDrawn s.made given.words numbers → length given.words ≡ words_drawn w → given.full ≡ meets_limit w → IfGiven P w →
+      Valid (settled s refused given w).0
+  settled-valid refused given None r drawn words full h = v
+  settled-valid refused given (Some (Refuses code)) r drawn words full h = r
+  settled-valid refused given (Some (Does d)) r drawn words full h =
+      done-valid refused given.full given.fault d r
+      (λ e.
+      let free : d.exceeds ≡ false = sym full ∙ e in
+      h free (sym (drawn-length s.made given.words numbers drawn) ∙ (words ∙ words_made d free)) (drawn-unused s.made given.words numbers drawn))
+
+bus_answer-Valid : (s : State) (c found : Connection) (request : Request) (given : Given) → connection_of s.connections c.seat ≡ Some found → found.queue ≡ c.queue → Valid s → LawfulBus s c request given → Valid (bus_answer s c request given).0
+bus_answer-Valid s c found request given f q v l =
+    settled-valid s c found given.numbers f q l.caller v (refused_state s c request) given (verdict_of s c request given) (refused-valid s c found given.numbers f q l.caller v request) l.numbers l.words l.full
+    (on-walked (Good s given.numbers) (bus_walk s c request given.numbers) (moment_given given.now) given.looks (is_tree given.fault) (walk-valid s c found given.numbers f q l.caller v request))
+
+bus_is : (o : Option Connection) (c : Connection) → bus_of o ≡ Some c → o ≡ Some c
+bus_is None c e = cc
+bus_is (Some d) c e = elim (is_mount d.kind) as (λ b. cond b None (Some d) ≡ Some c → Some d ≡ Some c) [ true ↦ λ h. cc | false ↦ λ h. h ] e
+
+bus_step-Valid : (s : State) (seat : ℕ) (request : Request) (given : Given) (o : Option Connection) → bus_of (connection_of s.connections seat) ≡ o → Valid s → LawfulOnBus s request given o → Valid (bus_step s request given o).0
+bus_step-Valid s seat request given None e v l = v
+bus_step-Valid s seat request given (Some c) e v l =
+    let there : connection_of s.connections seat ≡ Some c = bus_is (connection_of s.connections seat) c e in
+    let own : c.seat ≡ seat = nat_is c.seat seat (found_passes (λ (x : Connection). x.seat == seat) s.connections c there) in
+    let here : connection_of s.connections c.seat ≡ Some c = subst (λ (n : ℕ). connection_of s.connections n ≡ Some c) (sym own) there in
+    bus_answer-Valid (all_told c.seat s) c (record c { unsent = [] }) request given (found_told c.seat c s.connections here) refl (all_told-Valid s c.seat v) l
+
+request_step-Valid : (s : State) (seat : ℕ) (request : Request) (given : Given) → LawfulGiven s seat request given → Valid s → Valid (request_step s seat request given).0
+request_step-Valid s seat (Request.Enter who kind) given l v =
     Valid-connections s _ v (entered_sound seat who kind s.limits.queued s.connections (connection_of s.connections seat) refl (v.seats_differ, v.connections_sound))
-request_step-Valid s seat Request.Leave given d v =
+request_step-Valid s seat Request.Leave given l v =
     Valid-connections s _ v (left_sound seat s.limits.queued s.connections (connection_of s.connections seat) (v.seats_differ, v.connections_sound))
-request_step-Valid s seat Request.Collect given d v = collect_step-Valid s (bus_of (connection_of s.connections seat)) v
-request_step-Valid s seat (Request.Node r) given d v = node_step-Valid s r given (mount_of (connection_of s.connections seat)) v
-request_step-Valid s seat request given d v = cc
+request_step-Valid s seat Request.Collect given l v = collect_step-Valid s (bus_of (connection_of s.connections seat)) v
+request_step-Valid s seat (Request.Node r) given l v = node_step-Valid s r given (mount_of (connection_of s.connections seat)) v
+request_step-Valid s seat (Request.Present path) given l v = bus_step-Valid s seat (Request.Present path) given (bus_of (connection_of s.connections seat)) refl v l
+request_step-Valid s seat (Request.Add a) given l v = bus_step-Valid s seat (Request.Add a) given (bus_of (connection_of s.connections seat)) refl v l
+request_step-Valid s seat (Request.Grant call) given l v = bus_step-Valid s seat (Request.Grant call) given (bus_of (connection_of s.connections seat)) refl v l
+request_step-Valid s seat (Request.Revoke call) given l v = bus_step-Valid s seat (Request.Revoke call) given (bus_of (connection_of s.connections seat)) refl v l
+request_step-Valid s seat (Request.DeleteDocument doc) given l v = bus_step-Valid s seat (Request.DeleteDocument doc) given (bus_of (connection_of s.connections seat)) refl v l
+request_step-Valid s seat (Request.LookupDocument path) given l v = bus_step-Valid s seat (Request.LookupDocument path) given (bus_of (connection_of s.connections seat)) refl v l
+request_step-Valid s seat (Request.Info doc) given l v = bus_step-Valid s seat (Request.Info doc) given (bus_of (connection_of s.connections seat)) refl v l
+request_step-Valid s seat (Request.ListDocuments app) given l v = bus_step-Valid s seat (Request.ListDocuments app) given (bus_of (connection_of s.connections seat)) refl v l
 
 pub after-Valid : (s : State) (e : Entry) → Valid s → Lawful s e → Valid (after s e)
-after-Valid s e v l = request_step-Valid s e.seat e.request e.given l.defined v
+after-Valid s e v l = request_step-Valid s e.seat e.request e.given l.given v
 
 pub lawful-Valid : (h : List Entry) (s : State) → Valid s → EachLawful s h → Valid (run s h)
 lawful-Valid [] s v l = v

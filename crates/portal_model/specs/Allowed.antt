@@ -77,4 +77,14 @@ is_allowed s c (Request.Node r) = false
 -- a queue has a place for one more file, where one is presented
 abbrev pub has_place : State → Connection → Request → Bool
 has_place s c (Request.Present path) = nat_lt (length c.queue) s.limits.queued
-has_place s c request = true
+has_place s c (Request.Add a) = true
+has_place s c (Request.Grant call) = true
+has_place s c (Request.Revoke call) = true
+has_place s c (Request.DeleteDocument doc) = true
+has_place s c (Request.LookupDocument path) = true
+has_place s c (Request.Info doc) = true
+has_place s c (Request.ListDocuments app) = true
+has_place s c Request.Collect = true
+has_place s c (Request.Enter who kind) = true
+has_place s c Request.Leave = true
+has_place s c (Request.Node r) = true

@@ -38,7 +38,17 @@ bus_walk s c (Request.Node r) numbers = answers s Answer.Done
 -- the state after a refusal: the presented files that an Add takes have left the queue
 abbrev pub refused_state : State → Connection → Request → State
 refused_state s c (Request.Add a) = taken_from_queue c a s
-refused_state s c request = s
+refused_state s c (Request.Present path) = s
+refused_state s c (Request.Grant call) = s
+refused_state s c (Request.Revoke call) = s
+refused_state s c (Request.DeleteDocument doc) = s
+refused_state s c (Request.LookupDocument path) = s
+refused_state s c (Request.Info doc) = s
+refused_state s c (Request.ListDocuments app) = s
+refused_state s c (Request.Enter who kind) = s
+refused_state s c Request.Leave = s
+refused_state s c Request.Collect = s
+refused_state s c (Request.Node r) = s
 
 -- ---- what the outside gave
 

@@ -1,30 +1,68 @@
--- What the outside may have given to an entry. Four kinds of requests are entries today: an Enter,
--- a Leave, a Collect and a GETATTR. What it may give to a request on documents is `LawfulBus` in
--- Outside.antt, which joins `Lawful` as these become entries.
-use Rattle.std.specs.Prelude.{◌≡◌, ℕ, ◌<◌, List, [], length, take, Bool, true, false, None}
+-- What the outside may have given to an entry, by the kind of its request.
+use Rattle.std.specs.Prelude.{◌≡◌, ℕ, ◌<◌, List, [], length, take, Bool, true, false, Option, Some, None}
 use Rattle.portal_base.specs.declared.files.Look.{Look}
 use Rattle.portal_model.specs.declared.entry.Entry.{Entry}
 use Rattle.portal_model.specs.declared.entry.Fault.{Fault}
+use Rattle.portal_model.specs.declared.entry.Given.{Given}
 use Rattle.portal_model.specs.declared.request.NodeOp.{NodeOp}
+use Rattle.portal_model.specs.declared.request.NodeRequest.{NodeRequest}
 use Rattle.portal_model.specs.declared.request.Request.{Request}
-use Rattle.portal_model.specs.State.{State}
-use Rattle.portal_model.specs.Step.{looks_taken}
+use Rattle.portal_model.specs.declared.state.Connection.{Connection}
+use Rattle.portal_model.specs.Outside.{LawfulBus}
+use Rattle.portal_model.specs.State.{State, connection_of}
+use Rattle.portal_model.specs.Step.{all_told, bus_of, mount_of, node_looks}
+
+-- ---- the requests that may be entries
 
 -- the requests on nodes whose answers are defined
 abbrev pub is_defined_op : NodeOp → Bool
 is_defined_op (NodeOp.GetAttr flags fh) = true
-is_defined_op op = false
+is_defined_op (NodeOp.Lookup name) = false
+is_defined_op (NodeOp.Forget count) = false
+is_defined_op (NodeOp.BatchForget nodes) = false
+is_defined_op (NodeOp.SetAttr valid fh size) = false
+is_defined_op (NodeOp.Open flags) = false
+is_defined_op (NodeOp.Create name flags) = false
+is_defined_op (NodeOp.Read fh offset size) = false
+is_defined_op (NodeOp.Write fh offset content) = false
+is_defined_op (NodeOp.Flush fh) = false
+is_defined_op (NodeOp.Fsync fh) = false
+is_defined_op (NodeOp.Release fh) = false
+is_defined_op NodeOp.OpenDir = false
+is_defined_op (NodeOp.ReadDir fh offset size) = false
+is_defined_op (NodeOp.ReleaseDir fh) = false
+is_defined_op (NodeOp.Access mask) = false
 
--- the requests that may be entries; those on documents are defined too, and join them later
 abbrev pub is_defined : Request → Bool
 is_defined (Request.Enter who kind) = true
 is_defined Request.Leave = true
 is_defined Request.Collect = true
+is_defined (Request.Present path) = true
+is_defined (Request.Add a) = true
+is_defined (Request.Grant call) = true
+is_defined (Request.Revoke call) = true
+is_defined (Request.DeleteDocument doc) = true
+is_defined (Request.LookupDocument path) = true
+is_defined (Request.Info doc) = true
+is_defined (Request.ListDocuments app) = true
 is_defined (Request.Node r) = is_defined_op r.op
-is_defined request = false
+
+-- ---- what is given where nothing is looked at
+
+abbrev pub nothing_given : Given
+nothing_given = record {
+  now = None;
+  words = [];
+  numbers = [];
+  looks = [];
+  full = false;
+  fault = Fault.None;
+}
+
+-- ---- what is given to a request on a node
 
 -- over a tree that tells: the looks are those that the request takes; where a call of the tree
--- failed, those ahead of it. The keeper fails only where records change: no entry changes any
+-- failed, those ahead of it. The keeper isn't asked, since no record changes
 abbrev pub LooksAre : List Look → Fault → List Look → Type 0
 LooksAre taken Fault.None looks = looks ≡ taken
 LooksAre taken Fault.Tree looks = (looks ≡ take (length looks) taken)
@@ -41,12 +79,52 @@ abbrev pub LawfulLooks : Bool → List Look → Fault → List Look → Type 0
 LawfulLooks true taken fault looks = LooksAre taken fault looks
 LawfulLooks false taken fault looks = LooksCount (length taken) fault (length looks)
 
--- none of the four kinds reads the clock, draws a word, makes a document or meets a limit of
--- documents; and no other request is an entry
+-- looks alone, where these are taken: the clock isn't read, no word is drawn, no document is made
+-- and no limit of documents is met
+pub record GivesLooks (told : Bool) (taken : List Look) (given : Given) : Type 0 where
+  pub clock : given.now ≡ None
+  pub words : given.words ≡ []
+  pub numbers : given.numbers ≡ []
+  pub full : given.full ≡ false
+  pub looks : LawfulLooks told taken given.fault given.looks
+
+abbrev pub LawfulOnNode : State → NodeRequest → Given → Option Connection → Type 0
+LawfulOnNode s r given o = GivesLooks s.told (node_looks s r o) given
+
+-- ---- what is given to a request on documents
+
+-- Where the seat has no open bus, nothing is. Else it is as the state shows it in which the
+-- connection was told what it waited for, since that state is the one in which the request is
+-- answered.
+abbrev pub LawfulOnBus : State → Request → Given → Option Connection → Type 0
+LawfulOnBus s request given None = given ≡ nothing_given
+LawfulOnBus s request given (Some c) = LawfulBus (all_told c.seat s) c request given
+
+-- ---- each kind
+
+abbrev pub LawfulGiven : State → ℕ → Request → Given → Type 0
+LawfulGiven s seat (Request.Enter who kind) given = given ≡ nothing_given
+LawfulGiven s seat Request.Leave given = given ≡ nothing_given
+LawfulGiven s seat Request.Collect given = given ≡ nothing_given
+LawfulGiven s seat (Request.Node r) given =
+    LawfulOnNode s r given (mount_of (connection_of s.connections seat))
+LawfulGiven s seat (Request.Present path) given =
+    LawfulOnBus s (Request.Present path) given (bus_of (connection_of s.connections seat))
+LawfulGiven s seat (Request.Add a) given =
+    LawfulOnBus s (Request.Add a) given (bus_of (connection_of s.connections seat))
+LawfulGiven s seat (Request.Grant call) given =
+    LawfulOnBus s (Request.Grant call) given (bus_of (connection_of s.connections seat))
+LawfulGiven s seat (Request.Revoke call) given =
+    LawfulOnBus s (Request.Revoke call) given (bus_of (connection_of s.connections seat))
+LawfulGiven s seat (Request.DeleteDocument doc) given =
+    LawfulOnBus s (Request.DeleteDocument doc) given (bus_of (connection_of s.connections seat))
+LawfulGiven s seat (Request.LookupDocument path) given =
+    LawfulOnBus s (Request.LookupDocument path) given (bus_of (connection_of s.connections seat))
+LawfulGiven s seat (Request.Info doc) given =
+    LawfulOnBus s (Request.Info doc) given (bus_of (connection_of s.connections seat))
+LawfulGiven s seat (Request.ListDocuments app) given =
+    LawfulOnBus s (Request.ListDocuments app) given (bus_of (connection_of s.connections seat))
+
 pub record Lawful (s : State) (e : Entry) : Type 0 where
   pub defined : is_defined e.request ≡ true
-  pub clock : e.given.now ≡ None
-  pub words : e.given.words ≡ []
-  pub numbers : e.given.numbers ≡ []
-  pub full : e.given.full ≡ false
-  pub looks : LawfulLooks s.told (looks_taken s e.seat e.request) e.given.fault e.given.looks
+  pub given : LawfulGiven s e.seat e.request e.given

@@ -28,6 +28,7 @@ pub mod Outside
 pub mod Allowed
 pub mod Step
 pub mod Lawful
+pub mod Built
 pub mod Valid
 pub mod Opening
 pub mod RecordChanges

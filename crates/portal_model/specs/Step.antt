@@ -13,13 +13,14 @@ use Rattle.portal_model.specs.declared.request.NodeOp.{NodeOp}
 use Rattle.portal_model.specs.declared.request.NodeRequest.{NodeRequest}
 use Rattle.portal_model.specs.declared.request.Request.{Request}
 use Rattle.portal_model.specs.declared.state.Connection.{Connection}
-use Rattle.portal_model.specs.Bus.{bus_answer}
+use Rattle.portal_model.specs.Bus.{bus_answer, bus_walk}
 use Rattle.portal_model.specs.Collect.{collect}
 use Rattle.portal_model.specs.Enter.{enter}
 use Rattle.portal_model.specs.Errno.{enosys}
 use Rattle.portal_model.specs.GetAttr.{get_attr_answer, get_attr_looks}
 use Rattle.portal_model.specs.Leave.{leave}
 use Rattle.portal_model.specs.State.{State, connection_of}
+use Rattle.portal_model.specs.Walk.{looks_shown}
 
 -- ---- the connection that asks
 
@@ -89,8 +90,22 @@ request_step s seat Request.Collect given =
     collect_step s (bus_of (connection_of s.connections seat))
 request_step s seat (Request.Node r) given =
     node_step s r given (mount_of (connection_of s.connections seat))
-request_step s seat request given =
-    bus_step s request given (bus_of (connection_of s.connections seat))
+request_step s seat (Request.Present path) given =
+    bus_step s (Request.Present path) given (bus_of (connection_of s.connections seat))
+request_step s seat (Request.Add a) given =
+    bus_step s (Request.Add a) given (bus_of (connection_of s.connections seat))
+request_step s seat (Request.Grant call) given =
+    bus_step s (Request.Grant call) given (bus_of (connection_of s.connections seat))
+request_step s seat (Request.Revoke call) given =
+    bus_step s (Request.Revoke call) given (bus_of (connection_of s.connections seat))
+request_step s seat (Request.DeleteDocument doc) given =
+    bus_step s (Request.DeleteDocument doc) given (bus_of (connection_of s.connections seat))
+request_step s seat (Request.LookupDocument path) given =
+    bus_step s (Request.LookupDocument path) given (bus_of (connection_of s.connections seat))
+request_step s seat (Request.Info doc) given =
+    bus_step s (Request.Info doc) given (bus_of (connection_of s.connections seat))
+request_step s seat (Request.ListDocuments app) given =
+    bus_step s (Request.ListDocuments app) given (bus_of (connection_of s.connections seat))
 
 -- the state after an entry, and the reply to it
 abbrev pub step : State → Entry → State × Reply
@@ -104,10 +119,8 @@ reply_at s e = (step s e).1
 
 -- ---- looks at the tree
 
--- The looks that a lawful entry takes where none fails: a GETATTR's, and none of an Enter, a Leave
--- and a Collect. What a tree gives to a request on documents, an Add's looks too, is told by its
--- walk, in `LawfulBus`. Neither such a request nor another request on a node is a lawful entry
--- yet, and the empty lists here say nothing of them.
+-- The looks that an entry takes over a tree that tells its files, where none fails. Requests on
+-- nodes that have no definition yet are no lawful entries: the empty list says nothing of them.
 
 abbrev pub node_op_looks : State → Who → NodeRequest → NodeOp → List Look
 node_op_looks s who r (NodeOp.GetAttr flags fh) = get_attr_looks s who r flags
@@ -117,9 +130,30 @@ abbrev pub node_looks : State → NodeRequest → Option Connection → List Loo
 node_looks s r None = []
 node_looks s r (Some c) = node_op_looks s c.who r r.op
 
+-- The looks of the walk: an Add's, and none of another request on documents. The numbers that new
+-- documents get don't bear on them.
+abbrev pub bus_looks : State → Request → Option Connection → List Look
+bus_looks s request None = []
+bus_looks s request (Some c) = looks_shown s.files (bus_walk (all_told c.seat s) c request [])
+
 abbrev pub looks_taken : State → ℕ → Request → List Look
 looks_taken s seat (Request.Enter who kind) = []
 looks_taken s seat Request.Leave = []
 looks_taken s seat Request.Collect = []
 looks_taken s seat (Request.Node r) = node_looks s r (mount_of (connection_of s.connections seat))
-looks_taken s seat request = []
+looks_taken s seat (Request.Present path) =
+    bus_looks s (Request.Present path) (bus_of (connection_of s.connections seat))
+looks_taken s seat (Request.Add a) =
+    bus_looks s (Request.Add a) (bus_of (connection_of s.connections seat))
+looks_taken s seat (Request.Grant call) =
+    bus_looks s (Request.Grant call) (bus_of (connection_of s.connections seat))
+looks_taken s seat (Request.Revoke call) =
+    bus_looks s (Request.Revoke call) (bus_of (connection_of s.connections seat))
+looks_taken s seat (Request.DeleteDocument doc) =
+    bus_looks s (Request.DeleteDocument doc) (bus_of (connection_of s.connections seat))
+looks_taken s seat (Request.LookupDocument path) =
+    bus_looks s (Request.LookupDocument path) (bus_of (connection_of s.connections seat))
+looks_taken s seat (Request.Info doc) =
+    bus_looks s (Request.Info doc) (bus_of (connection_of s.connections seat))
+looks_taken s seat (Request.ListDocuments app) =
+    bus_looks s (Request.ListDocuments app) (bus_of (connection_of s.connections seat))

@@ -1,0 +1,188 @@
+-- What is true of a valid state beside the limits of documents and applications, in two parts: its documents and rights,
+-- and all else. A change of one part leaves the other.
+use Rattle.std.proofs.Common.{◌≡◌, ℕ, ◌==◌, ◌^◌, ◌<◌, ◌≤◌, nat_eq, nat_lt, length, List, [], map, Bool, true, false, not, ◌&&◌, ◌||◌, is_some, refl, arith}
+use Rattle.std.specs.List.{list_all, IsDistinct}
+use Rattle.std.proofs.lemmas.Bool.Decides.{nat_tests}
+use Rattle.portal_base.specs.Names.{is_same, is_app_name, is_host_path}
+use Rattle.portal_base.specs.declared.files.File.{File}
+use Rattle.portal_base.specs.declared.names.doc_id.DocId.{DocId}
+use Rattle.portal_model.specs.declared.state.Connection.{Connection}
+use Rattle.portal_model.specs.declared.state.Document.{Document}
+use Rattle.portal_model.specs.declared.state.Triple.{Triple}
+use Rattle.portal_model.specs.Content.{is_folder}
+use Rattle.portal_model.specs.Grant.{exceeds_limits}
+use Rattle.portal_model.specs.Rights.{are_in_order}
+use Rattle.portal_model.specs.State.{State, document_of}
+use Rattle.portal_model.specs.Valid.{Valid, applications_limit, is_made, is_numbered, is_sound_connection, is_sound_entry, same_entry}
+
+abbrev pub numbers : List Document → List ℕ
+numbers ds = map (λ (d : Document). d.id.number) ds
+
+abbrev pub is_live : List Document → ℕ → Bool
+is_live ds number = is_some (document_of ds number)
+
+-- the document of a triple is live, and its application is numbered
+abbrev pub is_placed_in : List Document → List (List ℕ) → Triple → Bool
+is_placed_in ds apps t = is_live ds t.id.number && is_numbered apps t.app
+
+-- what is true of documents, made numbers, rights and applications
+pub record Documented (ds : List Document) (made : List DocId) (rights : List Triple) (apps : List (List ℕ)) : Type 0 where
+  pub numbers_differ : IsDistinct nat_eq (numbers ds)
+  pub numbers_made : list_all (λ (d : Document). is_made made d.id.number) ds ≡ true
+  pub paths : list_all (λ (d : Document). is_host_path d.path) ds ≡ true
+  pub applications_differ : IsDistinct is_same apps
+  pub names : list_all is_app_name apps ≡ true
+  pub rights_in_order : are_in_order rights ≡ true
+  pub rights_placed : list_all (is_placed_in ds apps) rights ≡ true
+
+-- what is true of all else
+pub record Connected (s : State) : Type 0 where
+  pub seats_differ : IsDistinct nat_eq (map (λ (c : Connection). c.seat) s.connections)
+  pub connections_sound : list_all (is_sound_connection s.limits.queued) s.connections ≡ true
+  pub entries_differ : IsDistinct same_entry s.entries
+  pub entries_sound : list_all is_sound_entry s.entries ≡ true
+  pub files_differ : IsDistinct is_same (map (λ (f : File). f.path) s.files)
+  pub files_apart : list_all (λ (f : File). not (is_folder s.files f.path)) s.files ≡ true
+  pub files_told : s.told ≡ false → s.files ≡ []
+  pub made_limit : s.limits.made < 2 ^ 32
+  pub queued_limit : s.limits.queued < 2 ^ 32
+
+pub record Sound (s : State) : Type 0 where
+  pub documented : Documented s.documents s.made s.rights s.applications
+  pub connected : Connected s
+
+pub valid-sound : (s : State) → Valid s → Sound s
+valid-sound s v = record {
+  documented = record {
+    numbers_differ = v.numbers_differ;
+    numbers_made = v.numbers_made;
+    paths = v.paths;
+    applications_differ = v.applications_differ;
+    names = v.names;
+    rights_in_order = v.rights_in_order;
+    rights_placed = v.rights_placed;
+  };
+  connected = record {
+    seats_differ = v.seats_differ;
+    connections_sound = v.connections_sound;
+    entries_differ = v.entries_differ;
+    entries_sound = v.entries_sound;
+    files_differ = v.files_differ;
+    files_apart = v.files_apart;
+    files_told = v.files_told;
+    made_limit = v.made_limit;
+    queued_limit = v.queued_limit;
+  };
+}
+
+-- ---- the limits
+
+within : (limit count : ℕ) → nat_lt limit count ≡ false → count ≤ limit
+within limit count h = grind (arith, nat_tests)
+
+neither_first : (a b : Bool) → (a || b) ≡ false → a ≡ false
+neither_first true b h = h
+neither_first false b h = refl
+
+neither_second : (a b : Bool) → (a || b) ≡ false → b ≡ false
+neither_second true b h = cc
+neither_second false b h = h
+
+pub sound-valid : (s : State) → exceeds_limits s ≡ false → Sound s → Valid s
+sound-valid s e k =
+    let documents : Bool = nat_lt s.limits.documents (length s.documents) in
+    let made : Bool = nat_lt s.limits.made (length s.made) in
+    let applications : Bool = nat_lt applications_limit (length s.applications) in
+    let later : (made || applications) ≡ false = neither_second documents (made || applications) e in
+    record {
+      numbers_differ = k.documented.numbers_differ;
+      numbers_made = k.documented.numbers_made;
+      paths = k.documented.paths;
+      applications_differ = k.documented.applications_differ;
+      names = k.documented.names;
+      rights_in_order = k.documented.rights_in_order;
+      rights_placed = k.documented.rights_placed;
+      seats_differ = k.connected.seats_differ;
+      connections_sound = k.connected.connections_sound;
+      entries_differ = k.connected.entries_differ;
+      entries_sound = k.connected.entries_sound;
+      files_differ = k.connected.files_differ;
+      files_apart = k.connected.files_apart;
+      files_told = k.connected.files_told;
+      documents_within = within s.limits.documents (length s.documents) (neither_first documents (made || applications) e);
+      made_within = within s.limits.made (length s.made) (neither_first made applications later);
+      applications_within = within applications_limit (length s.applications) (neither_second made applications later);
+      made_limit = k.connected.made_limit;
+      queued_limit = k.connected.queued_limit;
+    }
+
+-- ---- a change of one part
+
+-- other documents and rights
+pub sound-lists : (s : State) (ds : List Document) (made : List DocId) (rights : List Triple) (apps : List (List ℕ)) → Sound s → Documented ds made rights apps →
+    Sound (record s { documents = ds; made = made; rights = rights; applications = apps })
+sound-lists s ds made rights apps k d = record {
+  documented = d;
+  connected = record {
+    seats_differ = k.connected.seats_differ;
+    connections_sound = k.connected.connections_sound;
+    entries_differ = k.connected.entries_differ;
+    entries_sound = k.connected.entries_sound;
+    files_differ = k.connected.files_differ;
+    files_apart = k.connected.files_apart;
+    files_told = k.connected.files_told;
+    made_limit = k.connected.made_limit;
+    queued_limit = k.connected.queued_limit;
+  };
+}
+
+-- no more documents than there were, and other rights
+pub fewer-lists : (s : State) (ds : List Document) (rights : List Triple) → Valid s → Documented ds s.made rights s.applications → length ds ≤ s.limits.documents → Valid (record s { documents = ds; rights = rights })
+fewer-lists s ds rights v d fewer = record {
+  numbers_differ = d.numbers_differ;
+  numbers_made = d.numbers_made;
+  paths = d.paths;
+  applications_differ = d.applications_differ;
+  names = d.names;
+  rights_in_order = d.rights_in_order;
+  rights_placed = d.rights_placed;
+  seats_differ = v.seats_differ;
+  connections_sound = v.connections_sound;
+  entries_differ = v.entries_differ;
+  entries_sound = v.entries_sound;
+  files_differ = v.files_differ;
+  files_apart = v.files_apart;
+  files_told = v.files_told;
+  documents_within = fewer;
+  made_within = v.made_within;
+  applications_within = v.applications_within;
+  made_limit = v.made_limit;
+  queued_limit = v.queued_limit;
+}
+
+-- what a change of connections alone has to keep
+abbrev pub SoundConnections : ℕ → List Connection → Type 0
+SoundConnections queued cs = IsDistinct nat_eq (map (λ (c : Connection). c.seat) cs) × (list_all (is_sound_connection queued) cs ≡ true)
+
+pub Valid-connections : (s : State) (cs : List Connection) → Valid s → SoundConnections s.limits.queued cs → Valid (record s { connections = cs })
+Valid-connections s cs v k = record {
+  numbers_differ = v.numbers_differ;
+  numbers_made = v.numbers_made;
+  paths = v.paths;
+  applications_differ = v.applications_differ;
+  names = v.names;
+  rights_in_order = v.rights_in_order;
+  rights_placed = v.rights_placed;
+  seats_differ = k.0;
+  connections_sound = k.1;
+  entries_differ = v.entries_differ;
+  entries_sound = v.entries_sound;
+  files_differ = v.files_differ;
+  files_apart = v.files_apart;
+  files_told = v.files_told;
+  documents_within = v.documents_within;
+  made_within = v.made_within;
+  applications_within = v.applications_within;
+  made_limit = v.made_limit;
+  queued_limit = v.queued_limit;
+}
