@@ -9,22 +9,11 @@ use Rattle.portal_model.specs.declared.request.AddRequest.{AddRequest}
 use Rattle.portal_model.specs.declared.state.Document.{Document}
 use Rattle.portal_model.specs.Add.{Added, add_file, first_number, new_document, use_document, used_again, with_new_document}
 use Rattle.portal_model.specs.AddArguments.{is_left_out}
-use Rattle.portal_model.specs.Outside.{AreDrawn}
+use Rattle.portal_model.proofs.Drawn.{Unused}
 use Rattle.portal_model.specs.State.{State, document_of}
 use Rattle.portal_model.specs.Valid.{Valid, is_made}
 use Rattle.portal_model.proofs.Finds.{nat_is}
 use Rattle.app_world.proofs.AddLaws.{Free, rights-keep}
-
--- none of these was made, and each stands once
-abbrev pub Unused : List DocId → List DocId → Type 0
-Unused made [] = Unit {0}
-Unused made (n ∷ ns) = (is_made made n.number ≡ false) × Unused (made ++ n ∷ []) ns
-
-pub drawn-unused : (made : List DocId) (words : List ℕ) (ns : List DocId) → AreDrawn made words ns → Unused made ns
-drawn-unused made [] [] d = tt
-drawn-unused made [] (n ∷ ns) d = absurd d
-drawn-unused made (w ∷ words) [] d = absurd d
-drawn-unused made (w ∷ words) (n ∷ ns) d = (d.2.unused, drawn-unused (made ++ n ∷ []) words ns d.3)
 
 -- what is live was made
 abbrev pub LiveMade : List DocId → List Document → Type 0

@@ -25,6 +25,7 @@ use Rattle.portal_model.specs.Step.{all_told}
 use Rattle.portal_model.specs.Valid.{Valid}
 use Rattle.portal_model.specs.Verdict.{Verdict, unless, walk_unless}
 use Rattle.portal_model.specs.Walk.{Gives, Walk, walked}
+use Rattle.portal_model.proofs.Drawn.{Unused, drawn-length, drawn-unused}
 use Rattle.app_world.specs.Add.{add_touch, asked, file_touch, files_touch, own_add, own_files, own_taken_from_queue, reused_by, reused_of, shown_to}
 use Rattle.app_world.specs.Bus.{bus_touch, own_bus_answer, own_settled}
 use Rattle.app_world.specs.Effect.{Effect, apply_all}
@@ -32,7 +33,7 @@ use Rattle.app_world.specs.Own.{Own}
 use Rattle.app_world.specs.Touched.{is_done}
 use Rattle.app_world.specs.View.{AppView, OwnConnection, found_connection, own_connection, own_connections, view}
 use Rattle.app_world.proofs.AddCallLaws.{add-other, begun, taken-other, taken-own}
-use Rattle.app_world.proofs.AddFree.{HasNumbers, LiveMade, Unused, drawn-unused, files-free, valid-live}
+use Rattle.app_world.proofs.AddFree.{HasNumbers, LiveMade, files-free, valid-live}
 use Rattle.app_world.proofs.AddLaws.{Free, valid-facts}
 use Rattle.app_world.proofs.AddMadeLaws.{IsTold, add-own}
 use Rattle.app_world.proofs.AddTold.{contents-told, looks-told, none-given, reused-told}
@@ -40,12 +41,6 @@ use Rattle.app_world.proofs.BusLaws.{seen_answer, settled-other, settled-own, se
 use Rattle.app_world.proofs.ReachedLaws.{seen_verdict}
 
 -- ---- numbers
-
-drawn-length : (made : List DocId) (words : List ℕ) (ns : List DocId) → AreDrawn made words ns → length words ≡ length ns
-drawn-length made [] [] d = refl
-drawn-length made [] (n ∷ ns) d = absurd d
-drawn-length made (w ∷ words) [] d = absurd d
-drawn-length made (w ∷ words) (n ∷ ns) d = grind (arith, drawn-length (made ++ n ∷ []) words ns d.3)
 
 has-begun : (s : State) (c : Connection) (a : AddRequest) (numbers : List DocId) (end : ℕ) → LiveMade s.made s.documents → Unused s.made numbers → end ≤ length s.made + length numbers → HasNumbers (begun s c a numbers) end
 has-begun s c a numbers end live unused enough = by_call (are_presented c.queue a)

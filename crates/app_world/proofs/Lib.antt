@@ -25,6 +25,8 @@ pub mod AddFree
 pub mod AddGiven
 pub mod PlaceLaws
 pub mod GetAttrLaws
+pub mod AskedLaws
+pub mod KindLaws
 pub mod WorldLaws
 pub mod ExampleProofs
 pub mod DocumentExampleProofs

@@ -1,24 +1,27 @@
 -- Laws of the world of one application, which the public functions of src/laws.rt state.
-use Rattle.std.specs.Prelude.{◌≡◌, ℕ, List, [], ◌∷◌, ◌++◌, true, false, cond, Some}
+use Rattle.std.specs.Prelude.{◌≡◌, ℕ, List, [], ◌∷◌, ◌++◌, true, false}
 use Rattle.portal_base.specs.Names.{is_same}
+use Rattle.portal_base.specs.declared.who.Kind.{Kind}
+use Rattle.portal_base.specs.declared.who.Who.{Who}
 use Rattle.portal_model.specs.declared.entry.Entry.{Entry}
 use Rattle.portal_model.specs.declared.entry.Given.{Given}
+use Rattle.portal_model.specs.declared.request.AddRequest.{AddRequest}
+use Rattle.portal_model.specs.declared.request.NodeRequest.{NodeRequest}
 use Rattle.portal_model.specs.declared.request.Request.{Request}
-use Rattle.portal_model.specs.declared.state.Connection.{Connection}
+use Rattle.portal_model.specs.declared.request.RightsCall.{RightsCall}
 use Rattle.portal_model.specs.declared.state.Document.{Document}
 use Rattle.portal_model.specs.declared.state.Triple.{Triple}
 use Rattle.portal_model.specs.History.{Legal, makes, replies}
 use Rattle.portal_model.specs.Lawful.{Lawful}
-use Rattle.portal_model.specs.Outside.{LawfulBus}
-use Rattle.portal_model.specs.State.{State, connection_of, held_of, is_app}
-use Rattle.portal_model.specs.Step.{after, all_told, bus_of, bus_step, reply_at}
+use Rattle.portal_model.specs.State.{State, held_of}
+use Rattle.portal_model.specs.Step.{after, reply_at}
 use Rattle.portal_model.specs.Valid.{Valid}
 use Rattle.rights_rule.specs.Rights.{holds_any}
-use Rattle.app_world.specs.Bus.{bus_touch, own_bus_step}
 use Rattle.app_world.specs.Effect.{apply_all}
-use Rattle.app_world.specs.Touched.{is_done}
-use Rattle.app_world.specs.View.{TakesAlike, found_connection, view}
-use Rattle.app_world.specs.World.{app_run, app_step, own_bus_of, own_of, touch, trace}
+use Rattle.app_world.specs.View.{TakesAlike, view}
+use Rattle.app_world.specs.World.{app_run, app_step, own_of, touch, trace}
+
+-- ---- one step
 
 -- of a lawful entry over a tree that tells: where the application makes it, its own machine gives
 -- the reply and the view after; where it does not, what is touched gives the view after
@@ -31,63 +34,54 @@ pub record StepsSeen : Type 0 where
       (app : List ℕ) (s : State) (e : Entry) → Valid s → Lawful s e → makes app s e ≡ false →
       apply_all (view s app) (touch app s e) ≡ view (after s e) app
 
--- What the outside gave to an Add, which is answered in the state in which its connection was told
--- what it waited for; the laws of the other requests ask nothing of what was given.
-abbrev pub GivenToAdd : State → Connection → Request → Given → Type 0
-GivenToAdd s c (Request.Add a) given = LawfulBus (all_told c.seat s) c (Request.Add a) given
-GivenToAdd s c (Request.Present path) given = Unit {0}
-GivenToAdd s c (Request.Grant call) given = Unit {0}
-GivenToAdd s c (Request.Revoke call) given = Unit {0}
-GivenToAdd s c (Request.DeleteDocument doc) given = Unit {0}
-GivenToAdd s c (Request.LookupDocument path) given = Unit {0}
-GivenToAdd s c (Request.Info doc) given = Unit {0}
-GivenToAdd s c (Request.ListDocuments name) given = Unit {0}
-GivenToAdd s c (Request.Enter who kind) given = Unit {0}
-GivenToAdd s c Request.Leave given = Unit {0}
-GivenToAdd s c Request.Collect given = Unit {0}
-GivenToAdd s c (Request.Node r) given = Unit {0}
+-- ---- each kind of request
 
--- its contents are told to the application that adds
-abbrev pub ToldToAdd : State → Request → Type 0
-ToldToAdd s (Request.Add a) = s.told ≡ true
-ToldToAdd s (Request.Present path) = Unit {0}
-ToldToAdd s (Request.Grant call) = Unit {0}
-ToldToAdd s (Request.Revoke call) = Unit {0}
-ToldToAdd s (Request.DeleteDocument doc) = Unit {0}
-ToldToAdd s (Request.LookupDocument path) = Unit {0}
-ToldToAdd s (Request.Info doc) = Unit {0}
-ToldToAdd s (Request.ListDocuments name) = Unit {0}
-ToldToAdd s (Request.Enter who kind) = Unit {0}
-ToldToAdd s Request.Leave = Unit {0}
-ToldToAdd s Request.Collect = Unit {0}
-ToldToAdd s (Request.Node r) = Unit {0}
+abbrev pub asks : ℕ → Request → Given → Entry
+asks seat request given = record { seat = seat; request = request; given = given }
 
-abbrev pub asks_bus : ℕ → Request → Given → Entry
-asks_bus seat request given = record { seat = seat; request = request; given = given }
-
--- Of a request of a bus, on the open connection of its seat: an Add with what is lawful, and any
--- other whatever the outside gave it. Where the connection is the application's, its own machine
--- gives the reply and the view after, of an Add over a tree that tells; where it is another's, what
--- is touched gives the view after, and nothing is touched where it is not done.
-pub record BusSeen : Type 0 where
+-- the same of the entries of one kind, whatever the outside gave them, over any tree
+pub record SeenAlways {X : Type 0} (ask : X → Request) : Type 0 where
   pub own :
-      (app : List ℕ) (s : State) (seat : ℕ) (request : Request) (given : Given) (c : Connection) →
-      Valid s → ToldToAdd s request → GivenToAdd s c request given →
-      connection_of s.connections seat ≡ Some c → is_app app c.who ≡ true →
-      own_bus_step (view s app) (own_of s (asks_bus seat request given)) request
-      (own_bus_of (found_connection (view s app).connections seat))
-      ≡ (
-        view (bus_step s request given (bus_of (Some c))).0 app,
-        (bus_step s request given (bus_of (Some c))).1,
-      )
+      (app : List ℕ) (s : State) (seat : ℕ) (x : X) (given : Given) → Valid s →
+      makes app s (asks seat (ask x) given) ≡ true →
+      app_step (view s app) (own_of s (asks seat (ask x) given))
+      ≡ (view (after s (asks seat (ask x) given)) app, reply_at s (asks seat (ask x) given))
   pub other :
-      (app : List ℕ) (s : State) (seat : ℕ) (request : Request) (given : Given) (c : Connection) →
-      Valid s → GivenToAdd s c request given →
-      connection_of s.connections seat ≡ Some c → is_app app c.who ≡ false →
-      apply_all (view s app)
-      (cond (is_done (bus_step s request given (bus_of (Some c))).1.answer)
-      (bus_touch app s request given (bus_of (Some c))) [])
-      ≡ view (bus_step s request given (bus_of (Some c))).0 app
+      (app : List ℕ) (s : State) (seat : ℕ) (x : X) (given : Given) → Valid s →
+      makes app s (asks seat (ask x) given) ≡ false →
+      apply_all (view s app) (touch app s (asks seat (ask x) given))
+      ≡ view (after s (asks seat (ask x) given)) app
+
+-- the same of the entries of one kind, where what the outside gave them is lawful
+pub record SeenLawful {X : Type 0} (ask : X → Request) : Type 0 where
+  pub own :
+      (app : List ℕ) (s : State) (seat : ℕ) (x : X) (given : Given) → s.told ≡ true → Valid s →
+      Lawful s (asks seat (ask x) given) → makes app s (asks seat (ask x) given) ≡ true →
+      app_step (view s app) (own_of s (asks seat (ask x) given))
+      ≡ (view (after s (asks seat (ask x) given)) app, reply_at s (asks seat (ask x) given))
+  pub other :
+      (app : List ℕ) (s : State) (seat : ℕ) (x : X) (given : Given) → Valid s →
+      Lawful s (asks seat (ask x) given) → makes app s (asks seat (ask x) given) ≡ false →
+      apply_all (view s app) (touch app s (asks seat (ask x) given))
+      ≡ view (after s (asks seat (ask x) given)) app
+
+-- Of most kinds what the outside gave is of no account: the tree is asked by an Add and by requests
+-- on nodes alone, and numbers are given to an Add alone.
+pub record KindsSeen : Type 0 where
+  pub enters : SeenAlways {X = Who × Kind} (λ x. Request.Enter x.0 x.1)
+  pub leaves : SeenAlways {X = Unit {0}} (λ x. Request.Leave)
+  pub collects : SeenAlways {X = Unit {0}} (λ x. Request.Collect)
+  pub presentations : SeenAlways {X = List ℕ} (λ path. Request.Present path)
+  pub additions : SeenLawful {X = AddRequest} (λ a. Request.Add a)
+  pub grants : SeenAlways {X = RightsCall} (λ call. Request.Grant call)
+  pub revocations : SeenAlways {X = RightsCall} (λ call. Request.Revoke call)
+  pub deletions : SeenAlways {X = List ℕ} (λ doc. Request.DeleteDocument doc)
+  pub lookups : SeenAlways {X = List ℕ} (λ path. Request.LookupDocument path)
+  pub informations : SeenAlways {X = List ℕ} (λ doc. Request.Info doc)
+  pub listings : SeenAlways {X = List ℕ} (λ name. Request.ListDocuments name)
+  pub node_requests : SeenLawful {X = NodeRequest} (λ r. Request.Node r)
+
+-- ---- the frame
 
 abbrev pub with_right : State → Triple → State
 with_right s t = record s { rights = s.rights ++ t ∷ [] }
@@ -107,6 +101,8 @@ pub record ViewsFramed : Type 0 where
       (app : List ℕ) (s : State) (d : Document) →
       holds_any (held_of s.rights app d.id.number) ≡ false →
       view (with_document s d) app ≡ view s app
+
+-- ---- a whole history
 
 -- in every legal history over a tree that tells, the replies to an application are what its own
 -- machine replies to its trace

@@ -2,7 +2,7 @@
 //!
 //! Each function does nothing; its contract is the law.
 
-ghost use Rattle.app_world.specs.Laws.{BusSeen, Isolated, StepsSeen, ViewsFramed};
+ghost use Rattle.app_world.specs.Laws.{Isolated, KindsSeen, StepsSeen, ViewsFramed};
 
 /// A step that leaves equal what a view takes from the state leaves the view
 /// equal: so does one that gives another application a right, or adds a
@@ -17,12 +17,13 @@ pub fn steps_are_seen()
     ensures { StepsSeen }
 {}
 
-/// One request of a bus, as an application sees it: its own comes to the same in
-/// its view as in the portal, and another's changes its view as it is told. Of an
-/// Add this is said where what the outside gave it is lawful, of its own over a
-/// tree that tells; of every other request whatever the outside gave.
-pub fn requests_of_a_bus_are_seen()
-    ensures { BusSeen }
+/// Each kind of request by itself, as an application sees it: its own comes to
+/// the same in its view as in the portal, and another's changes its view as it is
+/// told. Of an Add and of the requests on nodes this is said where what the
+/// outside gave is lawful, of own ones over a tree that tells; of every other kind
+/// whatever the outside gave.
+pub fn each_kind_is_seen()
+    ensures { KindsSeen }
 {}
 
 /// The replies to an application are a function of its trace: its own requests
