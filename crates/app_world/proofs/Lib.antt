@@ -28,5 +28,6 @@ pub mod GetAttrLaws
 pub mod AskedLaws
 pub mod KindLaws
 pub mod WorldLaws
+pub mod RightsToldLaws
 pub mod ExampleProofs
 pub mod DocumentExampleProofs

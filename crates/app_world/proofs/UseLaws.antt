@@ -114,7 +114,7 @@ module _ (app : List ℕ) (a : AddRequest) (id : DocId) (s : State) where
   abbrev before : ℕ → RightSet
   before n = held_of s.rights app n
 
-  listed-is : (t : State) (n : ℕ) (b c : Bool) → names_nobody a ≡ b → is_same a.app app ≡ c →
+  pub listed-is : (t : State) (n : ℕ) (b c : Bool) → names_nobody a ≡ b → is_same a.app app ≡ c →
       held_of (listed_rights a id t).rights app n ≡ cond (id.number == n) (cond (not b && c) (union (held_of t.rights app n) (rights_named a.names)) (held_of t.rights app n)) (held_of t.rights app n)
   listed-is t n true c e f = ap (λ (x : Bool). held_of (cond x t (given_rights a.app id (rights_named a.names) t)).rights app n) e ∙ sym (both-same (id.number == n) (held_of t.rights app n))
     where

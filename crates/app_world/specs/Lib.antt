@@ -15,5 +15,6 @@ pub mod Add
 pub mod Bus
 pub mod World
 pub mod Laws
+pub mod RightsTold
 pub mod Examples
 pub mod DocumentExamples

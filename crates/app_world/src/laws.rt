@@ -3,6 +3,7 @@
 //! Each function does nothing; its contract is the law.
 
 ghost use Rattle.app_world.specs.Laws.{Isolated, KindsSeen, StepsSeen, ViewsFramed};
+ghost use Rattle.app_world.specs.RightsTold.{RightsAreTold};
 
 /// A step that leaves equal what a view takes from the state leaves the view
 /// equal: so does one that gives another application a right, or adds a
@@ -31,4 +32,12 @@ pub fn each_kind_is_seen()
 /// rights and bytes that it holds.
 pub fn applications_are_isolated()
     ensures { Isolated }
+{}
+
+/// The rights of an application in a document after a legal history are told by
+/// its entries: by the additions, grants, revocations and deletions that were
+/// done, each by who asked, what was asked and what was answered. So who has a
+/// right again after it was taken was given it by a later grant or addition.
+pub fn rights_are_told()
+    ensures { RightsAreTold }
 {}
