@@ -40,7 +40,7 @@ use Rattle.portal_model.specs.LookupDocument.{lookup_document, text_of}
 use Rattle.portal_model.specs.Outside.{AreDrawn}
 use Rattle.portal_model.specs.Present.{may_present, present, present_path, queue_path, with_queue}
 use Rattle.portal_model.specs.Revoke.{may_revoke, names_itself, revoke, revoke_reached, revoked}
-use Rattle.portal_model.specs.Rights.{forget_document, held_by}
+use Rattle.portal_model.specs.Rights.{forget_document, held_by, is_in}
 use Rattle.portal_model.specs.State.{State, app_has, connection_of, document_of, held_of, is_app}
 use Rattle.portal_model.specs.Step.{after, all_told, bus_of, bus_step, collect_step, is_mount, mount_of, node_answer, node_step, reply_at, request_step}
 use Rattle.portal_model.specs.Verdict.{Doing, Verdict, Refuses, Does, does}
@@ -48,7 +48,7 @@ use Rattle.portal_model.proofs.Doings.{IfDoes, IfGiven, OnWalk, if-passes, on-lo
 use Rattle.portal_model.proofs.Finds.{found_passes, nat_is}
 use Rattle.portal_model.proofs.TripleOrder.{is_same-sym}
 use Rattle.app_world.specs.Add.{names_app}
-use Rattle.app_world.specs.RightsTold.{RightsAreTold, are_identified, has_identifier, identifies, more_if, rights_told, told_by, told_by_file, told_if_done}
+use Rattle.app_world.specs.RightsTold.{RightsAreTold, are_identified, gives_at, gives_rights, has_identifier, identifies, is_given_in, more_if, rights_told, told_by, told_by_file, told_if_done}
 use Rattle.app_world.specs.Touched.{is_done}
 use Rattle.app_world.proofs.AddLaws.{Again, again-is, rights-keep}
 use Rattle.app_world.proofs.HeldLaws.{held-add, held-forget, held-take, same-rights}
@@ -452,9 +452,75 @@ identified-run : (h : List Entry) (s : State) → are_identified s ≡ true → 
 identified-run [] s i l = i
 identified-run (e ∷ es) s i l = let one = told-step [] 0 s e i l.0 in identified-run es (after s e) one.identified l.1
 
+-- ---- a right that was not there before
+
+less-in : (set less : RightSet) (right : Right) → is_in set right ≡ false → is_in (minus set less) right ≡ false
+less-in set less Read h = ap (λ (b : Bool). b && not less.read) h
+less-in set less Write h = ap (λ (b : Bool). b && not less.write) h
+less-in set less GrantPermissions h = ap (λ (b : Bool). b && not less.grant_permissions) h
+less-in set less Delete h = ap (λ (b : Bool). b && not less.delete) h
+
+none-in : (right : Right) → is_in no_rights right ≡ false
+none-in Read = refl
+none-in Write = refl
+none-in GrantPermissions = refl
+none-in Delete = refl
+
+either-in : (b : Bool) (x y : RightSet) (right : Right) → is_in x right ≡ false → is_in y right ≡ false → is_in (cond b x y) right ≡ false
+either-in true x y right h k = h
+either-in false x y right h k = k
+
+has-in : (rights : List Triple) (app : List ℕ) (number : ℕ) (right : Right) → is_in (held_of rights app number) right ≡ app_has rights app number right
+has-in rights app number Read = refl
+has-in rights app number Write = refl
+has-in rights app number GrantPermissions = refl
+has-in rights app number Delete = refl
+
+module _ (app : List ℕ) (number : ℕ) (right : Right) where
+  -- a request that gives no rights leaves away what was not there
+  not-told : (who : Who) (request : Request) (answer : Answer) (held : RightSet) → gives_rights request ≡ false → is_in held right ≡ false → is_in (told_by app number who request answer held) right ≡ false
+  not-told who (Request.Add a) answer held g h = cc
+  not-told who (Request.Grant call) answer held g h = cc
+  not-told who (Request.Revoke call) answer held g h =
+      either-in (identifies call.doc number && is_same call.app app) (minus held (rights_named call.names)) held right (less-in held (rights_named call.names) right h) h
+  not-told who (Request.DeleteDocument doc) answer held g h = either-in (identifies doc number) no_rights held right (none-in right) h
+  not-told who request answer held g h = h
+
+  told-new : (o : Option Who) (request : Request) (answer : Answer) (held : RightSet) → is_in held right ≡ false → is_in (told_if_done app number o request answer held) right ≡ true → (gives_rights request && is_done answer) ≡ true
+  told-new None request answer held h k = let x : false ≡ true = sym h ∙ k in cc
+  told-new (Some who) request answer held h k = by_done (is_done answer) (gives_rights request) refl k
+    where
+      by_done : (b c : Bool) → gives_rights request ≡ c → is_in (cond b (told_by app number who request answer held) held) right ≡ true → (c && b) ≡ true
+      by_done true true g e = refl
+      by_done true false g e = let x : false ≡ true = sym (not-told who request answer held g h) ∙ e in cc
+      by_done false c g e = let x : false ≡ true = sym h ∙ e in cc
+
+  or-second : (b c : Bool) → c ≡ true → (b || c) ≡ true
+  or-second true c g = refl
+  or-second false c g = g
+
+  with-third : (a b c : Bool) → (a && b) ≡ true → c ≡ true → (a && (b && c)) ≡ true
+  with-third a b c e f = grind arith
+
+  given-run : (h : List Entry) (s : State) → are_identified s ≡ true → EachLawful s h → app_has s.rights app number right ≡ false → app_has (run s h).rights app number right ≡ true → is_given_in app number right s h ≡ true
+  given-run [] s i l none some = let x : false ≡ true = sym none ∙ some in cc
+  given-run (e ∷ es) s i l none some =
+      by_entry (app_has (after s e).rights app number right) refl (λ f. let one = told-step app number s e i l.0 in given-run es (after s e) one.identified l.1 f some)
+    where
+      by_entry : (b : Bool) → app_has (after s e).rights app number right ≡ b → (app_has (after s e).rights app number right ≡ false → is_given_in app number right (after s e) es ≡ true) → (gives_at app number right s e || is_given_in app number right (after s e) es) ≡ true
+      by_entry true f more =
+          let one = told-step app number s e i l.0 in
+          let now : is_in (told_if_done app number (maker (connection_of s.connections e.seat) e.request) e.request (reply_at s e).answer (held_of s.rights app number)) right ≡ true =
+          ap (λ (k : RightSet). is_in k right) (sym one.rights) ∙ (has-in (after s e).rights app number right ∙ f) in
+          let gives : (gives_rights e.request && is_done (reply_at s e).answer) ≡ true =
+          told-new (maker (connection_of s.connections e.seat) e.request) e.request (reply_at s e).answer (held_of s.rights app number) (has-in s.rights app number right ∙ none) now in
+          ap (λ (b : Bool). b || is_given_in app number right (after s e) es) (with-third (gives_rights e.request) (is_done (reply_at s e).answer) (app_has (after s e).rights app number right) gives f)
+      by_entry false f more = or-second (gives_at app number right s e) (is_given_in app number right (after s e) es) (more f)
+
 pub told : RightsAreTold
 told = record {
   entry = λ app number s e i l. (told-step app number s e i l).rights;
   history = λ app number s h i l. told-run app number h s i l.lawful;
   identified = λ s h i l. identified-run h s i l.lawful;
+  given = λ app number right s h i l none some. given-run app number right h s i l.lawful none some;
 }

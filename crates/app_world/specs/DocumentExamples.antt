@@ -1,13 +1,14 @@
 -- Worked examples of requests on documents in the world of one application. What is expected is
 -- worked out by hand from the rules.
-use Rattle.std.specs.Prelude.{◌≡◌, ℕ, List, [], ◌∷◌, true, false, codes, map}
+use Rattle.std.specs.Prelude.{◌≡◌, ◌++◌, ℕ, List, [], ◌∷◌, Bool, true, false, codes, map, replicate}
 use Rattle.portal_model.specs.declared.entry.Entry.{Entry}
 use Rattle.portal_model.specs.declared.opening.OpeningDocument.{OpeningDocument}
 use Rattle.portal_model.specs.declared.reply.Answer.{Answer}
 use Rattle.portal_model.specs.declared.reply.Code.TheVariants as Code
 use Rattle.portal_model.specs.declared.request.Request.{Request}
-use Rattle.portal_model.specs.DocumentExamples.{adds, adds_for, asked, asked_alone, buses, file_there, ids, n_text, presents, rights_call, two_files, viewer}
-use Rattle.portal_model.specs.Examples.{document, editor, file, grant, hello, opening}
+use Rattle.portal_base.specs.declared.files.Look.{Look}
+use Rattle.portal_model.specs.DocumentExamples.{a_doc, additions, adds, adds_for, asked, asked_alone, buses, failing_tree, file_there, grants, greatest, ids, info_of_a, lists_delete, looks_up, m_text, may_delete, may_give, n_text, of_a_folder, one_too_many, presents, reads_and_writes, refused, rights_call, sixteen, takes_two, two_files, viewer, with_room_for_one, wrapping}
+use Rattle.portal_model.specs.Examples.{a_text, document, editor, file, grant, hello, opening}
 use Rattle.portal_model.specs.History.{run}
 use Rattle.portal_model.specs.Opening.{opened}
 use Rattle.portal_model.specs.State.{State}
@@ -15,8 +16,8 @@ use Rattle.portal_model.specs.declared.state.Document.{Document}
 use Rattle.portal_model.specs.Content.{OfFile}
 use Rattle.rights_rule.specs.Rights.{RightSet}
 use Rattle.app_world.specs.Effect.{Gained, Gone, Lost}
-use Rattle.app_world.specs.Examples.{id, reads}
-use Rattle.app_world.specs.World.{Changed, app_run, items, trace}
+use Rattle.app_world.specs.Examples.{id, reads, writes}
+use Rattle.app_world.specs.World.{Changed, TraceItem, app_run, items, trace}
 
 -- over a tree with the file a.txt, and an empty one in the editor's own folder; with a bus of the
 -- editor at seat 1 and one of the host at seat 2
@@ -40,6 +41,23 @@ held_by_another =
     ∷ asked_alone 1 (Request.Grant (rights_call (codes "00000005") viewer (codes "write" ∷ [])))
     ∷ []
 
+-- its additions of new documents and of ones that are used again, and deletions of both
+abbrev pub own_additions : List Answer
+own_additions =
+    Answer.Place 0 ∷ ids (codes "00000005" ∷ [])
+    ∷ Answer.Place 0 ∷ ids (codes "00000005" ∷ [])
+    ∷ Answer.Place 0 ∷ ids (codes "ffffffff" ∷ [])
+    ∷ refused Code.NotAllowed ∷ Answer.Done ∷ refused Code.NotAllowed ∷ []
+
+-- an Add of its own folder, which is no file; of two files that it lists for another with a right
+-- that it has in one of them; and one behind which the tree fails
+abbrev pub refused_additions : List Entry
+refused_additions =
+    of_a_folder
+    ++ presents 1 n_text ∷ presents 1 m_text ∷ lists_delete (0 ∷ 1 ∷ []) []
+    ∷ presents 1 n_text ∷ failing_tree (asked_alone 1 (takes_two (0 ∷ []) 0))
+    ∷ presents 1 n_text ∷ failing_tree (asked_alone 1 (takes_two (0 ∷ []) 0)) ∷ []
+
 -- An application that adds uses a document again that its view does not hold, and finds the one
 -- that its call made.
 pub record WorldsOfAdditions : Type 0 where
@@ -52,6 +70,56 @@ pub record WorldsOfAdditions : Type 0 where
   pub foreign :
       own_answers editor (in_tree []) held_by_another
       ≡ Answer.Place 0 ∷ ids (codes "00000005" ∷ []) ∷ Answer.Done ∷ []
+  pub again : own_answers editor (in_tree []) additions ≡ own_additions
+  pub refused_ones :
+      own_answers editor (in_tree may_delete) refused_additions
+      ≡ Answer.Place 0 ∷ refused Code.InvalidArgument
+      ∷ Answer.Place 0 ∷ Answer.Place 1 ∷ refused Code.NotAllowed
+      ∷ Answer.Place 0 ∷ refused Code.InvalidArgs
+      ∷ Answer.Place 1 ∷ refused Code.Failed ∷ []
+  pub limit :
+      own_answers editor with_room_for_one one_too_many
+      ≡ Answer.Place 0 ∷ ids (codes "00000005" ∷ []) ∷ Answer.Place 0
+      ∷ refused Code.LimitsExceeded ∷ Answer.Place 0 ∷ []
+
+-- ---- its other calls
+
+-- with 16 presented files: one more, and an Add that takes 17
+abbrev pub full_queue : List Entry
+full_queue =
+    sixteen
+    ++ presents 1 n_text ∷ asked_alone 1 (Request.Add (adds_for (0 ∷ []) 17 0 [] [])) ∷ []
+
+abbrev pub sixteen_places : List Answer
+sixteen_places =
+    map (λ place. Answer.Place place)
+    (0 ∷ 1 ∷ 2 ∷ 3 ∷ 4 ∷ 5 ∷ 6 ∷ 7 ∷ 8 ∷ 9 ∷ 10 ∷ 11 ∷ 12 ∷ 13 ∷ 14 ∷ 15 ∷ [])
+
+-- the host gives rights in between
+abbrev pub giving : List Entry
+giving =
+    grants 1 a_doc (codes "read" ∷ codes "write" ∷ []) ∷ grants 1 a_doc (codes "read" ∷ [])
+    ∷ grants 2 a_doc (codes "write" ∷ []) ∷ grants 1 a_doc (codes "execute" ∷ [])
+    ∷ grants 1 (codes "0000000b") (codes "read" ∷ []) ∷ []
+
+-- what an application may not be told of, be it there or not
+abbrev pub asking : List Entry
+asking =
+    info_of_a 1 ∷ asked_alone 1 (Request.Info (codes "0000000b"))
+    ∷ looks_up 1 a_text ∷ looks_up 1 n_text ∷ asked_alone 1 (Request.ListDocuments []) ∷ []
+
+-- A queue holds 16 files. An application gives what it has, and is told of no document that it asks
+-- for; one that another alone holds is not there to it, as one that is not there at all.
+pub record WorldsOfCalls : Type 0 where
+  pub queue :
+      own_answers editor (in_tree []) full_queue
+      ≡ sixteen_places ++ refused Code.LimitsExceeded ∷ refused Code.InvalidArgs ∷ []
+  pub giving_rights :
+      own_answers editor (in_tree may_give) giving
+      ≡ refused Code.NotAllowed ∷ Answer.Done ∷ refused Code.InvalidArgument
+      ∷ refused Code.NotFound ∷ []
+  pub asking_the_host_alone :
+      own_answers editor (in_tree reads_and_writes) asking ≡ replicate 5 (refused Code.NotAllowed)
 
 -- ---- rights that go, and documents
 
@@ -96,7 +164,35 @@ a_document =
 abbrev pub deletes : RightSet
 deletes = record { read = false; write = false; grant_permissions = false; delete = true }
 
--- It is told of what it held before, and of what it did not; and nothing of what isn't done.
+-- the host adds two equal files for the editor, which may not be used again, and then one for nobody
+abbrev pub added_by_the_host : List Entry
+added_by_the_host =
+    presents 2 n_text
+    ∷ asked 2 (Request.Add (adds_for (0 ∷ 0 ∷ []) 1 0 editor (codes "read" ∷ [])))
+    (Look.File 0 0 0 ∷ file_there) (5 ∷ 6 ∷ [])
+    ∷ presents 2 n_text
+    ∷ asked 2 (Request.Add (adds 0)) file_there (7 ∷ []) ∷ []
+
+-- the same with the flag for reuse: one document
+abbrev pub reused_by_the_host : List Entry
+reused_by_the_host =
+    presents 2 n_text
+    ∷ asked 2 (Request.Add (adds_for (0 ∷ 0 ∷ []) 1 1 editor (codes "read" ∷ [])))
+    (Look.File 0 0 0 ∷ file_there) (5 ∷ [])
+    ∷ presents 2 n_text
+    ∷ asked 2 (Request.Add (adds_for (0 ∷ []) 1 1 editor (codes "read" ∷ codes "write" ∷ [])))
+    file_there [] ∷ []
+
+abbrev pub n_document_of : ℕ → Bool → Document
+n_document_of number reuse =
+    record { id = id number; path = n_text; persistent = false; reusable = reuse }
+
+abbrev pub gains_reading : ℕ → TraceItem
+gains_reading number = Changed (Gained (n_document_of number false) reads (OfFile 0 [] 0))
+
+-- It is told of what it held before, and of what it did not; and nothing of what isn't done. Of the
+-- files that another adds it is told where it is named, of two documents where each file becomes
+-- one, and where a document is used again of the rights alone that are new to it.
 pub record WhatIsTouched : Type 0 where
   pub by_host :
       items editor two_documents by_the_host
@@ -104,3 +200,10 @@ pub record WhatIsTouched : Type 0 where
       ∷ Changed (Gone (id 11))
       ∷ Changed (Gained a_document deletes (OfFile 0 [] 0))
       ∷ []
+  pub two_added :
+      items editor (in_tree []) added_by_the_host ≡ gains_reading 5 ∷ gains_reading 6 ∷ []
+  pub one_reused :
+      items editor (in_tree []) reused_by_the_host
+      ≡ Changed (Gained (n_document_of 5 true) reads (OfFile 0 [] 0))
+      ∷ Changed (Gained (n_document_of 5 true) writes (OfFile 0 [] 0)) ∷ []
+  pub number_nought : items editor (in_tree greatest) wrapping ≡ []

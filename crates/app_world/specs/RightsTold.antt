@@ -1,7 +1,7 @@
 -- The rights of an application in a document, as a history tells them: by what callers asked and
 -- were answered as they added documents, gave and took rights, and deleted documents. The terms are
 -- those of the documentation of org.freedesktop.portal.Documents.
-use Rattle.std.specs.Prelude.{◌≡◌, ℕ, ◌^◌, ◌==◌, nat_lt, List, [], ◌∷◌, fold, Bool, true, ◌&&◌, cond, Option, Some, None}
+use Rattle.std.specs.Prelude.{◌≡◌, ℕ, ◌^◌, ◌==◌, nat_lt, List, [], ◌∷◌, fold, Bool, true, false, ◌&&◌, ◌||◌, cond, Option, Some, None}
 use Rattle.std.specs.List.{list_all}
 use Rattle.portal_base.specs.Names.{hex_number, is_doc_id, is_same}
 use Rattle.portal_base.specs.declared.who.Who.{Who}
@@ -11,11 +11,12 @@ use Rattle.portal_model.specs.declared.reply.Answer.{Answer}
 use Rattle.portal_model.specs.declared.request.AddRequest.{AddRequest}
 use Rattle.portal_model.specs.declared.request.Request.{Request}
 use Rattle.portal_model.specs.declared.request.RightsCall.{RightsCall}
+use Rattle.portal_model.specs.declared.rights.Right.{Right}
 use Rattle.portal_model.specs.declared.state.Document.{Document}
 use Rattle.portal_model.specs.Add.{adding_rights}
 use Rattle.portal_model.specs.History.{Legal, maker, run}
 use Rattle.portal_model.specs.Lawful.{Lawful}
-use Rattle.portal_model.specs.State.{State, connection_of, held_of, is_app}
+use Rattle.portal_model.specs.State.{State, app_has, connection_of, held_of, is_app}
 use Rattle.portal_model.specs.Step.{after, reply_at}
 use Rattle.app_world.specs.Add.{names_app}
 use Rattle.app_world.specs.Touched.{is_done}
@@ -92,6 +93,34 @@ rights_told app number s [] held = held
 rights_told app number s (e ∷ es) held =
     rights_told app number (after s e) es (told_at app number s e held)
 
+-- ---- a right that was not there before
+
+-- an Add and a GrantPermissions alone may give rights
+abbrev pub gives_rights : Request → Bool
+gives_rights (Request.Add a) = true
+gives_rights (Request.Grant call) = true
+gives_rights (Request.Revoke call) = false
+gives_rights (Request.DeleteDocument doc) = false
+gives_rights (Request.Present path) = false
+gives_rights (Request.LookupDocument path) = false
+gives_rights (Request.Info doc) = false
+gives_rights (Request.ListDocuments name) = false
+gives_rights (Request.Enter who kind) = false
+gives_rights Request.Leave = false
+gives_rights Request.Collect = false
+gives_rights (Request.Node r) = false
+
+-- such an entry, which is done, and after which the application has the right
+abbrev pub gives_at : List ℕ → ℕ → Right → State → Entry → Bool
+gives_at app number right s e =
+    gives_rights e.request
+    && (is_done (reply_at s e).answer && app_has (after s e).rights app number right)
+
+abbrev pub is_given_in : List ℕ → ℕ → Right → State → List Entry → Bool
+is_given_in app number right s [] = false
+is_given_in app number right s (e ∷ es) =
+    gives_at app number right s e || is_given_in app number right (after s e) es
+
 -- ---- the law
 
 -- an identifier writes a number of 32 bits
@@ -101,8 +130,9 @@ has_identifier d = nat_lt d.id.number (2 ^ 32)
 abbrev pub are_identified : State → Bool
 are_identified s = list_all has_identifier s.documents
 
--- The rights of an application in the document of a number are those that the entries tell, and
--- each document goes on to have an identifier.
+-- The rights of an application in the document of a number are those that the entries tell. So one
+-- that it has and did not have before was given to it by an entry between, after which it had it.
+-- Each document goes on to have an identifier.
 pub record RightsAreTold : Type 0 where
   pub entry :
       (app : List ℕ) (number : ℕ) (s : State) (e : Entry) →
@@ -116,3 +146,8 @@ pub record RightsAreTold : Type 0 where
   pub identified :
       (s : State) (h : List Entry) →
       are_identified s ≡ true → Legal s h → are_identified (run s h) ≡ true
+  pub given :
+      (app : List ℕ) (number : ℕ) (right : Right) (s : State) (h : List Entry) →
+      are_identified s ≡ true → Legal s h →
+      app_has s.rights app number right ≡ false → app_has (run s h).rights app number right ≡ true →
+      is_given_in app number right s h ≡ true

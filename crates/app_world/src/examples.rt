@@ -4,7 +4,12 @@
 //! Each function does nothing; its contract is the example. What is expected
 //! is worked out by hand, so that a wrong definition does not meet it.
 
-ghost use Rattle.app_world.specs.DocumentExamples.{WhatIsTouched, WorldsOfAdditions, WorldsOfRemovals};
+ghost use Rattle.app_world.specs.DocumentExamples.{
+  WhatIsTouched,
+  WorldsOfAdditions,
+  WorldsOfCalls,
+  WorldsOfRemovals,
+};
 ghost use Rattle.app_world.specs.Examples.{EffectsOnAView, TracesTellWhatIsHeld};
 
 /// Histories that differ only in what an application doesn't hold give it the
@@ -20,9 +25,17 @@ pub fn effects_on_a_view()
 {}
 
 /// An application's own machine answers its additions: of two equal files of one
-/// call, and of a file whose document another holds and that is used again.
+/// call, of a file whose document another holds and that is used again, of new
+/// documents and of ones that it may not delete; and those that are refused, at a
+/// limit of documents and where the tree fails too.
 pub fn additions_in_a_world()
     ensures { WorldsOfAdditions }
+{}
+
+/// An application's own machine answers its other calls: its queue holds 16 files,
+/// it gives the rights that it has, and is told of no document that it asks for.
+pub fn calls_in_a_world()
+    ensures { WorldsOfCalls }
 {}
 
 /// An application's own machine answers a revocation that names the application
@@ -32,7 +45,8 @@ pub fn removals_in_a_world()
 {}
 
 /// An application is told of the rights that another takes as far as it held
-/// them, and of those that it is given as far as it did not.
+/// them, and of those that it is given as far as it did not: by a grant, and by an
+/// addition that names it.
 pub fn what_is_touched()
     ensures { WhatIsTouched }
 {}
