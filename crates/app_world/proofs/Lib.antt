@@ -31,3 +31,4 @@ pub mod WorldLaws
 pub mod RightsToldLaws
 pub mod ExampleProofs
 pub mod DocumentExampleProofs
+pub mod ComputedExampleProofs

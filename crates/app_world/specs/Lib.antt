@@ -18,3 +18,4 @@ pub mod Laws
 pub mod RightsTold
 pub mod Examples
 pub mod DocumentExamples
+pub mod ComputedExamples

@@ -1,9 +1,11 @@
 //! Worked examples of the definitions of one application's world, computed by
 //! the checker over the definitions alone.
 //!
-//! Each function does nothing; its contract is the example. What is expected
-//! is worked out by hand, so that a wrong definition does not meet it.
+//! Most functions do nothing; their contract is the example. What is expected
+//! is worked out by hand, so that a wrong definition does not meet it. The last
+//! ones give a part of an example by code.
 
+ghost use Rattle.app_world.specs.ComputedExamples.{AreRefused, IsGotByAdding, IsLeft, IsSeenInShared};
 ghost use Rattle.app_world.specs.DocumentExamples.{
   WhatIsTouched,
   WorldsOfAdditions,
@@ -11,6 +13,9 @@ ghost use Rattle.app_world.specs.DocumentExamples.{
   WorldsOfRemovals,
 };
 ghost use Rattle.app_world.specs.Examples.{EffectsOnAView, TracesTellWhatIsHeld};
+
+use portal_model::reply::Code;
+use rights_rule::Rights;
 
 /// Histories that differ only in what an application doesn't hold give it the
 /// same trace, and histories that differ in its own rights different ones.
@@ -50,3 +55,39 @@ pub fn removals_in_a_world()
 pub fn what_is_touched()
     ensures { WhatIsTouched }
 {}
+
+/// How an application's own machine refuses what it asks of a document that
+/// another alone holds, and of one that isn't there.
+pub fn refusal_of_a_foreign_document() -> Code
+    ensures { AreRefused result }
+{
+    Code::NotFound
+}
+
+/// The rights that an application's view has in a document in which it may read
+/// and another may write.
+pub fn rights_in_a_shared_document() -> Rights
+    ensures { IsSeenInShared result }
+{
+    Rights::READ
+}
+
+/// The rights that an application's view has left in a document that it might
+/// read and write, as the host takes reading away.
+pub fn rights_left_by_a_revocation() -> Rights
+    ensures { IsLeft result }
+{
+    Rights::WRITE
+}
+
+/// The rights that an application's own machine gives it in a document that it
+/// adds, to be used again or not.
+pub fn rights_got_by_adding(reuse: bool) -> Rights
+    ensures { IsGotByAdding reuse result }
+{
+    if reuse {
+        Rights::ALL.minus(Rights::DELETE)
+    } else {
+        Rights::ALL
+    }
+}
