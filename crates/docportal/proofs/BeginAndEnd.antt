@@ -12,6 +12,7 @@ use Rattle.portal_model.specs.declared.reply.Reply.{Reply}
 use Rattle.portal_model.specs.declared.request.Request.{Request}
 use Rattle.portal_model.specs.History.{Legal, cost, cost_of}
 use Rattle.portal_model.specs.Opening.{opened}
+use Rattle.portal_model.specs.Built.{Built}
 use Rattle.portal_model.specs.Seated.{Asks, Exchange, exchanges}
 use Rattle.portal_model.specs.State.{State}
 use Rattle.session.specs.declared.served.Served.{Served}
@@ -29,11 +30,11 @@ module _ (p q : Story) (seat count : ℕ) (same : opened q.opening ≡ opened p.
   exchanges_there = sym (ap (λ (z : State). exchanges seat z q.history) same)
 
   -- one request was asked
-  asked_one : (request : Request) (reply : Reply) → Asks (known_at p seat 0) request (Ok reply) (known_at q seat count) → Asked p q seat (request ∷ [])
-  asked_one request reply h =
+  asked_one : (request : Request) (reply : Reply) → Built request → Asks (known_at p seat 0) request (Ok reply) (known_at q seat count) → Asked p q seat (request ∷ [])
+  asked_one request reply built h =
       let made = h.answered in
       let x : Exchange = record { entry = made.entry; reply = reply } in
-      (asked_alone (opened p.opening) p.history q.history seat legal_there own (request ∷ []) (Made x ∷ []) refl (exchanges_there ∙ made.mine) refl (Made x, [], refl, made.request_is, refl)).0
+      (asked_alone (opened p.opening) p.history q.history seat legal_there own (request ∷ []) (Made x ∷ []) (built, tt) refl (exchanges_there ∙ made.mine) refl (Made x, [], refl, made.request_is, refl)).0
 
   -- one was refused: the history is as before
   refused_one : (request : Request) (why : Refused) → Asks (known_at p seat 0) request (Err why) (known_at q seat count) → q.history ≡ p.history
@@ -66,8 +67,8 @@ pub entered : (p q : Story) (seat count : ℕ) (who : Who) (kind : Kind) (settin
     → r ≡ Ok session → Opens (client who kind settings) (known_at p seat 0) r (known_at q seat count) → (session ≡ fresh (client who kind settings)) × Asked p q seat (Request.Enter who kind ∷ [])
 entered p q seat count who kind settings r session same own legal is h =
     let opens = subst (λ (z : Result Standing Refused). Opens (client who kind settings) (known_at p seat 0) z (known_at q seat count)) is h in
-    (opens.1, asked_one p q seat count same own legal (Request.Enter who kind) opens.0.0 opens.0.1)
+    (opens.1, asked_one p q seat count same own legal (Request.Enter who kind) opens.0.0 tt opens.0.1)
 
 pub left : (p q : Story) (seat count : ℕ) (session : Standing) (served : Served) → opened q.opening ≡ opened p.opening → GrowsByOwn is_faultless seat p.history q.history → Legal (opened q.opening) q.history
     → Closes session (known_at p seat 0) served (known_at q seat count) → Asked p q seat (Request.Leave ∷ [])
-left p q seat count session served same own legal h = asked_one p q seat count same own legal Request.Leave h.1.0 h.1.1
+left p q seat count session served same own legal h = asked_one p q seat count same own legal Request.Leave h.1.0 tt h.1.1

@@ -1,17 +1,19 @@
 -- What the outside gives to an entry of a portal over a tree that tells, where no device fails.
-use Rattle.std.proofs.Common.{◌≡◌, ℕ, List, [], ◌∷◌, Option, None, Bool, true, false, refl, ap, ◌∙◌}
+use Rattle.std.proofs.Common.{◌≡◌, ℕ, List, [], ◌∷◌, Option, None, Bool, true, false, refl, ap, subst, ◌∙◌}
 use Rattle.portal_base.specs.declared.files.Look.{Look}
 use Rattle.portal_base.specs.declared.names.doc_id.DocId.{DocId}
 use Rattle.portal_model.specs.declared.entry.Entry.{Entry}
 use Rattle.portal_model.specs.declared.entry.Fault.{Fault}
 use Rattle.portal_model.specs.declared.entry.Given.{Given}
+use Rattle.portal_model.specs.declared.request.NodeOp.{NodeOp}
 use Rattle.portal_model.specs.declared.request.Request.{Request}
 use Rattle.portal_model.specs.History.{EachLawful, run}
-use Rattle.portal_model.specs.Lawful.{Lawful, LawfulLooks, is_defined}
+use Rattle.portal_model.specs.Built.{Built, BuiltOp}
+use Rattle.portal_model.specs.Lawful.{Lawful, LawfulGiven, LawfulLooks, is_defined_op}
 use Rattle.portal_model.specs.State.{State}
 use Rattle.portal_model.specs.Step.{after, looks_taken}
 use Rattle.portal_model.proofs.Kept.{step_told}
-use Rattle.session.proofs.ItemsDefined.{AllDefined}
+use Rattle.session.proofs.ItemsBuilt.{AllBuilt}
 use Rattle.docportal.specs.Entries.{entries_for, entry_for}
 
 -- ---- what is given is lawful
@@ -20,10 +22,22 @@ given_looks : (told : Bool) (taken : List Look) → LawfulLooks told taken Fault
 given_looks true taken = refl
 given_looks false taken = refl
 
-entry_lawful : (s : State) (seat : ℕ) (request : Request) → is_defined request ≡ true → Lawful s (entry_for s seat request)
-entry_lawful s seat request d = record { defined = d; clock = refl; words = refl; numbers = refl; full = refl; looks = given_looks s.told (looks_taken s seat request) }
+-- an operation that has a body has a definition
+op_defined : (op : NodeOp) → BuiltOp op → is_defined_op op ≡ true
+op_defined (NodeOp.GetAttr flags fh) b = refl
+op_defined op b = absurd b
 
-pub entries_lawful : (requests : List Request) (s : State) (seat : ℕ) → AllDefined requests → EachLawful s (entries_for s seat requests)
+entry_lawful : (s : State) (seat : ℕ) (request : Request) → Built request → Lawful s (entry_for s seat request)
+entry_lawful s seat (Request.Enter who kind) b = record { defined = refl; given = refl }
+entry_lawful s seat Request.Leave b = record { defined = refl; given = refl }
+entry_lawful s seat Request.Collect b = record { defined = refl; given = refl }
+entry_lawful s seat (Request.Node r) b = record {
+  defined = op_defined r.op b;
+  given = record { clock = refl; words = refl; numbers = refl; full = refl; looks = given_looks s.told (looks_taken s seat (Request.Node r)) };
+}
+entry_lawful s seat request b = absurd b
+
+pub entries_lawful : (requests : List Request) (s : State) (seat : ℕ) → AllBuilt requests → EachLawful s (entries_for s seat requests)
 entries_lawful [] s seat d = tt
 entries_lawful (r ∷ rs) s seat d = (entry_lawful s seat r d.0, entries_lawful rs (after s (entry_for s seat r)) seat d.1)
 
@@ -52,15 +66,24 @@ given_is g looks n w u l f d =
 abbrev entry : ℕ → Request → Given → Entry
 entry seat request given = record { seat = seat; request = request; given = given }
 
+-- what is lawful for a request that has a body, where no device failed, is what the tree gives
+lawful_given : (s : State) (seat : ℕ) (request : Request) (g : Given) → Built request → s.told ≡ true → g.fault ≡ Fault.None → LawfulGiven s seat request g
+    → g ≡ given None [] [] (looks_taken s seat request) false Fault.None
+lawful_given s seat (Request.Enter who kind) g b t f l = l
+lawful_given s seat Request.Leave g b t f l = l
+lawful_given s seat Request.Collect g b t f l = l
+lawful_given s seat (Request.Node r) g b t f l =
+    given_is g (looks_taken s seat (Request.Node r)) l.clock l.words l.numbers (looks_given s.told (looks_taken s seat (Request.Node r)) g.looks g.fault t f l.looks) l.full f
+lawful_given s seat request g b t f l = absurd b
+
 -- a lawful entry without a fault is the one that the tree gives
-pub lawful_is : (s : State) (e : Entry) (seat : ℕ) (request : Request) → s.told ≡ true → e.seat ≡ seat → e.request ≡ request → e.given.fault ≡ Fault.None → Lawful s e
+pub lawful_is : (s : State) (e : Entry) (seat : ℕ) (request : Request) → Built request → s.told ≡ true → e.seat ≡ seat → e.request ≡ request → e.given.fault ≡ Fault.None → Lawful s e
     → e ≡ entry_for s seat request
-lawful_is s e seat request t se re f l =
-    let looks : e.given.looks ≡ looks_taken s e.seat e.request = looks_given s.told _ _ e.given.fault t f l.looks in
-    let all : e.given.looks ≡ looks_taken s seat request = looks ∙ (ap (λ (n : ℕ). looks_taken s n e.request) se ∙ ap (λ (r : Request). looks_taken s seat r) re) in
+lawful_is s e seat request b t se re f l =
+    let lawful : LawfulGiven s seat request e.given = subst (λ (n : ℕ). LawfulGiven s n request e.given) se (subst (λ (r : Request). LawfulGiven s e.seat r e.given) re l.given) in
     ap (λ (n : ℕ). entry n e.request e.given) se
     ∙ (ap (λ (r : Request). entry seat r e.given) re
-    ∙ ap (λ (g : Given). entry seat request g) (given_is e.given _ l.clock l.words l.numbers all l.full f))
+    ∙ ap (λ (g : Given). entry seat request g) (lawful_given s seat request e.given b t f lawful))
 
 pub run_told : (h : List Entry) (s : State) → (run s h).told ≡ s.told
 run_told [] s = refl

@@ -25,6 +25,7 @@ use Rattle.session.proofs.AnswersAsked.{answer_asked}
 use Rattle.docportal.specs.declared.error.LineError.{LineError}
 use Rattle.docportal.specs.declared.error.LineError.TheVariants as stop
 use Rattle.docportal.specs.declared.seats.Heard.{Heard}
+use Rattle.session.proofs.ItemsBuilt.{items_built}
 use Rattle.docportal.specs.Entries.{made_for}
 use Rattle.docportal.specs.Lines.{DataIsUnbuilt, IsUnbuiltRest}
 use Rattle.docportal.specs.Seats.{HeardAs, HearsAt, HearsNot, IsMet, WantsMemory, is_last, known_at, sunk}
@@ -52,7 +53,7 @@ module _ (p q : Story) (seat count : ℕ) (at now : Standing) (bytes : List ℕ)
       let rs = requests_of d.acts in
       let mine : exchanges seat s q.history ≡ exchanges seat s p.history ++ kept d.outcomes = sym (ap (λ (z : State). exchanges seat z q.history) same) ∙ d.grows.desk.mine in
       let fewest : denied d.outcomes ≡ 0 = none_denied (denied d.outcomes) count none d.grows.desk.refusals in
-      let made = asked_alone s p.history q.history seat (subst (λ (z : State). Legal z q.history) same legal) own rs d.outcomes refl mine fewest (answer_asked.items at.stage.serial now.stage.serial d.acts d.outcomes d.pieces d.answers) in
+      let made = asked_alone s p.history q.history seat (subst (λ (z : State). Legal z q.history) same legal) own rs d.outcomes (items_built d.items at.client at.stage.phase d.acts d.each) refl mine fewest (answer_asked.items at.stage.serial now.stage.serial d.acts d.outcomes d.pieces d.answers) in
       let pieces : sink'.pieces ≡ d.pieces = some_is _ _ d.grows.told ∙ ap (λ (z : List (List ℕ)). z ++ d.pieces) empty in
       let answers : Answers at.stage.serial d.acts (made_for (state_now p) seat rs) sink'.pieces now.stage.serial =
       subst (λ (z : List (List ℕ)). Answers at.stage.serial d.acts (made_for (state_now p) seat rs) z now.stage.serial) (sym pieces)

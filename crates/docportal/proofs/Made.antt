@@ -15,6 +15,7 @@ use Rattle.portal_model.proofs.Histories.{Legal-rest}
 use Rattle.portal_model.proofs.SeatLaws.{exchanges-append}
 use Rattle.portal_model.proofs.Kept.{step_told}
 use Rattle.session.specs.Answers.{AreOf, Denied, IsOf, Made, Outcome, denied, kept}
+use Rattle.session.proofs.ItemsBuilt.{AllBuilt}
 use Rattle.docportal.specs.Entries.{entries_for, entry_for, made_for}
 use Rattle.docportal.proofs.Given.{lawful_is, run_told}
 
@@ -47,19 +48,19 @@ pub nothing_more : (more : List Entry) (s : State) (seat : ℕ) → All (IsOwn s
 nothing_more [] s seat own none = refl
 nothing_more (e ∷ es) s seat own none = absurd (not_nothing (exchange s e) (exchanges seat (after s e) es) (sym (own_first seat s e es ((own 0 e (omega arith)).0)) ∙ none))
 
-made_are : (more : List Entry) (rs : List Request) (outcomes : List Outcome) (s : State) (seat : ℕ) → s.told ≡ true → All (IsOwn seat) more → EachLawful s more
+made_are : (more : List Entry) (rs : List Request) (outcomes : List Outcome) (s : State) (seat : ℕ) → AllBuilt rs → s.told ≡ true → All (IsOwn seat) more → EachLawful s more
     → exchanges seat s more ≡ kept outcomes → denied outcomes ≡ 0 → AreOf rs outcomes → (more ≡ entries_for s seat rs) × (outcomes ≡ made_for s seat rs)
-made_are [] [] outcomes s seat told own lawful same none of = (refl, of)
-made_are [] (r ∷ rs) outcomes s seat told own lawful same none of =
+made_are [] [] outcomes s seat built told own lawful same none of = (refl, of)
+made_are [] (r ∷ rs) outcomes s seat built told own lawful same none of =
     absurd (none_made of.0 of.1 (same ∙ ap kept of.2) (sym (ap denied of.2) ∙ none))
-made_are (e ∷ es) [] outcomes s seat told own lawful same none of =
+made_are (e ∷ es) [] outcomes s seat built told own lawful same none of =
     absurd (not_nothing (exchange s e) (exchanges seat (after s e) es) (sym (own_first seat s e es ((own 0 e (omega arith)).0)) ∙ (same ∙ ap kept of)))
-made_are (e ∷ es) (r ∷ rs) outcomes s seat told own lawful same none of =
+made_are (e ∷ es) (r ∷ rs) outcomes s seat built told own lawful same none of =
     let here = own 0 e (omega arith) in
     let one = first_made of.0 of.1 (exchange s e) (exchanges seat (after s e) es) (sym (own_first seat s e es here.0) ∙ (same ∙ ap kept of.2)) (sym (ap denied of.2) ∙ none) in
     let request : e.request ≡ r = subst (λ (o : Outcome). IsOf r o) one.0 of.3 in
-    let is : e ≡ entry_for s seat r = lawful_is s e seat r told here.0 request here.1 lawful.0 in
-    let rest = made_are es rs of.1 (after s e) seat (step_told s e.seat e.request e.given ∙ told) (more_own seat e es own) lawful.1 one.1 one.2 of.4 in (
+    let is : e ≡ entry_for s seat r = lawful_is s e seat r built.0 told here.0 request here.1 lawful.0 in
+    let rest = made_are es rs of.1 (after s e) seat built.1 (step_told s e.seat e.request e.given ∙ told) (more_own seat e es own) lawful.1 one.1 one.2 of.4 in (
       ap (λ (l : List Entry). e ∷ l) rest.0 ∙ ap (λ (x : Entry). x ∷ entries_for (after s x) seat rs) is,
       of.2 ∙ (ap (λ (o : Outcome). o ∷ of.1) one.0 ∙ (ap (λ (l : List Outcome). Made (exchange s e) ∷ l) rest.1 ∙ ap (λ (x : Entry). Made (exchange s x) ∷ made_for (after s x) seat rs) is)),
     )
@@ -73,10 +74,10 @@ module _ (s : State) (old new : List Entry) (seat : ℕ) (legal : Legal s new) (
   more_lawful = (Legal-rest old g.0 s (subst (Legal s) g.1 legal)).lawful
 
   -- none was refused: the entries are those that the tree gives
-  pub asked_alone : (rs : List Request) (outcomes : List Outcome) → s.told ≡ true → exchanges seat s new ≡ exchanges seat s old ++ kept outcomes → denied outcomes ≡ 0 → AreOf rs outcomes
+  pub asked_alone : (rs : List Request) (outcomes : List Outcome) → AllBuilt rs → s.told ≡ true → exchanges seat s new ≡ exchanges seat s old ++ kept outcomes → denied outcomes ≡ 0 → AreOf rs outcomes
       → (new ≡ old ++ entries_for (run s old) seat rs) × (outcomes ≡ made_for (run s old) seat rs)
-  asked_alone rs outcomes told mine none of =
-      let made = made_are g.0 rs outcomes (run s old) seat (run_told old s ∙ told) g.2 more_lawful (more_exchanges (kept outcomes) mine) none of in
+  asked_alone rs outcomes built told mine none of =
+      let made = made_are g.0 rs outcomes (run s old) seat built (run_told old s ∙ told) g.2 more_lawful (more_exchanges (kept outcomes) mine) none of in
       (g.1 ∙ ap (λ (l : List Entry). old ++ l) made.0, made.1)
 
   -- no exchange is new: the history is as before

@@ -13,7 +13,7 @@ use Rattle.script_form.specs.declared.script.ScriptLine.TheVariants as line
 use Rattle.session.specs.declared.served.Rest.{Rest}
 use Rattle.session.specs.declared.served.Rest.TheVariants as rest
 use Rattle.session.specs.Standings.{Standing}
-use Rattle.session.proofs.ItemsDefined.{AllDefined, defined-append, items_defined}
+use Rattle.session.proofs.ItemsBuilt.{AllBuilt, built-append, items_built}
 use Rattle.docportal.specs.Lines.{Comes, CloseDoes, DataDoes, Does, Goes, Passes}
 use Rattle.docportal.specs.Plays.{Plays}
 use Rattle.docportal.specs.Runs.{IsSound}
@@ -31,17 +31,17 @@ passes_lead a b es out h = record {
   portal = ap (λ (z : Scene). z.portal) h.2 ∙ ap (run a.portal) (sym h.0);
 }
 
-comes_lead : (a b : Scene) (seat : ℕ) (rs : List Request) (lines : List (List ℕ)) (now : Option Standing) (es : List Entry) (out : List (List ℕ)) → Comes a seat rs lines now es out b → AllDefined rs → Leads a es b
+comes_lead : (a b : Scene) (seat : ℕ) (rs : List Request) (lines : List (List ℕ)) (now : Option Standing) (es : List Entry) (out : List (List ℕ)) → Comes a seat rs lines now es out b → AllBuilt rs → Leads a es b
 comes_lead a b seat rs lines now es out h d = record {
   lawful = subst (EachLawful a.portal) (sym h.entries_are) (entries_lawful rs a.portal seat d);
   portal = ap (λ (z : Scene). z.portal) h.scene;
 }
 
--- a Leave behind them has a definition too
-and_leaves : (rs : List Request) → AllDefined rs → AllDefined (rs ++ Request.Leave ∷ [])
-and_leaves rs d = defined-append rs (Request.Leave ∷ []) d (refl, tt)
+-- a Leave behind them has a body too
+and_leaves : (rs : List Request) → AllBuilt rs → AllBuilt (rs ++ Request.Leave ∷ [])
+and_leaves rs d = built-append rs (Request.Leave ∷ []) d (tt, tt)
 
-goes_lead : (what : Rest) (a b : Scene) (seat : ℕ) (rs : List Request) (ps : List (List ℕ)) (now : Standing) (es : List Entry) (out : List (List ℕ)) → Goes a seat what rs ps now es out b → AllDefined rs → Leads a es b
+goes_lead : (what : Rest) (a b : Scene) (seat : ℕ) (rs : List Request) (ps : List (List ℕ)) (now : Standing) (es : List Entry) (out : List (List ℕ)) → Goes a seat what rs ps now es out b → AllBuilt rs → Leads a es b
 goes_lead rest.More a b seat rs ps now es out h d = comes_lead a b seat _ _ _ es out h.1 d
 goes_lead (rest.Bad rule) a b seat rs ps now es out h d = comes_lead a b seat _ _ _ es out h (and_leaves rs d)
 goes_lead rest.TooLong a b seat rs ps now es out h d = comes_lead a b seat _ _ _ es out h (and_leaves rs d)
@@ -50,12 +50,12 @@ goes_lead rest.Unbuilt a b seat rs ps now es out h d = absurd h
 data_leads : (o : Option Standing) (a b : Scene) (seat : ℕ) (bytes : List ℕ) (es : List Entry) (out : List (List ℕ)) → DataDoes a seat bytes o es out b → Leads a es b
 data_leads None a b seat bytes es out h = passes_lead a b es out h
 data_leads (Some at) a b seat bytes es out h =
-    let asked = subst AllDefined (sym h.4.asked) (items_defined h.4.items at.client at.stage.phase h.4.acts h.4.cut.each) in
+    let asked = subst AllBuilt (sym h.4.asked) (items_built h.4.items at.client at.stage.phase h.4.acts h.4.cut.each) in
     goes_lead h.0 a b seat h.1 h.2 h.3 es out h.5 asked
 
 close_leads : (o : Option Standing) (a b : Scene) (seat : ℕ) (es : List Entry) (out : List (List ℕ)) → CloseDoes a seat o es out b → Leads a es b
 close_leads None a b seat es out h = passes_lead a b es out h
-close_leads (Some at) a b seat es out h = comes_lead a b seat _ _ _ es out h (refl, tt)
+close_leads (Some at) a b seat es out h = comes_lead a b seat _ _ _ es out h (tt, tt)
 
 pub does_lead : (line : ScriptLine) (a b : Scene) (es : List Entry) (out : List (List ℕ)) → Does a line es out b → Leads a es b
 does_lead (File path content) a b es out h = passes_lead a b es out h
@@ -64,7 +64,7 @@ does_lead (Now moment) a b es out h = passes_lead a b es out h
 does_lead (line.Entry entry) a b es out h = absurd h
 does_lead (Fail device call) a b es out h = absurd h
 does_lead (Word word) a b es out h = absurd h
-does_lead (Open seat kind who) a b es out h = comes_lead a b seat _ _ _ es out h (refl, tt)
+does_lead (Open seat kind who) a b es out h = comes_lead a b seat _ _ _ es out h (tt, tt)
 does_lead (Data seat bytes) a b es out h = data_leads (a.sessions seat) a b seat bytes es out h
 does_lead (Close seat) a b es out h = close_leads (a.sessions seat) a b seat es out h
 

@@ -104,7 +104,7 @@ module _ (o : OpeningState) (h : List Entry) (limit : ℕ) (ds : List Document) 
   -- an Enter
 
   enter_lawful : (seat : ℕ) (who : Who) (kind : Kind) → Lawful (state_of o ds rs cs) (entry_of seat (Request.Enter who kind) [])
-  enter_lawful seat who kind = record { defined = refl; clock = refl; words = refl; numbers = refl; full = refl; looks = refl }
+  enter_lawful seat who kind = record { defined = refl; given = refl }
 
   entered_there : (seat : ℕ) (who : Who) (kind : Kind) (c : Option Connection) → is_some c ≡ true → entered seat who kind cs c ≡ cs
   entered_there seat who kind None e = cc
@@ -127,7 +127,7 @@ module _ (o : OpeningState) (h : List Entry) (limit : ℕ) (ds : List Document) 
   -- a Leave
 
   leave_lawful : (seat : ℕ) → Lawful (state_of o ds rs cs) (entry_of seat Request.Leave [])
-  leave_lawful seat = record { defined = refl; clock = refl; words = refl; numbers = refl; full = refl; looks = refl }
+  leave_lawful seat = record { defined = refl; given = refl }
 
   left_absent : (seat : ℕ) (c : Option Connection) → is_some c ≡ false → left seat cs c ≡ cs
   left_absent seat None e = refl
@@ -151,7 +151,7 @@ module _ (o : OpeningState) (h : List Entry) (limit : ℕ) (ds : List Document) 
 
   pub stands_collected : (seat : ℕ) → cost h + cost_of Request.Collect ≤ o.limits.history → Stands o (h ++ entry_of seat Request.Collect [] ∷ []) limit ds rs cs
   stands_collected seat room =
-      stands_more (entry_of seat Request.Collect []) cs (record { defined = refl; clock = refl; words = refl; numbers = refl; full = refl; looks = refl }) (collect_kept (bus_of (connection_of cs seat))) room
+      stands_more (entry_of seat Request.Collect []) cs (record { defined = refl; given = refl }) (collect_kept (bus_of (connection_of cs seat))) room
 
   collect_replied : (seat : ℕ) (c : Option Connection) (b : Option Connection) → connection_of cs seat ≡ c → bus_of c ≡ b → reply_with [] (collect_answer b) ≡ (collect_step (state_of o ds rs cs) b).1
   collect_replied seat c None e k = refl
@@ -169,6 +169,6 @@ module _ (o : OpeningState) (h : List Entry) (limit : ℕ) (ds : List Document) 
   stands_node seat r answer look k room =
       let k' = subst (λ (s : State). Serves s seat r answer look) p.state_is k in
       stands_more (entry_of seat (Request.Node r) (taken look)) cs
-      (record { defined = k'.defined; clock = refl; words = refl; numbers = refl; full = refl; looks = k'.look_is })
+      (record { defined = k'.defined; given = record { clock = refl; words = refl; numbers = refl; full = refl; looks = k'.look_is } })
       (node_kept (state_of o ds rs cs) r r.op (looked (taken look)) (mount_of (connection_of cs seat)) refl silent)
       room

@@ -1,5 +1,24 @@
 //! The portal: it answers requests one at a time, and keeps the history of
 //! all that it answered.
+//!
+//! **It promises** that an answer is that of one step of the sequential portal, at
+//! the end of one legal history which grows by this one entry; that a refusal
+//! changes nothing; and that the Leave of an open connection is never refused. It
+//! is asked nothing but what has a body: Enter, Leave, Collect and GETATTR.
+//!
+//! | Room | Holds |
+//! |---|---|
+//! | `portal` | [`portal::Portal`]: the state as lists, and `ask` |
+//! | `storied` | [`storied::Storied`]: what anything that keeps a history promises |
+//! | `local_desk` | [`local_desk::LocalDesk`]: the desk of one seat, on one thread |
+//! | `opening` | the lists that an opening state begins with |
+//! | `lists`, `place`, `tree` | what is looked up among connections, documents and files |
+//! | `attributes` | GETATTR |
+//!
+//! ```text
+//! let mut portal = Portal::start(alloc, &opening)?;
+//! let reply = portal.ask(alloc, 1, Request::Enter { who: Who::Host, kind: Kind::Bus })?;
+//! ```
 #![tactic(auto)]
 
 mod attributes;

@@ -1,6 +1,7 @@
 //! The portal.
 
-ghost use Rattle.std.specs.Prelude.{◌≡◌, ◌<◌, ◌≤◌, ◌^◌, [], length, true, IfErr, IfOk, IfSome, IsOk, OnErr, OnOk, option_copied};
+ghost use Rattle.std.specs.Prelude.{◌≡◌, ◌<◌, ◌≤◌, ◌^◌, [], length, true, IfErr, IfOk, IsOk, OnErr, OnOk, option_copied};
+ghost use Rattle.portal_model.specs.Built.{Built, BuiltOp};
 ghost use Rattle.portal_model.specs.History.{Legal, cost};
 ghost use Rattle.portal_model.specs.Enter.{new_connection};
 ghost use Rattle.portal_model.specs.Opening.{opened};
@@ -15,14 +16,14 @@ use crate::lists::{bus_of, connection_of, mount_of, of_others};
 use crate::opening;
 use document_records::Grants;
 use portal_base::files::Look;
-use portal_base::list::{ByteList, List};
+use portal_base::list::List;
 use portal_base::memory::{Replica, WantOfMemory};
 use portal_base::who::{Kind, Who};
 use portal_history::{History, cost_of};
 use portal_model::entry::{Entry, Fault, Given};
 use portal_model::opening::OpeningState;
 use portal_model::reply::{Answer, Code, Refused, Reply};
-use portal_model::request::{AddRequest, NodeOp, NodeRequest, Request, RightsCall};
+use portal_model::request::{NodeOp, NodeRequest, Request};
 use portal_model::state::{Connection, Document};
 use std::alloc::Global;
 use std::marker::Model;
@@ -92,7 +93,9 @@ impl Portal {
         let _ = self.history.len();
     }
 
-    /// Answers a request of a seat, which is a number from 1.
+    /// Answers a request of a seat, which is a number from 1. The request is
+    /// one of those that have a body: an Enter, a Leave, a Collect or a
+    /// GETATTR.
     ///
     /// The reply is that of one step of the sequential portal, from the state
     /// after the history, which grows by this request. A refusal leaves the
@@ -101,7 +104,8 @@ impl Portal {
     /// other request, but not at the Leave of an open connection, which is
     /// never refused.
     pub fn ask(&mut self, alloc: Global, seat: u32, request: Request) -> Result<Reply, Refused>
-        requires { 1 ≤ seat }
+        requires seat { 1 ≤ seat }
+        requires built { Built request }
 
         ensures opening { self.new.opening ≡ self.old.opening }
         ensures ok { IfOk result (Answers self.old self.new seat request) }
@@ -128,6 +132,7 @@ impl Portal {
     }
 
     fn answer(&mut self, alloc: Global, seat: u32, request: Request) -> Result<Reply, Refused>
+        requires { Built request }
         ensures opening { self.new.opening ≡ self.old.opening }
         ensures ok { IfOk result (Answers self.old self.new seat request) }
         ensures err { OnErr result (self.new ≡ self.old) }
@@ -143,11 +148,14 @@ impl Portal {
             Request::Leave => Ok(self.leave(alloc, seat)?),
             Request::Collect => Ok(self.collect(alloc, seat)?),
             Request::Node(node) => Ok(self.node(alloc, seat, node)?),
-            Request::Present { path } | Request::LookupDocument { path } => not_asked(path),
-            Request::Add(add) => not_asked_add(add),
-            Request::Grant(call) | Request::Revoke(call) => not_asked_rights(call),
-            Request::DeleteDocument { doc } | Request::Info { doc } => not_asked(doc),
-            Request::ListDocuments { app } => not_asked(app),
+            Request::Present { path: _unasked } => unreachable!(),
+            Request::Add(_unasked) => unreachable!(),
+            Request::Grant(_unasked) => unreachable!(),
+            Request::Revoke(_unasked) => unreachable!(),
+            Request::DeleteDocument { doc: _unasked } => unreachable!(),
+            Request::LookupDocument { path: _unasked } => unreachable!(),
+            Request::Info { doc: _unasked } => unreachable!(),
+            Request::ListDocuments { app: _unasked } => unreachable!(),
         }
     }
 
@@ -204,14 +212,13 @@ impl Portal {
         seat: u32,
         request: NodeRequest,
     ) -> Result<Reply, WantOfMemory>
-        requires { cost_with self.old (Request.Node request) ≤ limit_of self.old }
+        requires fits { cost_with self.old (Request.Node request) ≤ limit_of self.old }
+        requires built { BuiltOp request.op }
         ensures opening { self.new.opening ≡ self.old.opening }
         ensures ok { IfOk result (Answers self.old self.new seat (Request.Node request)) }
         ensures err { OnErr result (self.new ≡ self.old) }
     {
-        let Some(NodeDone { answer, look }) = self.serve(seat, &request) else {
-            return Err(WantOfMemory);
-        };
+        let NodeDone { answer, look } = self.serve(seat, &request);
         let looks = looks_made(alloc, look)?;
         let entry = entry_made(alloc, seat, Request::Node(request), looks);
         self.history.reserve(self.connections.as_slice().len() + 1)?;
@@ -251,47 +258,26 @@ impl Portal {
         Ok(silent_reply(alloc, answer))
     }
 
-    /// Serves a request of a seat on a node, which changes nothing. `None` of a
-    /// request whose answer isn't defined.
-    fn serve(&self, seat: u32, request: &NodeRequest) -> Option<NodeDone>
-        ensures { IfSome result
-            (λ done. Serves (state_now self.now) seat request.now done.answer done.look) }
+    /// Serves a request of a seat on a node, which changes nothing.
+    fn serve(&self, seat: u32, request: &NodeRequest) -> NodeDone
+        requires { BuiltOp request.now.op }
+        ensures { Serves (state_now self.now) seat request.now result.answer result.look }
     {
         let NodeOp::GetAttr { flags, .. } = &request.op else {
-            return None;
+            unreachable!();
         };
         let Some(connection) = mount_of(self.connections.as_slice(), seat) else {
-            return Some(NodeDone::refused(Code::NotHere));
+            return NodeDone::refused(Code::NotHere);
         };
-        Some(get_attr(
+        get_attr(
             self.documents.as_slice(),
             &self.rights,
             self.opening.files.as_slice(),
             &connection.who,
             request,
             *flags,
-        ))
+        )
     }
-}
-
-/// Refuses a request that nobody asks yet: what it comes to is defined ahead of
-/// it.
-fn not_asked(_argument: ByteList) -> Result<Reply, Refused>
-    ensures { result ≡ Err Refused.Memory }
-{
-    Err(Refused::Memory)
-}
-
-fn not_asked_add(_add: AddRequest) -> Result<Reply, Refused>
-    ensures { result ≡ Err Refused.Memory }
-{
-    Err(Refused::Memory)
-}
-
-fn not_asked_rights(_call: RightsCall) -> Result<Reply, Refused>
-    ensures { result ≡ Err Refused.Memory }
-{
-    Err(Refused::Memory)
 }
 
 /// The answer to a Collect of a seat with this bus. Nothing waits to be told,

@@ -2,6 +2,7 @@
 
 ghost use Rattle.std.specs.Prelude.{◌≡◌, ◌<◌, ◌≤◌, ◌^◌, length, true, IfErr, IfOk, IsOk, OnErr};
 ghost use Rattle.portal_core.specs.Growth.{GrowsBy, RefusedFor, cost_after};
+ghost use Rattle.portal_model.specs.Built.{Built};
 ghost use Rattle.portal_model.specs.History.{Legal, cost, run};
 ghost use Rattle.portal_model.specs.Seated.{is_open};
 
@@ -27,7 +28,8 @@ pub trait Storied {
     /// What is true of each entry that it makes.
     ghost says: { Entry → Type 0 };
 
-    /// Answers a request of a seat, which is a number from 1.
+    /// Answers a request of a seat, which is a number from 1. The request is
+    /// one that has a body.
     ///
     /// The reply is that of one step of the sequential portal, from the state
     /// after the history, which grows by this request. A refusal leaves the
@@ -36,7 +38,8 @@ pub trait Storied {
     /// history costs no more than that. The Leave of an open connection is
     /// never refused.
     fn ask(&mut self, alloc: Global, seat: u32, request: Request) -> Result<Reply, Refused>
-        requires { 1 ≤ seat }
+        requires seat { 1 ≤ seat }
+        requires built { Built request }
 
         ensures opening { opening self.new ≡ opening self.old }
         ensures answered { IfOk result

@@ -1,17 +1,58 @@
 -- The worked examples of the requests on documents, by computation.
 use lib.Utf8.{encode}
-use Rattle.std.proofs.Common.{◌≡◌, ◌<◌, ◌^◌, ℕ, [], ◌∷◌, true, refl, arith}
+use Rattle.std.proofs.Common.{◌≡◌, ◌<◌, ◌^◌, ℕ, List, [], ◌∷◌, true, refl, arith}
 use Rattle.std.proofs.lemmas.Bool.Decides.{nat_tests}
 use Rattle.std.specs.Str.{is_utf8, chars}
 use Rattle.portal_base.specs.Names.{is_host_path, is_app_name, child_of, own_folder, is_in_own_folder, is_doc_id, hex_number, doc_text}
+use Rattle.portal_base.specs.declared.names.doc_id.DocId.{DocId}
+use Rattle.portal_model.specs.declared.entry.Fault.{Fault}
 use Rattle.portal_model.specs.DocumentExamples.{AddsAndReuses, NumbersWrap, AddsOfOneFile, QueueIsFull, Grants, Informs, RevokesItsOwn, AddsWhatAnotherHolds, RefusesAdditions, ListsWhatItHolds, AddsNamed, CostsOfDocuments}
 use Rattle.portal_model.specs.Documents.{above}
 use Rattle.portal_model.specs.Opening.{id_of}
 use Rattle.portal_model.specs.Valid.{is_made}
 
+-- no number is nearer to a word than the word itself
+none_nearer : (made : List DocId) (word other : ℕ) → other < 2 ^ 32 → above word other < 0 → is_made made other ≡ true
+none_nearer made word other h l = absurd (omega arith)
+
+-- no device failed
+no_keeper : {X : Type 0} → Fault.None ≡ Fault.Keeper → X
+no_keeper e = cc
+
 pub adds_and_reuses : AddsAndReuses
 unfolding is_host_path is_app_name is_utf8 chars encode child_of own_folder is_in_own_folder is_doc_id hex_number doc_text
-adds_and_reuses = record { answers_are = refl; given_is_due = refl }
+adds_and_reuses = record {
+  answers_are = refl;
+  given_is_due = refl;
+  lawful = (
+    record { defined = refl; given = record { caller = refl; looks = (refl, refl); clock = refl; words = refl; numbers = tt; full = refl; keeper = λ e. no_keeper e } },
+    (
+      record { defined = refl; given = record { caller = refl; looks = (refl, (refl, refl)); clock = refl; words = refl; numbers = (omega arith, omega arith, record { unused = refl; first = none_nearer [] 5 }, tt); full = refl; keeper = λ e. no_keeper e } },
+      (
+        record { defined = refl; given = record { caller = refl; looks = (refl, refl); clock = refl; words = refl; numbers = tt; full = refl; keeper = λ e. no_keeper e } },
+        (
+          record { defined = refl; given = record { caller = refl; looks = (refl, (refl, refl)); clock = refl; words = refl; numbers = tt; full = refl; keeper = λ e. no_keeper e } },
+          (
+            record { defined = refl; given = record { caller = refl; looks = (refl, refl); clock = refl; words = refl; numbers = tt; full = refl; keeper = λ e. no_keeper e } },
+            (
+              record { defined = refl; given = record { caller = refl; looks = (refl, (refl, refl)); clock = refl; words = refl; numbers = (omega arith, omega arith, record { unused = refl; first = none_nearer (id_of 5 ∷ []) 4294967295 }, tt); full = refl; keeper = λ e. no_keeper e } },
+              (
+                record { defined = refl; given = record { caller = refl; looks = (refl, refl); clock = refl; words = refl; numbers = tt; full = refl; keeper = λ e. no_keeper e } },
+                (
+                  record { defined = refl; given = record { caller = refl; looks = (refl, refl); clock = refl; words = refl; numbers = tt; full = refl; keeper = λ e. no_keeper e } },
+                  (
+                    record { defined = refl; given = record { caller = refl; looks = (refl, refl); clock = refl; words = refl; numbers = tt; full = refl; keeper = λ e. no_keeper e } },
+                    tt,
+                  ),
+                ),
+              ),
+            ),
+          ),
+        ),
+      ),
+    ),
+  );
+}
 
 pub adds_of_one_file : AddsOfOneFile
 unfolding is_host_path is_app_name is_utf8 chars encode child_of own_folder is_in_own_folder is_doc_id hex_number doc_text
@@ -44,7 +85,18 @@ only_last other h l =
 
 pub numbers_wrap : NumbersWrap
 unfolding is_host_path is_app_name is_utf8 chars encode child_of own_folder is_in_own_folder is_doc_id hex_number doc_text
-numbers_wrap = record { unused = record { unused = refl; first = only_last }; answers_are = refl; given_is_due = refl }
+numbers_wrap = record {
+  unused = record { unused = refl; first = only_last };
+  answers_are = refl;
+  given_is_due = refl;
+  lawful = (
+    record { defined = refl; given = record { caller = refl; looks = (refl, refl); clock = refl; words = refl; numbers = tt; full = refl; keeper = λ e. no_keeper e } },
+    (
+      record { defined = refl; given = record { caller = refl; looks = (refl, (refl, refl)); clock = refl; words = refl; numbers = (omega arith, omega arith, record { unused = refl; first = only_last }, tt); full = refl; keeper = λ e. no_keeper e } },
+      tt,
+    ),
+  );
+}
 
 pub refuses_additions : RefusesAdditions
 unfolding is_host_path is_app_name is_utf8 chars encode child_of own_folder is_in_own_folder is_doc_id hex_number doc_text

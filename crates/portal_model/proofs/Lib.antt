@@ -25,3 +25,5 @@ pub mod SeatLaws
 pub mod ExampleProofs
 pub mod DocumentExampleProofs
 pub mod AllowedLaws
+pub mod Refusals
+pub mod LooksTaken

@@ -19,7 +19,7 @@ use Rattle.portal_model.specs.declared.request.RightsCall.{RightsCall}
 use Rattle.portal_model.specs.declared.state.Connection.{Connection}
 use Rattle.portal_model.specs.Documents.{IsUnused}
 use Rattle.portal_model.specs.Examples.{a_text, document, editor, file, grant, hello, limits, opening}
-use Rattle.portal_model.specs.History.{cost_of, run}
+use Rattle.portal_model.specs.History.{EachLawful, cost_of, run}
 use Rattle.portal_model.specs.Opening.{id_of, opened}
 use Rattle.portal_model.specs.Outside.{meets_limit, verdict_of, walk_of, words_drawn}
 use Rattle.portal_model.specs.State.{State, connection_of}
@@ -159,6 +159,7 @@ pub record AddsAndReuses : Type 0 where
       ∷ Answer.Place 0 ∷ ids (codes "ffffffff" ∷ [])
       ∷ refused Refusal.NotAllowed ∷ Answer.Done ∷ refused Refusal.NotAllowed ∷ []
   pub given_is_due : GivenIsDue (in_state []) additions
+  pub lawful : EachLawful (in_state []) additions
 
 -- Behind the greatest number comes 0: with a kept document of the greatest, and that number drawn
 -- as a word, the host's addition is answered 0's identifier.
@@ -175,6 +176,7 @@ pub record NumbersWrap : Type 0 where
   pub answers_are :
       answers_to (in_state greatest) wrapping ≡ Answer.Place 0 ∷ ids (codes "00000000" ∷ []) ∷ []
   pub given_is_due : GivenIsDue (in_state greatest) wrapping
+  pub lawful : EachLawful (in_state greatest) wrapping
 
 -- Two equal files of one call get one document where it may be used again, and two where not. A
 -- file that the named application has in its own folder already is left out.

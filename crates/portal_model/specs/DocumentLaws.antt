@@ -1,5 +1,7 @@
--- Laws of the requests of a bus, which the public functions of src/document_laws.rt state.
+-- Laws of the requests of a bus, and of entries, which the public functions of
+-- src/document_laws.rt state.
 use Rattle.std.specs.Prelude.{◌≡◌, true, false}
+use Rattle.portal_model.specs.declared.entry.Entry.{Entry}
 use Rattle.portal_model.specs.declared.entry.Fault.{Fault}
 use Rattle.portal_model.specs.declared.entry.Given.{Given}
 use Rattle.portal_model.specs.declared.reply.Answer.{Answer}
@@ -8,8 +10,10 @@ use Rattle.portal_model.specs.declared.request.Request.{Request}
 use Rattle.portal_model.specs.declared.state.Connection.{Connection}
 use Rattle.portal_model.specs.Allowed.{has_place, is_allowed, is_refusal}
 use Rattle.portal_model.specs.Bus.{bus_answer}
+use Rattle.portal_model.specs.Lawful.{Lawful}
 use Rattle.portal_model.specs.Outside.{LawfulBus}
 use Rattle.portal_model.specs.State.{State}
+use Rattle.portal_model.specs.Step.{after, looks_taken, reply_at}
 
 abbrev pub after_bus : State → Connection → Request → Given → State
 after_bus s c request given = (bus_answer s c request given).0
@@ -24,6 +28,19 @@ RefusalsKeep = (s : State) (c : Connection) (request : Request) (given : Given) 
     answer_of_bus s c request given ≡ Answer.Refused code →
     after_bus s c request given
     ≡ record s { connections = (after_bus s c request given).connections }
+
+-- The same of any entry: a refused one may have taken presented files from a queue, and told what
+-- a connection waited for, and that is all.
+abbrev pub RefusedEntriesKeep : Type 0
+RefusedEntriesKeep = (s : State) (e : Entry) (code : Code) →
+    (reply_at s e).answer ≡ Answer.Refused code →
+    after s e ≡ record s { connections = (after s e).connections }
+
+-- Over a tree that tells its files, the looks of a lawful entry in which no device failed are those
+-- that it takes there: no entry has a choice of looks.
+abbrev pub LooksAreTaken : Type 0
+LooksAreTaken = (s : State) (e : Entry) → s.told ≡ true → Lawful s e →
+    e.given.fault ≡ Fault.None → e.given.looks ≡ looks_taken s e.seat e.request
 
 -- The condition of an Add alone speaks of what the tree has, so it needs a tree that tells.
 abbrev pub ToldForAdd : State → Request → Type 0

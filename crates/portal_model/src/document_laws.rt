@@ -3,12 +3,29 @@
 //!
 //! Each function does nothing; its contract is the law.
 
-ghost use Rattle.portal_model.specs.DocumentLaws.{AllowedIsDone, RefusalsKeep};
+ghost use Rattle.portal_model.specs.DocumentLaws.{
+  AllowedIsDone,
+  LooksAreTaken,
+  RefusalsKeep,
+  RefusedEntriesKeep,
+};
 
 /// A refusal leaves documents, rights, applications, files and entries as they
 /// were.
 pub fn refusals_keep_documents()
     ensures { RefusalsKeep }
+{}
+
+/// An entry that is refused, of whatever kind, leaves documents, rights,
+/// applications, files and entries as they were.
+pub fn refused_entries_keep_documents()
+    ensures { RefusedEntriesKeep }
+{}
+
+/// Over a tree that tells its files, a lawful entry in which no device failed
+/// has the looks that it takes there, and no others.
+pub fn looks_are_those_taken()
+    ensures { LooksAreTaken }
 {}
 
 /// What is allowed is done, where no device fails and no limit is met: an Add

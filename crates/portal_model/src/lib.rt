@@ -1,6 +1,28 @@
-//! The plain data of the portal: what is asked, what is answered, what the
-//! outside gave, and the records that a portal opens with. The definitions of
-//! the sequential portal stand beside it in specs/.
+//! The plain data of the portal, and the sequential portal itself: what is
+//! asked, what is answered, what the outside gave, and in `specs/` what one step
+//! makes of them.
+//!
+//! **It promises** that a history is legal exactly where each of its entries is
+//! lawful at its place, that every state which it comes to from a valid one is
+//! valid, and that legal histories join. Whoever answers as one step answers,
+//! from the end of a legal history, has all laws of histories.
+//!
+//! | Room | Holds |
+//! |---|---|
+//! | `request`, `reply`, `entry` | what is asked, what is answered, and one request with what the outside gave it |
+//! | `state`, `rights`, `handle`, `place` | the items of the portal's lists, the four rights, open handles, the numbers of nodes |
+//! | `opening`, `records` | what a run begins with, and the records that outlive it |
+//! | `errno` | the numbers of errors on nodes |
+//! | `desk` | [`desk::Desk`], where a seat asks |
+//! | `laws`, `document_laws` | laws of histories, and of requests on documents |
+//! | `examples`, `document_examples` | cases that are worked out by hand, computed over the definitions |
+//!
+//! ```text
+//! let reply = desk.ask(alloc, Request::Enter { who: Who::Host, kind: Kind::Bus })?;
+//! ```
+//!
+//! Source: XDG Desktop Portal documentation,
+//! `org.freedesktop.portal.Documents`; `include/uapi/linux/fuse.h`.
 #![tactic(auto)]
 
 pub mod desk;

@@ -41,7 +41,7 @@ pub enum NodeOp {
     },
     /// FUSE_GETATTR.
     GetAttr {
-        /// Bit 1 says that `fh` names an open handle.
+        /// Bit 0 says that `fh` names an open handle.
         flags: u32,
         /// The number of a handle.
         fh: u64,
@@ -340,29 +340,18 @@ impl Replica for NodeOp {
             NodeOp::Lookup { name } => NodeOp::Lookup {
                 name: name.replica(alloc)?,
             },
-            NodeOp::Forget { count } => NodeOp::Forget { count: *count },
+            &NodeOp::Forget { count } => NodeOp::Forget { count },
             NodeOp::BatchForget { nodes } => NodeOp::BatchForget {
                 nodes: nodes.replica(alloc)?,
             },
-            NodeOp::GetAttr { flags, fh } => NodeOp::GetAttr {
-                flags: *flags,
-                fh: *fh,
-            },
-            NodeOp::SetAttr { valid, fh, size } => NodeOp::SetAttr {
-                valid: *valid,
-                fh: *fh,
-                size: *size,
-            },
-            NodeOp::Open { flags } => NodeOp::Open { flags: *flags },
+            &NodeOp::GetAttr { flags, fh } => NodeOp::GetAttr { flags, fh },
+            &NodeOp::SetAttr { valid, fh, size } => NodeOp::SetAttr { valid, fh, size },
+            &NodeOp::Open { flags } => NodeOp::Open { flags },
             NodeOp::Create { name, flags } => NodeOp::Create {
                 name: name.replica(alloc)?,
                 flags: *flags,
             },
-            NodeOp::Read { fh, offset, size } => NodeOp::Read {
-                fh: *fh,
-                offset: *offset,
-                size: *size,
-            },
+            &NodeOp::Read { fh, offset, size } => NodeOp::Read { fh, offset, size },
             NodeOp::Write {
                 fh,
                 offset,
@@ -372,17 +361,13 @@ impl Replica for NodeOp {
                 offset: *offset,
                 content: content.replica(alloc)?,
             },
-            NodeOp::Flush { fh } => NodeOp::Flush { fh: *fh },
-            NodeOp::Fsync { fh } => NodeOp::Fsync { fh: *fh },
-            NodeOp::Release { fh } => NodeOp::Release { fh: *fh },
+            &NodeOp::Flush { fh } => NodeOp::Flush { fh },
+            &NodeOp::Fsync { fh } => NodeOp::Fsync { fh },
+            &NodeOp::Release { fh } => NodeOp::Release { fh },
             NodeOp::OpenDir => NodeOp::OpenDir,
-            NodeOp::ReadDir { fh, offset, size } => NodeOp::ReadDir {
-                fh: *fh,
-                offset: *offset,
-                size: *size,
-            },
-            NodeOp::ReleaseDir { fh } => NodeOp::ReleaseDir { fh: *fh },
-            NodeOp::Access { mask } => NodeOp::Access { mask: *mask },
+            &NodeOp::ReadDir { fh, offset, size } => NodeOp::ReadDir { fh, offset, size },
+            &NodeOp::ReleaseDir { fh } => NodeOp::ReleaseDir { fh },
+            &NodeOp::Access { mask } => NodeOp::Access { mask },
         })
     }
 }

@@ -19,7 +19,7 @@ pub mod ReadCall
 pub mod ConnectionEntries
 pub mod HeardReplies
 pub mod WholeInputsEnd
-pub mod ItemsDefined
+pub mod ItemsBuilt
 pub mod ItemsCostLittle
 pub mod RoomIsEnough
 pub mod EndsStay

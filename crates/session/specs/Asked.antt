@@ -8,6 +8,7 @@ use Rattle.portal_base.specs.declared.who.Who.{Who}
 use Rattle.portal_model.specs.declared.request.NodeOp.{NodeOp}
 use Rattle.portal_model.specs.declared.request.NodeRequest.{NodeRequest}
 use Rattle.portal_model.specs.declared.request.Request.{Request}
+use Rattle.portal_model.specs.Built.{Built}
 use Rattle.portal_model.specs.GetAttr.{names_handle}
 use Rattle.portal_model.specs.Place.{place_named}
 use Rattle.dbus_auth.specs.declared.handshake.AuthAnswer.{AuthAnswer}
@@ -133,10 +134,10 @@ asked c acts = Request.Enter c.who c.kind ∷ (requests_of acts ++ Request.Leave
 abbrev pub IsWritable : OutMessage → Type 0
 IsWritable message = (serial : ℕ) → serial ≢ 0 → serial < 2 ^ 32 → CanWrite message serial
 
--- what answers an item can be written
+-- what an item asks on a node has a body, and what answers the item can be written
 abbrev pub MayAnswer : Act → Type 0
 MayAnswer Nothing = Unit {0}
 MayAnswer (Line reply) = Unit {0}
 MayAnswer (Call reply collects) = IfSome reply IsWritable
-MayAnswer (Node unique request) = Unit {0}
+MayAnswer (Node unique request) = Built (Request.Node request)
 MayAnswer (Local unique told) = Unit {0}

@@ -1,6 +1,7 @@
 //! Reading items.
 
-ghost use Rattle.std.specs.Prelude.{◌≡◌, ◌≤◌, length, IfOk, OnOk, OnErr};
+ghost use Rattle.std.specs.Prelude.{◌≡◌, ◌≤◌, length, true, IfOk, OnOk, OnErr};
+ghost use Rattle.portal_model.specs.Built.{BuiltOp};
 ghost use Rattle.session.specs.Cuts.{Cuts, next_phase, line_of, whole_item};
 ghost use Rattle.session.specs.Asked.{Means, MessageMeans, MayAnswer, OrMemory, act_of_frame};
 ghost use Rattle.session.specs.Asked.{act_of_message, frame_act, is_built, is_host, reply_to};
@@ -149,7 +150,8 @@ fn frame_act(unique: u64, asked: FuseAsk) -> Result<Act, ItemError>
 
 /// Says whether a request on a node is one that is asked.
 fn is_built(request: &NodeRequest) -> bool
-    ensures { result ≡ is_built request.now }
+    ensures answers { result ≡ is_built request.now }
+    ensures has_body { result ≡ true → BuiltOp request.now.op }
 {
     match &request.op {
         NodeOp::GetAttr { flags, .. } => {

@@ -5,6 +5,7 @@
 
 ghost use Rattle.std.specs.Prelude.{◌≡◌, ℕ, List, ◌≤◌, ◌∷◌, [], length, take, drop, option_to_list};
 ghost use Rattle.std.specs.Prelude.{IfOk, IfSome};
+ghost use Rattle.portal_model.specs.Built.{Built};
 ghost use Rattle.session.specs.Asked.{collect_requests, IsWritable, MayAnswer};
 ghost use Rattle.session.specs.Answers.{last_spoken, serial_after, spoken};
 ghost use Rattle.session.specs.Cuts.{Cuts, whole_item};
@@ -125,6 +126,7 @@ fn serve_node<D: Desk, K: Sink>(
     desk: &mut D,
     sink: &mut K,
 ) -> Result<u32, Fed>
+    requires { Built (Request.Node request) }
     ensures ends { ActEnds result (Act.Node unique request) serial
         (world (D.seated desk.old) (K.told sink.old) (K.faults sink.old))
         (world (D.seated desk.new) (K.told sink.new) (K.faults sink.new)) }

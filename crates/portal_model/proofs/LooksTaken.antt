@@ -1,0 +1,95 @@
+-- Over a tree that tells its files, the looks of a lawful entry without a fault are those that it takes.
+use Rattle.std.proofs.Common.{◌≡◌, ℕ, List, [], ◌∷◌, map, Bool, true, false, not, cond, Option, Some, None, refl, sym, ap, subst, ◌∙◌}
+use Rattle.portal_base.specs.declared.files.File.{File}
+use Rattle.portal_base.specs.declared.files.Look.{Look}
+use Rattle.portal_base.specs.declared.names.doc_id.DocId.{DocId}
+use Rattle.portal_model.specs.declared.entry.Entry.{Entry}
+use Rattle.portal_model.specs.declared.entry.Fault.{Fault}
+use Rattle.portal_model.specs.declared.entry.Given.{Given}
+use Rattle.portal_model.specs.declared.reply.Code.{Code}
+use Rattle.portal_model.specs.declared.request.AddRequest.{AddRequest}
+use Rattle.portal_model.specs.declared.request.NodeRequest.{NodeRequest}
+use Rattle.portal_model.specs.declared.request.Request.{Request}
+use Rattle.portal_model.specs.declared.state.Connection.{Connection}
+use Rattle.portal_model.specs.Add.{add, add_allowed, add_looking, add_presented, add_shown, added, added_files, are_of_kind, may_list_all}
+use Rattle.portal_model.specs.AddArguments.{are_add_arguments, are_presented, document_paths, paths_shown}
+use Rattle.portal_model.specs.Bus.{bus_walk, is_tree}
+use Rattle.portal_model.specs.Content.{look_at}
+use Rattle.portal_model.specs.DocumentLaws.{LooksAreTaken}
+use Rattle.portal_model.specs.Lawful.{Lawful, LawfulGiven, LawfulLooks, LawfulOnBus}
+use Rattle.portal_model.specs.Outside.{files_told}
+use Rattle.portal_model.specs.State.{State, connection_of}
+use Rattle.portal_model.specs.Step.{all_told, bus_looks, bus_of, looks_taken}
+use Rattle.portal_model.specs.Verdict.{Verdict, unless, walk_unless}
+use Rattle.portal_model.specs.Walk.{Walk, Answers, Looks, Ends, Gives, is_found, looks_at_all, looks_shown, shown_at}
+
+-- ---- the looks of a walk
+
+by_last : (looks : List Look) (found : Bool) → looks ≡ [] → true ≡ found → looks ≡ cond found [] (Look.Missing ∷ [])
+by_last looks true e f = e
+by_last looks false e f = cc
+
+pub shown_given : {X : Type 0} (files : List File) (w : Walk X) (looks : List Look) → Gives (Some files) w looks false → looks ≡ looks_shown files w
+shown_given files (Answers x) looks g = g.0
+shown_given files (Looks target next) [] g = cc
+shown_given files (Looks target next) (look ∷ looks) g =
+    ap (λ (ls : List Look). look ∷ ls) (shown_given files (next look) looks g.1) ∙ ap (λ (l : Look). l ∷ looks_shown files (next l)) g.0
+shown_given files (Ends call done missing) [] g = ap (λ (found : Bool). cond found [] (Look.Missing ∷ [])) g
+shown_given files (Ends call done missing) (look ∷ looks) g =
+    ap (λ (l : Look). l ∷ looks) g.0 ∙ (ap (λ (ls : List Look). Look.Missing ∷ ls) g.1 ∙ ap (λ (found : Bool). cond found [] (Look.Missing ∷ [])) g.3)
+
+-- ---- an Add's don't depend on the numbers of new documents
+
+shown_all : (files : List File) (paths : List (List ℕ)) (v : List Look → Verdict) → looks_shown files (looks_at_all paths (λ looks. Answers (v looks))) ≡ map (look_at files) paths
+shown_all files [] v = refl
+shown_all files (path ∷ paths) v = ap (λ (ls : List Look). look_at files path ∷ ls) (shown_all files paths (λ looks. v (look_at files path ∷ looks)))
+
+shown_unless : (files : List File) (wrong : Bool) (code : Code) (w u : Walk Verdict) → looks_shown files w ≡ looks_shown files u → looks_shown files (walk_unless wrong code w) ≡ looks_shown files (walk_unless wrong code u)
+shown_unless files true code w u e = refl
+shown_unless files false code w u e = e
+
+add_shown_alike : (files : List File) (s : State) (c : Connection) (a : AddRequest) (ns ms : List DocId) → looks_shown files (add s c a ns) ≡ looks_shown files (add s c a ms)
+add_shown_alike files s c a ns ms =
+    let v : List DocId → List Look → Verdict = λ numbers looks. unless (not (are_of_kind a looks)) Code.InvalidArgument (added s (added_files s c a numbers)) in
+    shown_unless files (not (are_presented c.queue a)) Code.InvalidArgs (add_presented s c a ns) (add_presented s c a ms)
+    (shown_unless files (not (are_add_arguments c.queue a)) Code.InvalidArgument (add_allowed s c a ns) (add_allowed s c a ms)
+    (shown_unless files (not (may_list_all s c.who a (document_paths c.queue a))) Code.NotAllowed (add_looking s c a ns) (add_looking s c a ms)
+    (shown_all files (paths_shown c.queue a) (v ns) ∙ sym (shown_all files (paths_shown c.queue a) (v ms)))))
+
+walk_shown_alike : (files : List File) (s : State) (c : Connection) (request : Request) (ns ms : List DocId) → looks_shown files (bus_walk s c request ns) ≡ looks_shown files (bus_walk s c request ms)
+walk_shown_alike files s c (Request.Add a) ns ms = add_shown_alike files s c a ns ms
+walk_shown_alike files s c request ns ms = refl
+
+-- ---- each kind
+
+bus_taken : (s : State) (request : Request) (given : Given) (o : Option Connection) → s.told ≡ true → given.fault ≡ Fault.None → LawfulOnBus s request given o → given.looks ≡ bus_looks s request o
+bus_taken s request given None t f l = ap (λ (g : Given). g.looks) l
+bus_taken s request given (Some c) t f l =
+    let w = bus_walk (all_told c.seat s) c request given.numbers in
+    let told : files_told s ≡ Some s.files = ap (λ (b : Bool). cond b (Some s.files) None) t in
+    let gives : Gives (Some s.files) w given.looks false = subst (λ (files : Option (List File)). Gives files w given.looks false) told
+    (subst (λ (fault : Fault). Gives (files_told s) w given.looks (is_tree fault)) f l.looks) in
+    shown_given s.files w given.looks gives ∙ walk_shown_alike s.files (all_told c.seat s) c request given.numbers []
+
+looks_given : (told : Bool) (taken looks : List Look) (fault : Fault) → told ≡ true → fault ≡ Fault.None → LawfulLooks told taken fault looks → looks ≡ taken
+looks_given true taken looks Fault.None t f h = h
+looks_given true taken looks Fault.Tree t f h = cc
+looks_given true taken looks Fault.Keeper t f h = cc
+looks_given false taken looks fault t f h = cc
+
+given_taken : (s : State) (seat : ℕ) (request : Request) (given : Given) → s.told ≡ true → given.fault ≡ Fault.None → LawfulGiven s seat request given → given.looks ≡ looks_taken s seat request
+given_taken s seat (Request.Enter who kind) given t f l = ap (λ (g : Given). g.looks) l
+given_taken s seat Request.Leave given t f l = ap (λ (g : Given). g.looks) l
+given_taken s seat Request.Collect given t f l = ap (λ (g : Given). g.looks) l
+given_taken s seat (Request.Node r) given t f l = looks_given s.told (looks_taken s seat (Request.Node r)) given.looks given.fault t f l.looks
+given_taken s seat (Request.Present path) given t f l = bus_taken s (Request.Present path) given (bus_of (connection_of s.connections seat)) t f l
+given_taken s seat (Request.Add a) given t f l = bus_taken s (Request.Add a) given (bus_of (connection_of s.connections seat)) t f l
+given_taken s seat (Request.Grant call) given t f l = bus_taken s (Request.Grant call) given (bus_of (connection_of s.connections seat)) t f l
+given_taken s seat (Request.Revoke call) given t f l = bus_taken s (Request.Revoke call) given (bus_of (connection_of s.connections seat)) t f l
+given_taken s seat (Request.DeleteDocument doc) given t f l = bus_taken s (Request.DeleteDocument doc) given (bus_of (connection_of s.connections seat)) t f l
+given_taken s seat (Request.LookupDocument path) given t f l = bus_taken s (Request.LookupDocument path) given (bus_of (connection_of s.connections seat)) t f l
+given_taken s seat (Request.Info doc) given t f l = bus_taken s (Request.Info doc) given (bus_of (connection_of s.connections seat)) t f l
+given_taken s seat (Request.ListDocuments app) given t f l = bus_taken s (Request.ListDocuments app) given (bus_of (connection_of s.connections seat)) t f l
+
+pub looks-are-taken : LooksAreTaken
+looks-are-taken s e t l f = given_taken s e.seat e.request e.given t f l.given
