@@ -52,7 +52,6 @@ use Rattle.app_world.proofs.ViewLaws.{is_app-named, own-some, own_told, own_unse
 abbrev pub seen_step : {X : Type 0} → List ℕ → State × X → AppView × X
 seen_step app done = (view done.0 app, done.1)
 
-
 -- ---- a request on a node, by its kind
 
 node_answer_own : (app : List ℕ) (s : State) (told : ℕ) (r : NodeRequest) (op : NodeOp) (seat : ℕ) (request : Request) (given : Given) → Valid s →
