@@ -3,7 +3,7 @@ use lib.Utf8.{encode}
 use Rattle.std.proofs.Common.{refl}
 use Rattle.std.specs.Str.{is_utf8, chars}
 use Rattle.portal_base.specs.Names.{is_host_path, is_app_name, child_of, own_folder, is_in_own_folder, is_doc_id, hex_number, doc_text, parent_of}
-use Rattle.app_world.specs.DocumentExamples.{WhatIsTouched, WorldsOfAdditions, WorldsOfCalls, WorldsOfRemovals}
+use Rattle.app_world.specs.DocumentExamples.{RightsOfHistories, WhatIsTouched, WorldsOfAdditions, WorldsOfCalls, WorldsOfRemovals}
 
 pub additions : WorldsOfAdditions
 unfolding is_host_path is_app_name is_utf8 chars encode child_of own_folder is_in_own_folder is_doc_id hex_number doc_text parent_of
@@ -20,3 +20,7 @@ removals = record { own = refl }
 pub touched : WhatIsTouched
 unfolding is_host_path is_app_name is_utf8 chars encode child_of own_folder is_in_own_folder is_doc_id hex_number doc_text parent_of
 touched = record { by_host = refl; two_added = refl; one_reused = refl; number_nought = refl }
+
+pub rights : RightsOfHistories
+unfolding is_host_path is_app_name is_utf8 chars encode child_of own_folder is_in_own_folder is_doc_id hex_number doc_text parent_of
+rights = record { given = refl; added = refl; elsewhere = refl; taken = refl; deleted = refl; changed = refl; given_between = refl; not_given = refl }

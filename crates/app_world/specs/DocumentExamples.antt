@@ -14,9 +14,11 @@ use Rattle.portal_model.specs.Opening.{opened}
 use Rattle.portal_model.specs.State.{State}
 use Rattle.portal_model.specs.declared.state.Document.{Document}
 use Rattle.portal_model.specs.Content.{OfFile}
-use Rattle.rights_rule.specs.Rights.{RightSet}
+use Rattle.portal_model.specs.declared.rights.Right.TheVariants.{Read, Write}
+use Rattle.rights_rule.specs.Rights.{RightSet, no_rights}
 use Rattle.app_world.specs.Effect.{Gained, Gone, Lost}
-use Rattle.app_world.specs.Examples.{id, reads, writes}
+use Rattle.app_world.specs.Examples.{both, id, reads, writes}
+use Rattle.app_world.specs.RightsTold.{is_given_in, rights_told}
 use Rattle.app_world.specs.World.{Changed, TraceItem, app_run, items, trace}
 
 -- over a tree with the file a.txt, and an empty one in the editor's own folder; with a bus of the
@@ -164,7 +166,8 @@ a_document =
 abbrev pub deletes : RightSet
 deletes = record { read = false; write = false; grant_permissions = false; delete = true }
 
--- the host adds two equal files for the editor, which may not be used again, and then one for nobody
+-- the host adds two equal files for the editor, which may not be used again, and then one for
+-- nobody
 abbrev pub added_by_the_host : List Entry
 added_by_the_host =
     presents 2 n_text
@@ -207,3 +210,28 @@ pub record WhatIsTouched : Type 0 where
       ≡ Changed (Gained (n_document_of 5 true) reads (OfFile 0 [] 0))
       ∷ Changed (Gained (n_document_of 5 true) writes (OfFile 0 [] 0)) ∷ []
   pub number_nought : items editor (in_tree greatest) wrapping ≡ []
+
+-- ---- who has which right
+
+abbrev pub gives_and_deletes : RightSet
+gives_and_deletes =
+    record { read = false; write = false; grant_permissions = true; delete = true }
+
+abbrev pub reads_and_gives : RightSet
+reads_and_gives =
+    record { read = true; write = false; grant_permissions = true; delete = false }
+
+-- The viewer gets reading by the host's addition, and writing by the editor's grant; the editor
+-- gets what who adds gets. Rights go by a revocation, and all of them as the document is deleted.
+pub record RightsOfHistories : Type 0 where
+  pub given : rights_told viewer 5 (in_tree []) held_by_another no_rights ≡ both
+  pub added :
+      rights_told editor 5 (in_tree []) held_by_another no_rights
+      ≡ record { read = true; write = true; grant_permissions = true; delete = false }
+  pub elsewhere : rights_told viewer 6 (in_tree []) held_by_another no_rights ≡ no_rights
+  pub taken : rights_told editor 11 two_documents from_itself reads ≡ no_rights
+  pub deleted : rights_told editor 11 two_documents by_the_host reads ≡ no_rights
+  pub changed :
+      rights_told editor 10 two_documents by_the_host reads_and_gives ≡ gives_and_deletes
+  pub given_between : is_given_in viewer 5 Write (in_tree []) held_by_another ≡ true
+  pub not_given : is_given_in editor 11 Read two_documents by_the_host ≡ false

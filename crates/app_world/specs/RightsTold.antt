@@ -30,8 +30,8 @@ more_if b more held = cond b (union held more) held
 
 -- ---- what is told by a request that is done, of who held these rights
 
--- By the identifier that a file of an Add was answered: who adds gets its rights in the document, and
--- then the application that is named gets those that are listed.
+-- By the identifier that a file of an Add was answered: who adds gets its rights in the document,
+-- and then the application that is named gets those that are listed.
 abbrev pub told_by_file : List ℕ → ℕ → Who → AddRequest → RightSet → List ℕ → RightSet
 told_by_file app number who a held doc =
     cond (identifies doc number)

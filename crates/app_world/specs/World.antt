@@ -76,29 +76,30 @@ abbrev pub own_collect_step : AppView → Option OwnConnection → AppView × Re
 own_collect_step v None = not_here v
 own_collect_step v (Some c) = with_signals [] (own_collect v)
 
+-- the connection of the request's seat, where it is a bus
+abbrev pub own_bus : AppView → Own → Option OwnConnection
+own_bus v own = own_bus_of (found_connection v.connections own.seat)
+
 abbrev pub own_request_step : AppView → Own → Request → AppView × Reply
 own_request_step v own (Request.Enter who kind) = with_signals [] (own_enter v own.seat who kind)
 own_request_step v own Request.Leave = with_signals [] (own_leave v own.seat)
-own_request_step v own Request.Collect =
-    own_collect_step v (own_bus_of (found_connection v.connections own.seat))
+own_request_step v own Request.Collect = own_collect_step v (own_bus v own)
 own_request_step v own (Request.Node r) =
     own_node_step v r own (own_mount_of (found_connection v.connections own.seat))
 own_request_step v own (Request.Present path) =
-    own_bus_step v own (Request.Present path) (own_bus_of (found_connection v.connections own.seat))
-own_request_step v own (Request.Add a) =
-    own_bus_step v own (Request.Add a) (own_bus_of (found_connection v.connections own.seat))
+    own_bus_step v own (Request.Present path) (own_bus v own)
+own_request_step v own (Request.Add a) = own_bus_step v own (Request.Add a) (own_bus v own)
 own_request_step v own (Request.Grant call) =
-    own_bus_step v own (Request.Grant call) (own_bus_of (found_connection v.connections own.seat))
+    own_bus_step v own (Request.Grant call) (own_bus v own)
 own_request_step v own (Request.Revoke call) =
-    own_bus_step v own (Request.Revoke call) (own_bus_of (found_connection v.connections own.seat))
+    own_bus_step v own (Request.Revoke call) (own_bus v own)
 own_request_step v own (Request.DeleteDocument doc) =
-    own_bus_step v own (Request.DeleteDocument doc) (own_bus_of (found_connection v.connections own.seat))
+    own_bus_step v own (Request.DeleteDocument doc) (own_bus v own)
 own_request_step v own (Request.LookupDocument path) =
-    own_bus_step v own (Request.LookupDocument path) (own_bus_of (found_connection v.connections own.seat))
-own_request_step v own (Request.Info doc) =
-    own_bus_step v own (Request.Info doc) (own_bus_of (found_connection v.connections own.seat))
+    own_bus_step v own (Request.LookupDocument path) (own_bus v own)
+own_request_step v own (Request.Info doc) = own_bus_step v own (Request.Info doc) (own_bus v own)
 own_request_step v own (Request.ListDocuments app) =
-    own_bus_step v own (Request.ListDocuments app) (own_bus_of (found_connection v.connections own.seat))
+    own_bus_step v own (Request.ListDocuments app) (own_bus v own)
 
 -- the view after a request of the application, and the reply to it
 abbrev pub app_step : AppView → Own → AppView × Reply

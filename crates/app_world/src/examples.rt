@@ -5,8 +5,14 @@
 //! is worked out by hand, so that a wrong definition does not meet it. The last
 //! ones give a part of an example by code.
 
-ghost use Rattle.app_world.specs.ComputedExamples.{AreRefused, IsGotByAdding, IsLeft, IsSeenInShared};
+ghost use Rattle.app_world.specs.ComputedExamples.{
+  AreRefused,
+  IsGotByAdding,
+  IsLeft,
+  IsSeenInShared,
+};
 ghost use Rattle.app_world.specs.DocumentExamples.{
+  RightsOfHistories,
   WhatIsTouched,
   WorldsOfAdditions,
   WorldsOfCalls,
@@ -54,6 +60,12 @@ pub fn removals_in_a_world()
 /// addition that names it.
 pub fn what_is_touched()
     ensures { WhatIsTouched }
+{}
+
+/// A history tells who has which right: by additions, grants, revocations and
+/// deletions.
+pub fn rights_of_histories()
+    ensures { RightsOfHistories }
 {}
 
 /// How an application's own machine refuses what it asks of a document that
