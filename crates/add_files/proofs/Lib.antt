@@ -1,0 +1,4 @@
+pub mod ArgumentLemmas
+pub mod ItemLemmas
+pub mod Following
+pub mod Adding

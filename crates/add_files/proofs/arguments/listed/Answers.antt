@@ -1,0 +1,5 @@
+use Rattle.add_files.proofs.ArgumentLemmas.{unknown-name}
+use Rattle.add_files.proofs.arguments.listed.Goals as goal
+
+pub returns-in-Err-clause-err : goal.returns-in-Err-clause-err
+returns-in-Err-clause-err c = let told = c.in-Err.ensures.err in unknown-name c.args.names.now told.0 told.1.text told.1.here told.1.unknown

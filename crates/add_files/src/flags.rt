@@ -1,0 +1,59 @@
+//! The flags of an addition.
+
+ghost use Rattle.std.specs.Prelude.{◌≡◌};
+ghost use Rattle.portal_model.specs.Add.{adding_rights};
+ghost use Rattle.portal_model.specs.AddArguments.{are_flags, is_as_needed, persists, reuses};
+
+use portal_model::request::AddRequest;
+use rights_rule::Rights;
+
+/// Use a document again.
+const REUSE_EXISTING: u32 = 1;
+
+/// Keep the document beyond the run.
+const PERSISTENT: u32 = 2;
+
+/// Leave out what the application that is named holds in its own folder.
+const AS_NEEDED_BY_APP: u32 = 4;
+
+/// The flags that there are.
+const KNOWN: u32 = REUSE_EXISTING + PERSISTENT + AS_NEEDED_BY_APP;
+
+/// Says whether each flag is one that there is.
+pub fn are_flags(flags: u32) -> bool
+    ensures { result ≡ are_flags flags }
+{
+    flags <= KNOWN
+}
+
+/// Says whether a live document of the same path may be used again.
+pub fn reuses(add: &AddRequest) -> bool
+    ensures { result ≡ reuses add.now }
+{
+    add.flags % 2 == 1
+}
+
+/// Says whether the documents outlive the run.
+pub fn persists(add: &AddRequest) -> bool
+    ensures { result ≡ persists add.now }
+{
+    add.flags / PERSISTENT % 2 == 1
+}
+
+/// Says whether files are left out that the named application has.
+pub fn is_as_needed(add: &AddRequest) -> bool
+    ensures { result ≡ is_as_needed add.now }
+{
+    add.flags / AS_NEEDED_BY_APP % 2 == 1
+}
+
+/// The rights that an application gets in what it adds.
+pub fn adding_rights(add: &AddRequest) -> Rights
+    ensures { result ≡ adding_rights add.now }
+{
+    if reuses(add) {
+        Rights::ALL.minus(Rights::DELETE)
+    } else {
+        Rights::ALL
+    }
+}
