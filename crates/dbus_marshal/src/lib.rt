@@ -7,6 +7,7 @@
 pub mod error;
 mod fields;
 mod flat;
+pub mod header;
 pub mod laws;
 mod put;
 pub mod read;
