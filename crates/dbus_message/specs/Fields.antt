@@ -11,8 +11,7 @@ use Rattle.dbus_types.specs.Spells.{Spells}
 use Rattle.dbus_message.specs.Header.{endian_of, field_bytes}
 
 -- a field is `(yv)`: a byte that is its code, and its value in a variant
-abbrev pub field_type : WireType
-field_type = W.Struct (W.Byte ∷ W.Variant ∷ [])
+pub use Rattle.dbus_marshal.specs.Reads.{field_type}
 
 -- The message's fields are these: from byte 12 on stands their array, an `a(yv)`.
 abbrev pub AreFieldsOf : List ℕ → List Value → Type 0

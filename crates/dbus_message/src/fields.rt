@@ -2,13 +2,14 @@
 //!
 //! Source: D-Bus Specification, "Header Fields".
 
-ghost use Rattle.std.specs.Prelude.{◌≡◌, ◌==◌, length, filter, find, IfOk};
+ghost use Rattle.std.specs.Prelude.{◌≡◌, ◌==◌, length, filter, find, IfOk, Some};
 ghost use Rattle.dbus_types.specs.declared.types.Value.{out-Value};
 ghost use Rattle.std.specs.List.{list_all};
 ghost use Rattle.std.specs.Option.{option_copied};
-ghost use Rattle.dbus_message.specs.Fields.{known_codes, members_of as members_in, byte_of as byte_in, inner_of as inner_in, field_code as code_in, field_value as value_in, is_path_value as path_holds, is_text_value as text_holds, any_text, is_number_value as number_holds, is_signature_value as signature_holds, is_in_table as table_holds, is_field as field_holds, is_once as once, are_good as good, value_of as value_under, text_in as text_inside, number_in as number_inside, text_of as text_under, number_of as number_under, has as is_there, has_needed as needed_there};
+ghost use Rattle.dbus_message.specs.Fields.{known_codes, field_code as code_in, field_value as value_in, is_path_value as path_holds, is_text_value as text_holds, any_text, is_number_value as number_holds, is_signature_value as signature_holds, is_in_table as table_holds, is_field as field_holds, is_once as once, are_good as good, value_of as value_under, text_in as text_inside, number_in as number_inside, text_of as text_under, number_of as number_under, has as is_there, has_needed as needed_there};
 ghost use Rattle.dbus_types.specs.Names.{is_interface_name, is_member_name};
 
+use dbus_marshal::header::HeaderField;
 use dbus_types::names::{is_interface, is_member};
 use dbus_types::types::Value;
 use portal_base::memory::{Replica, WantOfMemory};
@@ -29,51 +30,20 @@ pub(crate) const SIGNATURE: u8 = 8;
 
 pub(crate) const UNIX_FDS: u8 = 9;
 
-fn members_of(value: &Value) -> &[Value]
-    ensures { result.now ≡ members_in (out-Value value.now) }
-{
-    match value {
-        Value::Struct(members) => members.as_slice(),
-        _ => &[],
-    }
-}
-
-fn byte_of(value: &Value) -> u8
-    ensures { result ≡ byte_in (out-Value value.now) }
-{
-    match value {
-        Value::Byte(number) => *number,
-        _ => 0,
-    }
-}
-
-fn inner_of(value: &Value) -> Option<&Value>
-    ensures { option_copied result ≡ inner_in (out-Value value.now) }
-{
-    match value {
-        Value::Variant(inner) => Some(inner.get()),
-        _ => None,
-    }
-}
-
 /// The code of a field.
-pub(crate) fn field_code(field: &Value) -> u8
+#[tactic(auto, using(crate::proofs::Tables::code_in_field))]
+pub(crate) fn field_code(field: &HeaderField) -> u8
     ensures { result ≡ code_in field.now }
 {
-    match members_of(field) {
-        [] => 0,
-        [code, ..] => byte_of(code),
-    }
+    field.code
 }
 
 /// The value of a field.
-fn field_value(field: &Value) -> Option<&Value>
-    ensures { option_copied result ≡ value_in field.now }
+#[tactic(auto, using(crate::proofs::Tables::value_in_field))]
+fn field_value(field: &HeaderField) -> &Value
+    ensures { value_in field.now ≡ Some result.now }
 {
-    match members_of(field) {
-        [_, variant] => inner_of(variant),
-        _ => None,
-    }
+    &field.value
 }
 
 fn is_path_value(value: &Value) -> bool
@@ -150,23 +120,20 @@ fn is_in_table(code: u8, value: &Value) -> bool
 }
 
 /// Says whether the table of fields allows a field.
-fn is_field(field: &Value) -> bool
+fn is_field(field: &HeaderField) -> bool
     ensures { result ≡ field_holds field.now }
 {
-    match field_value(field) {
-        Some(value) => is_in_table(field_code(field), value),
-        None => false,
-    }
+    is_in_table(field_code(field), field_value(field))
 }
 
-fn all_fields(fields: &[Value]) -> bool
+fn all_fields(fields: &[HeaderField]) -> bool
     ensures { result ≡ list_all field_holds fields.now }
 {
     fields.iter().all(|field| is_field(field))
 }
 
 /// How many fields have a code.
-fn count_of(fields: &[Value], code: u8) -> usize
+fn count_of(fields: &[HeaderField], code: u8) -> usize
     ensures { result ≡ length (filter (λ f. code_in f == code) fields.now) }
 {
     fields
@@ -176,14 +143,14 @@ fn count_of(fields: &[Value], code: u8) -> usize
 }
 
 /// Says whether no two fields have a code.
-fn is_once(fields: &[Value], code: u8) -> bool
+fn is_once(fields: &[HeaderField], code: u8) -> bool
     ensures { result ≡ once fields.now code }
 {
     count_of(fields, code) <= 1
 }
 
 /// Says whether no known code stands twice.
-fn all_once(fields: &[Value]) -> bool
+fn all_once(fields: &[HeaderField]) -> bool
     ensures { result ≡ list_all (once fields.now) known_codes }
 {
     is_once(fields, 1)
@@ -199,25 +166,25 @@ fn all_once(fields: &[Value]) -> bool
 
 /// Says whether the table of fields allows all, and no known code stands
 /// twice.
-pub(crate) fn are_good(fields: &[Value]) -> bool
+pub(crate) fn are_good(fields: &[HeaderField]) -> bool
     ensures { result ≡ good fields.now }
 {
     all_fields(fields) && all_once(fields)
 }
 
 /// The first field of a code.
-fn find_field(fields: &[Value], code: u8) -> Option<&Value>
+fn find_field(fields: &[HeaderField], code: u8) -> Option<&HeaderField>
     ensures { option_copied result ≡ find (λ f. code_in f == code) fields.now }
 {
     fields.iter().find(|field| field_code(field) == code)
 }
 
 /// The value under a code.
-fn value_of(fields: &[Value], code: u8) -> Option<&Value>
+fn value_of(fields: &[HeaderField], code: u8) -> Option<&Value>
     ensures { option_copied result ≡ value_under code fields.now }
 {
     match find_field(fields, code) {
-        Some(field) => field_value(field),
+        Some(field) => Some(field_value(field)),
         None => None,
     }
 }
@@ -243,7 +210,7 @@ fn number_in(value: &Value) -> Option<u32>
 }
 
 /// The text under a code.
-pub(crate) fn text_of(fields: &[Value], code: u8) -> Option<&Text>
+pub(crate) fn text_of(fields: &[HeaderField], code: u8) -> Option<&Text>
     ensures { option_copied result ≡ text_under code fields.now }
 {
     match value_of(fields, code) {
@@ -255,7 +222,7 @@ pub(crate) fn text_of(fields: &[Value], code: u8) -> Option<&Text>
 /// A copy of the text under a code.
 pub(crate) fn copy_of(
     alloc: Global,
-    fields: &[Value],
+    fields: &[HeaderField],
     code: u8,
 ) -> Result<Option<Text>, WantOfMemory>
     ensures { IfOk result (λ text. text ≡ text_under code fields.now) }
@@ -267,7 +234,7 @@ pub(crate) fn copy_of(
 }
 
 /// The number under a code.
-pub(crate) fn number_of(fields: &[Value], code: u8) -> Option<u32>
+pub(crate) fn number_of(fields: &[HeaderField], code: u8) -> Option<u32>
     ensures { result ≡ number_under code fields.now }
 {
     match value_of(fields, code) {
@@ -276,14 +243,14 @@ pub(crate) fn number_of(fields: &[Value], code: u8) -> Option<u32>
     }
 }
 
-fn has(fields: &[Value], code: u8) -> bool
+fn has(fields: &[HeaderField], code: u8) -> bool
     ensures { result ≡ is_there code fields.now }
 {
     value_of(fields, code).is_some()
 }
 
 /// Says whether a message of a type has the fields that it needs.
-pub(crate) fn has_needed(kind: u8, fields: &[Value]) -> bool
+pub(crate) fn has_needed(kind: u8, fields: &[HeaderField]) -> bool
     ensures { result ≡ needed_there kind fields.now }
 {
     match kind {
