@@ -10,7 +10,7 @@ use Rattle.dbus_types.specs.declared.types.Value.{Value}
 use Rattle.dbus_types.specs.declared.types.Value.TheVariants as V
 use Rattle.dbus_marshal.specs.declared.error.ReadError.{ReadError}
 use Rattle.dbus_marshal.specs.declared.error.ReadError.TheVariants.{BadSignature, TooLong}
-use Rattle.dbus_marshal.specs.Reads.{◌>>=◌, Fails, Read, after, padded, byte_at, taken, type_in, ended, flat, layer, members, joined, reads, number_at, listed, elements, within_array, inside_at, field_at, fields_at, field_type, fields_type}
+use Rattle.dbus_marshal.specs.Reads.{◌>>=◌, Fails, Read, padded, byte_at, taken, type_in, ended, flat, layer, members, joined, reads, number_at, listed, elements, within_array, inside_at, field_at, fields_at, field_type, fields_type}
 use Rattle.dbus_marshal.proofs.Depths.{reads_more, reads_array, reads_struct, out_byte, out_struct}
 use Rattle.dbus_marshal.proofs.Loops.{fails_as}
 

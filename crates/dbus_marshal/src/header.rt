@@ -39,7 +39,6 @@ impl Model for HeaderField {
     ghost use Rattle.std.specs.Prelude.{[], ◌∷◌};
     ghost use Rattle.dbus_types.specs.declared.types.Value.{Value as Value'};
     ghost use Rattle.dbus_types.specs.declared.types.Value.TheVariants as V;
-
     ghost use Rattle.dbus_types.specs.contracts.types.Value as e;
     ghost use Rattle.std.specs.Coded.{codes};
 

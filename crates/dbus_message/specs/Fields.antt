@@ -1,7 +1,6 @@
 -- The fields in a message's header: D-Bus Specification, "Message Format", "Header Fields".
 use Rattle.std.specs.Prelude.{ℕ, Bool, true, false, ◌&&◌, ◌==◌, nat_le, List, [], ◌∷◌, length, find, filter, Option, Some, None, option_and_then, if◌then◌else◌, is_some}
 use Rattle.std.specs.List.{list_all}
-use Rattle.dbus_types.specs.declared.types.WireType.{WireType}
 use Rattle.dbus_types.specs.declared.types.WireType.TheVariants as W
 use Rattle.dbus_types.specs.declared.types.Value.{Value, out-Value}
 use Rattle.dbus_types.specs.declared.types.Value.TheVariants as V
@@ -9,7 +8,6 @@ use Rattle.dbus_types.specs.declared.types.Value.TheOpen.{Value-F}
 use Rattle.dbus_types.specs.Names.{is_interface_name, is_member_name}
 use Rattle.dbus_types.specs.Spells.{Spells}
 use Rattle.dbus_message.specs.Header.{endian_of, field_bytes}
-
 -- a field is `(yv)`: a byte that is its code, and its value in a variant
 pub use Rattle.dbus_marshal.specs.Reads.{field_type}
 

@@ -1,4 +1,4 @@
-use Rattle.std.proofs.Common.{◌≡◌, ◌+◌, ◌≤◌, drop, length}
+use Rattle.std.proofs.Common.{◌≡◌, ◌≤◌, drop, length}
 use Rattle.dbus_marshal.specs.Reads.{zeros}
 use Rattle.dbus_marshal.proofs.fields.skip_zeros.Given as goal
 
