@@ -10,24 +10,38 @@ ghost use Rattle.dbus_message.specs.Fields.{known_codes, field_code as code_in, 
 ghost use Rattle.dbus_types.specs.Names.{is_interface_name, is_member_name};
 
 use dbus_marshal::header::HeaderField;
+use dbus_types::message::{ERROR, METHOD_CALL, METHOD_RETURN, SIGNAL};
 use dbus_types::names::{is_interface, is_member};
 use dbus_types::types::Value;
 use portal_base::memory::{Replica, WantOfMemory};
 use portal_base::text::Text;
 use std::alloc::Global;
 
+/// The object that is called, or that signals: an object path.
 pub(crate) const PATH: u8 = 1;
 
+/// The interface of the call or the signal: the name of one.
 pub(crate) const INTERFACE: u8 = 2;
 
+/// The method or the signal: the name of a member.
 pub(crate) const MEMBER: u8 = 3;
 
+/// The name of an error, of the form of an interface's.
 pub(crate) const ERROR_NAME: u8 = 4;
 
+/// The serial of the call that is answered.
 pub(crate) const REPLY_SERIAL: u8 = 5;
 
+/// The connection that the message is for: a text that is not looked at.
+pub(crate) const DESTINATION: u8 = 6;
+
+/// The connection that it is from: a text that is not looked at.
+pub(crate) const SENDER: u8 = 7;
+
+/// The types of the body.
 pub(crate) const SIGNATURE: u8 = 8;
 
+/// How many file descriptors come with the message.
 pub(crate) const UNIX_FDS: u8 = 9;
 
 /// The code of a field.
@@ -106,15 +120,15 @@ fn is_in_table(code: u8, value: &Value) -> bool
 {
     match code {
         0 => false,
-        1 => is_path_value(value),
-        2 => is_interface_value(value),
-        3 => is_member_value(value),
-        4 => is_interface_value(value),
-        5 => is_number_value(value),
-        6 => is_text_value(value),
-        7 => is_text_value(value),
-        8 => is_signature_value(value),
-        9 => is_number_value(value),
+        PATH => is_path_value(value),
+        INTERFACE => is_interface_value(value),
+        MEMBER => is_member_value(value),
+        ERROR_NAME => is_interface_value(value),
+        REPLY_SERIAL => is_number_value(value),
+        DESTINATION => is_text_value(value),
+        SENDER => is_text_value(value),
+        SIGNATURE => is_signature_value(value),
+        UNIX_FDS => is_number_value(value),
         _ => true,
     }
 }
@@ -153,15 +167,15 @@ fn is_once(fields: &[HeaderField], code: u8) -> bool
 fn all_once(fields: &[HeaderField]) -> bool
     ensures { result ≡ list_all (once fields.now) known_codes }
 {
-    is_once(fields, 1)
-        && is_once(fields, 2)
-        && is_once(fields, 3)
-        && is_once(fields, 4)
-        && is_once(fields, 5)
-        && is_once(fields, 6)
-        && is_once(fields, 7)
-        && is_once(fields, 8)
-        && is_once(fields, 9)
+    is_once(fields, PATH)
+        && is_once(fields, INTERFACE)
+        && is_once(fields, MEMBER)
+        && is_once(fields, ERROR_NAME)
+        && is_once(fields, REPLY_SERIAL)
+        && is_once(fields, DESTINATION)
+        && is_once(fields, SENDER)
+        && is_once(fields, SIGNATURE)
+        && is_once(fields, UNIX_FDS)
 }
 
 /// Says whether the table of fields allows all, and no known code stands
@@ -254,10 +268,10 @@ pub(crate) fn has_needed(kind: u8, fields: &[HeaderField]) -> bool
     ensures { result ≡ needed_there kind fields.now }
 {
     match kind {
-        1 => has(fields, PATH) && has(fields, MEMBER),
-        2 => has(fields, REPLY_SERIAL),
-        3 => has(fields, ERROR_NAME) && has(fields, REPLY_SERIAL),
-        4 => has(fields, PATH) && has(fields, INTERFACE) && has(fields, MEMBER),
+        METHOD_CALL => has(fields, PATH) && has(fields, MEMBER),
+        METHOD_RETURN => has(fields, REPLY_SERIAL),
+        ERROR => has(fields, ERROR_NAME) && has(fields, REPLY_SERIAL),
+        SIGNAL => has(fields, PATH) && has(fields, INTERFACE) && has(fields, MEMBER),
         _ => true,
     }
 }

@@ -17,7 +17,8 @@ use crate::fields::{
     ERROR_NAME, INTERFACE, MEMBER, PATH, REPLY_SERIAL, SIGNATURE, UNIX_FDS, are_good, copy_of,
     has_needed, number_of, text_of,
 };
-use crate::header::{body_start, endian_of, fields_end, number_at};
+use crate::header::{FIELDS_AT, SERIAL_AT, body_start, endian_of, fields_end, number_at};
+use crate::rule;
 use dbus_marshal::header::{HeaderField, read_header};
 use dbus_types::message::Message;
 use dbus_types::types::{Endian, WireType};
@@ -44,14 +45,14 @@ fn read_fields(
     requires { 12 ≤ length bytes.now }
     ensures { IsReadFields endian (drop 12 bytes.now) result }
 {
-    match read_header(alloc, endian, bytes, 12) {
+    match read_header(alloc, endian, bytes, FIELDS_AT) {
         Ok(read) => {
             if read.next < bytes.len() {
-                return Err(MessageError::Bad { rule: 6 });
+                return Err(MessageError::Bad { rule: rule::FIELDS });
             }
             Ok(read.fields)
         }
-        Err(error) => Err(broken(6, error)),
+        Err(error) => Err(broken(rule::FIELDS, error)),
     }
 }
 
@@ -79,7 +80,7 @@ fn message_of(
         endian,
         kind: bytes[1],
         flags: bytes[2],
-        serial: number_at(endian, bytes, 8),
+        serial: number_at(endian, bytes, SERIAL_AT),
         path: copy_of(alloc, fields, PATH)?,
         interface: copy_of(alloc, fields, INTERFACE)?,
         member: copy_of(alloc, fields, MEMBER)?,
@@ -114,13 +115,15 @@ pub fn read_message(alloc: Global, bytes: &[u8]) -> Result<Message, MessageError
         Err(error) => return Err(error),
     };
     if !are_good(fields.as_slice()) {
-        return Err(MessageError::Bad { rule: 7 });
+        return Err(MessageError::Bad { rule: rule::TABLE });
     }
     if !has_needed(bytes[1], fields.as_slice()) {
-        return Err(MessageError::Bad { rule: 8 });
+        return Err(MessageError::Bad { rule: rule::NEEDED });
     }
     if !are_zeros(&bytes[end..start]) {
-        return Err(MessageError::Bad { rule: 9 });
+        return Err(MessageError::Bad {
+            rule: rule::PADDING,
+        });
     }
     let signature = text_of(fields.as_slice(), SIGNATURE);
     match read_content(alloc, endian, signature, &bytes[start..]) {
