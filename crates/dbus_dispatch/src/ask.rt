@@ -10,7 +10,7 @@ use crate::call::{called, object_of};
 use crate::error_name::ErrorName;
 use crate::method::Method;
 use crate::properties::{dictionary, interface_in, value_in, variant};
-use dbus_types::message::{Message, OutMessage};
+use dbus_types::message::{METHOD_CALL, Message, NO_REPLY_EXPECTED, OutMessage};
 use dbus_types::shared::Shared;
 use dbus_types::types::{Value, WireType};
 use portal_base::limits::Settings;
@@ -29,12 +29,6 @@ pub enum Ask {
     /// What isn't built yet.
     Unbuilt,
 }
-
-/// The type of a message that calls a method.
-const METHOD_CALL: u8 = 1;
-
-/// The flag of a call that expects no reply.
-const NO_REPLY_EXPECTED: u8 = 1;
 
 /// Says whether a message is a call that expects a reply, be it a return or an
 /// error. A call that expects none is answered all the same, and the answer

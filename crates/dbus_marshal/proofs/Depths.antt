@@ -55,7 +55,7 @@ out_byte = search the_lemmas
 out_array : (t : WireType) → out-WireType (W.Array t) ≡ WireType-F.Array t
 out_array t = search the_lemmas
 
-out_struct : (ts : List WireType) → out-WireType (W.Struct ts) ≡ WireType-F.Struct ts
+pub out_struct : (ts : List WireType) → out-WireType (W.Struct ts) ≡ WireType-F.Struct ts
 out_struct ts = search the_lemmas
 
 out_entry : (t u : WireType) → out-WireType (W.DictEntry t u) ≡ WireType-F.DictEntry t u

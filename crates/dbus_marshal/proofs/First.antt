@@ -13,7 +13,7 @@ use Rattle.dbus_types.specs.declared.types.Value.TheVariants as V
 use Rattle.dbus_types.specs.declared.errors.SignatureError.{SignatureError}
 use Rattle.dbus_types.specs.declared.errors.SignatureError.TheVariants as Stop
 use Rattle.dbus_types.specs.Reading.{whole_at, single_at, passed}
-use Rattle.dbus_types.specs.Types.{alignment, type_text, IsVariantType, IsSignature}
+use Rattle.dbus_types.specs.Types.{alignment, type_text, IsVariantType}
 use Rattle.dbus_types.specs.Values.{IsText, IsSignatureText}
 use Rattle.dbus_types.proofs.Whole.{short_reading, stops_no_memory}
 use Rattle.dbus_types.proofs.Single.{single_reading, single_no_memory}

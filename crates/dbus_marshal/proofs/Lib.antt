@@ -7,6 +7,7 @@ pub mod Sound
 pub mod Whole
 pub mod Public
 pub mod Loops
+pub mod HeaderFields
 pub mod Bytes
 pub mod Extending
 pub mod Sets

@@ -8,6 +8,7 @@ use Rattle.dbus_types.specs.declared.types.Endian.{Endian}
 use Rattle.dbus_types.specs.declared.types.Endian.TheVariants.{Little, Big}
 use Rattle.dbus_types.specs.declared.types.WireType.{WireType, out-WireType}
 use Rattle.dbus_types.specs.declared.types.WireType.TheOpen.{WireType-F}
+use Rattle.dbus_types.specs.declared.types.WireType.TheVariants as W
 use Rattle.dbus_types.specs.declared.types.Value.{Value}
 use Rattle.dbus_types.specs.declared.types.Value.TheVariants as V
 use Rattle.dbus_marshal.specs.declared.error.ReadError.{ReadError}
@@ -220,3 +221,39 @@ layer r e t at bytes = flat e t at bytes
 unfoldable pub reads : ℕ → Endian → WireType → ℕ → List ℕ → Read Value
 reads zero e t at bytes = Err (TooDeep at)
 reads (suc n) e t at bytes = layer (reads n e) e (out-WireType t) at bytes
+
+-- what a variant holds: the signature of one type, and a value of that type, which r reads
+unfoldable pub inside_at : (WireType → ℕ → List ℕ → Read Value) → ℕ → List ℕ → Read Value
+inside_at r at bytes = do
+  n ← byte_at at bytes
+  text ← taken n.0 n.1 n.2
+  t ← type_in n.1 text.0
+  last ← ended (BadSignature text.1) text.1 text.2
+  r t last.0 last.1
+
+-- a header field: its code and its value, in a struct of a byte and a variant
+unfoldable pub field_at : Endian → ℕ → List ℕ → Read Value
+field_at e at bytes = do
+  start ← padded 8 at bytes
+  code ← byte_at start.0 start.1
+  x ← inside_at (reads 62 e) code.1 code.2
+  Ok (V.Struct (V.Byte code.0 ∷ V.Variant x.0 ∷ []), x.1, x.2)
+
+-- the array of the header fields: the field and its values are read as those of any other type
+unfoldable pub fields_at : Endian → ℕ → List ℕ → Read (List Value)
+fields_at e at bytes = do
+  start ← padded 4 at bytes
+  n ← number_at e w32 start.0 start.1
+  if nat_lt 67_108_864 n.0 then Err (TooLong start.0) else do
+    from ← padded 8 n.1 n.2
+    body ← taken n.0 from.0 from.1
+    vs ← within_array (elements (length body.0) (field_at e) from.0 body.0)
+    Ok (vs, body.1, body.2)
+
+-- the type of a header field
+abbrev pub field_type : WireType
+field_type = W.Struct (W.Byte ∷ W.Variant ∷ [])
+
+-- the type of the header fields
+abbrev pub fields_type : WireType
+fields_type = W.Array field_type

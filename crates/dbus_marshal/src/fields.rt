@@ -21,20 +21,26 @@ pub(crate) fn byte_at(bytes: &[u8], at: usize) -> Result<(u8, usize), ReadError>
     }
 }
 
+/// So many zero bytes.
 #[tactic(auto, using(crate::proofs::Places::zeros_nothing, crate::proofs::Places::zeros_none, crate::proofs::Places::zeros_zero, crate::proofs::Places::zeros_other))]
 fn skip_zeros(bytes: &[u8], at: usize, count: usize) -> Result<usize, ReadError>
     requires { at ≤ length bytes.now }
     ensures read { Gives (place bytes.now) result (zeros_in count at (drop at bytes.now)) }
     ensures within { IfOk result (λ next. (at ≤ next) × (next ≤ length bytes.now)) }
 {
-    if count == 0 {
-        return Ok(at);
+    let mut next = at;
+    let mut left = count;
+    while left > 0 {
+        match bytes.get(next) {
+            None => return Err(ReadError::Short { at: next }),
+            Some(0) => {
+                next += 1;
+                left -= 1;
+            }
+            Some(_) => return Err(ReadError::Padding { at: next }),
+        }
     }
-    match bytes.get(at) {
-        None => Err(ReadError::Short { at }),
-        Some(0) => skip_zeros(bytes, at + 1, count - 1),
-        Some(_) => Err(ReadError::Padding { at }),
-    }
+    Ok(next)
 }
 
 /// The next multiple of an alignment, over zero bytes.
@@ -44,7 +50,7 @@ pub(crate) fn skip_padding(bytes: &[u8], at: usize, to: usize) -> Result<usize, 
     ensures read { Gives (place bytes.now) result (padded_in to at (drop at bytes.now)) }
     ensures within { IfOk result (λ next. (at ≤ next) × (next ≤ length bytes.now)) }
 {
-    skip_zeros(bytes, at, (to - at % to) % to)
+    skip_zeros(bytes, at, at.next_multiple_of(to) - at)
 }
 
 #[tactic(auto, unfolding(crate::specs::Reads::taken))]

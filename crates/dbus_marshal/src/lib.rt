@@ -1,12 +1,32 @@
 //! Values of D-Bus as bytes: reading them in either order of bytes, and
 //! writing them with the lowest byte first.
 //!
+//! **It promises** that a value is read exactly where the bytes spell one of the
+//! type, whatever follows, and otherwise refused at the first byte where the
+//! spelling breaks and for that reason; and that what is written is the one
+//! spelling of the value. Only want of memory comes in between.
+//!
+//! | Room | Holds |
+//! |---|---|
+//! | `read` | [`read::read_value`]: the value of a type at an offset |
+//! | `header` | [`header::read_header`]: the fields of a message's header |
+//! | `write` | [`write::write_value`]: the spelling of a value behind others |
+//! | `error` | [`error::ReadError`]: where and why a spelling breaks |
+//! | `flat`, `fields`, `signature`, `skip`, `put` | the pieces that values are spelled with |
+//! | `laws` | that each value has a spelling, and that bytes are spelled or break |
+//!
+//! ```text
+//! write_value(&mut out, &value)?;
+//! let read = read_value(alloc, Endian::Little, out.as_slice(), 0, &kind)?;
+//! ```
+//!
 //! Source: D-Bus Specification, "Marshaling (Wire Format)".
 #![tactic(auto)]
 
 pub mod error;
 mod fields;
 mod flat;
+pub mod header;
 pub mod laws;
 mod put;
 pub mod read;

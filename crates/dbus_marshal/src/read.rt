@@ -13,7 +13,7 @@ ghost use Rattle.dbus_types.specs.Values.{type_of, KeepsRules};
 ghost use Rattle.dbus_marshal.specs.declared.error.ReadError.{ReadError as ReadError'};
 ghost use Rattle.dbus_types.specs.Spells.{Spells};
 ghost use Rattle.dbus_marshal.specs.Breaks.{Breaks};
-ghost use Rattle.dbus_marshal.specs.Reads.{Gives, IsRead, IsStopped, IsRefused, after, layer, members, elements, reads};
+ghost use Rattle.dbus_marshal.specs.Reads.{Gives, IsRead, IsStopped, IsRefused, after, inside_at, layer, members, elements, reads};
 
 use crate::error::ReadError;
 use crate::fields::{array_error, byte_at, ended, number_32, skip_padding, taken};
@@ -29,7 +29,7 @@ use portal_base::memory::WantOfMemory;
 use std::alloc::Global;
 
 /// The greatest length of an array in bytes.
-const LONGEST_ARRAY: u32 = 67_108_864;
+pub(crate) const LONGEST_ARRAY: u32 = 67_108_864;
 
 /// How many values may stand in each other: each in at most 64 arrays, structs,
 /// dict entries and variants, itself not counted.
@@ -100,7 +100,7 @@ fn read_array(
 }
 
 /// An empty list with room for so many values.
-fn room_for(alloc: Global, count: usize) -> Result<List<Value>, WantOfMemory>
+pub(crate) fn room_for<T>(alloc: Global, count: usize) -> Result<List<T>, WantOfMemory>
     ensures { IfOk result (λ values. values ≡ []) }
 {
     let room = Vec::with_capacity(alloc, count)?;
@@ -233,7 +233,6 @@ fn read_entry(
 }
 
 #[cycle(read)]
-#[tactic(auto, unfolding(crate::specs::Reads::layer))]
 fn read_variant(
     alloc: Global,
     endian: Endian,
@@ -246,12 +245,30 @@ fn read_variant(
         (layer (reads depth endian) endian WireType-F.Variant at (drop at bytes.now)) }
     ensures within { IfOk result (λ r. (at < r.1) × (r.1 ≤ length bytes.now)) }
 {
+    let (value, next) = read_inside(alloc, endian, bytes, at, depth)?;
+    Ok((Value::Variant(Boxed::new(alloc, value)?), next))
+}
+
+/// What a variant holds: the signature of one type, and a value of that type.
+#[cycle(read)]
+#[tactic(auto, unfolding(crate::specs::Reads::inside_at))]
+pub(crate) fn read_inside(
+    alloc: Global,
+    endian: Endian,
+    bytes: &[u8],
+    at: usize,
+    depth: u32,
+) -> Result<(Value, usize), ReadError>
+    requires { at ≤ length bytes.now }
+    ensures read { Gives (after bytes.now) result
+        (inside_at (reads depth endian) at (drop at bytes.now)) }
+    ensures within { IfOk result (λ r. (at < r.1) × (r.1 ≤ length bytes.now)) }
+{
     let (count, begins) = byte_at(bytes, at)?;
     let (signature, end) = taken(bytes, begins, count as usize)?;
     let kind = type_at(alloc, signature, begins)?;
     let start = ended(bytes, end, ReadError::BadSignature { at: end })?;
-    let (value, next) = read_within(alloc, endian, bytes, start, &kind, depth)?;
-    Ok((Value::Variant(Boxed::new(alloc, value)?), next))
+    read_within(alloc, endian, bytes, start, &kind, depth)
 }
 
 /// A value that was read.

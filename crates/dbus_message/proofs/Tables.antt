@@ -9,7 +9,7 @@ use Rattle.dbus_types.specs.Names.{is_path, is_interface_name, is_member_name}
 use Rattle.dbus_types.specs.Values.{type_of}
 use Rattle.dbus_types.specs.declared.message.OutMessage.{OutMessage}
 use Rattle.dbus_types.specs.declared.message.OutMessage.TheVariants.{Return, Error, Signal}
-use Rattle.dbus_message.specs.Fields.{are_good, has_needed, text_of}
+use Rattle.dbus_message.specs.Fields.{field_code, field_value, are_good, has_needed, text_of}
 use Rattle.dbus_message.specs.Messages.{SaysFields}
 use Rattle.dbus_message.specs.Written.{kind_out, body_out, return_fields, fields_out, stands_for}
 
@@ -39,6 +39,12 @@ out_path text = search the_lemmas
 
 pub out_signature : (text : List ℕ) → out-Value (V.Signature text) ≡ Value-F.Signature text
 out_signature text = search the_lemmas
+
+pub code_in_field : (n : ℕ) (v : Value) → field_code (V.Struct (V.Byte n ∷ V.Variant v ∷ [])) ≡ n
+code_in_field n v = simp (out_struct, out_byte)
+
+pub value_in_field : (n : ℕ) (v : Value) → field_value (V.Struct (V.Byte n ∷ V.Variant v ∷ [])) ≡ Some v
+value_in_field n v = simp (out_struct, out_variant)
 
 pub return_good : (to : ℕ) (body : List Value) → are_good (return_fields to body) ≡ true
 return_good to [] = simp (out_struct, out_byte, out_variant, out_u32)

@@ -1,11 +1,10 @@
 -- What the parts of the reader of messages answer.
-use Rattle.std.specs.Prelude.{◌≡◌, ℕ, List, Option, Some, None, Result, Ok, Err}
+use Rattle.std.specs.Prelude.{◌≡◌, ℕ, List, Option, Result, Ok, Err}
 use Rattle.dbus_types.specs.declared.types.Endian.{Endian}
 use Rattle.dbus_types.specs.declared.types.WireType.{WireType}
 use Rattle.dbus_types.specs.declared.types.WireType.TheVariants as W
 use Rattle.dbus_types.specs.declared.types.Value.{Value}
 use Rattle.dbus_types.specs.declared.types.Value.TheVariants as V
-use Rattle.dbus_types.specs.declared.types.Value.TheOpen.{Value-F}
 use Rattle.dbus_types.specs.Types.{IsSignature}
 use Rattle.dbus_types.specs.Spells.{Spells}
 use Rattle.dbus_message.specs.declared.error.MessageError.{MessageError}
@@ -21,10 +20,6 @@ abbrev pub FindsOne : {X : Type 0} → (X → Type 0) → (ℕ → Type 0) → R
 FindsOne P Broken (Ok x) = P x × ((y : _) → P y → y ≡ x)
 FindsOne P Broken (Err (Bad rule)) = ((y : _) → P y → ⊥) × Broken rule
 FindsOne P Broken (Err Memory) = Unit {0}
-
-abbrev pub items_in : Value-F Value → Option (List Value)
-items_in (Value-F.Array t vs) = Some vs
-items_in _ = None
 
 -- the fields that the bytes from byte 12 on spell
 abbrev pub IsReadFields : Endian → List ℕ → Result (List Value) MessageError → Type 0

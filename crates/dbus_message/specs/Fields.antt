@@ -1,7 +1,6 @@
 -- The fields in a message's header: D-Bus Specification, "Message Format", "Header Fields".
 use Rattle.std.specs.Prelude.{ℕ, Bool, true, false, ◌&&◌, ◌==◌, nat_le, List, [], ◌∷◌, length, find, filter, Option, Some, None, option_and_then, if◌then◌else◌, is_some}
 use Rattle.std.specs.List.{list_all}
-use Rattle.dbus_types.specs.declared.types.WireType.{WireType}
 use Rattle.dbus_types.specs.declared.types.WireType.TheVariants as W
 use Rattle.dbus_types.specs.declared.types.Value.{Value, out-Value}
 use Rattle.dbus_types.specs.declared.types.Value.TheVariants as V
@@ -9,10 +8,37 @@ use Rattle.dbus_types.specs.declared.types.Value.TheOpen.{Value-F}
 use Rattle.dbus_types.specs.Names.{is_interface_name, is_member_name}
 use Rattle.dbus_types.specs.Spells.{Spells}
 use Rattle.dbus_message.specs.Header.{endian_of, field_bytes}
-
 -- a field is `(yv)`: a byte that is its code, and its value in a variant
-abbrev pub field_type : WireType
-field_type = W.Struct (W.Byte ∷ W.Variant ∷ [])
+pub use Rattle.dbus_marshal.specs.Reads.{field_type}
+
+-- ---- the codes of the table
+
+abbrev pub path_code : ℕ
+path_code = 1
+
+abbrev pub interface_code : ℕ
+interface_code = 2
+
+abbrev pub member_code : ℕ
+member_code = 3
+
+abbrev pub error_name_code : ℕ
+error_name_code = 4
+
+abbrev pub reply_serial_code : ℕ
+reply_serial_code = 5
+
+abbrev pub destination_code : ℕ
+destination_code = 6
+
+abbrev pub sender_code : ℕ
+sender_code = 7
+
+abbrev pub signature_code : ℕ
+signature_code = 8
+
+abbrev pub unix_fds_code : ℕ
+unix_fds_code = 9
 
 -- The message's fields are these: from byte 12 on stands their array, an `a(yv)`.
 abbrev pub AreFieldsOf : List ℕ → List Value → Type 0
@@ -73,15 +99,15 @@ any_text text = true
 abbrev pub is_in_table : ℕ → Value → Bool
 is_in_table code v =
     if code == 0 then false
-    else if code == 1 then is_path_value (out-Value v)
-    else if code == 2 then is_text_value is_interface_name (out-Value v)
-    else if code == 3 then is_text_value is_member_name (out-Value v)
-    else if code == 4 then is_text_value is_interface_name (out-Value v)
-    else if code == 5 then is_number_value (out-Value v)
-    else if code == 6 then is_text_value any_text (out-Value v)
-    else if code == 7 then is_text_value any_text (out-Value v)
-    else if code == 8 then is_signature_value (out-Value v)
-    else if code == 9 then is_number_value (out-Value v)
+    else if code == path_code then is_path_value (out-Value v)
+    else if code == interface_code then is_text_value is_interface_name (out-Value v)
+    else if code == member_code then is_text_value is_member_name (out-Value v)
+    else if code == error_name_code then is_text_value is_interface_name (out-Value v)
+    else if code == reply_serial_code then is_number_value (out-Value v)
+    else if code == destination_code then is_text_value any_text (out-Value v)
+    else if code == sender_code then is_text_value any_text (out-Value v)
+    else if code == signature_code then is_signature_value (out-Value v)
+    else if code == unix_fds_code then is_number_value (out-Value v)
     else true
 
 abbrev pub is_good : ℕ → Option Value → Bool
@@ -98,7 +124,8 @@ is_once fields code = nat_le (length (filter (λ f. field_code f == code) fields
 
 -- the codes of the table
 abbrev pub known_codes : List ℕ
-known_codes = 1 ∷ 2 ∷ 3 ∷ 4 ∷ 5 ∷ 6 ∷ 7 ∷ 8 ∷ 9 ∷ []
+known_codes = path_code ∷ interface_code ∷ member_code ∷ error_name_code ∷ reply_serial_code
+    ∷ destination_code ∷ sender_code ∷ signature_code ∷ unix_fds_code ∷ []
 
 -- fields that the table allows, with no known code twice
 abbrev pub are_good : List Value → Bool
@@ -131,12 +158,27 @@ number_of code fields = option_and_then (λ v. number_in (out-Value v)) (value_o
 abbrev pub has : ℕ → List Value → Bool
 has code fields = is_some (value_of code fields)
 
+-- ---- the types of messages
+
+abbrev pub call_kind : ℕ
+call_kind = 1
+
+abbrev pub return_kind : ℕ
+return_kind = 2
+
+abbrev pub error_kind : ℕ
+error_kind = 3
+
+abbrev pub signal_kind : ℕ
+signal_kind = 4
+
 -- A call has PATH and MEMBER, a return REPLY_SERIAL, an error ERROR_NAME and REPLY_SERIAL, and a
 -- signal PATH, INTERFACE and MEMBER.
 abbrev pub has_needed : ℕ → List Value → Bool
 has_needed kind fields =
-    if kind == 1 then has 1 fields && has 3 fields
-    else if kind == 2 then has 5 fields
-    else if kind == 3 then has 4 fields && has 5 fields
-    else if kind == 4 then has 1 fields && (has 2 fields && has 3 fields)
+    if kind == call_kind then has path_code fields && has member_code fields
+    else if kind == return_kind then has reply_serial_code fields
+    else if kind == error_kind then has error_name_code fields && has reply_serial_code fields
+    else if kind == signal_kind
+    then has path_code fields && (has interface_code fields && has member_code fields)
     else true

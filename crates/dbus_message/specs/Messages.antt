@@ -8,7 +8,7 @@ use Rattle.dbus_types.specs.declared.message.Message.{Message}
 use Rattle.dbus_message.specs.declared.error.MessageError.{MessageError}
 use Rattle.dbus_message.specs.declared.error.MessageError.TheVariants.{Bad, Memory}
 use Rattle.dbus_message.specs.Header.{endian_of, kind_of, flags_of, serial_of, stated_len, padding_bytes, body_bytes}
-use Rattle.dbus_message.specs.Fields.{AreFieldsOf, are_good, has_needed, text_of, number_of}
+use Rattle.dbus_message.specs.Fields.{AreFieldsOf, path_code, interface_code, member_code, error_name_code, reply_serial_code, signature_code, unix_fds_code, are_good, has_needed, text_of, number_of}
 use Rattle.dbus_message.specs.Content.{IsContent}
 use Rattle.dbus_message.specs.Rules.{IsWhole, KeepsHeader, IsFirstBroken}
 
@@ -19,10 +19,11 @@ SaysHeader bytes m = (m.endian ≡ endian_of bytes) × (m.kind ≡ kind_of bytes
 
 -- what the fields say
 abbrev pub SaysFields : List Value → Message → Type 0
-SaysFields fields m = (m.path ≡ text_of 1 fields) × (m.interface ≡ text_of 2 fields)
-    × (m.member ≡ text_of 3 fields)
-    × (m.error ≡ text_of 4 fields) × (m.reply_serial ≡ number_of 5 fields)
-    × (m.fds ≡ unwrap_or (number_of 9 fields) 0)
+SaysFields fields m = (m.path ≡ text_of path_code fields)
+    × (m.interface ≡ text_of interface_code fields) × (m.member ≡ text_of member_code fields)
+    × (m.error ≡ text_of error_name_code fields)
+    × (m.reply_serial ≡ number_of reply_serial_code fields)
+    × (m.fds ≡ unwrap_or (number_of unix_fds_code fields) 0)
 
 -- The bytes are the message: its header, the fields as a spelling of `a(yv)`, zero bytes up to a
 -- multiple of 8, and the body as the spellings of its values; and the rules hold.
@@ -31,7 +32,7 @@ IsMessage bytes m = (fields : List Value) × IsWhole bytes × AreFieldsOf bytes 
     × IsTrue (are_good fields) × IsTrue (has_needed (kind_of bytes) fields)
     × IsTrue (list_all (λ b. b == 0) (padding_bytes bytes)) × SaysHeader bytes m
     × SaysFields fields m
-    × IsContent (endian_of bytes) (text_of 8 fields) m.signature m.body (body_bytes bytes)
+    × IsContent (endian_of bytes) (text_of signature_code fields) m.signature m.body (body_bytes bytes)
 
 -- It is this message that is read, unless memory ran out.
 abbrev pub IsReadAs : Message → Result Message MessageError → Type 0

@@ -3,7 +3,7 @@ use Rattle.std.specs.Prelude.{◌≡◌, ◌≢◌, ◌⊎◌, ℕ, ◌≤◌, �
 use Rattle.std.specs.List.{list_all}
 use Rattle.dbus_types.specs.declared.types.Value.{Value}
 use Rattle.dbus_message.specs.Header.{endian_of, kind_of, version_of, serial_of, stated_len, padding_bytes, body_bytes}
-use Rattle.dbus_message.specs.Fields.{AreFieldsOf, are_good, has_needed, text_of}
+use Rattle.dbus_message.specs.Fields.{AreFieldsOf, signature_code, are_good, has_needed, text_of}
 use Rattle.dbus_message.specs.Content.{IsSpelled, IsExplained}
 
 -- what holds of the message's fields, where it has some
@@ -49,12 +49,12 @@ HasZeroPadding bytes = IsTrue (list_all (λ b. b == 0) (padding_bytes bytes))
 -- 10: the body spells values of the signature's types, and no byte is left
 abbrev pub HasSpelledBody : List ℕ → Type 0
 HasSpelledBody bytes = OfFields bytes (λ fields.
-    IsSpelled (endian_of bytes) (text_of 8 fields) (body_bytes bytes))
+    IsSpelled (endian_of bytes) (text_of signature_code fields) (body_bytes bytes))
 
 -- 11: a body that isn't empty has a signature
 abbrev pub HasExplainedBody : List ℕ → Type 0
 HasExplainedBody bytes = OfFields bytes (λ fields.
-    IsExplained (text_of 8 fields) (body_bytes bytes))
+    IsExplained (text_of signature_code fields) (body_bytes bytes))
 
 -- Either the rule with this number doesn't hold, and is the first, or it holds and a later one is.
 abbrev pub Checked : Type 0 → ℕ → ℕ → Type 0 → Type 0

@@ -14,7 +14,7 @@ use Rattle.dbus_types.specs.Spelling.{spelling, spellings}
 use Rattle.dbus_types.specs.declared.message.Message.{Message}
 use Rattle.dbus_types.specs.declared.message.OutMessage.{OutMessage}
 use Rattle.dbus_types.specs.declared.message.OutMessage.TheVariants.{Return, Error, Signal}
-use Rattle.dbus_message.specs.Fields.{field_type}
+use Rattle.dbus_message.specs.Fields.{field_type, path_code, interface_code, member_code, error_name_code, reply_serial_code, signature_code, return_kind, error_kind, signal_kind}
 use Rattle.dbus_message.specs.Content.{IsBody}
 
 -- a field with its code
@@ -23,16 +23,16 @@ field code v = V.Struct (V.Byte code ∷ V.Variant v ∷ [])
 
 -- the field SIGNATURE of a body
 abbrev pub signature_field : List Value → Value
-signature_field body = field 8 (V.Signature (types_text (map type_of body)))
+signature_field body = field signature_code (V.Signature (types_text (map type_of body)))
 
 -- the part of a name after its last `.`, or the whole name where there is none
 abbrev pub last_part : List ℕ → List ℕ
 last_part name = after_last (λ b. b == 46) name
 
 abbrev pub kind_out : OutMessage → ℕ
-kind_out (Return to body) = 2
-kind_out (Error to name) = 3
-kind_out (Signal path interface member body) = 4
+kind_out (Return to body) = return_kind
+kind_out (Error to name) = error_kind
+kind_out (Signal path interface member body) = signal_kind
 
 -- the values of the body; an error says the last part of its name
 abbrev pub body_out : OutMessage → List Value
@@ -42,16 +42,16 @@ body_out (Signal path interface member body) = body
 
 -- a return without a body has no signature
 abbrev pub return_fields : ℕ → List Value → List Value
-return_fields to [] = field 5 (V.U32 to) ∷ []
-return_fields to (v ∷ vs) = field 5 (V.U32 to) ∷ signature_field (v ∷ vs) ∷ []
+return_fields to [] = field reply_serial_code (V.U32 to) ∷ []
+return_fields to (v ∷ vs) = field reply_serial_code (V.U32 to) ∷ signature_field (v ∷ vs) ∷ []
 
 -- the fields, in rising order of their codes
 abbrev pub fields_out : OutMessage → List Value
 fields_out (Return to body) = return_fields to body
-fields_out (Error to name) = field 4 (V.Str name) ∷ field 5 (V.U32 to)
+fields_out (Error to name) = field error_name_code (V.Str name) ∷ field reply_serial_code (V.U32 to)
     ∷ signature_field (V.Str (last_part name) ∷ []) ∷ []
-fields_out (Signal path interface member body) = field 1 (V.ObjectPath path)
-    ∷ field 2 (V.Str interface) ∷ field 3 (V.Str member) ∷ signature_field body ∷ []
+fields_out (Signal path interface member body) = field path_code (V.ObjectPath path)
+    ∷ field interface_code (V.Str interface) ∷ field member_code (V.Str member) ∷ signature_field body ∷ []
 
 -- a little-endian message of version 1, with the flag that no reply is expected: its type, its
 -- serial, the bytes of its fields, and those of its body

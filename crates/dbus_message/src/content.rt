@@ -7,6 +7,7 @@ ghost use Rattle.std.specs.Option.{option_copied};
 ghost use Rattle.dbus_message.specs.Answers.{IsReadTypes, IsReadBody, IsReadContent};
 
 use crate::error::{MessageError, broken};
+use crate::rule;
 use dbus_marshal::read::read_value;
 use dbus_types::errors::SignatureError;
 use dbus_types::signature::read_signature;
@@ -29,7 +30,7 @@ fn read_types(alloc: Global, signature: &[u8]) -> Result<List<WireType>, Message
     match read_signature(alloc, signature) {
         Ok(types) => Ok(types),
         Err(SignatureError::Memory) => Err(MessageError::Memory),
-        Err(_) => Err(MessageError::Bad { rule: 10 }),
+        Err(_) => Err(MessageError::Bad { rule: rule::BODY }),
     }
 }
 
@@ -50,11 +51,11 @@ fn read_body(
                 values.push(read.value)?;
                 next = read.next;
             }
-            Err(error) => return Err(broken(10, error)),
+            Err(error) => return Err(broken(rule::BODY, error)),
         }
     }
     if next < bytes.len() {
-        return Err(MessageError::Bad { rule: 10 });
+        return Err(MessageError::Bad { rule: rule::BODY });
     }
     Ok(values)
 }
@@ -81,7 +82,9 @@ pub(crate) fn read_content(
         }
         None => {
             if !bytes.is_empty() {
-                return Err(MessageError::Bad { rule: 11 });
+                return Err(MessageError::Bad {
+                    rule: rule::EXPLAINED,
+                });
             }
             Ok(Content {
                 types: List::new(alloc),

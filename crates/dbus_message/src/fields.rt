@@ -2,78 +2,62 @@
 //!
 //! Source: D-Bus Specification, "Header Fields".
 
-ghost use Rattle.std.specs.Prelude.{◌≡◌, ◌==◌, length, filter, find, IfOk};
+ghost use Rattle.std.specs.Prelude.{◌≡◌, ◌==◌, length, filter, find, IfOk, Some};
 ghost use Rattle.dbus_types.specs.declared.types.Value.{out-Value};
 ghost use Rattle.std.specs.List.{list_all};
 ghost use Rattle.std.specs.Option.{option_copied};
-ghost use Rattle.dbus_message.specs.Fields.{known_codes, members_of as members_in, byte_of as byte_in, inner_of as inner_in, field_code as code_in, field_value as value_in, is_path_value as path_holds, is_text_value as text_holds, any_text, is_number_value as number_holds, is_signature_value as signature_holds, is_in_table as table_holds, is_field as field_holds, is_once as once, are_good as good, value_of as value_under, text_in as text_inside, number_in as number_inside, text_of as text_under, number_of as number_under, has as is_there, has_needed as needed_there};
+ghost use Rattle.dbus_message.specs.Fields.{known_codes, field_code as code_in, field_value as value_in, is_path_value as path_holds, is_text_value as text_holds, any_text, is_number_value as number_holds, is_signature_value as signature_holds, is_in_table as table_holds, is_field as field_holds, is_once as once, are_good as good, value_of as value_under, text_in as text_inside, number_in as number_inside, text_of as text_under, number_of as number_under, has as is_there, has_needed as needed_there};
 ghost use Rattle.dbus_types.specs.Names.{is_interface_name, is_member_name};
 
+use dbus_marshal::header::HeaderField;
+use dbus_types::message::{ERROR, METHOD_CALL, METHOD_RETURN, SIGNAL};
 use dbus_types::names::{is_interface, is_member};
 use dbus_types::types::Value;
 use portal_base::memory::{Replica, WantOfMemory};
 use portal_base::text::Text;
 use std::alloc::Global;
 
+/// The object that is called, or that signals: an object path.
 pub(crate) const PATH: u8 = 1;
 
+/// The interface of the call or the signal: the name of one.
 pub(crate) const INTERFACE: u8 = 2;
 
+/// The method or the signal: the name of a member.
 pub(crate) const MEMBER: u8 = 3;
 
+/// The name of an error, of the form of an interface's.
 pub(crate) const ERROR_NAME: u8 = 4;
 
+/// The serial of the call that is answered.
 pub(crate) const REPLY_SERIAL: u8 = 5;
 
+/// The connection that the message is for: a text that is not looked at.
+pub(crate) const DESTINATION: u8 = 6;
+
+/// The connection that it is from: a text that is not looked at.
+pub(crate) const SENDER: u8 = 7;
+
+/// The types of the body.
 pub(crate) const SIGNATURE: u8 = 8;
 
+/// How many file descriptors come with the message.
 pub(crate) const UNIX_FDS: u8 = 9;
 
-fn members_of(value: &Value) -> &[Value]
-    ensures { result.now ≡ members_in (out-Value value.now) }
-{
-    match value {
-        Value::Struct(members) => members.as_slice(),
-        _ => &[],
-    }
-}
-
-fn byte_of(value: &Value) -> u8
-    ensures { result ≡ byte_in (out-Value value.now) }
-{
-    match value {
-        Value::Byte(number) => *number,
-        _ => 0,
-    }
-}
-
-fn inner_of(value: &Value) -> Option<&Value>
-    ensures { option_copied result ≡ inner_in (out-Value value.now) }
-{
-    match value {
-        Value::Variant(inner) => Some(inner.get()),
-        _ => None,
-    }
-}
-
 /// The code of a field.
-pub(crate) fn field_code(field: &Value) -> u8
+#[tactic(auto, using(crate::proofs::Tables::code_in_field))]
+pub(crate) fn field_code(field: &HeaderField) -> u8
     ensures { result ≡ code_in field.now }
 {
-    match members_of(field) {
-        [] => 0,
-        [code, ..] => byte_of(code),
-    }
+    field.code
 }
 
 /// The value of a field.
-fn field_value(field: &Value) -> Option<&Value>
-    ensures { option_copied result ≡ value_in field.now }
+#[tactic(auto, using(crate::proofs::Tables::value_in_field))]
+fn field_value(field: &HeaderField) -> &Value
+    ensures { value_in field.now ≡ Some result.now }
 {
-    match members_of(field) {
-        [_, variant] => inner_of(variant),
-        _ => None,
-    }
+    &field.value
 }
 
 fn is_path_value(value: &Value) -> bool
@@ -136,37 +120,34 @@ fn is_in_table(code: u8, value: &Value) -> bool
 {
     match code {
         0 => false,
-        1 => is_path_value(value),
-        2 => is_interface_value(value),
-        3 => is_member_value(value),
-        4 => is_interface_value(value),
-        5 => is_number_value(value),
-        6 => is_text_value(value),
-        7 => is_text_value(value),
-        8 => is_signature_value(value),
-        9 => is_number_value(value),
+        PATH => is_path_value(value),
+        INTERFACE => is_interface_value(value),
+        MEMBER => is_member_value(value),
+        ERROR_NAME => is_interface_value(value),
+        REPLY_SERIAL => is_number_value(value),
+        DESTINATION => is_text_value(value),
+        SENDER => is_text_value(value),
+        SIGNATURE => is_signature_value(value),
+        UNIX_FDS => is_number_value(value),
         _ => true,
     }
 }
 
 /// Says whether the table of fields allows a field.
-fn is_field(field: &Value) -> bool
+fn is_field(field: &HeaderField) -> bool
     ensures { result ≡ field_holds field.now }
 {
-    match field_value(field) {
-        Some(value) => is_in_table(field_code(field), value),
-        None => false,
-    }
+    is_in_table(field_code(field), field_value(field))
 }
 
-fn all_fields(fields: &[Value]) -> bool
+fn all_fields(fields: &[HeaderField]) -> bool
     ensures { result ≡ list_all field_holds fields.now }
 {
     fields.iter().all(|field| is_field(field))
 }
 
 /// How many fields have a code.
-fn count_of(fields: &[Value], code: u8) -> usize
+fn count_of(fields: &[HeaderField], code: u8) -> usize
     ensures { result ≡ length (filter (λ f. code_in f == code) fields.now) }
 {
     fields
@@ -176,48 +157,48 @@ fn count_of(fields: &[Value], code: u8) -> usize
 }
 
 /// Says whether no two fields have a code.
-fn is_once(fields: &[Value], code: u8) -> bool
+fn is_once(fields: &[HeaderField], code: u8) -> bool
     ensures { result ≡ once fields.now code }
 {
     count_of(fields, code) <= 1
 }
 
 /// Says whether no known code stands twice.
-fn all_once(fields: &[Value]) -> bool
+fn all_once(fields: &[HeaderField]) -> bool
     ensures { result ≡ list_all (once fields.now) known_codes }
 {
-    is_once(fields, 1)
-        && is_once(fields, 2)
-        && is_once(fields, 3)
-        && is_once(fields, 4)
-        && is_once(fields, 5)
-        && is_once(fields, 6)
-        && is_once(fields, 7)
-        && is_once(fields, 8)
-        && is_once(fields, 9)
+    is_once(fields, PATH)
+        && is_once(fields, INTERFACE)
+        && is_once(fields, MEMBER)
+        && is_once(fields, ERROR_NAME)
+        && is_once(fields, REPLY_SERIAL)
+        && is_once(fields, DESTINATION)
+        && is_once(fields, SENDER)
+        && is_once(fields, SIGNATURE)
+        && is_once(fields, UNIX_FDS)
 }
 
 /// Says whether the table of fields allows all, and no known code stands
 /// twice.
-pub(crate) fn are_good(fields: &[Value]) -> bool
+pub(crate) fn are_good(fields: &[HeaderField]) -> bool
     ensures { result ≡ good fields.now }
 {
     all_fields(fields) && all_once(fields)
 }
 
 /// The first field of a code.
-fn find_field(fields: &[Value], code: u8) -> Option<&Value>
+fn find_field(fields: &[HeaderField], code: u8) -> Option<&HeaderField>
     ensures { option_copied result ≡ find (λ f. code_in f == code) fields.now }
 {
     fields.iter().find(|field| field_code(field) == code)
 }
 
 /// The value under a code.
-fn value_of(fields: &[Value], code: u8) -> Option<&Value>
+fn value_of(fields: &[HeaderField], code: u8) -> Option<&Value>
     ensures { option_copied result ≡ value_under code fields.now }
 {
     match find_field(fields, code) {
-        Some(field) => field_value(field),
+        Some(field) => Some(field_value(field)),
         None => None,
     }
 }
@@ -243,7 +224,7 @@ fn number_in(value: &Value) -> Option<u32>
 }
 
 /// The text under a code.
-pub(crate) fn text_of(fields: &[Value], code: u8) -> Option<&Text>
+pub(crate) fn text_of(fields: &[HeaderField], code: u8) -> Option<&Text>
     ensures { option_copied result ≡ text_under code fields.now }
 {
     match value_of(fields, code) {
@@ -255,7 +236,7 @@ pub(crate) fn text_of(fields: &[Value], code: u8) -> Option<&Text>
 /// A copy of the text under a code.
 pub(crate) fn copy_of(
     alloc: Global,
-    fields: &[Value],
+    fields: &[HeaderField],
     code: u8,
 ) -> Result<Option<Text>, WantOfMemory>
     ensures { IfOk result (λ text. text ≡ text_under code fields.now) }
@@ -267,7 +248,7 @@ pub(crate) fn copy_of(
 }
 
 /// The number under a code.
-pub(crate) fn number_of(fields: &[Value], code: u8) -> Option<u32>
+pub(crate) fn number_of(fields: &[HeaderField], code: u8) -> Option<u32>
     ensures { result ≡ number_under code fields.now }
 {
     match value_of(fields, code) {
@@ -276,21 +257,21 @@ pub(crate) fn number_of(fields: &[Value], code: u8) -> Option<u32>
     }
 }
 
-fn has(fields: &[Value], code: u8) -> bool
+fn has(fields: &[HeaderField], code: u8) -> bool
     ensures { result ≡ is_there code fields.now }
 {
     value_of(fields, code).is_some()
 }
 
 /// Says whether a message of a type has the fields that it needs.
-pub(crate) fn has_needed(kind: u8, fields: &[Value]) -> bool
+pub(crate) fn has_needed(kind: u8, fields: &[HeaderField]) -> bool
     ensures { result ≡ needed_there kind fields.now }
 {
     match kind {
-        1 => has(fields, PATH) && has(fields, MEMBER),
-        2 => has(fields, REPLY_SERIAL),
-        3 => has(fields, ERROR_NAME) && has(fields, REPLY_SERIAL),
-        4 => has(fields, PATH) && has(fields, INTERFACE) && has(fields, MEMBER),
+        METHOD_CALL => has(fields, PATH) && has(fields, MEMBER),
+        METHOD_RETURN => has(fields, REPLY_SERIAL),
+        ERROR => has(fields, ERROR_NAME) && has(fields, REPLY_SERIAL),
+        SIGNAL => has(fields, PATH) && has(fields, INTERFACE) && has(fields, MEMBER),
         _ => true,
     }
 }

@@ -4,13 +4,11 @@
 
 ghost use Rattle.std.specs.Prelude.{◌≡◌, ◌≤◌, ◌==◌, ℕ, length, drop, IfOk};
 ghost use Rattle.std.specs.List.{list_all};
-ghost use Rattle.dbus_types.specs.declared.types.WireType.TheVariants as W;
-ghost use Rattle.dbus_types.specs.declared.types.Value.{out-Value};
 ghost use Rattle.dbus_message.specs.Fields.{field_type as type_of_field};
 ghost use Rattle.dbus_types.specs.declared.message.Message.{Message as TheMessage};
 ghost use Rattle.dbus_message.specs.Header.{endian_of as endian_in};
 ghost use Rattle.dbus_message.specs.Rules.{IsWhole, IsFirstBroken};
-ghost use Rattle.dbus_message.specs.Answers.{items_in, IsReadFields};
+ghost use Rattle.dbus_message.specs.Answers.{IsReadFields};
 ghost use Rattle.dbus_message.specs.Messages.{SaysHeader, SaysFields, IsMessage, IsReadAs, IsRefusedFor, IsReading};
 
 use crate::content::{Content, read_content};
@@ -19,21 +17,14 @@ use crate::fields::{
     ERROR_NAME, INTERFACE, MEMBER, PATH, REPLY_SERIAL, SIGNATURE, UNIX_FDS, are_good, copy_of,
     has_needed, number_of, text_of,
 };
-use crate::header::{body_start, endian_of, fields_end, number_at};
-use dbus_marshal::read::read_value;
+use crate::header::{FIELDS_AT, SERIAL_AT, body_start, endian_of, fields_end, number_at};
+use crate::rule;
+use dbus_marshal::header::{HeaderField, read_header};
 use dbus_types::message::Message;
-use dbus_types::shared::Shared;
-use dbus_types::types::{Endian, Value, WireType};
+use dbus_types::types::{Endian, WireType};
 use portal_base::list::List;
 use portal_base::memory::WantOfMemory;
 use std::alloc::Global;
-
-/// The type `a(yv)`.
-pub(crate) fn fields_type(alloc: Global) -> Result<WireType, WantOfMemory>
-    ensures { IfOk result (λ kind. kind ≡ W.Array type_of_field) }
-{
-    Ok(WireType::Array(Shared::new(alloc, field_type(alloc)?)?))
-}
 
 /// The type `(yv)`.
 pub(crate) fn field_type(alloc: Global) -> Result<WireType, WantOfMemory>
@@ -45,36 +36,23 @@ pub(crate) fn field_type(alloc: Global) -> Result<WireType, WantOfMemory>
     Ok(WireType::Struct(members))
 }
 
-/// The items of an array.
-fn items_of(value: Value) -> Option<List<Value>>
-    ensures { result ≡ items_in (out-Value value) }
-{
-    match value {
-        Value::Array {
-            element: _element,
-            items,
-        } => Some(items),
-        _ => None,
-    }
-}
-
 /// The fields of a message, whose bytes are given up to the end of the fields.
-fn read_fields(alloc: Global, endian: Endian, bytes: &[u8]) -> Result<List<Value>, MessageError>
+fn read_fields(
+    alloc: Global,
+    endian: Endian,
+    bytes: &[u8],
+) -> Result<List<HeaderField>, MessageError>
     requires { 12 ≤ length bytes.now }
     ensures { IsReadFields endian (drop 12 bytes.now) result }
 {
-    let kind = fields_type(alloc)?;
-    match read_value(alloc, endian, bytes, 12, &kind) {
+    match read_header(alloc, endian, bytes, FIELDS_AT) {
         Ok(read) => {
             if read.next < bytes.len() {
-                return Err(MessageError::Bad { rule: 6 });
+                return Err(MessageError::Bad { rule: rule::FIELDS });
             }
-            match items_of(read.value) {
-                Some(items) => Ok(items),
-                None => Err(MessageError::Bad { rule: 6 }),
-            }
+            Ok(read.fields)
         }
-        Err(error) => Err(broken(6, error)),
+        Err(error) => Err(broken(rule::FIELDS, error)),
     }
 }
 
@@ -89,7 +67,7 @@ fn message_of(
     alloc: Global,
     endian: Endian,
     bytes: &[u8],
-    fields: &[Value],
+    fields: &[HeaderField],
     content: Content,
 ) -> Result<Message, WantOfMemory>
     requires long { 16 ≤ length bytes.now }
@@ -102,7 +80,7 @@ fn message_of(
         endian,
         kind: bytes[1],
         flags: bytes[2],
-        serial: number_at(endian, bytes, 8),
+        serial: number_at(endian, bytes, SERIAL_AT),
         path: copy_of(alloc, fields, PATH)?,
         interface: copy_of(alloc, fields, INTERFACE)?,
         member: copy_of(alloc, fields, MEMBER)?,
@@ -137,13 +115,15 @@ pub fn read_message(alloc: Global, bytes: &[u8]) -> Result<Message, MessageError
         Err(error) => return Err(error),
     };
     if !are_good(fields.as_slice()) {
-        return Err(MessageError::Bad { rule: 7 });
+        return Err(MessageError::Bad { rule: rule::TABLE });
     }
     if !has_needed(bytes[1], fields.as_slice()) {
-        return Err(MessageError::Bad { rule: 8 });
+        return Err(MessageError::Bad { rule: rule::NEEDED });
     }
     if !are_zeros(&bytes[end..start]) {
-        return Err(MessageError::Bad { rule: 9 });
+        return Err(MessageError::Bad {
+            rule: rule::PADDING,
+        });
     }
     let signature = text_of(fields.as_slice(), SIGNATURE);
     match read_content(alloc, endian, signature, &bytes[start..]) {

@@ -6,7 +6,11 @@ ghost use Rattle.std.specs.Prelude.{◌≡◌, ◌≤◌, length, MatchOption};
 ghost use Rattle.dbus_message.specs.Rules.{KeepsHeader, IsFirstBroken};
 ghost use Rattle.dbus_message.specs.Messages.{IsSplit};
 
-use crate::header::{endian_of, number_at, stated_len};
+use crate::header::{
+    BIG_ENDIAN, FIXED_LEN, LITTLE_ENDIAN, PROTOCOL_VERSION, SERIAL_AT, endian_of, number_at,
+    stated_len,
+};
+use crate::rule;
 use portal_base::split::Split;
 
 /// The greatest length of a message in bytes.
@@ -18,20 +22,20 @@ fn broken_header(bytes: &[u8]) -> Option<u32>
     ensures { MatchOption result (KeepsHeader bytes.now) (λ rule. (rule ≤ 5)
         × IsFirstBroken bytes.now rule) }
 {
-    if bytes[0] != b'l' && bytes[0] != b'B' {
-        return Some(1);
+    if bytes[0] != LITTLE_ENDIAN && bytes[0] != BIG_ENDIAN {
+        return Some(rule::ENDIAN);
     }
     if bytes[1] == 0 {
-        return Some(2);
+        return Some(rule::KIND);
     }
-    if bytes[3] != 1 {
-        return Some(3);
+    if bytes[3] != PROTOCOL_VERSION {
+        return Some(rule::VERSION);
     }
-    if number_at(endian_of(bytes), bytes, 8) == 0 {
-        return Some(4);
+    if number_at(endian_of(bytes), bytes, SERIAL_AT) == 0 {
+        return Some(rule::SERIAL);
     }
     if stated_len(bytes) > LONGEST {
-        return Some(5);
+        return Some(rule::LENGTH);
     }
     None
 }
@@ -43,7 +47,7 @@ fn broken_header(bytes: &[u8]) -> Option<u32>
 pub fn split(bytes: &[u8]) -> Split
     ensures { IsSplit bytes.now result }
 {
-    if bytes.len() < 16 {
+    if bytes.len() < FIXED_LEN {
         return Split::More;
     }
     match broken_header(bytes) {

@@ -16,9 +16,10 @@ ghost use Rattle.dbus_message.specs.Messages.{IsMessage};
 ghost use Rattle.dbus_message.specs.Written.{field as field_with, signature_field as signature_of, last_part as part_after, kind_out, body_out, return_fields as fields_of_return, fields_out, IsWritten, CanWrite, laid, stands_for};
 
 use crate::fields::{ERROR_NAME, INTERFACE, MEMBER, PATH, REPLY_SERIAL, SIGNATURE};
+use crate::header::{BODY_ALIGNMENT, LITTLE_ENDIAN, PROTOCOL_VERSION};
 use crate::read::field_type;
 use dbus_marshal::write::write_value;
-use dbus_types::message::OutMessage;
+use dbus_types::message::{ERROR, METHOD_RETURN, NO_REPLY_EXPECTED, OutMessage, SIGNAL};
 use dbus_types::shared::Shared;
 use dbus_types::types::Value;
 use dbus_types::write::signature_text;
@@ -122,9 +123,9 @@ fn kind_of(message: &OutMessage) -> u8
     ensures { result ≡ kind_out message.now }
 {
     match message {
-        OutMessage::Return { .. } => 2,
-        OutMessage::Error { .. } => 3,
-        OutMessage::Signal { .. } => 4,
+        OutMessage::Return { .. } => METHOD_RETURN,
+        OutMessage::Error { .. } => ERROR,
+        OutMessage::Signal { .. } => SIGNAL,
     }
 }
 
@@ -132,7 +133,7 @@ fn kind_of(message: &OutMessage) -> u8
 fn pad(out: &mut ByteList) -> Result<(), WantOfMemory>
     ensures { OnOk result (out.new ≡ out.old ++ replicate (gap 8 (length out.old)) 0) }
 {
-    let count = (8 - out.len() % 8) % 8;
+    let count = (BODY_ALIGNMENT - out.len() % BODY_ALIGNMENT) % BODY_ALIGNMENT;
     for written in 0..count {
         let _ = written;
         out.push(0)?;
@@ -154,7 +155,7 @@ fn write_parts(
         → IfOk result (λ bytes. bytes ≡ laid kind serial text body.now) }
 {
     let mut bytes = List::new(alloc);
-    bytes.extend_from_slice(&[b'l', kind, 1, 1])?;
+    bytes.extend_from_slice(&[LITTLE_ENDIAN, kind, NO_REPLY_EXPECTED, PROTOCOL_VERSION])?;
     bytes.extend_from_slice(&(body.len() as u32).to_le_bytes())?;
     bytes.extend_from_slice(&serial.to_le_bytes())?;
     let fields = Value::Array {

@@ -8,9 +8,10 @@ ghost use Rattle.dbus_types.specs.Values.{type_of, IsText, IsSignatureText, Leaf
 ghost use Rattle.dbus_types.specs.declared.types.Value.{out-Value};
 
 use crate::names::is_object_path;
+use crate::nesting::MOST_NESTED;
 use crate::roles::Role;
 use crate::rules::{arrays_within, brackets_within, is_single, role_of};
-use crate::signature::check_signature;
+use crate::signature::{LONGEST, MOST_ARRAYS, MOST_BRACKETS, check_signature};
 use crate::types::{Value, WireType};
 use crate::typing::has_type;
 
@@ -178,15 +179,15 @@ fn has_valid_type(value: &Value) -> bool
     ensures { IsTrue result ↔ IsValidType (type_of value.now) }
 {
     is_single(role_of_type(value))
-        && type_arrays_within(value, 32)
-        && type_brackets_within(value, 32)
+        && type_arrays_within(value, MOST_ARRAYS)
+        && type_brackets_within(value, MOST_BRACKETS)
 }
 
 /// Says whether a variant can carry the type of a value.
 fn has_variant_type(value: &Value) -> bool
     ensures { IsTrue result ↔ IsVariantType (type_of value.now) }
 {
-    has_valid_type(value) && type_leaves(value, 255).is_some()
+    has_valid_type(value) && type_leaves(value, LONGEST as u32).is_some()
 }
 
 fn has_no_zero(bytes: &[u8]) -> bool
@@ -321,5 +322,5 @@ fn members_keep(members: &[Value], depth: u32) -> bool
 pub fn keeps_rules(value: &Value) -> bool
     ensures { IsTrue result ↔ KeepsRules value.now }
 {
-    has_valid_type(value) && keeps_within(value, 64)
+    has_valid_type(value) && keeps_within(value, MOST_NESTED)
 }

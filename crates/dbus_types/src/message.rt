@@ -6,6 +6,21 @@ use crate::types::{Endian, Value, WireType};
 use portal_base::list::List;
 use portal_base::text::Text;
 
+/// The type of a method call.
+pub const METHOD_CALL: u8 = 1;
+
+/// The type of a method's return.
+pub const METHOD_RETURN: u8 = 2;
+
+/// The type of an error in place of a return.
+pub const ERROR: u8 = 3;
+
+/// The type of a signal.
+pub const SIGNAL: u8 = 4;
+
+/// The flag that no reply is expected.
+pub const NO_REPLY_EXPECTED: u8 = 1;
+
 /// A message that was read.
 #[derive(Debug, Drop)]
 pub struct Message {

@@ -8,6 +8,9 @@ ghost use Rattle.dbus_types.specs.Values.{nesting as nesting_in, one_around};
 
 use crate::types::Value;
 
+/// In how many arrays, structs, dict entries and variants a value may stand.
+pub const MOST_NESTED: u32 = 64;
+
 /// In how many arrays, structs, dict entries and variants of a value the
 /// innermost of those inside it stands, or 4,294,967,295 where it stands in
 /// more: 0 where nothing is inside, as in an empty array.

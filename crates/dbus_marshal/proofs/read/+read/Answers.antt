@@ -5,6 +5,8 @@ use Rattle.dbus_types.specs.declared.types.Value.TheVariants as V
 use Rattle.dbus_marshal.specs.Reads.{Fails, reads, after, place}
 use Rattle.dbus_marshal.proofs.Loops.{members_step, members_end, members_fails, elements_step, elements_end, elements_fails, array_is, array_fails}
 use Rattle.dbus_marshal.proofs.Bytes.{bytes_read}
+use Rattle.std.proofs.lemmas.Result.{err_from_is_err_and}
+use Rattle.dbus_marshal.proofs.HeaderFields.{variant_gives, variant_fails}
 use Rattle.dbus_marshal.proofs.Depths.{reads_array, reads_struct, reads_entry}
 use Rattle.dbus_marshal.proofs.read.+read.Goals as goal
 
@@ -71,3 +73,11 @@ pub read_elements-returns-then-is_byte : goal.read_elements-returns-then-is_byte
 read_elements-returns-then-is_byte t c =
     let body = drop c.args.at c.args.bytes.now in
     record { read = bytes_read (length body) c.args.depth c.args.endian c.args.element.now c.args.at body (λ z. omega (arith, z, c.if-depth-gt0.true)) (c.is_byte.ensures.0 c.if-is_byte.true) (omega arith) ∙ ap (λ l. Ok l) (sym (c.in_ok-read_bytes.ensures ∙ ap (λ bs. map (λ n. V.Byte n) bs) (take_all (length c.args.bytes.now - c.args.at) body (omega (arith, length-drop c.args.at c.args.bytes.now))))) }
+
+pub read_variant-returns-in_err-value-clause-read : goal.read_variant-returns-in_err-value-clause-read
+read_variant-returns-in_err-value-clause-read t c =
+    let p = err_from_is_err_and c.from_residual.result c.from_residual.ensures.1 in
+    rw (p.1, p.2) (variant_fails (reads c.args.depth c.args.endian) c.args.endian c.args.at (drop c.args.at c.args.bytes.now) c.in_err-value.field-0.0 c.in_err-value.ensures.read)
+
+pub read_variant-returns-clause-read : goal.read_variant-returns-clause-read
+read_variant-returns-clause-read t c = rw c.in_ok-new.ensures (variant_gives (reads c.args.depth c.args.endian) c.args.endian c.args.at (drop c.args.at c.args.bytes.now) (after c.args.bytes.now (c.in_ok-value.value, c.in_ok-value.next)) c.in_ok-value.ensures.read)

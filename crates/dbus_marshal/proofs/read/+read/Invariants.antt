@@ -17,6 +17,9 @@ decreases-read_entry l = 3 * l.depth + 2
 abbrev pub decreases-read_variant : goal.decreases-read_variant
 decreases-read_variant l = 3 * l.depth + 2
 
+abbrev pub decreases-read_inside : goal.decreases-read_inside
+decreases-read_inside l = 3 * l.depth + 1
+
 abbrev pub decreases-read_elements : goal.decreases-read_elements
 decreases-read_elements l = 3 * l.depth + 1
 

@@ -1,4 +1,4 @@
-use Rattle.std.proofs.Common.{ℕ, ◌+◌, ◌*◌, ◌≤◌, length}
+use Rattle.std.proofs.Common.{◌+◌, ◌*◌, ◌≤◌, length}
 use Rattle.dbus_marshal.proofs.skip.+skip.Given as goal
 
 abbrev pub decreases-skip_value : goal.decreases-skip_value

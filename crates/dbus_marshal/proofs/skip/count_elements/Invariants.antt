@@ -1,4 +1,4 @@
-use Rattle.std.proofs.Common.{ℕ, ◌-◌, ◌≤◌, length}
+use Rattle.std.proofs.Common.{◌-◌, ◌≤◌, length}
 use Rattle.dbus_marshal.proofs.skip.count_elements.Given as goal
 
 abbrev pub invariant-loop-next : goal.invariant-loop-next

@@ -1,0 +1,20 @@
+use Rattle.std.proofs.Common.{refl, sym, subst, ◌∙◌, arith}
+use Rattle.dbus_marshal.specs.Reads.{Fails, field_at}
+use Rattle.dbus_marshal.proofs.Loops.{elements_step, elements_end, elements_fails}
+use Rattle.dbus_marshal.proofs.header.read_fields.Goals as goal
+
+pub loop-next-preserved : goal.loop-next-preserved
+loop-next-preserved c =
+    let i = c.loop-next.invariant.rest in
+    let s = elements_step (field_at c.args.endian) c.args.bytes.now c.loop-next.fields c.loop-next.next i.0 c.in-Ok.field c.in-Ok.end c.loop-next-test.true c.in-Ok.ensures.within.0 c.in-Ok.ensures.read i.1 in
+    record { within = c.in-Ok.ensures.within.1; rest = (s.0, s.1, i.2 ∙ (s.2 ∙ rw c.in_ok-push-in-Ok.ensures.ok refl)) }
+
+pub returns-in-Err : goal.returns-in-Err
+returns-in-Err c =
+    let i = c.loop-next.invariant.rest in
+    record { read = subst (Fails c.in-Err.error) (sym i.2) (elements_fails (field_at c.args.endian) c.args.bytes.now c.loop-next.fields c.loop-next.next i.0 c.in-Err.error c.loop-next-test.true i.1 c.in-Err.ensures.read) }
+
+pub returns : goal.returns
+returns c =
+    let i = c.loop-next.invariant.rest in
+    record { read = i.2 ∙ elements_end (field_at c.args.endian) c.args.bytes.now c.loop-next.fields c.loop-next.next i.0 (omega arith) }
