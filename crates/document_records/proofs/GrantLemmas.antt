@@ -1,11 +1,14 @@
 -- Rights kept together are the triples that they stand for.
-use Rattle.std.proofs.Common.{◌≡◌, ℕ, ◌==◌, ltb, List, [], ◌∷◌, ◌++◌, map, Bool, true, false, not, ◌||◌, ◌&&◌, cond, Option, Some, None, is_some, refl, sym, ap, subst, ◌∙◌, arith, suc, ◌+◌, ◌<◌, ◌≤◌, length, get_or, Bor}
-use Rattle.std.specs.List.{filter, find, list_any, list_all, insert, prefix_len}
+use Rattle.std.proofs.Common.{◌≡◌, ℕ, ◌==◌, ltb, List, [], ◌∷◌, ◌++◌, map, Bool, true, false, not, ◌||◌, ◌&&◌, cond, Option, Some, None, is_some, refl, sym, ap, subst, ◌∙◌, arith, zero, suc, ◌+◌, ◌<◌, ◌≤◌, length, get_or, Bor}
+use Rattle.std.specs.List.{filter, find, list_any, list_all, insert, prefix_len, slice_get}
+use Rattle.std.specs.List.Sorted.{IsPartitionedBy, IsPartitionPoint}
 use Rattle.std.proofs.lemmas.Bool.Decides.{nat_tests}
 use Rattle.std.proofs.lemmas.List.Folds.{list_any-append}
 use Rattle.std.proofs.lemmas.List.Elements.{filter-append}
 use Rattle.std.proofs.lemmas.List.Sums.{prefix_len_is}
 use Rattle.std.specs.Option.{option_copied}
+use Rattle.std.specs.Slice.{IsItemAt}
+use Rattle.std.proofs.lemmas.Option.{slice_get_past, slice_get-get_or}
 use Rattle.portal_base.specs.declared.names.doc_id.DocId.{DocId}
 use Rattle.rights_rule.specs.Rights.{RightSet, union, minus, no_rights, is_no_right}
 use Rattle.portal_model.specs.declared.rights.Right.{Right}
@@ -396,10 +399,67 @@ pub not-some : {X : Type 0} (r : Option X) → is_some r ≡ false → r ≡ Non
 not-some None e = refl
 not-some (Some x) e = cc
 
-pub front-stops : (p : Grant → Bool) (gs : List Grant) (n : ℕ) (x : Grant) → n < length gs → ((k : ℕ) (d : Grant) → k < n → p (get_or gs k d) ≡ true) →
-    x ≡ get_or gs n x → p x ≡ false → n ≡ prefix_len p gs
-front-stops p gs n x h a e f = sym (prefix_len_is p gs n x (omega arith) (λ k l. a k x l) (λ l. ap p (sym e) ∙ f))
+-- ---- where a grant stands
 
-pub front-all : (p : Grant → Bool) (gs : List Grant) (n : ℕ) → length gs ≤ n → ((k : ℕ) (d : Grant) → k < n → p (get_or gs k d) ≡ true) → length gs ≡ prefix_len p gs
-front-all p [] n h a = refl
-front-all p (g ∷ gs) n h a = sym (prefix_len_is p (g ∷ gs) (length (g ∷ gs)) g (omega arith) (λ k l. a k g (omega arith)) (λ l. absurd (omega arith)))
+ahead-too : (app : List ℕ) (number : ℕ) (g h : Grant) → grant_less g h ≡ true → is_before app number h ≡ true → is_before app number g ≡ true
+ahead-too app number g h l k = keys.through (key_of g) (key_of h) (record { number = number; app = app }) l k
+
+each-of : (p : Grant → Bool) (gs : List Grant) (i : ℕ) (d : Grant) → i < length gs → list_all p gs ≡ true → p (get_or gs i d) ≡ true
+each-of p [] i d h a = absurd (omega arith)
+each-of p (g ∷ gs) zero d h a = grind arith
+each-of p (g ∷ gs) (suc i) d h a = each-of p gs i d (omega arith) (grind arith)
+
+-- those that stand ahead come first
+pub in-two-parts : (app : List ℕ) (number : ℕ) (gs : List Grant) → are_grants_in_order gs ≡ true → IsPartitionedBy (is_before app number) gs
+in-two-parts app number [] s i j d le lt k = absurd (omega arith)
+in-two-parts app number (g ∷ gs) s zero zero d le lt k = k
+in-two-parts app number (g ∷ gs) s zero (suc j) d le lt k =
+    let a : list_all (grant_less g) gs ≡ true = grind arith in
+    ahead-too app number g (get_or gs j d) (each-of (grant_less g) gs j d (omega arith) a) k
+in-two-parts app number (g ∷ gs) s (suc i) zero d le lt k = absurd (omega arith)
+in-two-parts app number (g ∷ gs) s (suc i) (suc j) d le lt k =
+    let b : are_grants_in_order gs ≡ true = grind arith in
+    in-two-parts app number gs b i j d (omega arith) (omega arith) k
+
+pub parts-end : (p : Grant → Bool) (gs : List Grant) (i : ℕ) → i ≤ length gs → IsPartitionPoint (λ y. p y ≡ true) (λ y. p y ≡ false) gs i → i ≡ prefix_len p gs
+parts-end p [] i b h = omega arith
+parts-end p (g ∷ gs) i b h = sym (prefix_len_is p (g ∷ gs) i g b (λ k l. h.0 k g (omega arith) l) (λ l. h.1 i g (omega arith) l))
+
+abbrev pub if_of : List ℕ → ℕ → Option Grant → Option Grant
+if_of app number None = None
+if_of app number (Some g) = cond (is_of app number g) (Some g) None
+
+not-behind : (app : List ℕ) (number : ℕ) (g h : Grant) → is_before app number g ≡ false → grant_less g h ≡ true → is_of app number h ≡ false
+not-behind app number g h k l = grind (arith, nat_tests, is_same-eq h.app app)
+
+none-at-or-behind : (app : List ℕ) (number : ℕ) (g : Grant) (hs : List Grant) → is_before app number g ≡ false → list_all (grant_less g) hs ≡ true → find (is_of app number) hs ≡ None
+none-at-or-behind app number g [] k l = refl
+none-at-or-behind app number g (h ∷ hs) k l = grind (arith, none-at-or-behind app number g hs, not-behind app number g h)
+
+not-both : (app : List ℕ) (number : ℕ) (g : Grant) → is_before app number g ≡ true → is_of app number g ≡ false
+not-both app number g k = grind (arith, nat_tests, is_same-eq g.app app, bytes-irreflexive app)
+
+next-item : (g : Grant) (gs : List Grant) (n : ℕ) → slice_get (g ∷ gs) (1 + n) ≡ slice_get gs n
+next-item g gs n = let e : 1 + n ≡ suc n = omega arith in ap (slice_get (g ∷ gs)) e
+
+-- a grant that is there stands at its place
+pub found-in-place : (app : List ℕ) (number : ℕ) (gs : List Grant) → are_grants_in_order gs ≡ true →
+    find (is_of app number) gs ≡ if_of app number (slice_get gs (prefix_len (is_before app number) gs))
+found-in-place app number [] s = refl
+found-in-place app number (g ∷ gs) s =
+    let a : list_all (grant_less g) gs ≡ true = grind arith in
+    let b : are_grants_in_order gs ≡ true = grind arith in
+    step (is_before app number g) (is_of app number g) refl refl a (found-in-place app number gs b)
+  where
+    step : (b o : Bool) → is_before app number g ≡ b → is_of app number g ≡ o → list_all (grant_less g) gs ≡ true →
+        find (is_of app number) gs ≡ if_of app number (slice_get gs (prefix_len (is_before app number) gs)) →
+        cond o (Some g) (find (is_of app number) gs) ≡ if_of app number (slice_get (g ∷ gs) (cond b (1 + prefix_len (is_before app number) gs) 0))
+    step true true k l a more = let f : is_of app number g ≡ false = not-both app number g k in cc
+    step true false k l a more = more ∙ ap (if_of app number) (sym (next-item g gs (prefix_len (is_before app number) gs)))
+    step false true k l a more = sym (ap (λ (c : Bool). cond c (Some g) None) l)
+    step false false k l a more = none-at-or-behind app number g gs k a ∙ sym (ap (λ (c : Bool). cond c (Some g) None) l)
+
+-- what `get` answers is the item of the list
+pub item-at : (xs : List Grant) (i : ℕ) (r : Option (Bor Grant)) → IsItemAt xs i r → option_copied r ≡ slice_get xs i
+item-at xs i None h = sym (slice_get_past xs i h.3)
+item-at xs i (Some x) h = ap (λ (y : Grant). Some y) h.1 ∙ sym (slice_get-get_or xs i x.now h.3.0)

@@ -105,7 +105,7 @@ impl Grants {
     }
 }
 
-ghost use Rattle.document_records.specs.Grants.{is_of, is_before, given, taken, has_a_right, is_elsewhere, grant_less};
+ghost use Rattle.document_records.specs.Grants.{is_of, is_before, given, taken, has_a_right, is_elsewhere, grant_less, are_grants_in_order};
 
 /// Says whether a grant is of an application in a document.
 fn is_of(grant: &Grant, app: &AppId, id: DocId) -> bool
@@ -127,15 +127,22 @@ fn is_before(grant: &Grant, app: &AppId, id: DocId) -> bool
 
 /// The grant of an application in a document.
 fn find<'a>(grants: &'a [Grant], app: &AppId, id: DocId) -> Option<&'a Grant>
+    requires { are_grants_in_order grants.now ≡ true }
     ensures { option_copied result ≡ find (is_of app.now id.number) grants.now }
 {
-    grants.iter().find(|grant| is_of(grant, app, id))
+    let grant = grants.get(place_of(grants, app, id))?;
+    if is_of(grant, app, id) {
+        Some(grant)
+    } else {
+        None
+    }
 }
 
 /// Puts a grant in its place, where there is none of its application and
 /// document.
 fn insert(grants: &mut Vec<Grant>, grant: Grant) -> Result<(), WantOfMemory>
-    requires { find (is_of grant.app grant.id.number) grants.old.items ≡ None }
+    requires order { are_grants_in_order grants.old.items ≡ true }
+    requires new { find (is_of grant.app grant.id.number) grants.old.items ≡ None }
     ensures ok { OnOk result (grants.new.items ≡ put grant_less grant grants.old.items) }
     ensures err { OnErr result (grants.new.items ≡ grants.old.items) }
 {
@@ -144,16 +151,12 @@ fn insert(grants: &mut Vec<Grant>, grant: Grant) -> Result<(), WantOfMemory>
     Ok(())
 }
 
-/// The place of a new grant of an application in a document.
+/// The place where a grant of an application in a document stands, or would.
 fn place_of(grants: &[Grant], app: &AppId, id: DocId) -> usize
+    requires { are_grants_in_order grants.now ≡ true }
     ensures { result ≡ prefix_len (is_before app.now id.number) grants.now }
 {
-    for (at, grant) in grants.iter().enumerate() {
-        if !is_before(grant, app, id) {
-            return at;
-        }
-    }
-    grants.len()
+    grants.partition_point(|grant| is_before(grant, app, id))
 }
 
 /// Adds rights to the grant of an application in a document.

@@ -1,7 +1,9 @@
 //! Why a line is not understood.
 
+use dbus_types::errors::SignatureError;
 use hex::FromHexError;
 use portal_base::memory::WantOfMemory;
+use portal_base::names::NameError;
 use std::alloc::AllocError;
 use thiserror::Error;
 
@@ -25,6 +27,24 @@ impl From<AllocError> for LineError {
 impl From<WantOfMemory> for LineError {
     fn from(_error: WantOfMemory) -> LineError {
         LineError::Memory
+    }
+}
+
+impl From<NameError> for LineError {
+    fn from(error: NameError) -> LineError {
+        match error {
+            NameError::Memory => LineError::Memory,
+            NameError::BadName { .. } => LineError::BadLine,
+        }
+    }
+}
+
+impl From<SignatureError> for LineError {
+    fn from(error: SignatureError) -> LineError {
+        match error {
+            SignatureError::Memory => LineError::Memory,
+            _ => LineError::BadLine,
+        }
     }
 }
 

@@ -6,3 +6,4 @@
 
 pub mod error;
 pub mod notation;
+pub mod values;

@@ -30,6 +30,15 @@ pub fn small_number(word: &str) -> Result<u32, LineError> {
     word.parse::<u32>().map_err(|_| LineError::BadLine)
 }
 
+/// Numbers in decimal digits, as words.
+pub fn numbers(alloc: Global, words: &str) -> Result<List<u64>, LineError> {
+    let mut numbers = List::new(alloc);
+    for word in words.split_whitespace() {
+        numbers.push(number(word)?)?;
+    }
+    Ok(numbers)
+}
+
 /// The line with each `<N TEXT>` as N times TEXT.
 pub fn repeated(alloc: Global, line: &str) -> Result<String, LineError> {
     let mut all = String::new(alloc);

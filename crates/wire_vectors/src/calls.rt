@@ -1,7 +1,5 @@
 //! Calls, and what they are answered without the portal.
 
-use crate::error::VectorError;
-use crate::shown;
 use dbus_dispatch::ask::{Ask, expects_reply, request_of};
 use dbus_dispatch::error_name::ErrorName;
 use dbus_dispatch::refused::refused_message;
@@ -17,11 +15,12 @@ use portal_model::reply::Refused;
 use std::alloc::Global;
 use vector_lines::error::LineError;
 use vector_lines::notation::{cut, digits, small_number};
+use vector_lines::values;
 
 /// `call PATH INTERFACE MEMBER SIGNATURE ARGUMENT ..`: what the call is
 /// answered. `-` stands for no interface and for no arguments' types; each
 /// argument is a text.
-pub fn call(alloc: Global, rest: &str) -> Result<String, VectorError> {
+pub fn call(alloc: Global, rest: &str) -> Result<String, LineError> {
     let call = call_of(alloc, rest)?;
     let ask = request_of(alloc, &call, &settings(alloc)?)?;
     shown_ask(alloc, &ask)
@@ -29,12 +28,12 @@ pub fn call(alloc: Global, rest: &str) -> Result<String, VectorError> {
 
 /// `reply SERIAL PATH INTERFACE MEMBER SIGNATURE ARGUMENT ..`: the bytes of
 /// the answer to the same call, whose own serial is 7, with that serial.
-pub fn reply(alloc: Global, rest: &str) -> Result<String, VectorError> {
+pub fn reply(alloc: Global, rest: &str) -> Result<String, LineError> {
     let (serial, rest) = cut(rest);
     let serial = small_number(serial)?;
     let call = call_of(alloc, rest)?;
     if serial == 0 {
-        return Err(VectorError::Line(LineError::BadLine));
+        return Err(LineError::BadLine);
     }
     match request_of(alloc, &call, &settings(alloc)?)? {
         Ask::Local(message) => {
@@ -47,7 +46,7 @@ pub fn reply(alloc: Global, rest: &str) -> Result<String, VectorError> {
 
 /// `ping TYPE FLAGS`: what a message of this type and these flags is answered
 /// that names Ping on `/`, and whether the answer is written.
-pub fn ping(alloc: Global, rest: &str) -> Result<String, VectorError> {
+pub fn ping(alloc: Global, rest: &str) -> Result<String, LineError> {
     let (kind, flags) = cut(rest);
     let mut message = call_of(alloc, "/ org.freedesktop.DBus.Peer Ping -")?;
     message.kind = byte(kind)?;
@@ -60,21 +59,21 @@ pub fn ping(alloc: Global, rest: &str) -> Result<String, VectorError> {
 
 /// `refused memory` or `refused full`: what a call is answered whose request is
 /// no entry of the history.
-pub fn refused(alloc: Global, rest: &str) -> Result<String, VectorError> {
+pub fn refused(alloc: Global, rest: &str) -> Result<String, LineError> {
     let refused = match rest {
         "memory" => Refused::Memory,
         "full" => Refused::Full {
             cost: 262,
             limit: 262,
         },
-        _ => return Err(VectorError::Line(LineError::BadLine)),
+        _ => return Err(LineError::BadLine),
     };
     let call = call_of(alloc, "/ - Add hbb")?;
     shown_message(alloc, &refused_message(alloc, &refused, &call)?)
 }
 
 /// `error NAME`: the name that the error has on the wire.
-pub fn error(alloc: Global, rest: &str) -> Result<String, VectorError> {
+pub fn error(alloc: Global, rest: &str) -> Result<String, LineError> {
     let error = match rest {
         "UnknownObject" => ErrorName::UnknownObject,
         "UnknownInterface" => ErrorName::UnknownInterface,
@@ -88,7 +87,7 @@ pub fn error(alloc: Global, rest: &str) -> Result<String, VectorError> {
         "NotAllowed" => ErrorName::NotAllowed,
         "InvalidArgument" => ErrorName::InvalidArgument,
         "Failed" => ErrorName::Failed,
-        _ => return Err(VectorError::Line(LineError::BadLine)),
+        _ => return Err(LineError::BadLine),
     };
     Ok(String::from_str(alloc, error.name())?)
 }
@@ -97,7 +96,7 @@ fn byte(word: &str) -> Result<u8, LineError> {
     word.parse::<u8>().map_err(|_| LineError::BadLine)
 }
 
-fn settings(alloc: Global) -> Result<Settings, VectorError> {
+fn settings(alloc: Global) -> Result<Settings, LineError> {
     Ok(Settings {
         limits: Limits {
             documents: 1,
@@ -113,7 +112,7 @@ fn settings(alloc: Global) -> Result<Settings, VectorError> {
 }
 
 /// The call with serial 7 that a line's words name.
-fn call_of(alloc: Global, words: &str) -> Result<Message, VectorError> {
+fn call_of(alloc: Global, words: &str) -> Result<Message, LineError> {
     let (path, rest) = cut(words);
     let (interface, rest) = cut(rest);
     let (member, rest) = cut(rest);
@@ -136,7 +135,7 @@ fn call_of(alloc: Global, words: &str) -> Result<Message, VectorError> {
 }
 
 /// A text, or nothing for `-`.
-fn field(alloc: Global, word: &str) -> Result<Option<Text>, VectorError> {
+fn field(alloc: Global, word: &str) -> Result<Option<Text>, LineError> {
     match word {
         "-" => Ok(None),
         _ => Ok(Some(Text::copied(alloc, word)?)),
@@ -144,7 +143,7 @@ fn field(alloc: Global, word: &str) -> Result<Option<Text>, VectorError> {
 }
 
 /// Texts with spaces between them as values; `-` is the empty text.
-fn texts(alloc: Global, words: &str) -> Result<List<Value>, VectorError> {
+fn texts(alloc: Global, words: &str) -> Result<List<Value>, LineError> {
     let mut values = List::new(alloc);
     for word in words.split_whitespace() {
         let text = field(alloc, word)?.unwrap_or(Text::new(alloc));
@@ -153,7 +152,7 @@ fn texts(alloc: Global, words: &str) -> Result<List<Value>, VectorError> {
     Ok(values)
 }
 
-fn shown_ask(alloc: Global, ask: &Ask) -> Result<String, VectorError> {
+fn shown_ask(alloc: Global, ask: &Ask) -> Result<String, LineError> {
     match ask {
         Ask::Local(message) => shown_message(alloc, message),
         Ask::Ignore => Ok(String::from_str(alloc, "ignored")?),
@@ -162,10 +161,10 @@ fn shown_ask(alloc: Global, ask: &Ask) -> Result<String, VectorError> {
 }
 
 /// A return with its values, or an error by its name, to the call of serial 7.
-fn shown_message(alloc: Global, message: &OutMessage) -> Result<String, VectorError> {
+fn shown_message(alloc: Global, message: &OutMessage) -> Result<String, LineError> {
     match message {
         OutMessage::Return { to: 7, body } => {
-            let body = shown::values(alloc, body.as_slice())?;
+            let body = values::values(alloc, body.as_slice())?;
             Ok(format!(in alloc; "returns ({body})")?)
         }
         OutMessage::Error { to: 7, name } => Ok(String::from_str(alloc, name.as_str())?),

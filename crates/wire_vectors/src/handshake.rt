@@ -1,6 +1,5 @@
 //! The handshake of a bus connection.
 
-use crate::error::VectorError;
 use dbus_auth::{Auth, AuthAnswer};
 use std::alloc::Global;
 use vector_lines::error::LineError;
@@ -16,7 +15,7 @@ const LONGEST: usize = 1024;
 
 /// `cell LINE`: what the line is answered ahead of OK, during the wait for DATA
 /// and behind OK; and behind each answer the state that it leads to.
-pub fn cell(alloc: Global, rest: &str) -> Result<String, VectorError> {
+pub fn cell(alloc: Global, rest: &str) -> Result<String, LineError> {
     let line = notation::text(alloc, rest)?;
     let line = line.as_slice();
     let mut before_ok = Auth::new(&GUID);
@@ -31,7 +30,7 @@ pub fn cell(alloc: Global, rest: &str) -> Result<String, VectorError> {
 }
 
 /// `talk LINE | LINE ..`: what each line of a client is answered.
-pub fn talk(alloc: Global, rest: &str) -> Result<String, VectorError> {
+pub fn talk(alloc: Global, rest: &str) -> Result<String, LineError> {
     let mut auth = Auth::new(&GUID);
     let mut out = String::new(alloc);
     for (index, line) in rest.split('|').enumerate() {
@@ -44,9 +43,9 @@ pub fn talk(alloc: Global, rest: &str) -> Result<String, VectorError> {
 }
 
 /// What a line is answered, without its CR LF.
-fn say(alloc: Global, auth: &mut Auth, line: &[u8]) -> Result<String, VectorError> {
+fn say(alloc: Global, auth: &mut Auth, line: &[u8]) -> Result<String, LineError> {
     if line.len() > LONGEST {
-        return Err(VectorError::Line(LineError::BadLine));
+        return Err(LineError::BadLine);
     }
     match auth.step(alloc, line)? {
         AuthAnswer::Say(reply) => {
@@ -62,7 +61,7 @@ fn say(alloc: Global, auth: &mut Auth, line: &[u8]) -> Result<String, VectorErro
 /// What a line is answered, and the state behind it. The state is told by two
 /// more lines: BEGIN, which leaves it as it is and isn't early behind OK alone,
 /// and then DATA, which is answered OK during the wait for it alone.
-fn said_and_state(alloc: Global, auth: &mut Auth, line: &[u8]) -> Result<String, VectorError> {
+fn said_and_state(alloc: Global, auth: &mut Auth, line: &[u8]) -> Result<String, LineError> {
     let said = say(alloc, auth, line)?;
     let begin = say(alloc, auth, b"BEGIN")?;
     let data = say(alloc, auth, b"DATA")?;

@@ -1,28 +1,20 @@
-//! Vectors of the wire formats.
+//! Vectors of handshakes and calls of D-Bus, and of frames of FUSE.
 //!
-//! Reads lines from standard input. A line names a call of one of the crates
-//! that read and write D-Bus and FUSE, and what the call is given; its answer is
-//! printed as a line. Empty lines and lines that begin with `#` are printed as
-//! they are, so that the lines of the output stand at the numbers of those of
-//! the input. The modules say which lines there are.
+//! Reads lines from standard input. A line names a call, and what the call is
+//! given; its answer is printed as a line. Empty lines and lines that begin with
+//! `#` are printed as they are, so that the lines of the output stand at the
+//! numbers of those of the input. The modules say which lines there are.
 #![tactic(auto)]
 
 mod calls;
-mod error;
 mod frames;
 mod handshake;
-mod messages;
-mod names;
-mod rules;
-mod shown;
-mod values;
 
-use crate::error::VectorError;
 use std::alloc::Global;
 use std::io;
 use std::io::{BufRead, BufReader};
 use vector_lines::error::LineError;
-use vector_lines::notation::{cut, is_comment, repeated};
+use vector_lines::notation::{cut, debug, is_comment, repeated};
 
 fn main(rt: HostRuntime) -> io::Result<()> {
     let input = BufReader::new(rt.alloc(), rt.reader())?;
@@ -43,24 +35,15 @@ fn main(rt: HostRuntime) -> io::Result<()> {
 fn told(alloc: Global, line: &str) -> io::Result<String> {
     match answer(alloc, line) {
         Ok(text) => Ok(text),
-        Err(error) => Ok(error.told(alloc)?),
+        Err(error) => Ok(debug(alloc, &error)?),
     }
 }
 
 /// The answer of a line.
-fn answer(alloc: Global, line: &str) -> Result<String, VectorError> {
+fn answer(alloc: Global, line: &str) -> Result<String, LineError> {
     let line = repeated(alloc, line)?;
     let (kind, rest) = cut(line.as_str());
     match kind {
-        "name" => names::name(alloc, rest),
-        "signature" => names::signature(alloc, rest),
-        "type" => rules::kind(alloc, rest),
-        "same" => rules::same(alloc, rest),
-        "keeps" => rules::keeps(alloc, rest),
-        "has" => rules::has(alloc, rest),
-        "value" => values::value(alloc, rest),
-        "split" => messages::split_bytes(alloc, rest),
-        "message" => messages::message(alloc, rest),
         "cell" => handshake::cell(alloc, rest),
         "talk" => handshake::talk(alloc, rest),
         "call" => calls::call(alloc, rest),
@@ -80,6 +63,6 @@ fn answer(alloc: Global, line: &str) -> Result<String, VectorError> {
         "names" => frames::names(alloc, rest),
         "dirents" => frames::dirents(alloc, rest),
         "local" => frames::local(alloc, rest),
-        _ => Err(VectorError::Line(LineError::BadLine)),
+        _ => Err(LineError::BadLine),
     }
 }

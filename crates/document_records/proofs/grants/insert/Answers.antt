@@ -10,7 +10,7 @@ pub returns-clause-ok : goal.returns-clause-ok
 returns-clause-ok c =
     c.in_ok-insert.ensures.items
     ∙ (ap (λ (n : ℕ). insert c.args.grants.now.items n c.args.grant) (c.place_of-at.ensures ∙ ap (λ (gs : List Grant). prefix_len (is_before c.args.grant.app c.args.grant.id.number) gs) c.deref.ensures.value)
-    ∙ placed c.args.grant c.args.grants.now.items c.requires)
+    ∙ placed c.args.grant c.args.grants.now.items c.requires.new)
 
 pub insert-requires : goal.insert-requires
 insert-requires c =

@@ -29,8 +29,8 @@ invariant_of-self-2 c =
     rw c.in_ok-insert.ensures.ok
     (kept-new (record { id = c.args.id; app = c.in_ok-replica.field-0; rights = c.args.rights }) c.self.inside.grants.items (sym (ap not c.if-is_empty.ensures)) c.self.invariant)
 
-pub insert-requires : goal.insert-requires
-insert-requires c =
+pub insert-requires-clause-new : goal.insert-requires-clause-new
+insert-requires-clause-new c =
     let none : find (is_of c.args.app.now c.args.id.number) c.self.inside.grants.items ≡ None =
     not-some _ (ap (λ (gs : List Grant). is_some (find (is_of c.args.app.now c.args.id.number) gs)) (sym c.deref.ensures.value)
     ∙ (ap is_some (sym c.find.ensures) ∙ (copied-some c.find.result ∙ sym c.if-is_some.ensures))) in

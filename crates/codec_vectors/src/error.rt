@@ -4,7 +4,6 @@ use dbus_marshal::error::ReadError;
 use dbus_message::error::MessageError;
 use dbus_types::errors::SignatureError;
 use portal_base::memory::WantOfMemory;
-use portal_base::names::NameError;
 use std::alloc::{AllocError, Global};
 use vector_lines::error::LineError;
 use vector_lines::notation::debug;
@@ -49,12 +48,6 @@ impl From<AllocError> for VectorError {
 impl From<WantOfMemory> for VectorError {
     fn from(_error: WantOfMemory) -> VectorError {
         VectorError::Line(LineError::Memory)
-    }
-}
-
-impl From<NameError> for VectorError {
-    fn from(_error: NameError) -> VectorError {
-        VectorError::Line(LineError::BadLine)
     }
 }
 

@@ -1,7 +1,6 @@
 //! Values, read and written.
 
 use crate::error::VectorError;
-use crate::shown;
 use dbus_marshal::read::read_value;
 use dbus_marshal::write::write_value;
 use dbus_types::signature::read_signature;
@@ -10,6 +9,7 @@ use portal_base::list::List;
 use std::alloc::Global;
 use vector_lines::error::LineError;
 use vector_lines::notation::{bytes, cut, digits};
+use vector_lines::values;
 
 /// `value TYPE AT ORDER BYTES`: the value of the type that the bytes spell from
 /// the one at AT on, where numbers have their lowest byte (`l`) or their
@@ -26,7 +26,7 @@ pub fn value(alloc: Global, rest: &str) -> Result<String, VectorError> {
         return Err(VectorError::Line(LineError::BadLine));
     }
     let found = read_value(alloc, endian(order)?, bytes.as_slice(), at, &kind)?;
-    let shown = shown::value(alloc, &found.value)?;
+    let shown = values::value(alloc, &found.value)?;
     let written = written(alloc, at, &found.value)?;
     let next = found.next;
     Ok(format!(in alloc; "{shown} to {next}: {written}")?)

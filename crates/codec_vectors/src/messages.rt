@@ -1,7 +1,6 @@
 //! Messages, cut from a stream and read.
 
 use crate::error::VectorError;
-use crate::shown;
 use dbus_message::error::MessageError;
 use dbus_message::read::read_message;
 use dbus_message::split::split;
@@ -12,6 +11,7 @@ use portal_base::split::Split;
 use portal_base::text::Text;
 use std::alloc::Global;
 use vector_lines::notation::{self, debug};
+use vector_lines::values;
 
 /// `split BYTES`: whether a message stands at the front of the bytes.
 pub fn split_bytes(alloc: Global, rest: &str) -> Result<String, VectorError> {
@@ -70,7 +70,7 @@ fn put_body(alloc: Global, out: &mut String, message: &Message) -> Result<(), Ve
     }
     let kinds = write_signature(alloc, message.signature.as_slice())?;
     let kinds = String::from_utf8_lossy(alloc, kinds.as_slice())?;
-    let body = shown::values(alloc, message.body.as_slice())?;
+    let body = values::values(alloc, message.body.as_slice())?;
     out.push_str(format!(in alloc; " body {kinds} ({body})")?.as_str())?;
     Ok(())
 }

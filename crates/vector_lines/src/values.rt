@@ -1,29 +1,29 @@
-//! Values as texts.
+//! How lines write values of D-Bus.
 
-use crate::error::VectorError;
+use crate::error::LineError;
+use crate::notation::debug;
 use dbus_types::types::Value;
 use portal_base::text::Text;
 use std::alloc::{AllocError, Global};
-use vector_lines::notation::debug;
 
 /// A value as a text: a byte and a double by the digits of their bytes, texts
 /// between quotes, a variant as `<value>`, arrays as `[..]`, structs as
 /// `(..)` and dict entries as `{key: value}`.
-pub fn value(alloc: Global, value: &Value) -> Result<String, VectorError> {
+pub fn value(alloc: Global, value: &Value) -> Result<String, LineError> {
     let mut out = String::new(alloc);
     put(alloc, &mut out, value)?;
     Ok(out)
 }
 
 /// Values with commas between them.
-pub fn values(alloc: Global, values: &[Value]) -> Result<String, VectorError> {
+pub fn values(alloc: Global, values: &[Value]) -> Result<String, LineError> {
     let mut out = String::new(alloc);
     put_all(alloc, &mut out, values)?;
     Ok(out)
 }
 
 #[cycle(put)]
-fn put(alloc: Global, out: &mut String, value: &Value) -> Result<(), VectorError> {
+fn put(alloc: Global, out: &mut String, value: &Value) -> Result<(), LineError> {
     match value {
         Value::Variant(inner) => {
             out.push('<')?;
@@ -53,7 +53,7 @@ fn put(alloc: Global, out: &mut String, value: &Value) -> Result<(), VectorError
 }
 
 #[cycle(put)]
-fn put_all(alloc: Global, out: &mut String, values: &[Value]) -> Result<(), VectorError> {
+fn put_all(alloc: Global, out: &mut String, values: &[Value]) -> Result<(), LineError> {
     for (index, value) in values.iter().enumerate() {
         if index > 0 {
             out.push_str(", ")?;

@@ -1,0 +1,184 @@
+//! Requests of the portal, one after another.
+
+use crate::error::VectorError;
+use crate::opened::{LONGEST, kind, opened_by, who};
+use portal_base::limits::Limits;
+use portal_base::list::List;
+use portal_core::local_desk::LocalDesk;
+use portal_core::portal::Portal;
+use portal_history::History;
+use portal_model::desk::Desk;
+use portal_model::entry::{Entry, Fault, Given};
+use portal_model::reply::{Refused, Reply};
+use portal_model::request::{NodeOp, NodeRequest, Request};
+use std::alloc::Global;
+use vector_lines::error::LineError;
+use vector_lines::notation::{self, cut, debug, number, small_number};
+
+/// `portal LIMIT SCRIPT | REQUEST | REQUEST ..`: what each request is answered by
+/// a portal that the script opens and whose history may cost LIMIT; and then how
+/// many entries the history has, and their cost. A request is `SEAT enter WHO
+/// KIND`, `SEAT leave`, `SEAT collect` or `SEAT getattr NODE FLAGS FH`, the last
+/// by user and group 1000; `desk SEAT REQUEST, REQUEST ..` asks them of one desk
+/// of the seat.
+pub fn portal(alloc: Global, rest: &str) -> Result<String, VectorError> {
+    let (limit, rest) = cut(rest);
+    let mut portal = opened_in(alloc, rest, number(limit)?)?;
+    answered(alloc, &mut portal, rest)
+}
+
+/// What each request behind the script is answered, and the history then.
+fn answered(alloc: Global, portal: &mut Portal, rest: &str) -> Result<String, VectorError> {
+    let replies = asked_in_turn(alloc, portal, rest)?;
+    let history = told(alloc, portal)?;
+    Ok(format!(in alloc; "{replies}{history}")?)
+}
+
+/// A portal that the script ahead of the requests opens.
+fn opened_in(alloc: Global, rest: &str, limit: u64) -> Result<Portal, VectorError> {
+    let script = notation::text(alloc, rest.split(" | ").next().unwrap_or(""))?;
+    if script.len() > LONGEST {
+        return Err(VectorError::Line(LineError::BadLine));
+    }
+    opened_by(alloc, script.as_slice(), limit)
+}
+
+/// How many entries the history has, and their cost.
+fn told(alloc: Global, portal: &Portal) -> Result<String, VectorError> {
+    let entries = portal.history().len();
+    let cost = portal.history().cost();
+    Ok(format!(in alloc; "{entries} entries of {cost}")?)
+}
+
+/// What each request behind the script is answered.
+fn asked_in_turn(alloc: Global, portal: &mut Portal, rest: &str) -> Result<String, VectorError> {
+    let mut out = String::new(alloc);
+    for part in rest.split(" | ").skip(1) {
+        let reply = asked(alloc, portal, part)?;
+        out.push_str(reply.as_str())?;
+        out.push_str(" | ")?;
+    }
+    Ok(out)
+}
+
+/// What one request is answered.
+fn asked(alloc: Global, portal: &mut Portal, part: &str) -> Result<String, VectorError> {
+    if let Some(request) = part.strip_prefix("desk ") {
+        return asked_at_desk(alloc, portal, request);
+    }
+    let (seat, words) = cut(part);
+    let seat = seat_of(seat)?;
+    if seat == 0 {
+        return Err(VectorError::Line(LineError::BadLine));
+    }
+    let request = request_of(alloc, words)?;
+    shown(alloc, portal.ask(alloc, seat, request))
+}
+
+/// What each request of a desk is answered, and how many the desk refused by then.
+fn asked_at_desk(alloc: Global, portal: &mut Portal, part: &str) -> Result<String, VectorError> {
+    let (seat, requests) = cut(part);
+    let seat = seat_of(seat)?;
+    if seat == 0 {
+        return Err(VectorError::Line(LineError::BadLine));
+    }
+    let mut desk = LocalDesk::new(portal, seat);
+    let mut out = String::new(alloc);
+    for (index, words) in requests.split(", ").enumerate() {
+        if index > 0 {
+            out.push_str(", ")?;
+        }
+        out.push_str(asked_once(alloc, &mut desk, words)?.as_str())?;
+    }
+    Ok(out)
+}
+
+/// What one request of a desk is answered, and how many it refused by then.
+fn asked_once(
+    alloc: Global,
+    desk: &mut LocalDesk<Portal>,
+    words: &str,
+) -> Result<String, VectorError> {
+    let reply = desk.ask(alloc, request_of(alloc, words)?);
+    let refusals = desk.refusals();
+    let shown = shown(alloc, reply)?;
+    Ok(format!(in alloc; "{shown} refused {refusals}")?)
+}
+
+fn seat_of(word: &str) -> Result<u32, LineError> {
+    small_number(word)
+}
+
+fn shown(alloc: Global, reply: Result<Reply, Refused>) -> Result<String, VectorError> {
+    match reply {
+        Ok(reply) => {
+            let answer = reply.answer;
+            Ok(debug(alloc, &answer)?)
+        }
+        Err(refused) => Ok(debug(alloc, &refused)?),
+    }
+}
+
+fn request_of(alloc: Global, words: &str) -> Result<Request, VectorError> {
+    let (word, rest) = cut(words);
+    match word {
+        "enter" => {
+            let (name, speaks) = cut(rest);
+            Ok(Request::Enter {
+                who: who(alloc, name)?,
+                kind: kind(speaks)?,
+            })
+        }
+        "leave" => Ok(Request::Leave),
+        "collect" => Ok(Request::Collect),
+        "getattr" => getattr(rest),
+        _ => Err(VectorError::Line(LineError::BadLine)),
+    }
+}
+
+fn getattr(rest: &str) -> Result<Request, VectorError> {
+    let (node, rest) = cut(rest);
+    let (flags, fh) = cut(rest);
+    Ok(Request::Node(NodeRequest {
+        node: number(node)?,
+        uid: 1000,
+        gid: 1000,
+        op: NodeOp::GetAttr {
+            flags: small_number(flags)?,
+            fh: number(fh)?,
+        },
+    }))
+}
+
+/// Limits under which one Collect fills the history.
+const ONE_COLLECT: Limits = Limits {
+    documents: 65_536,
+    made: 1_048_576,
+    history: 128,
+    handles: 1_024,
+    queued: 16,
+    file_bytes: 268_435_456,
+};
+
+/// `history`: how many entries a history has that one Collect fills, once it
+/// went into room that was taken for it; their cost, and the limit.
+pub fn history(alloc: Global) -> Result<String, VectorError> {
+    let mut history = History::new(alloc, &ONE_COLLECT);
+    history.reserve(1)?;
+    history.push(Entry {
+        seat: 7,
+        request: Request::Collect,
+        given: Given {
+            now: None,
+            words: List::new(alloc),
+            numbers: List::new(alloc),
+            looks: List::new(alloc),
+            full: false,
+            fault: Fault::None,
+        },
+    });
+    let entries = history.len();
+    let cost = history.cost();
+    let limit = history.limit();
+    Ok(format!(in alloc; "{entries} entries of {cost} in {limit}")?)
+}
