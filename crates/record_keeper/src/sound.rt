@@ -10,6 +10,7 @@ ghost use Rattle.portal_model.specs.Valid.{is_sound_entry as has_texts, has_text
 ghost use Rattle.record_keeper.specs.SoundRecords.{IsRising, IsSoundEntry, HasDatum, own_table, is_empty_row as is_empty, changed_value as value_of_change, rows_value as value_of_rows, row_value as value_of_row, texts_value as value_of_texts};
 
 use crate::datum::read_datum;
+use crate::keys::keys_rise;
 use dbus_marshal::write::{one_spelling, write_value};
 use dbus_types::shared::Shared;
 use dbus_types::types::{Value, WireType};
@@ -19,7 +20,6 @@ use portal_base::memory::{Replica, WantOfMemory};
 use portal_base::text::Text;
 use portal_model::records::{EntryRecord, Row};
 use std::alloc::Global;
-use std::cmp::Ordering;
 
 /// The longest body of a Changed signal, in bytes: 160 bytes of its message
 /// stand ahead of the body, and a message has at most 16,777,216.
@@ -95,23 +95,6 @@ fn has_empty_row(rows: &[Row]) -> bool
     ensures { result ≡ list_any is_empty rows.now }
 {
     rows.iter().any(|row| is_empty_row(row))
-}
-
-/// Whether each row's key stands behind the one before it, in byte order.
-fn keys_rise(rows: &[Row]) -> bool
-    ensures { IsTrue result ↔ IsRising (map (λ row. row.app) rows.now) }
-{
-    let mut at = 1;
-    while at < rows.len() {
-        if !matches!(
-            rows[at - 1].app.as_bytes().cmp(rows[at].app.as_bytes()),
-            Ordering::Less
-        ) {
-            return false;
-        }
-        at += 1;
-    }
-    true
 }
 
 /// Whether an entry has data, with which the message that tells of the entry

@@ -30,7 +30,8 @@ use Rattle.script_form.specs.declared.script.ScriptLine.{ScriptLine}
 use Rattle.script_form.specs.declared.script.ScriptLine.TheVariants.{File, Doc, Entry}
 use Rattle.script_form.proofs.ScriptFacts.{append_nil}
 use Rattle.script_form.proofs.TextFacts.{no_true, eqb_yes}
-use Rattle.script_form.proofs.WordFacts.{same_from_test, same_refl}
+use Rattle.record_keeper.proofs.NameForms.{same_from_test}
+use Rattle.script_form.proofs.WordFacts.{same_refl}
 
 not_true : (b : Bool) → not b ≡ true → b ≡ false
 not_true true h = cc h

@@ -10,7 +10,6 @@ pub mod error;
 mod grants;
 pub mod laws;
 mod line;
-mod naming;
 pub mod opening;
 pub mod outside;
 mod paths;

@@ -1,14 +1,17 @@
 //! Names in the order in which they first come.
 
-ghost use Rattle.std.specs.Prelude.{◌≡◌, [], true, IfOk, OnOk};
+ghost use Rattle.std.specs.Prelude.{◌≡◌, [], true, length, fold, map, IfOk, OnOk};
+ghost use Rattle.std.specs.List.{All};
 ghost use Rattle.portal_base.specs.Names.{is_app_name};
-ghost use Rattle.script_form.specs.Naming.{also_named};
+ghost use Rattle.record_keeper.specs.Naming.{also_named};
+ghost use Rattle.record_keeper.specs.SoundRecords.{IsGrant};
 
+use crate::name_set::{Name, NameSet};
 use portal_base::list::List;
 use portal_base::memory::WantOfMemory;
 use portal_base::names::NameError;
 use portal_base::names::app_id::AppId;
-use record_keeper::{Name, NameSet};
+use portal_model::records::GrantRecord;
 use std::alloc::Global;
 use std::marker::Model;
 
@@ -44,6 +47,13 @@ impl Named {
         }
     }
 
+    /// How many names there are.
+    pub fn len(&self) -> usize
+        ensures { result ≡ length self.now }
+    {
+        self.names.len()
+    }
+
     /// The names.
     pub fn into_names(self) -> List<AppId>
         ensures { result ≡ self }
@@ -72,6 +82,19 @@ impl Named {
                 Err(error)
             }
         }
+    }
+
+    /// Puts the applications that grants name behind the others, each that is
+    /// new.
+    pub fn add_granted(&mut self, alloc: Global, grants: &[GrantRecord]) -> Result<(), WantOfMemory>
+        requires { All IsGrant grants.now }
+        ensures { OnOk result (self.new
+            ≡ fold also_named self.old (map (λ grant. grant.app) grants.now)) }
+    {
+        for grant in grants {
+            self.add(alloc, grant.app.as_slice())?;
+        }
+        Ok(())
     }
 }
 

@@ -1,5 +1,5 @@
-use Rattle.script_form.proofs.WordFacts.{broken_app}
-use Rattle.script_form.proofs.naming.app_of.Goals as goal
+use Rattle.record_keeper.proofs.NameForms.{broken_app}
+use Rattle.record_keeper.proofs.naming.app_of.Goals as goal
 
 pub unreachable-requires : goal.unreachable-requires
 unreachable-requires c =

@@ -1,8 +1,8 @@
 use Rattle.std.proofs.Common.{◌≡◌, sym, ◌∙◌, ap, List, ℕ}
 use Rattle.std.specs.List.{list_any}
 use Rattle.portal_base.specs.Names.{is_same}
-use Rattle.script_form.proofs.NamingFacts.{named_with}
-use Rattle.script_form.proofs.naming.Named.add.Goals as goal
+use Rattle.record_keeper.proofs.NamingFacts.{named_with}
+use Rattle.record_keeper.proofs.naming.Named.add.Goals as goal
 
 pub invariant_of-self-in-Ok : goal.invariant_of-self-in-Ok
 invariant_of-self-in-Ok c = λ name.
