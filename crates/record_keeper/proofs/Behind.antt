@@ -1,7 +1,7 @@
 -- Items that are good behind those before them.
-use Rattle.std.proofs.Common.{◌≡◌, ℕ, ◌+◌, ◌<◌, ◌≤◌, List, [], ◌∷◌, ◌++◌, length, take, drop, get_or, suc, refl, sym, ap, ◌∙◌, arith, append_assoc, length-take, add-one}
+use Rattle.std.proofs.Common.{◌≡◌, ℕ, ◌+◌, ◌<◌, ◌≤◌, List, [], ◌∷◌, ◌++◌, length, take, drop, get_or, suc, refl, sym, ap, ◌∙◌, arith, append_assoc, length-take}
 use Rattle.std.proofs.Math.Seq.{drop-cons}
-use Rattle.std.proofs.lemmas.List.{take_more, take_all, take-append-drop, length-append}
+use Rattle.std.proofs.lemmas.List.{take_more, take-append-drop}
 use Rattle.record_keeper.specs.BadRecords.{EachBehind, AllGood, IsFirstBad}
 use Rattle.record_keeper.proofs.Stopped.{append_nil}
 

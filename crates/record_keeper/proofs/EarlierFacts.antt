@@ -1,11 +1,11 @@
 -- What the check of records keeps, behind one record more.
-use Rattle.std.proofs.Common.{◌≡◌, ℕ, ◌+◌, ◌<◌, ◌≤◌, Bool, true, false, not, ◌||◌, ◌&&◌, List, [], ◌∷◌, ◌++◌, length, leb, eqb, refl, sym, ap, ◌∙◌, arith}
+use Rattle.std.proofs.Common.{◌≡◌, ℕ, ◌+◌, ◌<◌, ◌≤◌, Bool, true, false, not, ◌||◌, ◌&&◌, List, [], ◌∷◌, ◌++◌, length, leb, refl, sym, ap, ◌∙◌, arith}
 use Rattle.std.specs.Prelude.{◌==◌, fold}
 use Rattle.std.specs.BTreeMap.{is_at}
 use Rattle.std.specs.BTreeSet.{contains, insert_key}
 use Rattle.std.specs.Cmp.{unsigned_ties}
 use Rattle.std.specs.Cmp.Lexicographic.{nat_list_eq_equiv}
-use Rattle.std.specs.List.{list_any, list_all}
+use Rattle.std.specs.List.{list_any}
 use Rattle.std.specs.Ordering.{nat_cmp}
 use Rattle.std.proofs.lemmas.Bool.{and_parts}
 use Rattle.std.proofs.lemmas.Bool.Decides.{nat_tests}
@@ -17,8 +17,8 @@ use Rattle.portal_model.specs.RecordChanges.{is_numbered, is_of_key}
 use Rattle.portal_model.specs.Valid.{is_text}
 use Rattle.portal_model.specs.declared.records.DocRecord.{DocRecord}
 use Rattle.portal_model.specs.declared.records.EntryRecord.{EntryRecord}
-use Rattle.record_keeper.specs.BadRecords.{IsGoodDocument, IsGoodEntry, names_granted, applications_of}
-use Rattle.record_keeper.specs.Earlier.{KeepsDocuments, TakesDocument, KeepsKeys, TakesEntry, key_text}
+use Rattle.record_keeper.specs.BadRecords.{names_granted, applications_of}
+use Rattle.record_keeper.specs.Earlier.{KeepsDocuments, TakesDocument, TakesEntry, key_text}
 use Rattle.record_keeper.specs.Naming.{also_named}
 use Rattle.record_keeper.specs.SoundRecords.{IsSoundDocument, IsSoundEntry}
 use Rattle.record_keeper.specs.declared.earlier.EarlierDocuments.{EarlierDocuments}
@@ -102,8 +102,7 @@ found_same table id entry text other =
 pub entry_taken : (old new : List (List ℕ)) (entry : EntryRecord) (key : List ℕ) → IsSoundEntry entry → key ≡ key_text entry.table entry.id
     → list_any (is_same key) old ≡ false → ((test : List ℕ → Bool) → list_any test new ≡ (test key || list_any test old)) → TakesEntry old entry new true
 entry_taken old new entry key sound is fresh wider = λ earlier kept.
-    let text = (and_parts (is_text entry.table) _ sound.texts).0 in
-    (
+    let text = (and_parts (is_text entry.table) _ sound.texts).0 in (
       record { itself = sound; new = sym (kept entry.table entry.id text) ∙ ap (λ (k : List ℕ). list_any (is_same k) old) (sym is) ∙ fresh },
       λ table id plain. more (is_of_key table id) earlier entry _ (is_same (key_text table id) key)
           (found_same table id entry plain text ∙ ap (is_same (key_text table id)) (sym is))

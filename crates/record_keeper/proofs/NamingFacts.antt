@@ -1,7 +1,7 @@
 -- Collecting names one by one gives each where it first stands.
 use Rattle.std.proofs.Common.{◌≡◌, ℕ, Bool, true, false, ◌||◌, List, [], ◌∷◌, ◌++◌, cond, refl, sym, ap, ◌∙◌, append_assoc, not}
 use Rattle.std.specs.Prelude.{fold}
-use Rattle.std.specs.List.{list_any, filter, flat_map}
+use Rattle.std.specs.List.{list_any, filter}
 use Rattle.std.proofs.lemmas.Grind.{flat_map-append}
 use Rattle.std.proofs.lemmas.List.Folds.{list_any-append}
 use Rattle.std.specs.Cmp.Lexicographic.{nat_list_eq_equiv}

@@ -14,6 +14,7 @@
 //! | `in_memory` | [`MemoryKeeper`], with its list of failing calls |
 //! | `changes` | what each change does to records |
 //! | `sound`, `datum` | which entries may be kept, and the value of one |
+//! | `changed_signal` | how long the message is that tells of an entry |
 //! | `sound_document` | which documents may be kept |
 //! | `fault` | what is wrong with kept records: [`records_fault`] |
 //! | `earlier` | what that check keeps of the records that it has passed |
@@ -28,6 +29,7 @@
 //! ```
 #![tactic(auto)]
 
+mod changed_signal;
 mod changes;
 mod datum;
 mod earlier;

@@ -1,4 +1,4 @@
-use Rattle.std.proofs.Common.{◌≡◌, sym, ◌∙◌, ap, List, ℕ}
+use Rattle.std.proofs.Common.{sym, ◌∙◌, ap}
 use Rattle.std.specs.List.{list_any}
 use Rattle.portal_base.specs.Names.{is_same}
 use Rattle.record_keeper.proofs.NamingFacts.{named_with}
