@@ -12,3 +12,5 @@ pub mod TrackFacts
 pub mod NamingFacts
 pub mod SoundFacts
 pub mod OneWay
+pub mod RecordsFacts
+pub mod WrittenFacts

@@ -8,6 +8,7 @@
 
 pub mod error;
 mod grants;
+mod joined;
 pub mod laws;
 mod line;
 pub mod opening;
@@ -18,5 +19,6 @@ pub mod reader;
 mod rows;
 pub mod script;
 mod words;
+pub mod writer;
 
 pub use words::read_number;
