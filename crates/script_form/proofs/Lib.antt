@@ -9,7 +9,7 @@ pub mod RowFacts
 pub mod SameFacts
 pub mod ScriptFacts
 pub mod TrackFacts
-pub mod NamingFacts
+pub mod NamedInLines
 pub mod SoundFacts
 pub mod OneWay
 pub mod RecordsFacts
