@@ -11,5 +11,5 @@ pub mod NextLineMayRun
 pub mod OneOutput
 pub mod RunLines
 pub mod RunLine
-pub mod Running
-pub mod Counting
+pub mod ReplayScript
+pub mod Counts

@@ -9,7 +9,7 @@
 //! | Room | Holds |
 //! |---|---|
 //! | `tree` | the trait [`HostTree`] and its answers |
-//! | `in_memory` | [`MemoryTree`], with its list of failing calls, and [`QuietTree`], which never fails |
+//! | `in_memory` | [`MemoryTree`], whose told calls fail, and [`QuietTree`], which never fails |
 //! | `files` | the files of a tree in memory, by path |
 //!
 //! ```text

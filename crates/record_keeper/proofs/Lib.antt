@@ -1,4 +1,9 @@
+pub mod Behind
+pub mod EarlierFacts
 pub mod Firsts
+pub mod NameForms
 pub mod NameSets
+pub mod NamingFacts
+pub mod OneIsWrong
 pub mod Rising
 pub mod Stopped

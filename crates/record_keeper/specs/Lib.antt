@@ -1,5 +1,9 @@
+pub mod BadRecords
 pub mod Devices
+pub mod Earlier
 pub mod Keepers
-pub mod SoundRecords
+pub mod Laws
 pub mod NameOrder
+pub mod Naming
 pub mod Reading
+pub mod SoundRecords

@@ -1,7 +1,7 @@
 -- Which records may be kept: what each of them keeps by itself. The terms are those of the
 -- documentation of org.freedesktop.impl.portal.PermissionStore, where an entry is of a table and an
 -- identifier.
-use Rattle.std.specs.Prelude.{◌≡◌, ℕ, ◌+◌, ◌≤◌, false, true, Bool, List, [], ◌∷◌, length, map, codes, All}
+use Rattle.std.specs.Prelude.{◌≡◌, ℕ, ◌+◌, ◌≤◌, false, true, Bool, List, [], ◌∷◌, map, codes, All}
 use Rattle.std.specs.List.{list_any}
 use Rattle.std.specs.Cmp.Lexicographic.{slice_cmp}
 use Rattle.std.specs.Ordering.{nat_cmp}
@@ -11,8 +11,8 @@ use Rattle.dbus_types.specs.declared.types.WireType.TheVariants as W
 use Rattle.dbus_types.specs.declared.types.Value.{Value, fold-Value}
 use Rattle.dbus_types.specs.declared.types.Value.TheVariants as V
 use Rattle.dbus_types.specs.declared.types.Value.TheOpen.{Value-F}
-use Rattle.dbus_types.specs.Spells.{Spells}
-use Rattle.dbus_types.specs.Spelling.{spelling}
+use Rattle.dbus_types.specs.Spells.{Spells, gap}
+use Rattle.dbus_types.specs.Spelling.{spelled_length}
 use Rattle.portal_base.specs.Names.{is_app_name, is_host_path, is_same}
 use Rattle.portal_model.specs.Valid.{is_sound_entry, is_none}
 use Rattle.portal_model.specs.declared.records.DocRecord.{DocRecord}
@@ -78,16 +78,26 @@ abbrev pub changed_value : EntryRecord → Value → Value
 changed_value entry datum = V.Struct (V.Str entry.table ∷ V.Str entry.id ∷ V.Bool false ∷ datum
     ∷ rows_value entry.rows ∷ [])
 
--- How many bytes the header of this signal has: 12 of fixed fields, 4 of the length of the array of
--- header fields, which go from 16 to 160: PATH /org/freedesktop/impl/portal/PermissionStore to 69,
--- INTERFACE org.freedesktop.impl.portal.PermissionStore from 72 to 124, MEMBER Changed from 128 to
--- 144, SIGNATURE ssbva{sas} to 160. D-Bus Specification, "Message Format".
+-- a field of a message's header with its code: D-Bus Specification, "Header Fields"
+abbrev pub header_field : ℕ → Value → Value
+header_field code value = V.Struct (V.Byte code ∷ V.Variant value ∷ [])
+
+-- the header fields of this signal: PATH, INTERFACE, MEMBER and SIGNATURE
+abbrev pub changed_fields : Value
+changed_fields = V.Array (W.Struct (W.Byte ∷ W.Variant ∷ []))
+    (header_field 1 (V.ObjectPath (codes "/org/freedesktop/impl/portal/PermissionStore"))
+    ∷ header_field 2 (V.Str (codes "org.freedesktop.impl.portal.PermissionStore"))
+    ∷ header_field 3 (V.Str (codes "Changed"))
+    ∷ header_field 8 (V.Signature (codes "ssbva{sas}")) ∷ [])
+
+-- How many bytes stand ahead of its body: 12 of the fixed fields, the array of the header fields
+-- behind them, and zero bytes up to a multiple of 8. D-Bus Specification, "Message Format".
 abbrev pub changed_header : ℕ
-changed_header = 160
+changed_header = let fields = 12 + spelled_length 12 changed_fields in fields + gap 8 fields
 
 -- how many bytes the message of this signal has
 abbrev pub changed_length : EntryRecord → Value → ℕ
-changed_length entry datum = changed_header + length (spelling Little 0 (changed_value entry datum))
+changed_length entry datum = changed_header + spelled_length 0 (changed_value entry datum)
 
 -- the longest message of a connection, in bytes
 abbrev pub message_limit : ℕ

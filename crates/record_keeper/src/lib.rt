@@ -5,7 +5,8 @@
 //! are made all or not at all, each as its definition says: an added document goes
 //! last, changed grants and an old entry stay in their place. `Failed` and
 //! `Memory` change nothing. An entry of the permission store is told to be sound
-//! exactly where it may be kept, as far as that depends on it alone.
+//! exactly where it may be kept, as far as that depends on it alone. What is wrong
+//! with kept records is told exactly: their version, or the first that is bad.
 //!
 //! | Room | Holds |
 //! |---|---|
@@ -13,7 +14,14 @@
 //! | `in_memory` | [`MemoryKeeper`], with its list of failing calls |
 //! | `changes` | what each change does to records |
 //! | `sound`, `datum` | which entries may be kept, and the value of one |
+//! | `changed_signal` | how long the message is that tells of an entry |
+//! | `sound_document` | which documents may be kept |
+//! | `fault` | what is wrong with kept records: [`records_fault`] |
+//! | `earlier` | what that check keeps of the records that it has passed |
 //! | `name_set` | names that were seen, in order |
+//! | `naming` | names as they first come |
+//! | `keys` | whether keys rise |
+//! | `laws` | what is true of all records |
 //!
 //! ```text
 //! let mut keeper = MemoryKeeper::new(alloc, records, List::new(alloc))?;
@@ -21,15 +29,25 @@
 //! ```
 #![tactic(auto)]
 
+mod changed_signal;
 mod changes;
 mod datum;
+mod earlier;
+mod fault;
 mod in_memory;
 mod keeper;
+mod keys;
+pub mod laws;
 mod name_set;
+mod naming;
 mod sound;
+mod sound_document;
 
 pub use datum::{holds_handle, read_datum};
+pub use fault::{RECORDS_VERSION, RecordsFault, records_fault};
 pub use in_memory::MemoryKeeper;
 pub use keeper::{Keeper, KeeperDone, KeeperLoad};
 pub use name_set::{Name, NameSet};
+pub use naming::Named;
 pub use sound::is_sound_entry;
+pub use sound_document::is_sound_document;

@@ -1,29 +1,22 @@
 //! Which records may be kept.
 
-ghost use Rattle.std.specs.Prelude.{◌≡◌, ◌≤◌, ◌↔◌, IfOk, IsTrue, length, map, codes};
+ghost use Rattle.std.specs.Prelude.{◌≡◌, ◌↔◌, IfOk, IsTrue};
 ghost use Rattle.std.specs.List.{list_any, list_all};
-ghost use Rattle.dbus_types.specs.declared.types.Endian.TheVariants.{Little};
 ghost use Rattle.dbus_types.specs.declared.types.Value.{Value as Value'};
-ghost use Rattle.dbus_types.specs.Spelling.{spelling};
-ghost use Rattle.portal_base.specs.Names.{is_same};
 ghost use Rattle.portal_model.specs.Valid.{is_sound_entry as has_texts, has_texts as row_has_texts, is_text as is_text_of};
-ghost use Rattle.record_keeper.specs.SoundRecords.{IsRising, IsSoundEntry, HasDatum, own_table, is_empty_row as is_empty, changed_value as value_of_change, rows_value as value_of_rows, row_value as value_of_row, texts_value as value_of_texts};
+ghost use Rattle.record_keeper.specs.SoundRecords.{IsSoundEntry, HasDatum, is_empty_row as is_empty};
 
+use crate::changed_signal::message_length;
 use crate::datum::read_datum;
-use dbus_marshal::write::{one_spelling, write_value};
-use dbus_types::shared::Shared;
-use dbus_types::types::{Value, WireType};
-use portal_base::boxed::Boxed;
-use portal_base::list::List;
-use portal_base::memory::{Replica, WantOfMemory};
+use crate::keys::keys_rise;
+use dbus_marshal::write::one_spelling;
+use portal_base::memory::WantOfMemory;
 use portal_base::text::Text;
 use portal_model::records::{EntryRecord, Row};
 use std::alloc::Global;
-use std::cmp::Ordering;
 
-/// The longest body of a Changed signal, in bytes: 160 bytes of its message
-/// stand ahead of the body, and a message has at most 16,777,216.
-const LONGEST_BODY: usize = 16_777_056;
+/// The longest message of a connection, in bytes.
+const LONGEST_MESSAGE: usize = 16_777_216;
 
 /// Whether an entry may be kept, as far as that depends on it alone: its texts
 /// have no zero byte, its table isn't `documents`, its rows stand in rising
@@ -97,23 +90,6 @@ fn has_empty_row(rows: &[Row]) -> bool
     rows.iter().any(|row| is_empty_row(row))
 }
 
-/// Whether each row's key stands behind the one before it, in byte order.
-fn keys_rise(rows: &[Row]) -> bool
-    ensures { IsTrue result ↔ IsRising (map (λ row. row.app) rows.now) }
-{
-    let mut at = 1;
-    while at < rows.len() {
-        if !matches!(
-            rows[at - 1].app.as_bytes().cmp(rows[at].app.as_bytes()),
-            Ordering::Less
-        ) {
-            return false;
-        }
-        at += 1;
-    }
-    true
-}
-
 /// Whether an entry has data, with which the message that tells of the entry
 /// is short enough.
 fn has_datum(alloc: Global, entry: &EntryRecord) -> Result<bool, WantOfMemory>
@@ -123,73 +99,5 @@ fn has_datum(alloc: Global, entry: &EntryRecord) -> Result<bool, WantOfMemory>
         return Ok(false);
     };
     one_spelling();
-    Ok(body_length(alloc, entry, datum)? <= LONGEST_BODY)
-}
-
-/// How long the body of the Changed signal of an entry is.
-fn body_length(alloc: Global, entry: &EntryRecord, datum: Value) -> Result<usize, WantOfMemory>
-    ensures { IfOk result (λ bytes. bytes
-        ≡ length (spelling Little 0 (value_of_change entry.now datum))) }
-{
-    let value = changed_value(alloc, entry, datum)?;
-    let mut body = List::new(alloc);
-    write_value(&mut body, &value)?;
-    Ok(body.len())
-}
-
-/// The values of the Changed signal of an entry.
-fn changed_value(alloc: Global, entry: &EntryRecord, datum: Value) -> Result<Value, WantOfMemory>
-    ensures { IfOk result (λ value. value ≡ value_of_change entry.now datum) }
-{
-    let mut values = List::new(alloc);
-    values.push(Value::Str(entry.table.replica(alloc)?))?;
-    values.push(Value::Str(entry.id.replica(alloc)?))?;
-    values.push(Value::Bool(false))?;
-    values.push(datum)?;
-    values.push(rows_value(alloc, entry.rows.as_slice())?)?;
-    Ok(Value::Struct(values))
-}
-
-/// Rows as a value of type `a{sas}`.
-fn rows_value(alloc: Global, rows: &[Row]) -> Result<Value, WantOfMemory>
-    ensures { IfOk result (λ value. value ≡ value_of_rows rows.now) }
-{
-    let mut items = List::new(alloc);
-    for row in rows {
-        items.push(row_value(alloc, row)?)?;
-    }
-    let names = WireType::Array(Shared::new(alloc, WireType::Str)?);
-    let entry = WireType::DictEntry {
-        key: Boxed::new(alloc, WireType::Str)?,
-        value: Boxed::new(alloc, names)?,
-    };
-    Ok(Value::Array {
-        element: Shared::new(alloc, entry)?,
-        items,
-    })
-}
-
-fn row_value(alloc: Global, row: &Row) -> Result<Value, WantOfMemory>
-    ensures { IfOk result (λ value. value ≡ value_of_row row.now) }
-{
-    let key = Value::Str(row.app.replica(alloc)?);
-    let value = texts_value(alloc, row.names.as_slice())?;
-    Ok(Value::DictEntry {
-        key: Boxed::new(alloc, key)?,
-        value: Boxed::new(alloc, value)?,
-    })
-}
-
-/// Texts as a value of type `as`.
-fn texts_value(alloc: Global, texts: &[Text]) -> Result<Value, WantOfMemory>
-    ensures { IfOk result (λ value. value ≡ value_of_texts texts.now) }
-{
-    let mut items = List::new(alloc);
-    for text in texts {
-        items.push(Value::Str(text.replica(alloc)?))?;
-    }
-    Ok(Value::Array {
-        element: Shared::new(alloc, WireType::Str)?,
-        items,
-    })
+    Ok(message_length(alloc, entry, datum)? <= LONGEST_MESSAGE)
 }

@@ -9,6 +9,8 @@ pub mod RowFacts
 pub mod SameFacts
 pub mod ScriptFacts
 pub mod TrackFacts
-pub mod NamingFacts
+pub mod NamedInLines
 pub mod SoundFacts
 pub mod OneWay
+pub mod RecordsFacts
+pub mod WrittenFacts

@@ -1,7 +1,7 @@
 -- A text is read in one way.
 use Rattle.std.proofs.Common.{◌≡◌, ℕ, ◌+◌, List, [], ◌∷◌, ◌++◌, length, refl, sym, ap, ◌∙◌, append_assoc}
 use Rattle.script_form.specs.Lines.{line_text, text_of}
-use Rattle.script_form.specs.Order.{MayStand, StandBehind, IsScript, NoneStands, IsRead, IsFault}
+use Rattle.script_form.specs.Order.{MayStand, StandBehind, IsScript, IsRead, IsFault}
 use Rattle.script_form.specs.declared.script.ScriptLine.{ScriptLine}
 use Rattle.script_form.proofs.SameFacts.{line_same, line_free}
 use Rattle.script_form.proofs.ScriptFacts.{append_nil}

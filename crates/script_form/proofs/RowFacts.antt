@@ -1,5 +1,5 @@
 -- Facts on the texts of rows.
-use Rattle.std.proofs.Common.{◌≡◌, ◌≢◌, ℕ, ◌≤◌, Bool, true, false, List, [], ◌∷◌, ◌++◌, length, refl, sym, ap, ◌∙◌, arith, map}
+use Rattle.std.proofs.Common.{◌≡◌, ◌≢◌, ℕ, true, false, List, [], ◌∷◌, ◌++◌, length, refl, sym, ap, ◌∙◌, arith, map}
 use Rattle.std.specs.Prelude.{◌==◌, codes}
 use Rattle.std.specs.List.{All, join_with_byte}
 use Rattle.std.proofs.lemmas.List.{length-append}
@@ -7,7 +7,7 @@ use Rattle.std.proofs.lemmas.List.Elements.{All-head, All-tail, All-cons, All-ni
 use Rattle.portal_base.specs.Names.{is_app_name, is_name_byte}
 use Rattle.portal_model.specs.declared.records.Row.{Row}
 use Rattle.script_form.specs.Lines.{row_text, rows_text, IsNamedRow}
-use Rattle.script_form.specs.Reading.{IsFree, CutsAt, AreNames}
+use Rattle.script_form.specs.Reading.{IsFree, CutsAt}
 use Rattle.script_form.proofs.GrantFacts.{name_free}
 use Rattle.script_form.proofs.JoinFacts.{append_free, joined_free, joined_same}
 use Rattle.script_form.proofs.LineFacts.{differ_at}

@@ -8,9 +8,8 @@ use Rattle.std.proofs.lemmas.Bool.{and_parts}
 use Rattle.std.proofs.lemmas.Fmt.{decimal_injective}
 use Rattle.std.proofs.lemmas.List.{length-append}
 use Rattle.std.proofs.lemmas.List.Elements.{All-nil, All-cons, All-head, All-tail, All-append}
-use Rattle.std.proofs.lemmas.List.Sums.{list_all-from_AllPass}
-use Rattle.hex.proofs.HexLemmas.{decode_of-encode_lower, decode_of-same, decode_of-ok, length-encode_with}
-use Rattle.hex.specs.Hex.{lower_digits, is_hex_digit}
+use Rattle.hex.proofs.HexLemmas.{decode_of-encode_lower, decode_of-same, length-encode_with}
+use Rattle.hex.specs.Hex.{lower_digits}
 use Rattle.portal_base.specs.DocIds.{doc_id_of}
 use Rattle.portal_base.specs.Names.{is_app_name, is_host_path, is_doc_id, is_lower_hex, doc_text}
 use Rattle.portal_base.specs.declared.names.doc_id.DocId.{DocId}
@@ -19,10 +18,9 @@ use Rattle.portal_base.specs.declared.who.Kind.TheVariants.{Bus, Mount}
 use Rattle.portal_base.specs.declared.who.Who.{Who}
 use Rattle.portal_base.specs.declared.who.Who.TheVariants.{Host, App}
 use Rattle.portal_model.specs.declared.records.GrantRecord.{GrantRecord}
-use Rattle.portal_model.specs.declared.records.EntryRecord.{EntryRecord}
 use Rattle.portal_model.specs.declared.records.Row.{Row}
 use Rattle.record_keeper.specs.SoundRecords.{IsGrant}
-use Rattle.script_form.specs.Lines.{line_text, KeepsRules, HasNames, IsNamedRow, AreBytes, hex_text, flags_text, grants_text, grant_text, row_text, rows_text, device_text, letters, is_script_path, is_plain, last_seat, kind_text, who_text, IsCaller}
+use Rattle.script_form.specs.Lines.{line_text, KeepsRules, IsNamedRow, AreBytes, hex_text, flags_text, grants_text, grant_text, row_text, rows_text, device_text, letters, is_script_path, is_plain, last_seat, kind_text, who_text, IsCaller}
 use Rattle.script_form.specs.declared.script.Device.{Device}
 use Rattle.script_form.specs.declared.script.Device.TheVariants.{Tree, Keeper}
 use Rattle.script_form.specs.Reading.{IsFree}
@@ -32,7 +30,7 @@ use Rattle.script_form.proofs.GrantFacts.{grant_same, grants_split, grant_free, 
 use Rattle.script_form.proofs.LineFacts.{path_free, seat_free, id_free, id_again, flags_free, kind_free, name_word, device_word, differ_at, apart, is_id}
 use Rattle.script_form.proofs.TextFacts.{free_from, cut_same}
 use Rattle.script_form.proofs.WordFacts.{all_digits, bytes_at, hex_free}
-use Rattle.script_form.proofs.JoinFacts.{append_free, joined_free}
+use Rattle.script_form.proofs.JoinFacts.{joined_free}
 use Rattle.script_form.proofs.RowFacts.{row_free, rows_same}
 
 -- ---- words are written in one way

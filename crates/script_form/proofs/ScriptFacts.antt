@@ -1,9 +1,9 @@
 -- Facts on lists of lines.
-use Rattle.std.proofs.Common.{◌≡◌, ◌≢◌, ℕ, ◌+◌, ◌*◌, ◌<◌, ◌≤◌, Bool, true, false, List, [], ◌∷◌, ◌++◌, length, refl, sym, ap, ◌∙◌, arith, map, Some, None, Option, append_assoc}
-use Rattle.std.specs.Prelude.{not, ◌&&◌, replicate, slice_index_or}
-use Rattle.std.specs.List.{All, flat_map, join_with_byte, list_any}
+use Rattle.std.proofs.Common.{◌≡◌, ◌≢◌, ℕ, ◌+◌, ◌*◌, ◌<◌, ◌≤◌, true, false, List, [], ◌∷◌, ◌++◌, length, refl, sym, ap, ◌∙◌, arith, map, append_assoc}
+use Rattle.std.specs.Prelude.{not, replicate}
+use Rattle.std.specs.List.{All, flat_map, join_with_byte}
 use Rattle.std.proofs.lemmas.Grind.{flat_map-append}
-use Rattle.std.proofs.lemmas.List.{length-append, length-map, get_or-replicate, get_or_default, length-replicate}
+use Rattle.std.proofs.lemmas.List.{length-append, length-map, get_or-replicate, length-replicate}
 use Rattle.std.proofs.lemmas.List.Elements.{All-head, All-tail}
 use Rattle.std.proofs.lemmas.List.Sums.{length-filter, count_by-le-length}
 use Rattle.portal_base.specs.Names.{is_same, doc_text}
@@ -12,16 +12,14 @@ use Rattle.portal_model.specs.Valid.{applications_limit}
 use Rattle.portal_model.specs.declared.opening.OpeningDocument.{OpeningDocument}
 use Rattle.portal_model.specs.declared.records.GrantRecord.{GrantRecord}
 use Rattle.record_keeper.specs.SoundRecords.{IsGrant}
-use Rattle.script_form.specs.Lines.{line_text, text_of, KeepsRules, grant_text, grants_text, flags_text, last_seat}
+use Rattle.script_form.specs.Lines.{line_text, text_of, KeepsRules, grant_text, grants_text, flags_text}
 use Rattle.script_form.specs.Opening.{documents_of, document_in, applications_of}
-use Rattle.script_form.specs.Order.{MayStand, StandBehind, IsScript, NoneStands, IsRead, IsFault, goes_with, opens, closes, script_limit}
+use Rattle.script_form.specs.Order.{MayStand, StandBehind, IsScript, NoneStands, IsRead, IsFault, goes_with, script_limit}
 use Rattle.script_form.specs.Preceding.{Tracks, is_opened, is_closed}
 use Rattle.script_form.specs.Next.{TakesLine}
 use Rattle.script_form.specs.Reading.{CutsAt, IsFree}
-use Rattle.script_form.specs.declared.preceding.Number.{Number}
 use Rattle.script_form.specs.declared.preceding.Preceding.{Preceding}
-use Rattle.script_form.specs.declared.preceding.Number.TheVariants.{Unopened, Closed}
-use Rattle.script_form.specs.declared.preceding.Number.TheVariants as number
+use Rattle.script_form.specs.declared.preceding.Number.TheVariants.{Unopened}
 use Rattle.script_form.specs.declared.script.ScriptLine.{ScriptLine}
 use Rattle.script_form.specs.declared.script.ScriptLine.TheVariants.{Doc}
 use Rattle.script_form.proofs.SameFacts.{grant_long, line_same, line_free}
@@ -32,6 +30,10 @@ append_nil [] = refl
 append_nil (x ∷ xs) = ap (λ (ys : List _). x ∷ ys) (append_nil xs)
 
 -- ---- texts of lists of lines
+
+pub text_empty : text_of [] ≡ []
+unfolding text_of
+text_empty = refl
 
 pub text_push : (lines : List ScriptLine) (line : ScriptLine) → text_of (lines ++ (line ∷ [])) ≡ text_of lines ++ (line_text line ++ (10 ∷ []))
 unfolding text_of

@@ -30,7 +30,8 @@ use Rattle.script_form.specs.declared.script.ScriptLine.{ScriptLine}
 use Rattle.script_form.specs.declared.script.ScriptLine.TheVariants.{File, Doc, Entry}
 use Rattle.script_form.proofs.ScriptFacts.{append_nil}
 use Rattle.script_form.proofs.TextFacts.{no_true, eqb_yes}
-use Rattle.script_form.proofs.WordFacts.{same_from_test, same_refl}
+use Rattle.record_keeper.proofs.NameForms.{same_from_test}
+use Rattle.script_form.proofs.WordFacts.{same_refl}
 
 not_true : (b : Bool) → not b ≡ true → b ≡ false
 not_true true h = cc h
@@ -51,7 +52,7 @@ now p earlier line h = list_any-append p earlier (line ∷ []) ∙ rw h (or_true
 abbrev numbers : List ScriptLine → List ℕ
 numbers lines = map (λ (d : OpeningDocument). d.kept.number) (documents_of lines)
 
-doc_new : (earlier : List ScriptLine) (n : ℕ) (b c : Bool) → (not b && (not (list_any (keeps n) earlier) && c)) ≡ true → list_any (keeps n) earlier ≡ false
+pub doc_new : (earlier : List ScriptLine) (n : ℕ) (b c : Bool) → (not b && (not (list_any (keeps n) earlier) && c)) ≡ true → list_any (keeps n) earlier ≡ false
 doc_new earlier n b c h =
     let parts = and_parts (not b) (not (list_any (keeps n) earlier) && c) h in
     not_true _ (and_parts (not (list_any (keeps n) earlier)) c parts.1).0
@@ -118,7 +119,7 @@ grants_differ [] earlier all = tt
 grants_differ (Doc id reusable path grants ∷ ls) earlier all = (rising_differ (map (λ (g : GrantRecord). g.app) grants) all.0.itself.2.rising, grants_differ ls _ all.1)
 grants_differ (line ∷ ls) earlier all = grants_differ ls _ all.1
 
-doc_room : (earlier : List ScriptLine) (b c : Bool) → (b && (c && nat_lt (count_by is_doc earlier) document_limit)) ≡ true → count_by is_doc earlier < 65536
+pub doc_room : (earlier : List ScriptLine) (b c : Bool) → (b && (c && nat_lt (count_by is_doc earlier) document_limit)) ≡ true → count_by is_doc earlier < 65536
 doc_room earlier b c h = ltb-true _ _ (and_parts c _ (and_parts b _ h).1).1
 
 count_push : (line : ScriptLine) (earlier : List ScriptLine) → count_by is_doc (earlier ++ (line ∷ [])) ≡ count_by is_doc earlier + count_by is_doc (line ∷ [])
@@ -145,7 +146,7 @@ applications_few (line ∷ ls) earlier few all = rw (← append_assoc earlier (l
 abbrev Stored : EntryRecord → List ScriptLine → Type 0
 Stored e earlier = (f : EntryRecord) → same_entry e f ≡ true → list_any (stores f.table f.id) earlier ≡ true
 
-entry_new : (earlier : List ScriptLine) (f : EntryRecord) (b : Bool) → (b && not (list_any (stores f.table f.id) earlier)) ≡ true → list_any (stores f.table f.id) earlier ≡ false
+pub entry_new : (earlier : List ScriptLine) (f : EntryRecord) (b : Bool) → (b && not (list_any (stores f.table f.id) earlier)) ≡ true → list_any (stores f.table f.id) earlier ≡ false
 entry_new earlier f b h = not_true _ (and_parts b _ h).1
 
 later_entries : (e : EntryRecord) (lines earlier : List ScriptLine) → Stored e earlier → StandBehind earlier lines → AllByRecursion (λ f. same_entry e f ≡ false) (entries_of lines)

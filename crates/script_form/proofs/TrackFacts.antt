@@ -1,10 +1,10 @@
 -- What is kept beside the lines says of them what it is kept for, also behind one more line.
-use Rattle.std.proofs.Common.{◌≡◌, ◌≢◌, ℕ, ◌+◌, ◌<◌, ◌≤◌, Bool, true, false, not, ◌&&◌, ◌||◌, List, [], ◌∷◌, ◌++◌, length, cond, refl, sym, ap, ◌∙◌, arith, subst, inl, inr}
+use Rattle.std.proofs.Common.{◌≡◌, ◌≢◌, ℕ, ◌+◌, ◌<◌, ◌≤◌, Bool, true, false, not, ◌&&◌, ◌||◌, List, [], ◌∷◌, ◌++◌, length, cond, refl, sym, ap, ◌∙◌, arith, subst}
 use Rattle.std.specs.Prelude.{◌==◌, slice_index_or, slice_set, count_by}
 use Rattle.std.specs.BTreeMap.{is_at}
 use Rattle.std.specs.BTreeSet.{contains, insert_key}
 use Rattle.std.specs.List.{list_any}
-use Rattle.std.specs.Ordering.{nat_cmp, eq_by_cmp}
+use Rattle.std.specs.Ordering.{nat_cmp}
 use Rattle.std.specs.Cmp.{unsigned_ties}
 use Rattle.std.proofs.lemmas.Bool.{and_parts}
 use Rattle.std.proofs.lemmas.Bool.Decides.{nat_tests}
@@ -13,20 +13,19 @@ use Rattle.std.proofs.lemmas.List.Folds.{list_any-append}
 use Rattle.std.proofs.lemmas.List.Sums.{sum_by-append}
 use Rattle.std.specs.Cmp.Lexicographic.{bytes_decides}
 use Rattle.portal_base.specs.Names.{is_same, is_app_name}
-use Rattle.portal_model.specs.RecordChanges.{is_of_key}
 use Rattle.portal_model.specs.declared.records.EntryRecord.{EntryRecord}
 use Rattle.script_form.specs.Lines.{KeepsRules, last_seat}
 use Rattle.script_form.specs.Order.{is_open, opens, closes, is_doc, keeps, stores, clashes, goes_with}
 use Rattle.script_form.specs.Paths.{clash}
-use Rattle.script_form.specs.Preceding.{Tracks, Notes, HasMore, is_opened, is_closed, key_text}
+use Rattle.script_form.specs.Preceding.{Tracks, Notes, is_opened, is_closed, key_text}
 use Rattle.script_form.specs.declared.preceding.Number.{Number}
 use Rattle.script_form.specs.declared.preceding.Number.TheVariants as number
 use Rattle.script_form.specs.declared.preceding.Preceding.{Preceding}
 use Rattle.script_form.specs.declared.script.ScriptLine.{ScriptLine}
-use Rattle.script_form.specs.declared.script.ScriptLine.TheVariants.{File, Doc, Entry, Fail, Word, Now, Open, Data, Close}
+use Rattle.script_form.specs.declared.script.ScriptLine.TheVariants.{File, Doc, Entry, Open, Close}
 use Rattle.script_form.proofs.LineFacts.{name_word}
 use Rattle.script_form.proofs.SetFacts.{any_inserted}
-use Rattle.script_form.proofs.TextFacts.{cut_same, eqb_yes, no_true}
+use Rattle.script_form.proofs.TextFacts.{cut_same, no_true}
 
 or_none : (b : Bool) → (b || (false || false)) ≡ b
 or_none true = refl

@@ -1,33 +1,34 @@
 -- Facts on words.
-use Rattle.std.proofs.Common.{◌≡◌, ◌≢◌, ℕ, ◌+◌, ◌*◌, ◌/◌, ◌%◌, ◌^◌, ◌<◌, ◌≤◌, ◌&&◌, ◌⊎◌, inl, inr, Bool, true, false, List, [], ◌∷◌, ◌++◌, length, take, drop, refl, sym, ap, eqb, ◌∙◌, arith, zero, suc, get_or}
-use Rattle.std.specs.Prelude.{codes, nat_le, nat_eq, if◌then◌else◌}
+use Rattle.std.proofs.Common.{◌≡◌, ◌≢◌, ℕ, ◌+◌, ◌%◌, ◌^◌, ◌<◌, ◌≤◌, ◌&&◌, ◌⊎◌, inl, inr, Bool, true, false, List, [], ◌∷◌, length, refl, sym, ap, eqb, ◌∙◌, arith, zero, suc, get_or}
+use Rattle.std.specs.Prelude.{codes, nat_eq}
 use Rattle.std.specs.Cmp.Lexicographic.{pointwise}
 use Rattle.std.specs.Char.{is_ascii_digit}
 use Rattle.std.specs.Fmt.{decimal}
 use Rattle.std.specs.List.{list_all}
 use Rattle.std.specs.Prelude.{Ok, Err}
-use Rattle.std.proofs.lemmas.Bool.{lt-leb, cases_lt, and_parts, eqb-true}
+use Rattle.std.proofs.lemmas.Bool.{cases_lt, and_parts, eqb-true}
 use Rattle.std.proofs.lemmas.Bool.Decides.{nat_tests}
 use Rattle.std.specs.Prelude.{not, ◌==◌}
-use Rattle.std.proofs.Common.{lit<, add-one, zero-add, length-take, ◌-◌, ◌≢◌}
+use Rattle.std.proofs.Common.{lit<, ◌≢◌}
 use Rattle.std.proofs.lemmas.Fmt.{decimal_by_steps, decimal_digit, decimal_injective, first_decimal, decimal_nonempty, decimal-digits_value, parse-decimal, IsAscii-decimal}
 use Rattle.std.proofs.lemmas.Grind.{get_or_default_zero}
-use Rattle.std.proofs.lemmas.List.{take-append-drop, get_or_past, take_more, take_all}
+use Rattle.std.proofs.lemmas.List.{get_or_past}
 use Rattle.std.proofs.lemmas.List.Folds.{list_all-append}
-use Rattle.std.proofs.lemmas.List.Sums.{AllPass-from_list_all, list_all-from_AllPass}
+use Rattle.std.proofs.lemmas.List.Sums.{list_all-from_AllPass}
 use Rattle.std.specs.Str.{IsUtf8, IsAscii, all_ascii_digits}
 use Rattle.std.specs.Str.Parse.{digits_value, ParsesUnsigned}
 use Rattle.std.proofs.lemmas.Str.{IsUtf8-from_ascii}
 use Rattle.std.proofs.lemmas.Str.Ascii.{IsAscii-nil, IsAscii-cons}
 use Rattle.std.proofs.lemmas.Str.Parse.{IsNumeralModel, numerals_by_value, tells_all_ascii_digits, parse_digits}
 use Rattle.script_form.specs.Reading.{are_digits, leads_with_zero}
-use Rattle.portal_base.specs.Names.{IsFirstBreak, has_app_form, app_limit, has_path_form, path_limit, is_app_name, is_host_path, is_name_byte, is_nothing_or_dots}
+use Rattle.portal_base.specs.Names.{has_app_form, is_app_name, is_name_byte, is_nothing_or_dots}
 use Rattle.std.proofs.lemmas.List.Elements.{All-nil, All-cons}
 use Rattle.script_form.specs.Reading.{IsFree, IsSeat}
 use Rattle.script_form.proofs.TextFacts.{free_from}
 use Rattle.hex.specs.Hex.{is_hex_digit, IsBytes, decode_of, encode_lower, encode_with}
 use Rattle.hex.proofs.HexLemmas.{decode_of-encode_lower, decode_of-ok}
 use Rattle.script_form.specs.Lines.{hex_text, AreBytes}
+use Rattle.record_keeper.proofs.NameForms.{same_from_test}
 
 and_false : (b : Bool) → (b && false) ≡ false
 and_false true = refl
@@ -36,29 +37,6 @@ and_false false = refl
 no_true : (b : Bool) → (b ≡ true → ⊥) → b ≡ false
 no_true true h = absurd (h refl)
 no_true false h = refl
-
--- a text that breaks a rule at some place isn't of that form, or passes the limit
-broken : (has_form : List ℕ → Bool) (limit : ℕ) (t : List ℕ) (n : ℕ) → IsFirstBreak has_form limit t n
-    → (has_form t && nat_le (length t) limit) ≡ false
-broken has_form limit t n b = elim b.here [
-  | inl ended ↦ rw (ended.1) refl
-  | inr inside ↦ elim inside.1 [
-    | inl past ↦
-        let long : limit < length t = omega arith in
-        rw (lt-leb (length t) limit long) (and_false (has_form t))
-    | inr none ↦
-        let other : has_form t ≡ false = no_true (has_form t) (λ h. none (drop (n + 1) t, rw take-append-drop h)) in
-        rw other refl
-  ]
-]
-
-pub broken_path : (t : List ℕ) (n : ℕ) → IsFirstBreak has_path_form path_limit t n → is_host_path t ≡ false
-unfolding is_host_path
-broken_path t n b = broken has_path_form path_limit t n b
-
-pub broken_app : (t : List ℕ) (n : ℕ) → IsFirstBreak has_app_form app_limit t n → is_app_name t ≡ false
-unfolding is_app_name
-broken_app t n b = broken has_app_form app_limit t n b
 
 -- ---- bytes
 
@@ -164,16 +142,6 @@ digit_word (b ∷ c ∷ bs) h = by (b == 48) refl (rw (not_none (suc (length bs)
     by : (t : Bool) → (b == 48) ≡ t → (not t && list_all is_ascii_digit (b ∷ c ∷ bs)) ≡ true → DigitWord (b ∷ c ∷ bs)
     by true e h = absurd (cc h)
     by false e h = record { some = omega arith; all = h; single = λ same. absurd (grind (arith, nat_tests)) }
-
-pub same_from_test : (a b : List ℕ) → pointwise nat_eq a b ≡ true → a ≡ b
-same_from_test [] [] h = refl
-same_from_test [] (y ∷ ys) h = cc h
-same_from_test (x ∷ xs) [] h = cc h
-same_from_test (x ∷ xs) (y ∷ ys) h =
-    let parts = and_parts (eqb x y) (pointwise nat_eq xs ys) h in
-    let head : x ≡ y = eqb-true x y parts.0 in
-    let rest = same_from_test xs ys parts.1 in
-    cc (head, rest)
 
 pub not_differ : (a b : List ℕ) → true ≡ not (pointwise nat_eq a b) → a ≡ b → ⊥
 not_differ a b test e =

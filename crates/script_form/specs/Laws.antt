@@ -1,6 +1,9 @@
 -- What is true of every script.
 use Rattle.std.specs.Prelude.{◌≡◌, ℕ, List}
+use Rattle.portal_base.specs.declared.limits.Limits.{Limits}
+use Rattle.record_keeper.specs.BadRecords.{AreGood}
 use Rattle.script_form.specs.Lines.{text_of}
+use Rattle.script_form.specs.Opening.{records_of, HoldsScripts}
 use Rattle.script_form.specs.Order.{IsRead, IsFault, IsScript}
 use Rattle.script_form.specs.declared.script.ScriptLine.{ScriptLine}
 
@@ -22,3 +25,8 @@ ReadOrRefused = (text : List ℕ) (lines : List ScriptLine) (number : ℕ) → I
 -- what a script's lines are written as is that script, whole
 abbrev pub ReadAgain : Type 0
 ReadAgain = (lines : List ScriptLine) → IsScript lines → IsRead (text_of lines) lines
+
+-- no record of a script is bad, under limits that hold whatever a script keeps
+abbrev pub NeverBad : Type 0
+NeverBad = (limits : Limits) (lines : List ScriptLine) → IsScript lines → HoldsScripts limits
+    → AreGood limits (records_of lines)

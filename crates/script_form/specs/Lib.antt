@@ -1,7 +1,6 @@
 pub mod Faults
 pub mod Laws
 pub mod Lines
-pub mod Naming
 pub mod Next
 pub mod Opening
 pub mod Order

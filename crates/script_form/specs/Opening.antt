@@ -6,6 +6,8 @@ use Rattle.portal_model.specs.declared.opening.FileItem.{FileItem}
 use Rattle.portal_model.specs.declared.opening.OpeningDocument.{OpeningDocument}
 use Rattle.portal_model.specs.declared.opening.OpeningState.{OpeningState}
 use Rattle.portal_model.specs.declared.records.EntryRecord.{EntryRecord}
+use Rattle.portal_model.specs.declared.records.Records.{Records}
+use Rattle.record_keeper.specs.BadRecords.{records_version}
 use Rattle.script_form.specs.Lines.{kept_document}
 use Rattle.script_form.specs.declared.script.ScriptLine.{ScriptLine}
 use Rattle.script_form.specs.declared.script.ScriptLine.TheVariants.{File, Doc, Entry, Now}
@@ -60,6 +62,14 @@ opening limits lines = record {
   applications = applications_of lines;
   entries = entries_of lines;
   files = files_of lines;
+}
+
+-- the records that a script keeps
+abbrev pub records_of : List ScriptLine → Records
+records_of lines = record {
+  version = records_version;
+  documents = map (λ d. d.kept) (documents_of lines);
+  entries = entries_of lines;
 }
 
 -- limits that hold whatever a script keeps

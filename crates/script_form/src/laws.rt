@@ -1,6 +1,6 @@
 //! What is true of every script.
 
-ghost use Rattle.script_form.specs.Laws.{ReadInOneWay, RefusedInOneWay, ReadOrRefused, ReadAgain};
+ghost use Rattle.script_form.specs.Laws.{ReadInOneWay, RefusedInOneWay, ReadOrRefused, ReadAgain, NeverBad};
 
 /// A text is one script at most, or has one first line that is no line of a
 /// script, and not both.
@@ -13,4 +13,10 @@ pub fn texts_are_read_in_one_way()
 /// What the lines of a script are written as is read as that script.
 pub fn scripts_are_read_again()
     ensures { ReadAgain }
+{}
+
+/// The records that a script keeps aren't bad, by the definition by which kept
+/// records are.
+pub fn records_of_scripts_are_never_bad()
+    ensures { NeverBad }
 {}

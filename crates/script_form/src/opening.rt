@@ -4,11 +4,10 @@ ghost use Rattle.std.specs.Prelude.{◌≡◌, ◌++◌, IfOk, OnOk, Some, fold,
 ghost use Rattle.std.specs.List.{All};
 ghost use Rattle.portal_model.specs.Opening.{each, names_kept, id_of, file_of, ValidOpening};
 ghost use Rattle.script_form.specs.Lines.{KeepsRules};
-ghost use Rattle.script_form.specs.Naming.{also_named};
+ghost use Rattle.record_keeper.specs.Naming.{also_named};
 ghost use Rattle.script_form.specs.Opening.{opening, document_in, documents_of, entry_in, entries_of, file_in, files_of, time_behind as time_after, applications_of, HoldsScripts};
 ghost use Rattle.script_form.specs.Order.{IsScript};
 
-use crate::naming::Named;
 use crate::script::{Script, ScriptLine};
 use portal_base::limits::Limits;
 use portal_base::list::List;
@@ -17,6 +16,7 @@ use portal_base::names::app_id::AppId;
 use portal_base::names::doc_id::DocId;
 use portal_model::opening::{FileItem, OpeningDocument, OpeningState};
 use portal_model::records::{DocRecord, EntryRecord};
+use record_keeper::Named;
 use std::alloc::Global;
 
 /// The state that a script opens with: its documents, entries and files, each
@@ -198,8 +198,5 @@ fn add_names(alloc: Global, named: &mut Named, line: &ScriptLine) -> Result<(), 
     let ScriptLine::Doc { grants, .. } = line else {
         return Ok(());
     };
-    for grant in grants.as_slice() {
-        named.add(alloc, grant.app.as_slice())?;
-    }
-    Ok(())
+    named.add_granted(alloc, grants.as_slice())
 }

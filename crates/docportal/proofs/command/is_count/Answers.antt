@@ -1,5 +1,5 @@
 use Rattle.std.proofs.Common.{inl, inr, arith, refl}
-use Rattle.docportal.proofs.Counting.{no_count, no_count_of}
+use Rattle.docportal.proofs.Counts.{no_count, no_count_of}
 use Rattle.docportal.proofs.command.is_count.Goals as goal
 
 pub returns-in_default : goal.returns-in_default

@@ -1,4 +1,4 @@
-use Rattle.docportal.proofs.Running.{replay_stops, replays_all, opening_is, valid_opening, itself}
+use Rattle.docportal.proofs.ReplayScript.{replay_stops, replays_all, opening_is, valid_opening, itself}
 use Rattle.script_form.specs.Lines.{text_of}
 use Rattle.docportal.proofs.run.replay_script.Goals as goal
 

@@ -1,5 +1,5 @@
 use Rattle.std.proofs.Common.{inl, inr}
-use Rattle.docportal.proofs.Running.{ran_unbuilt}
+use Rattle.docportal.proofs.ReplayScript.{ran_unbuilt}
 use Rattle.docportal.proofs.run.run.Goals as goal
 
 pub returns-in-Some-Worlds-clause-ran : goal.returns-in-Some-Worlds-clause-ran

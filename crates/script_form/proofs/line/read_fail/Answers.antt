@@ -1,4 +1,4 @@
-use Rattle.std.proofs.Common.{sym, ◌∙◌, arith, ap}
+use Rattle.std.proofs.Common.{sym, ◌∙◌, arith}
 use Rattle.script_form.proofs.WordFacts.{no_call}
 use Rattle.script_form.proofs.LineFacts.{fail_line, fail_cut, no_device, fail_made}
 use Rattle.script_form.proofs.line.read_fail.Goals as goal

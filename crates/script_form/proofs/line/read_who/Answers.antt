@@ -1,6 +1,7 @@
 use Rattle.std.proofs.Common.{sym, ◌∙◌}
 use Rattle.script_form.proofs.LineFacts.{no_caller}
-use Rattle.script_form.proofs.WordFacts.{broken_app, differ}
+use Rattle.record_keeper.proofs.NameForms.{broken_app}
+use Rattle.script_form.proofs.WordFacts.{differ}
 use Rattle.script_form.proofs.line.read_who.Goals as goal
 
 pub returns-in-Err-BadName : goal.returns-in-Err-BadName

@@ -1,5 +1,5 @@
 use Rattle.std.proofs.Common.{[]}
-use Rattle.script_form.proofs.NamingFacts.{all_keep}
+use Rattle.script_form.proofs.NamedInLines.{all_keep}
 use Rattle.script_form.proofs.opening.state_of.Goals as goal
 
 pub applications_in-requires : goal.applications_in-requires

@@ -1,4 +1,4 @@
-use Rattle.std.proofs.Common.{sym, ◌∙◌, ap, refl}
+use Rattle.std.proofs.Common.{refl}
 use Rattle.script_form.proofs.RowFacts.{no_row, row_halves}
 use Rattle.script_form.proofs.rows.read_row.Goals as goal
 

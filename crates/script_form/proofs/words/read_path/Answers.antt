@@ -1,5 +1,5 @@
 use Rattle.std.proofs.Common.{refl}
-use Rattle.script_form.proofs.WordFacts.{broken_path}
+use Rattle.record_keeper.proofs.NameForms.{broken_path}
 use Rattle.script_form.proofs.words.read_path.Goals as goal
 
 pub returns-in-Err-BadName : goal.returns-in-Err-BadName

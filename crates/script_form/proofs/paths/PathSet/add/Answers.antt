@@ -1,7 +1,6 @@
-use Rattle.std.proofs.Common.{◌≡◌, sym, ◌∙◌, ap, subst, List, ℕ, Bool, false, ◌||◌}
+use Rattle.std.proofs.Common.{◌≡◌, sym, ◌∙◌, ap, subst, List, ℕ, false, ◌||◌}
 use Rattle.std.specs.List.{list_any}
 use Rattle.portal_base.specs.PathOrder.{path_order}
-use Rattle.portal_base.specs.Names.{is_same}
 use Rattle.script_form.specs.Paths.{clash, AreApart}
 use Rattle.script_form.proofs.SetFacts.{any_inserted, apart_inserted, none_tied}
 use Rattle.script_form.proofs.paths.PathSet.add.Goals as goal

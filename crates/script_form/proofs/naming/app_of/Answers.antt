@@ -1,8 +1,0 @@
-use Rattle.script_form.proofs.WordFacts.{broken_app}
-use Rattle.script_form.proofs.naming.app_of.Goals as goal
-
-pub unreachable-requires : goal.unreachable-requires
-unreachable-requires c =
-    let refused = rw c.in-Err-BadName.field-0-is at c.in-Err-BadName.ensures.bad in
-    let bad = broken_app c.args.name.now c.in-Err-BadName.field-0-0 refused in
-    absurd (cc (bad, c.requires))
