@@ -9,10 +9,10 @@ use Rattle.portal_model.specs.declared.request.AddRequest.{AddRequest}
 use Rattle.portal_model.specs.declared.state.Document.{Document}
 use Rattle.portal_model.specs.Add.{Added, add_file, first_number, new_document, use_document, used_again, with_new_document}
 use Rattle.portal_model.specs.AddArguments.{is_left_out}
-use Rattle.portal_model.proofs.Drawn.{Unused}
+use Rattle.portal_model.proofs.DrawnNumbers.{Unused}
 use Rattle.portal_model.specs.State.{State, document_of}
 use Rattle.portal_model.specs.Valid.{Valid, is_made}
-use Rattle.portal_model.proofs.Finds.{nat_is}
+use Rattle.portal_model.proofs.ListLookups.{nat_is}
 use Rattle.app_world.proofs.AddLaws.{Free, rights-keep}
 
 -- what is live was made

@@ -25,7 +25,7 @@ use Rattle.portal_model.specs.Step.{all_told}
 use Rattle.portal_model.specs.Valid.{Valid}
 use Rattle.portal_model.specs.Verdict.{Verdict, unless, walk_unless}
 use Rattle.portal_model.specs.Walk.{Gives, Walk, walked}
-use Rattle.portal_model.proofs.Drawn.{Unused, drawn-length, drawn-unused}
+use Rattle.portal_model.proofs.DrawnNumbers.{Unused, drawn-length, drawn-unused}
 use Rattle.app_world.specs.Add.{add_touch, asked, file_touch, files_touch, own_add, own_files, own_taken_from_queue, reused_by, reused_of, shown_to}
 use Rattle.app_world.specs.Bus.{bus_touch, own_bus_answer, own_settled}
 use Rattle.app_world.specs.Effect.{Effect, apply_all}

@@ -22,7 +22,7 @@ use Rattle.portal_model.specs.Documents.{id_of_document, same_flag, serves}
 use Rattle.portal_model.specs.Grant.{given_rights}
 use Rattle.portal_model.specs.State.{State, app_has, document_of, gives, held_of, is_app}
 use Rattle.portal_model.specs.Valid.{Valid, is_placed}
-use Rattle.portal_model.proofs.Finds.{found_passes, is_same-eq, nat_is}
+use Rattle.portal_model.proofs.ListLookups.{found_passes, is_same-eq, nat_is}
 use Rattle.app_world.specs.Add.{document_used, file_touch, files_touch, names_app}
 use Rattle.app_world.specs.Effect.{Effect, Gained, apply, apply_all}
 use Rattle.app_world.specs.Grant.{gained_in}

@@ -20,7 +20,7 @@ use Rattle.portal_model.specs.Content.{Content, content_at}
 use Rattle.portal_model.specs.State.{State, held_of}
 use Rattle.portal_model.specs.Verdict.{Verdict, unless, walk_unless}
 use Rattle.portal_model.specs.Walk.{Walk, looks_at_all, walked}
-use Rattle.portal_model.proofs.Finds.{is_same-refl}
+use Rattle.portal_model.proofs.ListLookups.{is_same-refl}
 use Rattle.app_world.specs.Add.{OwnAdded, content_shown, names_app, own_add, own_add_allowed, own_add_file, own_add_presented, own_add_shown, own_added, own_added_files, own_files, own_may_list_all, own_taken_from_queue, own_walk_unless, reused_of}
 use Rattle.app_world.specs.Own.{Own}
 use Rattle.app_world.specs.OwnVerdict.{OwnVerdict, OwnDoes, own_unless}

@@ -12,7 +12,7 @@ use Rattle.portal_model.specs.Content.{Content, content_at, look_of}
 use Rattle.portal_model.specs.Documents.{reusable_of}
 use Rattle.portal_model.specs.Verdict.{Verdict}
 use Rattle.portal_model.specs.Walk.{Answers, Gives, looks_at_all}
-use Rattle.portal_model.proofs.Finds.{is_same-eq}
+use Rattle.portal_model.proofs.ListLookups.{is_same-eq}
 use Rattle.app_world.specs.Add.{OwnFile, content_shown, first_reused, own_files, reused_of}
 use Rattle.app_world.specs.View.{is_among}
 

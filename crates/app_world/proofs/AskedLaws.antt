@@ -23,7 +23,7 @@ use Rattle.portal_model.specs.State.{State, connection_of, is_app}
 use Rattle.portal_model.specs.Step.{is_mount, bus_of, bus_step, mount_of, all_told, with_signals, node_answer, node_step, node_op_looks, node_looks, undefined_answer}
 use Rattle.portal_model.specs.Valid.{Valid}
 use Rattle.portal_model.specs.Verdict.{Verdict, does}
-use Rattle.portal_model.proofs.Finds.{found_passes, nat_is}
+use Rattle.portal_model.proofs.ListLookups.{found_passes, nat_is}
 use Rattle.portal_model.proofs.ValidLaws.{all_told-Valid}
 use Rattle.app_world.specs.Bus.{bus_touch, own_bus_answer, own_bus_step, own_bus_verdict, own_refused_view, own_settled}
 use Rattle.app_world.specs.DeleteDocument.{delete_touch, own_delete_document}

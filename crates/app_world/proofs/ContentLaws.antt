@@ -5,12 +5,12 @@ use Rattle.std.specs.List.{filter}
 use Rattle.portal_base.specs.Names.{is_same}
 use Rattle.portal_base.specs.declared.files.File.{File}
 use Rattle.portal_model.specs.Content.{Content, content_at}
-use Rattle.portal_model.proofs.Finds.{is_same-eq, find-filter}
+use Rattle.portal_model.proofs.ListLookups.{is_same-eq, find-filter}
 use Rattle.portal_model.specs.Ordered.{is_rising}
 use Rattle.app_world.specs.View.{PathContent, path_of, ahead, found_content, is_among, path_content, contents_at}
 use Rattle.app_world.proofs.Found.{find-put_all, told-apart}
 use Rattle.app_world.proofs.Orders.{paths}
-use Rattle.portal_model.proofs.Rising.{rising-put_all, rising-filter}
+use Rattle.portal_model.proofs.RisingLists.{rising-put_all, rising-filter}
 
 found_path : (files : List File) (path : List ℕ) (ps : List (List ℕ)) → found_content (map (path_content files) ps) path ≡ cond (is_among ps path) (Some (path_content files path)) None
 found_path files path [] = refl

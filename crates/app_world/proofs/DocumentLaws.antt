@@ -4,12 +4,12 @@ use Rattle.std.specs.List.{filter}
 use Rattle.rights_rule.specs.Rights.{RightSet, holds_any}
 use Rattle.portal_model.specs.declared.state.Document.{Document}
 use Rattle.portal_model.specs.State.{document_of}
-use Rattle.portal_model.proofs.Finds.{nat_is}
+use Rattle.portal_model.proofs.ListLookups.{nat_is}
 use Rattle.portal_model.specs.Ordered.{is_rising}
 use Rattle.app_world.specs.View.{HeldDocument, number_of, lower, found_document, is_held, held_document, held_documents, seen}
 use Rattle.app_world.proofs.Found.{kept, find-put_all, told-apart}
 use Rattle.app_world.proofs.Orders.{numbers}
-use Rattle.portal_model.proofs.Rising.{rising-put_all}
+use Rattle.portal_model.proofs.RisingLists.{rising-put_all}
 
 pub seen-nothing : (k : RightSet) (o : Option Document) → holds_any k ≡ false → seen k o ≡ None
 seen-nothing k None h = refl

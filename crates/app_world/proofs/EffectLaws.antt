@@ -10,7 +10,7 @@ use Rattle.rights_rule.specs.Rights.{RightSet, holds_any, minus, union}
 use Rattle.portal_model.specs.declared.state.Document.{Document}
 use Rattle.portal_model.specs.Content.{content_at}
 use Rattle.portal_model.specs.State.{document_of}
-use Rattle.portal_model.proofs.Finds.{is_same-eq, nat_is, find-filter, found_passes}
+use Rattle.portal_model.proofs.ListLookups.{is_same-eq, nat_is, find-filter, found_passes}
 use Rattle.portal_model.specs.Ordered.{put, is_rising}
 use Rattle.app_world.specs.Effect.{Gained, Lost, Gone, apply, is_other, less_held, with_content, with_more}
 use Rattle.app_world.specs.View.{HeldDocument, OwnConnection, PathContent, ahead, contents_at, found_content, found_document, held_documents, is_among, is_held, lower, named_paths, number_of, path_content, path_of, seen, view_over}
@@ -19,7 +19,7 @@ use Rattle.app_world.proofs.DocumentLaws.{documents-are, documents-found, docume
 use Rattle.app_world.proofs.Found.{find-changed, find-kept, find-put, kept}
 use Rattle.app_world.proofs.HeldLaws.{nothing-minus, nothing-union}
 use Rattle.app_world.proofs.Orders.{numbers, paths}
-use Rattle.portal_model.proofs.Rising.{rising-filter, rising-map, rising-put}
+use Rattle.portal_model.proofs.RisingLists.{rising-filter, rising-map, rising-put}
 use Rattle.app_world.proofs.ViewLaws.{among-joined, documents-same, names-fewer-documents}
 
 -- ---- what is named

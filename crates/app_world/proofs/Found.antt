@@ -3,7 +3,7 @@ use Rattle.std.proofs.Common.{◌≡◌, List, [], ◌∷◌, map, Bool, true, f
 use Rattle.std.specs.List.{find, filter, list_all}
 use Rattle.std.specs.Option.{option_map}
 use Rattle.portal_model.specs.Ordered.{put, put_all, is_rising}
-use Rattle.portal_model.proofs.Rising.{Order}
+use Rattle.portal_model.proofs.RisingLists.{Order}
 
 -- what is found, where it passes the test
 abbrev pub kept : {X : Type 0} → (X → Bool) → Option X → Option X

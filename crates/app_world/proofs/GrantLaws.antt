@@ -14,7 +14,7 @@ use Rattle.portal_model.specs.Grant.{are_rights_arguments, given_rights, grant, 
 use Rattle.portal_model.specs.Rights.{add_rights, held_by}
 use Rattle.portal_model.specs.State.{State, document_of, held_of}
 use Rattle.portal_model.specs.Verdict.{unless}
-use Rattle.portal_model.proofs.Finds.{nat_is}
+use Rattle.portal_model.proofs.ListLookups.{nat_is}
 use Rattle.app_world.specs.Effect.{Gained, apply_all}
 use Rattle.app_world.specs.Grant.{gained_in, granted_to, grant_touch, own_grant, own_grant_reached}
 use Rattle.app_world.specs.OwnVerdict.{OwnDoes, own_unless}

@@ -12,7 +12,7 @@ use Rattle.portal_model.specs.declared.state.Triple.{Triple}
 use Rattle.portal_model.specs.State.{app_has, bit_of, gives, held_of, same_right}
 use Rattle.portal_model.specs.Rights.{add_rights, forget_document, is_in, is_listed, take_rights, triple_less, triples_of}
 use Rattle.portal_model.proofs.FourTriples.{gives-of}
-use Rattle.portal_model.proofs.Rising.{any-put_all}
+use Rattle.portal_model.proofs.RisingLists.{any-put_all}
 use Rattle.app_world.specs.Revoke.{common}
 use Rattle.portal_model.proofs.TripleOrder.{bits-apart, is_same-eq, nat_is, triples}
 

@@ -8,7 +8,7 @@ use Rattle.portal_model.specs.History.{made_by}
 use Rattle.portal_model.specs.Leave.{leave, leave_answer, left, of_others}
 use Rattle.portal_model.specs.State.{State, connection_of, held_of, is_app}
 use Rattle.portal_model.specs.Valid.{Valid}
-use Rattle.portal_model.proofs.Finds.{filters-swap}
+use Rattle.portal_model.proofs.ListLookups.{filters-swap}
 use Rattle.app_world.specs.Leave.{own_leave, own_leave_answer, own_left}
 use Rattle.app_world.specs.View.{OwnConnection, found_connection, held_documents, is_among, named_paths, own_connection, own_connections, paths_of_connection, prune, view, view_over}
 use Rattle.app_world.proofs.ViewLaws.{among-joined, own-some, prune-connections, view-connections}

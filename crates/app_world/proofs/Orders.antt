@@ -3,7 +3,7 @@ use Rattle.std.proofs.Common.{◌==◌, nat_lt, arith}
 use Rattle.std.proofs.lemmas.Bool.Decides.{nat_tests}
 use Rattle.portal_base.specs.Names.{is_same}
 use Rattle.portal_model.specs.Ordered.{bytes_less}
-use Rattle.portal_model.proofs.Rising.{Order}
+use Rattle.portal_model.proofs.RisingLists.{Order}
 use Rattle.portal_model.proofs.TripleOrder.{bytes-irreflexive, bytes-through, bytes-total, is_same-eq, is_same-refl, nat-itself, nat_is}
 
 pub numbers : Order nat_lt (λ a b. a == b)

@@ -9,7 +9,7 @@ use Rattle.portal_model.specs.Content.{look_of, look_at}
 use Rattle.portal_model.specs.GetAttr.{looks_at_place}
 use Rattle.portal_model.specs.Place.{Place, DocumentFile, SightOfFile, sight_at, sight_of_document, sight_of_file, place_named, place_of}
 use Rattle.portal_model.specs.State.{State, document_of, held_of}
-use Rattle.portal_model.proofs.Finds.{found_passes, is_same-refl, nat_is}
+use Rattle.portal_model.proofs.ListLookups.{found_passes, is_same-refl, nat_is}
 use Rattle.app_world.specs.GetAttr.{own_look_at, own_place, own_sight, shown}
 use Rattle.app_world.specs.View.{HeldDocument, OwnConnection, PathContent, found_document, is_among, named_paths, path_content, seen, view}
 use Rattle.app_world.proofs.ContentLaws.{contents-found}

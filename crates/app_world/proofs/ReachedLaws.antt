@@ -10,7 +10,7 @@ use Rattle.portal_model.specs.Arguments.{document_named, if_reached, reached}
 use Rattle.portal_model.specs.Rights.{held_by}
 use Rattle.portal_model.specs.State.{State, document_of, held_of}
 use Rattle.portal_model.specs.Verdict.{Verdict, Refuses, Does, unless}
-use Rattle.portal_model.proofs.Finds.{found_passes, nat_is}
+use Rattle.portal_model.proofs.ListLookups.{found_passes, nat_is}
 use Rattle.app_world.specs.OwnVerdict.{OwnVerdict, OwnDoes, OwnRefuses, own_reached, own_unless}
 use Rattle.app_world.specs.Effect.{Effect, apply_all}
 use Rattle.app_world.specs.Touched.{is_done}

@@ -14,7 +14,7 @@ use Rattle.portal_model.specs.Revoke.{may_revoke, names_itself, revoke, revoked,
 use Rattle.portal_model.specs.Rights.{held_by, take_rights}
 use Rattle.portal_model.specs.State.{State, document_of, held_of}
 use Rattle.portal_model.specs.Verdict.{does}
-use Rattle.portal_model.proofs.Finds.{nat_is}
+use Rattle.portal_model.proofs.ListLookups.{nat_is}
 use Rattle.portal_model.proofs.TripleOrder.{is_same-sym}
 use Rattle.app_world.specs.Effect.{Lost, apply, apply_all}
 use Rattle.app_world.specs.OwnVerdict.{OwnDoes}

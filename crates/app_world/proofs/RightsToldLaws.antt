@@ -44,8 +44,8 @@ use Rattle.portal_model.specs.Rights.{forget_document, held_by, is_in}
 use Rattle.portal_model.specs.State.{State, app_has, connection_of, document_of, held_of, is_app}
 use Rattle.portal_model.specs.Step.{after, all_told, bus_of, bus_step, collect_step, is_mount, mount_of, node_answer, node_step, reply_at, request_step}
 use Rattle.portal_model.specs.Verdict.{Doing, Verdict, Refuses, Does, does}
-use Rattle.portal_model.proofs.Doings.{IfDoes, IfGiven, OnWalk, if-passes, on-looks, on-walked, walk-passes}
-use Rattle.portal_model.proofs.Finds.{found_passes, nat_is}
+use Rattle.portal_model.proofs.WalkDoings.{IfDoes, IfGiven, OnWalk, if-passes, on-looks, on-walked, walk-passes}
+use Rattle.portal_model.proofs.ListLookups.{found_passes, nat_is}
 use Rattle.portal_model.proofs.TripleOrder.{is_same-sym}
 use Rattle.app_world.specs.Add.{names_app}
 use Rattle.app_world.specs.RightsTold.{RightsAreTold, are_identified, gives_at, gives_rights, has_identifier, identifies, is_given_in, more_if, rights_told, told_by, told_by_file, told_if_done}

@@ -11,7 +11,7 @@ use Rattle.portal_model.specs.AddArguments.{names_nobody}
 use Rattle.portal_model.specs.Content.{content_at}
 use Rattle.portal_model.specs.Grant.{given_rights}
 use Rattle.portal_model.specs.State.{State, document_of, held_of, is_app}
-use Rattle.portal_model.proofs.Finds.{is_same-refl, nat_is}
+use Rattle.portal_model.proofs.ListLookups.{is_same-refl, nat_is}
 use Rattle.app_world.specs.Add.{names_app}
 use Rattle.app_world.specs.Effect.{Gained, apply, apply_all}
 use Rattle.app_world.specs.Grant.{gained_in}

@@ -16,15 +16,15 @@ use Rattle.portal_model.specs.declared.state.Triple.{Triple}
 use Rattle.portal_model.specs.State.{State, app_has, connection_of, document_of, gives, held_of, is_app}
 use Rattle.portal_model.specs.Step.{all_told, told_of}
 use Rattle.portal_model.specs.Valid.{Valid, is_none, is_host_bus, is_sound_connection}
-use Rattle.portal_model.proofs.Finds.{is_same-eq, nat_is, find-filter-none, find-filter-some, find-map, found_in_all}
-use Rattle.portal_model.proofs.Silence.{none-nil}
+use Rattle.portal_model.proofs.ListLookups.{is_same-eq, nat_is, find-filter-none, find-filter-some, find-map, found_in_all}
+use Rattle.portal_model.proofs.NoChangeWaits.{none-nil}
 use Rattle.app_world.specs.Laws.{with_document, with_right}
 use Rattle.app_world.specs.View.{HeldDocument, OwnConnection, TakesAlike, found_connection, held_documents, is_among, is_held, named_paths, number_of, own_connection, own_connections, prune, pruned, seen, view, view_over}
 use Rattle.app_world.proofs.ContentLaws.{contents-fewer, contents-same}
 use Rattle.app_world.proofs.DocumentLaws.{documents-are, documents-found, documents-rising, kept-seen, seen-nothing}
 use Rattle.app_world.proofs.Found.{find-kept, kept}
 use Rattle.app_world.proofs.Orders.{numbers}
-use Rattle.portal_model.proofs.Rising.{rising-filter}
+use Rattle.portal_model.proofs.RisingLists.{rising-filter}
 
 -- ---- the frame: states of which a view takes the same have the same view
 

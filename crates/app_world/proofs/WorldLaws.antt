@@ -9,7 +9,7 @@ use Rattle.portal_model.specs.Lawful.{Lawful}
 use Rattle.portal_model.specs.State.{State}
 use Rattle.portal_model.specs.Step.{after, reply_at}
 use Rattle.portal_model.specs.Valid.{Valid}
-use Rattle.portal_model.proofs.Kept.{step_told}
+use Rattle.portal_model.proofs.StaysTold.{step_told}
 use Rattle.portal_model.proofs.ValidLaws.{after-Valid}
 use Rattle.app_world.specs.Effect.{Effect, apply, apply_all}
 use Rattle.app_world.specs.Laws.{StepsSeen, asks}

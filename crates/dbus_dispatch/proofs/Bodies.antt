@@ -13,7 +13,7 @@ use Rattle.dbus_types.specs.declared.roles.Role.{Role}
 use Rattle.dbus_types.specs.declared.roles.Role.TheVariants.{Basic, Single}
 use Rattle.dbus_types.specs.Types.{is_single, array_role, entry_role, role, arrays_deep, brackets_deep, alignment, type_text, types_text, IsValidType, IsVariantType}
 use Rattle.dbus_types.specs.Values.{type_of, IsText, ValueKeeps, KeepsWithin, KeepsRules}
-use Rattle.dbus_types.proofs.Layers.{text_array, text_entry, role_array, role_entry, role_byte, arrays_array, arrays_entry, brackets_array, brackets_entry}
+use Rattle.dbus_types.proofs.TypeLayers.{text_array, text_entry, role_array, role_entry, role_byte, arrays_array, arrays_entry, brackets_array, brackets_entry}
 use Rattle.dbus_types.specs.Spelling.{spellings}
 use Rattle.dbus_message.specs.Written.{IsGoodBody}
 use Rattle.dbus_message.proofs.Ascii.{member_text}

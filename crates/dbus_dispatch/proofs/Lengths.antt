@@ -14,8 +14,8 @@ use Rattle.dbus_types.specs.declared.types.Value.TheOpen.{Value-F}
 use Rattle.dbus_types.specs.Types.{alignment, type_text}
 use Rattle.dbus_types.specs.Spells.{number, gap}
 use Rattle.dbus_types.specs.Spelling.{aligned, in_row, text_body, array_body, signature_body, variant_body, Spelled, spell_step, spelled, spelling, spellings}
-use Rattle.dbus_marshal.proofs.Took.{four, number_len}
-use Rattle.dbus_types.proofs.Same.{roll_byte, roll_u32, roll_str, roll_signature, roll_variant, roll_array, roll_struct, roll_entry}
+use Rattle.dbus_marshal.proofs.TakenFronts.{four, number_len}
+use Rattle.dbus_types.proofs.OneSpelling.{roll_byte, roll_u32, roll_str, roll_signature, roll_variant, roll_array, roll_struct, roll_entry}
 use Rattle.dbus_message.specs.Written.{field}
 
 -- at each offset the value takes at most so many bytes

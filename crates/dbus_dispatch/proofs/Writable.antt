@@ -22,8 +22,8 @@ use Rattle.dbus_types.specs.Spells.{gap}
 use Rattle.dbus_types.specs.Spelling.{spelling, spellings}
 use Rattle.dbus_message.specs.Fields.{field_type}
 use Rattle.dbus_message.specs.Written.{field, signature_field, last_part, kind_out, body_out, return_fields, fields_out, IsGoodBody, KeepsKinds, CanWrite}
-use Rattle.dbus_message.proofs.Spelling.{part_good}
-use Rattle.dbus_message.proofs.Writing.{whole_len}
+use Rattle.dbus_message.proofs.WrittenHasSpelling.{part_good}
+use Rattle.dbus_message.proofs.WriteMessage.{whole_len}
 use Rattle.dbus_dispatch.specs.declared.object.Object.{Object}
 use Rattle.dbus_dispatch.specs.declared.interface.Interface.{Interface}
 use Rattle.dbus_dispatch.specs.declared.interface.Interface.TheVariants as I

@@ -7,10 +7,10 @@ use Rattle.dbus_marshal.specs.declared.error.ReadError.TheVariants.{BadSignature
 use Rattle.dbus_types.specs.Reading.{whole_at, single_at, passed}
 use Rattle.dbus_types.specs.Values.{IsSignatureText}
 use Rattle.dbus_types.specs.Types.{type_text, IsVariantType, IsSignature}
-use Rattle.dbus_types.proofs.Whole.{short_reading, whole_again}
+use Rattle.dbus_types.proofs.WholeSignatures.{short_reading, whole_again}
 use Rattle.dbus_types.specs.Breaks.{IsChecked, IsSingleReading}
-use Rattle.dbus_types.proofs.Single.{single_reading, single_again}
-use Rattle.dbus_types.proofs.Once.{single_from_left, checked_from_left}
+use Rattle.dbus_types.proofs.OneTypeRead.{single_reading, single_again}
+use Rattle.dbus_types.proofs.OneBreak.{single_from_left, checked_from_left}
 use Rattle.dbus_marshal.specs.Reads.{moved, checked_in, type_in}
 
 listed_is : (text : List ℕ) (ts : List WireType) → whole_at 32 32 text ≡ Ok ts → length text ≤ 255 → IsSignature ts text

@@ -57,7 +57,7 @@ pub(crate) fn type_at(alloc: Global, text: &[u8], at: usize) -> Result<WireType,
 }
 
 /// The signature of a value's type.
-#[tactic(auto, using(crate::proofs::Extending::extends_refl, crate::proofs::Extending::extends_append, crate::proofs::Extending::extends_trans))]
+#[tactic(auto, using(crate::proofs::ListFronts::extends_refl, crate::proofs::ListFronts::extends_append, crate::proofs::ListFronts::extends_trans))]
 pub(crate) fn put_signature(out: &mut ByteList, value: &Value) -> Result<(), WantOfMemory>
     ensures ok { OnOk result (out.new ≡ out.old ++ signature_body (type_text (type_of value.now))) }
     ensures err { OnErr result (Extends out.old out.new) }

@@ -21,7 +21,7 @@ use portal_base::list::ByteList;
 use portal_base::memory::WantOfMemory;
 
 #[cycle(write)]
-#[tactic(auto, using(crate::proofs::Extending::extends_refl, crate::proofs::Extending::extends_append, crate::proofs::Extending::extends_trans))]
+#[tactic(auto, using(crate::proofs::ListFronts::extends_refl, crate::proofs::ListFronts::extends_append, crate::proofs::ListFronts::extends_trans))]
 fn write(out: &mut ByteList, value: &Value) -> Result<(), WantOfMemory>
     ensures ok { OnOk result (out.new ≡ out.old ++ spelling Little (length out.old) value.now) }
     ensures err { OnErr result (Extends out.old out.new) }
@@ -60,7 +60,7 @@ fn write(out: &mut ByteList, value: &Value) -> Result<(), WantOfMemory>
 }
 
 #[cycle(write)]
-#[tactic(auto, using(crate::proofs::Extending::extends_refl, crate::proofs::Extending::extends_append, crate::proofs::Extending::extends_trans))]
+#[tactic(auto, using(crate::proofs::ListFronts::extends_refl, crate::proofs::ListFronts::extends_append, crate::proofs::ListFronts::extends_trans))]
 fn write_array(out: &mut ByteList, to: usize, items: &[Value]) -> Result<(), WantOfMemory>
     requires { 0 < to }
     ensures ok { OnOk result (out.new ≡ out.old ++ (replicate (gap 4 (length out.old)) 0
@@ -79,7 +79,7 @@ fn write_array(out: &mut ByteList, to: usize, items: &[Value]) -> Result<(), Wan
 }
 
 #[cycle(write)]
-#[tactic(auto, using(crate::proofs::Extending::extends_refl, crate::proofs::Extending::extends_append, crate::proofs::Extending::extends_trans))]
+#[tactic(auto, using(crate::proofs::ListFronts::extends_refl, crate::proofs::ListFronts::extends_append, crate::proofs::ListFronts::extends_trans))]
 fn write_all(out: &mut ByteList, values: &[Value]) -> Result<(), WantOfMemory>
     ensures ok { OnOk result (out.new ≡ out.old ++ spellings Little (length out.old) values.now) }
     ensures err { OnErr result (Extends out.old out.new) }

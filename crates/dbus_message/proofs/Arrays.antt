@@ -11,7 +11,7 @@ use Rattle.dbus_types.specs.declared.types.Value.TheVariants as V
 use Rattle.dbus_marshal.specs.declared.error.ReadError.{ReadError}
 use Rattle.dbus_types.specs.Spells.{Spells, Row, SpellsWithin}
 use Rattle.dbus_marshal.specs.Reads.{IsRead}
-use Rattle.dbus_marshal.proofs.Whole.{one_spelling}
+use Rattle.dbus_marshal.proofs.SpelledIsRead.{one_spelling}
 use Rattle.dbus_message.specs.declared.error.MessageError.TheVariants.{Bad}
 use Rattle.dbus_message.specs.Header.{endian_of, field_bytes}
 use Rattle.dbus_message.specs.Fields.{field_type, AreFieldsOf}

@@ -14,7 +14,7 @@ use Rattle.portal_base.specs.declared.split.Split.TheVariants as S
 use Rattle.dbus_message.specs.Header.{body_len, body_start, endian_of, fields_end, kind_of, number_at, serial_of, stated_len, version_of}
 use Rattle.dbus_message.specs.Rules.{Checked, HasEndian, HasExplainedBody, HasFields, HasGoodFields, HasKind, HasNeededFields, HasSerial, HasSpelledBody, HasVersion, HasZeroPadding, IsFirstBroken, IsShort, IsWhole, KeepsHeader}
 use Rattle.dbus_message.specs.Messages.{IsSplit}
-use Rattle.dbus_message.proofs.Reading.{one_first, past}
+use Rattle.dbus_message.proofs.ReadMessage.{one_first, past}
 
 abbrev number_of_four : Endian → List ℕ → ℕ
 number_of_four e four = from_number e w32 four

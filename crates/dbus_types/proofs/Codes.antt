@@ -11,7 +11,7 @@ use Rattle.dbus_types.specs.declared.errors.SignatureError.{SignatureError}
 use Rattle.dbus_types.specs.declared.errors.SignatureError.TheVariants.{BadSignature}
 use Rattle.dbus_types.specs.Types.{role, arrays_deep, brackets_deep, type_text}
 use Rattle.dbus_types.specs.Reading.{coded}
-use Rattle.dbus_types.proofs.Layers.{roll_out, rolls_array, rolls_struct, rolls_entry}
+use Rattle.dbus_types.proofs.TypeLayers.{roll_out, rolls_array, rolls_struct, rolls_entry}
 
 abbrev pub code_role : ℕ → Role
 code_role c = cond (c == 118) Single Basic

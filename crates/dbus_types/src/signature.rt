@@ -48,7 +48,7 @@ fn coded(at: usize, byte: u8) -> Result<WireType, SignatureError>
     }
 }
 
-#[tactic(auto, unfolding(crate::specs::Reading::code_at), using(crate::proofs::Steps::code_none, crate::proofs::Steps::code_some))]
+#[tactic(auto, unfolding(crate::specs::Reading::code_at), using(crate::proofs::ReadingSteps::code_none, crate::proofs::ReadingSteps::code_some))]
 fn read_code(text: &[u8], at: usize) -> Result<(WireType, usize), SignatureError>
     requires place { at ≤ length text.now }
     requires short { length text.now ≤ 255 }
@@ -64,7 +64,7 @@ fn read_code(text: &[u8], at: usize) -> Result<(WireType, usize), SignatureError
     }
 }
 
-#[tactic(auto, using(crate::proofs::Steps::key_none, crate::proofs::Steps::key_variant, crate::proofs::Steps::key_other))]
+#[tactic(auto, using(crate::proofs::ReadingSteps::key_none, crate::proofs::ReadingSteps::key_variant, crate::proofs::ReadingSteps::key_other))]
 fn read_key(text: &[u8], at: usize) -> Result<(WireType, usize), SignatureError>
     requires place { at ≤ length text.now }
     requires short { length text.now ≤ 255 }
@@ -78,7 +78,7 @@ fn read_key(text: &[u8], at: usize) -> Result<(WireType, usize), SignatureError>
     }
 }
 
-#[tactic(auto, using(crate::proofs::Steps::closed_none, crate::proofs::Steps::closed_by, crate::proofs::Steps::closed_not))]
+#[tactic(auto, using(crate::proofs::ReadingSteps::closed_none, crate::proofs::ReadingSteps::closed_by, crate::proofs::ReadingSteps::closed_not))]
 fn closed(text: &[u8], at: usize, by: u8) -> Result<usize, SignatureError>
     requires place { at ≤ length text.now }
     requires short { length text.now ≤ 255 }
@@ -100,7 +100,7 @@ fn closed(text: &[u8], at: usize, by: u8) -> Result<usize, SignatureError>
 /// Reads the type at a place, within so many arrays and so many parentheses
 /// and braces; gives the place after it too.
 #[cycle(read)]
-#[tactic(auto, using(crate::proofs::Steps::type_none, crate::proofs::Steps::array_deep, crate::proofs::Steps::array_on, crate::proofs::Steps::struct_deep, crate::proofs::Steps::struct_on, crate::proofs::Steps::type_other, crate::proofs::Steps::fails_when, crate::proofs::Steps::gives_when))]
+#[tactic(auto, using(crate::proofs::ReadingSteps::type_none, crate::proofs::ReadingSteps::array_deep, crate::proofs::ReadingSteps::array_on, crate::proofs::ReadingSteps::struct_deep, crate::proofs::ReadingSteps::struct_on, crate::proofs::ReadingSteps::type_other, crate::proofs::ReadingSteps::fails_when, crate::proofs::ReadingSteps::gives_when))]
 fn read_type(
     alloc: Global,
     text: &[u8],
@@ -135,7 +135,7 @@ fn read_type(
 
 /// Reads the type of an array's element, which may be a dict entry.
 #[cycle(read)]
-#[tactic(auto, using(crate::proofs::Steps::element_none, crate::proofs::Steps::entry_deep, crate::proofs::Steps::entry_on, crate::proofs::Steps::element_other, crate::proofs::Steps::fails_when, crate::proofs::Steps::gives_when))]
+#[tactic(auto, using(crate::proofs::ReadingSteps::element_none, crate::proofs::ReadingSteps::entry_deep, crate::proofs::ReadingSteps::entry_on, crate::proofs::ReadingSteps::element_other, crate::proofs::ReadingSteps::fails_when, crate::proofs::ReadingSteps::gives_when))]
 fn read_element(
     alloc: Global,
     text: &[u8],
@@ -169,7 +169,7 @@ fn read_element(
 /// Reads the types of a struct's members, of which there is one at least, and
 /// the parenthesis after them.
 #[cycle(read)]
-#[tactic(auto, using(crate::proofs::Steps::members_is))]
+#[tactic(auto, using(crate::proofs::ReadingSteps::members_is))]
 fn read_members(
     alloc: Global,
     text: &[u8],
@@ -244,7 +244,7 @@ pub fn read_single(alloc: Global, text: &[u8]) -> Result<WireType, SignatureErro
 }
 
 #[cycle(check)]
-#[tactic(auto, using(crate::proofs::Checks::type_none, crate::proofs::Checks::array_deep, crate::proofs::Checks::array_on, crate::proofs::Checks::struct_deep, crate::proofs::Checks::struct_on, crate::proofs::Checks::type_other))]
+#[tactic(auto, using(crate::proofs::CheckSteps::type_none, crate::proofs::CheckSteps::array_deep, crate::proofs::CheckSteps::array_on, crate::proofs::CheckSteps::struct_deep, crate::proofs::CheckSteps::struct_on, crate::proofs::CheckSteps::type_other))]
 fn check_type(text: &[u8], at: usize, arrays: u32, brackets: u32) -> Result<usize, SignatureError>
     requires place { at ≤ length text.now }
     requires short { length text.now ≤ 255 }
@@ -274,7 +274,7 @@ fn check_type(text: &[u8], at: usize, arrays: u32, brackets: u32) -> Result<usiz
 }
 
 #[cycle(check)]
-#[tactic(auto, using(crate::proofs::Checks::element_none, crate::proofs::Checks::entry_deep, crate::proofs::Checks::entry_on, crate::proofs::Checks::element_other))]
+#[tactic(auto, using(crate::proofs::CheckSteps::element_none, crate::proofs::CheckSteps::entry_deep, crate::proofs::CheckSteps::entry_on, crate::proofs::CheckSteps::element_other))]
 fn check_element(
     text: &[u8],
     at: usize,
@@ -302,7 +302,7 @@ fn check_element(
 }
 
 #[cycle(check)]
-#[tactic(auto, using(crate::proofs::Checks::members_is))]
+#[tactic(auto, using(crate::proofs::CheckSteps::members_is))]
 fn check_members(
     text: &[u8],
     at: usize,

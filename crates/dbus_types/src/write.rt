@@ -16,7 +16,7 @@ use std::alloc::Global;
 /// Puts the text of a type at the end; where memory runs out, a part of it
 /// may stand there.
 #[cycle(put)]
-#[tactic(auto, using(crate::proofs::Extending::extends_refl, crate::proofs::Extending::extends_append, crate::proofs::Extending::extends_trans, crate::proofs::Layers::text_struct))]
+#[tactic(auto, using(crate::proofs::ListFronts::extends_refl, crate::proofs::ListFronts::extends_append, crate::proofs::ListFronts::extends_trans, crate::proofs::TypeLayers::text_struct))]
 fn put_type(out: &mut List<u8>, kind: &WireType) -> Result<(), WantOfMemory>
     ensures ok { OnOk result (out.new ≡ out.old ++ type_text kind.now) }
     ensures err { OnErr result (Extends out.old out.new) }
@@ -56,7 +56,7 @@ fn put_type(out: &mut List<u8>, kind: &WireType) -> Result<(), WantOfMemory>
 
 /// Puts the texts of types at the end, one after the other.
 #[cycle(put)]
-#[tactic(auto, using(crate::proofs::Extending::extends_refl, crate::proofs::Extending::extends_append, crate::proofs::Extending::extends_trans))]
+#[tactic(auto, using(crate::proofs::ListFronts::extends_refl, crate::proofs::ListFronts::extends_append, crate::proofs::ListFronts::extends_trans))]
 fn put_types(out: &mut List<u8>, kinds: &[WireType]) -> Result<(), WantOfMemory>
     ensures ok { OnOk result (out.new ≡ out.old ++ types_text kinds.now) }
     ensures err { OnErr result (Extends out.old out.new) }
@@ -69,7 +69,7 @@ fn put_types(out: &mut List<u8>, kinds: &[WireType]) -> Result<(), WantOfMemory>
 
 /// Puts the text of a value's type at the end.
 #[cycle(put_of)]
-#[tactic(auto, using(crate::proofs::Extending::extends_refl, crate::proofs::Extending::extends_append, crate::proofs::Extending::extends_trans, crate::proofs::Layers::text_struct))]
+#[tactic(auto, using(crate::proofs::ListFronts::extends_refl, crate::proofs::ListFronts::extends_append, crate::proofs::ListFronts::extends_trans, crate::proofs::TypeLayers::text_struct))]
 pub fn put_type_of(out: &mut List<u8>, value: &Value) -> Result<(), WantOfMemory>
     ensures ok { OnOk result (out.new ≡ out.old ++ type_text (type_of value.now)) }
     ensures err { OnErr result (Extends out.old out.new) }
@@ -109,7 +109,7 @@ pub fn put_type_of(out: &mut List<u8>, value: &Value) -> Result<(), WantOfMemory
 
 /// Puts the texts of values' types at the end, one after the other.
 #[cycle(put_of)]
-#[tactic(auto, using(crate::proofs::Extending::extends_refl, crate::proofs::Extending::extends_append, crate::proofs::Extending::extends_trans))]
+#[tactic(auto, using(crate::proofs::ListFronts::extends_refl, crate::proofs::ListFronts::extends_append, crate::proofs::ListFronts::extends_trans))]
 fn put_types_of(out: &mut List<u8>, values: &[Value]) -> Result<(), WantOfMemory>
     ensures ok { OnOk result (out.new ≡ out.old ++ types_text (map type_of values.now)) }
     ensures err { OnErr result (Extends out.old out.new) }

@@ -20,7 +20,7 @@ use Rattle.session.specs.Answers.{Made}
 use Rattle.session.specs.Sessions.{Closes, Opens}
 use Rattle.session.specs.Standings.{Standing, client, fresh}
 use Rattle.docportal.specs.Seats.{Asked, known_at}
-use Rattle.docportal.proofs.Made.{asked_alone, nothing_alone}
+use Rattle.docportal.proofs.MadeAlone.{asked_alone, nothing_alone}
 
 module _ (p q : Story) (seat count : ℕ) (same : opened q.opening ≡ opened p.opening) (own : GrowsByOwn is_faultless seat p.history q.history) (legal : Legal (opened q.opening) q.history) where
   legal_there : Legal (opened p.opening) q.history

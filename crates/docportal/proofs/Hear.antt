@@ -29,7 +29,7 @@ use Rattle.session.proofs.ItemsBuilt.{items_built}
 use Rattle.docportal.specs.Entries.{made_for}
 use Rattle.docportal.specs.Lines.{DataIsUnbuilt, IsUnbuiltRest}
 use Rattle.docportal.specs.Seats.{HeardAs, HearsAt, HearsNot, IsMet, WantsMemory, is_last, known_at, sunk}
-use Rattle.docportal.proofs.Made.{asked_alone}
+use Rattle.docportal.proofs.MadeAlone.{asked_alone}
 
 some_is : (x y : List (List ℕ)) → Some x ≡ Some y → x ≡ y
 some_is x y e = cc

@@ -1,6 +1,6 @@
-pub mod Behind
-pub mod Given
-pub mod Made
+pub mod BytesAhead
+pub mod GivenByTree
+pub mod MadeAlone
 pub mod Hear
 pub mod RoomToHear
 pub mod BeginAndEnd

@@ -9,7 +9,7 @@ use Rattle.portal_base.specs.declared.limits.Limits.{Limits}
 use Rattle.portal_model.specs.History.{cost}
 use Rattle.portal_model.specs.Opening.{ValidOpening, file_of, opened}
 use Rattle.portal_model.specs.Valid.{Valid}
-use Rattle.portal_model.proofs.Finds.{is_same-eq, is_same-refl}
+use Rattle.portal_model.proofs.ListLookups.{is_same-eq, is_same-refl}
 use Rattle.portal_core.specs.Story.{Story}
 use Rattle.script_form.specs.declared.script.ScriptLine.{ScriptLine}
 use Rattle.script_form.specs.Lines.{text_of}
@@ -25,7 +25,7 @@ use Rattle.docportal.specs.Commands.{replay_words, IsNoCommand, IsUnbuiltCommand
 use Rattle.docportal.specs.Runs.{Cause, IsReplay, Ran, Replays, Risen, WroteFront}
 use Rattle.docportal.specs.Scenes.{Scene, first_scene, opening_state, run_limits}
 use Rattle.docportal.specs.Steps.{AreFirst, MayPlay, scene}
-use Rattle.docportal.proofs.Behind.{behind_none}
+use Rattle.docportal.proofs.BytesAhead.{behind_none}
 use Rattle.docportal.proofs.OneOutput.{plays_one}
 use Rattle.docportal.proofs.RunLines.{onto_none, plays_cost, text_joined}
 use Rattle.docportal.proofs.SoundHistory.{sound}

@@ -18,7 +18,7 @@ use Rattle.docportal.specs.Lines.{Comes, CloseDoes, DataDoes, Does, Goes, Passes
 use Rattle.docportal.specs.Plays.{Plays}
 use Rattle.docportal.specs.Runs.{IsSound}
 use Rattle.docportal.specs.Scenes.{Scene, first_scene, opening_state}
-use Rattle.docportal.proofs.Given.{entries_lawful}
+use Rattle.docportal.proofs.GivenByTree.{entries_lawful}
 
 -- entries are lawful from a scene, and lead to the portal of another
 pub record Leads (a : Scene) (entries : List Entry) (b : Scene) : Type 0 where

@@ -19,7 +19,7 @@ use Rattle.document_records.specs.declared.grants.Grant.{Grant}
 use Rattle.document_records.specs.Grants.{triples_of_grant, triples_of_grants, is_of, is_before, grant_less, are_grants_in_order, given, taken, has_a_right, is_elsewhere, AreKept}
 use Rattle.portal_model.specs.Ordered.{put, bytes_less, is_rising}
 use Rattle.portal_model.specs.Rights.{same_triple, triple_less, triple, triples_of, is_in, add_rights, is_listed, take_rights, forget_document}
-use Rattle.portal_model.proofs.Rising.{rising-put, rising-put_all, rising-filter, rising-map, rising-append, any-put_all, same_items}
+use Rattle.portal_model.proofs.RisingLists.{rising-put, rising-put_all, rising-filter, rising-map, rising-append, any-put_all, same_items}
 use Rattle.portal_model.proofs.TripleOrder.{Key, key_less, same_key, keys, triples, nat_is, is_same-eq, bytes-irreflexive}
 use Rattle.portal_model.proofs.FourTriples.{any-union, gives-of, filter-of, all-of, rising-of}
 

@@ -1,4 +1,4 @@
 mod ApplicationLemmas
 mod DocumentLemmas
 mod GrantLemmas
-mod Unused
+mod UnusedNumbers

@@ -1,5 +1,5 @@
-pub mod Below
+pub mod PathsBelow
 pub mod Bytes
-pub mod Created
+pub mod FileCreated
 pub mod Entries
 pub mod Paths

@@ -25,7 +25,7 @@ use Rattle.portal_model.specs.State.{State, connection_of}
 use Rattle.portal_model.specs.Step.{after, bus_of, collect_step, node_answer, node_looks, node_op_looks, node_step, is_mount, mount_of, reply_with}
 use Rattle.portal_model.specs.Valid.{is_silent}
 use Rattle.portal_model.proofs.Histories.{run-append, Legal-append, cost-append}
-use Rattle.portal_model.proofs.Silence.{all_told-silent, node_step-silent, run-silent, unsent-silent}
+use Rattle.portal_model.proofs.NoChangeWaits.{all_told-silent, node_step-silent, run-silent, unsent-silent}
 use Rattle.portal_model.proofs.ValidLaws.{run-Valid}
 use Rattle.portal_core.specs.Held.{Stands, state_of}
 use Rattle.portal_core.specs.Served.{Serves, collect_answer, entry_of, looked, taken}

@@ -8,7 +8,7 @@ use Rattle.portal_model.specs.declared.opening.FileItem.{FileItem}
 use Rattle.portal_base.specs.declared.files.File.{File}
 use Rattle.portal_model.specs.Content.{look_at, look_of, content_of, is_folder, has_room}
 use Rattle.portal_model.specs.Opening.{file_of}
-use Rattle.portal_model.proofs.Finds.{find-map}
+use Rattle.portal_model.proofs.ListLookups.{find-map}
 
 pub list_any-map : {X Y : Type 0} (p : Y → Bool) (f : X → Y) (xs : List X) → list_any p (map f xs) ≡ list_any (λ x. p (f x)) xs
 list_any-map p f [] = refl

@@ -5,7 +5,7 @@ use Rattle.portal_base.specs.Names.{is_same, is_app_name}
 use Rattle.portal_model.specs.declared.state.Triple.{Triple}
 use Rattle.portal_model.specs.State.{State}
 use Rattle.portal_model.specs.Valid.{Valid, is_placed}
-use Rattle.portal_model.proofs.Finds.{is_same-eq}
+use Rattle.portal_model.proofs.ListLookups.{is_same-eq}
 
 -- an application that is numbered has a name
 numbered_name : (names : List (List ℕ)) (app : List ℕ) → list_any (is_same app) names ≡ true → list_all is_app_name names ≡ true → is_app_name app ≡ true

@@ -21,14 +21,14 @@ use Rattle.portal_model.specs.Present.{requeued, with_queue}
 use Rattle.portal_model.specs.State.{State, connection_of, document_of}
 use Rattle.portal_model.specs.Valid.{Valid, is_made, is_sound_connection}
 use Rattle.portal_model.specs.Verdict.{Doing}
-use Rattle.portal_model.proofs.Documented.{both, documented-new, first_of_both, second_of_both}
-use Rattle.portal_model.proofs.Doings.{IfDoes, OnWalk, if-passes, on-looks, walk-passes}
-use Rattle.portal_model.proofs.Drawn.{Unused}
-use Rattle.portal_model.proofs.Finds.{found_in_all}
+use Rattle.portal_model.proofs.DocumentChanges.{both, documented-new, first_of_both, second_of_both}
+use Rattle.portal_model.proofs.WalkDoings.{IfDoes, OnWalk, if-passes, on-looks, walk-passes}
+use Rattle.portal_model.proofs.DrawnNumbers.{Unused}
+use Rattle.portal_model.proofs.ListLookups.{found_in_all}
 use Rattle.portal_model.proofs.GrantValid.{given-sound}
-use Rattle.portal_model.proofs.Lives.{IsLiveId, live-again}
+use Rattle.portal_model.proofs.LiveDocuments.{IsLiveId, live-again}
 use Rattle.portal_model.proofs.Queues.{dropped-connections, picked, queue_sound, sound-connected}
-use Rattle.portal_model.proofs.Sound.{Sound, is_live, sound-lists, sound-valid, valid-sound}
+use Rattle.portal_model.proofs.SoundParts.{Sound, is_live, sound-lists, sound-valid, valid-sound}
 
 -- ---- the paths of the documents
 

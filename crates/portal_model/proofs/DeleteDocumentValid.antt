@@ -11,9 +11,9 @@ use Rattle.portal_model.specs.Rights.{forget_document, held_by}
 use Rattle.portal_model.specs.State.{State}
 use Rattle.portal_model.specs.Valid.{Valid}
 use Rattle.portal_model.specs.Verdict.{Doing, does}
-use Rattle.portal_model.proofs.Documented.{documented-deleted}
-use Rattle.portal_model.proofs.Doings.{IfDoes, if-passes}
-use Rattle.portal_model.proofs.Sound.{fewer-lists, valid-sound}
+use Rattle.portal_model.proofs.DocumentChanges.{documented-deleted}
+use Rattle.portal_model.proofs.WalkDoings.{IfDoes, if-passes}
+use Rattle.portal_model.proofs.SoundParts.{fewer-lists, valid-sound}
 
 filtered_less : {X : Type 0} (p : X → Bool) (xs : List X) → length (filter p xs) ≤ length xs
 filtered_less p [] = omega arith

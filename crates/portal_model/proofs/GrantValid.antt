@@ -13,10 +13,10 @@ use Rattle.portal_model.specs.Rights.{add_rights, held_by}
 use Rattle.portal_model.specs.State.{State}
 use Rattle.portal_model.specs.Valid.{Valid}
 use Rattle.portal_model.specs.Verdict.{Doing}
-use Rattle.portal_model.proofs.Documented.{documented-given, first_of_both}
-use Rattle.portal_model.proofs.Doings.{IfDoes, if-passes}
-use Rattle.portal_model.proofs.Lives.{IsLive, live-reached}
-use Rattle.portal_model.proofs.Sound.{Sound, is_live, sound-lists, sound-valid, valid-sound}
+use Rattle.portal_model.proofs.DocumentChanges.{documented-given, first_of_both}
+use Rattle.portal_model.proofs.WalkDoings.{IfDoes, if-passes}
+use Rattle.portal_model.proofs.LiveDocuments.{IsLive, live-reached}
+use Rattle.portal_model.proofs.SoundParts.{Sound, is_live, sound-lists, sound-valid, valid-sound}
 
 -- rights that are given in a live document
 pub given-sound : (app : List ℕ) (id : DocId) (set : RightSet) (s : State) → is_app_name app ≡ true → is_live s.documents id.number ≡ true → Sound s → Sound (given_rights app id set s)

@@ -18,8 +18,8 @@ use Rattle.portal_model.specs.Opening.{id_of, document_kept, set_of_bits, with_g
 use Rattle.portal_model.specs.Rights.{are_in_order}
 use Rattle.portal_model.specs.State.{State, document_of}
 use Rattle.portal_model.specs.Valid.{Valid, is_made, is_numbered, is_placed}
-use Rattle.portal_model.proofs.Apart.{IsDistinct-first, list_all-filter, list_all-weaken}
-use Rattle.portal_model.proofs.Finds.{is_same-eq, is_same-refl}
+use Rattle.portal_model.proofs.DistinctItems.{IsDistinct-first, list_all-filter, list_all-weaken}
+use Rattle.portal_model.proofs.ListLookups.{is_same-eq, is_same-refl}
 use Rattle.portal_model.proofs.RightsLaws.{all-add_rights, ordered-add_rights}
 
 -- ---- lists that are made of the parts of other lists

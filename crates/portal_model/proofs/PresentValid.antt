@@ -9,10 +9,10 @@ use Rattle.portal_model.specs.Present.{may_present, present, present_path, queue
 use Rattle.portal_model.specs.State.{State, connection_of}
 use Rattle.portal_model.specs.Valid.{Valid}
 use Rattle.portal_model.specs.Verdict.{Doing, does}
-use Rattle.portal_model.proofs.Documented.{second_of_both}
-use Rattle.portal_model.proofs.Doings.{IfDoes, if-passes}
+use Rattle.portal_model.proofs.DocumentChanges.{second_of_both}
+use Rattle.portal_model.proofs.WalkDoings.{IfDoes, if-passes}
 use Rattle.portal_model.proofs.Queues.{pushed-connections}
-use Rattle.portal_model.proofs.Sound.{Valid-connections}
+use Rattle.portal_model.proofs.SoundParts.{Valid-connections}
 
 pub present-valid : (P : Doing → Type 0) → ((d : Doing) → Valid d.state → P d) → (s : State) (c found : Connection) (bytes : List ℕ) → connection_of s.connections c.seat ≡ Some found → found.queue ≡ c.queue → Valid s →
     IfDoes P (present s c bytes)

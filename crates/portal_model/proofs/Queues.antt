@@ -10,9 +10,9 @@ use Rattle.portal_model.specs.Present.{requeued, with_queue}
 use Rattle.portal_model.specs.State.{State, connection_of}
 use Rattle.portal_model.specs.Step.{told_of}
 use Rattle.portal_model.specs.Valid.{is_host_bus, is_none, is_sound_change, is_sound_connection}
-use Rattle.portal_model.proofs.Documented.{both, first_of_both, second_of_both}
-use Rattle.portal_model.proofs.Finds.{nat_is}
-use Rattle.portal_model.proofs.Sound.{Connected, Sound, SoundConnections}
+use Rattle.portal_model.proofs.DocumentChanges.{both, first_of_both, second_of_both}
+use Rattle.portal_model.proofs.ListLookups.{nat_is}
+use Rattle.portal_model.proofs.SoundParts.{Connected, Sound, SoundConnections}
 
 abbrev pub seats : List Connection → List ℕ
 seats cs = map (λ (c : Connection). c.seat) cs

@@ -13,9 +13,9 @@ use Rattle.portal_model.specs.Rights.{held_by, take_rights}
 use Rattle.portal_model.specs.State.{State}
 use Rattle.portal_model.specs.Valid.{Valid}
 use Rattle.portal_model.specs.Verdict.{Doing, does}
-use Rattle.portal_model.proofs.Documented.{documented-taken}
-use Rattle.portal_model.proofs.Doings.{IfDoes, if-passes}
-use Rattle.portal_model.proofs.Sound.{fewer-lists, valid-sound}
+use Rattle.portal_model.proofs.DocumentChanges.{documented-taken}
+use Rattle.portal_model.proofs.WalkDoings.{IfDoes, if-passes}
+use Rattle.portal_model.proofs.SoundParts.{fewer-lists, valid-sound}
 
 module _ (P : Doing → Type 0) (valid : (d : Doing) → Valid d.state → P d) (s : State) (who : Who) (call : RightsCall) (v : Valid s) where
   revoke_reached-valid : (o : Option Document) → IfDoes P (revoke_reached s who call o)

@@ -9,8 +9,8 @@ use Rattle.portal_model.specs.declared.rights.Right.TheVariants.{Read, Write, Gr
 use Rattle.portal_model.specs.declared.state.Triple.{Triple}
 use Rattle.portal_model.specs.Ordered.{put, put_all}
 use Rattle.portal_model.specs.Rights.{add_rights, are_in_order, forget_document, same_triple, take_rights, triple, triple_if, triple_less, triples_of}
-use Rattle.portal_model.proofs.Apart.{list_all-filter}
-use Rattle.portal_model.proofs.Rising.{put_all-rising, rising-filter, rising-put_all}
+use Rattle.portal_model.proofs.DistinctItems.{list_all-filter}
+use Rattle.portal_model.proofs.RisingLists.{put_all-rising, rising-filter, rising-put_all}
 use Rattle.portal_model.proofs.TripleOrder.{triples}
 
 -- ---- their order

@@ -21,7 +21,7 @@ use Rattle.portal_model.specs.Seated.{BeginsWith, Binding, Exchange, binding_of,
 use Rattle.portal_model.specs.State.{State, connection_of}
 use Rattle.portal_model.specs.Step.{after, all_told, bus_of, bus_step, collect_step, mount_of, node_answer, node_step, request_step, told_of}
 use Rattle.portal_model.proofs.BusLaws.{bus_step-holds}
-use Rattle.portal_model.proofs.Finds.{find-filter}
+use Rattle.portal_model.proofs.ListLookups.{find-filter}
 
 -- ---- what a list begins with
 

@@ -11,7 +11,7 @@ use Rattle.portal_model.specs.declared.state.Triple.{Triple}
 use Rattle.portal_model.specs.State.{bit_of, same_right}
 use Rattle.portal_model.specs.Ordered.{bytes_less}
 use Rattle.portal_model.specs.Rights.{same_triple, triple_less}
-use Rattle.portal_model.proofs.Rising.{Order}
+use Rattle.portal_model.proofs.RisingLists.{Order}
 
 pub nat_is : (a b : ℕ) → (a == b) ≡ true → a ≡ b
 nat_is a b h = grind (arith, nat_tests)

@@ -38,16 +38,16 @@ use Rattle.portal_model.specs.Step.{after, all_told, bus_of, bus_step, collect_s
 use Rattle.portal_model.specs.Valid.{Valid, is_sound_connection}
 use Rattle.portal_model.specs.Verdict.{Doing, Verdict, Refuses, Does, does}
 use Rattle.portal_model.proofs.AddValid.{add-valid}
-use Rattle.portal_model.proofs.Apart.{IsDistinct-filter, list_all-filter}
+use Rattle.portal_model.proofs.DistinctItems.{IsDistinct-filter, list_all-filter}
 use Rattle.portal_model.proofs.DeleteDocumentValid.{delete-valid}
-use Rattle.portal_model.proofs.Doings.{IfDoes, IfGiven, OnWalk, if-passes, on-walked}
-use Rattle.portal_model.proofs.Drawn.{Unused, drawn-length, drawn-unused}
-use Rattle.portal_model.proofs.Finds.{found_passes, nat_is}
+use Rattle.portal_model.proofs.WalkDoings.{IfDoes, IfGiven, OnWalk, if-passes, on-walked}
+use Rattle.portal_model.proofs.DrawnNumbers.{Unused, drawn-length, drawn-unused}
+use Rattle.portal_model.proofs.ListLookups.{found_passes, nat_is}
 use Rattle.portal_model.proofs.GrantValid.{grant-valid}
 use Rattle.portal_model.proofs.PresentValid.{present-valid}
 use Rattle.portal_model.proofs.Queues.{dropped-connections, found_told, seats}
 use Rattle.portal_model.proofs.RevokeValid.{revoke-valid}
-use Rattle.portal_model.proofs.Sound.{SoundConnections, Valid-connections}
+use Rattle.portal_model.proofs.SoundParts.{SoundConnections, Valid-connections}
 
 -- ---- Enter
 

@@ -1,5 +1,8 @@
 //! Requests of the portal, one after another.
 
+ghost use Rattle.std.specs.Prelude.{IfOk};
+ghost use Rattle.portal_model.specs.Built.{Built};
+
 use crate::error::VectorError;
 use crate::opened::{LONGEST, kind, opened_by, who};
 use portal_base::limits::Limits;
@@ -119,7 +122,9 @@ fn shown(alloc: Global, reply: Result<Reply, Refused>) -> Result<String, VectorE
     }
 }
 
-fn request_of(alloc: Global, words: &str) -> Result<Request, VectorError> {
+fn request_of(alloc: Global, words: &str) -> Result<Request, VectorError>
+    ensures { IfOk result Built }
+{
     let (word, rest) = cut(words);
     match word {
         "enter" => {
@@ -136,7 +141,9 @@ fn request_of(alloc: Global, words: &str) -> Result<Request, VectorError> {
     }
 }
 
-fn getattr(rest: &str) -> Result<Request, VectorError> {
+fn getattr(rest: &str) -> Result<Request, VectorError>
+    ensures { IfOk result Built }
+{
     let (node, rest) = cut(rest);
     let (flags, fh) = cut(rest);
     Ok(Request::Node(NodeRequest {

@@ -3,7 +3,7 @@ use Rattle.std.proofs.Common.{◌≡◌, ℕ, ◌+◌, ◌<◌, ◌≤◌, List,
 use Rattle.std.proofs.Math.Seq.{drop-cons}
 use Rattle.std.proofs.lemmas.List.{take_more, take-append-drop}
 use Rattle.record_keeper.specs.BadRecords.{EachBehind, AllGood, IsFirstBad}
-use Rattle.record_keeper.proofs.Stopped.{append_nil}
+use Rattle.record_keeper.proofs.StoppedReader.{append_nil}
 
 module _ {X : Type 0} (Good : List X → X → Type 0) where
   pub each_push : (earlier items : List X) (item : X) → EachBehind Good earlier items → Good (earlier ++ items) item → EachBehind Good earlier (items ++ (item ∷ []))

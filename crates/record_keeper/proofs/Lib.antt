@@ -1,9 +1,9 @@
 pub mod Behind
 pub mod EarlierFacts
-pub mod Firsts
+pub mod FirstPassing
 pub mod NameForms
 pub mod NameSets
 pub mod NamingFacts
 pub mod OneIsWrong
-pub mod Rising
-pub mod Stopped
+pub mod RisingNames
+pub mod StoppedReader

@@ -11,7 +11,7 @@ use Rattle.portal_model.specs.declared.records.DocRecord.{DocRecord}
 use Rattle.record_keeper.specs.BadRecords.{names_granted, applications_of}
 use Rattle.record_keeper.specs.Naming.{also_named}
 use Rattle.record_keeper.proofs.NameForms.{same_from_test}
-use Rattle.record_keeper.proofs.Stopped.{append_nil}
+use Rattle.record_keeper.proofs.StoppedReader.{append_nil}
 
 abbrev fresh : List (List ℕ) → List ℕ → Bool
 fresh acc x = not (list_any (λ known. is_same known x) acc)

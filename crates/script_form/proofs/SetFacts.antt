@@ -13,7 +13,7 @@ use Rattle.portal_base.specs.Names.{is_same}
 use Rattle.portal_base.specs.PathOrder.{path_order}
 use Rattle.portal_base.specs.PathOrders.{path_order_total, path_order_ties}
 use Rattle.portal_model.specs.Content.{is_above}
-use Rattle.host_tree.proofs.Below.{between-is-below, below-is-behind}
+use Rattle.host_tree.proofs.PathsBelow.{between-is-below, below-is-behind}
 use Rattle.script_form.specs.Paths.{clash, AreApart}
 
 or_swap : (a b c : Bool) → (a || (b || c)) ≡ (b || (a || c))

@@ -46,6 +46,7 @@ fn answer(alloc: Global, line: &str) -> Result<String, VectorError> {
     match kind {
         "script" => scripts::script(alloc, rest),
         "line" => scripts::line(alloc, rest),
+        "written" => scripts::written(alloc, rest),
         "opening" => scripts::opening(alloc, rest),
         _ => Err(VectorError::Line(LineError::BadLine)),
     }

@@ -11,9 +11,10 @@ use portal_model::records::{EntryRecord, GrantRecord};
 use script_form::opening::opening_of;
 use script_form::reader::read_script;
 use script_form::script::{Device, Script, ScriptLine};
+use script_form::writer::write_script;
 use std::alloc::Global;
 use vector_lines::error::LineError;
-use vector_lines::notation::{self, digits};
+use vector_lines::notation::{self, debug, digits};
 
 /// The most bytes that a script may have.
 const LONGEST: usize = 67_108_864;
@@ -59,6 +60,18 @@ pub fn line(alloc: Global, rest: &str) -> Result<String, VectorError> {
         out.push_str(shown(alloc, line)?.as_str())?;
     }
     Ok(out)
+}
+
+/// `written TEXT`: the script that the text is read as, written.
+pub fn written(alloc: Global, rest: &str) -> Result<String, VectorError> {
+    let text = notation::text(alloc, rest)?;
+    if text.len() > LONGEST {
+        return Err(VectorError::Line(LineError::BadLine));
+    }
+    let script = read_script(alloc, text.as_slice())?;
+    let text = write_script(alloc, &script)?;
+    let text = String::from_utf8_lossy(alloc, text.as_slice())?;
+    Ok(debug(alloc, &text)?)
 }
 
 /// What a line says, in the order of its words.

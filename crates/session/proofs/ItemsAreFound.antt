@@ -10,7 +10,7 @@ use Rattle.dbus_auth.specs.Handshake.{step}
 use Rattle.dbus_dispatch.specs.declared.ask.Ask.{Ask}
 use Rattle.dbus_dispatch.specs.declared.ask.Ask.TheVariants as ask
 use Rattle.dbus_dispatch.specs.Asks.{ask_of}
-use Rattle.dbus_message.proofs.Deciding.{found}
+use Rattle.dbus_message.proofs.ReadingsAreOne.{found}
 use Rattle.dbus_message.proofs.Fronts.{some_front}
 use Rattle.dbus_message.specs.Messages.{IsMessage}
 use Rattle.dbus_message.specs.Rules.{IsFirstBroken}

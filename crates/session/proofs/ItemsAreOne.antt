@@ -6,8 +6,8 @@ use Rattle.std.specs.Prelude.{◌⊎◌}
 use Rattle.dbus_auth.specs.Handshake.{step}
 use Rattle.dbus_types.specs.declared.message.Message.{Message}
 use Rattle.dbus_message.proofs.Fronts.{one_front}
-use Rattle.dbus_message.proofs.Ones.{one_message}
-use Rattle.dbus_message.proofs.Reading.{one_first, refutes}
+use Rattle.dbus_message.proofs.OneMessage.{one_message}
+use Rattle.dbus_message.proofs.ReadMessage.{one_first, refutes}
 use Rattle.session.specs.declared.act.Act.{Act}
 use Rattle.session.specs.declared.act.Client.{Client}
 use Rattle.session.specs.declared.act.ItemError.{ItemError}

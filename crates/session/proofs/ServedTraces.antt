@@ -14,7 +14,7 @@ use Rattle.portal_model.specs.Seated.{Binding, binding_of, bound_after, bound_by
 use Rattle.portal_model.specs.State.{State}
 use Rattle.portal_model.specs.Step.{after, reply_at}
 use Rattle.app_world.specs.World.{app_run, trace}
-use Rattle.portal_model.proofs.Finds.{is_same-refl}
+use Rattle.portal_model.proofs.ListLookups.{is_same-refl}
 use Rattle.app_world.proofs.WorldLaws.{replies_of_trace}
 use Rattle.session.specs.declared.act.Client.{Client}
 use Rattle.session.specs.Sessions.{enter}

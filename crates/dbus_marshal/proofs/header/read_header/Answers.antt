@@ -3,7 +3,7 @@ use Rattle.std.proofs.lemmas.Result.{err_from_is_err_and}
 use Rattle.dbus_types.specs.declared.types.Value.TheVariants as V
 use Rattle.dbus_marshal.specs.Reads.{after, field_type, fields_type}
 use Rattle.dbus_marshal.proofs.HeaderFields.{fields_give, fields_fail}
-use Rattle.dbus_marshal.proofs.Public.{is_found, is_only, is_no_error}
+use Rattle.dbus_marshal.proofs.ReadValueLaws.{is_found, is_only, is_no_error}
 use Rattle.dbus_marshal.proofs.header.read_header.Goals as goal
 
 pub returns-in_err-fields-clause-only : goal.returns-in_err-fields-clause-only

@@ -1,4 +1,4 @@
-use Rattle.dbus_marshal.proofs.Public.{spelled_or_broken, broken_once, not_both}
+use Rattle.dbus_marshal.proofs.ReadValueLaws.{spelled_or_broken, broken_once, not_both}
 use Rattle.dbus_marshal.proofs.laws.bytes_are_spelled_or_break.Goals as goal
 
 pub returns-clause-either : goal.returns-clause-either

@@ -1,4 +1,4 @@
-use Rattle.dbus_marshal.proofs.Every.{every_spelled}
+use Rattle.dbus_marshal.proofs.EveryValueIsSpelled.{every_spelled}
 use Rattle.dbus_marshal.proofs.laws.every_value_is_spelled.Goals as goal
 
 pub returns : goal.returns

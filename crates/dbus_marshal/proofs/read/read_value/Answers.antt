@@ -1,8 +1,8 @@
 use Rattle.std.proofs.Common.{arith}
 use Rattle.std.proofs.lemmas.Result.{err_from_is_err_and}
 use Rattle.dbus_marshal.specs.declared.read.ReadValue.{ReadValue}
-use Rattle.dbus_marshal.proofs.Keeps.{spelled_keeps}
-use Rattle.dbus_marshal.proofs.Public.{is_found, is_only, is_no_error, is_broken, is_none, is_first}
+use Rattle.dbus_marshal.proofs.SpelledKeepsRules.{spelled_keeps}
+use Rattle.dbus_marshal.proofs.ReadValueLaws.{is_found, is_only, is_no_error, is_broken, is_none, is_first}
 use Rattle.dbus_marshal.proofs.read.read_value.Goals as goal
 
 pub returns-in_err-value-clause-only : goal.returns-in_err-value-clause-only

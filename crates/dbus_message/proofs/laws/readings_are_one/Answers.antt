@@ -1,6 +1,6 @@
-use Rattle.dbus_message.proofs.Deciding.{found}
-use Rattle.dbus_message.proofs.Ones.{one_message}
-use Rattle.dbus_message.proofs.Reading.{one_first, refutes}
+use Rattle.dbus_message.proofs.ReadingsAreOne.{found}
+use Rattle.dbus_message.proofs.OneMessage.{one_message}
+use Rattle.dbus_message.proofs.ReadMessage.{one_first, refutes}
 use Rattle.dbus_message.proofs.laws.readings_are_one.Goals as goal
 
 pub returns : goal.returns

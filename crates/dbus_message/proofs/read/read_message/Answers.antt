@@ -6,7 +6,7 @@ use Rattle.dbus_types.specs.declared.types.Value.{Value}
 use Rattle.dbus_message.specs.Header.{kind_of, padding_bytes}
 use Rattle.dbus_message.specs.Fields.{are_good, has_needed, text_of}
 use Rattle.dbus_message.specs.Messages.{SaysFields}
-use Rattle.dbus_message.proofs.Reading.{bad_padding, body_failed, message_read, not_true, fields_at, padding_at, content_at}
+use Rattle.dbus_message.proofs.ReadMessage.{bad_padding, body_failed, message_read, not_true, fields_at, padding_at, content_at}
 use Rattle.dbus_message.proofs.read.read_message.Goals as goal
 
 pub returns-then-not-are_zeros : goal.returns-then-not-are_zeros

@@ -1,7 +1,7 @@
 use Rattle.std.proofs.Common.{◌≡◌, ◌+◌, List, [], ◌∷◌, drop, sym, subst, ◌∙◌, ap, arith}
 use Rattle.std.proofs.lemmas.List.{drop_more, drop_all}
 use Rattle.dbus_types.specs.declared.types.Value.{Value}
-use Rattle.dbus_message.proofs.Writing.{Left, left_start, left_step, left_end}
+use Rattle.dbus_message.proofs.WriteMessage.{Left, left_start, left_step, left_end}
 use Rattle.dbus_message.proofs.write.body_bytes.Goals as goal
 
 pub loop-value-init : goal.loop-value-init

@@ -1,4 +1,4 @@
-use Rattle.dbus_message.proofs.Sent.{is_written, is_message}
+use Rattle.dbus_message.proofs.WrittenAreMessages.{is_written, is_message}
 use Rattle.dbus_message.proofs.write.write_message.Goals as goal
 
 pub returns-in-Return : goal.returns-in-Return

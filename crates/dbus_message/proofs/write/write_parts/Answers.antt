@@ -4,8 +4,8 @@ use Rattle.dbus_types.specs.declared.types.Endian.TheVariants.{Little}
 use Rattle.dbus_types.specs.declared.types.WireType.TheVariants as W
 use Rattle.dbus_types.specs.Spells.{number}
 use Rattle.dbus_message.specs.Fields.{field_type}
-use Rattle.dbus_message.proofs.Writing.{header_len, parts_laid}
-use Rattle.dbus_message.proofs.Sent.{spelled_at}
+use Rattle.dbus_message.proofs.WriteMessage.{header_len, parts_laid}
+use Rattle.dbus_message.proofs.WrittenAreMessages.{spelled_at}
 use Rattle.dbus_message.proofs.write.write_parts.Goals as goal
 
 pub returns : goal.returns

@@ -3,7 +3,7 @@ use Rattle.dbus_types.specs.declared.types.Endian.TheVariants.{Little}
 use Rattle.dbus_types.specs.declared.types.Value.{Value}
 use Rattle.dbus_types.specs.Values.{type_of}
 use Rattle.dbus_message.specs.Content.{IsBody}
-use Rattle.dbus_message.proofs.Sent.{body_short, parts_written, parts_of}
+use Rattle.dbus_message.proofs.WrittenAreMessages.{body_short, parts_written, parts_of}
 use Rattle.dbus_message.proofs.write.write_with.Goals as goal
 
 pub write_parts-requires : goal.write_parts-requires

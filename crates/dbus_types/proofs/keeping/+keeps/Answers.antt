@@ -2,7 +2,7 @@ use Rattle.std.proofs.Common.{◌≡◌, ◌-◌, false, refl, arith, rules}
 use Rattle.dbus_types.specs.declared.types.Value.{Value}
 use Rattle.dbus_types.specs.Types.{IsVariantType}
 use Rattle.dbus_types.specs.Values.{type_of, KeepsWithin}
-use Rattle.dbus_types.proofs.Within.{all_seen, one_more, and_no, and_on, variant_deep, array_deep, struct_deep, entry_deep, variant_on, array_on, struct_on, entry_on, leaf_within}
+use Rattle.dbus_types.proofs.LimitsByLayer.{all_seen, one_more, and_no, and_on, variant_deep, array_deep, struct_deep, entry_deep, variant_on, array_on, struct_on, entry_on, leaf_within}
 use Rattle.dbus_types.proofs.keeping.+keeps.Goals as goal
 
 pub items_keep-loop-item-preserved : goal.items_keep-loop-item-preserved

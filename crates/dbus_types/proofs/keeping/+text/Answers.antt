@@ -1,6 +1,6 @@
 use Rattle.std.proofs.Common.{◌+◌, length, arith}
 use Rattle.dbus_types.specs.Types.{type_text, types_text}
-use Rattle.dbus_types.proofs.Within.{less_left, struct_length, entry_length}
+use Rattle.dbus_types.proofs.LimitsByLayer.{less_left, struct_length, entry_length}
 use Rattle.dbus_types.proofs.keeping.+text.Goals as goal
 
 pub text_leaves-returns-in_ok-checked_sub-in-Struct : goal.text_leaves-returns-in_ok-checked_sub-in-Struct

@@ -1,8 +1,8 @@
 use Rattle.std.proofs.Common.{◌+◌, ◌∙◌, length, map, ap, arith}
 use Rattle.dbus_types.specs.Types.{type_text, types_text}
 use Rattle.dbus_types.specs.Values.{type_of}
-use Rattle.dbus_types.proofs.Extending.{type_struct, type_entry}
-use Rattle.dbus_types.proofs.Within.{less_left, struct_length, entry_length}
+use Rattle.dbus_types.proofs.ListFronts.{type_struct, type_entry}
+use Rattle.dbus_types.proofs.LimitsByLayer.{less_left, struct_length, entry_length}
 use Rattle.dbus_types.proofs.keeping.+type_text.Goals as goal
 
 pub type_leaves-returns-in_ok-checked_sub-in-Struct : goal.type_leaves-returns-in_ok-checked_sub-in-Struct

@@ -1,7 +1,7 @@
 use Rattle.std.proofs.Common.{Bool, ◌↔◌, sym, subst}
 use Rattle.std.specs.Prelude.{IsTrue}
 use Rattle.dbus_types.specs.Values.{IsSignatureText}
-use Rattle.dbus_types.proofs.Within.{signature_checked}
+use Rattle.dbus_types.proofs.LimitsByLayer.{signature_checked}
 use Rattle.dbus_types.proofs.keeping.is_signature.Goals as goal
 
 pub returns : goal.returns

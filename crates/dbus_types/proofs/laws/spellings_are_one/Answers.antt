@@ -1,5 +1,5 @@
 use Rattle.std.proofs.Common.{ap, sym, ◌∙◌, length}
-use Rattle.dbus_types.proofs.Same.{spells_same}
+use Rattle.dbus_types.proofs.OneSpelling.{spells_same}
 use Rattle.dbus_types.proofs.SpelledType.{spelled_kind}
 use Rattle.dbus_types.proofs.Lengths.{same_length}
 use Rattle.dbus_types.proofs.laws.spellings_are_one.Goals as goal

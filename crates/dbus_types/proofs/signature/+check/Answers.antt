@@ -1,6 +1,6 @@
 use Rattle.std.proofs.Common.{◌∙◌, arith}
 use Rattle.dbus_types.specs.Reading.{type_at}
-use Rattle.dbus_types.proofs.Checks.{more_close, more_step, more_fails, more_end}
+use Rattle.dbus_types.proofs.CheckSteps.{more_close, more_step, more_fails, more_end}
 use Rattle.dbus_types.proofs.signature.+check.Goals as goal
 
 pub check_members-returns-then-text-next-eq41-clause-read : goal.check_members-returns-then-text-next-eq41-clause-read

@@ -1,6 +1,6 @@
 use Rattle.std.proofs.Common.{◌∙◌, length, drop, sym, subst, arith, refl}
 use Rattle.dbus_types.specs.Reading.{Fails, type_at}
-use Rattle.dbus_types.proofs.Steps.{members_go, more_close, more_step, more_fails, more_end}
+use Rattle.dbus_types.proofs.ReadingSteps.{members_go, more_close, more_step, more_fails, more_end}
 use Rattle.dbus_types.proofs.signature.+read.Goals as goal
 
 pub read_members-loop-next-init : goal.read_members-loop-next-init

@@ -1,6 +1,6 @@
 use Rattle.std.proofs.Common.{◌≡◌, ℕ, ◌+◌, ◌-◌, ◌*◌, ◌≤◌, ◌<◌, drop, length}
 use Rattle.dbus_types.specs.Reading.{type_at, more_at, members_at}
-use Rattle.dbus_types.proofs.Steps.{onto}
+use Rattle.dbus_types.proofs.ReadingSteps.{onto}
 use Rattle.dbus_types.proofs.signature.+read.Given as goal
 
 abbrev pub decreases-read_type : goal.decreases-read_type

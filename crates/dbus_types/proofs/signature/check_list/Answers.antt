@@ -1,6 +1,6 @@
 use Rattle.std.proofs.Common.{◌∙◌, arith}
 use Rattle.dbus_types.specs.Reading.{type_at}
-use Rattle.dbus_types.proofs.Checks.{list_step, list_fails, list_end}
+use Rattle.dbus_types.proofs.CheckSteps.{list_step, list_fails, list_end}
 use Rattle.dbus_types.proofs.signature.check_list.Goals as goal
 
 pub loop-next-preserved : goal.loop-next-preserved

@@ -1,5 +1,5 @@
 use Rattle.std.proofs.Common.{arith, sym}
-use Rattle.dbus_types.proofs.Whole.{short_checked, long_stopped, long_passed, cut_len}
+use Rattle.dbus_types.proofs.WholeSignatures.{short_checked, long_stopped, long_passed, cut_len}
 use Rattle.dbus_types.proofs.signature.check_signature.Goals as goal
 
 pub returns-then-text-le-LONGEST : goal.returns-then-text-le-LONGEST

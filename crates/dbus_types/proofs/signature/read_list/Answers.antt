@@ -1,6 +1,6 @@
 use Rattle.std.proofs.Common.{◌∙◌, sym, subst, arith, refl}
 use Rattle.dbus_types.specs.Reading.{Fails, type_at}
-use Rattle.dbus_types.proofs.Steps.{list_step, list_fails, list_end}
+use Rattle.dbus_types.proofs.ReadingSteps.{list_step, list_fails, list_end}
 use Rattle.dbus_types.proofs.signature.read_list.Goals as goal
 
 pub loop-next-preserved : goal.loop-next-preserved

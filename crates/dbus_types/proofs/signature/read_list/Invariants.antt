@@ -1,6 +1,6 @@
 use Rattle.std.proofs.Common.{◌≡◌, ℕ, ◌-◌, ◌≤◌, drop, length}
 use Rattle.dbus_types.specs.Reading.{type_at, list_at, whole_at}
-use Rattle.dbus_types.proofs.Steps.{behind}
+use Rattle.dbus_types.proofs.ReadingSteps.{behind}
 use Rattle.dbus_types.proofs.signature.read_list.Given as goal
 
 -- the types so far, and those that are left, are those of all

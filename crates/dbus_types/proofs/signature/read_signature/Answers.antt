@@ -1,4 +1,4 @@
-use Rattle.dbus_types.proofs.Whole.{read_reading, read_only, checked_none}
+use Rattle.dbus_types.proofs.WholeSignatures.{read_reading, read_only, checked_none}
 use Rattle.dbus_types.proofs.signature.read_signature.Goals as goal
 
 pub returns-in-Err-clause-only : goal.returns-in-Err-clause-only

@@ -1,6 +1,6 @@
 use Rattle.std.proofs.Common.{Ok, Err, arith}
 use Rattle.dbus_types.specs.declared.errors.SignatureError.TheVariants.{BadSignature}
-use Rattle.dbus_types.proofs.Single.{read_alone, read_second, read_stops, reads_single, single_only}
+use Rattle.dbus_types.proofs.OneTypeRead.{read_alone, read_second, read_stops, reads_single, single_only}
 use Rattle.dbus_types.proofs.signature.read_single.Goals as goal
 
 pub returns-then-end-text : goal.returns-then-end-text

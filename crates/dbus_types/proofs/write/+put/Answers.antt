@@ -1,7 +1,7 @@
 use Rattle.std.proofs.Common.{◌++◌, ◌∙◌, ap, sym}
 use Rattle.dbus_types.specs.declared.types.WireType.{WireType}
 use Rattle.dbus_types.specs.Types.{type_text}
-use Rattle.dbus_types.proofs.Extending.{on_ok, struct_put, entry_put}
+use Rattle.dbus_types.proofs.ListFronts.{on_ok, struct_put, entry_put}
 use Rattle.dbus_types.proofs.write.+put.Goals as goal
 
 pub put_type-returns-in_ok-put_types-in-Struct-clause-ok : goal.put_type-returns-in_ok-put_types-in-Struct-clause-ok

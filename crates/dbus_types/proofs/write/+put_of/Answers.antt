@@ -2,7 +2,7 @@ use Rattle.std.proofs.Common.{◌++◌, ◌∙◌, map, ap, sym}
 use Rattle.dbus_types.specs.declared.types.WireType.{WireType}
 use Rattle.dbus_types.specs.Types.{type_text}
 use Rattle.dbus_types.specs.Values.{type_of}
-use Rattle.dbus_types.proofs.Extending.{on_ok, struct_put, entry_put, type_struct, type_entry}
+use Rattle.dbus_types.proofs.ListFronts.{on_ok, struct_put, entry_put, type_struct, type_entry}
 use Rattle.dbus_types.proofs.write.+put_of.Goals as goal
 
 pub put_type_of-returns-in_ok-put_types_of-in-Struct-clause-ok : goal.put_type_of-returns-in_ok-put_types_of-in-Struct-clause-ok

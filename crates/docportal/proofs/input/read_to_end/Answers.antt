@@ -1,6 +1,6 @@
 use Rattle.std.proofs.Common.{◌∙◌}
 use Rattle.docportal.proofs.input.read_to_end.Goals as goal
-use Rattle.docportal.proofs.Behind.{read_on, too_long}
+use Rattle.docportal.proofs.BytesAhead.{read_on, too_long}
 
 pub returns-in_default-clause-err : goal.returns-in_default-clause-err
 returns-in_default-clause-err g c = (c.in-Got.ensures.counts ∙ c.pieces.invariant.counts, (_, read_on _ _ _ _ _ c.pieces.invariant.read c.in-Got.ensures.reads.2))

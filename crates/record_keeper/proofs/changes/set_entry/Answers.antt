@@ -2,7 +2,7 @@ use Rattle.std.proofs.Common.{◌≡◌, Some, None, sym, ap, ◌∙◌, List, �
 use Rattle.std.specs.List.{position}
 use Rattle.portal_model.specs.RecordChanges.{is_of_key, change_first}
 use Rattle.portal_model.specs.declared.records.EntryRecord.{EntryRecord}
-use Rattle.record_keeper.proofs.Firsts.{first-changed, is-there, is-missing}
+use Rattle.record_keeper.proofs.FirstPassing.{first-changed, is-there, is-missing}
 use Rattle.record_keeper.proofs.changes.set_entry.Goals as goal
 
 pub returns-in-Some-clause-items : goal.returns-in-Some-clause-items

@@ -2,7 +2,7 @@ use Rattle.std.proofs.Common.{ap, ◌∙◌, List}
 use Rattle.std.specs.List.{position}
 use Rattle.portal_model.specs.RecordChanges.{is_numbered}
 use Rattle.portal_model.specs.declared.records.DocRecord.{DocRecord}
-use Rattle.record_keeper.proofs.Firsts.{first-changed, first-missing}
+use Rattle.record_keeper.proofs.FirstPassing.{first-changed, first-missing}
 use Rattle.record_keeper.proofs.changes.set_grants.Goals as goal
 
 pub returns-in-Some-clause-items : goal.returns-in-Some-clause-items

@@ -2,7 +2,7 @@ use Rattle.std.proofs.Common.{◌≡◌, sym, ◌∙◌, refl, arith}
 use Rattle.std.specs.Cmp.Lexicographic.{slice_cmp}
 use Rattle.std.specs.Ordering.{nat_cmp}
 use Rattle.std.specs.declared.cmp.Ordering.TheVariants.{Less}
-use Rattle.record_keeper.proofs.Rising.{rises_there, rises_more, rises_all}
+use Rattle.record_keeper.proofs.RisingNames.{rises_there, rises_more, rises_all}
 use Rattle.record_keeper.proofs.keys.keys_rise.Goals as goal
 use Rattle.record_keeper.proofs.keys.keys_rise.Goals.{in-Less, in_default}
 

@@ -1,7 +1,7 @@
 use Rattle.std.proofs.Common.{◌≡◌, ◌∙◌, ap, sym, true, false, arith}
 use Rattle.portal_model.specs.Valid.{is_made}
 use Rattle.document_records.specs.Documents.{DocumentList}
-use Rattle.document_records.proofs.Unused.{walked-none, walked-more, fewer-left}
+use Rattle.document_records.proofs.UnusedNumbers.{walked-none, walked-more, fewer-left}
 use Rattle.document_records.proofs.documents.Documents.unused_from.Goals as goal
 
 pub loop-self-init : goal.loop-self-init

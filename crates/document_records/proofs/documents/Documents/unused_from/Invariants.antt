@@ -1,4 +1,4 @@
-use Rattle.document_records.proofs.Unused.{Walked, left}
+use Rattle.document_records.proofs.UnusedNumbers.{Walked, left}
 use Rattle.portal_model.specs.Documents.{above}
 use Rattle.document_records.proofs.documents.Documents.unused_from.Given as goal
 

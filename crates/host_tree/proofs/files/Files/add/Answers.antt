@@ -3,7 +3,7 @@ use Rattle.portal_base.specs.Content.{ArePlaced, paths_of, file_at}
 use Rattle.portal_base.specs.declared.files.File.{File}
 use Rattle.host_tree.specs.Trees.{put_file, file_with}
 use Rattle.host_tree.specs.Stored.{files_of}
-use Rattle.host_tree.proofs.Created.{inserted-is, added-is-tree}
+use Rattle.host_tree.proofs.FileCreated.{inserted-is, added-is-tree}
 use Rattle.host_tree.proofs.Entries.{put-is-new, none-in-map}
 use Rattle.host_tree.proofs.files.Files.add.Goals as goal
 

@@ -2,7 +2,7 @@ use Rattle.std.proofs.Common.{sym, ap, ◌∙◌, List}
 use Rattle.std.specs.List.{list_any}
 use Rattle.portal_base.specs.Content.{is_above}
 use Rattle.portal_base.specs.declared.files.File.{File}
-use Rattle.host_tree.proofs.Below.{below-first, seen-at-first}
+use Rattle.host_tree.proofs.PathsBelow.{below-first, seen-at-first}
 use Rattle.host_tree.proofs.files.Files.has_file_below.Goals as goal
 
 pub returns-in-Some : goal.returns-in-Some

@@ -4,7 +4,7 @@ use Rattle.portal_base.specs.PathOrder.{path_order}
 use Rattle.portal_base.specs.declared.files.File.{File}
 use Rattle.host_tree.specs.Trees.{may_create, put_file, new_file}
 use Rattle.host_tree.specs.Stored.{files_of}
-use Rattle.host_tree.proofs.Created.{inserted-is, inserted-is-tree, none-stored}
+use Rattle.host_tree.proofs.FileCreated.{inserted-is, inserted-is-tree, none-stored}
 use Rattle.host_tree.proofs.files.Files.insert_new.Goals as goal
 
 pub invariant_of-self-2 : goal.invariant_of-self-2

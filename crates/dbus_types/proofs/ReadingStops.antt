@@ -11,10 +11,10 @@ use Rattle.dbus_types.specs.declared.errors.SignatureError.{SignatureError}
 use Rattle.dbus_types.specs.declared.errors.SignatureError.TheVariants.{BadSignature, TooDeep, Memory}
 use Rattle.dbus_types.specs.Types.{role, type_text, types_text, Fits}
 use Rattle.dbus_types.specs.Reading.{◌>>=◌, Read, coded, code_at, key_at, closed, with_type, more_at, members_at, element_at, one_at, level_at, type_at}
-use Rattle.dbus_types.proofs.Layers.{text_array, text_struct, text_entry, text_byte, role_byte}
+use Rattle.dbus_types.proofs.TypeLayers.{text_array, text_struct, text_entry, text_byte, role_byte}
 use Rattle.dbus_types.proofs.Codes.{Code, code_Byte, CodedOut, coded_is, shape}
-use Rattle.dbus_types.proofs.Fitting.{ElementFits, fits_element, fits_more, fits_array, array_fits, fits_struct, struct_fits, no_entry, element_entry, entry_element, basic_code, code_basic, code_fits, element_fits, code_complete, array_complete, struct_complete, not_basic}
-use Rattle.dbus_types.proofs.Again.{by_limits, type_cell, starts, type_again}
+use Rattle.dbus_types.proofs.TypesWithinLimits.{ElementFits, fits_element, fits_more, fits_array, array_fits, fits_struct, struct_fits, no_entry, element_entry, entry_element, basic_code, code_basic, code_fits, element_fits, code_complete, array_complete, struct_complete, not_basic}
+use Rattle.dbus_types.proofs.TextsReadAgain.{by_limits, type_cell, starts, type_again}
 
 -- ---- lists
 

@@ -12,9 +12,9 @@ use Rattle.dbus_types.specs.declared.message.OutMessage.{OutMessage}
 use Rattle.dbus_types.specs.Types.{IsSignature}
 use Rattle.dbus_types.specs.Values.{type_of}
 use Rattle.dbus_types.specs.Spells.{Members}
-use Rattle.dbus_types.proofs.Same.{spells_same}
-use Rattle.dbus_types.proofs.Whole.{whole_again}
-use Rattle.dbus_marshal.proofs.Whole.{one_spelling}
+use Rattle.dbus_types.proofs.OneSpelling.{spells_same}
+use Rattle.dbus_types.proofs.WholeSignatures.{whole_again}
+use Rattle.dbus_marshal.proofs.SpelledIsRead.{one_spelling}
 use Rattle.dbus_message.specs.declared.content.Content.{Content}
 use Rattle.dbus_message.specs.Header.{body_bytes, endian_of}
 use Rattle.dbus_message.specs.Fields.{field_type, text_of}
@@ -24,7 +24,7 @@ use Rattle.dbus_message.specs.Written.{body_out, fields_out, IsWritten, kind_out
 use Rattle.dbus_message.proofs.Arrays.{one_list}
 use Rattle.dbus_message.proofs.Bodies.{Spelled}
 use Rattle.dbus_message.proofs.Contents.{same_content}
-use Rattle.dbus_message.proofs.Reading.{same_message}
+use Rattle.dbus_message.proofs.ReadMessage.{same_message}
 
 -- ---- what bytes say
 

@@ -17,10 +17,10 @@ use Rattle.portal_model.specs.Grant.{numbered_with}
 use Rattle.portal_model.specs.Rights.{add_rights, forget_document, take_rights, triple}
 use Rattle.portal_model.specs.State.{document_of}
 use Rattle.portal_model.specs.Valid.{is_made, is_numbered}
-use Rattle.portal_model.proofs.Apart.{IsDistinct-filter, list_all-filter, list_all-weaken}
-use Rattle.portal_model.proofs.Finds.{find-filter, is_same-refl, nat_is}
+use Rattle.portal_model.proofs.DistinctItems.{IsDistinct-filter, list_all-filter, list_all-weaken}
+use Rattle.portal_model.proofs.ListLookups.{find-filter, is_same-refl, nat_is}
 use Rattle.portal_model.proofs.RightsLaws.{all-add_rights, none-added, ordered-add_rights, ordered-forget_document, ordered-take_rights}
-use Rattle.portal_model.proofs.Sound.{Documented, is_live, is_placed_in, numbers}
+use Rattle.portal_model.proofs.SoundParts.{Documented, is_live, is_placed_in, numbers}
 
 pub both : (a b : Bool) → a ≡ true → b ≡ true → (a && b) ≡ true
 both true true h k = refl

@@ -16,9 +16,9 @@ use Rattle.portal_model.specs.Present.{requeued}
 use Rattle.portal_model.specs.State.{State, connection_of}
 use Rattle.portal_model.specs.Step.{after, all_told, bus_of, bus_step, collect_step, told_of, node_answer, node_step, request_step, mount_of, with_signals}
 use Rattle.portal_model.specs.Valid.{is_none, is_silent}
-use Rattle.portal_model.proofs.Apart.{list_all-filter}
+use Rattle.portal_model.proofs.DistinctItems.{list_all-filter}
 use Rattle.portal_model.proofs.BusLaws.{bus_step-holds}
-use Rattle.portal_model.proofs.Finds.{found_in_all}
+use Rattle.portal_model.proofs.ListLookups.{found_in_all}
 
 pub none-nil : {X : Type 0} (xs : List X) → is_none xs ≡ true → xs ≡ []
 none-nil [] e = refl

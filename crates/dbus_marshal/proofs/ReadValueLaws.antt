@@ -12,11 +12,11 @@ use Rattle.dbus_marshal.specs.declared.error.ReadError.TheVariants.{Short, Paddi
 use Rattle.dbus_types.specs.Spells.{Spells}
 use Rattle.dbus_marshal.specs.Breaks.{Breaks}
 use Rattle.dbus_marshal.specs.Reads.{Fails, IsRead, IsStopped, IsRefused, Read, after, reads}
-use Rattle.dbus_marshal.proofs.Took.{IsBytes, bytes_after, Took}
-use Rattle.dbus_marshal.proofs.Sound.{reads_took}
-use Rattle.dbus_marshal.proofs.Whole.{reads_again, ok_is}
-use Rattle.dbus_marshal.proofs.Exact.{not_ok, err_is}
-use Rattle.dbus_marshal.proofs.First.{reads_exact}
+use Rattle.dbus_marshal.proofs.TakenFronts.{IsBytes, bytes_after, Took}
+use Rattle.dbus_marshal.proofs.ReadIsSpelled.{reads_took}
+use Rattle.dbus_marshal.proofs.SpelledIsRead.{reads_again, ok_is}
+use Rattle.dbus_marshal.proofs.StepBreaks.{not_ok, err_is}
+use Rattle.dbus_marshal.proofs.FirstBreak.{reads_exact}
 use Rattle.std.proofs.lemmas.List.{take-append-drop}
 
 pub is_found : (e : Endian) (t : WireType) (bytes : List ℕ) (at : ℕ) (v : Value) (next : ℕ) → IsBytes bytes → reads 65 e t at (drop at bytes) ≡ Ok (after bytes (v, next))

@@ -9,7 +9,7 @@ use Rattle.dbus_types.specs.declared.types.Value.TheVariants as V
 use Rattle.dbus_types.specs.Types.{type_text, types_text}
 use Rattle.dbus_types.specs.Values.{type_of}
 use Rattle.dbus_types.specs.Extends.{Extends}
-use Rattle.dbus_types.proofs.Layers.{text_struct, text_entry}
+use Rattle.dbus_types.proofs.TypeLayers.{text_struct, text_entry}
 
 pub extends_refl : (a b : List ℕ) → b ≡ a → Extends a b
 extends_refl a b e = rw e (take_all (length a) a (omega arith))

@@ -17,7 +17,7 @@ use Rattle.portal_base.specs.declared.files.File.{File}
 use Rattle.host_tree.specs.Stored.{file_of, files_of}
 use Rattle.host_tree.specs.Trees.{put_file, may_create}
 use Rattle.host_tree.specs.declared.files.Stored.{Stored}
-use Rattle.host_tree.proofs.Below.{first-same, rest-below, slash-first, slash-is, above-more}
+use Rattle.host_tree.proofs.PathsBelow.{first-same, rest-below, slash-first, slash-is, above-more}
 use Rattle.host_tree.proofs.Entries.{same-is, paths-are, all-put, any-put, put-entry, has-file-at}
 use Rattle.host_tree.proofs.Paths.{above_longer}
 

@@ -9,8 +9,8 @@ use Rattle.dbus_types.specs.declared.errors.SignatureError.TheVariants.{BadSigna
 use Rattle.dbus_types.specs.Types.{type_text, types_text, arrays_deep, brackets_deep, Fits, IsComplete, IsValidType, IsSignature}
 use Rattle.dbus_types.specs.Reading.{Gives, Tells, passed, type_at, with_first, list_at, whole_at}
 use Rattle.dbus_types.specs.Breaks.{Begins, IsBadAt, IsTooDeepAt, IsReading, IsReadAs, IsChecked}
-use Rattle.dbus_types.proofs.Again.{starts, type_again, list_again}
-use Rattle.dbus_types.proofs.Stops.{Kinds, Viable, error_place, Admits, AtEnd, Any, Took, Stops, Outcome, After, type_out, types_append, through, unique}
+use Rattle.dbus_types.proofs.TextsReadAgain.{starts, type_again, list_again}
+use Rattle.dbus_types.proofs.ReadingStops.{Kinds, Viable, error_place, Admits, AtEnd, Any, Took, Stops, Outcome, After, type_out, types_append, through, unique}
 
 -- ---- where a list of types stops
 
@@ -82,7 +82,7 @@ module _ (a b : ℕ) (whole : List ℕ) where
     ends = after e s.front s.rest s.ends;
   }
     where
-      deeper : (e : SignatureError) (front : List ℕ) (c : ℕ) → Rattle.dbus_types.proofs.Stops.Deeper e Any (front ++ c ∷ []) → ListDeeper e Any ((types_text ts ++ front) ++ c ∷ [])
+      deeper : (e : SignatureError) (front : List ℕ) (c : ℕ) → Rattle.dbus_types.proofs.ReadingStops.Deeper e Any (front ++ c ∷ []) → ListDeeper e Any ((types_text ts ++ front) ++ c ∷ [])
       deeper (BadSignature at) front c d = tt
       deeper (TooDeep at) front c d = subst (Begins Any) (sym (append_assoc (types_text ts) front (c ∷ []))) (begins_more Any ts (front ++ c ∷ []) (all_any a b ts h) d)
       deeper Memory front c d = d

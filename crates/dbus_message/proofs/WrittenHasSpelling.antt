@@ -16,16 +16,16 @@ use Rattle.dbus_types.specs.declared.roles.Role.TheVariants.{Basic, Single}
 use Rattle.dbus_types.specs.Names.{is_path, is_interface_name}
 use Rattle.dbus_types.specs.Types.{is_single, struct_role, array_role, role, greatest, arrays_deep, brackets_deep, type_text, types_text, IsValidType, IsVariantType, IsSignature}
 use Rattle.dbus_types.specs.Values.{type_of, IsText, IsSignatureText, ValueKeeps, KeepsWithin, KeepsRules}
-use Rattle.dbus_types.proofs.Layers.{role_byte, role_array, role_struct, arrays_array, arrays_struct, brackets_array, brackets_struct}
+use Rattle.dbus_types.proofs.TypeLayers.{role_byte, role_array, role_struct, arrays_array, arrays_struct, brackets_array, brackets_struct}
 use Rattle.dbus_types.specs.Spells.{Spells, Members}
 use Rattle.dbus_types.specs.Spelling.{spelling, spellings}
-use Rattle.dbus_marshal.proofs.Every.{every_spelled}
+use Rattle.dbus_marshal.proofs.EveryValueIsSpelled.{every_spelled}
 use Rattle.dbus_message.specs.Fields.{field_type}
 use Rattle.dbus_message.specs.Written.{field, signature_field, last_part, kind_out, body_out, return_fields, fields_out, message_bytes, IsWritten, IsGoodBody, KeepsKinds, CanWrite}
 use Rattle.dbus_message.proofs.Ascii.{interface_text, member_text, last_text}
 use Rattle.dbus_message.proofs.Bodies.{Spelled}
 use Rattle.dbus_message.proofs.Tables.{HasNames, out_struct, out_byte, out_variant, out_u32, out_str, out_path, out_signature}
-use Rattle.dbus_message.proofs.Writing.{whole_len}
+use Rattle.dbus_message.proofs.WriteMessage.{whole_len}
 
 -- ---- types
 

@@ -15,21 +15,21 @@ use Rattle.dbus_types.specs.declared.errors.SignatureError.TheVariants as Stop
 use Rattle.dbus_types.specs.Reading.{whole_at, single_at, passed}
 use Rattle.dbus_types.specs.Types.{alignment, type_text, IsVariantType}
 use Rattle.dbus_types.specs.Values.{IsText, IsSignatureText}
-use Rattle.dbus_types.proofs.Whole.{short_reading, stops_no_memory}
-use Rattle.dbus_types.proofs.Single.{single_reading, single_no_memory}
-use Rattle.dbus_types.proofs.Once.{reading_stops, single_stops}
+use Rattle.dbus_types.proofs.WholeSignatures.{short_reading, stops_no_memory}
+use Rattle.dbus_types.proofs.OneTypeRead.{single_reading, single_no_memory}
+use Rattle.dbus_types.proofs.OneBreak.{reading_stops, single_stops}
 use Rattle.dbus_marshal.specs.declared.error.ReadError.{ReadError}
 use Rattle.dbus_marshal.specs.declared.error.ReadError.TheVariants.{BadBool, BadText, TooLong, BadSignature, TooDeep}
 use Rattle.dbus_types.specs.Spells.{IsPath, Elements, NoneInside, SpellsWithin}
 use Rattle.dbus_marshal.specs.Breaks.{Break, Never, Ends, Behind, AlignedBreaks, BytesBreak, ZeroBreaks, BoolBreaks, TextBreaks, IsNoSignature, IsNoType, SignatureBreaks, VariantBreaks, MembersBreak, array_error, ElementsBreak, ArrayBreaks, RowBreaks, TooDeepInside, BreaksWithin}
 use Rattle.dbus_marshal.specs.Reads.{◌>>=◌, Read, moved, checked_in, type_in, padded, number_at, ended, is_text, is_path_text, ended_with, text_at, numbered, texted, signature_with, signature_at, members, joined, elements, listed, within_array, fixed, flat, layer, reads}
-use Rattle.dbus_marshal.proofs.Took.{Wide, two, four, eight, width, size, IsBytes, bytes_after, Took}
-use Rattle.dbus_marshal.proofs.Plain.{signature_text}
+use Rattle.dbus_marshal.proofs.TakenFronts.{Wide, two, four, eight, width, size, IsBytes, bytes_after, Took}
+use Rattle.dbus_marshal.proofs.AsciiNames.{signature_text}
 use Rattle.dbus_marshal.proofs.Words.{text_is, is_text_of, path_is, is_path_of}
 use Rattle.dbus_marshal.proofs.Signatures.{types_took, type_took, types_again, type_again}
-use Rattle.dbus_marshal.proofs.Sound.{none_took, reads_took}
-use Rattle.dbus_marshal.proofs.Whole.{reads_again, spells_fills}
-use Rattle.dbus_marshal.proofs.Exact.{Exact, not_ok, err_is, through, stop_is, go_is, exact_as, ok_exact, made_exact, aligned_exact, taken_exact, number_only, number_exact, byte_exact, ended_exact, when_exact, unless_exact, truth_exact}
+use Rattle.dbus_marshal.proofs.ReadIsSpelled.{none_took, reads_took}
+use Rattle.dbus_marshal.proofs.SpelledIsRead.{reads_again, spells_fills}
+use Rattle.dbus_marshal.proofs.StepBreaks.{Exact, not_ok, err_is, through, stop_is, go_is, exact_as, ok_exact, made_exact, aligned_exact, taken_exact, number_only, number_exact, byte_exact, ended_exact, when_exact, unless_exact, truth_exact}
 
 abbrev failed : (A : Type 0) → ReadError → Result A ReadError
 failed A e = Err e

@@ -13,8 +13,8 @@ use Rattle.dbus_types.specs.declared.errors.SignatureError.{SignatureError}
 use Rattle.dbus_types.specs.Types.{type_text, types_text, IsVariantType}
 use Rattle.dbus_types.specs.Values.{type_of, IsSignatureText, LeafKeeps, ValueKeeps, KeepsWithin}
 use Rattle.dbus_types.specs.Breaks.{IsChecked}
-use Rattle.dbus_types.proofs.Layers.{text_struct, text_entry}
-use Rattle.dbus_types.proofs.Whole.{checked_none}
+use Rattle.dbus_types.proofs.TypeLayers.{text_struct, text_entry}
+use Rattle.dbus_types.proofs.WholeSignatures.{checked_none}
 
 -- ---- the length of a text
 

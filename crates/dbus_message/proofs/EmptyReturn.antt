@@ -12,11 +12,11 @@ use Rattle.dbus_types.specs.Types.{type_text}
 use Rattle.dbus_types.specs.Values.{KeepsRules}
 use Rattle.dbus_types.specs.Spells.{number}
 use Rattle.dbus_types.specs.Spelling.{aligned, array_body, variant_body, Spelled, spell_step, spelled, spelling}
-use Rattle.dbus_types.proofs.Same.{roll_byte, roll_u32, roll_variant, roll_array, roll_struct}
+use Rattle.dbus_types.proofs.OneSpelling.{roll_byte, roll_u32, roll_variant, roll_array, roll_struct}
 use Rattle.dbus_message.specs.Fields.{field_type}
 use Rattle.dbus_message.specs.Written.{field, CanWrite}
-use Rattle.dbus_message.proofs.Sent.{field_alignment}
-use Rattle.dbus_message.proofs.Writing.{whole_len}
+use Rattle.dbus_message.proofs.WrittenAreMessages.{field_alignment}
+use Rattle.dbus_message.proofs.WriteMessage.{whole_len}
 
 text_u32 : type_text W.U32 ≡ 117 ∷ []
 text_u32 = search type_lemmas

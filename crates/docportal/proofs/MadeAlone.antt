@@ -13,11 +13,11 @@ use Rattle.portal_model.specs.State.{State}
 use Rattle.portal_model.specs.Step.{after}
 use Rattle.portal_model.proofs.Histories.{Legal-rest}
 use Rattle.portal_model.proofs.SeatLaws.{exchanges-append}
-use Rattle.portal_model.proofs.Kept.{step_told}
+use Rattle.portal_model.proofs.StaysTold.{step_told}
 use Rattle.session.specs.Answers.{AreOf, Denied, IsOf, Made, Outcome, denied, kept}
 use Rattle.session.proofs.ItemsBuilt.{AllBuilt}
 use Rattle.docportal.specs.Entries.{entries_for, entry_for, made_for}
-use Rattle.docportal.proofs.Given.{lawful_is, run_told}
+use Rattle.docportal.proofs.GivenByTree.{lawful_is, run_told}
 
 abbrev IsOwn : ℕ → Entry → Type 0
 IsOwn seat e = (e.seat ≡ seat) × is_faultless e

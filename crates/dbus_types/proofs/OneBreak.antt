@@ -8,9 +8,9 @@ use Rattle.dbus_types.specs.declared.errors.SignatureError.TheVariants.{BadSigna
 use Rattle.dbus_types.specs.Types.{type_text, IsComplete, IsValidType}
 use Rattle.dbus_types.specs.Reading.{Gives, Tells, whole_at, single_at, passed}
 use Rattle.dbus_types.specs.Breaks.{Begins, BeginsOne, IsBadAt, IsTooDeepAt, IsNoTypeAt, IsTypeTooDeepAt, IsChecked, IsSingleReading}
-use Rattle.dbus_types.proofs.Stops.{Kinds, error_place}
-use Rattle.dbus_types.proofs.Whole.{begins_as, checked_none, short_reading, reading_checked, stops_no_memory, whole_again}
-use Rattle.dbus_types.proofs.Single.{single_reading, single_no_memory, single_again}
+use Rattle.dbus_types.proofs.ReadingStops.{Kinds, error_place}
+use Rattle.dbus_types.proofs.WholeSignatures.{begins_as, checked_none, short_reading, reading_checked, stops_no_memory, whole_again}
+use Rattle.dbus_types.proofs.OneTypeRead.{single_reading, single_no_memory, single_again}
 
 -- a shorter front
 front_split : (text : List ℕ) (j k : ℕ) → j ≤ k → k ≤ length text → take k text ≡ take j text ++ drop j (take k text)

@@ -13,7 +13,7 @@ use Rattle.dbus_types.specs.declared.types.Value.TheVariants as V
 use Rattle.dbus_types.specs.Types.{alignment, types_text, IsSignature}
 use Rattle.dbus_types.specs.Values.{type_of}
 use Rattle.dbus_types.specs.Spells.{Spells, Row, SpellsWithin, number, gap}
-use Rattle.dbus_marshal.proofs.Took.{four, number_len}
+use Rattle.dbus_marshal.proofs.TakenFronts.{four, number_len}
 use Rattle.dbus_types.specs.declared.message.OutMessage.{OutMessage}
 use Rattle.dbus_types.specs.declared.message.OutMessage.TheVariants.{Return, Error, Signal}
 use Rattle.dbus_message.specs.Header.{number_at, fields_end, body_start, stated_len, field_bytes, padding_bytes, body_bytes}
@@ -22,8 +22,8 @@ use Rattle.dbus_message.specs.Content.{IsBody, IsContent}
 use Rattle.dbus_message.specs.Messages.{IsMessage}
 use Rattle.dbus_message.specs.Written.{laid, kind_out, body_out, fields_out, IsWritten, message_bytes, CanWrite, stands_for}
 use Rattle.dbus_message.proofs.Tables.{HasNames, fields_good, fields_needed, fields_say, return_signature, error_signature, signal_signature, no_signature}
-use Rattle.dbus_message.proofs.Spelling.{names_good, body_good, good_signature, is_spelled}
-use Rattle.dbus_message.proofs.Writing.{says_body, says_serial, says_fields, fields_stand, padding_stands, body_stands, whole_len, all_zeros}
+use Rattle.dbus_message.proofs.WrittenHasSpelling.{names_good, body_good, good_signature, is_spelled}
+use Rattle.dbus_message.proofs.WriteMessage.{says_body, says_serial, says_fields, fields_stand, padding_stands, body_stands, whole_len, all_zeros}
 
 pub field_alignment : alignment field_type ≡ 8
 field_alignment = search type_lemmas

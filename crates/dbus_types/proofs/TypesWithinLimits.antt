@@ -8,7 +8,7 @@ use Rattle.dbus_types.specs.declared.types.WireType.TheVariants as W
 use Rattle.dbus_types.specs.declared.roles.Role.{Role}
 use Rattle.dbus_types.specs.declared.roles.Role.TheVariants.{Basic, Single, Entry, Nowhere}
 use Rattle.dbus_types.specs.Types.{is_single, array_role, members_role, struct_role, entry_role, role, greatest, arrays_deep, brackets_deep, IsComplete, Fits}
-use Rattle.dbus_types.proofs.Layers.{role_array, role_struct, role_entry, arrays_array, arrays_struct, arrays_entry, brackets_array, brackets_struct, brackets_entry}
+use Rattle.dbus_types.proofs.TypeLayers.{role_array, role_struct, role_entry, arrays_array, arrays_struct, arrays_entry, brackets_array, brackets_struct, brackets_entry}
 use Rattle.dbus_types.proofs.Codes.{Code, code_role}
 
 -- the role of an array's element

@@ -12,7 +12,7 @@ use Rattle.portal_model.specs.Built.{Built, BuiltOp}
 use Rattle.portal_model.specs.Lawful.{Lawful, LawfulGiven, LawfulLooks, is_defined_op}
 use Rattle.portal_model.specs.State.{State}
 use Rattle.portal_model.specs.Step.{after, looks_taken}
-use Rattle.portal_model.proofs.Kept.{step_told}
+use Rattle.portal_model.proofs.StaysTold.{step_told}
 use Rattle.session.proofs.ItemsBuilt.{AllBuilt}
 use Rattle.docportal.specs.Entries.{entries_for, entry_for}
 

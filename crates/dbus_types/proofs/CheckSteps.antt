@@ -5,8 +5,8 @@ use Rattle.dbus_types.specs.declared.types.WireType.TheVariants as W
 use Rattle.dbus_types.specs.declared.errors.SignatureError.{SignatureError}
 use Rattle.dbus_types.specs.declared.errors.SignatureError.TheVariants.{BadSignature, TooDeep}
 use Rattle.dbus_types.specs.Reading.{◌>>=◌, Read, after, place, code_at, key_at, closed, with_type, more_at, members_at, element_at, type_at, list_at, placed, passed}
-use Rattle.dbus_types.proofs.Steps as S
-use Rattle.dbus_types.proofs.Steps.{not_same}
+use Rattle.dbus_types.proofs.ReadingSteps as S
+use Rattle.dbus_types.proofs.ReadingSteps.{not_same}
 
 placed_after : {X Y : Type 0} (r : Read X) (f : X × ℕ × List ℕ → Y) → placed (r >>= λ t. Ok (f t, t.1, t.2)) ≡ placed r
 placed_after (Ok x) f = refl

@@ -16,10 +16,10 @@ use Rattle.dbus_types.specs.Reading.{coded}
 use Rattle.dbus_types.specs.Types.{type_text, types_text, IsValidType, Fits}
 use Rattle.dbus_types.specs.Values.{IsText, IsSignatureText}
 use Rattle.dbus_types.specs.declared.roles.Role.{Role}
-use Rattle.dbus_types.proofs.Layers.{text_array, text_struct, text_entry, arrays_entry, brackets_entry}
+use Rattle.dbus_types.proofs.TypeLayers.{text_array, text_struct, text_entry, arrays_entry, brackets_entry}
 use Rattle.dbus_types.proofs.Codes.{Code, shape}
-use Rattle.dbus_types.proofs.Again.{by_limits}
-use Rattle.dbus_types.proofs.Fitting.{Stands, ElementFits, fits_element, fits_array, fits_struct, element_entry, element_fits, array_complete, struct_complete}
+use Rattle.dbus_types.proofs.TextsReadAgain.{by_limits}
+use Rattle.dbus_types.proofs.TypesWithinLimits.{Stands, ElementFits, fits_element, fits_array, fits_struct, element_entry, element_fits, array_complete, struct_complete}
 
 abbrev pub Plain : ℕ → Type 0
 Plain b = (0 < b) × (b < 128)

@@ -8,10 +8,10 @@ use Rattle.dbus_types.specs.declared.errors.SignatureError.TheVariants.{BadSigna
 use Rattle.dbus_types.specs.Types.{type_text, Fits, IsComplete, IsValidType}
 use Rattle.dbus_types.specs.Reading.{◌>>=◌, Gives, Fails, type_at, alone, single_at}
 use Rattle.dbus_types.specs.Breaks.{BeginsOne, IsSingleReading, IsSingleReadAs}
-use Rattle.dbus_types.proofs.Again.{type_again}
-use Rattle.dbus_types.proofs.Steps.{fails_as}
-use Rattle.dbus_types.proofs.Stops.{Kinds, Viable, error_place, Admits, Deeper, After, Any, Took, Stops, Outcome, type_out, through, unique}
-use Rattle.dbus_types.proofs.Whole.{any_complete, complete_any, front_taken, more_taken, nothing_else}
+use Rattle.dbus_types.proofs.TextsReadAgain.{type_again}
+use Rattle.dbus_types.proofs.ReadingSteps.{fails_as}
+use Rattle.dbus_types.proofs.ReadingStops.{Kinds, Viable, error_place, Admits, Deeper, After, Any, Took, Stops, Outcome, type_out, through, unique}
+use Rattle.dbus_types.proofs.WholeSignatures.{any_complete, complete_any, front_taken, more_taken, nothing_else}
 
 -- ---- behind a type
 

@@ -18,7 +18,7 @@ use Rattle.dbus_types.specs.Spells.{number, gap, Aligned, IsPath, bit, Members, 
 use Rattle.dbus_marshal.specs.Reads.{◌>>=◌, Read, padded, taken, numbered, number_at, byte_at, ended, truth, is_text, is_path_text, text_at, texted, checked_in, type_in, signature_at, joined, members, listed, elements, within_array, fixed, flat, layer, reads}
 use Rattle.dbus_marshal.proofs.Signatures.{types_took, type_took}
 use Rattle.dbus_marshal.proofs.Words.{text_is, path_is}
-use Rattle.dbus_marshal.proofs.Took.{Wide, two, four, eight, width, IsBytes, bytes_before, Took, took, Then, took_then, took_as, number_len, bind, guard, guard_then, zeros_took, taken_took, byte_took, ended_took, number_took}
+use Rattle.dbus_marshal.proofs.TakenFronts.{Wide, two, four, eight, width, IsBytes, bytes_before, Took, took, Then, took_then, took_as, number_len, bind, guard, guard_then, zeros_took, taken_took, byte_took, ended_took, number_took}
 
 -- a body behind padding
 aligned_took : {X : Type 0} (to at : ℕ) (bytes : List ℕ) (Body : X → ℕ → List ℕ → Type 0) (f : ℕ × List ℕ → Read X) → IsBytes bytes

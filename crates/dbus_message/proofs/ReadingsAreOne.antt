@@ -14,12 +14,12 @@ use Rattle.dbus_types.specs.declared.message.Message.{Message}
 use Rattle.dbus_types.specs.Types.{IsSignature}
 use Rattle.dbus_types.specs.declared.errors.SignatureError.{SignatureError}
 use Rattle.dbus_types.specs.Reading.{whole_at}
-use Rattle.dbus_types.proofs.Whole.{short_reading, whole_again}
+use Rattle.dbus_types.proofs.WholeSignatures.{short_reading, whole_again}
 use Rattle.dbus_marshal.specs.Reads.{Read, reads}
 use Rattle.dbus_types.specs.Spells.{Members, Spells}
-use Rattle.dbus_marshal.proofs.Sound.{reads_took}
-use Rattle.dbus_marshal.proofs.Took.{IsBytes, Took, bytes_after, bytes_before}
-use Rattle.dbus_marshal.proofs.Whole.{one_spelling, reads_again}
+use Rattle.dbus_marshal.proofs.ReadIsSpelled.{reads_took}
+use Rattle.dbus_marshal.proofs.TakenFronts.{IsBytes, Took, bytes_after, bytes_before}
+use Rattle.dbus_marshal.proofs.SpelledIsRead.{one_spelling, reads_again}
 use Rattle.dbus_message.specs.declared.content.Content.{Content}
 use Rattle.dbus_message.specs.declared.error.MessageError.TheVariants.{Bad}
 use Rattle.dbus_message.specs.Answers.{IsReadBody, IsReadContent, IsReadTypes}
@@ -31,8 +31,8 @@ use Rattle.std.specs.Prelude.{unwrap_or}
 use Rattle.dbus_message.proofs.Arrays.{is_array}
 use Rattle.dbus_message.proofs.Bodies.{Spelled}
 use Rattle.dbus_message.proofs.Contents.{body_bad, body_good, nothing_bad, nothing_good, types_bad}
-use Rattle.dbus_message.proofs.Ones.{one_row, one_signature}
-use Rattle.dbus_message.proofs.Reading.{bad_fields, bad_needed, bad_padding, body_failed, fields_failed, message_read}
+use Rattle.dbus_message.proofs.OneMessage.{one_row, one_signature}
+use Rattle.dbus_message.proofs.ReadMessage.{bad_fields, bad_needed, bad_padding, body_failed, fields_failed, message_read}
 
 -- ---- bytes
 

@@ -16,7 +16,7 @@ use Rattle.dbus_types.specs.Spells.{number, gap, Aligned, IsPath, bit, Members, 
 use Rattle.dbus_marshal.specs.Reads.{◌>>=◌, Read, padded, number_at, byte_at, ended, truth, is_text, is_path_text, text_at, numbered, texted, signature_at, members, elements, fixed, flat, layer, reads}
 use Rattle.dbus_marshal.proofs.Signatures.{types_again, type_again}
 use Rattle.dbus_marshal.proofs.Words.{is_text_of, is_path_of}
-use Rattle.dbus_marshal.proofs.Took.{Wide, two, four, eight, width, size, zeros_again, taken_again, number_again, number_len}
+use Rattle.dbus_marshal.proofs.TakenFronts.{Wide, two, four, eight, width, size, zeros_again, taken_again, number_again, number_len}
 
 -- a step that is read, and then the others
 then_read : {A B : Type 0} (r : Result A ReadError) (f : A → Result B ReadError) (x : A) (y : Result B ReadError) → r ≡ Ok x → f x ≡ y → (r >>= f) ≡ y

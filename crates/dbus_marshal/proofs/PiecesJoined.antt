@@ -8,7 +8,7 @@ use Rattle.dbus_types.specs.declared.types.Value.TheVariants as V
 use Rattle.dbus_types.specs.Types.{type_text}
 use Rattle.dbus_types.specs.Spells.{gap}
 use Rattle.dbus_types.specs.Spelling.{Spelled, spelled, spelling, spellings, signature_body}
-use Rattle.dbus_types.proofs.Same.{roll_struct, roll_entry, roll_variant}
+use Rattle.dbus_types.proofs.OneSpelling.{roll_struct, roll_entry, roll_variant}
 
 pub variant_whole : (e : Endian) (out one two : List ℕ) (v x : Value) → v ≡ V.Variant x → one ≡ out ++ signature_body (type_text (spelled e x).0) → two ≡ one ++ spelling e (length one) x → two ≡ out ++ spelling e (length out) v
 variant_whole e out one two v x is a b =

@@ -10,7 +10,7 @@ use Rattle.dbus_types.specs.declared.types.WireType.{WireType}
 use Rattle.dbus_types.specs.declared.types.Value.{Value}
 use Rattle.dbus_types.specs.Values.{type_of}
 use Rattle.dbus_types.specs.Spells.{Spells, Members, number, gap}
-use Rattle.dbus_marshal.proofs.Took.{four, number_len}
+use Rattle.dbus_marshal.proofs.TakenFronts.{four, number_len}
 use Rattle.dbus_message.specs.Header.{number_at}
 use Rattle.dbus_message.specs.Content.{IsBody}
 use Rattle.dbus_message.specs.Written.{laid}

@@ -15,7 +15,7 @@ use Rattle.portal_model.specs.Arguments.{document_named, if_reached, reached}
 use Rattle.portal_model.specs.Documents.{id_of_document, serves}
 use Rattle.portal_model.specs.Rights.{held_by}
 use Rattle.portal_model.specs.State.{State, document_of}
-use Rattle.portal_model.proofs.Sound.{is_live}
+use Rattle.portal_model.proofs.SoundParts.{is_live}
 
 abbrev pub IsLive : List Document → Option Document → Type 0
 IsLive ds None = Unit {0}

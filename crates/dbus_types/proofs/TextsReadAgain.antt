@@ -10,9 +10,9 @@ use Rattle.dbus_types.specs.declared.roles.Role.TheVariants.{Basic}
 use Rattle.dbus_types.specs.declared.errors.SignatureError.TheVariants.{TooDeep}
 use Rattle.dbus_types.specs.Types.{role, type_text, types_text, Fits}
 use Rattle.dbus_types.specs.Reading.{◌>>=◌, Read, code_at, key_at, closed, more_at, members_at, element_at, one_at, level_at, type_at, list_at}
-use Rattle.dbus_types.proofs.Layers.{text_array, text_struct, text_entry}
+use Rattle.dbus_types.proofs.TypeLayers.{text_array, text_struct, text_entry}
 use Rattle.dbus_types.proofs.Codes.{Code, shape}
-use Rattle.dbus_types.proofs.Fitting.{ElementFits, fits_array, fits_struct, no_entry, element_entry, basic_code, element_fits, code_complete, array_complete, struct_complete, not_basic}
+use Rattle.dbus_types.proofs.TypesWithinLimits.{ElementFits, fits_array, fits_struct, no_entry, element_entry, basic_code, element_fits, code_complete, array_complete, struct_complete, not_basic}
 
 abbrev pub ok : {A : Type 0} → A → ℕ → List ℕ → Read A
 ok v next rest = Ok (v, next, rest)
