@@ -1,6 +1,7 @@
 -- A text replayed, and a run of the program.
 use Rattle.std.proofs.Common.{◌≡◌, ℕ, ◌+◌, ◌*◌, ◌≤◌, List, [], ◌∷◌, ◌++◌, length, Option, Some, None, Bool, false, refl, sym, ap, ◌∙◌, subst, inl, inr, ◌⊎◌, get_or, arith, length-append, map}
 use Rattle.std.specs.Prelude.{◌≢◌, IsTrue, codes}
+use Rattle.std.proofs.lemmas.List.{append-nil}
 use Rattle.portal_base.specs.Outside.{Short, onto}
 use Rattle.portal_base.specs.Names.{is_same}
 use Rattle.portal_model.specs.declared.entry.Entry.{Entry}
@@ -44,12 +45,12 @@ front_room text lines front later history out last short script plays e =
     let both : length (text_of lines) ≡ length (text_of front) + length (text_of later) = ap (λ (z : List ScriptLine). length (text_of z)) e ∙ text_joined front later in
     omega arith
 
-is_replay : (text : List ℕ) (lines front : List ScriptLine) (history : List Entry) (out : List (List ℕ)) (last : Scene) → length text ≤ script_limit → IsRead text lines → Valid (opening_state lines)
+is_replay : (text : List ℕ) (lines front later : List ScriptLine) (history : List Entry) (out : List (List ℕ)) (last : Scene) → length text ≤ script_limit → IsRead text lines → lines ≡ front ++ later → Valid (opening_state lines)
     → Plays (first_scene lines) front history out last → IsReplay lines front history out last
-is_replay text lines front history out last short script valid plays = record {
+is_replay text lines front later history out last short script ahead valid plays = record {
   plays = plays;
   only = λ h o b p. plays_one front (first_scene lines) b last h history o out p plays;
-  sound = sound lines front history out last valid plays;
+  sound = sound lines front later history out last script.good ahead valid plays;
   room = λ later e. front_room text lines front later history out last short script plays e;
 }
 
@@ -68,7 +69,7 @@ module _ (text : List ℕ) (lines : List ScriptLine) (size : length text ≤ scr
       history = p.history;
       out = p.out;
       last = p.last;
-      replay = is_replay text lines p.front p.history p.out p.last size script valid p.plays.2;
+      replay = is_replay text lines p.front p.plays.0 p.history p.out p.last size script p.plays.1 valid p.plays.2;
       output = p.part;
     },
   )
@@ -83,7 +84,7 @@ module _ (text : List ℕ) (lines : List ScriptLine) (size : length text ≤ scr
       front = p.front;
       history = p.history;
       last = p.last;
-      replay = is_replay text lines p.front p.history p.out p.last size script valid p.plays;
+      replay = is_replay text lines p.front (p.stops.0 ∷ p.stops.1) p.history p.out p.last size script p.stops.2 valid p.plays;
       first = p.stops;
     },
   )
@@ -106,7 +107,7 @@ ended : (text : List ℕ) (lines : List ScriptLine) (told told' : Option (List (
 ended text lines told told' history out last size script valid plays output = (
   out,
   output,
-  record { lines = lines; script = script; history = history; last = last; replay = is_replay text lines lines history out last size script valid plays },
+  record { lines = lines; script = script; history = history; last = last; replay = is_replay text lines lines [] history out last size script (sym (append-nil lines)) valid plays },
 )
 
 pub stopped_risen : (lines : List ScriptLine) (s : Scene) (told told' : Option (List (List ℕ))) (faults faults' : ℕ) (status : Status)

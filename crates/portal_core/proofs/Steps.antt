@@ -23,7 +23,7 @@ use Rattle.portal_model.specs.Opening.{opened}
 use Rattle.portal_model.specs.Place.{place_of}
 use Rattle.portal_model.specs.State.{State, connection_of}
 use Rattle.portal_model.specs.Step.{after, bus_of, collect_step, node_answer, node_looks, node_op_looks, node_step, is_mount, mount_of, reply_with}
-use Rattle.portal_model.specs.Valid.{is_silent}
+use Rattle.portal_model.specs.Valid.{is_caller, is_silent}
 use Rattle.portal_model.proofs.Histories.{run-append, Legal-append, cost-append}
 use Rattle.portal_model.proofs.NoChangeWaits.{all_told-silent, node_step-silent, run-silent, unsent-silent}
 use Rattle.portal_model.proofs.ValidLaws.{run-Valid}
@@ -103,8 +103,8 @@ module _ (o : OpeningState) (h : List Entry) (limit : ℕ) (ds : List Document) 
 
   -- an Enter
 
-  enter_lawful : (seat : ℕ) (who : Who) (kind : Kind) → Lawful (state_of o ds rs cs) (entry_of seat (Request.Enter who kind) [])
-  enter_lawful seat who kind = record { defined = refl; given = refl }
+  enter_lawful : (seat : ℕ) (who : Who) (kind : Kind) → is_caller who ≡ true → Lawful (state_of o ds rs cs) (entry_of seat (Request.Enter who kind) [])
+  enter_lawful seat who kind named = record { defined = refl; given = (named, refl) }
 
   entered_there : (seat : ℕ) (who : Who) (kind : Kind) (c : Option Connection) → is_some c ≡ true → entered seat who kind cs c ≡ cs
   entered_there seat who kind None e = cc
@@ -114,15 +114,15 @@ module _ (o : OpeningState) (h : List Entry) (limit : ℕ) (ds : List Document) 
   entered_new seat who kind None e = refl
   entered_new seat who kind (Some c) e = cc
 
-  pub stands_there : (seat : ℕ) (who : Who) (kind : Kind) → is_some (connection_of cs seat) ≡ true → cost h + cost_of (Request.Enter who kind) ≤ o.limits.history →
+  pub stands_there : (seat : ℕ) (who : Who) (kind : Kind) → is_caller who ≡ true → is_some (connection_of cs seat) ≡ true → cost h + cost_of (Request.Enter who kind) ≤ o.limits.history →
       Stands o (h ++ entry_of seat (Request.Enter who kind) [] ∷ []) limit ds rs cs
-  stands_there seat who kind t room =
-      stands_more (entry_of seat (Request.Enter who kind) []) cs (enter_lawful seat who kind) (ap (state_of o ds rs) (entered_there seat who kind (connection_of cs seat) t)) room
+  stands_there seat who kind named t room =
+      stands_more (entry_of seat (Request.Enter who kind) []) cs (enter_lawful seat who kind named) (ap (state_of o ds rs) (entered_there seat who kind (connection_of cs seat) t)) room
 
-  pub stands_new : (seat : ℕ) (who : Who) (kind : Kind) → is_some (connection_of cs seat) ≡ false → cost h + cost_of (Request.Enter who kind) ≤ o.limits.history →
+  pub stands_new : (seat : ℕ) (who : Who) (kind : Kind) → is_caller who ≡ true → is_some (connection_of cs seat) ≡ false → cost h + cost_of (Request.Enter who kind) ≤ o.limits.history →
       Stands o (h ++ entry_of seat (Request.Enter who kind) [] ∷ []) limit ds rs (cs ++ new_connection seat who kind ∷ [])
-  stands_new seat who kind t room =
-      stands_more (entry_of seat (Request.Enter who kind) []) (cs ++ new_connection seat who kind ∷ []) (enter_lawful seat who kind) (ap (state_of o ds rs) (entered_new seat who kind (connection_of cs seat) t)) room
+  stands_new seat who kind named t room =
+      stands_more (entry_of seat (Request.Enter who kind) []) (cs ++ new_connection seat who kind ∷ []) (enter_lawful seat who kind named) (ap (state_of o ds rs) (entered_new seat who kind (connection_of cs seat) t)) room
 
   -- a Leave
 

@@ -7,7 +7,7 @@ ghost use Rattle.portal_model.specs.Enter.{new_connection};
 ghost use Rattle.portal_model.specs.Opening.{opened};
 ghost use Rattle.portal_model.specs.Seated.{is_open};
 ghost use Rattle.portal_model.specs.Step.{reply_with};
-ghost use Rattle.portal_model.specs.Valid.{Valid};
+ghost use Rattle.portal_model.specs.Valid.{Valid, is_caller};
 ghost use Rattle.portal_core.specs.Served.{Serves, collect_answer as answer_of_bus, entry_of, taken};
 ghost use Rattle.portal_core.specs.Story.{Answers, HasCause, cost_with, limit_of, state_now};
 
@@ -187,6 +187,7 @@ impl Portal {
         ensures ok { IfOk result (Answers self.old self.new seat (Request.Enter who kind)) }
         ensures err { OnErr result (self.new ≡ self.old) }
     {
+        check_caller(&who);
         let is_here = connection_of(self.connections.as_slice(), seat).is_some();
         let request = Request::Enter {
             who: who.replica(alloc)?,
@@ -277,6 +278,15 @@ impl Portal {
             request,
             *flags,
         )
+    }
+}
+
+/// Nothing to do: an application's name keeps the rule of names by its type.
+fn check_caller(who: &Who)
+    ensures { is_caller who.now ≡ true }
+{
+    if let Who::App(name) = who {
+        let _ = name.as_bytes();
     }
 }
 

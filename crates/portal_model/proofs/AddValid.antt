@@ -16,10 +16,9 @@ use Rattle.portal_model.specs.Add.{Added, add, add_allowed, add_file, add_lookin
 use Rattle.portal_model.specs.AddArguments.{are_add_arguments, are_flags, are_presented, document_path, document_paths, files_limit, is_file_name, is_left_out, is_named_well, names_nobody, paths_presented, paths_shown}
 use Rattle.portal_model.specs.Arguments.{ahead_of_end, has_end}
 use Rattle.portal_model.specs.Grant.{exceeds_limits, given_rights}
-use Rattle.portal_model.specs.Outside.{is_caller}
 use Rattle.portal_model.specs.Present.{requeued, with_queue}
 use Rattle.portal_model.specs.State.{State, connection_of, document_of}
-use Rattle.portal_model.specs.Valid.{Valid, is_made, is_sound_connection}
+use Rattle.portal_model.specs.Valid.{Valid, is_caller, is_made, is_sound_connection}
 use Rattle.portal_model.specs.Verdict.{Doing}
 use Rattle.portal_model.proofs.DocumentChanges.{both, documented-new, first_of_both, second_of_both}
 use Rattle.portal_model.proofs.WalkDoings.{IfDoes, OnWalk, if-passes, on-looks, walk-passes}

@@ -25,23 +25,23 @@ adds_and_reuses = record {
   answers_are = refl;
   given_is_due = refl;
   lawful = (
-    record { defined = refl; given = record { caller = refl; looks = (refl, refl); clock = refl; words = refl; numbers = tt; full = refl; keeper = λ e. no_keeper e } },
+    record { defined = refl; given = record { looks = (refl, refl); clock = refl; words = refl; numbers = tt; full = refl; keeper = λ e. no_keeper e } },
     (
-      record { defined = refl; given = record { caller = refl; looks = (refl, (refl, refl)); clock = refl; words = refl; numbers = (omega arith, omega arith, record { unused = refl; first = none_nearer [] 5 }, tt); full = refl; keeper = λ e. no_keeper e } },
+      record { defined = refl; given = record { looks = (refl, (refl, refl)); clock = refl; words = refl; numbers = (omega arith, omega arith, record { unused = refl; first = none_nearer [] 5 }, tt); full = refl; keeper = λ e. no_keeper e } },
       (
-        record { defined = refl; given = record { caller = refl; looks = (refl, refl); clock = refl; words = refl; numbers = tt; full = refl; keeper = λ e. no_keeper e } },
+        record { defined = refl; given = record { looks = (refl, refl); clock = refl; words = refl; numbers = tt; full = refl; keeper = λ e. no_keeper e } },
         (
-          record { defined = refl; given = record { caller = refl; looks = (refl, (refl, refl)); clock = refl; words = refl; numbers = tt; full = refl; keeper = λ e. no_keeper e } },
+          record { defined = refl; given = record { looks = (refl, (refl, refl)); clock = refl; words = refl; numbers = tt; full = refl; keeper = λ e. no_keeper e } },
           (
-            record { defined = refl; given = record { caller = refl; looks = (refl, refl); clock = refl; words = refl; numbers = tt; full = refl; keeper = λ e. no_keeper e } },
+            record { defined = refl; given = record { looks = (refl, refl); clock = refl; words = refl; numbers = tt; full = refl; keeper = λ e. no_keeper e } },
             (
-              record { defined = refl; given = record { caller = refl; looks = (refl, (refl, refl)); clock = refl; words = refl; numbers = (omega arith, omega arith, record { unused = refl; first = none_nearer (id_of 5 ∷ []) 4294967295 }, tt); full = refl; keeper = λ e. no_keeper e } },
+              record { defined = refl; given = record { looks = (refl, (refl, refl)); clock = refl; words = refl; numbers = (omega arith, omega arith, record { unused = refl; first = none_nearer (id_of 5 ∷ []) 4294967295 }, tt); full = refl; keeper = λ e. no_keeper e } },
               (
-                record { defined = refl; given = record { caller = refl; looks = (refl, refl); clock = refl; words = refl; numbers = tt; full = refl; keeper = λ e. no_keeper e } },
+                record { defined = refl; given = record { looks = (refl, refl); clock = refl; words = refl; numbers = tt; full = refl; keeper = λ e. no_keeper e } },
                 (
-                  record { defined = refl; given = record { caller = refl; looks = (refl, refl); clock = refl; words = refl; numbers = tt; full = refl; keeper = λ e. no_keeper e } },
+                  record { defined = refl; given = record { looks = (refl, refl); clock = refl; words = refl; numbers = tt; full = refl; keeper = λ e. no_keeper e } },
                   (
-                    record { defined = refl; given = record { caller = refl; looks = (refl, refl); clock = refl; words = refl; numbers = tt; full = refl; keeper = λ e. no_keeper e } },
+                    record { defined = refl; given = record { looks = (refl, refl); clock = refl; words = refl; numbers = tt; full = refl; keeper = λ e. no_keeper e } },
                     tt,
                   ),
                 ),
@@ -90,9 +90,9 @@ numbers_wrap = record {
   answers_are = refl;
   given_is_due = refl;
   lawful = (
-    record { defined = refl; given = record { caller = refl; looks = (refl, refl); clock = refl; words = refl; numbers = tt; full = refl; keeper = λ e. no_keeper e } },
+    record { defined = refl; given = record { looks = (refl, refl); clock = refl; words = refl; numbers = tt; full = refl; keeper = λ e. no_keeper e } },
     (
-      record { defined = refl; given = record { caller = refl; looks = (refl, (refl, refl)); clock = refl; words = refl; numbers = (omega arith, omega arith, record { unused = refl; first = only_last }, tt); full = refl; keeper = λ e. no_keeper e } },
+      record { defined = refl; given = record { looks = (refl, (refl, refl)); clock = refl; words = refl; numbers = (omega arith, omega arith, record { unused = refl; first = only_last }, tt); full = refl; keeper = λ e. no_keeper e } },
       tt,
     ),
   );

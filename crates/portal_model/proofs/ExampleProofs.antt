@@ -103,15 +103,15 @@ costs = record { enter = refl; attributes = refl; leave = refl; collect = refl; 
 
 pub attributes : AttributesOfGrantedFile
 attributes = record {
-  legal = record { opening = valid_read_write; lawful = (record { defined = refl; given = refl }, (record { defined = refl; given = record { clock = refl; words = refl; numbers = refl; full = refl; looks = refl } }, tt)) };
+  legal = record { opening = valid_read_write; lawful = (record { defined = refl; given = (editor_name, refl) }, (record { defined = refl; given = record { clock = refl; words = refl; numbers = refl; full = refl; looks = refl } }, tt)) };
   replies_are = refl;
 }
 
 pub foreign : ForeignIsAsMissing
 foreign = record {
-  legal_foreign = record { opening = valid_of_other; lawful = (record { defined = refl; given = refl }, (record { defined = refl; given = record { clock = refl; words = refl; numbers = refl; full = refl; looks = refl } }, tt)) };
+  legal_foreign = record { opening = valid_of_other; lawful = (record { defined = refl; given = (editor_name, refl) }, (record { defined = refl; given = record { clock = refl; words = refl; numbers = refl; full = refl; looks = refl } }, tt)) };
   foreign = refl;
-  legal_missing = record { opening = valid_of_nobody; lawful = (record { defined = refl; given = refl }, (record { defined = refl; given = record { clock = refl; words = refl; numbers = refl; full = refl; looks = refl } }, tt)) };
+  legal_missing = record { opening = valid_of_nobody; lawful = (record { defined = refl; given = (editor_name, refl) }, (record { defined = refl; given = record { clock = refl; words = refl; numbers = refl; full = refl; looks = refl } }, tt)) };
   missing = refl;
 }
 

@@ -78,7 +78,7 @@ looks_given true taken looks Fault.Keeper t f h = cc
 looks_given false taken looks fault t f h = cc
 
 given_taken : (s : State) (seat : ℕ) (request : Request) (given : Given) → s.told ≡ true → given.fault ≡ Fault.None → LawfulGiven s seat request given → given.looks ≡ looks_taken s seat request
-given_taken s seat (Request.Enter who kind) given t f l = ap (λ (g : Given). g.looks) l
+given_taken s seat (Request.Enter who kind) given t f l = ap (λ (g : Given). g.looks) l.1
 given_taken s seat Request.Leave given t f l = ap (λ (g : Given). g.looks) l
 given_taken s seat Request.Collect given t f l = ap (λ (g : Given). g.looks) l
 given_taken s seat (Request.Node r) given t f l = looks_given s.told (looks_taken s seat (Request.Node r)) given.looks given.fault t f l.looks

@@ -31,21 +31,21 @@ use Rattle.portal_model.specs.Lawful.{Lawful, LawfulGiven, LawfulOnBus}
 use Rattle.portal_model.specs.Leave.{left, of_others}
 use Rattle.portal_model.specs.ListDocuments.{documents_listed, list_documents}
 use Rattle.portal_model.specs.LookupDocument.{lookup_document, text_of}
-use Rattle.portal_model.specs.Outside.{AreDrawn, LawfulBus, is_caller, meets_limit, verdict_of, words_drawn}
+use Rattle.portal_model.specs.Outside.{AreDrawn, LawfulBus, meets_limit, verdict_of, words_drawn}
 use Rattle.portal_model.specs.Present.{with_queue}
 use Rattle.portal_model.specs.State.{State, connection_of}
 use Rattle.portal_model.specs.Step.{after, all_told, bus_of, bus_step, collect_step, is_mount, told_of, node_answer, node_step, request_step, mount_of}
-use Rattle.portal_model.specs.Valid.{Valid, is_sound_connection}
+use Rattle.portal_model.specs.Valid.{Valid, is_caller, is_sound_connection}
 use Rattle.portal_model.specs.Verdict.{Doing, Verdict, Refuses, Does, does}
 use Rattle.portal_model.proofs.AddValid.{add-valid}
 use Rattle.portal_model.proofs.DistinctItems.{IsDistinct-filter, list_all-filter}
 use Rattle.portal_model.proofs.DeleteDocumentValid.{delete-valid}
 use Rattle.portal_model.proofs.WalkDoings.{IfDoes, IfGiven, OnWalk, if-passes, on-walked}
 use Rattle.portal_model.proofs.DrawnNumbers.{Unused, drawn-length, drawn-unused}
-use Rattle.portal_model.proofs.ListLookups.{found_passes, nat_is}
+use Rattle.portal_model.proofs.ListLookups.{found_in_all, found_passes, nat_is}
 use Rattle.portal_model.proofs.GrantValid.{grant-valid}
 use Rattle.portal_model.proofs.PresentValid.{present-valid}
-use Rattle.portal_model.proofs.Queues.{dropped-connections, found_told, seats}
+use Rattle.portal_model.proofs.Queues.{caller_sound, dropped-connections, found_told, seats}
 use Rattle.portal_model.proofs.RevokeValid.{revoke-valid}
 use Rattle.portal_model.proofs.SoundParts.{SoundConnections, Valid-connections}
 
@@ -59,16 +59,16 @@ entered_seats : (seat : ℕ) (who : Who) (kind : Kind) (cs : List Connection) �
 entered_seats seat who kind [] = refl
 entered_seats seat who kind (c ∷ cs) = ap (λ (x : List ℕ). c.seat ∷ x) (entered_seats seat who kind cs)
 
-new_sound : (seat : ℕ) (who : Who) (kind : Kind) (queued : ℕ) → is_sound_connection queued (new_connection seat who kind) ≡ true
-new_sound seat who kind queued = grind arith
+new_sound : (seat : ℕ) (who : Who) (kind : Kind) (queued : ℕ) → is_caller who ≡ true → is_sound_connection queued (new_connection seat who kind) ≡ true
+new_sound seat who kind queued named = grind (arith, named)
 
-entered_sound : (seat : ℕ) (who : Who) (kind : Kind) (queued : ℕ) (cs : List Connection) (o : Option Connection) → connection_of cs seat ≡ o → SoundConnections queued cs →
+entered_sound : (seat : ℕ) (who : Who) (kind : Kind) (queued : ℕ) → is_caller who ≡ true → (cs : List Connection) (o : Option Connection) → connection_of cs seat ≡ o → SoundConnections queued cs →
     SoundConnections queued (entered seat who kind cs o)
-entered_sound seat who kind queued cs None e k = (
+entered_sound seat who kind queued named cs None e k = (
   subst (IsDistinct nat_eq) (sym (entered_seats seat who kind cs)) (IsDistinct-push nat_eq_equiv (seats cs) seat k.0 (no_seat seat cs e)),
-  rw (list_all-append (is_sound_connection queued) cs (new_connection seat who kind ∷ []), k.1, new_sound seat who kind queued) refl,
+  rw (list_all-append (is_sound_connection queued) cs (new_connection seat who kind ∷ []), k.1, new_sound seat who kind queued named) refl,
 )
-entered_sound seat who kind queued cs (Some c) e k = k
+entered_sound seat who kind queued named cs (Some c) e k = k
 
 -- ---- Leave
 
@@ -195,10 +195,10 @@ module _ (s : State) (c found : Connection) (numbers : List DocId) (f : connecti
       let free : d.exceeds ≡ false = sym full ∙ e in
       h free (sym (drawn-length s.made given.words numbers drawn) ∙ (words ∙ words_made d free)) (drawn-unused s.made given.words numbers drawn))
 
-bus_answer-Valid : (s : State) (c found : Connection) (request : Request) (given : Given) → connection_of s.connections c.seat ≡ Some found → found.queue ≡ c.queue → Valid s → LawfulBus s c request given → Valid (bus_answer s c request given).0
-bus_answer-Valid s c found request given f q v l =
-    settled-valid s c found given.numbers f q l.caller v (refused_state s c request) given (verdict_of s c request given) (refused-valid s c found given.numbers f q l.caller v request) l.numbers l.words l.full
-    (on-walked (Good s given.numbers) (bus_walk s c request given.numbers) (moment_given given.now) given.looks (is_tree given.fault) (walk-valid s c found given.numbers f q l.caller v request))
+bus_answer-Valid : (s : State) (c found : Connection) (request : Request) (given : Given) → connection_of s.connections c.seat ≡ Some found → found.queue ≡ c.queue → is_caller c.who ≡ true → Valid s → LawfulBus s c request given → Valid (bus_answer s c request given).0
+bus_answer-Valid s c found request given f q caller v l =
+    settled-valid s c found given.numbers f q caller v (refused_state s c request) given (verdict_of s c request given) (refused-valid s c found given.numbers f q caller v request) l.numbers l.words l.full
+    (on-walked (Good s given.numbers) (bus_walk s c request given.numbers) (moment_given given.now) given.looks (is_tree given.fault) (walk-valid s c found given.numbers f q caller v request))
 
 bus_is : (o : Option Connection) (c : Connection) → bus_of o ≡ Some c → o ≡ Some c
 bus_is None c e = cc
@@ -210,11 +210,12 @@ bus_step-Valid s seat request given (Some c) e v l =
     let there : connection_of s.connections seat ≡ Some c = bus_is (connection_of s.connections seat) c e in
     let own : c.seat ≡ seat = nat_is c.seat seat (found_passes (λ (x : Connection). x.seat == seat) s.connections c there) in
     let here : connection_of s.connections c.seat ≡ Some c = subst (λ (n : ℕ). connection_of s.connections n ≡ Some c) (sym own) there in
-    bus_answer-Valid (all_told c.seat s) c (record c { unsent = [] }) request given (found_told c.seat c s.connections here) refl (all_told-Valid s c.seat v) l
+    let sound : is_sound_connection s.limits.queued c ≡ true = found_in_all (λ (x : Connection). x.seat == seat) (is_sound_connection s.limits.queued) s.connections c there v.connections_sound in
+    bus_answer-Valid (all_told c.seat s) c (record c { unsent = [] }) request given (found_told c.seat c s.connections here) refl (caller_sound s.limits.queued c sound) (all_told-Valid s c.seat v) l
 
 request_step-Valid : (s : State) (seat : ℕ) (request : Request) (given : Given) → LawfulGiven s seat request given → Valid s → Valid (request_step s seat request given).0
 request_step-Valid s seat (Request.Enter who kind) given l v =
-    Valid-connections s _ v (entered_sound seat who kind s.limits.queued s.connections (connection_of s.connections seat) refl (v.seats_differ, v.connections_sound))
+    Valid-connections s _ v (entered_sound seat who kind s.limits.queued l.0 s.connections (connection_of s.connections seat) refl (v.seats_differ, v.connections_sound))
 request_step-Valid s seat Request.Leave given l v =
     Valid-connections s _ v (left_sound seat s.limits.queued s.connections (connection_of s.connections seat) (v.seats_differ, v.connections_sound))
 request_step-Valid s seat Request.Collect given l v = collect_step-Valid s (bus_of (connection_of s.connections seat)) v

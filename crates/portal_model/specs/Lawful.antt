@@ -1,6 +1,7 @@
 -- What the outside may have given to an entry, by the kind of its request.
 use Rattle.std.specs.Prelude.{◌≡◌, ℕ, ◌<◌, List, [], length, take, Bool, true, false, Option, Some, None}
 use Rattle.portal_base.specs.declared.files.Look.{Look}
+use Rattle.portal_base.specs.declared.who.Who.{Who}
 use Rattle.portal_model.specs.declared.entry.Entry.{Entry}
 use Rattle.portal_model.specs.declared.entry.Fault.{Fault}
 use Rattle.portal_model.specs.declared.entry.Given.{Given}
@@ -11,6 +12,7 @@ use Rattle.portal_model.specs.declared.state.Connection.{Connection}
 use Rattle.portal_model.specs.Outside.{LawfulBus}
 use Rattle.portal_model.specs.State.{State, connection_of}
 use Rattle.portal_model.specs.Step.{all_told, bus_of, mount_of, node_looks}
+use Rattle.portal_model.specs.Valid.{is_caller}
 
 -- ---- the requests that may be entries
 
@@ -59,6 +61,12 @@ nothing_given = record {
   fault = Fault.None;
 }
 
+-- ---- what is given to an Enter
+
+-- what binds a connection names a caller; nothing is looked at
+abbrev pub LawfulEnter : Who → Given → Type 0
+LawfulEnter who given = (is_caller who ≡ true) × (given ≡ nothing_given)
+
 -- ---- what is given to a request on a node
 
 -- over a tree that tells: the looks are those that the request takes; where a call of the tree
@@ -103,7 +111,7 @@ LawfulOnBus s request given (Some c) = LawfulBus (all_told c.seat s) c request g
 -- ---- each kind
 
 abbrev pub LawfulGiven : State → ℕ → Request → Given → Type 0
-LawfulGiven s seat (Request.Enter who kind) given = given ≡ nothing_given
+LawfulGiven s seat (Request.Enter who kind) given = LawfulEnter who given
 LawfulGiven s seat Request.Leave given = given ≡ nothing_given
 LawfulGiven s seat Request.Collect given = given ≡ nothing_given
 LawfulGiven s seat (Request.Node r) given =

@@ -1,9 +1,7 @@
 -- What the outside may have given to a request of a bus.
 use Rattle.std.specs.Prelude.{◌≡◌, ◌<◌, ◌^◌, ◌++◌, ℕ, List, [], ◌∷◌, length, Bool, true, false, Option, Some, None, is_some, cond}
 use Rattle.portal_base.specs.declared.files.File.{File}
-use Rattle.portal_base.specs.Names.{is_app_name}
 use Rattle.portal_base.specs.declared.names.doc_id.DocId.{DocId}
-use Rattle.portal_base.specs.declared.who.Who.{Who}
 use Rattle.portal_model.specs.declared.entry.Fault.{Fault}
 use Rattle.portal_model.specs.declared.entry.Given.{Given}
 use Rattle.portal_model.specs.declared.request.Request.{Request}
@@ -51,13 +49,7 @@ walk_of s c request given = bus_walk s c request given.numbers
 abbrev pub verdict_of : State → Connection → Request → Given → Option Verdict
 verdict_of s c request given = verdict_given (walk_of s c request given) given
 
--- The host, or an application by a name that applications have: a connection is bound to no other.
-abbrev pub is_caller : Who → Bool
-is_caller Who.Host = true
-is_caller (Who.App app) = is_app_name app
-
 pub record LawfulBus (s : State) (c : Connection) (request : Request) (given : Given) : Type 0 where
-  pub caller : is_caller c.who ≡ true
   -- the tree shows what the request looks at, up to a call that fails
   pub looks : Gives (files_told s) (walk_of s c request given) given.looks (is_tree given.fault)
   -- the clock is read where a file is changed

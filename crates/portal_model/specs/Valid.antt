@@ -46,12 +46,19 @@ has_texts row = is_text row.app && list_all is_text row.names
 abbrev pub is_sound_change : Change → Bool
 is_sound_change c = is_text c.table && is_text c.id
 
--- only the host's buses wait for changes; the texts of these have no zero byte
+-- the host, or an application by a name that applications have
+abbrev pub is_caller : Who → Bool
+is_caller Who.Host = true
+is_caller (Who.App app) = is_app_name app
+
+-- A connection is bound to a caller. Only the host's buses wait for changes; the texts of these
+-- have no zero byte.
 abbrev pub is_sound_connection : ℕ → Connection → Bool
 is_sound_connection queued c =
-    (is_none c.unsent || is_host_bus c.who c.kind)
+    is_caller c.who
+    && ((is_none c.unsent || is_host_bus c.who c.kind)
     && (list_all is_sound_change c.unsent
-    && (list_all is_host_path c.queue && nat_le (length c.queue) queued))
+    && (list_all is_host_path c.queue && nat_le (length c.queue) queued)))
 
 abbrev pub same_entry : EntryRecord → EntryRecord → Bool
 same_entry a b = is_same a.table b.table && is_same a.id b.id
