@@ -108,7 +108,7 @@ module _ (who : Who) (a : AddRequest) (path : List ℕ) (end : ℕ) where
         record {
           live = subst (λ (m : List DocId). LiveMade m (used done None).state.documents) (sym made)
               (subst (λ (ds : List Document). LiveMade (done.state.made ++ n ∷ []) ds) (sym documents) (live-more done.state.made done.state.documents d h.live));
-          unused = subst (λ (m : List DocId). Unused m (used done None).numbers) (sym made) (subst (Unused (done.state.made ++ n ∷ [])) (sym rest) u.1);
+          unused = subst (λ (m : List DocId). Unused m (used done None).numbers) (sym made) (subst (Unused (done.state.made ++ n ∷ [])) (sym rest) u.2);
           enough = subst (λ (m : List DocId). end ≤ length m + length (used done None).numbers) (sym made) (subst (λ (xs : List DocId). end ≤ length (done.state.made ++ n ∷ []) + length xs) (sym rest) still);
         },
         ap (λ (i : DocId). document_of done.state.documents i.number) first ∙ h.live n.number u.0,

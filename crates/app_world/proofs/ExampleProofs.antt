@@ -20,6 +20,7 @@ unfolding IsDistinct
 valid_with_another = record {
   numbers_differ = ((refl, tt), (tt, tt));
   numbers_made = refl;
+  identifiers = refl;
   paths = rw (a_path, b_path) refl;
   applications_differ = ((refl, tt), (tt, tt));
   names = rw (editor_name, other_name) refl;

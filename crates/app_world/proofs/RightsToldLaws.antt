@@ -43,12 +43,13 @@ use Rattle.portal_model.specs.Revoke.{may_revoke, names_itself, revoke, revoke_r
 use Rattle.portal_model.specs.Rights.{forget_document, held_by, is_in}
 use Rattle.portal_model.specs.State.{State, app_has, connection_of, document_of, held_of, is_app}
 use Rattle.portal_model.specs.Step.{after, all_told, bus_of, bus_step, collect_step, is_mount, mount_of, node_answer, node_step, reply_at, request_step}
+use Rattle.portal_model.specs.Valid.{has_identifier}
 use Rattle.portal_model.specs.Verdict.{Doing, Verdict, Refuses, Does, does}
 use Rattle.portal_model.proofs.WalkDoings.{IfDoes, IfGiven, OnWalk, if-passes, on-looks, on-walked, walk-passes}
 use Rattle.portal_model.proofs.ListLookups.{found_passes, nat_is}
 use Rattle.portal_model.proofs.TripleOrder.{is_same-sym}
 use Rattle.app_world.specs.Add.{names_app}
-use Rattle.app_world.specs.RightsTold.{RightsAreTold, are_identified, gives_at, gives_rights, has_identifier, identifies, is_given_in, more_if, rights_told, told_by, told_by_file, told_if_done}
+use Rattle.app_world.specs.RightsTold.{RightsAreTold, gives_at, gives_rights, identifies, is_given_in, more_if, rights_told, told_by, told_by_file, told_if_done}
 use Rattle.app_world.specs.Touched.{is_done}
 use Rattle.app_world.proofs.AddLaws.{Again, again-is, rights-keep}
 use Rattle.app_world.proofs.HeldLaws.{held-add, held-forget, held-take, same-rights}
@@ -91,6 +92,9 @@ reached-as : (s : State) (who : Who) (doc : List ℕ) (d : Document) (m : ℕ) �
 reached-as s who doc d m e = named-as s.documents doc d m (reached-named s who doc d e)
 
 -- ---- documents that have identifiers
+
+abbrev pub are_identified : State → Bool
+are_identified s = list_all has_identifier s.documents
 
 all-found : (p q : Document → Bool) (ds : List Document) (d : Document) → list_all q ds ≡ true → find p ds ≡ Some d → q d ≡ true
 all-found p q [] d h e = cc
@@ -448,10 +452,6 @@ told-run app number (e ∷ es) s i l =
     let one = told-step app number s e i l.0 in
     told-run app number es (after s e) one.identified l.1 ∙ ap (rights_told app number (after s e) es) one.rights
 
-identified-run : (h : List Entry) (s : State) → are_identified s ≡ true → EachLawful s h → are_identified (run s h) ≡ true
-identified-run [] s i l = i
-identified-run (e ∷ es) s i l = let one = told-step [] 0 s e i l.0 in identified-run es (after s e) one.identified l.1
-
 -- ---- a right that was not there before
 
 less-in : (set less : RightSet) (right : Right) → is_in set right ≡ false → is_in (minus set less) right ≡ false
@@ -519,8 +519,7 @@ module _ (app : List ℕ) (number : ℕ) (right : Right) where
 
 pub told : RightsAreTold
 told = record {
-  entry = λ app number s e i l. (told-step app number s e i l).rights;
-  history = λ app number s h i l. told-run app number h s i l.lawful;
-  identified = λ s h i l. identified-run h s i l.lawful;
-  given = λ app number right s h i l none some. given-run app number right h s i l.lawful none some;
+  entry = λ app number s e v l. (told-step app number s e v.identifiers l).rights;
+  history = λ app number s h l. told-run app number h s l.opening.identifiers l.lawful;
+  given = λ app number right s h l none some. given-run app number right h s l.opening.identifiers l.lawful none some;
 }

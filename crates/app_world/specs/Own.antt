@@ -10,8 +10,8 @@ pub record Own : Type 0 where
   pub request : Request
   pub now : Option ℕ
   pub numbers : List DocId
-  -- of an Add: the content of each path that the tree was asked for, and of each file the
-  -- document that was there to be used again, if any
+  -- Of an Add: the content of each path that the tree was asked for; and where the call uses
+  -- documents again, of each file that isn't left out the one that was there for it, if any.
   pub shown : List Content
   pub reused : List (Option DocId)
   -- how many looks succeeded

@@ -1,8 +1,7 @@
 -- The rights of an application in a document, as a history tells them: by what callers asked and
 -- were answered as they added documents, gave and took rights, and deleted documents. The terms are
 -- those of the documentation of org.freedesktop.portal.Documents.
-use Rattle.std.specs.Prelude.{◌≡◌, ℕ, ◌^◌, ◌==◌, nat_lt, List, [], ◌∷◌, fold, Bool, true, false, ◌&&◌, ◌||◌, cond, Option, Some, None}
-use Rattle.std.specs.List.{list_all}
+use Rattle.std.specs.Prelude.{◌≡◌, ℕ, ◌==◌, List, [], ◌∷◌, fold, Bool, true, false, ◌&&◌, ◌||◌, cond, Option, Some, None}
 use Rattle.portal_base.specs.Names.{hex_number, is_doc_id, is_same}
 use Rattle.portal_base.specs.declared.who.Who.{Who}
 use Rattle.rights_rule.specs.Rights.{RightSet, minus, no_rights, rights_named, union}
@@ -12,12 +11,12 @@ use Rattle.portal_model.specs.declared.request.AddRequest.{AddRequest}
 use Rattle.portal_model.specs.declared.request.Request.{Request}
 use Rattle.portal_model.specs.declared.request.RightsCall.{RightsCall}
 use Rattle.portal_model.specs.declared.rights.Right.{Right}
-use Rattle.portal_model.specs.declared.state.Document.{Document}
 use Rattle.portal_model.specs.Add.{adding_rights}
 use Rattle.portal_model.specs.History.{Legal, maker, run}
 use Rattle.portal_model.specs.Lawful.{Lawful}
 use Rattle.portal_model.specs.State.{State, app_has, connection_of, held_of, is_app}
 use Rattle.portal_model.specs.Step.{after, reply_at}
+use Rattle.portal_model.specs.Valid.{Valid}
 use Rattle.app_world.specs.Add.{names_app}
 use Rattle.app_world.specs.Touched.{is_done}
 
@@ -123,31 +122,17 @@ is_given_in app number right s (e ∷ es) =
 
 -- ---- the law
 
--- an identifier writes a number of 32 bits
-abbrev pub has_identifier : Document → Bool
-has_identifier d = nat_lt d.id.number (2 ^ 32)
-
-abbrev pub are_identified : State → Bool
-are_identified s = list_all has_identifier s.documents
-
 -- The rights of an application in the document of a number are those that the entries tell. So one
 -- that it has and did not have before was given to it by an entry between, after which it had it.
--- Each document goes on to have an identifier.
 pub record RightsAreTold : Type 0 where
   pub entry :
-      (app : List ℕ) (number : ℕ) (s : State) (e : Entry) →
-      are_identified s ≡ true → Lawful s e →
+      (app : List ℕ) (number : ℕ) (s : State) (e : Entry) → Valid s → Lawful s e →
       held_of (after s e).rights app number ≡ told_at app number s e (held_of s.rights app number)
   pub history :
-      (app : List ℕ) (number : ℕ) (s : State) (h : List Entry) →
-      are_identified s ≡ true → Legal s h →
+      (app : List ℕ) (number : ℕ) (s : State) (h : List Entry) → Legal s h →
       held_of (run s h).rights app number
       ≡ rights_told app number s h (held_of s.rights app number)
-  pub identified :
-      (s : State) (h : List Entry) →
-      are_identified s ≡ true → Legal s h → are_identified (run s h) ≡ true
   pub given :
-      (app : List ℕ) (number : ℕ) (right : Right) (s : State) (h : List Entry) →
-      are_identified s ≡ true → Legal s h →
+      (app : List ℕ) (number : ℕ) (right : Right) (s : State) (h : List Entry) → Legal s h →
       app_has s.rights app number right ≡ false → app_has (run s h).rights app number right ≡ true →
       is_given_in app number right s h ≡ true

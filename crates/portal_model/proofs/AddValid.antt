@@ -1,5 +1,5 @@
 -- An Add leaves a valid state valid, where it is given as many unused numbers as it makes documents, and no limit is met.
-use Rattle.std.proofs.Common.{◌≡◌, ◌==◌, ℕ, ◌+◌, ◌-◌, ◌<◌, ◌≤◌, nat_le, nat_lt, length, drop, take, get_or, fold, List, [], ◌∷◌, ◌++◌, map, Bool, true, false, not, ◌&&◌, ◌||◌, cond, Option, Some, None, is_some, refl, sym, ap, subst, ◌∙◌, arith}
+use Rattle.std.proofs.Common.{◌≡◌, ◌==◌, ℕ, ◌+◌, ◌-◌, ◌<◌, ◌≤◌, ◌^◌, nat_le, nat_lt, length, drop, take, get_or, fold, List, [], ◌∷◌, ◌++◌, map, Bool, true, false, not, ◌&&◌, ◌||◌, cond, Option, Some, None, is_some, refl, sym, ap, subst, ◌∙◌, arith}
 use Rattle.std.specs.List.{list_all}
 use Rattle.std.proofs.lemmas.Bool.Decides.{nat_tests}
 use Rattle.std.proofs.lemmas.List.{length-append}
@@ -135,8 +135,11 @@ now_live d (x ∷ xs) = by_first (x.id.number == d.id.number) (now_live d xs)
     by_first true h = refl
     by_first false h = h
 
-new-sound : (d : Document) (s : State) → is_made s.made d.id.number ≡ false → is_host_path d.path ≡ true → Sound s → Sound (with_new_document d s)
-new-sound d s f p k = sound-lists s (s.documents ++ d ∷ []) (s.made ++ d.id ∷ []) s.rights s.applications k (documented-new s.documents s.made s.rights s.applications d f p k.documented)
+below : (n : ℕ) → n < 2 ^ 32 → nat_lt n (2 ^ 32) ≡ true
+below n l = grind (arith, nat_tests)
+
+new-sound : (d : Document) (s : State) → is_made s.made d.id.number ≡ false → d.id.number < 2 ^ 32 → is_host_path d.path ≡ true → Sound s → Sound (with_new_document d s)
+new-sound d s f l p k = sound-lists s (s.documents ++ d ∷ []) (s.made ++ d.id ∷ []) s.rights s.applications k (documented-new s.documents s.made s.rights s.applications d f (below d.id.number l) p k.documented)
 
 used_made : (who : Who) (a : AddRequest) (path : List ℕ) (done : Added) (id : DocId) → (use_document who a path done (Some id)).state.made ≡ done.state.made
 used_made who a path done id = rights_made who a id done.state
@@ -179,13 +182,14 @@ module _ (who : Who) (a : AddRequest) (caller : is_caller who ≡ true) (named :
       let made : (use_document who a path done None).state.made ≡ done.state.made ++ n ∷ [] = new_made who a path done ∙ ap (λ (i : DocId). done.state.made ++ i ∷ []) first in
       let u : Unused done.state.made (n ∷ ns) = subst (Unused done.state.made) e g.unused in
       let f : is_made done.state.made (first_number done.numbers).number ≡ false = ap (λ (i : DocId). is_made done.state.made i.number) first ∙ u.0 in
+      let l : (first_number done.numbers).number < 2 ^ 32 = subst (λ (i : DocId). i.number < 2 ^ 32) (sym first) u.1 in
       let d : Document = new_document a (first_number done.numbers) path in
       let size : length (done.state.made ++ n ∷ []) ≡ length done.state.made + 1 = length-append done.state.made (n ∷ []) in
       let had : end ≤ length done.state.made + length (n ∷ ns) = subst (λ (xs : List DocId). end ≤ length done.state.made + length xs) e g.enough in
       let still : end ≤ length (done.state.made ++ n ∷ []) + length ns = grind arith in
       record {
-        sound = rights-sound who a caller named (first_number done.numbers) (with_new_document d done.state) (now_live d done.state.documents) (new-sound d done.state f p g.sound);
-        unused = subst (λ (m : List DocId). Unused m (drop 1 done.numbers)) (sym made) (subst (Unused (done.state.made ++ n ∷ [])) (sym rest) u.1);
+        sound = rights-sound who a caller named (first_number done.numbers) (with_new_document d done.state) (now_live d done.state.documents) (new-sound d done.state f l p g.sound);
+        unused = subst (λ (m : List DocId). Unused m (drop 1 done.numbers)) (sym made) (subst (Unused (done.state.made ++ n ∷ [])) (sym rest) u.2);
         enough = subst (λ (m : List DocId). end ≤ length m + length (drop 1 done.numbers)) (sym made) (subst (λ (xs : List DocId). end ≤ length (done.state.made ++ n ∷ []) + length xs) (sym rest) still);
       }
 

@@ -16,7 +16,7 @@ use Rattle.portal_model.specs.Applications.{numbered}
 use Rattle.portal_model.specs.Grant.{numbered_with}
 use Rattle.portal_model.specs.Rights.{add_rights, forget_document, take_rights, triple}
 use Rattle.portal_model.specs.State.{document_of}
-use Rattle.portal_model.specs.Valid.{is_made, is_numbered}
+use Rattle.portal_model.specs.Valid.{has_identifier, is_made, is_numbered}
 use Rattle.portal_model.proofs.DistinctItems.{IsDistinct-filter, list_all-filter, list_all-weaken}
 use Rattle.portal_model.proofs.ListLookups.{find-filter, is_same-refl, nat_is}
 use Rattle.portal_model.proofs.RightsLaws.{all-add_rights, none-added, ordered-add_rights, ordered-forget_document, ordered-take_rights}
@@ -70,6 +70,7 @@ module _ (ds : List Document) (made : List DocId) (rights : List Triple) (apps :
   given_by true e named live = record {
     numbers_differ = k.numbers_differ;
     numbers_made = k.numbers_made;
+    identifiers = k.identifiers;
     paths = k.paths;
     applications_differ = numbered_differ apps app (is_numbered apps app) refl k.applications_differ;
     names = numbered_named apps app (is_numbered apps app) named k.names;
@@ -89,6 +90,7 @@ module _ (ds : List Document) (made : List DocId) (rights : List Triple) (apps :
   documented-taken number = record {
     numbers_differ = k.numbers_differ;
     numbers_made = k.numbers_made;
+    identifiers = k.identifiers;
     paths = k.paths;
     applications_differ = k.applications_differ;
     names = k.names;
@@ -131,14 +133,15 @@ still_live : (d : Document) (n : ℕ) (ds : List Document) → is_live ds n ≡ 
 still_live d n [] h = cc
 still_live d n (x ∷ xs) h = live_first d x n xs (x.id.number == n) (still_live d n xs) h
 
-pub documented-new : (ds : List Document) (made : List DocId) (rights : List Triple) (apps : List (List ℕ)) (d : Document) → is_made made d.id.number ≡ false → is_host_path d.path ≡ true →
+pub documented-new : (ds : List Document) (made : List DocId) (rights : List Triple) (apps : List (List ℕ)) (d : Document) → is_made made d.id.number ≡ false → has_identifier d ≡ true → is_host_path d.path ≡ true →
     Documented ds made rights apps → Documented (ds ++ d ∷ []) (made ++ d.id ∷ []) rights apps
-documented-new ds made rights apps d f p k = record {
+documented-new ds made rights apps d f short p k = record {
   numbers_differ = subst (IsDistinct nat_eq) (sym (new_numbers d ds)) (IsDistinct-push nat_eq_equiv (numbers ds) d.id.number k.numbers_differ (none_live made d.id.number ds f k.numbers_made));
   numbers_made = list_all-append (λ (x : Document). is_made (made ++ d.id ∷ []) x.id.number) ds (d ∷ [])
       ∙ both (list_all (λ (x : Document). is_made (made ++ d.id ∷ []) x.id.number) ds) (is_made (made ++ d.id ∷ []) d.id.number && true)
       (list_all-weaken (λ (x : Document). is_made made x.id.number) (λ (x : Document). is_made (made ++ d.id ∷ []) x.id.number) (λ x h. still_made made d.id x.id.number h) ds k.numbers_made)
       (both (is_made (made ++ d.id ∷ []) d.id.number) true (now_made made d.id) refl);
+  identifiers = list_all-append has_identifier ds (d ∷ []) ∙ both (list_all has_identifier ds) (has_identifier d && true) k.identifiers (both (has_identifier d) true short refl);
   paths = list_all-append (λ (x : Document). is_host_path x.path) ds (d ∷ []) ∙ both (list_all (λ (x : Document). is_host_path x.path) ds) (is_host_path d.path && true) k.paths (both (is_host_path d.path) true p refl);
   applications_differ = k.applications_differ;
   names = k.names;
@@ -181,6 +184,7 @@ pub documented-deleted : (ds : List Document) (made : List DocId) (rights : List
 documented-deleted ds made rights apps number k = record {
   numbers_differ = subst (IsDistinct nat_eq) (sym (other_numbers number ds)) (IsDistinct-filter nat_eq (λ (n : ℕ). not (n == number)) (numbers ds) k.numbers_differ);
   numbers_made = list_all-filter (λ (d : Document). is_made made d.id.number) _ ds k.numbers_made;
+  identifiers = list_all-filter has_identifier _ ds k.identifiers;
   paths = list_all-filter (λ (d : Document). is_host_path d.path) _ ds k.paths;
   applications_differ = k.applications_differ;
   names = k.names;

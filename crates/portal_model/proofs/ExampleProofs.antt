@@ -29,6 +29,7 @@ unfolding IsDistinct
 valid_read_write = record {
   numbers_differ = (tt, tt);
   numbers_made = refl;
+  identifiers = refl;
   paths = rw a_path refl;
   applications_differ = (tt, tt);
   names = rw editor_name refl;
@@ -53,6 +54,7 @@ unfolding IsDistinct
 valid_of_other = record {
   numbers_differ = (tt, tt);
   numbers_made = refl;
+  identifiers = refl;
   paths = rw a_path refl;
   applications_differ = (tt, tt);
   names = rw other_name refl;
@@ -77,6 +79,7 @@ unfolding IsDistinct
 valid_of_nobody = record {
   numbers_differ = tt;
   numbers_made = refl;
+  identifiers = refl;
   paths = refl;
   applications_differ = tt;
   names = refl;

@@ -17,7 +17,7 @@ use Rattle.portal_model.specs.Content.{is_folder}
 use Rattle.portal_model.specs.Opening.{id_of, document_kept, set_of_bits, with_grant, with_grants, each, file_of, opened, first_named, names_kept, SoundOpening, ValidOpening}
 use Rattle.portal_model.specs.Rights.{are_in_order}
 use Rattle.portal_model.specs.State.{State, document_of}
-use Rattle.portal_model.specs.Valid.{Valid, is_made, is_numbered, is_placed}
+use Rattle.portal_model.specs.Valid.{Valid, has_identifier, is_made, is_numbered, is_placed}
 use Rattle.portal_model.proofs.DistinctItems.{IsDistinct-first, list_all-filter, list_all-weaken}
 use Rattle.portal_model.proofs.ListLookups.{is_same-eq, is_same-refl}
 use Rattle.portal_model.proofs.RightsLaws.{all-add_rights, ordered-add_rights}
@@ -162,6 +162,7 @@ pub sound-Valid : (o : OpeningState) → SoundOpening o → Valid (opened o)
 sound-Valid o k = record {
   numbers_differ = subst (IsDistinct nat_eq) (sym (numbers_kept o.documents)) k.numbers_differ;
   numbers_made = list_all-map (λ (d : Document). is_made o.made d.id.number) document_kept o.documents ∙ (ap (λ (made : List DocId). list_all (λ (d : OpeningDocument). is_made made d.kept.number) o.documents) k.made ∙ made_kept o.documents);
+  identifiers = list_all-map has_identifier document_kept o.documents ∙ k.identifiers;
   paths = list_all-map (λ (d : Document). is_host_path d.path) document_kept o.documents ∙ k.paths;
   applications_differ = subst (IsDistinct is_same) (sym k.applications) (first_named-distinct (each names_kept o.documents));
   names = ap (list_all is_app_name) k.applications ∙ first_named-all is_app_name (each names_kept o.documents) (all_each is_app_name names_kept o.documents k.names);
@@ -182,4 +183,4 @@ sound-Valid o k = record {
 }
 
 pub sound-ValidOpening : (o : OpeningState) → SoundOpening o → ValidOpening (Some (map file_of o.files)) o
-sound-ValidOpening o k = record { valid = sound-Valid o k; made = k.made; applications = k.applications }
+sound-ValidOpening o k = record { valid = sound-Valid o k; grants = k.grants; made = k.made; applications = k.applications }

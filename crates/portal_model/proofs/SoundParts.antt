@@ -13,7 +13,7 @@ use Rattle.portal_model.specs.Content.{is_folder}
 use Rattle.portal_model.specs.Grant.{exceeds_limits}
 use Rattle.portal_model.specs.Rights.{are_in_order}
 use Rattle.portal_model.specs.State.{State, document_of}
-use Rattle.portal_model.specs.Valid.{Valid, applications_limit, is_made, is_numbered, is_sound_connection, is_sound_entry, same_entry}
+use Rattle.portal_model.specs.Valid.{Valid, applications_limit, has_identifier, is_made, is_numbered, is_sound_connection, is_sound_entry, same_entry}
 
 abbrev pub numbers : List Document → List ℕ
 numbers ds = map (λ (d : Document). d.id.number) ds
@@ -29,6 +29,7 @@ is_placed_in ds apps t = is_live ds t.id.number && is_numbered apps t.app
 pub record Documented (ds : List Document) (made : List DocId) (rights : List Triple) (apps : List (List ℕ)) : Type 0 where
   pub numbers_differ : IsDistinct nat_eq (numbers ds)
   pub numbers_made : list_all (λ (d : Document). is_made made d.id.number) ds ≡ true
+  pub identifiers : list_all has_identifier ds ≡ true
   pub paths : list_all (λ (d : Document). is_host_path d.path) ds ≡ true
   pub applications_differ : IsDistinct is_same apps
   pub names : list_all is_app_name apps ≡ true
@@ -56,6 +57,7 @@ valid-sound s v = record {
   documented = record {
     numbers_differ = v.numbers_differ;
     numbers_made = v.numbers_made;
+    identifiers = v.identifiers;
     paths = v.paths;
     applications_differ = v.applications_differ;
     names = v.names;
@@ -97,6 +99,7 @@ sound-valid s e k =
     record {
       numbers_differ = k.documented.numbers_differ;
       numbers_made = k.documented.numbers_made;
+      identifiers = k.documented.identifiers;
       paths = k.documented.paths;
       applications_differ = k.documented.applications_differ;
       names = k.documented.names;
@@ -141,6 +144,7 @@ pub fewer-lists : (s : State) (ds : List Document) (rights : List Triple) → Va
 fewer-lists s ds rights v d fewer = record {
   numbers_differ = d.numbers_differ;
   numbers_made = d.numbers_made;
+  identifiers = d.identifiers;
   paths = d.paths;
   applications_differ = d.applications_differ;
   names = d.names;
@@ -168,6 +172,7 @@ pub Valid-connections : (s : State) (cs : List Connection) → Valid s → Sound
 Valid-connections s cs v k = record {
   numbers_differ = v.numbers_differ;
   numbers_made = v.numbers_made;
+  identifiers = v.identifiers;
   paths = v.paths;
   applications_differ = v.applications_differ;
   names = v.names;

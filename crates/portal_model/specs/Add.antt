@@ -125,7 +125,8 @@ add_files who a s numbers paths =
 
 -- ---- the call
 
--- once the call names presented files they leave the queue, whatever comes then
+-- Once the call names presented files they leave the queue, also where a later rule refuses it.
+-- Where a device fails they stay.
 abbrev pub taken_from_queue : Connection → AddRequest → State → State
 taken_from_queue c a s = cond (are_presented c.queue a) (with_queue c.seat (drop a.fds) s) s
 

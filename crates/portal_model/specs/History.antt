@@ -37,7 +37,18 @@ node_bytes (NodeOp.Lookup name) = length name
 node_bytes (NodeOp.BatchForget nodes) = 16 * length nodes
 node_bytes (NodeOp.Create name flags) = length name
 node_bytes (NodeOp.Write fh offset content) = length content
-node_bytes op = 0
+node_bytes (NodeOp.Forget count) = 0
+node_bytes (NodeOp.GetAttr flags fh) = 0
+node_bytes (NodeOp.SetAttr valid fh size) = 0
+node_bytes (NodeOp.Open flags) = 0
+node_bytes (NodeOp.Read fh offset size) = 0
+node_bytes (NodeOp.Flush fh) = 0
+node_bytes (NodeOp.Fsync fh) = 0
+node_bytes (NodeOp.Release fh) = 0
+node_bytes NodeOp.OpenDir = 0
+node_bytes (NodeOp.ReadDir fh offset size) = 0
+node_bytes (NodeOp.ReleaseDir fh) = 0
+node_bytes (NodeOp.Access mask) = 0
 
 abbrev pub who_bytes : Who → ℕ
 who_bytes Who.Host = 0

@@ -1,5 +1,5 @@
 -- The state that an opening state of a portal stands for.
-use Rattle.std.specs.Prelude.{◌≡◌, ◌≤◌, ◌<◌, ◌^◌, length, nat_eq, ℕ, ◌==◌, ◌/◌, ◌%◌, List, [], ◌∷◌, map, fold, not, Bool, true, false, Option, Some, None}
+use Rattle.std.specs.Prelude.{◌≡◌, ◌≤◌, ◌<◌, ◌^◌, ◌&&◌, length, nat_eq, nat_le, nat_lt, ℕ, ◌==◌, ◌/◌, ◌%◌, List, [], ◌∷◌, map, fold, not, Bool, true, false, Option, Some, None}
 use Rattle.std.specs.List.{filter, flat_map, list_all, IsDistinct}
 use Rattle.portal_base.specs.Names.{is_same, is_app_name, is_host_path}
 use Rattle.portal_base.specs.declared.names.doc_id.DocId.{DocId}
@@ -95,10 +95,18 @@ first_named (name ∷ names) = name ∷ filter (λ other. not (is_same name othe
 abbrev pub names_kept : OpeningDocument → List (List ℕ)
 names_kept d = map (λ g. g.app) d.kept.grants
 
--- no document was made but those that are live, and the applications are numbered as the records
--- first name them
+-- a record gives one to all of the four rights
+abbrev pub is_grant : GrantRecord → Bool
+is_grant g = nat_le 1 g.rights && nat_le g.rights 15
+
+abbrev pub has_grants : OpeningDocument → Bool
+has_grants d = list_all is_grant d.kept.grants
+
+-- No document was made but those that are live, and the applications are numbered as the records
+-- first name them, each by a right.
 pub record ValidOpening (files : Option (List File)) (o : OpeningState) : Type 0 where
   pub valid : Valid (opened_over files o)
+  pub grants : list_all has_grants o.documents ≡ true
   pub made : o.made ≡ map (λ d. id_of d.kept.number) o.documents
   pub applications : o.applications ≡ first_named (each names_kept o.documents)
 
@@ -112,8 +120,10 @@ pub record SoundOpening (o : OpeningState) : Type 0 where
   pub made : o.made ≡ map (λ d. id_of d.kept.number) o.documents
   pub applications : o.applications ≡ first_named (each names_kept o.documents)
   pub numbers_differ : IsDistinct nat_eq (map (λ d. d.kept.number) o.documents)
+  pub identifiers : list_all (λ d. nat_lt d.kept.number (2 ^ 32)) o.documents ≡ true
   pub paths : list_all (λ d. is_host_path d.kept.path) o.documents ≡ true
   pub names : list_all (λ d. list_all is_app_name (names_kept d)) o.documents ≡ true
+  pub grants : list_all has_grants o.documents ≡ true
   pub grants_differ : GrantsDiffer o.documents
   pub entries_differ : IsDistinct same_entry o.entries
   pub entries_sound : list_all is_sound_entry o.entries ≡ true

@@ -1,5 +1,5 @@
 -- What is true of every state that a portal reaches.
-use Rattle.std.specs.Prelude.{◌≡◌, ℕ, ◌==◌, ◌^◌, ◌<◌, ◌≤◌, nat_eq, nat_le, List, [], ◌∷◌, length, map, Bool, true, false, not, ◌&&◌, ◌||◌, is_some}
+use Rattle.std.specs.Prelude.{◌≡◌, ℕ, ◌==◌, ◌^◌, ◌<◌, ◌≤◌, nat_eq, nat_le, nat_lt, List, [], ◌∷◌, length, map, Bool, true, false, not, ◌&&◌, ◌||◌, is_some}
 use Rattle.std.specs.List.{list_any, list_all, IsDistinct}
 use Rattle.portal_base.specs.Names.{is_same, is_app_name, is_host_path, is_byte_of_path}
 use Rattle.portal_base.specs.declared.names.doc_id.DocId.{DocId}
@@ -9,6 +9,7 @@ use Rattle.portal_model.specs.declared.records.EntryRecord.{EntryRecord}
 use Rattle.portal_model.specs.declared.records.Row.{Row}
 use Rattle.portal_model.specs.declared.reply.Change.{Change}
 use Rattle.portal_model.specs.declared.state.Connection.{Connection}
+use Rattle.portal_model.specs.declared.state.Document.{Document}
 use Rattle.portal_model.specs.declared.state.Triple.{Triple}
 use Rattle.portal_model.specs.Content.{is_folder}
 use Rattle.portal_model.specs.Rights.{are_in_order}
@@ -19,6 +20,10 @@ is_made made number = list_any (λ id. id.number == number) made
 
 abbrev pub is_numbered : List (List ℕ) → List ℕ → Bool
 is_numbered applications app = list_any (is_same app) applications
+
+-- an identifier writes a number of 32 bits
+abbrev pub has_identifier : Document → Bool
+has_identifier d = nat_lt d.id.number (2 ^ 32)
 
 -- the document is live, and the application is numbered
 abbrev pub is_placed : State → Triple → Bool
@@ -71,9 +76,10 @@ abbrev pub applications_limit : ℕ
 applications_limit = 16777216
 
 pub record Valid (s : State) : Type 0 where
-  -- live numbers differ, and are made
+  -- live numbers differ, are made, and are those that identifiers write
   pub numbers_differ : IsDistinct nat_eq (map (λ d. d.id.number) s.documents)
   pub numbers_made : list_all (λ d. is_made s.made d.id.number) s.documents ≡ true
+  pub identifiers : list_all has_identifier s.documents ≡ true
   pub paths : list_all (λ d. is_host_path d.path) s.documents ≡ true
   pub applications_differ : IsDistinct is_same s.applications
   pub names : list_all is_app_name s.applications ≡ true

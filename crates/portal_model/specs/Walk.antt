@@ -1,6 +1,7 @@
 -- The calls of the tree of files that a request makes, one after another: what comes next is told
 -- by what was shown so far. What the tree gives to a request, where a call may fail and whether
--- the clock is read follow from this, once for all requests.
+-- the clock is read follow from this, once for all requests on documents; a GETATTR has its looks
+-- apart.
 use Rattle.std.specs.Prelude.{◌≡◌, ℕ, List, [], ◌∷◌, length, Bool, true, false, Option, Some, None, cond, is_some}
 use Rattle.portal_base.specs.declared.files.FileName.{FileName}
 use Rattle.portal_base.specs.declared.files.File.{File}
@@ -73,9 +74,17 @@ is_found files (Uses name) = is_some (file_named files name)
 is_found files (Changes name) = is_some (file_named files name)
 is_found files (Makes path) = has_room files path
 
--- a tree that tells its files shows what it has, any other whatever it likes
+-- the file of a name is there or not: nothing else may stand for it
+abbrev pub MayShow : FileName → Look → Type 0
+MayShow name (Look.File generation size moment) = generation ≡ name.generation
+MayShow name Look.Folder = ⊥
+MayShow name Look.Missing = Unit {0}
+
+-- a tree that tells its files shows what it has; any other whatever it likes at a path, and for a
+-- name that file or nothing
 abbrev pub IsShown : Option (List File) → Target → Look → Type 0
-IsShown None target look = Unit {0}
+IsShown None (AtPath path) look = Unit {0}
+IsShown None (Named name) look = MayShow name look
 IsShown (Some files) target look = look ≡ shown_at files target
 
 abbrev pub IsFound : Option (List File) → LastCall → Bool → Type 0

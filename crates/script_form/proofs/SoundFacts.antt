@@ -1,6 +1,6 @@
 -- The state that a script opens with is valid.
-use Rattle.std.proofs.Common.{◌≡◌, ℕ, ◌+◌, ◌<◌, ◌≤◌, ◌==◌, nat_eq, Bool, true, false, ◌&&◌, ◌||◌, not, List, [], ◌∷◌, ◌++◌, length, take, map, Some, Result, Ok, Err, refl, ap, ◌∙◌, arith, append_assoc, cond, Less, nat_cmp}
-use Rattle.std.specs.Prelude.{IfOk, count_by, nat_lt}
+use Rattle.std.proofs.Common.{◌≡◌, ℕ, ◌+◌, ◌<◌, ◌≤◌, ◌==◌, ◌^◌, nat_eq, Bool, true, false, ◌&&◌, ◌||◌, not, List, [], ◌∷◌, ◌++◌, length, take, map, Some, Result, Ok, Err, refl, ap, ◌∙◌, arith, append_assoc, cond, Less, nat_cmp}
+use Rattle.std.specs.Prelude.{IfOk, count_by, nat_le, nat_lt}
 use Rattle.std.specs.Cmp.Lexicographic.{slice_cmp, nat_list_cmp_total}
 use Rattle.std.specs.List.{All, list_any, list_all, AllByRecursion, IsDistinct}
 use Rattle.std.proofs.lemmas.Bool.{and_parts, ltb-true}
@@ -12,7 +12,7 @@ use Rattle.std.proofs.lemmas.List.Sums.{sum_by-append}
 use Rattle.portal_base.specs.Names.{is_same, is_app_name, is_host_path, root}
 use Rattle.portal_base.specs.declared.limits.Limits.{Limits}
 use Rattle.portal_model.specs.Content.{is_above, is_folder}
-use Rattle.portal_model.specs.Opening.{names_kept, file_of, GrantsDiffer, SoundOpening, ValidOpening}
+use Rattle.portal_model.specs.Opening.{has_grants, is_grant, names_kept, file_of, GrantsDiffer, SoundOpening, ValidOpening}
 use Rattle.portal_model.specs.Valid.{applications_limit}
 use Rattle.portal_model.specs.declared.opening.FileItem.{FileItem}
 use Rattle.portal_model.specs.declared.opening.OpeningDocument.{OpeningDocument}
@@ -96,6 +96,28 @@ names_are : (lines earlier : List ScriptLine) → StandBehind earlier lines → 
 names_are [] earlier all = refl
 names_are (Doc id reusable path grants ∷ ls) earlier all = both_true (list_all is_app_name (map (λ (g : GrantRecord). g.app) grants)) _ (grant_names grants all.0.itself.2.grants) (names_are ls _ all.1)
 names_are (line ∷ ls) earlier all = names_are ls _ all.1
+
+grants_right : (gs : List GrantRecord) → All IsGrant gs → list_all is_grant gs ≡ true
+grants_right [] all = refl
+grants_right (g ∷ gs) all =
+    let one = All-head IsGrant g gs all in
+    both_true (is_grant g) _ (right_one g.rights one.some_right one.no_other) (grants_right gs (All-tail IsGrant g gs all))
+  where
+    right_one : (rights : ℕ) → 1 ≤ rights → rights ≤ 15 → (nat_le 1 rights && nat_le rights 15) ≡ true
+    right_one rights some most = grind (arith, nat_tests)
+
+grants_are : (lines earlier : List ScriptLine) → StandBehind earlier lines → list_all has_grants (documents_of lines) ≡ true
+grants_are [] earlier all = refl
+grants_are (Doc id reusable path grants ∷ ls) earlier all = both_true (list_all is_grant grants) _ (grants_right grants all.0.itself.2.grants) (grants_are ls _ all.1)
+grants_are (line ∷ ls) earlier all = grants_are ls _ all.1
+
+identifiers_are : (lines earlier : List ScriptLine) → StandBehind earlier lines → list_all (λ (d : OpeningDocument). nat_lt d.kept.number (2 ^ 32)) (documents_of lines) ≡ true
+identifiers_are [] earlier all = refl
+identifiers_are (Doc id reusable path grants ∷ ls) earlier all = both_true (nat_lt id.number (2 ^ 32)) _ (below id.number all.0.itself.0) (identifiers_are ls _ all.1)
+  where
+    below : (n : ℕ) → n < 2 ^ 32 → nat_lt n (2 ^ 32) ≡ true
+    below n l = grind (arith, nat_tests)
+identifiers_are (line ∷ ls) earlier all = identifiers_are ls _ all.1
 
 less_differs : (a b : List ℕ) → slice_cmp nat_cmp a b ≡ Less → is_same a b ≡ false
 less_differs a b less = no_true (is_same a b) (λ same.
@@ -274,8 +296,10 @@ sound limits lines good holds =
       made = refl;
       applications = refl;
       numbers_differ = numbers_differ lines [] good;
+      identifiers = identifiers_are lines [] good;
       paths = paths_are lines [] good;
       names = names_are lines [] good;
+      grants = grants_are lines [] good;
       grants_differ = grants_differ lines [] good;
       entries_differ = entries_differ lines [] good;
       entries_sound = entries_sound lines [] good;
