@@ -1,5 +1,5 @@
 -- Refusals change nothing but queues, and what is allowed is done.
-use Rattle.std.proofs.Common.{◌≡◌, ℕ, List, [], ◌∷◌, ◌++◌, map, length, nat_lt, drop, Bool, true, false, not, ◌&&◌, ◌||◌, cond, Option, Some, None, refl, sym, ap, subst, ◌∙◌, arith}
+use Rattle.std.proofs.Common.{◌≡◌, ℕ, List, [], ◌∷◌, ◌++◌, map, length, nat_lt, drop, Bool, true, false, not, ◌&&◌, ◌||◌, cond, Option, Some, None, refl, sym, ap, subst, ◌∙◌, inl, inr, ◌⊎◌, arith}
 use Rattle.portal_base.specs.Names.{is_app_name, is_same}
 use Rattle.portal_base.specs.declared.files.File.{File}
 use Rattle.portal_base.specs.declared.files.Look.{Look}
@@ -24,13 +24,13 @@ use Rattle.portal_model.specs.Arguments.{ahead_of_end, document_named, if_reache
 use Rattle.portal_model.specs.Bus.{bus_walk, is_tree, kept, moment_given, refused_state, settled, verdict_given}
 use Rattle.portal_model.specs.Content.{look_at}
 use Rattle.portal_model.specs.DeleteDocument.{delete_reached, deleted}
-use Rattle.portal_model.specs.DocumentLaws.{AllowedIsDone, RefusalsKeep, ToldForAdd}
+use Rattle.portal_model.specs.DocumentLaws.{RefusalsKeep, ToldFor, after_bus, answer_of_bus}
 use Rattle.portal_model.specs.Grant.{are_rights_arguments, grant_reached, granted, may_grant}
 use Rattle.portal_model.specs.Documents.{first_of}
 use Rattle.portal_model.specs.Info.{info, info_of}
 use Rattle.portal_model.specs.ListDocuments.{documents_listed, list_documents}
 use Rattle.portal_model.specs.LookupDocument.{lookup_document, text_of}
-use Rattle.portal_model.specs.Outside.{files_told}
+use Rattle.portal_model.specs.Outside.{LawfulBus, files_told}
 use Rattle.portal_model.specs.Present.{may_present, present, present_path, queue_path, with_queue}
 use Rattle.portal_model.specs.Revoke.{may_revoke, names_itself, revoke_reached, revoked}
 use Rattle.portal_model.specs.Rights.{held_by}
@@ -76,9 +76,34 @@ refused_keeps : (s : State) (c : Connection) (request : Request) → Keeps s (re
 refused_keeps s c (Request.Add a) = keeps_either s c.seat (drop a.fds) (are_presented c.queue a)
 refused_keeps s c request = refl
 
-pub refusals-keep : RefusalsKeep
-refusals-keep s c request given code e =
+pub refused-lists : (s : State) (c : Connection) (request : Request) (given : Given) (code : Code) → answer_of_bus s c request given ≡ Answer.Refused code → Keeps s (after_bus s c request given)
+refused-lists s c request given code e =
     settled_refused s (refused_state s c request) given (verdict_given (bus_walk s c request given.numbers) given) code (never_refused s c request given) (refused_keeps s c request) e
+
+-- the state is as it was, or that after a refusal
+abbrev IsLeft : State → State → State → Type 0
+IsLeft s refused t = (t ≡ s) ⊎ (t ≡ refused)
+
+kept_left : (s refused : State) (fault : Fault) (d : Doing) (code : Code) → is_refusal d.answer ≡ false → (kept s fault d).1 ≡ Answer.Refused code → IsLeft s refused (kept s fault d).0
+kept_left s refused Fault.None d code n e = let no : is_refusal d.answer ≡ true = ap is_refusal e in cc
+kept_left s refused Fault.Tree d code n e = let no : is_refusal d.answer ≡ true = ap is_refusal e in cc
+kept_left s refused Fault.Keeper d code n e = inl refl
+
+full_left : (s refused : State) (full : Bool) (fault : Fault) (d : Doing) (code : Code) → is_refusal d.answer ≡ false →
+    (cond full (refused, Answer.Refused Code.LimitsExceeded) (kept s fault d)).1 ≡ Answer.Refused code → IsLeft s refused (cond full (refused, Answer.Refused Code.LimitsExceeded) (kept s fault d)).0
+full_left s refused true fault d code n e = inr refl
+full_left s refused false fault d code n e = kept_left s refused fault d code n e
+
+settled_left : (s refused : State) (given : Given) (v : Option Verdict) (code : Code) → NoRefusal v → (settled s refused given v).1 ≡ Answer.Refused code → IsLeft s refused (settled s refused given v).0
+settled_left s refused given None code n e = inl refl
+settled_left s refused given (Some (Refuses other)) code n e = inr refl
+settled_left s refused given (Some (Does d)) code n e = full_left s refused given.full given.fault d code n.1 e
+
+pub refusals-keep : RefusalsKeep
+refusals-keep = record {
+  lists = refused-lists;
+  queues = λ s c request given code e. settled_left s (refused_state s c request) given (verdict_given (bus_walk s c request given.numbers) given) code (never_refused s c request given) e;
+}
 
 -- ---- what is allowed
 
@@ -199,7 +224,7 @@ list_done : (s : State) (who : Who) (app : List ℕ) → (is_host who && (is_sam
 list_done s (Who.App caller) app h = cc
 list_done s Who.Host app h = passes (is_same app [] || is_app_name app) Code.InvalidArgument (does s (Answer.Listed (documents_listed s app))) h refl
 
-walk_done : (s : State) (c : Connection) (request : Request) (numbers : List DocId) (looks : List Look) (now : ℕ) → ToldForAdd s request → is_allowed s c request ≡ true → has_place s c request ≡ true →
+walk_done : (s : State) (c : Connection) (request : Request) (numbers : List DocId) (looks : List Look) (now : ℕ) → ToldFor s request → is_allowed s c request ≡ true → has_place s c request ≡ true →
     Gives (files_told s) (bus_walk s c request numbers) looks false → DoneGiven (walked (bus_walk s c request numbers) now looks false)
 walk_done s c (Request.Present path) numbers looks now t h k g = present_done s c path h k
 walk_done s c (Request.Add a) numbers looks now t h k g =
@@ -227,8 +252,9 @@ settled_done s refused given (Some (Does d)) e f h =
     ap (λ (full : Bool). is_refusal (cond full (refused, Answer.Refused Code.LimitsExceeded) (kept s given.fault d)).1) f
     ∙ (ap (λ (fault : Fault). is_refusal (kept s fault d).1) e ∙ h)
 
-pub allowed-done : AllowedIsDone
-allowed-done s c request given t h k l e f =
+pub bus-done : (s : State) (c : Connection) (request : Request) (given : Given) → ToldFor s request → is_allowed s c request ≡ true → has_place s c request ≡ true → LawfulBus s c request given → given.fault ≡ Fault.None → given.full ≡ false →
+    is_refusal (answer_of_bus s c request given) ≡ false
+bus-done s c request given t h k l e f =
     let w = bus_walk s c request given.numbers in
     let calm : is_tree given.fault ≡ false = ap is_tree e in
     let gives : Gives (files_told s) w given.looks false = subst (λ (failed : Bool). Gives (files_told s) w given.looks failed) calm l.looks in

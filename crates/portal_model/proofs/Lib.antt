@@ -27,3 +27,4 @@ pub mod DocumentExampleProofs
 pub mod AllowedLaws
 pub mod Refusals
 pub mod LooksTaken
+pub mod EntriesAllowed

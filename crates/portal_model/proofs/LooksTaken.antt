@@ -71,7 +71,7 @@ bus_taken s request given (Some c) t f l =
     (subst (λ (fault : Fault). Gives (files_told s) w given.looks (is_tree fault)) f l.looks) in
     shown_given s.files w given.looks gives ∙ walk_shown_alike s.files (all_told c.seat s) c request given.numbers []
 
-looks_given : (told : Bool) (taken looks : List Look) (fault : Fault) → told ≡ true → fault ≡ Fault.None → LawfulLooks told taken fault looks → looks ≡ taken
+pub looks_given : (told : Bool) (taken looks : List Look) (fault : Fault) → told ≡ true → fault ≡ Fault.None → LawfulLooks told taken fault looks → looks ≡ taken
 looks_given true taken looks Fault.None t f h = h
 looks_given true taken looks Fault.Tree t f h = cc
 looks_given true taken looks Fault.Keeper t f h = cc

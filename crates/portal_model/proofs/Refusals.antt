@@ -12,7 +12,7 @@ use Rattle.portal_model.specs.declared.state.Connection.{Connection}
 use Rattle.portal_model.specs.DocumentLaws.{RefusedEntriesKeep}
 use Rattle.portal_model.specs.State.{State, connection_of}
 use Rattle.portal_model.specs.Step.{all_told, bus_of, bus_step, collect_step, mount_of, node_answer, node_step, request_step}
-use Rattle.portal_model.proofs.AllowedLaws.{refusals-keep}
+use Rattle.portal_model.proofs.AllowedLaws.{refused-lists}
 
 abbrev Keeps : State → State → Type 0
 Keeps s t = t ≡ record s { connections = t.connections }
@@ -31,7 +31,7 @@ node_keeps s r given (Some c) = node_answer_keeps s (all_told c.seat s) c.who r 
 
 bus_keeps : (s : State) (request : Request) (given : Given) (o : Option Connection) (code : Code) → (bus_step s request given o).1.answer ≡ Answer.Refused code → Keeps s (bus_step s request given o).0
 bus_keeps s request given None code e = refl
-bus_keeps s request given (Some c) code e = refusals-keep (all_told c.seat s) c request given code e
+bus_keeps s request given (Some c) code e = refused-lists (all_told c.seat s) c request given code e
 
 step_keeps : (s : State) (seat : ℕ) (request : Request) (given : Given) (code : Code) → (request_step s seat request given).1.answer ≡ Answer.Refused code → Keeps s (request_step s seat request given).0
 step_keeps s seat (Request.Enter who kind) given code e = refl

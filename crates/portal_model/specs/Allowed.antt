@@ -1,24 +1,29 @@
--- What may be asked of a bus: what is allowed is done, where no device fails and no limit is met.
-use Rattle.std.specs.Prelude.{[], map, Bool, true, false, ◌&&◌, ◌||◌, length, nat_lt, Option, Some, None}
+-- What a seat may ask: what is allowed is done, where no device fails and no limit is met.
+use Rattle.std.specs.Prelude.{ℕ, [], map, Bool, true, false, not, ◌&&◌, ◌||◌, length, nat_lt, Option, Some, None, is_some}
 use Rattle.portal_base.specs.Names.{is_app_name, is_same}
 use Rattle.portal_base.specs.declared.who.Who.{Who}
 use Rattle.rights_rule.specs.Rights.{holds_any, rights_named}
 use Rattle.portal_model.specs.declared.reply.Answer.{Answer}
 use Rattle.portal_model.specs.declared.request.AddRequest.{AddRequest}
+use Rattle.portal_model.specs.declared.request.NodeOp.{NodeOp}
+use Rattle.portal_model.specs.declared.request.NodeRequest.{NodeRequest}
 use Rattle.portal_model.specs.declared.request.Request.{Request}
 use Rattle.portal_model.specs.declared.request.RightsCall.{RightsCall}
 use Rattle.portal_model.specs.declared.rights.Right.TheVariants.{Delete, GrantPermissions}
 use Rattle.portal_model.specs.declared.state.Connection.{Connection}
 use Rattle.portal_model.specs.declared.state.Document.{Document}
-use Rattle.portal_model.specs.Add.{are_of_kind, may_list_all}
+use Rattle.portal_model.specs.Add.{are_of_kind, is_file, may_list_all}
 use Rattle.portal_model.specs.AddArguments.{are_add_arguments, are_presented, document_paths, paths_shown}
 use Rattle.portal_model.specs.Arguments.{ahead_of_end, document_named, is_ended_path}
 use Rattle.portal_model.specs.Content.{look_at}
+use Rattle.portal_model.specs.GetAttr.{names_handle}
 use Rattle.portal_model.specs.Grant.{are_rights_arguments, may_grant}
+use Rattle.portal_model.specs.Place.{Sight, SightOfFile, place_of}
 use Rattle.portal_model.specs.Present.{may_present}
 use Rattle.portal_model.specs.Revoke.{names_itself}
 use Rattle.portal_model.specs.Rights.{held_by}
-use Rattle.portal_model.specs.State.{State, who_has}
+use Rattle.portal_model.specs.State.{State, connection_of, who_has}
+use Rattle.portal_model.specs.Step.{bus_of, mount_of}
 
 abbrev pub is_refusal : Answer → Bool
 is_refusal (Answer.Refused code) = true
@@ -56,7 +61,7 @@ abbrev pub is_live : Option Document → Bool
 is_live None = false
 is_live (Some d) = true
 
--- A request of this connection, which is a bus. It speaks of the requests of a bus alone: an
+-- A request on documents of this connection, which is a bus. A Collect needs nothing more; an
 -- Enter, a Leave and a request on a node have rules of their own, and are none here.
 abbrev pub is_allowed : State → Connection → Request → Bool
 is_allowed s c (Request.Present path) = is_ended_path path && may_present c.who (ahead_of_end path)
@@ -88,3 +93,74 @@ has_place s c Request.Collect = true
 has_place s c (Request.Enter who kind) = true
 has_place s c Request.Leave = true
 has_place s c (Request.Node r) = true
+
+-- ---- a request on a node
+
+-- a file that is there, where there is a place
+abbrev pub has_file : State → Option Sight → Bool
+has_file s None = false
+has_file s (Some (SightOfFile path may_write)) = is_file (look_at s.files path)
+
+-- A GETATTR asks a file of its place: no connection has an open handle that it could name. The
+-- other requests on nodes have no definition yet.
+abbrev pub may_ask_node : State → Who → NodeRequest → NodeOp → Bool
+may_ask_node s who r (NodeOp.GetAttr flags fh) =
+    not (names_handle flags) && has_file s (place_of s who r.node)
+may_ask_node s who r (NodeOp.Lookup name) = false
+may_ask_node s who r (NodeOp.Forget count) = false
+may_ask_node s who r (NodeOp.BatchForget nodes) = false
+may_ask_node s who r (NodeOp.SetAttr valid fh size) = false
+may_ask_node s who r (NodeOp.Open flags) = false
+may_ask_node s who r (NodeOp.Create name flags) = false
+may_ask_node s who r (NodeOp.Read fh offset size) = false
+may_ask_node s who r (NodeOp.Write fh offset content) = false
+may_ask_node s who r (NodeOp.Flush fh) = false
+may_ask_node s who r (NodeOp.Fsync fh) = false
+may_ask_node s who r (NodeOp.Release fh) = false
+may_ask_node s who r NodeOp.OpenDir = false
+may_ask_node s who r (NodeOp.ReadDir fh offset size) = false
+may_ask_node s who r (NodeOp.ReleaseDir fh) = false
+may_ask_node s who r (NodeOp.Access mask) = false
+
+-- ---- a request of a seat
+
+abbrev pub allowed_on_bus : State → Request → Option Connection → Bool
+allowed_on_bus s request None = false
+allowed_on_bus s request (Some c) = is_allowed s c request
+
+abbrev pub allowed_on_mount : State → NodeRequest → Option Connection → Bool
+allowed_on_mount s r None = false
+allowed_on_mount s r (Some c) = may_ask_node s c.who r r.op
+
+-- The seat has an open connection of the request's kind, for an Enter none at all, and the
+-- request is allowed there.
+abbrev pub allowed : State → ℕ → Request → Bool
+allowed s seat (Request.Enter who kind) = not (is_some (connection_of s.connections seat))
+allowed s seat Request.Leave = is_some (connection_of s.connections seat)
+allowed s seat Request.Collect = is_some (bus_of (connection_of s.connections seat))
+allowed s seat (Request.Node r) =
+    allowed_on_mount s r (mount_of (connection_of s.connections seat))
+allowed s seat (Request.Present path) =
+    allowed_on_bus s (Request.Present path) (bus_of (connection_of s.connections seat))
+allowed s seat (Request.Add a) =
+    allowed_on_bus s (Request.Add a) (bus_of (connection_of s.connections seat))
+allowed s seat (Request.Grant call) =
+    allowed_on_bus s (Request.Grant call) (bus_of (connection_of s.connections seat))
+allowed s seat (Request.Revoke call) =
+    allowed_on_bus s (Request.Revoke call) (bus_of (connection_of s.connections seat))
+allowed s seat (Request.DeleteDocument doc) =
+    allowed_on_bus s (Request.DeleteDocument doc) (bus_of (connection_of s.connections seat))
+allowed s seat (Request.LookupDocument path) =
+    allowed_on_bus s (Request.LookupDocument path) (bus_of (connection_of s.connections seat))
+allowed s seat (Request.Info doc) =
+    allowed_on_bus s (Request.Info doc) (bus_of (connection_of s.connections seat))
+allowed s seat (Request.ListDocuments app) =
+    allowed_on_bus s (Request.ListDocuments app) (bus_of (connection_of s.connections seat))
+
+-- the queue of the seat's connection has a place for what is presented
+abbrev pub place_on : State → Request → Option Connection → Bool
+place_on s request None = true
+place_on s request (Some c) = has_place s c request
+
+abbrev pub place_left : State → ℕ → Request → Bool
+place_left s seat request = place_on s request (bus_of (connection_of s.connections seat))

@@ -1,6 +1,6 @@
 -- Laws of the requests of a bus, and of entries, which the public functions of
 -- src/document_laws.rt state.
-use Rattle.std.specs.Prelude.{◌≡◌, true, false}
+use Rattle.std.specs.Prelude.{◌≡◌, ◌⊎◌, true, false}
 use Rattle.portal_model.specs.declared.entry.Entry.{Entry}
 use Rattle.portal_model.specs.declared.entry.Fault.{Fault}
 use Rattle.portal_model.specs.declared.entry.Given.{Given}
@@ -8,8 +8,8 @@ use Rattle.portal_model.specs.declared.reply.Answer.{Answer}
 use Rattle.portal_model.specs.declared.reply.Code.{Code}
 use Rattle.portal_model.specs.declared.request.Request.{Request}
 use Rattle.portal_model.specs.declared.state.Connection.{Connection}
-use Rattle.portal_model.specs.Allowed.{has_place, is_allowed, is_refusal}
-use Rattle.portal_model.specs.Bus.{bus_answer}
+use Rattle.portal_model.specs.Allowed.{allowed, has_place, is_allowed, is_refusal, place_left}
+use Rattle.portal_model.specs.Bus.{bus_answer, refused_state}
 use Rattle.portal_model.specs.Lawful.{Lawful}
 use Rattle.portal_model.specs.Outside.{LawfulBus}
 use Rattle.portal_model.specs.State.{State}
@@ -22,12 +22,18 @@ abbrev pub answer_of_bus : State → Connection → Request → Given → Answer
 answer_of_bus s c request given = (bus_answer s c request given).1
 
 -- A refusal leaves documents, rights, applications, files and entries as they were: all but
--- the connections, of which a queue may have changed.
-abbrev pub RefusalsKeep : Type 0
-RefusalsKeep = (s : State) (c : Connection) (request : Request) (given : Given) (code : Code) →
-    answer_of_bus s c request given ≡ Answer.Refused code →
-    after_bus s c request given
-    ≡ record s { connections = (after_bus s c request given).connections }
+-- the connections, of which a queue may have changed. For the state is as it was, or but for the
+-- presented files that an Add takes.
+pub record RefusalsKeep : Type 0 where
+  pub lists :
+      (s : State) (c : Connection) (request : Request) (given : Given) (code : Code) →
+      answer_of_bus s c request given ≡ Answer.Refused code →
+      after_bus s c request given
+      ≡ record s { connections = (after_bus s c request given).connections }
+  pub queues :
+      (s : State) (c : Connection) (request : Request) (given : Given) (code : Code) →
+      answer_of_bus s c request given ≡ Answer.Refused code →
+      (after_bus s c request given ≡ s) ⊎ (after_bus s c request given ≡ refused_state s c request)
 
 -- The same of any entry: a refused one may have taken presented files from a queue, and told what
 -- a connection waited for, and that is all.
@@ -42,15 +48,33 @@ abbrev pub LooksAreTaken : Type 0
 LooksAreTaken = (s : State) (e : Entry) → s.told ≡ true → Lawful s e →
     e.given.fault ≡ Fault.None → e.given.looks ≡ looks_taken s e.seat e.request
 
--- The condition of an Add alone speaks of what the tree has, so it needs a tree that tells.
-abbrev pub ToldForAdd : State → Request → Type 0
-ToldForAdd s (Request.Add a) = s.told ≡ true
-ToldForAdd s request = Unit {0}
+-- The conditions of an Add and of a request on a node speak of what the tree has, so they need a
+-- tree that tells.
+abbrev pub ToldFor : State → Request → Type 0
+ToldFor s (Request.Add a) = s.told ≡ true
+ToldFor s (Request.Node r) = s.told ≡ true
+ToldFor s (Request.Present path) = Unit {0}
+ToldFor s (Request.Grant call) = Unit {0}
+ToldFor s (Request.Revoke call) = Unit {0}
+ToldFor s (Request.DeleteDocument doc) = Unit {0}
+ToldFor s (Request.LookupDocument path) = Unit {0}
+ToldFor s (Request.Info doc) = Unit {0}
+ToldFor s (Request.ListDocuments app) = Unit {0}
+ToldFor s (Request.Enter who kind) = Unit {0}
+ToldFor s Request.Leave = Unit {0}
+ToldFor s Request.Collect = Unit {0}
 
--- What is allowed is done, an Add over a tree that tells and all else over any tree, where no
--- device fails, no limit of documents or applications is met, and the queue has a place.
-abbrev pub AllowedIsDone : Type 0
-AllowedIsDone = (s : State) (c : Connection) (request : Request) (given : Given) →
-    ToldForAdd s request → is_allowed s c request ≡ true → has_place s c request ≡ true →
-    LawfulBus s c request given → given.fault ≡ Fault.None → given.full ≡ false →
-    is_refusal (answer_of_bus s c request given) ≡ false
+-- What is allowed is done, where no device fails, no limit of documents or applications is met, and
+-- the queue has a place: an Add and a request on a node over a tree that tells, all else over any
+-- tree. It is so of each lawful entry, and of a request on documents of any connection.
+pub record AllowedIsDone : Type 0 where
+  pub entry :
+      (s : State) (e : Entry) → ToldFor s e.request →
+      allowed s e.seat e.request ≡ true → place_left s e.seat e.request ≡ true →
+      Lawful s e → e.given.fault ≡ Fault.None → e.given.full ≡ false →
+      is_refusal (reply_at s e).answer ≡ false
+  pub on_bus :
+      (s : State) (c : Connection) (request : Request) (given : Given) → ToldFor s request →
+      is_allowed s c request ≡ true → has_place s c request ≡ true →
+      LawfulBus s c request given → given.fault ≡ Fault.None → given.full ≡ false →
+      is_refusal (answer_of_bus s c request given) ≡ false

@@ -11,7 +11,7 @@ ghost use Rattle.portal_model.specs.DocumentLaws.{
 };
 
 /// A refusal leaves documents, rights, applications, files and entries as they
-/// were.
+/// were, and the connections but for the presented files that an Add takes.
 pub fn refusals_keep_documents()
     ensures { RefusalsKeep }
 {}
@@ -28,8 +28,9 @@ pub fn looks_are_those_taken()
     ensures { LooksAreTaken }
 {}
 
-/// What is allowed is done, where no device fails and no limit is met: an Add
-/// over a tree that tells its files, all else over any tree.
+/// A lawful entry that asks what its seat may ask is done, where no device
+/// fails and no limit is met: an Add and a request on a node over a tree that
+/// tells its files, all else over any tree.
 pub fn what_is_allowed_is_done()
     ensures { AllowedIsDone }
 {}
