@@ -1,9 +1,11 @@
 -- The worked examples of requests on documents, by computation.
 use lib.Utf8.{encode}
-use Rattle.std.proofs.Common.{refl}
+use Rattle.std.proofs.Common.{[], ◌∷◌, refl, arith}
 use Rattle.std.specs.Str.{is_utf8, chars}
 use Rattle.portal_base.specs.Names.{is_host_path, is_app_name, child_of, own_folder, is_in_own_folder, is_doc_id, hex_number, doc_text, parent_of}
-use Rattle.app_world.specs.DocumentExamples.{RightsOfHistories, WhatIsTouched, WorldsOfAdditions, WorldsOfCalls, WorldsOfRemovals}
+use Rattle.portal_model.specs.Opening.{id_of}
+use Rattle.portal_model.proofs.DocumentExampleProofs.{no_keeper, no_keeper_of_tree, none_nearer}
+use Rattle.app_world.specs.DocumentExamples.{GivenLawfully, RightsOfHistories, WhatIsTouched, WorldsOfAdditions, WorldsOfCalls, WorldsOfRemovals}
 
 pub additions : WorldsOfAdditions
 unfolding is_host_path is_app_name is_utf8 chars encode child_of own_folder is_in_own_folder is_doc_id hex_number doc_text parent_of
@@ -24,3 +26,17 @@ touched = record { by_host = refl; two_added = refl; one_reused = refl; number_n
 pub rights : RightsOfHistories
 unfolding is_host_path is_app_name is_utf8 chars encode child_of own_folder is_in_own_folder is_doc_id hex_number doc_text parent_of
 rights = record { given = refl; added = refl; elsewhere = refl; taken = refl; deleted = refl; changed = refl; given_between = refl; not_given = refl }
+
+pub lawful : GivenLawfully
+unfolding is_host_path is_app_name is_utf8 chars encode child_of own_folder is_in_own_folder is_doc_id hex_number doc_text parent_of
+lawful = record {
+  held = (record { defined = refl; given = record { looks = (refl, refl); clock = refl; words = refl; numbers = tt; full = refl; keeper = λ e. no_keeper e } }, (record { defined = refl; given = record { looks = (refl, (refl, refl)); clock = refl; words = refl; numbers = (omega arith, omega arith, record { unused = refl; first = none_nearer [] 5 }, tt); full = refl; keeper = λ e. no_keeper e } }, (record { defined = refl; given = record { looks = (refl, refl); clock = refl; words = refl; numbers = tt; full = refl; keeper = λ e. no_keeper e } }, (record { defined = refl; given = record { looks = (refl, (refl, refl)); clock = refl; words = refl; numbers = tt; full = refl; keeper = λ e. no_keeper e } }, (record { defined = refl; given = record { looks = (refl, refl); clock = refl; words = refl; numbers = tt; full = refl; keeper = λ e. no_keeper e } }, tt)))));
+  refused_ones = (record { defined = refl; given = record { looks = (refl, refl); clock = refl; words = refl; numbers = tt; full = refl; keeper = λ e. no_keeper e } }, (record { defined = refl; given = record { looks = (refl, (refl, refl)); clock = refl; words = refl; numbers = tt; full = refl; keeper = λ e. no_keeper e } }, (record { defined = refl; given = record { looks = (refl, refl); clock = refl; words = refl; numbers = tt; full = refl; keeper = λ e. no_keeper e } }, (record { defined = refl; given = record { looks = (refl, refl); clock = refl; words = refl; numbers = tt; full = refl; keeper = λ e. no_keeper e } }, (record { defined = refl; given = record { looks = (refl, refl); clock = refl; words = refl; numbers = tt; full = refl; keeper = λ e. no_keeper e } }, (record { defined = refl; given = record { looks = (refl, refl); clock = refl; words = refl; numbers = tt; full = refl; keeper = λ e. no_keeper e } }, (record { defined = refl; given = record { looks = (refl, refl); clock = refl; words = refl; numbers = tt; full = refl; keeper = λ e. no_keeper e } }, (record { defined = refl; given = record { looks = (refl, refl); clock = refl; words = refl; numbers = tt; full = refl; keeper = λ e. no_keeper e } }, (record { defined = refl; given = record { looks = refl; clock = refl; words = refl; numbers = tt; full = refl; keeper = λ e. no_keeper_of_tree e } }, tt)))))))));
+  queue = (record { defined = refl; given = record { looks = (refl, refl); clock = refl; words = refl; numbers = tt; full = refl; keeper = λ e. no_keeper e } }, (record { defined = refl; given = record { looks = (refl, refl); clock = refl; words = refl; numbers = tt; full = refl; keeper = λ e. no_keeper e } }, (record { defined = refl; given = record { looks = (refl, refl); clock = refl; words = refl; numbers = tt; full = refl; keeper = λ e. no_keeper e } }, (record { defined = refl; given = record { looks = (refl, refl); clock = refl; words = refl; numbers = tt; full = refl; keeper = λ e. no_keeper e } }, (record { defined = refl; given = record { looks = (refl, refl); clock = refl; words = refl; numbers = tt; full = refl; keeper = λ e. no_keeper e } }, (record { defined = refl; given = record { looks = (refl, refl); clock = refl; words = refl; numbers = tt; full = refl; keeper = λ e. no_keeper e } }, (record { defined = refl; given = record { looks = (refl, refl); clock = refl; words = refl; numbers = tt; full = refl; keeper = λ e. no_keeper e } }, (record { defined = refl; given = record { looks = (refl, refl); clock = refl; words = refl; numbers = tt; full = refl; keeper = λ e. no_keeper e } }, (record { defined = refl; given = record { looks = (refl, refl); clock = refl; words = refl; numbers = tt; full = refl; keeper = λ e. no_keeper e } }, (record { defined = refl; given = record { looks = (refl, refl); clock = refl; words = refl; numbers = tt; full = refl; keeper = λ e. no_keeper e } }, (record { defined = refl; given = record { looks = (refl, refl); clock = refl; words = refl; numbers = tt; full = refl; keeper = λ e. no_keeper e } }, (record { defined = refl; given = record { looks = (refl, refl); clock = refl; words = refl; numbers = tt; full = refl; keeper = λ e. no_keeper e } }, (record { defined = refl; given = record { looks = (refl, refl); clock = refl; words = refl; numbers = tt; full = refl; keeper = λ e. no_keeper e } }, (record { defined = refl; given = record { looks = (refl, refl); clock = refl; words = refl; numbers = tt; full = refl; keeper = λ e. no_keeper e } }, (record { defined = refl; given = record { looks = (refl, refl); clock = refl; words = refl; numbers = tt; full = refl; keeper = λ e. no_keeper e } }, (record { defined = refl; given = record { looks = (refl, refl); clock = refl; words = refl; numbers = tt; full = refl; keeper = λ e. no_keeper e } }, (record { defined = refl; given = record { looks = (refl, refl); clock = refl; words = refl; numbers = tt; full = refl; keeper = λ e. no_keeper e } }, (record { defined = refl; given = record { looks = (refl, refl); clock = refl; words = refl; numbers = tt; full = refl; keeper = λ e. no_keeper e } }, tt))))))))))))))))));
+  giving_rights = (record { defined = refl; given = record { looks = (refl, refl); clock = refl; words = refl; numbers = tt; full = refl; keeper = λ e. no_keeper e } }, (record { defined = refl; given = record { looks = (refl, refl); clock = refl; words = refl; numbers = tt; full = refl; keeper = λ e. no_keeper e } }, (record { defined = refl; given = record { looks = (refl, refl); clock = refl; words = refl; numbers = tt; full = refl; keeper = λ e. no_keeper e } }, (record { defined = refl; given = record { looks = (refl, refl); clock = refl; words = refl; numbers = tt; full = refl; keeper = λ e. no_keeper e } }, (record { defined = refl; given = record { looks = (refl, refl); clock = refl; words = refl; numbers = tt; full = refl; keeper = λ e. no_keeper e } }, tt)))));
+  asking_the_host_alone = (record { defined = refl; given = record { looks = (refl, refl); clock = refl; words = refl; numbers = tt; full = refl; keeper = λ e. no_keeper e } }, (record { defined = refl; given = record { looks = (refl, refl); clock = refl; words = refl; numbers = tt; full = refl; keeper = λ e. no_keeper e } }, (record { defined = refl; given = record { looks = (refl, refl); clock = refl; words = refl; numbers = tt; full = refl; keeper = λ e. no_keeper e } }, (record { defined = refl; given = record { looks = (refl, refl); clock = refl; words = refl; numbers = tt; full = refl; keeper = λ e. no_keeper e } }, (record { defined = refl; given = record { looks = (refl, refl); clock = refl; words = refl; numbers = tt; full = refl; keeper = λ e. no_keeper e } }, tt)))));
+  own = (record { defined = refl; given = record { looks = (refl, refl); clock = refl; words = refl; numbers = tt; full = refl; keeper = λ e. no_keeper e } }, (record { defined = refl; given = record { looks = (refl, refl); clock = refl; words = refl; numbers = tt; full = refl; keeper = λ e. no_keeper e } }, (record { defined = refl; given = record { looks = (refl, refl); clock = refl; words = refl; numbers = tt; full = refl; keeper = λ e. no_keeper e } }, tt)));
+  by_host = (record { defined = refl; given = record { looks = (refl, refl); clock = refl; words = refl; numbers = tt; full = refl; keeper = λ e. no_keeper e } }, (record { defined = refl; given = record { looks = (refl, refl); clock = refl; words = refl; numbers = tt; full = refl; keeper = λ e. no_keeper e } }, (record { defined = refl; given = record { looks = (refl, refl); clock = refl; words = refl; numbers = tt; full = refl; keeper = λ e. no_keeper e } }, (record { defined = refl; given = record { looks = (refl, refl); clock = refl; words = refl; numbers = tt; full = refl; keeper = λ e. no_keeper e } }, tt))));
+  two_added = (record { defined = refl; given = record { looks = (refl, refl); clock = refl; words = refl; numbers = tt; full = refl; keeper = λ e. no_keeper e } }, (record { defined = refl; given = record { looks = (refl, (refl, (refl, refl))); clock = refl; words = refl; numbers = (omega arith, omega arith, record { unused = refl; first = none_nearer [] 5 }, (omega arith, omega arith, record { unused = refl; first = none_nearer (id_of 5 ∷ []) 6 }, tt)); full = refl; keeper = λ e. no_keeper e } }, (record { defined = refl; given = record { looks = (refl, refl); clock = refl; words = refl; numbers = tt; full = refl; keeper = λ e. no_keeper e } }, (record { defined = refl; given = record { looks = (refl, (refl, refl)); clock = refl; words = refl; numbers = (omega arith, omega arith, record { unused = refl; first = none_nearer (id_of 5 ∷ id_of 6 ∷ []) 7 }, tt); full = refl; keeper = λ e. no_keeper e } }, tt))));
+  one_reused = (record { defined = refl; given = record { looks = (refl, refl); clock = refl; words = refl; numbers = tt; full = refl; keeper = λ e. no_keeper e } }, (record { defined = refl; given = record { looks = (refl, (refl, (refl, refl))); clock = refl; words = refl; numbers = (omega arith, omega arith, record { unused = refl; first = none_nearer [] 5 }, tt); full = refl; keeper = λ e. no_keeper e } }, (record { defined = refl; given = record { looks = (refl, refl); clock = refl; words = refl; numbers = tt; full = refl; keeper = λ e. no_keeper e } }, (record { defined = refl; given = record { looks = (refl, (refl, refl)); clock = refl; words = refl; numbers = tt; full = refl; keeper = λ e. no_keeper e } }, tt))));
+}

@@ -9,7 +9,7 @@ use Rattle.portal_model.specs.declared.request.Request.{Request}
 use Rattle.portal_base.specs.declared.files.Look.{Look}
 use Rattle.portal_model.specs.DocumentExamples.{a_doc, additions, adds, adds_for, asked, asked_alone, buses, failing_tree, file_there, grants, greatest, ids, info_of_a, lists_delete, looks_up, m_text, may_delete, may_give, n_text, of_a_folder, one_too_many, presents, reads_and_writes, refused, rights_call, sixteen, takes_two, two_files, viewer, with_room_for_one, wrapping}
 use Rattle.portal_model.specs.Examples.{a_text, document, editor, file, grant, hello, opening}
-use Rattle.portal_model.specs.History.{run}
+use Rattle.portal_model.specs.History.{EachLawful, run}
 use Rattle.portal_model.specs.Opening.{opened}
 use Rattle.portal_model.specs.State.{State}
 use Rattle.portal_model.specs.declared.state.Document.{Document}
@@ -52,12 +52,12 @@ own_additions =
     ∷ refused Code.NotAllowed ∷ Answer.Done ∷ refused Code.NotAllowed ∷ []
 
 -- an Add of its own folder, which is no file; of two files that it lists for another with a right
--- that it has in one of them; and one behind which the tree fails
+-- that it has in one of them; of more files than wait; and one behind which the tree fails
 abbrev pub refused_additions : List Entry
 refused_additions =
     of_a_folder
     ++ presents 1 n_text ∷ presents 1 m_text ∷ lists_delete (0 ∷ 1 ∷ []) []
-    ∷ presents 1 n_text ∷ failing_tree (asked_alone 1 (takes_two (0 ∷ []) 0))
+    ∷ presents 1 n_text ∷ asked_alone 1 (takes_two (0 ∷ []) 0)
     ∷ presents 1 n_text ∷ failing_tree (asked_alone 1 (takes_two (0 ∷ []) 0)) ∷ []
 
 -- An application that adds uses a document again that its view does not hold, and finds the one
@@ -235,3 +235,17 @@ pub record RightsOfHistories : Type 0 where
       rights_told editor 10 two_documents by_the_host reads_and_gives ≡ gives_and_deletes
   pub given_between : is_given_in viewer 5 Write (in_tree []) held_by_another ≡ true
   pub not_given : is_given_in editor 11 Read two_documents by_the_host ≡ false
+
+-- ---- what the outside gave
+
+-- to each entry of these histories what the outside gave is lawful
+pub record GivenLawfully : Type 0 where
+  pub held : EachLawful (in_tree []) held_by_another
+  pub refused_ones : EachLawful (in_tree may_delete) refused_additions
+  pub queue : EachLawful (in_tree []) full_queue
+  pub giving_rights : EachLawful (in_tree may_give) giving
+  pub asking_the_host_alone : EachLawful (in_tree reads_and_writes) asking
+  pub own : EachLawful two_documents from_itself
+  pub by_host : EachLawful two_documents by_the_host
+  pub two_added : EachLawful (in_tree []) added_by_the_host
+  pub one_reused : EachLawful (in_tree []) reused_by_the_host

@@ -12,6 +12,7 @@ ghost use Rattle.app_world.specs.ComputedExamples.{
   IsSeenInShared,
 };
 ghost use Rattle.app_world.specs.DocumentExamples.{
+  GivenLawfully,
   RightsOfHistories,
   WhatIsTouched,
   WorldsOfAdditions,
@@ -66,6 +67,11 @@ pub fn what_is_touched()
 /// deletions.
 pub fn rights_of_histories()
     ensures { RightsOfHistories }
+{}
+
+/// What the outside gives to the entries of these histories is lawful.
+pub fn histories_are_given_lawfully()
+    ensures { GivenLawfully }
 {}
 
 /// How an application's own machine refuses what it asks of a document that

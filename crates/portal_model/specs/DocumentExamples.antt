@@ -20,10 +20,12 @@ use Rattle.portal_model.specs.declared.state.Connection.{Connection}
 use Rattle.portal_model.specs.Documents.{IsUnused}
 use Rattle.portal_model.specs.Examples.{a_text, document, editor, file, grant, hello, limits, opening}
 use Rattle.portal_model.specs.History.{EachLawful, cost_of, run}
+use Rattle.portal_model.specs.Lawful.{Lawful}
 use Rattle.portal_model.specs.Opening.{id_of, opened}
 use Rattle.portal_model.specs.Outside.{meets_limit, verdict_of, walk_of, words_drawn}
 use Rattle.portal_model.specs.State.{State, connection_of}
 use Rattle.portal_model.specs.Step.{after, bus_of, reply_at}
+use Rattle.portal_model.specs.Valid.{applications_limit, is_numbered}
 use Rattle.portal_model.specs.Walk.{looks_shown}
 
 -- ---- what the examples are made of
@@ -215,14 +217,27 @@ pub record AddsOfOneFile : Type 0 where
   pub unique_is_due : GivenIsDue (in_state []) (two_files 0 (5 ∷ 6 ∷ []))
   pub left_is_due : GivenIsDue (in_state []) left_out
   pub not_a_file_is_due : GivenIsDue (in_state []) of_a_folder
+  pub reused_is_lawful : EachLawful (in_state []) (two_files 1 (5 ∷ []))
+  pub unique_is_lawful : EachLawful (in_state []) (two_files 0 (5 ∷ 6 ∷ []))
+  pub left_is_lawful : EachLawful (in_state []) left_out
+  pub not_a_file_is_lawful : EachLawful (in_state []) of_a_folder
 
 -- A queue holds 16 files. A call takes files that are there, and each of its handles is one of
 -- these; else the files stay.
 abbrev pub sixteen : List Entry
 sixteen = replicate 16 (presents 1 n_text)
 
+abbrev pub state_when_full : State
+state_when_full = run (in_state []) sixteen
+
 abbrev pub answer_when_full : Request → Answer
-answer_when_full request = (reply_at (run (in_state []) sixteen) (asked_alone 1 request)).answer
+answer_when_full request = (reply_at state_when_full (asked_alone 1 request)).answer
+
+abbrev pub takes_seventeen : Request
+takes_seventeen = Request.Add (adds_for (0 ∷ []) 17 0 [] [])
+
+abbrev pub names_the_third_of_two : Request
+names_the_third_of_two = Request.Add (adds_for (2 ∷ []) 2 0 [] [])
 
 pub record QueueIsFull : Type 0 where
   pub one_more :
@@ -232,10 +247,11 @@ pub record QueueIsFull : Type 0 where
       ≡ map (λ place. Answer.Place place)
       (0 ∷ 1 ∷ 2 ∷ 3 ∷ 4 ∷ 5 ∷ 6 ∷ 7 ∷ 8 ∷ 9 ∷ 10 ∷ 11 ∷ 12 ∷ 13 ∷ 14 ∷ 15 ∷ [])
       ++ refused Refusal.LimitsExceeded ∷ []
-  pub too_many :
-      answer_when_full (Request.Add (adds_for (0 ∷ []) 17 0 [] [])) ≡ refused Refusal.InvalidArgs
-  pub bad_handle :
-      answer_when_full (Request.Add (adds_for (2 ∷ []) 2 0 [] [])) ≡ refused Refusal.InvalidArgs
+  pub too_many : answer_when_full takes_seventeen ≡ refused Refusal.InvalidArgs
+  pub bad_handle : answer_when_full names_the_third_of_two ≡ refused Refusal.InvalidArgs
+  pub places_are_lawful : EachLawful (in_state []) (sixteen ++ presents 1 n_text ∷ [])
+  pub too_many_is_lawful : Lawful state_when_full (asked_alone 1 takes_seventeen)
+  pub bad_handle_is_lawful : Lawful state_when_full (asked_alone 1 names_the_third_of_two)
 
 -- ---- rights
 
@@ -249,14 +265,18 @@ grants seat doc names = asked_alone seat (Request.Grant (rights_call doc viewer 
 abbrev pub a_doc : List ℕ
 a_doc = codes "0000000a"
 
+abbrev pub giving : List Entry
+giving =
+    grants 1 a_doc (codes "read" ∷ codes "write" ∷ []) ∷ grants 1 a_doc (codes "read" ∷ [])
+    ∷ grants 2 a_doc (codes "write" ∷ []) ∷ grants 1 a_doc (codes "execute" ∷ [])
+    ∷ grants 1 (codes "0000000b") (codes "read" ∷ []) ∷ []
+
 pub record Grants : Type 0 where
   pub answers_are :
-      answers_to (in_state may_give)
-      (grants 1 a_doc (codes "read" ∷ codes "write" ∷ []) ∷ grants 1 a_doc (codes "read" ∷ [])
-      ∷ grants 2 a_doc (codes "write" ∷ []) ∷ grants 1 a_doc (codes "execute" ∷ [])
-      ∷ grants 1 (codes "0000000b") (codes "read" ∷ []) ∷ [])
+      answers_to (in_state may_give) giving
       ≡ refused Refusal.NotAllowed ∷ Answer.Done ∷ Answer.Done ∷ refused Refusal.InvalidArgument
       ∷ refused Refusal.NotFound ∷ []
+  pub lawful : EachLawful (in_state may_give) giving
 
 abbrev pub row : List ℕ → List (List ℕ) → Row
 row app names = record { app = app; names = names }
@@ -271,22 +291,33 @@ looks_up seat path = asked_alone seat (Request.LookupDocument (path ++ 0 ∷ [])
 abbrev pub reads_and_writes : List OpeningDocument
 reads_and_writes = document 10 a_text (grant editor 3 ∷ []) ∷ []
 
+abbrev pub informing : List Entry
+informing = info_of_a 2 ∷ asked_alone 2 (Request.Info (codes "0000000b")) ∷ []
+
+abbrev pub looking_up : List Entry
+looking_up = looks_up 2 a_text ∷ looks_up 2 n_text ∷ []
+
+abbrev pub informing_editor : List Entry
+informing_editor =
+    info_of_a 1 ∷ asked_alone 1 (Request.Info (codes "0000000b"))
+    ∷ looks_up 1 a_text ∷ looks_up 1 n_text ∷ []
+
 -- the host is told who has which rights; an application isn't, whether or not there is such a
 -- document
 pub record Informs : Type 0 where
   pub host :
-      answers_to (in_state reads_and_writes)
-      (info_of_a 2 ∷ asked_alone 2 (Request.Info (codes "0000000b")) ∷ [])
+      answers_to (in_state reads_and_writes) informing
       ≡ Answer.Info a_text (row editor (codes "read" ∷ codes "write" ∷ []) ∷ [])
       ∷ refused Refusal.NotFound ∷ []
   pub lookup :
-      answers_to (in_state reads_and_writes) (looks_up 2 a_text ∷ looks_up 2 n_text ∷ [])
+      answers_to (in_state reads_and_writes) looking_up
       ≡ ids (a_doc ∷ []) ∷ ids ([] ∷ []) ∷ []
   pub application :
-      answers_to (in_state reads_and_writes)
-      (info_of_a 1 ∷ asked_alone 1 (Request.Info (codes "0000000b"))
-      ∷ looks_up 1 a_text ∷ looks_up 1 n_text ∷ [])
+      answers_to (in_state reads_and_writes) informing_editor
       ≡ replicate 4 (refused Refusal.NotAllowed)
+  pub host_is_lawful : EachLawful (in_state reads_and_writes) informing
+  pub lookup_is_lawful : EachLawful (in_state reads_and_writes) looking_up
+  pub application_is_lawful : EachLawful (in_state reads_and_writes) informing_editor
 
 -- An application takes rights of its own without grant-permissions, and those alone that it
 -- lists; with the last of them the document isn't there for it. Others it may not take.
@@ -296,16 +327,20 @@ may_write = document 10 a_text (grant viewer 1 ∷ grant editor 3 ∷ []) ∷ []
 abbrev pub revokes : List ℕ → List (List ℕ) → Entry
 revokes app names = asked_alone 1 (Request.Revoke (rights_call a_doc app names))
 
+abbrev pub revoking : List Entry
+revoking =
+    revokes viewer (codes "read" ∷ []) ∷ revokes editor (codes "read" ∷ []) ∷ info_of_a 2
+    ∷ revokes editor (codes "write" ∷ []) ∷ revokes editor (codes "write" ∷ [])
+    ∷ info_of_a 2 ∷ []
+
 pub record RevokesItsOwn : Type 0 where
   pub answers_are :
-      answers_to (in_state may_write)
-      (revokes viewer (codes "read" ∷ []) ∷ revokes editor (codes "read" ∷ []) ∷ info_of_a 2
-      ∷ revokes editor (codes "write" ∷ []) ∷ revokes editor (codes "write" ∷ [])
-      ∷ info_of_a 2 ∷ [])
+      answers_to (in_state may_write) revoking
       ≡ refused Refusal.NotAllowed ∷ Answer.Done
       ∷ Answer.Info a_text (row editor (codes "write" ∷ []) ∷ row viewer (codes "read" ∷ []) ∷ [])
       ∷ Answer.Done ∷ refused Refusal.NotFound
       ∷ Answer.Info a_text (row viewer (codes "read" ∷ []) ∷ []) ∷ []
+  pub lawful : EachLawful (in_state may_write) revoking
 
 -- ---- documents of others
 
@@ -335,6 +370,7 @@ pub record AddsWhatAnotherHolds : Type 0 where
       ∷ Answer.Listed (n_document 10 ∷ [])
       ∷ Answer.Listed (n_document 10 ∷ n_document 11 ∷ []) ∷ []
   pub given_is_due : GivenIsDue (in_state held_by_other) adding_again
+  pub lawful : EachLawful (in_state held_by_other) adding_again
 
 -- ---- additions that are refused
 
@@ -343,9 +379,14 @@ pub record AddsWhatAnotherHolds : Type 0 where
 abbrev pub takes_two : List ℕ → ℕ → Request
 takes_two handles flags = Request.Add (adds_for handles 2 flags [] [])
 
-abbrev pub answers_behind_three : State → Entry → List Answer
-answers_behind_three s e =
-    answers_to (run s (replicate 3 (presents 1 n_text))) (e ∷ presents 1 n_text ∷ [])
+abbrev pub three_waiting : State
+three_waiting = run (in_state []) (replicate 3 (presents 1 n_text))
+
+abbrev pub and_presents : Entry → List Entry
+and_presents e = e ∷ presents 1 n_text ∷ []
+
+abbrev pub answers_behind_three : Entry → List Answer
+answers_behind_three e = answers_to three_waiting (and_presents e)
 
 -- a call of the tree fails behind the looks
 abbrev pub failing_tree : Entry → Entry
@@ -370,23 +411,85 @@ one_too_many =
     ∷ meeting_limit (asked 1 (Request.Add (adds_for (0 ∷ []) 1 0 [] [])) file_there [])
     ∷ presents 1 n_text ∷ []
 
+abbrev pub with_flag : Entry
+with_flag = asked_alone 1 (takes_two (0 ∷ []) 8)
+
+abbrev pub with_seventeen : Entry
+with_seventeen = asked_alone 1 (takes_two (replicate 17 0) 0)
+
+-- a handle of a file that the call doesn't take
+abbrev pub with_bad_handle : Entry
+with_bad_handle = asked_alone 1 (takes_two (2 ∷ []) 0)
+
+abbrev pub with_failing_tree : Entry
+with_failing_tree = failing_tree (asked_alone 1 (takes_two (0 ∷ []) 0))
+
 -- The files that a refused Add takes leave the queue, at a limit too: flag 8, and 17 files. They
--- stay where the tree fails.
+-- stay where the handles aren't of files that the call takes, and where the tree fails.
 pub record RefusesAdditions : Type 0 where
   pub flag :
-      answers_behind_three (in_state []) (asked_alone 1 (takes_two (0 ∷ []) 8))
-      ≡ refused Refusal.InvalidArgument ∷ Answer.Place 1 ∷ []
+      answers_behind_three with_flag ≡ refused Refusal.InvalidArgument ∷ Answer.Place 1 ∷ []
   pub files :
-      answers_behind_three (in_state []) (asked_alone 1 (takes_two (replicate 17 0) 0))
-      ≡ refused Refusal.InvalidArgument ∷ Answer.Place 1 ∷ []
+      answers_behind_three with_seventeen ≡ refused Refusal.InvalidArgument ∷ Answer.Place 1 ∷ []
+  pub handle :
+      answers_behind_three with_bad_handle ≡ refused Refusal.InvalidArgs ∷ Answer.Place 3 ∷ []
   pub limit :
       answers_to with_room_for_one one_too_many
       ≡ Answer.Place 0 ∷ ids (codes "00000005" ∷ []) ∷ Answer.Place 0
       ∷ refused Refusal.LimitsExceeded ∷ Answer.Place 0 ∷ []
   pub limit_is_due : GivenIsDue with_room_for_one one_too_many
   pub fault :
-      answers_behind_three (in_state []) (failing_tree (asked_alone 1 (takes_two (0 ∷ []) 0)))
-      ≡ refused Refusal.Failed ∷ Answer.Place 3 ∷ []
+      answers_behind_three with_failing_tree ≡ refused Refusal.Failed ∷ Answer.Place 3 ∷ []
+  pub flag_is_lawful : EachLawful three_waiting (and_presents with_flag)
+  pub files_are_lawful : EachLawful three_waiting (and_presents with_seventeen)
+  pub handle_is_lawful : EachLawful three_waiting (and_presents with_bad_handle)
+  pub limit_is_lawful : EachLawful with_room_for_one one_too_many
+  pub fault_is_lawful : EachLawful three_waiting (and_presents with_failing_tree)
+
+-- A persistent addition by the host that the keeper fails to keep, and then the same again: the
+-- presented file waits still, a word was drawn, and the number that it came to wasn't made.
+abbrev pub failing_keeper : Entry → Entry
+failing_keeper e = record e { given = record e.given { fault = Fault.Keeper } }
+
+abbrev pub adds_to_keep : Entry
+adds_to_keep = asked 2 (Request.Add (adds_for (0 ∷ []) 1 2 [] [])) file_there (5 ∷ [])
+
+abbrev pub keeping : List Entry
+keeping = presents 2 n_text ∷ failing_keeper adds_to_keep ∷ adds_to_keep ∷ []
+
+pub record KeeperFails : Type 0 where
+  pub answers_are :
+      answers_to (in_state []) keeping
+      ≡ Answer.Place 0 ∷ refused Refusal.Failed ∷ ids (codes "00000005" ∷ []) ∷ []
+  pub lawful : EachLawful (in_state []) keeping
+
+-- As many applications as may be have numbers: a right for one more is refused at the limit, and
+-- nothing changes; one for an application that has a number is given.
+abbrev pub with_applications : List (List ℕ) → State
+with_applications names = record (in_state may_give) { applications = names }
+
+abbrev pub gives_to_viewer : Entry
+gives_to_viewer = grants 2 a_doc (codes "read" ∷ [])
+
+pub record ApplicationsAreFull : Type 0 where
+  pub refused_then :
+      (names : List (List ℕ)) →
+      (reply_at (with_applications names) (meeting_limit gives_to_viewer)).answer
+      ≡ refused Refusal.LimitsExceeded
+  pub stays :
+      (names : List (List ℕ)) →
+      after (with_applications names) (meeting_limit gives_to_viewer) ≡ with_applications names
+  pub limit_is_met :
+      (names : List (List ℕ)) → length names ≡ applications_limit →
+      is_numbered names viewer ≡ false →
+      Lawful (with_applications names) (meeting_limit gives_to_viewer)
+  pub done_then :
+      (names : List (List ℕ)) →
+      (reply_at (with_applications names) gives_to_viewer).answer ≡ Answer.Done
+  pub no_limit_is_met :
+      (names : List (List ℕ)) → length names ≡ applications_limit →
+      is_numbered names viewer ≡ true →
+      Lawful (with_applications names) gives_to_viewer
 
 -- An application that may delete one document of two lists that right for another application:
 -- nothing at all is added. For the one document alone it is done.
@@ -415,6 +518,7 @@ pub record ListsWhatItHolds : Type 0 where
       ≡ Answer.Place 0 ∷ Answer.Place 1 ∷ refused Refusal.NotAllowed ∷ Answer.Listed []
       ∷ Answer.Place 0 ∷ ids (a_doc ∷ []) ∷ Answer.Listed (n_document 10 ∷ []) ∷ []
   pub given_is_due : GivenIsDue (in_state may_delete) listing_delete
+  pub lawful : EachLawful (in_state may_delete) listing_delete
 
 -- ---- a file that is named in its folder
 
@@ -431,6 +535,7 @@ pub record AddsNamed : Type 0 where
       answers_to (in_state []) adding_named
       ≡ Answer.Place 0 ∷ ids (codes "00000005" ∷ []) ∷ ids (codes "00000005" ∷ []) ∷ []
   pub given_is_due : GivenIsDue (in_state []) adding_named
+  pub lawful : EachLawful (in_state []) adding_named
 
 -- ---- costs
 

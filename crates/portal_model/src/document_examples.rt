@@ -9,9 +9,11 @@ ghost use Rattle.portal_model.specs.DocumentExamples.{
   AddsNamed,
   AddsOfOneFile,
   AddsWhatAnotherHolds,
+  ApplicationsAreFull,
   CostsOfDocuments,
   Grants,
   Informs,
+  KeeperFails,
   ListsWhatItHolds,
   NumbersWrap,
   QueueIsFull,
@@ -64,9 +66,20 @@ pub fn an_application_adds_what_another_holds()
 {}
 
 /// The files that a refused addition takes leave the queue, at a limit of
-/// documents too; where the tree fails they stay.
+/// documents too; where its handles are wrong or the tree fails they stay.
 pub fn additions_are_refused()
     ensures { RefusesAdditions }
+{}
+
+/// Where the keeper fails, the presented file waits still, and the number that
+/// was drawn isn't made.
+pub fn the_keeper_fails()
+    ensures { KeeperFails }
+{}
+
+/// Where as many applications as may be have numbers, one more gets no right.
+pub fn applications_are_full()
+    ensures { ApplicationsAreFull }
 {}
 
 /// An application lists for another what it holds in each file of a call, or
