@@ -4,7 +4,6 @@ use Rattle.std.specs.List.{list_all}
 use Rattle.std.proofs.lemmas.Bool.Decides.{nat_tests}
 use Rattle.std.proofs.lemmas.List.{length-append}
 use Rattle.portal_base.specs.Names.{child_of, is_app_name, is_host_path}
-use Rattle.portal_base.specs.declared.files.Look.{Look}
 use Rattle.portal_base.specs.declared.names.doc_id.DocId.{DocId}
 use Rattle.portal_base.specs.declared.who.Who.{Who}
 use Rattle.rights_rule.specs.Rights.{are_right_names, rights_named}
@@ -12,8 +11,8 @@ use Rattle.portal_model.specs.declared.reply.Code.{Code}
 use Rattle.portal_model.specs.declared.request.AddRequest.{AddRequest}
 use Rattle.portal_model.specs.declared.state.Connection.{Connection}
 use Rattle.portal_model.specs.declared.state.Document.{Document}
-use Rattle.portal_model.specs.Add.{Added, add, add_allowed, add_file, add_looking, add_presented, add_shown, added, added_files, adding_rights, are_of_kind, caller_rights, first_number, listed_rights, may_list_all, new_document, taken_from_queue, use_document, used_again, with_new_document, with_rights_of}
-use Rattle.portal_model.specs.AddArguments.{are_add_arguments, are_flags, are_presented, document_path, document_paths, files_limit, is_file_name, is_left_out, is_named_well, names_nobody, paths_presented, paths_shown}
+use Rattle.portal_model.specs.Add.{Added, add, add_allowed, add_file, add_looking, add_presented, add_shown, added, added_files, adding_rights, are_of_kind, caller_rights, first_number, may_list_all, new_document, taken_from_queue, use_document, used_again, with_new_document, with_rights_of}
+use Rattle.portal_model.specs.AddArguments.{are_add_arguments, are_flags, are_presented, document_paths, files_limit, is_file_name, is_left_out, is_named_well, names_nobody, paths_presented, paths_shown}
 use Rattle.portal_model.specs.Arguments.{ahead_of_end, has_end}
 use Rattle.portal_model.specs.Grant.{exceeds_limits, given_rights}
 use Rattle.portal_model.specs.Present.{requeued, with_queue}
@@ -21,7 +20,7 @@ use Rattle.portal_model.specs.State.{State, connection_of, document_of}
 use Rattle.portal_model.specs.Valid.{Valid, is_caller, is_made, is_sound_connection}
 use Rattle.portal_model.specs.Verdict.{Doing}
 use Rattle.portal_model.proofs.DocumentChanges.{both, documented-new, first_of_both, second_of_both}
-use Rattle.portal_model.proofs.WalkDoings.{IfDoes, OnWalk, if-passes, on-looks, walk-passes}
+use Rattle.portal_model.proofs.WalkDoings.{OnWalk, if-passes, on-looks, walk-passes}
 use Rattle.portal_model.proofs.DrawnNumbers.{Unused}
 use Rattle.portal_model.proofs.ListLookups.{found_in_all}
 use Rattle.portal_model.proofs.GrantValid.{given-sound}

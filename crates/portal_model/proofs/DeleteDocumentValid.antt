@@ -1,5 +1,5 @@
 -- A Delete leaves a valid state valid.
-use Rattle.std.proofs.Common.{◌≡◌, ◌≤◌, ℕ, ◌==◌, length, List, [], ◌∷◌, Bool, true, false, not, cond, Option, Some, None, refl, arith}
+use Rattle.std.proofs.Common.{◌≤◌, ℕ, ◌==◌, length, List, [], ◌∷◌, Bool, not, Option, Some, None, arith}
 use Rattle.std.specs.List.{filter}
 use Rattle.portal_base.specs.declared.who.Who.{Who}
 use Rattle.portal_model.specs.declared.reply.Answer.{Answer}

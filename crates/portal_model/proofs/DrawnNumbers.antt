@@ -1,5 +1,5 @@
 -- Numbers that are drawn for new documents: none was made, each has 32 bits, and each stands once.
-use Rattle.std.proofs.Common.{◌≡◌, ℕ, ◌+◌, ◌≤◌, ◌<◌, ◌^◌, length, List, [], ◌∷◌, ◌++◌, true, false, refl, arith}
+use Rattle.std.proofs.Common.{◌≡◌, ℕ, ◌<◌, ◌^◌, length, List, [], ◌∷◌, ◌++◌, false, refl, arith}
 use Rattle.portal_base.specs.declared.names.doc_id.DocId.{DocId}
 use Rattle.portal_model.specs.Outside.{AreDrawn}
 use Rattle.portal_model.specs.Valid.{is_made}

@@ -1,5 +1,5 @@
 -- A GrantPermissions leaves a valid state valid, where no limit is met.
-use Rattle.std.proofs.Common.{◌≡◌, ℕ, List, Bool, true, false, not, ◌&&◌, Option, Some, None, refl}
+use Rattle.std.proofs.Common.{◌≡◌, ℕ, List, true, false, Option, Some, None}
 use Rattle.portal_base.specs.Names.{is_app_name}
 use Rattle.portal_base.specs.declared.names.doc_id.DocId.{DocId}
 use Rattle.portal_base.specs.declared.who.Who.{Who}
@@ -8,7 +8,7 @@ use Rattle.portal_model.specs.declared.reply.Code.{Code}
 use Rattle.portal_model.specs.declared.request.RightsCall.{RightsCall}
 use Rattle.portal_model.specs.declared.state.Document.{Document}
 use Rattle.portal_model.specs.Arguments.{reached}
-use Rattle.portal_model.specs.Grant.{are_rights_arguments, exceeds_limits, given_rights, grant, grant_reached, granted, may_grant, numbered_with}
+use Rattle.portal_model.specs.Grant.{are_rights_arguments, given_rights, grant, grant_reached, granted, may_grant, numbered_with}
 use Rattle.portal_model.specs.Rights.{add_rights, held_by}
 use Rattle.portal_model.specs.State.{State}
 use Rattle.portal_model.specs.Valid.{Valid}

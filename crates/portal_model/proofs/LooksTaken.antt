@@ -3,25 +3,23 @@ use Rattle.std.proofs.Common.{◌≡◌, ℕ, List, [], ◌∷◌, map, Bool, tr
 use Rattle.portal_base.specs.declared.files.File.{File}
 use Rattle.portal_base.specs.declared.files.Look.{Look}
 use Rattle.portal_base.specs.declared.names.doc_id.DocId.{DocId}
-use Rattle.portal_model.specs.declared.entry.Entry.{Entry}
 use Rattle.portal_model.specs.declared.entry.Fault.{Fault}
 use Rattle.portal_model.specs.declared.entry.Given.{Given}
 use Rattle.portal_model.specs.declared.reply.Code.{Code}
 use Rattle.portal_model.specs.declared.request.AddRequest.{AddRequest}
-use Rattle.portal_model.specs.declared.request.NodeRequest.{NodeRequest}
 use Rattle.portal_model.specs.declared.request.Request.{Request}
 use Rattle.portal_model.specs.declared.state.Connection.{Connection}
-use Rattle.portal_model.specs.Add.{add, add_allowed, add_looking, add_presented, add_shown, added, added_files, are_of_kind, may_list_all}
+use Rattle.portal_model.specs.Add.{add, add_allowed, add_looking, add_presented, added, added_files, are_of_kind, may_list_all}
 use Rattle.portal_model.specs.AddArguments.{are_add_arguments, are_presented, document_paths, paths_shown}
 use Rattle.portal_model.specs.Bus.{bus_walk, is_tree}
 use Rattle.portal_model.specs.Content.{look_at}
 use Rattle.portal_model.specs.DocumentLaws.{LooksAreTaken}
-use Rattle.portal_model.specs.Lawful.{Lawful, LawfulGiven, LawfulLooks, LawfulOnBus}
+use Rattle.portal_model.specs.Lawful.{LawfulGiven, LawfulLooks, LawfulOnBus}
 use Rattle.portal_model.specs.Outside.{files_told}
 use Rattle.portal_model.specs.State.{State, connection_of}
 use Rattle.portal_model.specs.Step.{all_told, bus_looks, bus_of, looks_taken}
 use Rattle.portal_model.specs.Verdict.{Verdict, unless, walk_unless}
-use Rattle.portal_model.specs.Walk.{Walk, Answers, Looks, Ends, Gives, is_found, looks_at_all, looks_shown, shown_at}
+use Rattle.portal_model.specs.Walk.{Walk, Answers, Looks, Ends, Gives, looks_at_all, looks_shown}
 
 -- ---- the looks of a walk
 

@@ -1,11 +1,11 @@
 -- A Present leaves a valid state valid.
-use Rattle.std.proofs.Common.{◌≡◌, ℕ, List, [], ◌∷◌, ◌++◌, length, nat_lt, true, false, not, Some, refl}
+use Rattle.std.proofs.Common.{◌≡◌, ℕ, List, [], ◌∷◌, ◌++◌, length, nat_lt, true, Some}
 use Rattle.portal_base.specs.Names.{is_host_path}
 use Rattle.portal_model.specs.declared.reply.Answer.{Answer}
 use Rattle.portal_model.specs.declared.reply.Code.{Code}
 use Rattle.portal_model.specs.declared.state.Connection.{Connection}
 use Rattle.portal_model.specs.Arguments.{ahead_of_end, has_end, is_ended_path}
-use Rattle.portal_model.specs.Present.{may_present, present, present_path, queue_path, requeued, with_queue}
+use Rattle.portal_model.specs.Present.{may_present, present, present_path, queue_path, with_queue}
 use Rattle.portal_model.specs.State.{State, connection_of}
 use Rattle.portal_model.specs.Valid.{Valid}
 use Rattle.portal_model.specs.Verdict.{Doing, does}

@@ -1,7 +1,6 @@
 -- A refused entry, of whatever kind, changes connections alone.
 use Rattle.std.proofs.Common.{◌≡◌, ℕ, Option, Some, None, refl}
 use Rattle.portal_base.specs.declared.who.Who.{Who}
-use Rattle.portal_model.specs.declared.entry.Entry.{Entry}
 use Rattle.portal_model.specs.declared.entry.Given.{Given}
 use Rattle.portal_model.specs.declared.reply.Answer.{Answer}
 use Rattle.portal_model.specs.declared.reply.Code.{Code}

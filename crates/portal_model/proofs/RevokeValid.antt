@@ -1,5 +1,5 @@
 -- A RevokePermissions leaves a valid state valid.
-use Rattle.std.proofs.Common.{◌≡◌, ℕ, List, Bool, true, false, not, Option, Some, None, refl}
+use Rattle.std.proofs.Common.{Option, Some, None}
 use Rattle.portal_base.specs.declared.who.Who.{Who}
 use Rattle.rights_rule.specs.Rights.{rights_named}
 use Rattle.portal_model.specs.declared.reply.Answer.{Answer}

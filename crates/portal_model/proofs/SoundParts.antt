@@ -1,6 +1,6 @@
 -- What is true of a valid state beside the limits of documents and applications, in two parts: its documents and rights,
 -- and all else. A change of one part leaves the other.
-use Rattle.std.proofs.Common.{◌≡◌, ℕ, ◌==◌, ◌^◌, ◌<◌, ◌≤◌, nat_eq, nat_lt, length, List, [], map, Bool, true, false, not, ◌&&◌, ◌||◌, is_some, refl, arith}
+use Rattle.std.proofs.Common.{◌≡◌, ℕ, ◌^◌, ◌<◌, ◌≤◌, nat_eq, nat_lt, length, List, [], map, Bool, true, false, not, ◌&&◌, ◌||◌, is_some, refl, arith}
 use Rattle.std.specs.List.{list_all, IsDistinct}
 use Rattle.std.proofs.lemmas.Bool.Decides.{nat_tests}
 use Rattle.portal_base.specs.Names.{is_same, is_app_name, is_host_path}
