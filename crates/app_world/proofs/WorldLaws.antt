@@ -11,10 +11,13 @@ use Rattle.portal_model.specs.Step.{after, reply_at}
 use Rattle.portal_model.specs.Valid.{Valid}
 use Rattle.portal_model.proofs.StaysTold.{step_told}
 use Rattle.portal_model.proofs.ValidLaws.{after-Valid}
+use Rattle.app_world.specs.Effect as effect
 use Rattle.app_world.specs.Effect.{Effect, apply, apply_all}
+use Rattle.app_world.specs.TraceItem as item
+use Rattle.app_world.specs.TraceItem.{TraceItem, item_of}
 use Rattle.app_world.specs.Laws.{StepsSeen, asks}
 use Rattle.app_world.specs.View.{AppView, view}
-use Rattle.app_world.specs.World.{TraceItem, Asked, Changed, app_run, app_step, items, own_of, own_replies, touch, trace}
+use Rattle.app_world.specs.World.{app_run, app_step, items, own_of, own_replies, touch, trace}
 use Rattle.app_world.proofs.KindLaws.{additions, collects, deletions, enters, grants, informations, leaves, listings, lookups, node_requests, presentations, revocations}
 
 -- ---- an entry, by its kind
@@ -59,12 +62,15 @@ steps = record {
 
 -- ---- a history, by the laws of one step alone
 
-own_replies-changed : (fs : List Effect) (v : AppView) (more : List TraceItem) → own_replies v (map Changed fs ++ more) ≡ own_replies (apply_all v fs) more
+own_replies-changed : (fs : List Effect) (v : AppView) (more : List TraceItem) → own_replies v (map item_of fs ++ more) ≡ own_replies (apply_all v fs) more
 own_replies-changed [] v more = refl
-own_replies-changed (f ∷ fs) v more = own_replies-changed fs (apply v f) more
+own_replies-changed (effect.Gained d rights content ∷ fs) v more = own_replies-changed fs (apply v (effect.Gained d rights content)) more
+own_replies-changed (effect.Lost id rights ∷ fs) v more = own_replies-changed fs (apply v (effect.Lost id rights)) more
+own_replies-changed (effect.Gone id ∷ fs) v more = own_replies-changed fs (apply v (effect.Gone id)) more
+own_replies-changed (effect.Bytes path generation content ∷ fs) v more = own_replies-changed fs (apply v (effect.Bytes path generation content)) more
 
 one_entry : (app : List ℕ) (s : State) (e : Entry) (b : Bool) (more : List TraceItem) → makes app s e ≡ b → s.told ≡ true → Valid s → Lawful s e →
-    own_replies (view s app) (cond b (Asked (own_of s e) ∷ []) (map Changed (touch app s e)) ++ more) ≡ cond b (reply_at s e ∷ []) [] ++ own_replies (view (after s e) app) more
+    own_replies (view s app) (cond b (item.Own (own_of s e) ∷ []) (map item_of (touch app s e)) ++ more) ≡ cond b (reply_at s e ∷ []) [] ++ own_replies (view (after s e) app) more
 one_entry app s e true more m t v l = ap (λ (done : AppView × Reply). done.1 ∷ own_replies done.0 more) (steps.own app s e t v l m)
 one_entry app s e false more m t v l =
     own_replies-changed (touch app s e) (view s app) more ∙ ap (λ (x : AppView). own_replies x more) (steps.other app s e v l m)

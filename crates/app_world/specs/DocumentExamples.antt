@@ -16,10 +16,10 @@ use Rattle.portal_model.specs.declared.state.Document.{Document}
 use Rattle.portal_model.specs.Content.{OfFile}
 use Rattle.portal_model.specs.declared.rights.Right.TheVariants.{Read, Write}
 use Rattle.rights_rule.specs.Rights.{RightSet, no_rights}
-use Rattle.app_world.specs.Effect.{Gained, Gone, Lost}
 use Rattle.app_world.specs.Examples.{both, id, reads, writes}
 use Rattle.app_world.specs.RightsTold.{is_given_in, rights_told}
-use Rattle.app_world.specs.World.{Changed, TraceItem, app_run, items, trace}
+use Rattle.app_world.specs.TraceItem.{Gained, Gone, Lost, TraceItem}
+use Rattle.app_world.specs.World.{app_run, items, trace}
 
 -- over a tree with the file a.txt, and an empty one in the editor's own folder; with a bus of the
 -- editor at seat 1 and one of the host at seat 2
@@ -191,7 +191,7 @@ n_document_of number reuse =
     record { id = id number; path = n_text; persistent = false; reusable = reuse }
 
 abbrev pub gains_reading : ℕ → TraceItem
-gains_reading number = Changed (Gained (n_document_of number false) reads (OfFile 0 [] 0))
+gains_reading number = Gained (n_document_of number false) reads (OfFile 0 [] 0)
 
 -- It is told of what it held before, and of what it did not; and nothing of what isn't done. Of the
 -- files that another adds it is told where it is named, of two documents where each file becomes
@@ -199,16 +199,16 @@ gains_reading number = Changed (Gained (n_document_of number false) reads (OfFil
 pub record WhatIsTouched : Type 0 where
   pub by_host :
       items editor two_documents by_the_host
-      ≡ Changed (Lost (id 10) reads)
-      ∷ Changed (Gone (id 11))
-      ∷ Changed (Gained a_document deletes (OfFile 0 [] 0))
+      ≡ Lost (id 10) reads
+      ∷ Gone (id 11)
+      ∷ Gained a_document deletes (OfFile 0 [] 0)
       ∷ []
   pub two_added :
       items editor (in_tree []) added_by_the_host ≡ gains_reading 5 ∷ gains_reading 6 ∷ []
   pub one_reused :
       items editor (in_tree []) reused_by_the_host
-      ≡ Changed (Gained (n_document_of 5 true) reads (OfFile 0 [] 0))
-      ∷ Changed (Gained (n_document_of 5 true) writes (OfFile 0 [] 0)) ∷ []
+      ≡ Gained (n_document_of 5 true) reads (OfFile 0 [] 0)
+      ∷ Gained (n_document_of 5 true) writes (OfFile 0 [] 0) ∷ []
   pub number_nought : items editor (in_tree greatest) wrapping ≡ []
 
 -- ---- who has which right

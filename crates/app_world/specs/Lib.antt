@@ -13,6 +13,7 @@ pub mod Revoke
 pub mod DeleteDocument
 pub mod Add
 pub mod Bus
+pub mod TraceItem
 pub mod World
 pub mod Laws
 pub mod RightsTold

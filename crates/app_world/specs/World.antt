@@ -20,12 +20,15 @@ use Rattle.portal_model.specs.Step.{after, bus_of, is_mount, not_here, reply_at,
 use Rattle.app_world.specs.Add.{reused_by, shown_to}
 use Rattle.app_world.specs.Bus.{bus_touch, own_bus_step}
 use Rattle.app_world.specs.Collect.{own_collect}
+use Rattle.app_world.specs.Effect as effect
 use Rattle.app_world.specs.Effect.{Effect, apply}
 use Rattle.app_world.specs.Enter.{own_enter}
 use Rattle.app_world.specs.GetAttr.{own_get_attr_answer, own_get_attr_looks}
 use Rattle.app_world.specs.Leave.{own_leave}
 use Rattle.app_world.specs.Own.{Own}
 use Rattle.app_world.specs.Touched.{is_done}
+use Rattle.app_world.specs.TraceItem as item
+use Rattle.app_world.specs.TraceItem.{TraceItem, item_of}
 use Rattle.app_world.specs.View.{AppView, OwnConnection, found_connection, view}
 
 -- ---- the application's own machine
@@ -106,12 +109,6 @@ abbrev pub app_step : AppView → Own → AppView × Reply
 app_step v own = own_request_step v own own.request
 
 -- ---- the trace
-
-pub data TraceItem : Type 0 where
-  -- a request of the application
-  Asked : Own → TraceItem
-  -- what another changes of its view
-  Changed : Effect → TraceItem
 
 abbrev pub shown_by : State → AddRequest → Given → Option Connection → List Content
 shown_by s a given None = []
@@ -195,7 +192,7 @@ touch app s e =
     cond (is_done (reply_at s e).answer) (request_touch app s e.seat e.request e.given) []
 
 abbrev pub items_of : List ℕ → State → Entry → List TraceItem
-items_of app s e = cond (makes app s e) (Asked (own_of s e) ∷ []) (map Changed (touch app s e))
+items_of app s e = cond (makes app s e) (item.Own (own_of s e) ∷ []) (map item_of (touch app s e))
 
 abbrev pub items : List ℕ → State → List Entry → List TraceItem
 items app s [] = []
@@ -212,8 +209,13 @@ trace app s h = record { opening = view s app; items = items app s h }
 
 abbrev pub own_replies : AppView → List TraceItem → List Reply
 own_replies v [] = []
-own_replies v (Asked own ∷ more) = (app_step v own).1 ∷ own_replies (app_step v own).0 more
-own_replies v (Changed f ∷ more) = own_replies (apply v f) more
+own_replies v (item.Own own ∷ more) = (app_step v own).1 ∷ own_replies (app_step v own).0 more
+own_replies v (item.Gained d rights content ∷ more) =
+    own_replies (apply v (effect.Gained d rights content)) more
+own_replies v (item.Lost id rights ∷ more) = own_replies (apply v (effect.Lost id rights)) more
+own_replies v (item.Gone id ∷ more) = own_replies (apply v (effect.Gone id)) more
+own_replies v (item.Bytes path generation content ∷ more) =
+    own_replies (apply v (effect.Bytes path generation content)) more
 
 abbrev pub app_run : Trace → List Reply
 app_run t = own_replies t.opening t.items

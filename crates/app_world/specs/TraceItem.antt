@@ -1,0 +1,25 @@
+-- An item of the trace of one application.
+use Rattle.std.specs.Prelude.{ℕ, List}
+use Rattle.portal_base.specs.declared.names.doc_id.DocId.{DocId}
+use Rattle.rights_rule.specs.Rights.{RightSet}
+use Rattle.portal_model.specs.declared.state.Document.{Document}
+use Rattle.portal_model.specs.Content.{Content}
+use Rattle.app_world.specs.Effect as effect
+use Rattle.app_world.specs.Effect.{Effect}
+use Rattle.app_world.specs.Own.{Own as OwnRequest}
+
+pub data TraceItem : Type 0 where
+  -- a request of the application, and what the outside gave it
+  Own : OwnRequest → TraceItem
+  -- what others change of its view, as `Effect` says
+  Gained : Document → RightSet → Content → TraceItem
+  Lost : DocId → RightSet → TraceItem
+  Gone : DocId → TraceItem
+  Bytes : List ℕ → ℕ → Content → TraceItem
+
+-- the item that tells an effect
+abbrev pub item_of : Effect → TraceItem
+item_of (effect.Gained d rights content) = Gained d rights content
+item_of (effect.Lost id rights) = Lost id rights
+item_of (effect.Gone id) = Gone id
+item_of (effect.Bytes path generation content) = Bytes path generation content
