@@ -1,5 +1,5 @@
 -- An opening state whose records are sound is valid.
-use Rattle.std.proofs.Common.{◌≡◌, ℕ, ◌==◌, nat_eq, List, [], ◌∷◌, map, fold, Bool, true, false, not, ◌&&◌, ◌||◌, cond, Some, is_some, refl, sym, ap, ◌∙◌, subst, arith}
+use Rattle.std.proofs.Common.{◌≡◌, ℕ, ◌==◌, nat_eq, List, [], ◌∷◌, map, fold, Bool, true, false, not, ◌&&◌, ◌||◌, cond, Some, None, is_some, refl, sym, ap, ◌∙◌, subst, arith}
 use Rattle.std.specs.List.{list_any, list_all, filter, IsDistinct}
 use Rattle.std.proofs.lemmas.Bool.Decides.{nat_tests}
 use Rattle.std.proofs.lemmas.List.{length-map}
@@ -14,7 +14,8 @@ use Rattle.portal_model.specs.declared.state.Document.{Document}
 use Rattle.portal_base.specs.declared.files.File.{File}
 use Rattle.portal_model.specs.declared.state.Triple.{Triple}
 use Rattle.portal_model.specs.Content.{is_folder}
-use Rattle.portal_model.specs.Opening.{id_of, document_kept, set_of_bits, with_grant, with_grants, each, file_of, opened, first_named, names_kept, SoundOpening, ValidOpening}
+use Rattle.portal_model.specs.Laws.{OpeningsAreValid}
+use Rattle.portal_model.specs.Opening.{id_of, document_kept, set_of_bits, with_grant, with_grants, each, file_of, opened, opened_over, first_named, names_kept, SoundOpening, ValidOpening}
 use Rattle.portal_model.specs.Rights.{are_in_order}
 use Rattle.portal_model.specs.State.{State, document_of}
 use Rattle.portal_model.specs.Valid.{Valid, has_identifier, is_made, is_numbered, is_placed}
@@ -184,3 +185,40 @@ sound-Valid o k = record {
 
 pub sound-ValidOpening : (o : OpeningState) → SoundOpening o → ValidOpening (Some (map file_of o.files)) o
 sound-ValidOpening o k = record { valid = sound-Valid o k; grants = k.grants; made = k.made; applications = k.applications }
+
+-- over a tree that tells nothing there are no files
+no_files : IsDistinct is_same []
+unfolding IsDistinct
+no_files = tt
+
+quiet-Valid : (o : OpeningState) → SoundOpening o → Valid (opened_over None o)
+quiet-Valid o k =
+    let v : Valid (opened o) = sound-Valid o k in
+    record {
+      numbers_differ = v.numbers_differ;
+      numbers_made = v.numbers_made;
+      identifiers = v.identifiers;
+      paths = v.paths;
+      applications_differ = v.applications_differ;
+      names = v.names;
+      rights_in_order = v.rights_in_order;
+      rights_placed = v.rights_placed;
+      seats_differ = v.seats_differ;
+      connections_sound = v.connections_sound;
+      entries_differ = v.entries_differ;
+      entries_sound = v.entries_sound;
+      files_differ = no_files;
+      files_apart = refl;
+      files_told = λ e. refl;
+      documents_within = v.documents_within;
+      made_within = v.made_within;
+      applications_within = v.applications_within;
+      made_limit = v.made_limit;
+      queued_limit = v.queued_limit;
+    }
+
+pub openings-valid : OpeningsAreValid
+openings-valid = record {
+  told = sound-ValidOpening;
+  quiet = λ o k. record { valid = quiet-Valid o k; grants = k.grants; made = k.made; applications = k.applications };
+}

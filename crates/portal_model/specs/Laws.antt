@@ -1,5 +1,5 @@
 -- Laws over histories, which the public functions of src/laws.rt state.
-use Rattle.std.specs.Prelude.{◌≡◌, ℕ, ◌+◌, ◌≤◌, List, [], ◌∷◌, ◌++◌, length, take, map, Some, is_some}
+use Rattle.std.specs.Prelude.{◌≡◌, ℕ, ◌+◌, ◌≤◌, List, [], ◌∷◌, ◌++◌, length, take, map, Some, None, is_some}
 use Rattle.portal_model.specs.declared.entry.Entry.{Entry}
 use Rattle.portal_model.specs.History.{run, Legal, cost, of_seat}
 use Rattle.portal_model.specs.Lawful.{Lawful}
@@ -65,6 +65,8 @@ pub record StaysValid : Type 0 where
   pub step : (s : State) (e : Entry) → Valid s → Lawful s e → Valid (after s e)
   pub run : (s : State) (h : List Entry) → Legal s h → Valid (run s h)
 
--- an opening state whose records are sound is valid, over a tree that tells its files
-abbrev pub OpeningsAreValid : Type 0
-OpeningsAreValid = (o : OpeningState) → SoundOpening o → ValidOpening (Some (map file_of o.files)) o
+-- an opening state whose records are sound is valid, over a tree that tells its files and over one
+-- that tells nothing
+pub record OpeningsAreValid : Type 0 where
+  pub told : (o : OpeningState) → SoundOpening o → ValidOpening (Some (map file_of o.files)) o
+  pub quiet : (o : OpeningState) → SoundOpening o → ValidOpening None o

@@ -62,7 +62,8 @@ pub fn states_stay_valid()
     ensures { StaysValid }
 {}
 
-/// The state that sound records and files stand for is valid.
+/// The state that sound records and files stand for is valid, over a tree that
+/// tells its files and over one that tells nothing.
 pub fn sound_openings_are_valid()
     ensures { OpeningsAreValid }
 {}
