@@ -5,6 +5,7 @@ ghost use Rattle.session.specs.Cuts.{Cuts, first_phase, zero_byte_cut, line_cut,
 
 use crate::served::Rest;
 use dbus_auth::{Auth, LONGEST_LINE};
+use memchr::memmem;
 use portal_base::split::Split;
 use portal_base::who::Kind;
 
@@ -23,6 +24,10 @@ pub enum Phase {
 
 /// The rule that the first byte of a bus connection breaks if it isn't 0.
 pub const ZERO_BYTE_RULE: u32 = 12;
+
+/// What ends a line of the handshake (D-Bus Specification, "Authentication
+/// Protocol", "Protocol Overview").
+pub const CR_LF: [u8; 2] = [b'\r', b'\n'];
 
 /// What is due first on a connection of a kind.
 pub fn first_phase(kind: Kind) -> Phase
@@ -83,10 +88,8 @@ fn cut_line(bytes: &[u8]) -> Result<usize, Rest>
 fn line_len(bytes: &[u8]) -> Option<usize>
     ensures { result ≡ line_len bytes.now }
 {
-    for (at, _) in bytes.iter().enumerate() {
-        if bytes[at..].starts_with(b"\r\n") {
-            return Some(at + 2);
-        }
+    match memmem::find(bytes, &CR_LF) {
+        Some(at) => Some(at + CR_LF.len()),
+        None => None,
     }
-    None
 }

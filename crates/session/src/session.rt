@@ -23,7 +23,7 @@ use std::alloc::Global;
 use std::marker::Model;
 
 /// How many bytes a connection may have.
-pub const LONGEST: u64 = 1 << 40;
+pub const LONGEST_STREAM: u64 = 1 << 40;
 
 /// One connection of a client, open at a desk.
 ///
@@ -115,7 +115,7 @@ impl Session {
             Fed::More => {}
             fed => return fed,
         }
-        let room = LONGEST - self.before - self.rest.len() as u64;
+        let room = LONGEST_STREAM - self.before - self.rest.len() as u64;
         if piece.len() as u64 > room {
             self.fed = Fed::Over(Served::Spent);
             return self.fed;
