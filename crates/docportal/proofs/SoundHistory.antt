@@ -10,8 +10,8 @@ use Rattle.app_world.proofs.WorldLaws.{replies_of_trace}
 use Rattle.script_form.specs.declared.script.ScriptLine.{ScriptLine}
 use Rattle.script_form.specs.declared.script.ScriptLine.TheVariants.{File, Doc, Fail, Word, Now, Open, Data, Close}
 use Rattle.script_form.specs.declared.script.ScriptLine.TheVariants as line
-use Rattle.session.specs.declared.served.Rest.{Rest}
-use Rattle.session.specs.declared.served.Rest.TheVariants as rest
+use Rattle.session.specs.declared.served.Stop.{Stop}
+use Rattle.session.specs.declared.served.Stop.TheVariants as stop
 use Rattle.session.specs.Standings.{Standing}
 use Rattle.session.proofs.ItemsBuilt.{AllBuilt, built-append, items_built}
 use Rattle.docportal.specs.Lines.{Comes, CloseDoes, DataDoes, Does, Goes, Passes}
@@ -41,11 +41,11 @@ comes_lead a b seat rs lines now es out h d = record {
 and_leaves : (rs : List Request) → AllBuilt rs → AllBuilt (rs ++ Request.Leave ∷ [])
 and_leaves rs d = built-append rs (Request.Leave ∷ []) d (tt, tt)
 
-goes_lead : (what : Rest) (a b : Scene) (seat : ℕ) (rs : List Request) (ps : List (List ℕ)) (now : Standing) (es : List Entry) (out : List (List ℕ)) → Goes a seat what rs ps now es out b → AllBuilt rs → Leads a es b
-goes_lead rest.More a b seat rs ps now es out h d = comes_lead a b seat _ _ _ es out h.1 d
-goes_lead (rest.Bad rule) a b seat rs ps now es out h d = comes_lead a b seat _ _ _ es out h (and_leaves rs d)
-goes_lead rest.TooLong a b seat rs ps now es out h d = comes_lead a b seat _ _ _ es out h (and_leaves rs d)
-goes_lead rest.Unbuilt a b seat rs ps now es out h d = absurd h
+goes_lead : (what : Stop) (a b : Scene) (seat : ℕ) (rs : List Request) (ps : List (List ℕ)) (now : Standing) (es : List Entry) (out : List (List ℕ)) → Goes a seat what rs ps now es out b → AllBuilt rs → Leads a es b
+goes_lead stop.More a b seat rs ps now es out h d = comes_lead a b seat _ _ _ es out h.1 d
+goes_lead (stop.Bad rule) a b seat rs ps now es out h d = comes_lead a b seat _ _ _ es out h (and_leaves rs d)
+goes_lead stop.TooLong a b seat rs ps now es out h d = comes_lead a b seat _ _ _ es out h (and_leaves rs d)
+goes_lead stop.Unbuilt a b seat rs ps now es out h d = absurd h
 
 data_leads : (o : Option Standing) (a b : Scene) (seat : ℕ) (bytes : List ℕ) (es : List Entry) (out : List (List ℕ)) → DataDoes a seat bytes o es out b → Leads a es b
 data_leads None a b seat bytes es out h = passes_lead a b es out h
