@@ -10,7 +10,8 @@
 //! | `command`, `settings` | the words of the program, and what a run is set to |
 //! | `input`, `output` | the input, read to its end; the lines of the output |
 //! | `run`, `status` | the whole of a run, and how it ends |
-//! | `replay`, `line`, `error` | a script's lines, one after another; one of them, and why it isn't run |
+//! | `replay` | a script's lines, one after another |
+//! | `line`, `error` | one line, and why it isn't run |
 //! | `seats`, `connections` | the sessions of a script, each at its seat of the portal |
 //!
 //! ```text
