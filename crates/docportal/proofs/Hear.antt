@@ -11,8 +11,8 @@ use Rattle.portal_model.specs.State.{State}
 use Rattle.session.specs.declared.phase.Phase.{Phase}
 use Rattle.session.specs.declared.served.Fed.{Fed}
 use Rattle.session.specs.declared.served.Fed.TheVariants as fed
-use Rattle.session.specs.declared.served.Rest.{Rest}
-use Rattle.session.specs.declared.served.Rest.TheVariants as rest
+use Rattle.session.specs.declared.served.Stop.{Stop}
+use Rattle.session.specs.declared.served.Stop.TheVariants as stop
 use Rattle.session.specs.declared.served.Served.{Served}
 use Rattle.session.specs.declared.served.Served.TheVariants as served
 use Rattle.session.specs.Answers.{Answers, Outcome, denied, kept}
@@ -23,11 +23,11 @@ use Rattle.session.specs.Sessions.{Feeds, FeedsOpen, FeedsOver, TakesUpTo, fed_o
 use Rattle.session.specs.Standings.{Standing, longest}
 use Rattle.session.proofs.AnswersAsked.{answer_asked}
 use Rattle.docportal.specs.declared.error.LineError.{LineError}
-use Rattle.docportal.specs.declared.error.LineError.TheVariants as stop
+use Rattle.docportal.specs.declared.error.LineError.TheVariants as not_run
 use Rattle.docportal.specs.declared.seats.Heard.{Heard}
 use Rattle.session.proofs.ItemsBuilt.{items_built}
 use Rattle.docportal.specs.Entries.{made_for}
-use Rattle.docportal.specs.Lines.{DataIsUnbuilt, IsUnbuiltRest}
+use Rattle.docportal.specs.Lines.{DataIsUnbuilt, IsUnbuiltStop}
 use Rattle.docportal.specs.Seats.{HeardAs, HearsAt, HearsNot, IsMet, WantsMemory, is_last, known_at, sunk}
 use Rattle.docportal.proofs.MadeAlone.{asked_alone}
 
@@ -39,14 +39,14 @@ none_denied n count c e = omega arith
 
 -- what was taken of a rest and a piece, at such a desk
 module _ (p q : Story) (seat count : ℕ) (at now : Standing) (bytes : List ℕ) (sink sink' : SinkState) (empty : sink.pieces ≡ []) (same : opened q.opening ≡ opened p.opening) (own : GrowsByOwn is_faultless seat p.history q.history) (legal : Legal (opened q.opening) q.history) (none : count ≡ 0) where
-  cut_taken : (what : Rest) → (t : TakesUpTo what at (sunk (known_at p seat 0) sink) bytes now (sunk (known_at q seat count) sink')) → Items at.client at.stage.phase (at.rest ++ bytes) t.did.items t.did.acts now.rest what
+  cut_taken : (what : Stop) → (t : TakesUpTo what at (sunk (known_at p seat 0) sink) bytes now (sunk (known_at q seat count) sink')) → Items at.client at.stage.phase (at.rest ++ bytes) t.did.items t.did.acts now.rest what
   cut_taken what t = record {
     bytes = t.bytes ∙ ap (λ (z : List ℕ). z ++ now.rest) t.did.bytes_are;
     each = t.did.each;
     remains = subst (λ (z : Phase). Remains at.client z now.rest what) t.did.phase t.remains;
   }
 
-  takes_hears : (what : Rest) → TakesUpTo what at (sunk (known_at p seat 0) sink) bytes now (sunk (known_at q seat count) sink') → now.fed ≡ fed_of now.before what → HearsAt p q seat at bytes what sink'.pieces now
+  takes_hears : (what : Stop) → TakesUpTo what at (sunk (known_at p seat 0) sink) bytes now (sunk (known_at q seat count) sink') → now.fed ≡ fed_of now.before what → HearsAt p q seat at bytes what sink'.pieces now
   takes_hears what t fed_is =
       let d = t.did in
       let s = opened p.opening in
@@ -73,7 +73,7 @@ module _ (p q : Story) (seat count : ℕ) (at now : Standing) (bytes : List ℕ)
         made.0,
       )
 
-  takes_unbuilt : (what : Rest) → TakesUpTo what at (sunk (known_at p seat 0) sink) bytes now (sunk (known_at q seat count) sink') → IsUnbuiltRest what now.rest → DataIsUnbuilt bytes (Some at)
+  takes_unbuilt : (what : Stop) → TakesUpTo what at (sunk (known_at p seat 0) sink) bytes now (sunk (known_at q seat count) sink') → IsUnbuiltStop what now.rest → DataIsUnbuilt bytes (Some at)
   takes_unbuilt what t un = (t.did.items, t.did.acts, now.rest, what, cut_taken what t, un)
 
   -- by what the session answered
@@ -91,10 +91,10 @@ module _ (p q : Story) (seat count : ℕ) (at now : Standing) (bytes : List ℕ)
   some_rest l n e h none = let zero_long = ap length none in omega arith
 
   pub heard_more : at.fed ≡ fed.More → (n : ℕ) → n ≡ length now.rest → n ≤ 0 → Fed_so fed.More → HeardAs false p q seat at bytes sink'.pieces now
-  heard_more goes n e h f = let g = open_so fed.More goes f in (takes_hears rest.More g.0 g.1.0, no_rest now.rest n e h)
+  heard_more goes n e h f = let g = open_so fed.More goes f in (takes_hears stop.More g.0 g.1.0, no_rest now.rest n e h)
 
   pub unheard_more : at.fed ≡ fed.More → (n : ℕ) → n ≡ length now.rest → 0 < n → Fed_so fed.More → DataIsUnbuilt bytes (Some at)
-  unheard_more goes n e h f = let g = open_so fed.More goes f in takes_unbuilt rest.More g.0 (some_rest now.rest n e h)
+  unheard_more goes n e h f = let g = open_so fed.More goes f in takes_unbuilt stop.More g.0 (some_rest now.rest n e h)
 
   over_met : (s : Served) → at.before + length at.rest + length bytes ≤ longest → FeedsOver at (sunk (known_at p seat 0) sink) bytes s now (sunk (known_at q seat count) sink') → IsMet s
   over_met (served.Malformed place rule) space h = tt
@@ -112,8 +112,8 @@ module _ (p q : Story) (seat count : ℕ) (at now : Standing) (bytes : List ℕ)
   met goes s space f = over_met s space (open_so (fed.Over s) goes f).0
 
   over_heard : (s : Served) → is_last s ≡ true → FeedsOpen at (sunk (known_at p seat 0) sink) bytes (fed.Over s) now (sunk (known_at q seat count) sink') → HeardAs true p q seat at bytes sink'.pieces now
-  over_heard (served.Malformed place rule) last h = (rest.Bad rule, tt, takes_hears (rest.Bad rule) h.0.0 (h.1.0 ∙ ap (λ (n : ℕ). fed.Over (served.Malformed n rule)) h.0.1))
-  over_heard (served.LineTooLong place) last h = (rest.TooLong, tt, takes_hears rest.TooLong h.0.0 (h.1.0 ∙ ap (λ (n : ℕ). fed.Over (served.LineTooLong n)) h.0.1))
+  over_heard (served.Malformed place rule) last h = (stop.Bad rule, tt, takes_hears (stop.Bad rule) h.0.0 (h.1.0 ∙ ap (λ (n : ℕ). fed.Over (served.Malformed n rule)) h.0.1))
+  over_heard (served.LineTooLong place) last h = (stop.TooLong, tt, takes_hears stop.TooLong h.0.0 (h.1.0 ∙ ap (λ (n : ℕ). fed.Over (served.LineTooLong n)) h.0.1))
   over_heard (served.Unbuilt place) last h = absurd (cc)
   over_heard served.Spent last h = absurd (cc)
   over_heard served.Ended last h = absurd (cc)
@@ -126,7 +126,7 @@ module _ (p q : Story) (seat count : ℕ) (at now : Standing) (bytes : List ℕ)
   over_unheard : (s : Served) → IsMet s → is_last s ≡ false → FeedsOpen at (sunk (known_at p seat 0) sink) bytes (fed.Over s) now (sunk (known_at q seat count) sink') → DataIsUnbuilt bytes (Some at)
   over_unheard (served.Malformed place rule) is last h = absurd (cc)
   over_unheard (served.LineTooLong place) is last h = absurd (cc)
-  over_unheard (served.Unbuilt place) is last h = takes_unbuilt rest.Unbuilt h.0.0 tt
+  over_unheard (served.Unbuilt place) is last h = takes_unbuilt stop.Unbuilt h.0.0 tt
   over_unheard served.Spent is last h = absurd is
   over_unheard served.Ended is last h = absurd is
   over_unheard (served.Cut n) is last h = absurd is
@@ -142,7 +142,7 @@ module _ (p q : Story) (seat count : ℕ) (at now : Standing) (bytes : List ℕ)
       subst (λ (b : Bool). HeardAs b p q seat at bytes heard.written.pieces now) (sym h.1) (subst (λ (z : SinkState). HeardAs true p q seat at bytes z.pieces now) (sym h.0) all)
   heard_last goes s f (Err e) h = tt
 
-  pub unheard_last : at.fed ≡ fed.More → (s : Served) → at.before + length at.rest + length bytes ≤ longest → Fed_so (fed.Over s) → (r : Result Heard LineError) → IfErr r (λ (e : LineError). (e ≡ stop.Unbuilt) × (is_last s ≡ false))
+  pub unheard_last : at.fed ≡ fed.More → (s : Served) → at.before + length at.rest + length bytes ≤ longest → Fed_so (fed.Over s) → (r : Result Heard LineError) → IfErr r (λ (e : LineError). (e ≡ not_run.Unbuilt) × (is_last s ≡ false))
       → IfErr r (HearsNot p q seat at bytes now)
   unheard_last goes s space f (Ok heard) h = tt
   unheard_last goes s space f (Err e) h =

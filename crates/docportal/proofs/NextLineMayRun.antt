@@ -20,8 +20,8 @@ use Rattle.script_form.specs.Order.{opens}
 use Rattle.session.specs.declared.act.Act.{Act}
 use Rattle.session.specs.declared.act.Client.{Client}
 use Rattle.session.specs.declared.served.Fed.TheVariants as fed
-use Rattle.session.specs.declared.served.Rest.{Rest}
-use Rattle.session.specs.declared.served.Rest.TheVariants as rest
+use Rattle.session.specs.declared.served.Stop.{Stop}
+use Rattle.session.specs.declared.served.Stop.TheVariants as stop
 use Rattle.session.specs.Asked.{asked_by, requests_of}
 use Rattle.session.specs.Items.{joined}
 use Rattle.session.specs.Sessions.{fed_of}
@@ -124,14 +124,14 @@ passes_agree : (a b : Scene) (es : List Entry) (out : List (List ℕ)) → Agree
 passes_agree a b es out agrees h = subst Agrees (sym h.2) agrees
 
 -- the requests of items leave the connection of a session
-module _ (a b : Scene) (seat : ℕ) (at now : Standing) (bytes : List ℕ) (what : Rest) (rs : List Request) (ps : List (List ℕ)) (es : List Entry) (out : List (List ℕ)) (agrees : Agrees a) (open_at : a.sessions seat ≡ Some at) (x : Hears a.portal seat at bytes what rs ps now) where
+module _ (a b : Scene) (seat : ℕ) (at now : Standing) (bytes : List ℕ) (what : Stop) (rs : List Request) (ps : List (List ℕ)) (es : List Entry) (out : List (List ℕ)) (agrees : Agrees a) (open_at : a.sessions seat ≡ Some at) (x : Hears a.portal seat at bytes what rs ps now) where
   open_bound : bound a.portal seat ≡ Some (binding at)
   open_bound = agrees.bound_alike seat ∙ ap maybe_binding open_at
 
   plain : ArePlain rs
   plain = subst ArePlain (sym x.asked) (acts_plain x.acts)
 
-  goes_on_agree : what ≡ rest.More → now.rest ≡ [] → Comes a seat rs (map (out_line seat) ps) (Some now) es out b → Agrees b
+  goes_on_agree : what ≡ stop.More → now.rest ≡ [] → Comes a seat rs (map (out_line seat) ps) (Some now) es out b → Agrees b
   goes_on_agree more left h =
       let fed_is : now.fed ≡ fed.More = x.fed ∙ ap (fed_of now.before) more in
       let is : bound_past (bound a.portal seat) rs ≡ Some (binding now) =
@@ -141,12 +141,12 @@ module _ (a b : Scene) (seat : ℕ) (at now : Standing) (bytes : List ℕ) (what
   ends_agree : (lines : List (List ℕ)) → Comes a seat (rs ++ Request.Leave ∷ []) lines None es out b → Agrees b
   ends_agree lines h = comes_agree a b seat (rs ++ Request.Leave ∷ []) lines None es out agrees tt (past_plain rs (Request.Leave ∷ []) (bound a.portal seat) plain ∙ past_leave (bound a.portal seat)) h
 
-goes_agree : (what : Rest) (a b : Scene) (seat : ℕ) (at now : Standing) (bytes : List ℕ) (rs : List Request) (ps : List (List ℕ)) (es : List Entry) (out : List (List ℕ))
+goes_agree : (what : Stop) (a b : Scene) (seat : ℕ) (at now : Standing) (bytes : List ℕ) (rs : List Request) (ps : List (List ℕ)) (es : List Entry) (out : List (List ℕ))
     → Agrees a → a.sessions seat ≡ Some at → Hears a.portal seat at bytes what rs ps now → Goes a seat what rs ps now es out b → Agrees b
-goes_agree rest.More a b seat at now bytes rs ps es out agrees e x h = goes_on_agree a b seat at now bytes rest.More rs ps es out agrees e x refl h.0 h.1
-goes_agree (rest.Bad rule) a b seat at now bytes rs ps es out agrees e x h = ends_agree a b seat at now bytes (rest.Bad rule) rs ps es out agrees e x _ h
-goes_agree rest.TooLong a b seat at now bytes rs ps es out agrees e x h = ends_agree a b seat at now bytes rest.TooLong rs ps es out agrees e x _ h
-goes_agree rest.Unbuilt a b seat at now bytes rs ps es out agrees e x h = absurd h
+goes_agree stop.More a b seat at now bytes rs ps es out agrees e x h = goes_on_agree a b seat at now bytes stop.More rs ps es out agrees e x refl h.0 h.1
+goes_agree (stop.Bad rule) a b seat at now bytes rs ps es out agrees e x h = ends_agree a b seat at now bytes (stop.Bad rule) rs ps es out agrees e x _ h
+goes_agree stop.TooLong a b seat at now bytes rs ps es out agrees e x h = ends_agree a b seat at now bytes stop.TooLong rs ps es out agrees e x _ h
+goes_agree stop.Unbuilt a b seat at now bytes rs ps es out agrees e x h = absurd h
 
 data_agrees : (o : Option Standing) (a b : Scene) (seat : ℕ) (bytes : List ℕ) (es : List Entry) (out : List (List ℕ)) → Agrees a → a.sessions seat ≡ o → DataDoes a seat bytes o es out b → Agrees b
 data_agrees None a b seat bytes es out agrees e h = passes_agree a b es out agrees h
@@ -173,13 +173,13 @@ does_agree (Close seat) a b es out agrees new h = close_agrees (a.sessions seat)
 -- ---- what a line costs
 
 -- bytes that are heard between items hold the items
-heard_bytes : (s : State) (seat : ℕ) (at now : Standing) (bytes : List ℕ) (what : Rest) (rs : List Request) (ps : List (List ℕ)) → at.rest ≡ [] → (x : Hears s seat at bytes what rs ps now) → length (joined x.items) ≤ length bytes
+heard_bytes : (s : State) (seat : ℕ) (at now : Standing) (bytes : List ℕ) (what : Stop) (rs : List Request) (ps : List (List ℕ)) → at.rest ≡ [] → (x : Hears s seat at bytes what rs ps now) → length (joined x.items) ≤ length bytes
 heard_bytes s seat at now bytes what rs ps none x =
     let all : bytes ≡ joined x.items ++ now.rest = sym (ap (λ (z : List ℕ). z ++ bytes) none) ∙ x.cut.bytes in
     let long : length bytes ≡ length (joined x.items) + length now.rest = ap length all ∙ length-append (joined x.items) now.rest in
     omega arith
 
-heard_cost : (s : State) (seat : ℕ) (at now : Standing) (bytes : List ℕ) (what : Rest) (rs : List Request) (ps : List (List ℕ)) → at.rest ≡ [] → Hears s seat at bytes what rs ps now → costs rs ≤ 8 * length bytes
+heard_cost : (s : State) (seat : ℕ) (at now : Standing) (bytes : List ℕ) (what : Stop) (rs : List Request) (ps : List (List ℕ)) → at.rest ≡ [] → Hears s seat at bytes what rs ps now → costs rs ≤ 8 * length bytes
 heard_cost s seat at now bytes what rs ps none x =
     let least = heard_bytes s seat at now bytes what rs ps none x in
     let most = items_cost x.items at.client at.stage.phase x.acts x.cut.each in
@@ -195,11 +195,11 @@ passes_cost a b es out h = ap cost h.0
 leaves_cost : (rs : List Request) → costs (rs ++ Request.Leave ∷ []) ≡ costs rs
 leaves_cost rs = let both = costs-append rs (Request.Leave ∷ []) in omega arith
 
-goes_cost : (what : Rest) (a b : Scene) (seat : ℕ) (rs : List Request) (ps : List (List ℕ)) (now : Standing) (es : List Entry) (out : List (List ℕ)) → Goes a seat what rs ps now es out b → cost es ≡ costs rs
-goes_cost rest.More a b seat rs ps now es out h = comes_cost a b seat rs _ _ es out h.1
-goes_cost (rest.Bad rule) a b seat rs ps now es out h = comes_cost a b seat (rs ++ Request.Leave ∷ []) _ _ es out h ∙ leaves_cost rs
-goes_cost rest.TooLong a b seat rs ps now es out h = comes_cost a b seat (rs ++ Request.Leave ∷ []) _ _ es out h ∙ leaves_cost rs
-goes_cost rest.Unbuilt a b seat rs ps now es out h = absurd h
+goes_cost : (what : Stop) (a b : Scene) (seat : ℕ) (rs : List Request) (ps : List (List ℕ)) (now : Standing) (es : List Entry) (out : List (List ℕ)) → Goes a seat what rs ps now es out b → cost es ≡ costs rs
+goes_cost stop.More a b seat rs ps now es out h = comes_cost a b seat rs _ _ es out h.1
+goes_cost (stop.Bad rule) a b seat rs ps now es out h = comes_cost a b seat (rs ++ Request.Leave ∷ []) _ _ es out h ∙ leaves_cost rs
+goes_cost stop.TooLong a b seat rs ps now es out h = comes_cost a b seat (rs ++ Request.Leave ∷ []) _ _ es out h ∙ leaves_cost rs
+goes_cost stop.Unbuilt a b seat rs ps now es out h = absurd h
 
 maybe_idle : (o : Option Standing) (x : Standing) → o ≡ Some x → IfSome o IsIdle → IsIdle x
 maybe_idle o x e h = subst (λ (z : Option Standing). IfSome z IsIdle) e h
@@ -253,12 +253,12 @@ comes_room a b seat rs lines now es out less more le room here h =
 passes_room : (a b : Scene) (es : List Entry) (out : List (List ℕ)) (less more : ℕ) → less ≤ more → HaveRoom a more → Passes a es out b → HaveRoom b less
 passes_room a b es out less more le room h = subst (λ (z : Scene). HaveRoom z less) (sym h.2) (λ n. holds_less (a.sessions n) less more le (room n))
 
-goes_room : (what : Rest) (a b : Scene) (seat : ℕ) (rs : List Request) (ps : List (List ℕ)) (now : Standing) (es : List Entry) (out : List (List ℕ)) (less more : ℕ)
+goes_room : (what : Stop) (a b : Scene) (seat : ℕ) (rs : List Request) (ps : List (List ℕ)) (now : Standing) (es : List Entry) (out : List (List ℕ)) (less more : ℕ)
     → less ≤ more → HaveRoom a more → now.before + less ≤ longest → Goes a seat what rs ps now es out b → HaveRoom b less
-goes_room rest.More a b seat rs ps now es out less more le room here h = comes_room a b seat rs _ (Some now) es out less more le room here h.1
-goes_room (rest.Bad rule) a b seat rs ps now es out less more le room here h = comes_room a b seat (rs ++ Request.Leave ∷ []) _ None es out less more le room tt h
-goes_room rest.TooLong a b seat rs ps now es out less more le room here h = comes_room a b seat (rs ++ Request.Leave ∷ []) _ None es out less more le room tt h
-goes_room rest.Unbuilt a b seat rs ps now es out less more le room here h = absurd h
+goes_room stop.More a b seat rs ps now es out less more le room here h = comes_room a b seat rs _ (Some now) es out less more le room here h.1
+goes_room (stop.Bad rule) a b seat rs ps now es out less more le room here h = comes_room a b seat (rs ++ Request.Leave ∷ []) _ None es out less more le room tt h
+goes_room stop.TooLong a b seat rs ps now es out less more le room here h = comes_room a b seat (rs ++ Request.Leave ∷ []) _ None es out less more le room tt h
+goes_room stop.Unbuilt a b seat rs ps now es out less more le room here h = absurd h
 
 data_room : (o : Option Standing) (a b : Scene) (seat : ℕ) (bytes : List ℕ) (es : List Entry) (out : List (List ℕ)) (less : ℕ) → Agrees a → a.sessions seat ≡ o
     → HaveRoom a (length (line_text (Data seat bytes)) + 1 + less) → DataDoes a seat bytes o es out b → HaveRoom b less
@@ -325,12 +325,12 @@ opened_here a seat at lines line x closed e n k same =
     let no : Some at ≡ None = sym e ∙ none in
     absurd (cc)
 
-goes_closed : (what : Rest) (a b : Scene) (seat : ℕ) (rs : List Request) (ps : List (List ℕ)) (now : Standing) (es : List Entry) (out : List (List ℕ)) (lines : List ScriptLine) (line : ScriptLine)
+goes_closed : (what : Stop) (a b : Scene) (seat : ℕ) (rs : List Request) (ps : List (List ℕ)) (now : Standing) (es : List Entry) (out : List (List ℕ)) (lines : List ScriptLine) (line : ScriptLine)
     → AreClosed lines a → ((x : Option Standing) (n : ℕ) → list_any (opens n) (lines ++ line ∷ []) ≡ false → (n == seat) ≡ true → x ≡ None) → Goes a seat what rs ps now es out b → AreClosed (lines ++ line ∷ []) b
-goes_closed rest.More a b seat rs ps now es out lines line closed here h = comes_closed a b seat rs _ (Some now) es out lines line closed (here (Some now)) h.1
-goes_closed (rest.Bad rule) a b seat rs ps now es out lines line closed here h = comes_closed a b seat _ _ None es out lines line closed (here None) h
-goes_closed rest.TooLong a b seat rs ps now es out lines line closed here h = comes_closed a b seat _ _ None es out lines line closed (here None) h
-goes_closed rest.Unbuilt a b seat rs ps now es out lines line closed here h = absurd h
+goes_closed stop.More a b seat rs ps now es out lines line closed here h = comes_closed a b seat rs _ (Some now) es out lines line closed (here (Some now)) h.1
+goes_closed (stop.Bad rule) a b seat rs ps now es out lines line closed here h = comes_closed a b seat _ _ None es out lines line closed (here None) h
+goes_closed stop.TooLong a b seat rs ps now es out lines line closed here h = comes_closed a b seat _ _ None es out lines line closed (here None) h
+goes_closed stop.Unbuilt a b seat rs ps now es out lines line closed here h = absurd h
 
 data_closed : (o : Option Standing) (a b : Scene) (seat : ℕ) (bytes : List ℕ) (es : List Entry) (out : List (List ℕ)) (lines : List ScriptLine) → AreClosed lines a → a.sessions seat ≡ o → DataDoes a seat bytes o es out b
     → AreClosed (lines ++ Data seat bytes ∷ []) b

@@ -11,8 +11,8 @@ use Rattle.session.specs.declared.act.Act.{Act}
 use Rattle.session.specs.declared.act.Client.{Client}
 use Rattle.session.specs.declared.phase.Phase.{Phase}
 use Rattle.session.specs.declared.served.Fed.{Fed}
-use Rattle.session.specs.declared.served.Rest.{Rest}
-use Rattle.session.specs.declared.served.Rest.TheVariants as rest
+use Rattle.session.specs.declared.served.Stop.{Stop}
+use Rattle.session.specs.declared.served.Stop.TheVariants as stop
 use Rattle.session.specs.Answers.{Answers}
 use Rattle.session.specs.Asked.{requests_of}
 use Rattle.session.specs.Items.{joined, phase_after}
@@ -38,7 +38,7 @@ standing_is x y c p s b r f =
     ∙ ap (λ (z : Fed). standing y.client y.stage.phase y.stage.serial y.before y.rest z) f))))
 
 -- what bytes come to is one thing
-hears_one : (s : State) (seat : ℕ) (at : Standing) (bytes : List ℕ) (what also : Rest) (rs qs : List Request) (ps os : List (List ℕ)) (now then : Standing)
+hears_one : (s : State) (seat : ℕ) (at : Standing) (bytes : List ℕ) (what also : Stop) (rs qs : List Request) (ps os : List (List ℕ)) (now then : Standing)
     → Hears s seat at bytes what rs ps now → Hears s seat at bytes also qs os then → (what ≡ also) × (rs ≡ qs) × (ps ≡ os) × (now ≡ then)
 hears_one s seat at bytes what also rs qs ps os now then x y =
     let one = are_one at.client at.stage.phase (at.rest ++ bytes) x.items y.items x.acts y.acts now.rest then.rest what also x.cut y.cut in
@@ -70,18 +70,18 @@ comes_one a b c seat rs lines now es fs out also h k =
       h.scene ∙ (ap (λ (z : List Entry). record { portal = run a.portal z; sessions = placed a.sessions seat now }) entries ∙ sym k.scene),
     )
 
-goes_one : (what : Rest) (a b c : Scene) (seat : ℕ) (rs : List Request) (ps : List (List ℕ)) (now : Standing) (es fs : List Entry) (out also : List (List ℕ))
+goes_one : (what : Stop) (a b c : Scene) (seat : ℕ) (rs : List Request) (ps : List (List ℕ)) (now : Standing) (es fs : List Entry) (out also : List (List ℕ))
     → Goes a seat what rs ps now es out b → Goes a seat what rs ps now fs also c → AreSame es fs out also b c
-goes_one rest.More a b c seat rs ps now es fs out also h k = comes_one a b c seat _ _ _ es fs out also h.1 k.1
-goes_one (rest.Bad rule) a b c seat rs ps now es fs out also h k = comes_one a b c seat _ _ _ es fs out also h k
-goes_one rest.TooLong a b c seat rs ps now es fs out also h k = comes_one a b c seat _ _ _ es fs out also h k
-goes_one rest.Unbuilt a b c seat rs ps now es fs out also h k = absurd h
+goes_one stop.More a b c seat rs ps now es fs out also h k = comes_one a b c seat _ _ _ es fs out also h.1 k.1
+goes_one (stop.Bad rule) a b c seat rs ps now es fs out also h k = comes_one a b c seat _ _ _ es fs out also h k
+goes_one stop.TooLong a b c seat rs ps now es fs out also h k = comes_one a b c seat _ _ _ es fs out also h k
+goes_one stop.Unbuilt a b c seat rs ps now es fs out also h k = absurd h
 
-heard_one : (a b c : Scene) (seat : ℕ) (at : Standing) (bytes : List ℕ) (what other : Rest) (rs qs : List Request) (ps os : List (List ℕ)) (now then : Standing) (es fs : List Entry) (out also : List (List ℕ))
+heard_one : (a b c : Scene) (seat : ℕ) (at : Standing) (bytes : List ℕ) (what other : Stop) (rs qs : List Request) (ps os : List (List ℕ)) (now then : Standing) (es fs : List Entry) (out also : List (List ℕ))
     → Hears a.portal seat at bytes what rs ps now → Hears a.portal seat at bytes other qs os then → Goes a seat what rs ps now es out b → Goes a seat other qs os then fs also c → AreSame es fs out also b c
 heard_one a b c seat at bytes what other rs qs ps os now then es fs out also x y h k =
     let one = hears_one a.portal seat at bytes what other rs qs ps os now then x y in
-    let g1 = subst (λ (z : Rest). Goes a seat z rs ps now es out b) one.0 h in
+    let g1 = subst (λ (z : Stop). Goes a seat z rs ps now es out b) one.0 h in
     let g2 = subst (λ (z : List Request). Goes a seat other z ps now es out b) one.1 g1 in
     let g3 = subst (λ (z : List (List ℕ)). Goes a seat other qs z now es out b) one.2 g2 in
     let g4 = subst (λ (z : Standing). Goes a seat other qs os z es out b) one.3 g3 in

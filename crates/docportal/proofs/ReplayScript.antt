@@ -3,14 +3,12 @@ use Rattle.std.proofs.Common.{◌≡◌, ℕ, ◌+◌, ◌*◌, ◌≤◌, List,
 use Rattle.std.specs.Prelude.{◌≢◌, IsTrue, codes}
 use Rattle.std.proofs.lemmas.List.{append-nil}
 use Rattle.portal_base.specs.Outside.{Short, onto}
-use Rattle.portal_base.specs.Names.{is_same}
 use Rattle.portal_model.specs.declared.entry.Entry.{Entry}
 use Rattle.portal_model.specs.declared.opening.OpeningState.{OpeningState}
 use Rattle.portal_base.specs.declared.limits.Limits.{Limits}
 use Rattle.portal_model.specs.History.{cost}
 use Rattle.portal_model.specs.Opening.{ValidOpening, file_of, opened}
 use Rattle.portal_model.specs.Valid.{Valid}
-use Rattle.portal_model.proofs.ListLookups.{is_same-eq, is_same-refl}
 use Rattle.portal_core.specs.Story.{Story}
 use Rattle.script_form.specs.declared.script.ScriptLine.{ScriptLine}
 use Rattle.script_form.specs.Lines.{text_of}

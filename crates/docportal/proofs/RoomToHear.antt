@@ -10,7 +10,7 @@ use Rattle.session.specs.declared.act.Client.{Client}
 use Rattle.session.specs.declared.serve.Stage.{Stage}
 use Rattle.session.specs.declared.served.Fed.{Fed}
 use Rattle.session.specs.declared.served.Fed.TheVariants as fed
-use Rattle.session.specs.declared.served.Rest.{Rest}
+use Rattle.session.specs.declared.served.Stop.{Stop}
 use Rattle.session.specs.declared.served.Served.{Served}
 use Rattle.session.specs.declared.served.Served.TheVariants as served
 use Rattle.session.specs.Answers.{AreOf, Outcome}
@@ -58,7 +58,7 @@ broke_costs c s v w b k =
 none_costs : (v w : World) (n : ℕ) → w ≡ v → Costs v.seated w.seated n []
 none_costs v w n e = record { requests = []; are = refl; grew = subst (λ (z : World). Grew v.seated [] z.seated) (sym e) (grew_none v.seated); little = omega arith }
 
-takes_costs : (what : Rest) (s : Standing) (v : World) (piece : List ℕ) (t : Standing) (w : World) → (h : TakesUpTo what s v piece t w) → Costs v.seated w.seated (length (s.rest ++ piece)) h.did.outcomes
+takes_costs : (what : Stop) (s : Standing) (v : World) (piece : List ℕ) (t : Standing) (w : World) → (h : TakesUpTo what s v piece t w) → Costs v.seated w.seated (length (s.rest ++ piece)) h.did.outcomes
 takes_costs what s v piece t w h =
     let bytes : length (s.rest ++ piece) ≡ length (h.taken ++ t.rest) = ap length h.bytes in
     did_costs s.client s.stage t.stage v w h.taken (length (s.rest ++ piece)) (omega (arith, bytes, length-append h.taken t.rest)) h.did

@@ -25,13 +25,13 @@ use Rattle.script_form.specs.declared.script.ScriptLine.TheVariants.{Open, Data,
 use Rattle.script_form.specs.Lines.{line_text}
 use Rattle.session.specs.declared.act.Client.{Client}
 use Rattle.session.specs.declared.served.Fed.{Fed}
-use Rattle.session.specs.declared.served.Rest.{Rest}
-use Rattle.session.specs.declared.served.Rest.TheVariants as rest
+use Rattle.session.specs.declared.served.Stop.{Stop}
+use Rattle.session.specs.declared.served.Stop.TheVariants as stop
 use Rattle.session.specs.declared.served.Served.TheVariants.{LineTooLong, Malformed}
 use Rattle.session.specs.Sessions.{ending, ending_at}
 use Rattle.session.specs.Standings.{Standing, client, fresh, longest}
 use Rattle.docportal.specs.declared.error.LineError.{LineError}
-use Rattle.docportal.specs.declared.error.LineError.TheVariants as stop
+use Rattle.docportal.specs.declared.error.LineError.TheVariants as not_run
 use Rattle.docportal.specs.Entries.{entries_for, entry_for}
 use Rattle.docportal.specs.Lines.{CloseDoes, DataDoes, DataIsUnbuilt, Does, Hears}
 use Rattle.docportal.specs.Scenes.{Scene, placed, run_settings, sessions_of}
@@ -171,7 +171,7 @@ module _ (p q : Story) (table : List (Option Standing)) (seat : ℕ) (at now : S
   more_does h =
       let es = entries_for (state_now p) seat h.0.0 in
       subst (λ (o : Option Standing). DataDoes (scene p table) seat bytes o es lines (moved p table seat es (Some now))) here
-      (rest.More, h.0.0, pieces, now, h.0.1, (h.1, record { entries_are = refl; out_is = refl; scene = refl }))
+      (stop.More, h.0.0, pieces, now, h.0.1, (h.1, record { entries_are = refl; out_is = refl; scene = refl }))
 
   -- with the last line of a connection that ends by itself
   abbrev last : List (List ℕ)
@@ -180,17 +180,17 @@ module _ (p q : Story) (table : List (Option Standing)) (seat : ℕ) (at now : S
   abbrev left_for : List Request → List Entry
   left_for rs = entries_for (state_now p) seat (rs ++ Request.Leave ∷ [])
 
-  ends_so : (what : Rest) (rs : List Request) → IsEnd what → Hears (state_now p) seat at bytes what rs pieces now → Does (scene p table) (Data seat bytes) (left_for rs) (lines ++ last) (moved p table seat (left_for rs) None)
-  ends_so rest.More rs end x = absurd end
-  ends_so (rest.Bad rule) rs end x =
+  ends_so : (what : Stop) (rs : List Request) → IsEnd what → Hears (state_now p) seat at bytes what rs pieces now → Does (scene p table) (Data seat bytes) (left_for rs) (lines ++ last) (moved p table seat (left_for rs) None)
+  ends_so stop.More rs end x = absurd end
+  ends_so (stop.Bad rule) rs end x =
       let said : lines ++ last ≡ lines ++ end_line seat (Malformed now.before rule) ∷ [] = ap (λ (f : Fed). lines ++ end_line seat (ending f now.rest) ∷ []) x.fed in
       subst (λ (o : Option Standing). DataDoes (scene p table) seat bytes o (left_for rs) (lines ++ last) (moved p table seat (left_for rs) None)) here
-      (rest.Bad rule, rs, pieces, now, x, record { entries_are = refl; out_is = said; scene = refl })
-  ends_so rest.TooLong rs end x =
+      (stop.Bad rule, rs, pieces, now, x, record { entries_are = refl; out_is = said; scene = refl })
+  ends_so stop.TooLong rs end x =
       let said : lines ++ last ≡ lines ++ end_line seat (LineTooLong now.before) ∷ [] = ap (λ (f : Fed). lines ++ end_line seat (ending f now.rest) ∷ []) x.fed in
       subst (λ (o : Option Standing). DataDoes (scene p table) seat bytes o (left_for rs) (lines ++ last) (moved p table seat (left_for rs) None)) here
-      (rest.TooLong, rs, pieces, now, x, record { entries_are = refl; out_is = said; scene = refl })
-  ends_so rest.Unbuilt rs end x = absurd end
+      (stop.TooLong, rs, pieces, now, x, record { entries_are = refl; out_is = said; scene = refl })
+  ends_so stop.Unbuilt rs end x = absurd end
 
   end_does : (h : HeardAs true p q seat at bytes pieces now) → Does (scene p table) (Data seat bytes) (left_for h.2.0) (lines ++ last) (moved p table seat (left_for h.2.0) None)
   end_does h = ends_so h.0 h.2.0 h.1 h.2.1
@@ -268,18 +268,18 @@ module _ (p q : Story) (table : List (Option Standing)) (seat : ℕ) (at : Stand
 
 pub breaks_heard : (p q : Story) (table : List (Option Standing)) (seat : ℕ) (at now : Standing) (bytes : List ℕ) (told : Option (List (List ℕ))) (faults : ℕ) → Some at ≡ sessions_of table seat → (e : LineError) → HearsNot p q seat at bytes now e
     → Breaks (scene p table) (Data seat bytes) told faults told faults e
-breaks_heard p q table seat at now bytes told faults here stop.Unbuilt h = (refl, subst (λ (o : Option Standing). DataIsUnbuilt bytes o) here h, refl)
-breaks_heard p q table seat at now bytes told faults here stop.WriteFault h = absurd h
-breaks_heard p q table seat at now bytes told faults here stop.Memory h = (refl, inl refl)
+breaks_heard p q table seat at now bytes told faults here not_run.Unbuilt h = (refl, subst (λ (o : Option Standing). DataIsUnbuilt bytes o) here h, refl)
+breaks_heard p q table seat at now bytes told faults here not_run.WriteFault h = absurd h
+breaks_heard p q table seat at now bytes told faults here not_run.Memory h = (refl, inl refl)
 
 risen_later : (a b c : ℕ) → b ≡ a → HasRisen b c → HasRisen a c
 risen_later a b c h k = omega arith
 
 pub breaks_written : (a : Scene) (line : ScriptLine) (said : List (List ℕ)) (told mid told' : Option (List (List ℕ))) (faults later faults' : ℕ) → later ≡ faults → ((IsPart : List (List ℕ) → List (List ℕ) → Type 0) → IsFront IsPart → (ws : List (List ℕ)) → IsPart ws said → told' ≡ onto mid ws → WritesPart IsPart a line told told')
     → (e : LineError) → WritesShort said mid later told' faults' e → Breaks a line told faults told' faults' e
-breaks_written a line said told mid told' faults later faults' le part stop.Unbuilt h = absurd h
-breaks_written a line said told mid told' faults later faults' le part stop.WriteFault h = (risen_later faults later faults' le h.0, part Short short_front h.1.0 h.1.1 h.1.2)
-breaks_written a line said told mid told' faults later faults' le part stop.Memory h = (h.0 ∙ le, inr (part AreFirst first_front h.1.0 h.1.1 h.1.2))
+breaks_written a line said told mid told' faults later faults' le part not_run.Unbuilt h = absurd h
+breaks_written a line said told mid told' faults later faults' le part not_run.WriteFault h = (risen_later faults later faults' le h.0, part Short short_front h.1.0 h.1.1 h.1.2)
+breaks_written a line said told mid told' faults later faults' le part not_run.Memory h = (h.0 ∙ le, inr (part AreFirst first_front h.1.0 h.1.1 h.1.2))
 
 -- ---- lines that are written one after another
 
@@ -301,7 +301,7 @@ module _ (seat : ℕ) (xs : List (List ℕ)) (i : ℕ) where
       (subst (λ (z : List (List ℕ)). AreFirst written z) (sym (map-append (out_line seat) (take i xs) (drop i xs))) (first_front.more written written (map (out_line seat) (drop i xs)) (first_front.all written)))
 
   -- there was no memory for the next line
-  pub no_line : (told mid : Option (List (List ℕ))) (faults faults' : ℕ) → faults' ≡ faults → mid ≡ onto told written → WritesShort (map (out_line seat) xs) told faults mid faults' stop.Memory
+  pub no_line : (told mid : Option (List (List ℕ))) (faults faults' : ℕ) → faults' ≡ faults → mid ≡ onto told written → WritesShort (map (out_line seat) xs) told faults mid faults' not_run.Memory
   no_line told mid faults faults' same h = (same, (written, some_written, h))
 
   module _ (x : List ℕ) (inside : i < length xs) (is : x ≡ get_or xs i x) where
@@ -330,9 +330,9 @@ module _ (seat : ℕ) (xs : List (List ℕ)) (i : ℕ) where
     -- the next line was not written whole
     pub line_broke : (line : List ℕ) (told mid told' : Option (List (List ℕ))) (faults later faults' : ℕ) → line ≡ out_line seat x → mid ≡ onto told written → later ≡ faults
         → (e : LineError) → WritesShort (line ∷ []) mid later told' faults' e → WritesShort (map (out_line seat) xs) told faults told' faults' e
-    line_broke line told mid told' faults later faults' e m le stop.Unbuilt h = absurd h
-    line_broke line told mid told' faults later faults' e m le stop.WriteFault h = (risen_later faults later faults' le h.0, line_part Short short_front line told mid told' e m h.1)
-    line_broke line told mid told' faults later faults' e m le stop.Memory h = (h.0 ∙ le, line_part AreFirst first_front line told mid told' e m h.1)
+    line_broke line told mid told' faults later faults' e m le not_run.Unbuilt h = absurd h
+    line_broke line told mid told' faults later faults' e m le not_run.WriteFault h = (risen_later faults later faults' le h.0, line_part Short short_front line told mid told' e m h.1)
+    line_broke line told mid told' faults later faults' e m le not_run.Memory h = (h.0 ∙ le, line_part AreFirst first_front line told mid told' e m h.1)
 
 -- ---- bytes of a data line, from first to last
 
@@ -377,7 +377,7 @@ module _ (p q : Story) (table : List (Option Standing)) (seat : ℕ) (at now : S
       more_runs p q table seat at now bytes pieces a.here table' told told' (on t) a.same (put_back table taken table' seat (Some now) took put) (wrote_is told told' wrote)
 
   -- all was written, and there is no memory to go on
-  pub all_written : (told told' : Option (List (List ℕ))) (faults faults' : ℕ) → faults' ≡ faults → told' ≡ onto told (map (out_line seat) lent) → Breaks (scene p table) (Data seat bytes) told faults told' faults' stop.Memory
+  pub all_written : (told told' : Option (List (List ℕ))) (faults faults' : ℕ) → faults' ≡ faults → told' ≡ onto told (map (out_line seat) lent) → Breaks (scene p table) (Data seat bytes) told faults told' faults' not_run.Memory
   all_written told told' faults faults' same wrote = (same, inr (part p q table seat at now bytes pieces a.here AreFirst first_front b told told' (map (out_line seat) pieces) a.heard (first_front.all _) (wrote_is told told' wrote)))
 
 -- ---- lines of the opening

@@ -16,7 +16,7 @@ use Rattle.script_form.specs.Lines.{line_text, text_of}
 use Rattle.script_form.specs.Order.{StandBehind, goes_with}
 use Rattle.session.specs.Standings.{Standing}
 use Rattle.docportal.specs.declared.error.LineError.{LineError}
-use Rattle.docportal.specs.declared.error.LineError.TheVariants as stop
+use Rattle.docportal.specs.declared.error.LineError.TheVariants as not_run
 use Rattle.docportal.specs.Lines.{Does}
 use Rattle.docportal.specs.Plays.{Plays, PlaysAll, PlaysPart, PlayStops, status_at}
 use Rattle.docportal.specs.Scenes.{Scene, sessions_of}
@@ -171,7 +171,7 @@ none_on first lines told told' told'' index p table before same = record {
 pub play_stops : (first : Story) (lines : List ScriptLine) (told told' told'' : Option (List (List ℕ))) (faults faults' faults'' : ℕ) (index : ℕ) (p : Story) (table : List (Option Standing)) (line : ScriptLine)
     → index < length lines → line ≡ get_or lines index line → faults' ≡ faults → Played first lines told told' index p table
     → (e : LineError) → Breaks (scene p table) line told' faults' told'' faults'' e → PlayStops (scene first []) lines told faults told'' faults'' (status_at e index)
-play_stops first lines told told' told'' faults faults' faults'' index p table line h is same before stop.Unbuilt b = (
+play_stops first lines told told' told'' faults faults' faults'' index p table line h is same before not_run.Unbuilt b = (
   b.0 ∙ same,
   record {
     front = take index lines;
@@ -183,9 +183,9 @@ play_stops first lines told told' told'' faults faults' faults'' index p table l
     output = b.2 ∙ before.wrote;
   },
 )
-play_stops first lines told told' told'' faults faults' faults'' index p table line h is same before stop.WriteFault b = (later faults faults'' faults' same b.0, part_on Short short_front first lines told told' told'' index p table line h is before b.1)
-play_stops first lines told told' told'' faults faults' faults'' index p table line h is same before stop.Memory (counts, inl unwritten) = (counts ∙ same, none_on first lines told told' told'' index p table before unwritten)
-play_stops first lines told told' told'' faults faults' faults'' index p table line h is same before stop.Memory (counts, inr part) = (counts ∙ same, part_on AreFirst first_front first lines told told' told'' index p table line h is before part)
+play_stops first lines told told' told'' faults faults' faults'' index p table line h is same before not_run.WriteFault b = (later faults faults'' faults' same b.0, part_on Short short_front first lines told told' told'' index p table line h is before b.1)
+play_stops first lines told told' told'' faults faults' faults'' index p table line h is same before not_run.Memory (counts, inl unwritten) = (counts ∙ same, none_on first lines told told' told'' index p table before unwritten)
+play_stops first lines told told' told'' faults faults' faults'' index p table line h is same before not_run.Memory (counts, inr part) = (counts ∙ same, part_on AreFirst first_front first lines told told' told'' index p table line h is before part)
 
 -- ---- what the lines need
 

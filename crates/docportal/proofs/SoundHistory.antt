@@ -13,8 +13,8 @@ use Rattle.script_form.specs.declared.script.ScriptLine.TheVariants.{File, Doc, 
 use Rattle.script_form.specs.declared.script.ScriptLine.TheVariants as line
 use Rattle.script_form.specs.Lines.{IsCaller, KeepsRules}
 use Rattle.script_form.specs.Order.{IsScript, StandBehind}
-use Rattle.session.specs.declared.served.Rest.{Rest}
-use Rattle.session.specs.declared.served.Rest.TheVariants as rest
+use Rattle.session.specs.declared.served.Stop.{Stop}
+use Rattle.session.specs.declared.served.Stop.TheVariants as stop
 use Rattle.session.specs.Standings.{Standing}
 use Rattle.session.proofs.ItemsBuilt.{AllBuilt, built-append, items_built}
 use Rattle.docportal.specs.Lines.{Comes, CloseDoes, DataDoes, Does, Goes, Passes}
@@ -47,11 +47,11 @@ and_leaves rs d = built-append rs (Request.Leave ∷ []) d (tt, tt)
 and_leaving : (rs : List Request) → NameCallers rs → NameCallers (rs ++ Request.Leave ∷ [])
 and_leaving rs n = callers-append rs (Request.Leave ∷ []) n (tt, tt)
 
-goes_lead : (what : Rest) (a b : Scene) (seat : ℕ) (rs : List Request) (ps : List (List ℕ)) (now : Standing) (es : List Entry) (out : List (List ℕ)) → Goes a seat what rs ps now es out b → AllBuilt rs → NameCallers rs → Leads a es b
-goes_lead rest.More a b seat rs ps now es out h d n = comes_lead a b seat _ _ _ es out h.1 d n
-goes_lead (rest.Bad rule) a b seat rs ps now es out h d n = comes_lead a b seat _ _ _ es out h (and_leaves rs d) (and_leaving rs n)
-goes_lead rest.TooLong a b seat rs ps now es out h d n = comes_lead a b seat _ _ _ es out h (and_leaves rs d) (and_leaving rs n)
-goes_lead rest.Unbuilt a b seat rs ps now es out h d n = absurd h
+goes_lead : (what : Stop) (a b : Scene) (seat : ℕ) (rs : List Request) (ps : List (List ℕ)) (now : Standing) (es : List Entry) (out : List (List ℕ)) → Goes a seat what rs ps now es out b → AllBuilt rs → NameCallers rs → Leads a es b
+goes_lead stop.More a b seat rs ps now es out h d n = comes_lead a b seat _ _ _ es out h.1 d n
+goes_lead (stop.Bad rule) a b seat rs ps now es out h d n = comes_lead a b seat _ _ _ es out h (and_leaves rs d) (and_leaving rs n)
+goes_lead stop.TooLong a b seat rs ps now es out h d n = comes_lead a b seat _ _ _ es out h (and_leaves rs d) (and_leaving rs n)
+goes_lead stop.Unbuilt a b seat rs ps now es out h d n = absurd h
 
 data_leads : (o : Option Standing) (a b : Scene) (seat : ℕ) (bytes : List ℕ) (es : List Entry) (out : List (List ℕ)) → DataDoes a seat bytes o es out b → Leads a es b
 data_leads None a b seat bytes es out h = passes_lead a b es out h

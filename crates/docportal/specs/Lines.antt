@@ -10,8 +10,8 @@ use Rattle.script_form.specs.declared.script.ScriptLine.{ScriptLine}
 use Rattle.script_form.specs.declared.script.ScriptLine.TheVariants.{File, Doc, Fail, Word, Now, Open, Data, Close}
 use Rattle.script_form.specs.declared.script.ScriptLine.TheVariants as line
 use Rattle.session.specs.declared.act.Act.{Act}
-use Rattle.session.specs.declared.served.Rest.{Rest}
-use Rattle.session.specs.declared.served.Rest.TheVariants as rest
+use Rattle.session.specs.declared.served.Stop.{Stop}
+use Rattle.session.specs.declared.served.Stop.TheVariants as stop
 use Rattle.session.specs.declared.served.Served.TheVariants as served
 use Rattle.session.specs.Answers.{Answers}
 use Rattle.session.specs.Asked.{requests_of}
@@ -26,7 +26,7 @@ use Rattle.docportal.specs.Texts.{out_line, end_line}
 
 -- Bytes come behind the rest of a connection: the items that are whole now ask these requests and
 -- are answered by these pieces, this stands behind them, and the session goes on so.
-pub record Hears (s : State) (seat : ℕ) (at : Standing) (bytes : List ℕ) (what : Rest)
+pub record Hears (s : State) (seat : ℕ) (at : Standing) (bytes : List ℕ) (what : Stop)
     (requests : List Request) (pieces : List (List ℕ)) (now : Standing) : Type 0 where
   pub items : List (List ℕ)
   pub acts : List Act
@@ -55,26 +55,26 @@ pub record Comes (a : Scene) (seat : ℕ) (requests : List Request) (lines : Lis
 -- A connection whose bytes end between items goes on; one with an item that breaks a rule, or with
 -- a line that is too long, ends by itself and leaves. A request that isn't built isn't asked, and
 -- bytes that end inside an item are no line that is built.
-abbrev pub Goes : Scene → ℕ → Rest → List Request → List (List ℕ) → Standing → List Entry
+abbrev pub Goes : Scene → ℕ → Stop → List Request → List (List ℕ) → Standing → List Entry
     → List (List ℕ) → Scene → Type 0
-Goes a seat rest.More requests pieces now entries out b =
+Goes a seat stop.More requests pieces now entries out b =
     (now.rest ≡ []) × Comes a seat requests (map (out_line seat) pieces) (Some now) entries out b
-Goes a seat (rest.Bad rule) requests pieces now entries out b =
+Goes a seat (stop.Bad rule) requests pieces now entries out b =
     Comes a seat (requests ++ Request.Leave ∷ [])
     (map (out_line seat) pieces ++ end_line seat (served.Malformed now.before rule) ∷ []) None
     entries out b
-Goes a seat rest.TooLong requests pieces now entries out b =
+Goes a seat stop.TooLong requests pieces now entries out b =
     Comes a seat (requests ++ Request.Leave ∷ [])
     (map (out_line seat) pieces ++ end_line seat (served.LineTooLong now.before) ∷ []) None
     entries out b
-Goes a seat rest.Unbuilt requests pieces now entries out b = ⊥
+Goes a seat stop.Unbuilt requests pieces now entries out b = ⊥
 
 -- Data for a connection that ended by itself is passed over.
 abbrev pub DataDoes : Scene → ℕ → List ℕ → Option Standing → List Entry → List (List ℕ) → Scene
     → Type 0
 DataDoes a seat bytes None entries out b = Passes a entries out b
 DataDoes a seat bytes (Some at) entries out b =
-    (what : Rest) × (requests : List Request) × (pieces : List (List ℕ)) × (now : Standing)
+    (what : Stop) × (requests : List Request) × (pieces : List (List ℕ)) × (now : Standing)
     × Hears a.portal seat at bytes what requests pieces now
     × Goes a seat what requests pieces now entries out b
 
@@ -103,18 +103,18 @@ Does a (Close seat) entries out b = CloseDoes a seat (a.sessions seat) entries o
 -- ---- a line that isn't built
 
 -- bytes that end inside an item, or at a request that isn't built
-abbrev pub IsUnbuiltRest : Rest → List ℕ → Type 0
-IsUnbuiltRest rest.More left = left ≢ []
-IsUnbuiltRest (rest.Bad rule) left = ⊥
-IsUnbuiltRest rest.TooLong left = ⊥
-IsUnbuiltRest rest.Unbuilt left = Unit {0}
+abbrev pub IsUnbuiltStop : Stop → List ℕ → Type 0
+IsUnbuiltStop stop.More left = left ≢ []
+IsUnbuiltStop (stop.Bad rule) left = ⊥
+IsUnbuiltStop stop.TooLong left = ⊥
+IsUnbuiltStop stop.Unbuilt left = Unit {0}
 
 abbrev pub DataIsUnbuilt : List ℕ → Option Standing → Type 0
 DataIsUnbuilt bytes None = ⊥
 DataIsUnbuilt bytes (Some at) =
-    (items : List (List ℕ)) × (acts : List Act) × (left : List ℕ) × (what : Rest)
+    (items : List (List ℕ)) × (acts : List Act) × (left : List ℕ) × (what : Stop)
     × Items at.client at.stage.phase (at.rest ++ bytes) items acts left what
-    × IsUnbuiltRest what left
+    × IsUnbuiltStop what left
 
 -- a line that needs a part which isn't built
 abbrev pub IsUnbuilt : Scene → ScriptLine → Type 0

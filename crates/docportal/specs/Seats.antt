@@ -11,8 +11,8 @@ use Rattle.portal_model.specs.Opening.{opened}
 use Rattle.portal_model.specs.Seated.{Seated}
 use Rattle.session.specs.declared.served.Fed.{Fed}
 use Rattle.session.specs.declared.served.Fed.TheVariants as fed
-use Rattle.session.specs.declared.served.Rest.{Rest}
-use Rattle.session.specs.declared.served.Rest.TheVariants as rest
+use Rattle.session.specs.declared.served.Stop.{Stop}
+use Rattle.session.specs.declared.served.Stop.TheVariants as stop
 use Rattle.session.specs.declared.served.Served.{Served}
 use Rattle.session.specs.declared.served.Served.TheVariants as served
 use Rattle.session.specs.Answers.{Outcome}
@@ -21,7 +21,7 @@ use Rattle.session.specs.Ledger.{World, world}
 use Rattle.session.specs.Sessions.{Feeds, FeedsOver}
 use Rattle.session.specs.Standings.{Standing}
 use Rattle.docportal.specs.declared.error.LineError.{LineError}
-use Rattle.docportal.specs.declared.error.LineError.TheVariants as stop
+use Rattle.docportal.specs.declared.error.LineError.TheVariants as not_run
 use Rattle.docportal.specs.Entries.{entries_for}
 use Rattle.docportal.specs.Lines.{Hears, DataIsUnbuilt}
 
@@ -38,7 +38,7 @@ abbrev pub Asked : Story → Story → ℕ → List Request → Type 0
 Asked old new seat requests = new.history ≡ old.history ++ entries_for (state_now old) seat requests
 
 -- bytes were heard on a connection, and what they ask was asked
-abbrev pub HearsAt : Story → Story → ℕ → Standing → List ℕ → Rest → List (List ℕ) → Standing
+abbrev pub HearsAt : Story → Story → ℕ → Standing → List ℕ → Stop → List (List ℕ) → Standing
     → Type 0
 HearsAt old new seat at bytes what pieces now =
     (requests : List Request) × Hears (state_now old) seat at bytes what requests pieces now
@@ -93,19 +93,19 @@ WantsMemory fed.WriteFault refusals = Unit {0}
 WantsMemory fed.Memory refusals = Unit {0}
 
 -- an item that breaks a rule, or a line that is too long
-abbrev pub IsEnd : Rest → Type 0
-IsEnd rest.More = ⊥
-IsEnd (rest.Bad rule) = Unit {0}
-IsEnd rest.TooLong = Unit {0}
-IsEnd rest.Unbuilt = ⊥
+abbrev pub IsEnd : Stop → Type 0
+IsEnd stop.More = ⊥
+IsEnd (stop.Bad rule) = Unit {0}
+IsEnd stop.TooLong = Unit {0}
+IsEnd stop.Unbuilt = ⊥
 
 -- bytes were heard, and the connection goes on between items, or is over
 abbrev pub HeardAs : Bool → Story → Story → ℕ → Standing → List ℕ → List (List ℕ) → Standing
     → Type 0
 HeardAs false old new seat at bytes pieces now =
-    HearsAt old new seat at bytes rest.More pieces now × (now.rest ≡ [])
+    HearsAt old new seat at bytes stop.More pieces now × (now.rest ≡ [])
 HeardAs true old new seat at bytes pieces now =
-    (what : Rest) × IsEnd what × HearsAt old new seat at bytes what pieces now
+    (what : Stop) × IsEnd what × HearsAt old new seat at bytes what pieces now
 
 -- what a session of a script meets: an item that breaks a rule, a line that is too long, or a
 -- request that isn't built
@@ -123,7 +123,7 @@ is_last other = false
 
 -- why bytes were not heard
 abbrev pub HearsNot : Story → Story → ℕ → Standing → List ℕ → Standing → LineError → Type 0
-HearsNot old new seat at bytes now stop.Unbuilt = DataIsUnbuilt bytes (Some at)
-HearsNot old new seat at bytes now stop.WriteFault = ⊥
-HearsNot old new seat at bytes now stop.Memory =
+HearsNot old new seat at bytes now not_run.Unbuilt = DataIsUnbuilt bytes (Some at)
+HearsNot old new seat at bytes now not_run.WriteFault = ⊥
+HearsNot old new seat at bytes now not_run.Memory =
     (refusals : ℕ) × Unfilled old new seat at bytes now refusals × WantsMemory now.fed refusals

@@ -58,6 +58,9 @@ fn command_of_two(first: &[u8], second: &[u8]) -> Option<Command>
 }
 
 /// Whether a word is an application's name.
+///
+/// `AppId::read` tells it too, but may want memory, and then not whether the word
+/// is one.
 #[tactic(auto, unfolding(portal_base::specs::Names::is_app_name))]
 fn is_app_name(word: &[u8]) -> bool
     ensures { result ≡ is_name word.now }

@@ -9,10 +9,10 @@ use portal_base::outside::{ReadAnswer, Source};
 use std::alloc::Global;
 
 /// The most bytes that a script may have.
-pub const LONGEST: usize = 67_108_864;
+pub const LONGEST_SCRIPT: usize = 67_108_864;
 
 /// How many bytes are asked of the source at a time.
-const PIECE: usize = 4096;
+const LONGEST_READ: usize = 4096;
 
 /// Why an input is not read to its end.
 #[derive(Clone, Copy, Debug, PartialEq, Eq)]
@@ -45,7 +45,7 @@ pub fn read_to_end<S: Source>(alloc: Global, source: &mut S) -> Result<ByteList,
         (S.faults source.new)) }
 {
     let mut text = List::new(alloc);
-    let mut buffer = [0; PIECE];
+    let mut buffer = [0; LONGEST_READ];
     'pieces: loop {
         match source.read(&mut buffer) {
             ReadAnswer::End => return Ok(text),
@@ -57,7 +57,7 @@ pub fn read_to_end<S: Source>(alloc: Global, source: &mut S) -> Result<ByteList,
                 };
             }
         }
-        if text.len() > LONGEST {
+        if text.len() > LONGEST_SCRIPT {
             return Err(InputError::TooLong);
         }
     }

@@ -1,4 +1,24 @@
 //! The document portal and permission store of a desktop, in one program.
+//!
+//! **It promises** (`run`) that at `Done` the output is the one that the script
+//! has, over one legal history, and that the replies to each application are those
+//! of its own machine over its trace; and that each other status but want of memory
+//! has its cause.
+//!
+//! | Room | Holds |
+//! |---|---|
+//! | `command`, `settings` | the words of the program, and what a run is set to |
+//! | `input`, `output` | the input, read to its end; the lines of the output |
+//! | `run`, `status` | the whole of a run, and how it ends |
+//! | `replay` | a script's lines, one after another |
+//! | `line`, `error` | one line, and why it isn't run |
+//! | `seats`, `connections` | the sessions of a script, each at its seat of the portal |
+//!
+//! ```text
+//! let status = run(alloc, words, &mut source, &mut sink);    // Done, Usage, ..
+//! ```
+//!
+//! `docs/scripts.md` says what it reads and prints, `docs/statuses.md` how it ends.
 #![tactic(auto)]
 
 mod command;

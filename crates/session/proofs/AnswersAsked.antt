@@ -10,7 +10,7 @@ use Rattle.session.specs.declared.act.Act.{Act}
 use Rattle.session.specs.declared.act.Act.TheVariants.{Nothing, Line, Call, Node, Local}
 use Rattle.session.specs.declared.phase.Phase.{Phase}
 use Rattle.session.specs.declared.phase.Phase.TheVariants as due
-use Rattle.session.specs.declared.served.Rest.TheVariants as rest
+use Rattle.session.specs.declared.served.Stop.TheVariants as stop
 use Rattle.session.specs.Answers.{Answers, AreOf, Denied, Made, Outcome, frames_for, pieces_of, told_as}
 use Rattle.session.specs.Asked.{asked_by, requests_of}
 use Rattle.session.specs.Cuts.{Cuts, no_item}
@@ -44,7 +44,7 @@ answer_asked = record {
 -- ---- the empty stream
 
 -- nothing is too few bytes
-pub nothing : (p : Phase) → Cuts p [] (no_item rest.More)
+pub nothing : (p : Phase) → Cuts p [] (no_item stop.More)
 nothing due.ZeroByte = refl
 nothing (due.Handshake h) = refl
 nothing due.Messages = (split.More, inl (omega arith), refl)

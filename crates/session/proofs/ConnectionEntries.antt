@@ -15,12 +15,12 @@ use Rattle.portal_model.proofs.Histories.{of_seat-append, run-append}
 use Rattle.portal_model.proofs.SeatLaws.{begins-between, exchanges-entries, run-bound}
 use Rattle.session.specs.declared.act.Act.{Act}
 use Rattle.session.specs.declared.act.Client.{Client}
-use Rattle.session.specs.declared.served.Rest.{Rest}
+use Rattle.session.specs.declared.served.Stop.{Stop}
 use Rattle.session.specs.declared.served.Served.{Served}
 use Rattle.session.specs.declared.served.Served.TheVariants as served
 use Rattle.session.specs.Answers.{Answers, Denied, Made, Outcome, kept}
 use Rattle.session.specs.Asked.{asked_by, requests_of}
-use Rattle.session.specs.Connections.{Encloses, EndsAs, Front, Half, IsRefused, Serves, Whole, between}
+use Rattle.session.specs.Connections.{Answered, Enclosed, Encloses, EndsAs, Front, Half, IsRefused, Serves, Whole, between}
 use Rattle.session.specs.Cuts.{first_phase}
 use Rattle.session.specs.Hearing.{IsHeard}
 use Rattle.session.specs.Isolation.{IsIsolated}
@@ -53,21 +53,27 @@ answers_fit c items acts n os ps each a = are_fit (requests_of acts) c.kind os (
 abbrev pub Connects : Client → Seated → Seated → Type 0
 Connects c v w = (os : List Outcome) × Grew v os w × AreEnclosed c (entries_of (kept os))
 
-whole_connects : (c : Client) (read left : List ℕ) (what : Rest) (v w : World) → Whole c read left what v w → Connects c v.seated w.seated
-whole_connects c read left what v w k = (between k.entered k.outcomes k.leaving, k.grows.desk, between_enclosed c k.entered k.leaving k.outcomes k.encloses (answers_fit c k.items k.acts k.last k.outcomes k.pieces k.cut.each k.answers))
+answered_connect : (c : Client) (k : Answered c) (v w : World) → Enclosed c k.outcomes k.pieces v w → Connects c v.seated w.seated
+answered_connect c k v w a =
+    let fit = answers_fit c k.items k.acts k.last k.outcomes k.pieces k.each k.answers in
+    (between a.entered k.outcomes a.leaving, a.grows.desk, between_enclosed c a.entered a.leaving k.outcomes a.encloses fit)
+
+whole_connects : (c : Client) (read left : List ℕ) (what : Stop) (v w : World) → Whole c read left what v w → Connects c v.seated w.seated
+whole_connects c read left what v w k = answered_connect c k.all v w k.asked
 
 front_connects : (c : Client) (read : List ℕ) (v w : World) → Front c read v w → Connects c v.seated w.seated
-front_connects c read v w k = (between k.entered k.outcomes k.leaving, k.grows.desk, between_enclosed c k.entered k.leaving k.outcomes k.encloses (answers_fit c k.items k.acts k.last k.outcomes k.pieces k.each k.answers))
+front_connects c read v w k = answered_connect c k.first v w k.asked
 
 half_connects : (c : Client) (read : List ℕ) (v w : World) → Half c read v w → Connects c v.seated w.seated
 half_connects c read v w k =
     let first = k.first in
     let last = k.then in
+    let asked = k.asked in
     let due = phase_after c (first_phase c.kind) first.items in
     let speaks = after_speaks first.items c.kind c (first_phase c.kind) (first_speaks c.kind) in (
-      between k.entered (first.outcomes ++ last.outcomes) k.leaving,
-      k.grows.desk,
-      between_enclosed c k.entered k.leaving (first.outcomes ++ last.outcomes) k.encloses
+      between asked.entered (first.outcomes ++ last.outcomes) asked.leaving,
+      asked.grows.desk,
+      between_enclosed c asked.entered asked.leaving (first.outcomes ++ last.outcomes) asked.encloses
           (fit_on c.kind first.outcomes last.outcomes (answers_fit c first.items first.acts first.last first.outcomes first.pieces first.each first.answers)
           (are_fit (asked_by last.act) c.kind last.outcomes (act_fits c.kind c due last.item last.act speaks last.is_item.1) last.gives.asked)),
     )

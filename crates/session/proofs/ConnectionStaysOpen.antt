@@ -17,8 +17,8 @@ use Rattle.session.specs.declared.act.Client.{Client}
 use Rattle.session.specs.declared.served.Fed.{Fed}
 use Rattle.session.specs.declared.served.Fed.TheVariants as fed
 use Rattle.session.specs.declared.serve.Stage.{Stage}
-use Rattle.session.specs.declared.served.Rest.{Rest}
-use Rattle.session.specs.declared.served.Rest.TheVariants as rest
+use Rattle.session.specs.declared.served.Stop.{Stop}
+use Rattle.session.specs.declared.served.Stop.TheVariants as stop
 use Rattle.session.specs.declared.served.Served.{Served}
 use Rattle.session.specs.declared.served.Served.TheVariants as served
 use Rattle.session.specs.Answers.{Answers, AreOf, Denied, Gives, IsOf, Made, Outcome, kept}
@@ -115,13 +115,13 @@ began_lets c s v w b k = did_lets c s k.mid v w k.front k.did
 none_lets : (v w : World) → w ≡ v → Lets v.seated w.seated
 none_lets v w e = ([], subst (λ (z : World). Grew v.seated [] z.seated) (sym e) (grew_none v.seated), leaves_none)
 
-takes_let : (what : Rest) (s : Standing) (v : World) (piece : List ℕ) (t : Standing) (w : World) → TakesUpTo what s v piece t w → Lets v.seated w.seated
+takes_let : (what : Stop) (s : Standing) (v : World) (piece : List ℕ) (t : Standing) (w : World) → TakesUpTo what s v piece t w → Lets v.seated w.seated
 takes_let what s v piece t w h = did_lets s.client s.stage t.stage v w h.taken h.did
 
 over_lets : (met : Served) (s : Standing) (v : World) (piece : List ℕ) (t : Standing) (w : World) → FeedsOver s v piece met t w → Lets v.seated w.seated
-over_lets (served.Malformed at rule) s v piece t w h = takes_let (rest.Bad rule) s v piece t w h.0
-over_lets (served.LineTooLong at) s v piece t w h = takes_let rest.TooLong s v piece t w h.0
-over_lets (served.Unbuilt at) s v piece t w h = takes_let rest.Unbuilt s v piece t w h.0
+over_lets (served.Malformed at rule) s v piece t w h = takes_let (stop.Bad rule) s v piece t w h.0
+over_lets (served.LineTooLong at) s v piece t w h = takes_let stop.TooLong s v piece t w h.0
+over_lets (served.Unbuilt at) s v piece t w h = takes_let stop.Unbuilt s v piece t w h.0
 over_lets served.Spent s v piece t w h = none_lets v w h.1
 over_lets served.Ended s v piece t w h = absurd h
 over_lets (served.Cut n) s v piece t w h = absurd h
@@ -131,7 +131,7 @@ over_lets (served.Full cost limit) s v piece t w h = absurd h
 over_lets served.Memory s v piece t w h = absurd h
 
 pub feeds_let : (r : Fed) (s : Standing) (v : World) (piece : List ℕ) (t : Standing) (w : World) → FeedsOpen s v piece r t w → Lets v.seated w.seated
-feeds_let fed.More s v piece t w h = takes_let rest.More s v piece t w h.0
+feeds_let fed.More s v piece t w h = takes_let stop.More s v piece t w h.0
 feeds_let (fed.Over met) s v piece t w h = over_lets met s v piece t w h.0
 feeds_let fed.WriteFault s v piece t w h = broke_lets s.client s.stage v w (s.rest ++ piece) h.0
 feeds_let fed.Memory s v piece t w (inl h, keeps, room) = none_lets v w h.0

@@ -3,8 +3,8 @@ use Rattle.std.proofs.Common.{◌≡◌, ℕ, ◌+◌, ◌≤◌, List, [], ◌+
 use Rattle.std.proofs.lemmas.List.{append-nil, length-append}
 use Rattle.std.specs.Prelude.{IfSome}
 use Rattle.session.specs.declared.act.Client.{Client}
-use Rattle.session.specs.declared.served.Rest.{Rest}
-use Rattle.session.specs.declared.served.Rest.TheVariants as rest
+use Rattle.session.specs.declared.served.Stop.{Stop}
+use Rattle.session.specs.declared.served.Stop.TheVariants as stop
 use Rattle.session.specs.declared.served.Served.{Served}
 use Rattle.session.specs.declared.served.Served.TheVariants as served
 use Rattle.session.specs.Connections.{EndsAs, Whole}
@@ -18,20 +18,12 @@ use Rattle.session.proofs.EndsStay.{ends_stay}
 
 module _ (c : Client) (a b : Spring) (v w : World) (stream read more : List ℕ) (parts : stream ≡ read ++ more) (fits : length stream ≤ longest) where
   -- what ends the items that were read ends those of the stream
-  over_stream : (left : List ℕ) (what : Rest) → IsOver what → Whole c read left what v w → Whole c stream (left ++ more) what v w
+  over_stream : (left : List ℕ) (what : Stop) → IsOver what → Whole c read left what v w → Whole c stream (left ++ more) what v w
   over_stream left what over k = subst (λ (z : List ℕ). Whole c z (left ++ more) what v w) (sym parts) (record {
     room = subst (λ (z : List ℕ). length z ≤ longest) parts fits;
-    entered = k.entered;
-    leaving = k.leaving;
-    items = k.items;
-    acts = k.acts;
-    outcomes = k.outcomes;
-    pieces = k.pieces;
-    last = k.last;
-    cut = ends_stay c (first_phase c.kind) read more k.items k.acts left what k.cut over;
-    answers = k.answers;
-    encloses = k.encloses;
-    grows = k.grows;
+    all = k.all;
+    cut = ends_stay c (first_phase c.kind) read more k.all.items k.all.acts left what k.cut over;
+    asked = k.asked;
     sound = k.sound;
   })
 
@@ -45,11 +37,11 @@ module _ (c : Client) (a b : Spring) (v w : World) (stream read more : List ℕ)
       sym (parts ∙ (ap (λ (z : List ℕ). read ++ z) none ∙ append-nil read))
 
   of_stream : (r : Served) → b.left ≡ Some more → EndsAs c r read a b v w → OfStream c r stream v w
-  of_stream served.Ended told h = subst (λ (z : List ℕ). Whole c z [] rest.More v w) (all_read told h.0) h.1
-  of_stream (served.Cut n) told h = (h.2.0, h.2.1, subst (λ (z : List ℕ). Whole c z h.2.0 rest.More v w) (all_read told h.0) h.2.2)
-  of_stream (served.Malformed at rule) told h = (h.0 ++ more, at_stream at h.0 h.1, over_stream h.0 (rest.Bad rule) tt h.2)
-  of_stream (served.LineTooLong at) told h = (h.0 ++ more, at_stream at h.0 h.1, over_stream h.0 rest.TooLong tt h.2)
-  of_stream (served.Unbuilt at) told h = (h.0 ++ more, at_stream at h.0 h.1, over_stream h.0 rest.Unbuilt tt h.2)
+  of_stream served.Ended told h = subst (λ (z : List ℕ). Whole c z [] stop.More v w) (all_read told h.0) h.1
+  of_stream (served.Cut n) told h = (h.2.0, h.2.1, subst (λ (z : List ℕ). Whole c z h.2.0 stop.More v w) (all_read told h.0) h.2.2)
+  of_stream (served.Malformed at rule) told h = (h.0 ++ more, at_stream at h.0 h.1, over_stream h.0 (stop.Bad rule) tt h.2)
+  of_stream (served.LineTooLong at) told h = (h.0 ++ more, at_stream at h.0 h.1, over_stream h.0 stop.TooLong tt h.2)
+  of_stream (served.Unbuilt at) told h = (h.0 ++ more, at_stream at h.0 h.1, over_stream h.0 stop.Unbuilt tt h.2)
   of_stream served.ReadFault told h = tt
   of_stream served.WriteFault told h = tt
   of_stream served.Spent told h = tt

@@ -3,8 +3,8 @@ use Rattle.std.proofs.Common.{◌≡◌, ℕ, ◌+◌, ◌≤◌, List, ◌++◌
 use Rattle.std.proofs.lemmas.List.{length-append, length-drop, length-take, take-append-drop}
 use Rattle.session.specs.declared.served.Fed.{Fed}
 use Rattle.session.specs.declared.served.Fed.TheVariants as fed
-use Rattle.session.specs.declared.served.Rest.{Rest}
-use Rattle.session.specs.declared.served.Rest.TheVariants as rest
+use Rattle.session.specs.declared.served.Stop.{Stop}
+use Rattle.session.specs.declared.served.Stop.TheVariants as stop
 use Rattle.session.specs.Items.{Remains}
 use Rattle.session.specs.Ledger.{Did, World}
 use Rattle.session.specs.Sessions.{Feeds, FeedsOpen, TakesUpTo, fed_of}
@@ -13,7 +13,7 @@ use Rattle.session.specs.Standings.{Standing, longest}
 pub feeds_open : (s : Standing) (v : World) (piece : List ℕ) (r : Fed) (t : Standing) (w : World) → s.fed ≡ fed.More → FeedsOpen s v piece r t w → Feeds s.fed s v piece r t w
 feeds_open s v piece r t w e h = subst (λ (o : Fed). Feeds o s v piece r t w) (sym e) h
 
-pub takes : (what : Rest) (s : Standing) (v w : World) (piece bytes : List ℕ) (len : ℕ) (t : Standing)
+pub takes : (what : Stop) (s : Standing) (v w : World) (piece bytes : List ℕ) (len : ℕ) (t : Standing)
     → bytes ≡ s.rest ++ piece → len ≤ length bytes → Did s.client s.stage v (take len bytes) t.stage w → Remains s.client t.stage.phase (drop len bytes) what
     → t.before ≡ s.before + len → t.rest ≡ drop len bytes → t.client ≡ s.client → s.before + length s.rest + length piece ≤ longest → TakesUpTo what s v piece t w
 takes what s v w piece bytes len t b within did remains before left client room =
@@ -31,8 +31,8 @@ takes what s v w piece bytes len t b within did remains before left client room 
       room = omega (arith, length-append s.rest piece, k, d, r, before, within, room);
     }
 
-pub feeds_rest : (what : Rest) (s : Standing) (v : World) (piece : List ℕ) (t : Standing) (w : World) → TakesUpTo what s v piece t w → t.fed ≡ fed_of t.before what → FeedsOpen s v piece (fed_of t.before what) t w
-feeds_rest rest.More s v piece t w h e = (h, (e, h.client))
-feeds_rest (rest.Bad rule) s v piece t w h e = ((h, refl), (e, h.client))
-feeds_rest rest.TooLong s v piece t w h e = ((h, refl), (e, h.client))
-feeds_rest rest.Unbuilt s v piece t w h e = ((h, refl), (e, h.client))
+pub feeds_rest : (what : Stop) (s : Standing) (v : World) (piece : List ℕ) (t : Standing) (w : World) → TakesUpTo what s v piece t w → t.fed ≡ fed_of t.before what → FeedsOpen s v piece (fed_of t.before what) t w
+feeds_rest stop.More s v piece t w h e = (h, (e, h.client))
+feeds_rest (stop.Bad rule) s v piece t w h e = ((h, refl), (e, h.client))
+feeds_rest stop.TooLong s v piece t w h e = ((h, refl), (e, h.client))
+feeds_rest stop.Unbuilt s v piece t w h e = ((h, refl), (e, h.client))

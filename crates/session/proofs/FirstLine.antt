@@ -1,21 +1,21 @@
 -- The first line, sought from the front.
-use Rattle.std.proofs.Common.{◌≡◌, ℕ, suc, ◌+◌, ◌≤◌, ◌<◌, List, ◌∷◌, length, drop, take, ◌-◌, get_or, Bool, true, false, cond, Option, Some, None, refl, sym, ap, ◌∙◌, arith}
-use Rattle.std.proofs.lemmas.List.{drop_more, drop_all, take_all, take_min, length-drop}
+use Rattle.std.proofs.Common.{◌≡◌, ℕ, zero, suc, ◌+◌, ◌≤◌, ◌<◌, List, ◌∷◌, length, drop, take, get_or, Bool, true, false, cond, Option, Some, None, refl, sym, ap, ◌∙◌, subst, inl, inr, arith}
+use Rattle.std.proofs.lemmas.Bool.{cases_Bool}
+use Rattle.std.proofs.lemmas.List.{drop_more, drop_all, take_min, length-drop, length-take}
+use Rattle.std.proofs.lemmas.Slice.Eq.{bytes_eq-Decides}
 use Rattle.std.specs.Prelude.{nat_eq, nat_lt, min}
 use Rattle.std.specs.List.{starts_with}
 use Rattle.std.specs.Option.{option_map}
 use Rattle.dbus_auth.specs.Reply.{cr_lf}
+use Rattle.memchr.specs.Find.{FindsNeedle, OccursAt}
+use Rattle.memchr.proofs.lemmas.MatchLemmas.{OccursAt-part, OccursAt-from_part}
 use Rattle.session.specs.Cuts.{line_cut, line_cut_of, line_len}
 
 -- the length of a line that is found this far behind the front
 abbrev pub line_behind : ℕ → Option ℕ → Option ℕ
 line_behind at found = option_map (λ n. n + at) found
 
--- the slice behind the front
-pub slice_behind : (b : List ℕ) (i : ℕ) → take (length b - i) (drop i b) ≡ drop i b
-slice_behind b i = take_all (length b - i) (drop i b) (omega (arith, length-drop i b))
-
-pub behind_none : (o : Option ℕ) → o ≡ line_behind 0 o
+behind_none : (o : Option ℕ) → o ≡ line_behind 0 o
 behind_none None = refl
 behind_none (Some n) = let e : n ≡ n + 0 = omega arith in ap Some e
 
@@ -30,19 +30,51 @@ line_later : (b : List ℕ) (x : ℕ) (xs : List ℕ) → b ≡ x ∷ xs → sta
 line_later b x xs e f = ap line_len e ∙ ap (λ (z : Bool). cond z (Some 2) (option_map suc (line_len xs))) (ap (λ (z : List ℕ). starts_with nat_eq z cr_lf) (sym e) ∙ f)
 
 -- CR LF stands here
-pub found_here : (b : List ℕ) (i : ℕ) → i < length b → line_len b ≡ line_behind i (line_len (drop i b)) → starts_with nat_eq (drop i b) cr_lf ≡ true → Some (i + 2) ≡ line_len b
+found_here : (b : List ℕ) (i : ℕ) → i < length b → line_len b ≡ line_behind i (line_len (drop i b)) → starts_with nat_eq (drop i b) cr_lf ≡ true → Some (i + 2) ≡ line_len b
 found_here b i h inv f =
     let e : 2 + i ≡ i + 2 = omega arith in
     sym (inv ∙ (ap (line_behind i) (line_here (drop i b) (get_or b i 0) (drop (i + 1) b) (drop_more b i 0 h) f) ∙ ap Some e))
 
 -- and doesn't stand here
-pub sought_on : (b : List ℕ) (i : ℕ) → i < length b → line_len b ≡ line_behind i (line_len (drop i b)) → starts_with nat_eq (drop i b) cr_lf ≡ false → line_len b ≡ line_behind (i + 1) (line_len (drop (i + 1) b))
+sought_on : (b : List ℕ) (i : ℕ) → i < length b → line_len b ≡ line_behind i (line_len (drop i b)) → starts_with nat_eq (drop i b) cr_lf ≡ false → line_len b ≡ line_behind (i + 1) (line_len (drop (i + 1) b))
 sought_on b i h inv f =
     inv ∙ (ap (line_behind i) (line_later (drop i b) (get_or b i 0) (drop (i + 1) b) (drop_more b i 0 h) f) ∙ behind_more (line_len (drop (i + 1) b)) i)
 
 -- nor anywhere
-pub found_nowhere : (b : List ℕ) (i : ℕ) → length b ≤ i → line_len b ≡ line_behind i (line_len (drop i b)) → None ≡ line_len b
+found_nowhere : (b : List ℕ) (i : ℕ) → length b ≤ i → line_len b ≡ line_behind i (line_len (drop i b)) → None ≡ line_len b
 found_nowhere b i h inv = sym (inv ∙ ap (λ (z : List ℕ). line_behind i (line_len z)) (drop_all i b h))
+
+-- whether the bytes from here on begin with CR LF is whether it occurs here
+occurs : (b : List ℕ) (i : ℕ) → starts_with nat_eq (drop i b) cr_lf ≡ true → OccursAt b cr_lf i
+occurs b i s =
+    let part : take 2 (drop i b) ≡ cr_lf = sym ((bytes_eq-Decides cr_lf (take 2 (drop i b))).0 s) in
+    let two : length (take 2 (drop i b)) ≡ 2 = ap length part in
+    let fits : i + 2 ≤ length b = omega (arith, two, length-take 2 (drop i b), length-drop i b) in
+    OccursAt-from_part b cr_lf i fits part
+
+stands : (b : List ℕ) (i : ℕ) → OccursAt b cr_lf i → starts_with nat_eq (drop i b) cr_lf ≡ true
+stands b i o = (bytes_eq-Decides cr_lf (take 2 (drop i b))).1 (sym (OccursAt-part b cr_lf i o))
+
+misses : (b : List ℕ) (i : ℕ) → (OccursAt b cr_lf i → ⊥) → starts_with nat_eq (drop i b) cr_lf ≡ false
+misses b i never = elim (cases_Bool (starts_with nat_eq (drop i b) cr_lf)) [ inl t ↦ absurd (never (occurs b i t)) | inr f ↦ f ]
+
+-- CR LF occurs nowhere ahead of here
+sought_to : (b : List ℕ) (k : ℕ) → k ≤ length b → ((i : ℕ) → i < k → OccursAt b cr_lf i → ⊥) → line_len b ≡ line_behind k (line_len (drop k b))
+sought_to b zero h none = behind_none (line_len b)
+sought_to b (suc k) h none =
+    let next : k + 1 ≡ suc k = omega arith in
+    let before = sought_to b k (omega (arith, h)) (λ i l. none i (omega (arith, l))) in
+    subst (λ (n : ℕ). line_len b ≡ line_behind n (line_len (drop n b))) next (sought_on b k (omega (arith, h)) before (misses b k (none k (omega arith))))
+
+-- the first line ends with the first CR LF
+pub line_to_first : (b : List ℕ) (at : ℕ) → FindsNeedle b cr_lf 0 (Some at) → Some (at + 2) ≡ line_len b
+line_to_first b at h =
+    let fits : at + 2 ≤ length b = h.1.fits in
+    found_here b at (omega (arith, fits)) (sought_to b at (omega (arith, fits)) (λ i l. h.0.before i (omega arith) l)) (stands b at h.1)
+
+-- and without one there is no line
+pub no_line_end : (b : List ℕ) → FindsNeedle b cr_lf 0 None → None ≡ line_len b
+no_line_end b h = found_nowhere b (length b) (omega arith) (sought_to b (length b) (omega arith) (λ i l. h i (omega arith) (omega (arith, l))))
 
 -- a line of at most 1,024 bytes, from the first line among as many
 pub line_cut_found : (b : List ℕ) (r : ℕ) (o : Option ℕ) (t : Bool) → r ≡ min 1024 (length b) → o ≡ line_len (take r b) → t ≡ nat_lt (length b) 1024 → line_cut_of o t ≡ line_cut b

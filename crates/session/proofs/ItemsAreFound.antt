@@ -26,8 +26,8 @@ use Rattle.session.specs.declared.act.Client.{Client}
 use Rattle.session.specs.declared.act.ItemError.TheVariants.{Breaks, Unbuilt}
 use Rattle.session.specs.declared.phase.Phase.{Phase}
 use Rattle.session.specs.declared.phase.Phase.TheVariants as due
-use Rattle.session.specs.declared.served.Rest.{Rest}
-use Rattle.session.specs.declared.served.Rest.TheVariants as rest
+use Rattle.session.specs.declared.served.Stop.{Stop}
+use Rattle.session.specs.declared.served.Stop.TheVariants as stop
 use Rattle.session.specs.Asked.{Means, act_of_ask, act_of_frame, is_built, is_host, line_act, node_act, reply_to}
 use Rattle.session.specs.Cuts.{Cut, Cuts, cut_of, line_cut, line_of, next_phase, whole_item, zero_byte_cut}
 use Rattle.session.specs.Items.{AreItems, IsItem, Items, Remains, joined, phase_after}
@@ -83,9 +83,9 @@ a_meaning c due.Frames item fits h = frame_means c item (frame_ask_of item) refl
 -- ---- the items of a stream
 
 abbrev Found : Client → Phase → List ℕ → Type 0
-Found c p stream = (items : List (List ℕ)) × (acts : List Act) × (left : List ℕ) × (what : Rest) × Items c p stream items acts left what
+Found c p stream = (items : List (List ℕ)) × (acts : List Act) × (left : List ℕ) × (what : Stop) × Items c p stream items acts left what
 
-found_none : (c : Client) (p : Phase) (stream : List ℕ) (what : Rest) → Remains c p stream what → Found c p stream
+found_none : (c : Client) (p : Phase) (stream : List ℕ) (what : Stop) → Remains c p stream what → Found c p stream
 found_none c p stream what h = ([], [], stream, what, record { bytes = refl; each = refl; remains = h })
 
 found_one : (c : Client) (p : Phase) (stream item later : List ℕ) (act : Act) → stream ≡ item ++ later → IsItem c p item act → Found c (next_phase c p item) later → Found c p stream
@@ -113,8 +113,8 @@ found_at c p stream (Ok len) fits h next =
     elim (a_meaning c p (take len stream) (All-take (λ b. b < 256) len stream fits) alone) as (λ _. Found c p stream) [
       | inl means ↦ found_one c p stream (take len stream) (drop len stream) means.0 (sym (take-append-drop len stream)) (alone, means.1) (next (next_phase c p (take len stream)) (drop len stream) (omega (arith, length-drop len stream, w.0, w.1)) (All-drop (λ b. b < 256) len stream fits))
       | inr other ↦ elim other as (λ _. Found c p stream) [
-        | inl broken ↦ found_none c p stream (rest.Bad broken.0) (inr (len, h, broken.1))
-        | inr unbuilt ↦ found_none c p stream rest.Unbuilt (len, h, unbuilt)
+        | inl broken ↦ found_none c p stream (stop.Bad broken.0) (inr (len, h, broken.1))
+        | inr unbuilt ↦ found_none c p stream stop.Unbuilt (len, h, unbuilt)
       ]
     ]
 
@@ -127,7 +127,7 @@ are_found c p stream fits = found_in (length stream) c p stream (omega arith) fi
 
 -- ---- items from the front are the first
 
-come_first : (js is : List (List ℕ)) (c : Client) (p : Phase) (ys xs : List Act) (after left : List ℕ) (what : Rest) → joined js ++ after ≡ joined is ++ left → AreItems c p js ys → AreItems c p is xs → Remains c (phase_after c p is) left what
+come_first : (js is : List (List ℕ)) (c : Client) (p : Phase) (ys xs : List Act) (after left : List ℕ) (what : Stop) → joined js ++ after ≡ joined is ++ left → AreItems c p js ys → AreItems c p is xs → Remains c (phase_after c p is) left what
     → (more : List (List ℕ)) × (later : List Act) × (is ≡ js ++ more) × (xs ≡ ys ++ later)
 come_first [] is c p ys xs after left what e a b h = (is, xs, refl, ap (λ (z : List Act). z ++ xs) (sym a))
 come_first (j ∷ js) [] c p ys xs after left what e a b h = absurd (item_rest c p left j (joined js ++ after) a.0 what (sym e ∙ append_assoc j (joined js) after) a.3 h)

@@ -14,8 +14,8 @@ use Rattle.session.specs.declared.act.ItemError.{ItemError}
 use Rattle.session.specs.declared.act.ItemError.TheVariants.{Breaks, Unbuilt, Memory}
 use Rattle.session.specs.declared.phase.Phase.{Phase}
 use Rattle.session.specs.declared.phase.Phase.TheVariants as due
-use Rattle.session.specs.declared.served.Rest.{Rest}
-use Rattle.session.specs.declared.served.Rest.TheVariants as rest
+use Rattle.session.specs.declared.served.Stop.{Stop}
+use Rattle.session.specs.declared.served.Stop.TheVariants as stop
 use Rattle.session.specs.Asked.{Means, MessageMeans, OrMemory, act_of_message, frame_act, line_act}
 use Rattle.session.specs.Cuts.{Cut, Cuts, cut_of, line_of, next_phase, no_item, whole_item}
 use Rattle.session.specs.Items.{AreItems, AsksNothing, IsItem, Remains, joined, phase_after}
@@ -68,12 +68,12 @@ one_meaning c due.Frames item r s t u h k = let e = frame_act item in told_is r 
 -- ---- one rest
 
 -- why no item stands at the front: what is cut there, or what is read of a whole item
-abbrev rest_of : Cut ⊎ ItemError → Rest
-rest_of (inl (Ok len)) = rest.More
+abbrev rest_of : Cut ⊎ ItemError → Stop
+rest_of (inl (Ok len)) = stop.More
 rest_of (inl (Err what)) = what
-rest_of (inr (Breaks rule)) = rest.Bad rule
-rest_of (inr Unbuilt) = rest.Unbuilt
-rest_of (inr Memory) = rest.More
+rest_of (inr (Breaks rule)) = stop.Bad rule
+rest_of (inr Unbuilt) = stop.Unbuilt
+rest_of (inr Memory) = stop.More
 
 abbrev IsPart : Cut → Type 0
 IsPart (Ok len) = ⊥
@@ -83,12 +83,12 @@ abbrev Stands : Client → Phase → List ℕ → Cut ⊎ ItemError → Type 0
 Stands c p b (inl found) = IsPart found × Cuts p b found
 Stands c p b (inr error) = Told (Err error) × AsksNothing c p b error
 
-stands : (c : Client) (p : Phase) (b : List ℕ) (x : Rest) → Remains c p b x → (w : Cut ⊎ ItemError) × Stands c p b w × (x ≡ rest_of w)
-stands c p b rest.More h = (inl (no_item rest.More), (tt, h), refl)
-stands c p b (rest.Bad rule) (inl h) = (inl (no_item (rest.Bad rule)), (tt, h), refl)
-stands c p b (rest.Bad rule) (inr h) = (inr (Breaks rule), (tt, h), refl)
-stands c p b rest.TooLong h = (inl (no_item rest.TooLong), (tt, h), refl)
-stands c p b rest.Unbuilt h = (inr Unbuilt, (tt, h), refl)
+stands : (c : Client) (p : Phase) (b : List ℕ) (x : Stop) → Remains c p b x → (w : Cut ⊎ ItemError) × Stands c p b w × (x ≡ rest_of w)
+stands c p b stop.More h = (inl (no_item stop.More), (tt, h), refl)
+stands c p b (stop.Bad rule) (inl h) = (inl (no_item (stop.Bad rule)), (tt, h), refl)
+stands c p b (stop.Bad rule) (inr h) = (inr (Breaks rule), (tt, h), refl)
+stands c p b stop.TooLong h = (inl (no_item stop.TooLong), (tt, h), refl)
+stands c p b stop.Unbuilt h = (inr Unbuilt, (tt, h), refl)
 
 part_whole : (found : Cut) (n : ℕ) → IsPart found → found ≡ whole_item n → ⊥
 part_whole (Ok len) n t e = t
@@ -112,7 +112,7 @@ one_standing c p b (inl x) (inr f) h k = absurd (part_whole x k.1.0 h.0 (one_cut
 one_standing c p b (inr e) (inl y) h k = absurd (part_whole y h.1.0 k.0 (one_cut p b y (whole_item h.1.0) k.1 h.1.1))
 one_standing c p b (inr e) (inr f) h k = ap inr (one_error c p b e f h.0 k.0 h.1 k.1)
 
-pub one_rest : (c : Client) (p : Phase) (b : List ℕ) (x y : Rest) → Remains c p b x → Remains c p b y → x ≡ y
+pub one_rest : (c : Client) (p : Phase) (b : List ℕ) (x y : Stop) → Remains c p b x → Remains c p b y → x ≡ y
 one_rest c p b x y h k =
     let w = stands c p b x h in
     let z = stands c p b y k in
@@ -136,7 +136,7 @@ standing_item c p i more act (inr e) is h =
     not_both act e (one_meaning c p i (Ok act) (Err e) tt h.0 is.1 means)
 
 -- where an item stands at the front, there is no rest
-pub item_rest : (c : Client) (p : Phase) (b i more : List ℕ) (act : Act) (x : Rest) → b ≡ i ++ more → IsItem c p i act → Remains c p b x → ⊥
+pub item_rest : (c : Client) (p : Phase) (b i more : List ℕ) (act : Act) (x : Stop) → b ≡ i ++ more → IsItem c p i act → Remains c p b x → ⊥
 item_rest c p b i more act x e is h =
     let w = stands c p b x h in
     standing_item c p i more act w.0 is (subst (λ (z : List ℕ). Stands c p z w.0) e w.1)
@@ -156,7 +156,7 @@ one_item c p i j m n a b e is are =
 
 -- ---- the items of a stream
 
-one_go : (is js : List (List ℕ)) (c : Client) (p : Phase) (xs ys : List Act) (q r : List ℕ) (x y : Rest) → joined is ++ q ≡ joined js ++ r → AreItems c p is xs → AreItems c p js ys
+one_go : (is js : List (List ℕ)) (c : Client) (p : Phase) (xs ys : List Act) (q r : List ℕ) (x y : Stop) → joined is ++ q ≡ joined js ++ r → AreItems c p is xs → AreItems c p js ys
     → Remains c (phase_after c p is) q x → Remains c (phase_after c p js) r y → (is ≡ js) × (xs ≡ ys) × (q ≡ r) × (x ≡ y)
 one_go [] [] c p xs ys q r x y e a b h k = (refl, a ∙ sym b, e, one_rest c p r x y (subst (λ (z : List ℕ). Remains c p z x) e h) k)
 one_go [] (j ∷ js) c p xs ys q r x y e a b h k = absurd (item_rest c p q j (joined js ++ r) b.0 x (e ∙ append_assoc j (joined js) r) b.3 h)

@@ -16,17 +16,17 @@ use Rattle.portal_base.specs.declared.split.Split.{Split}
 use Rattle.portal_base.specs.declared.split.Split.TheVariants as split
 use Rattle.session.specs.declared.phase.Phase.{Phase}
 use Rattle.session.specs.declared.phase.Phase.TheVariants as due
-use Rattle.session.specs.declared.served.Rest.TheVariants as rest
+use Rattle.session.specs.declared.served.Stop.TheVariants as stop
 use Rattle.session.specs.Cuts.{Cuts, cut_of, line_cut, line_cut_of, line_len, no_item, whole_item, zero_byte_cut}
 
 -- ---- the zero byte
 
-pub byte_cases : (b : Bool) (n : ℕ) → whole_item n ≡ cond b (whole_item 1) (no_item (rest.Bad 12)) → (b ≡ true) × (n ≡ 1)
+pub byte_cases : (b : Bool) (n : ℕ) → whole_item n ≡ cond b (whole_item 1) (no_item (stop.Bad 12)) → (b ≡ true) × (n ≡ 1)
 byte_cases true n h = (refl, cc)
 byte_cases false n h = absurd (cc)
 
 byte_alone : (x : ℕ) → (x == 0) ≡ true → whole_item 1 ≡ zero_byte_cut (x ∷ [])
-byte_alone x t = ap (λ (b : Bool). cond b (whole_item 1) (no_item (rest.Bad 12))) (sym t)
+byte_alone x t = ap (λ (b : Bool). cond b (whole_item 1) (no_item (stop.Bad 12))) (sym t)
 
 -- ---- lines
 
@@ -186,7 +186,7 @@ whole_is due.ZeroByte (x ∷ xs) (y ∷ ys) n h long same =
     let k = byte_cases (x == 0) n h in
     let one : x ∷ [] ≡ y ∷ [] = ap (λ (z : ℕ). take z (x ∷ xs)) (sym k.1) ∙ (same ∙ ap (λ (z : ℕ). take z (y ∷ ys)) k.1) in
     let e : x ≡ y = cc in
-    ap whole_item k.1 ∙ ap (λ (b : Bool). cond b (whole_item 1) (no_item (rest.Bad 12))) (sym k.0 ∙ ap (λ (z : ℕ). z == 0) e)
+    ap whole_item k.1 ∙ ap (λ (b : Bool). cond b (whole_item 1) (no_item (stop.Bad 12))) (sym k.0 ∙ ap (λ (z : ℕ). z == 0) e)
 whole_is (due.Handshake a) b c n h long same = line_cut_is b c n h same
 whole_is due.Messages b c n h long same = (split.Whole n, front_alike b c n (message_found b n h) long same, refl)
 whole_is due.Frames b c n h long same = frame_stands c n (frame_is b c n (frame_found b n h) long same)

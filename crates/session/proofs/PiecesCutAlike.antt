@@ -7,8 +7,8 @@ use Rattle.std.specs.List.{All}
 use Rattle.session.specs.declared.act.Act.{Act}
 use Rattle.session.specs.declared.act.Client.{Client}
 use Rattle.session.specs.declared.phase.Phase.{Phase}
-use Rattle.session.specs.declared.served.Rest.{Rest}
-use Rattle.session.specs.declared.served.Rest.TheVariants as rest
+use Rattle.session.specs.declared.served.Stop.{Stop}
+use Rattle.session.specs.declared.served.Stop.TheVariants as stop
 use Rattle.session.specs.Items.{Items, Remains, joined, phase_after}
 use Rattle.session.specs.Laws.{AreCutAlike, CutBy}
 use Rattle.session.proofs.DidItems.{items-append, joined-append, phase-append}
@@ -18,7 +18,7 @@ use Rattle.session.proofs.ItemsAreOne.{are_one}
 use Rattle.session.proofs.AnswersAsked.{nothing}
 
 -- what a stream's items are, once more of it has come
-items_more : (c : Client) (p : Phase) (stream piece mid left : List ℕ) (is js : List (List ℕ)) (xs ys : List Act) (what : Rest) → Items c p stream is xs mid rest.More → Items c (phase_after c p is) (mid ++ piece) js ys left what
+items_more : (c : Client) (p : Phase) (stream piece mid left : List ℕ) (is js : List (List ℕ)) (xs ys : List Act) (what : Stop) → Items c p stream is xs mid stop.More → Items c (phase_after c p is) (mid ++ piece) js ys left what
     → Items c p (stream ++ piece) (is ++ js) (xs ++ ys) left what
 items_more c p stream piece mid left is js xs ys what a b = record {
   bytes = ap (λ (z : List ℕ). z ++ piece) a.bytes ∙ (append_assoc (joined is) mid piece ∙ (ap (λ (z : List ℕ). joined is ++ z) b.bytes ∙ (sym (append_assoc (joined is) (joined js) left) ∙ ap (λ (z : List ℕ). z ++ left) (sym (joined-append is js)))));
@@ -26,7 +26,7 @@ items_more c p stream piece mid left is js xs ys what a b = record {
   remains = subst (λ (z : Phase). Remains c z left what) (sym (phase-append is js c p)) b.remains;
 }
 
-cut_on : (pieces : List (List ℕ)) (c : Client) (p : Phase) (stream mid left : List ℕ) (is js : List (List ℕ)) (xs ys : List Act) (what : Rest) (unseen : List (List ℕ)) → Items c p stream is xs mid rest.More
+cut_on : (pieces : List (List ℕ)) (c : Client) (p : Phase) (stream mid left : List ℕ) (is js : List (List ℕ)) (xs ys : List Act) (what : Stop) (unseen : List (List ℕ)) → Items c p stream is xs mid stop.More
     → CutBy c (phase_after c p is) mid pieces js ys left what unseen → Items c p (stream ++ joined pieces) (is ++ js) (xs ++ ys) (left ++ joined unseen) what
 cut_on [] c p stream mid left is js xs ys what unseen a h = rw (h.0, h.1, h.2, h.3, h.4, append-nil stream, append-nil is, append-nil xs, append-nil mid) a
 cut_on (piece ∷ pieces) c p stream mid left is js xs ys what unseen a (inl (cut, over, e)) =
@@ -34,7 +34,7 @@ cut_on (piece ∷ pieces) c p stream mid left is js xs ys what unseen a (inl (cu
     subst (λ (z : List ℕ). Items c p z (is ++ js) (xs ++ ys) (left ++ joined unseen) what) (append_assoc stream piece (joined pieces))
     (subst (λ (z : List (List ℕ)). Items c p ((stream ++ piece) ++ joined pieces) (is ++ js) (xs ++ ys) (left ++ joined z) what) (sym e) x)
 cut_on (piece ∷ pieces) c p stream mid left is js xs ys what unseen a (inr (first, others, firsts, more, next, e, f, h, rest_cut)) =
-    let x = items_more c p stream piece mid next is first xs firsts rest.More a h in
+    let x = items_more c p stream piece mid next is first xs firsts stop.More a h in
     let y = cut_on pieces c p (stream ++ piece) next left (is ++ first) others (xs ++ firsts) more what unseen x (subst (λ (z : Phase). CutBy c z next pieces others more left what unseen) (sym (phase-append is first c p)) rest_cut) in
     let items : is ++ js ≡ (is ++ first) ++ others = ap (λ (z : List (List ℕ)). is ++ z) e ∙ sym (append_assoc is first others) in
     let acts : xs ++ ys ≡ (xs ++ firsts) ++ more = ap (λ (z : List Act). xs ++ z) f ∙ sym (append_assoc xs firsts more) in
@@ -42,7 +42,7 @@ cut_on (piece ∷ pieces) c p stream mid left is js xs ys what unseen a (inr (fi
     (subst (λ (z : List (List ℕ)). Items c p ((stream ++ piece) ++ joined pieces) z (xs ++ ys) (left ++ joined unseen) what) (sym items)
     (subst (λ (z : List Act). Items c p ((stream ++ piece) ++ joined pieces) ((is ++ first) ++ others) z (left ++ joined unseen) what) (sym acts) y))
 
-cut_whole : (c : Client) (p : Phase) (pieces items : List (List ℕ)) (acts : List Act) (left : List ℕ) (what : Rest) (unseen : List (List ℕ)) → CutBy c p [] pieces items acts left what unseen → Items c p (joined pieces) items acts (left ++ joined unseen) what
+cut_whole : (c : Client) (p : Phase) (pieces items : List (List ℕ)) (acts : List Act) (left : List ℕ) (what : Stop) (unseen : List (List ℕ)) → CutBy c p [] pieces items acts left what unseen → Items c p (joined pieces) items acts (left ++ joined unseen) what
 cut_whole c p pieces items acts left what unseen h = cut_on pieces c p [] [] left [] items [] acts what unseen (record { bytes = refl; each = refl; remains = nothing p }) h
 
 -- ---- pieces are cut in some way
@@ -57,16 +57,16 @@ fits_left : (b x y : List ℕ) → b ≡ x ++ y → Fits b → Fits y
 fits_left b x y e h = subst Fits (ap (drop (length x)) e ∙ drop-append_seam x y) (All-drop (λ z. z < 256) (length x) b h)
 
 abbrev Cutting : Client → Phase → List ℕ → List (List ℕ) → Type 0
-Cutting c p held pieces = (items : List (List ℕ)) × (acts : List Act) × (left : List ℕ) × (what : Rest) × (unseen : List (List ℕ)) × CutBy c p held pieces items acts left what unseen
+Cutting c p held pieces = (items : List (List ℕ)) × (acts : List Act) × (left : List ℕ) × (what : Stop) × (unseen : List (List ℕ)) × CutBy c p held pieces items acts left what unseen
 
-some_at : (what : Rest) (c : Client) (p : Phase) (held piece : List ℕ) (pieces items : List (List ℕ)) (acts : List Act) (left : List ℕ) → Items c p (held ++ piece) items acts left what → Cutting c (phase_after c p items) left pieces → Cutting c p held (piece ∷ pieces)
-some_at rest.More c p held piece pieces items acts left cut next = (items ++ next.0, acts ++ next.1, next.2, next.3, next.4, inr (items, next.0, acts, next.1, left, refl, refl, cut, next.5))
-some_at (rest.Bad rule) c p held piece pieces items acts left cut next = (items, acts, left, rest.Bad rule, pieces, inl (cut, tt, refl))
-some_at rest.TooLong c p held piece pieces items acts left cut next = (items, acts, left, rest.TooLong, pieces, inl (cut, tt, refl))
-some_at rest.Unbuilt c p held piece pieces items acts left cut next = (items, acts, left, rest.Unbuilt, pieces, inl (cut, tt, refl))
+some_at : (what : Stop) (c : Client) (p : Phase) (held piece : List ℕ) (pieces items : List (List ℕ)) (acts : List Act) (left : List ℕ) → Items c p (held ++ piece) items acts left what → Cutting c (phase_after c p items) left pieces → Cutting c p held (piece ∷ pieces)
+some_at stop.More c p held piece pieces items acts left cut next = (items ++ next.0, acts ++ next.1, next.2, next.3, next.4, inr (items, next.0, acts, next.1, left, refl, refl, cut, next.5))
+some_at (stop.Bad rule) c p held piece pieces items acts left cut next = (items, acts, left, stop.Bad rule, pieces, inl (cut, tt, refl))
+some_at stop.TooLong c p held piece pieces items acts left cut next = (items, acts, left, stop.TooLong, pieces, inl (cut, tt, refl))
+some_at stop.Unbuilt c p held piece pieces items acts left cut next = (items, acts, left, stop.Unbuilt, pieces, inl (cut, tt, refl))
 
 some_on : (pieces : List (List ℕ)) (c : Client) (p : Phase) (held : List ℕ) → Fits (held ++ joined pieces) → Cutting c p held pieces
-some_on [] c p held fits = ([], [], held, rest.More, [], (refl, refl, refl, refl, refl))
+some_on [] c p held fits = ([], [], held, stop.More, [], (refl, refl, refl, refl, refl))
 some_on (piece ∷ pieces) c p held fits =
     let whole : (held ++ piece) ++ joined pieces ≡ held ++ (piece ++ joined pieces) = append_assoc held piece (joined pieces) in
     let f = are_found c p (held ++ piece) (fits_front _ (held ++ piece) (joined pieces) (sym whole) fits) in

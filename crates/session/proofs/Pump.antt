@@ -7,8 +7,8 @@ use Rattle.portal_base.specs.declared.who.Kind.{Kind}
 use Rattle.session.specs.declared.act.Client.{Client}
 use Rattle.session.specs.declared.served.Fed.{Fed}
 use Rattle.session.specs.declared.served.Fed.TheVariants as fed
-use Rattle.session.specs.declared.served.Rest.{Rest}
-use Rattle.session.specs.declared.served.Rest.TheVariants as rest
+use Rattle.session.specs.declared.served.Stop.{Stop}
+use Rattle.session.specs.declared.served.Stop.TheVariants as stop
 use Rattle.session.specs.declared.served.Served.{Served}
 use Rattle.session.specs.declared.served.Served.TheVariants as served
 use Rattle.session.specs.Cuts.{Cuts, first_phase, no_item}
@@ -30,15 +30,15 @@ behind_none None = refl
 behind_none (Some zs) = refl
 
 -- nothing is too few
-pub nothing_yet : (kind : Kind) → Cuts (first_phase kind) [] (no_item rest.More)
+pub nothing_yet : (kind : Kind) → Cuts (first_phase kind) [] (no_item stop.More)
 nothing_yet Kind.Bus = refl
 nothing_yet Kind.Mount = refl
 
-pub kept_none : (c : Client) (w : World) → Kept c [] rest.More w (fresh c) w
+pub kept_none : (c : Client) (w : World) → Kept c [] stop.More w (fresh c) w
 kept_none c w = record { taken = []; bytes = refl; before = refl; did = did_none c (first_stage c) w; remains = nothing_yet c.kind; room = omega arith }
 
 -- the items of what was read
-pub kept_items : (c : Client) (read : List ℕ) (what : Rest) (v : World) (s : Standing) (w : World) (k : Kept c read what v s w) → Items c (first_phase c.kind) read k.did.items k.did.acts s.rest what
+pub kept_items : (c : Client) (read : List ℕ) (what : Stop) (v : World) (s : Standing) (w : World) (k : Kept c read what v s w) → Items c (first_phase c.kind) read k.did.items k.did.acts s.rest what
 kept_items c read what v s w k = record {
   bytes = k.bytes ∙ ap (λ (b : List ℕ). b ++ s.rest) k.did.bytes_are;
   each = k.did.each;
@@ -48,17 +48,17 @@ kept_items c read what v s w k = record {
 pub opened : (s : Standing) (v : World) (piece : List ℕ) (r : Fed) (t : Standing) (w : World) → s.fed ≡ fed.More → Feeds s.fed s v piece r t w → FeedsOpen s v piece r t w
 opened s v piece r t w e h = subst (λ (o : Fed). Feeds o s v piece r t w) e h
 
-module _ (c : Client) (read piece : List ℕ) (v m w : World) (s t : Standing) (k : Kept c read rest.More v s m) (is : s.client ≡ c) where
+module _ (c : Client) (read piece : List ℕ) (v m w : World) (s t : Standing) (k : Kept c read stop.More v s m) (is : s.client ≡ c) where
   whole_bytes : read ++ piece ≡ k.taken ++ (s.rest ++ piece)
   whole_bytes = ap (λ (z : List ℕ). z ++ piece) k.bytes ∙ append_assoc k.taken s.rest piece
 
   room_here : HasRoom s piece → length (read ++ piece) ≤ longest
   room_here h = let a = k.before in let b = ap length k.bytes in omega (arith, length-append read piece, length-append k.taken s.rest, a, b, h)
 
-  takes_room : (what : Rest) → TakesUpTo what s m piece t w → HasRoom s piece
+  takes_room : (what : Stop) → TakesUpTo what s m piece t w → HasRoom s piece
   takes_room what f = let a = f.before in let b = ap length f.bytes in let d = f.room in omega (arith, length-append s.rest piece, length-append f.taken t.rest, a, b, d)
 
-  pub kept_on : (what : Rest) → TakesUpTo what s m piece t w → Kept c (read ++ piece) what v t w
+  pub kept_on : (what : Stop) → TakesUpTo what s m piece t w → Kept c (read ++ piece) what v t w
   kept_on what f = record {
     taken = k.taken ++ f.taken;
     bytes = whole_bytes ∙ (ap (λ (z : List ℕ). k.taken ++ z) f.bytes ∙ sym (append_assoc k.taken f.taken t.rest));
@@ -69,12 +69,12 @@ module _ (c : Client) (read piece : List ℕ) (v m w : World) (s t : Standing) (
   }
 
   over_into : length piece ≤ longest_piece → (ending : Served) → FeedsOver s m piece ending t w → PumpsInto c ending (read ++ piece) v t w
-  over_into few (served.Malformed at rule) h = (kept_on (rest.Bad rule) h.0, h.1)
-  over_into few (served.LineTooLong at) h = (kept_on rest.TooLong h.0, h.1)
-  over_into few (served.Unbuilt at) h = (kept_on rest.Unbuilt h.0, h.1)
+  over_into few (served.Malformed at rule) h = (kept_on (stop.Bad rule) h.0, h.1)
+  over_into few (served.LineTooLong at) h = (kept_on stop.TooLong h.0, h.1)
+  over_into few (served.Unbuilt at) h = (kept_on stop.Unbuilt h.0, h.1)
   over_into few served.Spent h = (
     (let a = k.before in let b = ap length k.bytes in omega (arith, length-append read piece, length-append k.taken s.rest, a, b, h.0)),
-    (read, piece, s, refl, few, subst (λ (z : World). Kept c read rest.More v s z) (sym h.1) k),
+    (read, piece, s, refl, few, subst (λ (z : World). Kept c read stop.More v s z) (sym h.1) k),
   )
   over_into few served.Ended h = absurd h
   over_into few (served.Cut n) h = absurd h
@@ -99,7 +99,7 @@ module _ (c : Client) (read piece : List ℕ) (v m w : World) (s t : Standing) (
 
   -- ahead of the piece
   pub came_last : length piece ≤ longest_piece → CameLast c (read ++ piece)
-  came_last few = (read, piece, k.did.items, k.did.acts, s.rest, refl, few, kept_items c read rest.More v s m k)
+  came_last few = (read, piece, k.did.items, k.did.acts, s.rest, refl, few, kept_items c read stop.More v s m k)
 
   pub over_on : length piece ≤ longest_piece → (r : Fed) → r ≢ fed.More → FeedsOpen s m piece r t w → PumpsOver c t.fed (read ++ piece) v t w
   over_on few fed.More ne h = absurd (ne refl)

@@ -14,7 +14,7 @@ use Rattle.session.specs.declared.phase.Phase.{Phase}
 use Rattle.session.specs.declared.serve.Stage.{Stage}
 use Rattle.session.specs.declared.served.Fed.{Fed}
 use Rattle.session.specs.declared.served.Fed.TheVariants.{More, Over, WriteFault, Memory}
-use Rattle.session.specs.declared.served.Rest.{Rest}
+use Rattle.session.specs.declared.served.Stop.{Stop}
 use Rattle.session.specs.Asked.{Means}
 use Rattle.session.specs.Cuts.{Cuts, whole_item}
 use Rattle.session.specs.Items.{Remains}
@@ -52,7 +52,7 @@ module _ (c : Client) (s t : Stage) (v m w : World) (bytes : List ℕ) (used n :
   run_halts (Over ending) x ends = absurd ends
 
   -- a run that ends at an item that asks nothing
-  pub run_ends : (what : Rest) (x : Stage) → used ≤ length bytes → ItemEnds c (Ok (Some what)) t m (take n (drop used bytes)) x w → Stops c (Ok (record { len = used; rest = what })) s v bytes x w
+  pub run_ends : (what : Stop) (x : Stage) → used ≤ length bytes → ItemEnds c (Ok (Some what)) t m (take n (drop used bytes)) x w → Stops c (Ok (record { len = used; stop = what })) s v bytes x w
   run_ends what x within (declines, stage, same) = (
     within,
     subst (λ (z : Stage). Did c s v (take used bytes) z w) (sym stage) (subst (λ (z : World). Did c s v (take used bytes) t z) (sym same) did),

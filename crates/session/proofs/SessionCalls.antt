@@ -57,10 +57,10 @@ fed_none s v piece t is client room stays = (inl (refl, stays), (is, client), ro
 -- a run over the rest and the piece, which was whole
 pub fed_ok : (s : Standing) (v w : World) (piece bytes : List ℕ) (run : Run) (t : Standing)
     → bytes ≡ s.rest ++ piece → s.before + length s.rest + length piece ≤ longest → Stops s.client (Ok run) s.stage v bytes t.stage w
-    → t.before ≡ s.before + run.len → t.rest ≡ drop run.len bytes → t.client ≡ s.client → t.fed ≡ fed_of t.before run.rest → FeedsOpen s v piece t.fed t w
+    → t.before ≡ s.before + run.len → t.rest ≡ drop run.len bytes → t.client ≡ s.client → t.fed ≡ fed_of t.before run.stop → FeedsOpen s v piece t.fed t w
 fed_ok s v w piece bytes run t is room stops before left client came =
-    let h = takes run.rest s v w piece bytes run.len t is stops.0 stops.1 stops.2 before left client room in
-    subst (λ (r : Fed). FeedsOpen s v piece r t w) (sym came) (feeds_rest run.rest s v piece t w h came)
+    let h = takes run.stop s v w piece bytes run.len t is stops.0 stops.1 stops.2 before left client room in
+    subst (λ (r : Fed). FeedsOpen s v piece r t w) (sym came) (feeds_rest run.stop s v piece t w h came)
 
 -- the same, halted
 halt_opens : (why : Fed) (s : Standing) (v w : World) (piece : List ℕ) (t : Standing) → Stops s.client (Err why) s.stage v (s.rest ++ piece) t.stage w → t.client ≡ s.client → t.fed ≡ why → HasRoom s piece → HoldsBoth s piece t → FeedsOpen s v piece why t w

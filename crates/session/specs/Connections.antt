@@ -8,8 +8,8 @@ use Rattle.portal_model.specs.Seated.{Exchange, HasCause}
 use Rattle.session.specs.declared.act.Act.{Act}
 use Rattle.session.specs.declared.act.Client.{Client}
 use Rattle.session.specs.declared.phase.Phase.{Phase}
-use Rattle.session.specs.declared.served.Rest.{Rest}
-use Rattle.session.specs.declared.served.Rest.TheVariants as rest
+use Rattle.session.specs.declared.served.Stop.{Stop}
+use Rattle.session.specs.declared.served.Stop.TheVariants as stop
 use Rattle.session.specs.declared.served.Served.{Served}
 use Rattle.session.specs.declared.served.Served.TheVariants as served
 use Rattle.session.specs.Cuts.{first_phase}
@@ -28,41 +28,14 @@ between entered outcomes left = Made entered ∷ (outcomes ++ Made left ∷ [])
 abbrev pub Encloses : Client → Exchange → Exchange → Type 0
 Encloses c entered left = (entered.entry.request ≡ enter c) × (left.entry.request ≡ Request.Leave)
 
--- Between Enter and Leave all whole items of what was read, no more bytes than a connection may
--- have, are asked and answered, and behind them stands the rest, which is this. No write failed.
-pub record Whole (c : Client) (read left : List ℕ) (what : Rest) (v w : World) : Type 0 where
-  pub room : length read ≤ longest
+-- all that the desk was asked has these outcomes, with an Enter ahead of them and a Leave behind,
+-- and these pieces were written
+pub record Enclosed (c : Client) (outcomes : List Outcome) (pieces : List (List ℕ))
+    (v w : World) : Type 0 where
   pub entered : Exchange
   pub leaving : Exchange
-  pub items : List (List ℕ)
-  pub acts : List Act
-  pub outcomes : List Outcome
-  pub pieces : List (List ℕ)
-  pub last : ℕ
-  pub cut : Items c (first_phase c.kind) read items acts left what
-  pub answers : Answers 0 acts outcomes pieces last
   pub encloses : Encloses c entered leaving
   pub grows : Grows v (between entered outcomes leaving) pieces w
-  pub sound : w.faults ≡ v.faults
-
--- Between Enter and Leave some items of what was read are asked and answered, and nothing more is
--- done. No write failed.
-pub record Front (c : Client) (read : List ℕ) (v w : World) : Type 0 where
-  pub room : length read ≤ longest
-  pub entered : Exchange
-  pub leaving : Exchange
-  pub items : List (List ℕ)
-  pub acts : List Act
-  pub after : List ℕ
-  pub outcomes : List Outcome
-  pub pieces : List (List ℕ)
-  pub last : ℕ
-  pub bytes : read ≡ joined items ++ after
-  pub each : AreItems c (first_phase c.kind) items acts
-  pub answers : Answers 0 acts outcomes pieces last
-  pub encloses : Encloses c entered leaving
-  pub grows : Grows v (between entered outcomes leaving) pieces w
-  pub sound : w.faults ≡ v.faults
 
 -- the first items of a connection, which are asked and answered
 pub record Answered (c : Client) : Type 0 where
@@ -73,6 +46,25 @@ pub record Answered (c : Client) : Type 0 where
   pub last : ℕ
   pub each : AreItems c (first_phase c.kind) items acts
   pub answers : Answers 0 acts outcomes pieces last
+
+-- Between Enter and Leave all whole items of what was read, no more bytes than a connection may
+-- have, are asked and answered, and behind them stands the rest, which is this. No write failed.
+pub record Whole (c : Client) (read left : List ℕ) (what : Stop) (v w : World) : Type 0 where
+  pub room : length read ≤ longest
+  pub all : Answered c
+  pub cut : Items c (first_phase c.kind) read all.items all.acts left what
+  pub asked : Enclosed c all.outcomes all.pieces v w
+  pub sound : w.faults ≡ v.faults
+
+-- Between Enter and Leave some items of what was read are asked and answered, and nothing more is
+-- done. No write failed.
+pub record Front (c : Client) (read : List ℕ) (v w : World) : Type 0 where
+  pub room : length read ≤ longest
+  pub first : Answered c
+  pub after : List ℕ
+  pub bytes : read ≡ joined first.items ++ after
+  pub asked : Enclosed c first.outcomes first.pieces v w
+  pub sound : w.faults ≡ v.faults
 
 -- an item that is asked where this is due and this was the last serial, and answered in part
 pub record InPart (c : Client) (p : Phase) (serial : ℕ) : Type 0 where
@@ -90,15 +82,11 @@ pub record InPart (c : Client) (p : Phase) (serial : ℕ) : Type 0 where
 -- asked, and answered in part.
 pub record Half (c : Client) (read : List ℕ) (v w : World) : Type 0 where
   pub room : length read ≤ longest
-  pub entered : Exchange
-  pub leaving : Exchange
   pub first : Answered c
   pub then : InPart c (phase_after c (first_phase c.kind) first.items) first.last
   pub after : List ℕ
   pub bytes : read ≡ joined first.items ++ (then.item ++ after)
-  pub encloses : Encloses c entered leaving
-  pub grows : Grows v (between entered (first.outcomes ++ then.outcomes) leaving)
-      (first.pieces ++ then.written) w
+  pub asked : Enclosed c (first.outcomes ++ then.outcomes) (first.pieces ++ then.written) v w
 
 -- The same, and nothing of the last answer is written, and no write failed.
 abbrev pub HalfUnsaid : Client → List ℕ → World → World → Type 0
@@ -117,29 +105,29 @@ IsRefused c why read a b v w = IsUntouched read a b v w × Grows v (Denied (ente
 -- sink before and after. Where the session is over, it wasn't so ahead of the last piece.
 abbrev pub EndsAs : Client → Served → List ℕ → Spring → Spring → World → World → Type 0
 -- the input ended between items
-EndsAs c served.Ended read a b v w = IsDry b × Whole c read [] rest.More v w
+EndsAs c served.Ended read a b v w = IsDry b × Whole c read [] stop.More v w
 -- the input ended inside one, of which so many bytes came
 EndsAs c (served.Cut n) read a b v w =
-    IsDry b × (1 ≤ n) × ((left : List ℕ) × (length left ≡ n) × Whole c read left rest.More v w)
+    IsDry b × (1 ≤ n) × ((left : List ℕ) × (length left ≡ n) × Whole c read left stop.More v w)
 -- the item at this byte breaks this rule first
 EndsAs c (served.Malformed at rule) read a b v w = (left : List ℕ)
-    × (at + length left ≡ length read) × Whole c read left (rest.Bad rule) v w × CameLast c read
+    × (at + length left ≡ length read) × Whole c read left (stop.Bad rule) v w × CameLast c read
 -- the line at this byte is too long
 EndsAs c (served.LineTooLong at) read a b v w = (left : List ℕ) × (at + length left ≡ length read)
-    × Whole c read left rest.TooLong v w × CameLast c read
+    × Whole c read left stop.TooLong v w × CameLast c read
 -- the item at this byte asks for a part that isn't built
 EndsAs c (served.Unbuilt at) read a b v w = (left : List ℕ) × (at + length left ≡ length read)
-    × Whole c read left rest.Unbuilt v w × CameLast c read
+    × Whole c read left stop.Unbuilt v w × CameLast c read
 -- a read failed, and all that was whole by then is answered
 EndsAs c served.ReadFault read a b v w =
-    HasRisen a.faults b.faults × ((left : List ℕ) × Whole c read left rest.More v w)
+    HasRisen a.faults b.faults × ((left : List ℕ) × Whole c read left stop.More v w)
 -- a write failed
 EndsAs c served.WriteFault read a b v w =
     HasRisen v.faults w.faults × Half c read v w × CameLast c read
 -- a piece came with which there are too many bytes, and nothing of it is looked at
 EndsAs c served.Spent read a b v w = (longest < length read)
     × ((before : List ℕ) × (piece : List ℕ) × (left : List ℕ) × (read ≡ before ++ piece)
-    × (length piece ≤ longest_piece) × Whole c before left rest.More v w)
+    × (length piece ≤ longest_piece) × Whole c before left stop.More v w)
 -- the history has no room for Enter
 EndsAs c (served.Full cost limit) read a b v w = IsRefused c (refused.Full cost limit) read a b v w
 -- there was no memory: to ask Enter, for Enter, ahead of an item, or for its answer

@@ -18,19 +18,19 @@ use Rattle.fuse_wire.specs.Frames.{split_of}
 use Rattle.session.specs.declared.act.Client.{Client}
 use Rattle.session.specs.declared.phase.Phase.{Phase}
 use Rattle.session.specs.declared.phase.Phase.TheVariants as due
-use Rattle.session.specs.declared.served.Rest.{Rest}
-use Rattle.session.specs.declared.served.Rest.TheVariants as rest
+use Rattle.session.specs.declared.served.Stop.{Stop}
+use Rattle.session.specs.declared.served.Stop.TheVariants as stop
 
 -- ---- what stands at the front
 
 -- the length of the whole item there, in bytes, or what stands there in its place
 abbrev pub Cut : Type 0
-Cut = Result ℕ Rest
+Cut = Result ℕ Stop
 
 abbrev pub whole_item : ℕ → Cut
 whole_item len = Ok len
 
-abbrev pub no_item : Rest → Cut
+abbrev pub no_item : Stop → Cut
 no_item what = Err what
 
 -- the rule that a first byte other than zero breaks
@@ -39,8 +39,8 @@ zero_byte_rule = 12
 
 -- the zero byte
 abbrev pub zero_byte_cut : List ℕ → Cut
-zero_byte_cut [] = no_item rest.More
-zero_byte_cut (b ∷ bs) = if b == 0 then whole_item 1 else no_item (rest.Bad zero_byte_rule)
+zero_byte_cut [] = no_item stop.More
+zero_byte_cut (b ∷ bs) = if b == 0 then whole_item 1 else no_item (stop.Bad zero_byte_rule)
 
 -- the length of the first line, with its CR LF
 abbrev pub line_len : List ℕ → Option ℕ
@@ -50,8 +50,8 @@ line_len (b ∷ bs) =
 
 abbrev pub line_cut_of : Option ℕ → Bool → Cut
 line_cut_of (Some len) may_grow = whole_item len
-line_cut_of None true = no_item rest.More
-line_cut_of None false = no_item rest.TooLong
+line_cut_of None true = no_item stop.More
+line_cut_of None false = no_item stop.TooLong
 
 -- a line of at most the longest length; as many bytes without a CR LF are a line that is too long
 abbrev pub line_cut : List ℕ → Cut
@@ -59,9 +59,9 @@ line_cut bytes =
     line_cut_of (line_len (take longest_line bytes)) (nat_lt (length bytes) longest_line)
 
 abbrev pub cut_of : Split → Cut
-cut_of split.More = no_item rest.More
+cut_of split.More = no_item stop.More
 cut_of (split.Whole len) = whole_item len
-cut_of (split.Bad rule) = no_item (rest.Bad rule)
+cut_of (split.Bad rule) = no_item (stop.Bad rule)
 
 -- what stands at the front of a stream, where this is due
 abbrev pub Cuts : Phase → List ℕ → Cut → Type 0

@@ -5,8 +5,8 @@ use Rattle.session.specs.declared.act.Client.{Client}
 use Rattle.session.specs.declared.act.ItemError.{ItemError}
 use Rattle.session.specs.declared.act.ItemError.TheVariants.{Breaks, Unbuilt}
 use Rattle.session.specs.declared.phase.Phase.{Phase}
-use Rattle.session.specs.declared.served.Rest.{Rest}
-use Rattle.session.specs.declared.served.Rest.TheVariants as rest
+use Rattle.session.specs.declared.served.Stop.{Stop}
+use Rattle.session.specs.declared.served.Stop.TheVariants as stop
 use Rattle.session.specs.Cuts.{Cuts, next_phase, no_item, whole_item}
 use Rattle.session.specs.Asked.{Means}
 
@@ -36,16 +36,16 @@ AsksNothing c p bytes error =
 
 -- No item stands at the front: too few bytes for one, a rule that is broken, a line that is too
 -- long, or a request that isn't built.
-abbrev pub Remains : Client → Phase → List ℕ → Rest → Type 0
-Remains c p bytes rest.More = Cuts p bytes (no_item rest.More)
-Remains c p bytes (rest.Bad rule) =
-    Cuts p bytes (no_item (rest.Bad rule)) ⊎ AsksNothing c p bytes (Breaks rule)
-Remains c p bytes rest.TooLong = Cuts p bytes (no_item rest.TooLong)
-Remains c p bytes rest.Unbuilt = AsksNothing c p bytes Unbuilt
+abbrev pub Remains : Client → Phase → List ℕ → Stop → Type 0
+Remains c p bytes stop.More = Cuts p bytes (no_item stop.More)
+Remains c p bytes (stop.Bad rule) =
+    Cuts p bytes (no_item (stop.Bad rule)) ⊎ AsksNothing c p bytes (Breaks rule)
+Remains c p bytes stop.TooLong = Cuts p bytes (no_item stop.TooLong)
+Remains c p bytes stop.Unbuilt = AsksNothing c p bytes Unbuilt
 
 -- The whole items from the front of a stream with what they ask, and the rest, which is this.
 pub record Items (c : Client) (p : Phase) (stream : List ℕ) (items : List (List ℕ))
-    (acts : List Act) (left : List ℕ) (what : Rest) : Type 0 where
+    (acts : List Act) (left : List ℕ) (what : Stop) : Type 0 where
   pub bytes : stream ≡ joined items ++ left
   pub each : AreItems c p items acts
   pub remains : Remains c (phase_after c p items) left what

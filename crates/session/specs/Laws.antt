@@ -13,8 +13,8 @@ use Rattle.session.specs.declared.act.Client.{Client}
 use Rattle.session.specs.declared.phase.Phase.{Phase}
 use Rattle.session.specs.declared.served.Fed.{Fed}
 use Rattle.session.specs.declared.served.Fed.TheVariants as fed
-use Rattle.session.specs.declared.served.Rest.{Rest}
-use Rattle.session.specs.declared.served.Rest.TheVariants as rest
+use Rattle.session.specs.declared.served.Stop.{Stop}
+use Rattle.session.specs.declared.served.Stop.TheVariants as stop
 use Rattle.session.specs.declared.served.Served.{Served}
 use Rattle.session.specs.declared.served.Served.TheVariants as served
 use Rattle.session.specs.Asked.{asked, requests_of}
@@ -30,52 +30,52 @@ use Rattle.session.specs.Standings.{Standing, longest}
 -- the items of a stream are one list, they ask one list, and the rest is one
 abbrev pub AreOne : Type 0
 AreOne = (c : Client) (p : Phase) (stream : List ℕ) (is js : List (List ℕ)) (xs ys : List Act)
-    (q r : List ℕ) (x y : Rest)
+    (q r : List ℕ) (x y : Stop)
     → Items c p stream is xs q x → Items c p stream js ys r y → (is ≡ js) × (xs ≡ ys) × (q ≡ r)
     × (x ≡ y)
 
 -- each stream of bytes has items and a rest
 abbrev pub ItemsAreFound : Type 0
 ItemsAreFound = (c : Client) (p : Phase) (stream : List ℕ) → All (λ b. b < 256) stream
-    → (items : List (List ℕ)) × (acts : List Act) × (left : List ℕ) × (what : Rest)
+    → (items : List (List ℕ)) × (acts : List Act) × (left : List ℕ) × (what : Stop)
     × Items c p stream items acts left what
 
 -- items that stand one after another from the front of a stream are the first of its items, and ask
 -- what those ask
 abbrev pub ItemsComeFirst : Type 0
 ItemsComeFirst = (c : Client) (p : Phase) (stream : List ℕ) (items : List (List ℕ))
-    (acts : List Act) (left : List ℕ) (what : Rest) (front : List (List ℕ)) (asked : List Act)
+    (acts : List Act) (left : List ℕ) (what : Stop) (front : List (List ℕ)) (asked : List Act)
     (after : List ℕ)
     → Items c p stream items acts left what → stream ≡ joined front ++ after
     → AreItems c p front asked → (more : List (List ℕ)) × (later : List Act)
     × (items ≡ front ++ more) × (acts ≡ asked ++ later)
 
 -- no more items can come
-abbrev pub IsOver : Rest → Type 0
-IsOver rest.More = ⊥
-IsOver (rest.Bad rule) = Unit {0}
-IsOver rest.TooLong = Unit {0}
-IsOver rest.Unbuilt = Unit {0}
+abbrev pub IsOver : Stop → Type 0
+IsOver stop.More = ⊥
+IsOver (stop.Bad rule) = Unit {0}
+IsOver stop.TooLong = Unit {0}
+IsOver stop.Unbuilt = Unit {0}
 
 -- Items that end in a broken rule, a line that is too long, or a request that isn't built stay the
 -- same whatever follows.
 abbrev pub EndsStay : Type 0
 EndsStay = (c : Client) (p : Phase) (stream more : List ℕ) (items : List (List ℕ)) (acts : List Act)
-    (left : List ℕ) (what : Rest) → Items c p stream items acts left what → IsOver what
+    (left : List ℕ) (what : Stop) → Items c p stream items acts left what → IsOver what
     → Items c p (stream ++ more) items acts (left ++ more) what
 
 -- A stream that comes in pieces, of which each is cut behind the rest of those before, up to the
 -- first with which no more items can come. Those behind it aren't looked at.
 abbrev pub CutBy : Client → Phase → List ℕ → List (List ℕ) → List (List ℕ) → List Act → List ℕ
-    → Rest → List (List ℕ) → Type 0
+    → Stop → List (List ℕ) → Type 0
 CutBy c p held [] items acts left what unseen =
-    (items ≡ []) × (acts ≡ []) × (left ≡ held) × (what ≡ rest.More) × (unseen ≡ [])
+    (items ≡ []) × (acts ≡ []) × (left ≡ held) × (what ≡ stop.More) × (unseen ≡ [])
 CutBy c p held (piece ∷ pieces) items acts left what unseen =
     (Items c p (held ++ piece) items acts left what × IsOver what × (unseen ≡ pieces))
     ⊎ ((first : List (List ℕ)) × (others : List (List ℕ)) × (first_acts : List Act)
     × (other_acts : List Act) × (mid : List ℕ)
     × (items ≡ first ++ others) × (acts ≡ first_acts ++ other_acts)
-    × Items c p (held ++ piece) first first_acts mid rest.More
+    × Items c p (held ++ piece) first first_acts mid stop.More
     × CutBy c (phase_after c p first) mid pieces others other_acts left what unseen)
 
 -- Pieces of bytes are cut in some way. What is cut piece by piece are the items of all the pieces,
@@ -83,14 +83,14 @@ CutBy c p held (piece ∷ pieces) items acts left what unseen =
 -- ask the same, and the same stands behind them.
 pub record AreCutAlike : Type 0 where
   pub some : (c : Client) (p : Phase) (pieces : List (List ℕ)) → All (λ b. b < 256) (joined pieces)
-      → (items : List (List ℕ)) × (acts : List Act) × (left : List ℕ) × (what : Rest)
+      → (items : List (List ℕ)) × (acts : List Act) × (left : List ℕ) × (what : Stop)
       × (unseen : List (List ℕ)) × CutBy c p [] pieces items acts left what unseen
   pub whole : (c : Client) (p : Phase) (pieces items : List (List ℕ)) (acts : List Act)
-      (left : List ℕ) (what : Rest) (unseen : List (List ℕ))
+      (left : List ℕ) (what : Stop) (unseen : List (List ℕ))
       → CutBy c p [] pieces items acts left what unseen
       → Items c p (joined pieces) items acts (left ++ joined unseen) what
   pub alike : (c : Client) (p : Phase) (ps qs is js : List (List ℕ)) (xs ys : List Act)
-      (q r : List ℕ) (x y : Rest) (l m : List (List ℕ))
+      (q r : List ℕ) (x y : Stop) (l m : List (List ℕ))
       → joined ps ≡ joined qs → CutBy c p [] ps is xs q x l → CutBy c p [] qs js ys r y m
       → (is ≡ js) × (xs ≡ ys) × (q ++ joined l ≡ r ++ joined m) × (x ≡ y)
 
@@ -121,7 +121,7 @@ abbrev pub WholeInputsEnd : Type 0
 WholeInputsEnd = (c : Client) (r : Served) (a b : Spring) (v w : World) (stream : List ℕ)
     (items : List (List ℕ)) (acts : List Act)
     → Serves c r a b v w → a.left ≡ Some stream
-    → Items c (first_phase c.kind) stream items acts [] rest.More → length stream ≤ longest
+    → Items c (first_phase c.kind) stream items acts [] stop.More → length stream ≤ longest
     → StandsStill a.faults b.faults → StandsStill v.faults w.faults
     → StandsStill v.seated.refusals w.seated.refusals → (r ≡ served.Ended) ⊎ (r ≡ served.Memory)
 
@@ -129,15 +129,15 @@ WholeInputsEnd = (c : Client) (r : Served) (a b : Spring) (v w : World) (stream 
 -- of what is asked and answered. Where a read, a write or memory failed, or there are too many
 -- bytes, it says nothing; EndsAs does.
 abbrev pub OfStream : Client → Served → List ℕ → World → World → Type 0
-OfStream c served.Ended stream v w = Whole c stream [] rest.More v w
+OfStream c served.Ended stream v w = Whole c stream [] stop.More v w
 OfStream c (served.Cut n) stream v w =
-    (left : List ℕ) × (length left ≡ n) × Whole c stream left rest.More v w
+    (left : List ℕ) × (length left ≡ n) × Whole c stream left stop.More v w
 OfStream c (served.Malformed at rule) stream v w =
-    (left : List ℕ) × (at + length left ≡ length stream) × Whole c stream left (rest.Bad rule) v w
+    (left : List ℕ) × (at + length left ≡ length stream) × Whole c stream left (stop.Bad rule) v w
 OfStream c (served.LineTooLong at) stream v w =
-    (left : List ℕ) × (at + length left ≡ length stream) × Whole c stream left rest.TooLong v w
+    (left : List ℕ) × (at + length left ≡ length stream) × Whole c stream left stop.TooLong v w
 OfStream c (served.Unbuilt at) stream v w =
-    (left : List ℕ) × (at + length left ≡ length stream) × Whole c stream left rest.Unbuilt v w
+    (left : List ℕ) × (at + length left ≡ length stream) × Whole c stream left stop.Unbuilt v w
 OfStream c served.ReadFault stream v w = Unit {0}
 OfStream c served.WriteFault stream v w = Unit {0}
 OfStream c served.Spent stream v w = Unit {0}

@@ -15,8 +15,8 @@ use Rattle.session.specs.declared.serve.Run.{Run}
 use Rattle.session.specs.declared.serve.Stage.{Stage}
 use Rattle.session.specs.declared.served.Fed.{Fed}
 use Rattle.session.specs.declared.served.Fed.TheVariants.{More, Over, WriteFault, Memory}
-use Rattle.session.specs.declared.served.Rest.{Rest}
-use Rattle.session.specs.declared.served.Rest.TheVariants as rest
+use Rattle.session.specs.declared.served.Stop.{Stop}
+use Rattle.session.specs.declared.served.Stop.TheVariants as stop
 use Rattle.session.specs.Cuts.{next_phase}
 use Rattle.session.specs.Asked.{Means}
 use Rattle.session.specs.Items.{IsItem, AreItems, Remains, joined, phase_after}
@@ -110,11 +110,11 @@ ActEnds (Err More) act serial v w = ⊥
 ActEnds (Err (Over ending)) act serial v w = ⊥
 
 -- what a whole item that asks nothing is
-abbrev pub Declines : Client → Phase → List ℕ → Rest → Type 0
-Declines c p item rest.More = ⊥
-Declines c p item (rest.Bad rule) = Means c p item (Err (Breaks rule))
-Declines c p item rest.TooLong = ⊥
-Declines c p item rest.Unbuilt = Means c p item (Err Unbuilt)
+abbrev pub Declines : Client → Phase → List ℕ → Stop → Type 0
+Declines c p item stop.More = ⊥
+Declines c p item (stop.Bad rule) = Means c p item (Err (Breaks rule))
+Declines c p item stop.TooLong = ⊥
+Declines c p item stop.Unbuilt = Means c p item (Err Unbuilt)
 
 -- an item was read, and then asking and answering it ended so
 abbrev pub HaltsAt : Client → Fed → Stage → World → List ℕ → World → Type 0
@@ -122,7 +122,7 @@ HaltsAt c halt s v item w =
     (act : Act) × Means c s.phase item (Ok act) × ActEnds (Err halt) act s.serial v w
 
 -- how one whole item ended
-abbrev pub ItemEnds : Client → Result (Option Rest) Fed → Stage → World → List ℕ → Stage → World
+abbrev pub ItemEnds : Client → Result (Option Stop) Fed → Stage → World → List ℕ → Stage → World
     → Type 0
 ItemEnds c (Ok None) s v item t w = (act : Act) × Means c s.phase item (Ok act)
     × (t.phase ≡ next_phase c s.phase item) × ActEnds (Ok t.serial) act s.serial v w
@@ -178,7 +178,7 @@ pub record Began (c : Client) (s : Stage) (v : World) (bytes : List ℕ) (w : Wo
 -- how a run over bytes ended
 abbrev pub Stops : Client → Result Run Fed → Stage → World → List ℕ → Stage → World → Type 0
 Stops c (Ok run) s v bytes t w = (run.len ≤ length bytes) × Did c s v (take run.len bytes) t w
-    × Remains c t.phase (drop run.len bytes) run.rest
+    × Remains c t.phase (drop run.len bytes) run.stop
 Stops c (Err WriteFault) s v bytes t w = Broke c s v bytes w × HasRisen v.faults w.faults
 Stops c (Err Memory) s v bytes t w = Began c s v bytes w ⊎ BrokeUnsaid c s v bytes w
 Stops c (Err More) s v bytes t w = ⊥

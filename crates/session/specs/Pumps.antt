@@ -5,8 +5,8 @@ use Rattle.session.specs.declared.connection.Pumped.{Pumped}
 use Rattle.session.specs.declared.connection.Pumped.TheVariants as pumped
 use Rattle.session.specs.declared.served.Fed.{Fed}
 use Rattle.session.specs.declared.served.Fed.TheVariants as fed
-use Rattle.session.specs.declared.served.Rest.{Rest}
-use Rattle.session.specs.declared.served.Rest.TheVariants as rest
+use Rattle.session.specs.declared.served.Stop.{Stop}
+use Rattle.session.specs.declared.served.Stop.TheVariants as stop
 use Rattle.session.specs.declared.served.Served.{Served}
 use Rattle.session.specs.declared.served.Served.TheVariants as served
 use Rattle.session.specs.declared.act.Act.{Act}
@@ -30,7 +30,7 @@ IsDry b = IfSome b.left (λ left. left ≡ [])
 
 -- These bytes were read, no more than a connection may have: items, all asked and answered, and
 -- then the session's rest, which is this.
-pub record Kept (c : Client) (read : List ℕ) (what : Rest) (v : World) (s : Standing) (w : World) :
+pub record Kept (c : Client) (read : List ℕ) (what : Stop) (v : World) (s : Standing) (w : World) :
     Type 0 where
   pub taken : List ℕ
   pub bytes : read ≡ taken ++ s.rest
@@ -49,19 +49,19 @@ CameLast c read =
     (before : List ℕ) × (piece : List ℕ) × (items : List (List ℕ)) × (acts : List Act)
     × (left : List ℕ)
     × (read ≡ before ++ piece) × (length piece ≤ longest_piece)
-    × Items c (first_phase c.kind) before items acts left rest.More
+    × Items c (first_phase c.kind) before items acts left stop.More
 
 -- all pieces but the last were taken
 abbrev pub IsSpent : Client → List ℕ → World → World → Type 0
 IsSpent c read v w = (longest < length read)
     × ((before : List ℕ) × (piece : List ℕ) × (m : Standing) × (read ≡ before ++ piece)
-    × (length piece ≤ longest_piece) × Kept c before rest.More v m w)
+    × (length piece ≤ longest_piece) × Kept c before stop.More v m w)
 
 abbrev pub PumpsInto : Client → Served → List ℕ → World → Standing → World → Type 0
 PumpsInto c (served.Malformed at rule) read v s w =
-    Kept c read (rest.Bad rule) v s w × (at ≡ s.before)
-PumpsInto c (served.LineTooLong at) read v s w = Kept c read rest.TooLong v s w × (at ≡ s.before)
-PumpsInto c (served.Unbuilt at) read v s w = Kept c read rest.Unbuilt v s w × (at ≡ s.before)
+    Kept c read (stop.Bad rule) v s w × (at ≡ s.before)
+PumpsInto c (served.LineTooLong at) read v s w = Kept c read stop.TooLong v s w × (at ≡ s.before)
+PumpsInto c (served.Unbuilt at) read v s w = Kept c read stop.Unbuilt v s w × (at ≡ s.before)
 PumpsInto c served.Spent read v s w = IsSpent c read v w
 PumpsInto c served.Ended read v s w = ⊥
 PumpsInto c (served.Cut n) read v s w = ⊥
@@ -83,9 +83,9 @@ PumpsOver c fed.Memory read v s w =
 abbrev pub PumpsUpTo : Client → Pumped → List ℕ → Spring → Spring → World → Standing → World
     → Type 0
 PumpsUpTo c pumped.End read a b v s w =
-    Kept c read rest.More v s w × (s.fed ≡ fed.More) × IsDry b × (b.faults ≡ a.faults)
+    Kept c read stop.More v s w × (s.fed ≡ fed.More) × IsDry b × (b.faults ≡ a.faults)
 PumpsUpTo c pumped.Fault read a b v s w =
-    Kept c read rest.More v s w × (s.fed ≡ fed.More) × HasRisen a.faults b.faults
+    Kept c read stop.More v s w × (s.fed ≡ fed.More) × HasRisen a.faults b.faults
 PumpsUpTo c pumped.Over read a b v s w =
     PumpsOver c s.fed read v s w × CameLast c read × (b.faults ≡ a.faults)
 

@@ -12,8 +12,8 @@ use Rattle.portal_model.specs.Seated.{Seated, Asks, bound, state_seen}
 use Rattle.session.specs.declared.act.Client.{Client}
 use Rattle.session.specs.declared.served.Fed.{Fed}
 use Rattle.session.specs.declared.served.Fed.TheVariants as fed
-use Rattle.session.specs.declared.served.Rest.{Rest}
-use Rattle.session.specs.declared.served.Rest.TheVariants as rest
+use Rattle.session.specs.declared.served.Stop.{Stop}
+use Rattle.session.specs.declared.served.Stop.TheVariants as stop
 use Rattle.session.specs.declared.served.Served.{Served}
 use Rattle.session.specs.declared.served.Served.TheVariants as served
 use Rattle.session.specs.Items.{Remains}
@@ -45,7 +45,7 @@ Opens c v result w = Enters c.who c.kind v result w × IfOk result (λ s. s ≡ 
 -- ---- feed
 
 -- Of the rest and the piece the whole items are asked and answered, and behind them stands this.
-pub record TakesUpTo (what : Rest) (s : Standing) (v : World) (piece : List ℕ) (t : Standing)
+pub record TakesUpTo (what : Stop) (s : Standing) (v : World) (piece : List ℕ) (t : Standing)
     (w : World) : Type 0 where
   pub taken : List ℕ
   pub bytes : s.rest ++ piece ≡ taken ++ t.rest
@@ -74,10 +74,10 @@ HoldsBoth s piece t = (t.before ≡ s.before) × (t.rest ≡ s.rest ++ piece)
 -- The ends that a piece alone can bring.
 abbrev pub FeedsOver : Standing → World → List ℕ → Served → Standing → World → Type 0
 FeedsOver s v piece (served.Malformed at rule) t w =
-    TakesUpTo (rest.Bad rule) s v piece t w × (at ≡ t.before)
+    TakesUpTo (stop.Bad rule) s v piece t w × (at ≡ t.before)
 FeedsOver s v piece (served.LineTooLong at) t w =
-    TakesUpTo rest.TooLong s v piece t w × (at ≡ t.before)
-FeedsOver s v piece (served.Unbuilt at) t w = TakesUpTo rest.Unbuilt s v piece t w × (at ≡ t.before)
+    TakesUpTo stop.TooLong s v piece t w × (at ≡ t.before)
+FeedsOver s v piece (served.Unbuilt at) t w = TakesUpTo stop.Unbuilt s v piece t w × (at ≡ t.before)
 FeedsOver s v piece served.Spent t w =
     (longest < s.before + length s.rest + length piece) × (w ≡ v) × StaysAt s t
 FeedsOver s v piece served.Ended t w = ⊥
@@ -95,7 +95,7 @@ FeedsNot s v piece t w = ((w ≡ v) × StaysAt s t)
     ⊎ BrokeUnsaid s.client s.stage v (s.rest ++ piece) w) × HoldsBoth s piece t)
 
 abbrev pub FeedsOpen : Standing → World → List ℕ → Fed → Standing → World → Type 0
-FeedsOpen s v piece fed.More t w = TakesUpTo rest.More s v piece t w × Keeps s fed.More t
+FeedsOpen s v piece fed.More t w = TakesUpTo stop.More s v piece t w × Keeps s fed.More t
 FeedsOpen s v piece (fed.Over ending) t w =
     FeedsOver s v piece ending t w × Keeps s (fed.Over ending) t
 FeedsOpen s v piece fed.WriteFault t w = Broke s.client s.stage v (s.rest ++ piece) w
@@ -114,11 +114,11 @@ Feeds fed.WriteFault s v piece r t w = Stays s v fed.WriteFault r t w
 Feeds fed.Memory s v piece r t w = Stays s v fed.Memory r t w
 
 -- what bytes came to behind whose whole items this stands, at this byte of the stream
-abbrev pub fed_of : ℕ → Rest → Fed
-fed_of at rest.More = fed.More
-fed_of at (rest.Bad rule) = fed.Over (served.Malformed at rule)
-fed_of at rest.TooLong = fed.Over (served.LineTooLong at)
-fed_of at rest.Unbuilt = fed.Over (served.Unbuilt at)
+abbrev pub fed_of : ℕ → Stop → Fed
+fed_of at stop.More = fed.More
+fed_of at (stop.Bad rule) = fed.Over (served.Malformed at rule)
+fed_of at stop.TooLong = fed.Over (served.LineTooLong at)
+fed_of at stop.Unbuilt = fed.Over (served.Unbuilt at)
 
 -- ---- end
 

@@ -21,7 +21,7 @@ use portal_model::reply::Refused;
 use std::alloc::Global;
 
 /// How many bytes are asked of the source at a time.
-const PIECE: usize = 4096;
+const LONGEST_PIECE: usize = 4096;
 
 /// Why no more pieces are read.
 #[derive(Clone, Copy, Debug, PartialEq, Eq)]
@@ -52,7 +52,7 @@ fn pump<D: Desk, S: Source, K: Sink>(
         → IsOpen session.old.client (D.seated desk.new) }
     ensures goes { D.goes desk.old desk.new }
 {
-    let mut buffer = [0; PIECE];
+    let mut buffer = [0; LONGEST_PIECE];
     'pieces: loop {
         match source.read(&mut buffer) {
             ReadAnswer::End => return Pumped::End,

@@ -12,7 +12,7 @@ ghost use Rattle.fuse_wire.specs.Frames.{split_of};
 ghost use Rattle.portal_base.specs.declared.split.Split.TheVariants as split;
 
 use crate::act::{Act, Client, ItemError};
-use crate::phase::Phase;
+use crate::phase::{CR_LF, Phase};
 use dbus_auth::{Auth, AuthAnswer};
 use dbus_dispatch::ask::{Ask, expects_reply, request_of};
 use dbus_message::error::MessageError;
@@ -68,7 +68,7 @@ fn step(alloc: Global, auth: &mut Auth, item: &[u8]) -> Result<AuthAnswer, WantO
     ensures ok { IfOk result (λ answer. (answer, auth.new) ≡ step auth.old (line_of item.now)) }
     ensures err { OnErr result (auth.new ≡ auth.old) }
 {
-    auth.step(alloc, &item[..item.len().saturating_sub(2)])
+    auth.step(alloc, &item[..item.len().saturating_sub(CR_LF.len())])
 }
 
 /// Says what a message asks.

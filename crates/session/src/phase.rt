@@ -3,8 +3,9 @@
 ghost use Rattle.std.specs.Prelude.{◌≡◌, ◌+◌, ◌≤◌, length, Option};
 ghost use Rattle.session.specs.Cuts.{Cuts, first_phase, zero_byte_cut, line_cut, cut_of, line_len};
 
-use crate::served::Rest;
+use crate::served::Stop;
 use dbus_auth::{Auth, LONGEST_LINE};
+use memchr::memmem;
 use portal_base::split::Split;
 use portal_base::who::Kind;
 
@@ -24,6 +25,10 @@ pub enum Phase {
 /// The rule that the first byte of a bus connection breaks if it isn't 0.
 pub const ZERO_BYTE_RULE: u32 = 12;
 
+/// What ends a line of the handshake (D-Bus Specification, "Authentication
+/// Protocol", "Protocol Overview").
+pub const CR_LF: [u8; 2] = [b'\r', b'\n'];
+
 /// What is due first on a connection of a kind.
 pub fn first_phase(kind: Kind) -> Phase
     ensures { result ≡ first_phase kind }
@@ -36,7 +41,7 @@ pub fn first_phase(kind: Kind) -> Phase
 
 /// The length of the whole item at the front of a stream, in bytes, or what stands
 /// there in its place.
-pub fn next_cut(phase: &Phase, bytes: &[u8]) -> Result<usize, Rest>
+pub fn next_cut(phase: &Phase, bytes: &[u8]) -> Result<usize, Stop>
     ensures { Cuts phase.now bytes.now result }
 {
     match phase {
@@ -47,35 +52,35 @@ pub fn next_cut(phase: &Phase, bytes: &[u8]) -> Result<usize, Rest>
     }
 }
 
-fn cut_of(split: Split) -> Result<usize, Rest>
+fn cut_of(split: Split) -> Result<usize, Stop>
     ensures { result ≡ cut_of split }
 {
     match split {
-        Split::More => Err(Rest::More),
+        Split::More => Err(Stop::More),
         Split::Whole { len } => Ok(len),
-        Split::Bad { rule } => Err(Rest::Bad { rule }),
+        Split::Bad { rule } => Err(Stop::Bad { rule }),
     }
 }
 
-fn cut_zero_byte(bytes: &[u8]) -> Result<usize, Rest>
+fn cut_zero_byte(bytes: &[u8]) -> Result<usize, Stop>
     ensures { result ≡ zero_byte_cut bytes.now }
 {
     match bytes {
-        [] => Err(Rest::More),
+        [] => Err(Stop::More),
         [0, ..] => Ok(1),
-        _ => Err(Rest::Bad {
+        _ => Err(Stop::Bad {
             rule: ZERO_BYTE_RULE,
         }),
     }
 }
 
-fn cut_line(bytes: &[u8]) -> Result<usize, Rest>
+fn cut_line(bytes: &[u8]) -> Result<usize, Stop>
     ensures { result ≡ line_cut bytes.now }
 {
     match line_len(&bytes[..bytes.len().min(LONGEST_LINE)]) {
         Some(len) => Ok(len),
-        None if bytes.len() < LONGEST_LINE => Err(Rest::More),
-        None => Err(Rest::TooLong),
+        None if bytes.len() < LONGEST_LINE => Err(Stop::More),
+        None => Err(Stop::TooLong),
     }
 }
 
@@ -83,10 +88,8 @@ fn cut_line(bytes: &[u8]) -> Result<usize, Rest>
 fn line_len(bytes: &[u8]) -> Option<usize>
     ensures { result ≡ line_len bytes.now }
 {
-    for (at, _) in bytes.iter().enumerate() {
-        if bytes[at..].starts_with(b"\r\n") {
-            return Some(at + 2);
-        }
+    match memmem::find(bytes, &CR_LF) {
+        Some(at) => Some(at + CR_LF.len()),
+        None => None,
     }
-    None
 }

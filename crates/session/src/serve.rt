@@ -15,7 +15,7 @@ use crate::act::{Act, Client, ItemError};
 use crate::frame::{answer_frame, refusal_frame, told_frame};
 use crate::item::read_item;
 use crate::phase::{Phase, next_cut};
-use crate::served::{Fed, Rest};
+use crate::served::{Fed, Stop};
 use dbus_message::write::write_message;
 use dbus_types::message::OutMessage;
 use portal_base::list::ByteList;
@@ -34,13 +34,13 @@ pub struct Stage {
     pub serial: u32,
 }
 
-/// How far the whole items of some bytes reach, and what stands behind them.
+/// How far the whole items of some bytes reach, and why no more are taken.
 #[derive(Clone, Copy, Debug, PartialEq, Eq)]
 pub struct Run {
     /// The length of the items together, in bytes.
     pub len: usize,
-    /// What stands behind them.
-    pub rest: Rest,
+    /// Why no item behind them is taken.
+    pub stop: Stop,
 }
 
 /// The serial of the message behind one with this serial (D-Bus Specification,
@@ -192,7 +192,7 @@ fn serve_item<D: Desk, K: Sink>(
     item: &[u8],
     desk: &mut D,
     sink: &mut K,
-) -> Result<Option<Rest>, Fed>
+) -> Result<Option<Stop>, Fed>
     requires { Cuts stage.old.phase item.now (whole_item (length item.now)) }
     ensures ends { ItemEnds client.now result stage.old
         (world (D.seated desk.old) (K.told sink.old) (K.faults sink.old)) item.now stage.new
@@ -207,8 +207,8 @@ fn serve_item<D: Desk, K: Sink>(
             }
             Err(halt) => Err(halt),
         },
-        Err(ItemError::Breaks { rule }) => Ok(Some(Rest::Bad { rule })),
-        Err(ItemError::Unbuilt) => Ok(Some(Rest::Unbuilt)),
+        Err(ItemError::Breaks { rule }) => Ok(Some(Stop::Bad { rule })),
+        Err(ItemError::Unbuilt) => Ok(Some(Stop::Unbuilt)),
         Err(ItemError::Memory) => Err(Fed::Memory),
     }
 }
@@ -233,11 +233,11 @@ pub fn serve_items<D: Desk, K: Sink>(
         let left = behind(bytes, len);
         let item = match next_cut(&stage.phase, left) {
             Ok(len) => front(left, len),
-            Err(rest) => return Ok(Run { len, rest }),
+            Err(stop) => return Ok(Run { len, stop }),
         };
         match serve_item(alloc, client, stage, item, desk, sink) {
             Ok(None) => len += item.len(),
-            Ok(Some(rest)) => return Ok(Run { len, rest }),
+            Ok(Some(stop)) => return Ok(Run { len, stop }),
             Err(halt) => return Err(halt),
         }
     }

@@ -60,9 +60,9 @@ pub enum Fed {
     Memory,
 }
 
-/// What stands at the front of a stream behind its last whole item.
+/// Why no more items are taken: what stands behind the last whole one.
 #[derive(Clone, Copy, Debug, PartialEq, Eq)]
-pub enum Rest {
+pub enum Stop {
     /// Too few bytes to tell, or none.
     More,
     /// An item that breaks a rule.

@@ -10,7 +10,7 @@ ghost use Rattle.session.specs.Standings.{client as the_client};
 use crate::act::Client;
 use crate::phase::first_phase;
 use crate::serve::{Stage, serve_items};
-use crate::served::{Fed, Rest, Served};
+use crate::served::{Fed, Served, Stop};
 use bytes::BytesMut;
 use portal_base::limits::Settings;
 use portal_base::memory::{Replica, WantOfMemory};
@@ -23,7 +23,7 @@ use std::alloc::Global;
 use std::marker::Model;
 
 /// How many bytes a connection may have.
-pub const LONGEST: u64 = 1 << 40;
+pub const LONGEST_STREAM: u64 = 1 << 40;
 
 /// One connection of a client, open at a desk.
 ///
@@ -115,7 +115,7 @@ impl Session {
             Fed::More => {}
             fed => return fed,
         }
-        let room = LONGEST - self.before - self.rest.len() as u64;
+        let room = LONGEST_STREAM - self.before - self.rest.len() as u64;
         if piece.len() as u64 > room {
             self.fed = Fed::Over(Served::Spent);
             return self.fed;
@@ -136,7 +136,7 @@ impl Session {
             Ok(run) => {
                 self.rest.advance(run.len);
                 self.before += run.len as u64;
-                self.fed = fed_of(self.before, run.rest);
+                self.fed = fed_of(self.before, run.stop);
             }
             Err(halt) => self.fed = halt,
         }
@@ -218,14 +218,14 @@ fn leave<D: Desk>(alloc: Global, desk: &mut D)
 
 /// What bytes came to behind whose whole items this stands, at this byte of
 /// the stream.
-fn fed_of(at: u64, rest: Rest) -> Fed
-    ensures { result ≡ fed_of at rest }
+fn fed_of(at: u64, stop: Stop) -> Fed
+    ensures { result ≡ fed_of at stop }
 {
-    match rest {
-        Rest::More => Fed::More,
-        Rest::Bad { rule } => Fed::Over(Served::Malformed { at, rule }),
-        Rest::TooLong => Fed::Over(Served::LineTooLong { at }),
-        Rest::Unbuilt => Fed::Over(Served::Unbuilt { at }),
+    match stop {
+        Stop::More => Fed::More,
+        Stop::Bad { rule } => Fed::Over(Served::Malformed { at, rule }),
+        Stop::TooLong => Fed::Over(Served::LineTooLong { at }),
+        Stop::Unbuilt => Fed::Over(Served::Unbuilt { at }),
     }
 }
 

@@ -1,7 +1,7 @@
 use Rattle.std.proofs.Common.{◌≡◌, ◌≤◌, [], ◌++◌, length, refl, sym, ap, ◌∙◌, subst, arith}
 use Rattle.std.proofs.lemmas.List.{length-append, length-take}
 use Rattle.session.specs.declared.served.Fed.TheVariants as fed
-use Rattle.session.specs.declared.served.Rest.TheVariants as rest
+use Rattle.session.specs.declared.served.Stop.TheVariants as stop
 use Rattle.session.specs.Ledger.{world}
 use Rattle.session.specs.Pumps.{Kept}
 use Rattle.session.specs.Standings.{Standing}
@@ -15,7 +15,7 @@ pieces-init g c =
     let who = c.args.session.now.client in
     record {
       long = refl;
-      so_far = ([], behind_none _, subst (λ (s : Standing). Kept who [] rest.More v s v) (sym c.requires) (kept_none who v));
+      so_far = ([], behind_none _, subst (λ (s : Standing). Kept who [] stop.More v s v) (sym c.requires) (kept_none who v));
       faults = refl;
       still = ap (λ (s : Standing). s.fed) c.requires;
       client_is = refl;
@@ -47,7 +47,7 @@ pieces-preserved g c =
     let n = c.in-Got.ensures.counts in
     record {
       long = omega arith;
-      so_far = (i.so_far.0 ++ piece, left_later i.so_far.0 _ piece _ _ _ i.so_far.1 r.2 c.front.ensures, kept_on who i.so_far.0 piece v m w s c.feed.new.self i.so_far.2 i.client_is rest.More f.0);
+      so_far = (i.so_far.0 ++ piece, left_later i.so_far.0 _ piece _ _ _ i.so_far.1 r.2 c.front.ensures, kept_on who i.so_far.0 piece v m w s c.feed.new.self i.so_far.2 i.client_is stop.More f.0);
       faults = n ∙ i.faults;
       still = f.1.0;
       client_is = client_on who i.so_far.0 piece v m w s c.feed.new.self i.so_far.2 i.client_is fed.More f;

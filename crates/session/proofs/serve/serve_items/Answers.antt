@@ -1,5 +1,5 @@
 use Rattle.std.proofs.Common.{◌≡◌, ℕ, List, length, take, drop, Option, Some, None, Ok, ap, ◌∙◌, subst, arith}
-use Rattle.session.specs.declared.served.Rest.{Rest}
+use Rattle.session.specs.declared.served.Stop.{Stop}
 use Rattle.session.specs.Cuts.{Cuts, no_item, whole_item}
 use Rattle.session.specs.Ledger.{world, ItemEnds}
 use Rattle.session.proofs.NextCut.{whole_alone, whole_within}
@@ -13,8 +13,8 @@ items-init g c = record { within = omega arith; did = did_none _ _ _; goes = g.m
 
 pub returns-in-Err-clause-stops : goal.returns-in-Err-clause-stops
 returns-in-Err-clause-stops g c =
-    let is = subst (λ (b : List ℕ). Cuts c.items.stage.phase b (no_item c.in-Err.rest)) c.behind-left.ensures c.in-Err.ensures in
-    (c.items.invariant.within, c.items.invariant.did, remains_cut c.args.client.now c.items.stage.phase _ c.in-Err.rest is)
+    let is = subst (λ (b : List ℕ). Cuts c.items.stage.phase b (no_item c.in-Err.stop)) c.behind-left.ensures c.in-Err.ensures in
+    (c.items.invariant.within, c.items.invariant.did, remains_cut c.args.client.now c.items.stage.phase _ c.in-Err.stop is)
 
 pub front-item-requires : goal.front-item-requires
 front-item-requires g c = (whole_within _ _ _ c.in-Ok.ensures).1
@@ -46,8 +46,8 @@ returns-in-Ok-Some-clause-stops g c =
     let w = world (g.D.Desk.seated c.serve_item.new.desk) (g.K.Sink.told c.serve_item.new.sink) (g.K.Sink.faults c.serve_item.new.sink) in
     let m = world (g.D.Desk.seated c.items.desk) (g.K.Sink.told c.items.sink) (g.K.Sink.faults c.items.sink) in
     let ends : ItemEnds c.args.client.now (Ok c.in-Ok-Some.field-0) c.items.stage m c.front-item.result.now c.serve_item.new.stage w = c.in-Ok-Some.ensures.ends in
-    let ends_at : ItemEnds c.args.client.now (Ok (Some c.in-Ok-Some.rest)) c.items.stage m (take n (drop used bytes)) c.serve_item.new.stage w = subst (λ (z : List ℕ). ItemEnds c.args.client.now (Ok (Some c.in-Ok-Some.rest)) c.items.stage m z c.serve_item.new.stage w) item (subst (λ (o : Option Rest). ItemEnds c.args.client.now (Ok o) c.items.stage m c.front-item.result.now c.serve_item.new.stage w) c.in-Ok-Some.field-0-is ends) in
-    run_ends c.args.client.now _ c.items.stage _ m w bytes used n i.did is c.in-Ok-Some.rest c.serve_item.new.stage i.within ends_at
+    let ends_at : ItemEnds c.args.client.now (Ok (Some c.in-Ok-Some.stop)) c.items.stage m (take n (drop used bytes)) c.serve_item.new.stage w = subst (λ (z : List ℕ). ItemEnds c.args.client.now (Ok (Some c.in-Ok-Some.stop)) c.items.stage m z c.serve_item.new.stage w) item (subst (λ (o : Option Stop). ItemEnds c.args.client.now (Ok o) c.items.stage m c.front-item.result.now c.serve_item.new.stage w) c.in-Ok-Some.field-0-is ends) in
+    run_ends c.args.client.now _ c.items.stage _ m w bytes used n i.did is c.in-Ok-Some.stop c.serve_item.new.stage i.within ends_at
 
 pub items-preserved : goal.items-preserved
 items-preserved g c =
@@ -61,7 +61,7 @@ items-preserved g c =
     let w = world (g.D.Desk.seated c.serve_item.new.desk) (g.K.Sink.told c.serve_item.new.sink) (g.K.Sink.faults c.serve_item.new.sink) in
     let m = world (g.D.Desk.seated c.items.desk) (g.K.Sink.told c.items.sink) (g.K.Sink.faults c.items.sink) in
     let ends : ItemEnds c.args.client.now (Ok c.in-Ok-None.field-0) c.items.stage m c.front-item.result.now c.serve_item.new.stage w = c.in-Ok-None.ensures.ends in
-    let ends_at : ItemEnds c.args.client.now (Ok None) c.items.stage m (take n (drop used bytes)) c.serve_item.new.stage w = subst (λ (z : List ℕ). ItemEnds c.args.client.now (Ok None) c.items.stage m z c.serve_item.new.stage w) item (subst (λ (o : Option Rest). ItemEnds c.args.client.now (Ok o) c.items.stage m c.front-item.result.now c.serve_item.new.stage w) c.in-Ok-None.field-0-is ends) in
+    let ends_at : ItemEnds c.args.client.now (Ok None) c.items.stage m (take n (drop used bytes)) c.serve_item.new.stage w = subst (λ (z : List ℕ). ItemEnds c.args.client.now (Ok None) c.items.stage m z c.serve_item.new.stage w) item (subst (λ (o : Option Stop). ItemEnds c.args.client.now (Ok o) c.items.stage m c.front-item.result.now c.serve_item.new.stage w) c.in-Ok-None.field-0-is ends) in
     let size = item_size phase bytes used n (length c.front-item.result.now) is (ap length item) i.within in
     record {
       within = size.2;
