@@ -1,0 +1,2 @@
+mod OpenedLemmas
+mod WithinLimit

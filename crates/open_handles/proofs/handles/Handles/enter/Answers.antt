@@ -1,0 +1,15 @@
+use Rattle.std.proofs.Common.{ap, subst}
+use Rattle.open_handles.specs.Opened.{HandleTable, AtSeat, Enters}
+use Rattle.open_handles.proofs.OpenedLemmas.{enters-as}
+use Rattle.open_handles.proofs.WithinLimit.{within-entered}
+use Rattle.open_handles.proofs.handles.Handles.enter.Goals as goal
+
+pub returns-clause-ok : goal.returns-clause-ok
+returns-clause-ok c =
+    subst (λ es. AtSeat Enters es c.insert.new.self.entries c.args.seat) (ap (λ (t : HandleTable). t.seats) c.self.view_is)
+    (enters-as _ _ c.args.seat c.new.result c.in_ok-insert.ensures.updates.1 c.new.ensures c.in_ok-insert.ensures.updates.2)
+
+pub invariant_of-self-2 : goal.invariant_of-self-2
+invariant_of-self-2 c =
+    within-entered c.self.inside.most _ _ c.args.seat
+    (enters-as _ _ c.args.seat c.new.result c.in_ok-insert.ensures.updates.1 c.new.ensures c.in_ok-insert.ensures.updates.2) c.self.invariant
