@@ -10,8 +10,8 @@ use std::alloc::Global;
 /// The place of one seat at a portal.
 ///
 /// Contracts see what the seat knows: its number, the history as far as it has
-/// seen it, its own entries in it with their replies, and how many of its
-/// requests were refused.
+/// seen it, its own entries in it with the replies of their steps, and how many
+/// of its requests were refused.
 pub trait Desk {
     ghost use Rattle.std.specs.Prelude.{◌≡◌, ℕ};
     ghost use Rattle.portal_model.specs.Seated.{Asks, Known, Seated};
@@ -24,7 +24,8 @@ pub trait Desk {
 
     /// Asks a request of the seat, which is one that has a body.
     ///
-    /// A reply is that of one step of the sequential portal: the history that
+    /// A reply is that of one step of the sequential portal, or alike over a
+    /// tree that doesn't tell its files: the history that
     /// is seen begins with what was seen before and ends with this request,
     /// which alone is new of the seat's own. A refusal is counted, and leaves
     /// the seat's own entries; `Full` comes only where the history that is
