@@ -9,8 +9,8 @@ use Rattle.portal_model.specs.declared.reply.Reply.{Reply}
 use Rattle.portal_model.specs.declared.request.NodeOp.{NodeOp}
 use Rattle.portal_model.specs.declared.request.Request.{Request}
 
--- a READ of at most so many bytes, by what the step tells: in place of a content any other of at
--- most that size, and all else as it is
+-- the answers to a READ of at most so many bytes, by what the step tells: in place of a content any
+-- of at most that size, and all else as it is
 abbrev pub TellsAlike : ℕ → NodeAnswer → Answer → Type 0
 TellsAlike size (NodeAnswer.Content stepped) given =
     (found : List ℕ) × (given ≡ Answer.Node (NodeAnswer.Content found)) × (length found ≤ size)
@@ -26,11 +26,11 @@ TellsAlike size (NodeAnswer.Names names offset most) given =
 TellsAlike size NodeAnswer.Empty given = given ≡ Answer.Node NodeAnswer.Empty
 TellsAlike size NodeAnswer.Quiet given = given ≡ Answer.Node NodeAnswer.Quiet
 TellsAlike size (NodeAnswer.Error errno) given = given ≡ Answer.Node (NodeAnswer.Error errno)
-TellsAlike size (NodeAnswer.Init major minor readahead flags background congestion max_write time_gran) given =
-    given ≡ Answer.Node (NodeAnswer.Init major minor readahead flags background congestion max_write time_gran)
+TellsAlike size (NodeAnswer.Init major minor ahead flags background congestion most grain) given =
+    given ≡ Answer.Node (NodeAnswer.Init major minor ahead flags background congestion most grain)
 TellsAlike size NodeAnswer.Statfs given = given ≡ Answer.Node NodeAnswer.Statfs
 
--- and by its answer
+-- the same, by the step's answer
 abbrev pub ReadsAlike : ℕ → Answer → Answer → Type 0
 ReadsAlike size (Answer.Node told) given = TellsAlike size told given
 ReadsAlike size Answer.Done given = given ≡ Answer.Done

@@ -102,8 +102,8 @@ pub record Made (old new : Seated) (request : Request) (reply : Reply) : Type 0 
   pub seen : new.seen ≡ old.seen ++ (others ++ entry ∷ [])
   pub seat_is : entry.seat ≡ old.seat
   pub request_is : entry.request ≡ request
-  pub reply_is : Alike old.opening.told request (reply_at (run old.opening (old.seen ++ others)) entry)
-      reply
+  pub reply_is : Alike old.opening.told request
+      (reply_at (run old.opening (old.seen ++ others)) entry) reply
   pub mine : new.mine ≡ old.mine ++ exchange (run old.opening (old.seen ++ others)) entry ∷ []
   pub refusals : new.refusals ≡ old.refusals
 

@@ -24,13 +24,13 @@ pub trait Desk {
 
     /// Asks a request of the seat, which is one that has a body.
     ///
-    /// A reply is that of one step of the sequential portal, or alike over a
-    /// tree that doesn't tell its files: the history that
+    /// A reply is that of one step of the sequential portal: the history that
     /// is seen begins with what was seen before and ends with this request,
-    /// which alone is new of the seat's own. A refusal is counted, and leaves
-    /// the seat's own entries; `Full` comes only where the history that is
-    /// seen and this request would cost more than the limit. The Leave of an
-    /// open connection is never refused.
+    /// which alone is new of the seat's own. Over a tree that doesn't tell its
+    /// files the reply is alike to the step's: another content may be read. A
+    /// refusal is counted, and leaves the seat's own entries; `Full` comes only
+    /// where the history that is seen and this request would cost more than
+    /// the limit. The Leave of an open connection is never refused.
     fn ask(&mut self, alloc: Global, request: Request) -> Result<Reply, Refused>
         requires { Built request }
         ensures asks { Asks (seated self.old) request result (seated self.new) }
