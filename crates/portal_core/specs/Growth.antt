@@ -15,8 +15,8 @@ use Rattle.portal_model.specs.Step.{reply_at}
 abbrev pub cost_after : List Entry → Request → ℕ
 cost_after h request = cost h + cost_of request
 
--- the history grew by one entry, of this seat and request, of which this is said; the reply is alike
--- to the step's
+-- the history grew by one entry, of this seat and request, of which this is said; the reply is
+-- alike to the step's
 pub record GrowsBy (says : Entry
     → Type 0) (s : State) (old new : List Entry) (seat : ℕ) (request : Request)
     (reply : Reply) : Type 0 where

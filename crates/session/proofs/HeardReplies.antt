@@ -17,7 +17,7 @@ use Rattle.portal_model.specs.declared.request.NodeOp.{NodeOp}
 use Rattle.portal_model.specs.declared.request.NodeRequest.{NodeRequest}
 use Rattle.portal_model.specs.declared.request.Request.{Request}
 use Rattle.portal_model.specs.declared.state.Connection.{Connection}
-use Rattle.portal_model.specs.Alike.{Alike, AnswersAlike, NodeAlike, ReadsAlike, TellsAlike}
+use Rattle.portal_model.specs.Alike.{AnswersAlike, NodeAlike, ReadsAlike, TellsAlike}
 use Rattle.portal_model.specs.Enter.{enter_answer}
 use Rattle.portal_model.specs.Errno.{ebadf, eio, enoent, enosys}
 use Rattle.portal_model.specs.GetAttr.{attr_of_file, by_place, names_handle}

@@ -4,7 +4,7 @@ use Rattle.fuse_reply.specs.Replies.{reply_of}
 use Rattle.portal_model.specs.declared.reply.Answer.{Answer}
 use Rattle.portal_model.specs.declared.reply.Answer.TheVariants as answer
 use Rattle.portal_model.specs.declared.reply.Code.{Code}
-use Rattle.portal_model.specs.declared.reply.Code.TheVariants.{Errno, NotHere}
+use Rattle.portal_model.specs.declared.reply.Code.TheVariants.{Errno}
 use Rattle.portal_model.specs.declared.reply.NodeAnswer.{NodeAnswer}
 use Rattle.portal_model.specs.declared.reply.NodeAnswer.TheVariants.{Error}
 use Rattle.portal_model.specs.declared.reply.Refused.{Refused}
