@@ -1,5 +1,5 @@
 -- What a session begins and ends with at a desk that has a portal alone.
-use Rattle.std.proofs.Common.{◌≡◌, ℕ, ◌+◌, ◌<◌, ◌≤◌, [], ◌∷◌, Result, Ok, Err, refl, sym, ap, ◌∙◌, subst, inl, inr, arith}
+use Rattle.std.proofs.Common.{◌≡◌, ℕ, ◌+◌, ◌<◌, ◌≤◌, [], ◌∷◌, ◌++◌, Result, Ok, Err, refl, sym, ap, ◌∙◌, subst, inl, inr, arith}
 use Rattle.std.proofs.lemmas.List.{append-nil}
 use Rattle.portal_base.specs.declared.limits.Settings.{Settings}
 use Rattle.portal_base.specs.declared.who.Kind.{Kind}
@@ -10,10 +10,10 @@ use Rattle.portal_model.specs.declared.reply.Refused.{Refused}
 use Rattle.portal_model.specs.declared.reply.Refused.TheVariants as refused
 use Rattle.portal_model.specs.declared.reply.Reply.{Reply}
 use Rattle.portal_model.specs.declared.request.Request.{Request}
-use Rattle.portal_model.specs.History.{Legal, cost, cost_of}
+use Rattle.portal_model.specs.History.{Legal, cost, cost_of, run}
 use Rattle.portal_model.specs.Opening.{opened}
 use Rattle.portal_model.specs.Built.{Built}
-use Rattle.portal_model.specs.Seated.{Asks, Exchange, exchanges}
+use Rattle.portal_model.specs.Seated.{Asks, Exchange, exchange, exchanges}
 use Rattle.portal_model.specs.State.{State}
 use Rattle.session.specs.declared.served.Served.{Served}
 use Rattle.session.specs.Answers.{Made}
@@ -33,7 +33,7 @@ module _ (p q : Story) (seat count : ℕ) (same : opened q.opening ≡ opened p.
   asked_one : (request : Request) (reply : Reply) → Built request → Asks (known_at p seat 0) request (Ok reply) (known_at q seat count) → Asked p q seat (request ∷ [])
   asked_one request reply built h =
       let made = h.answered in
-      let x : Exchange = record { entry = made.entry; reply = reply } in
+      let x : Exchange = exchange (run (opened p.opening) (p.history ++ made.others)) made.entry in
       (asked_alone (opened p.opening) p.history q.history seat legal_there own (request ∷ []) (Made x ∷ []) (built, tt) refl (exchanges_there ∙ made.mine) refl (Made x, [], refl, made.request_is, refl)).0
 
   -- one was refused: the history is as before

@@ -22,6 +22,7 @@ use Rattle.session.specs.Ledger.{World}
 use Rattle.session.specs.Sessions.{Feeds, FeedsOpen, FeedsOver, TakesUpTo, fed_of}
 use Rattle.session.specs.Standings.{Standing, longest}
 use Rattle.session.proofs.AnswersAsked.{answer_asked}
+use Rattle.session.proofs.Grew.{told_alike}
 use Rattle.docportal.specs.declared.error.LineError.{LineError}
 use Rattle.docportal.specs.declared.error.LineError.TheVariants as not_run
 use Rattle.docportal.specs.declared.seats.Heard.{Heard}
@@ -51,7 +52,7 @@ module _ (p q : Story) (seat count : ℕ) (at now : Standing) (bytes : List ℕ)
       let d = t.did in
       let s = opened p.opening in
       let rs = requests_of d.acts in
-      let mine : exchanges seat s q.history ≡ exchanges seat s p.history ++ kept d.outcomes = sym (ap (λ (z : State). exchanges seat z q.history) same) ∙ d.grows.desk.mine in
+      let mine : exchanges seat s q.history ≡ exchanges seat s p.history ++ kept d.outcomes = sym (ap (λ (z : State). exchanges seat z q.history) same) ∙ told_alike _ _ d.outcomes d.grows.desk refl in
       let fewest : denied d.outcomes ≡ 0 = none_denied (denied d.outcomes) count none d.grows.desk.refusals in
       let made = asked_alone s p.history q.history seat (subst (λ (z : State). Legal z q.history) same legal) own rs d.outcomes (items_built d.items at.client at.stage.phase d.acts d.each) refl mine fewest (answer_asked.items at.stage.serial now.stage.serial d.acts d.outcomes d.pieces d.answers) in
       let pieces : sink'.pieces ≡ d.pieces = some_is _ _ d.grows.told ∙ ap (λ (z : List (List ℕ)). z ++ d.pieces) empty in

@@ -4,8 +4,9 @@ use Rattle.std.proofs.lemmas.List.{append-nil}
 use Rattle.portal_model.specs.declared.entry.Entry.{Entry}
 use Rattle.portal_model.specs.declared.reply.Reply.{Reply}
 use Rattle.portal_model.specs.declared.request.Request.{Request}
+use Rattle.portal_model.specs.Alike.{Alike}
 use Rattle.portal_model.specs.History.{run}
-use Rattle.portal_model.specs.Seated.{Asks, Made, exchanges}
+use Rattle.portal_model.specs.Seated.{Asks, Made, exchange, exchanges}
 use Rattle.portal_model.specs.State.{State}
 use Rattle.portal_model.specs.Step.{reply_at}
 use Rattle.portal_model.proofs.SeatLaws.{exchanges-own}
@@ -13,11 +14,11 @@ use Rattle.portal_core.specs.Growth.{GrowsBy}
 use Rattle.portal_core.specs.Lending.{seated_at}
 
 module _ (says : Entry → Type 0) (s : State) (old new : List Entry) (seat refusals : ℕ) (request : Request) (reply : Reply) (g : GrowsBy says s old new seat request reply) where
-  own_exchange : exchanges seat s new ≡ exchanges seat s old ++ record { entry = g.entry; reply = reply } ∷ []
+  own_exchange : exchanges seat s new ≡ exchanges seat s old ++ exchange (run s (old ++ [])) g.entry ∷ []
   own_exchange =
       ap (exchanges seat s) g.grown
       ∙ (exchanges-own seat s old g.entry g.seat_is
-      ∙ ap (λ (r : Reply). exchanges seat s old ++ record { entry = g.entry; reply = r } ∷ []) (sym g.reply_is))
+      ∙ ap (λ (h : List Entry). exchanges seat s old ++ exchange (run s h) g.entry ∷ []) (sym (append-nil old)))
 
   made_here : Made (seated_at s old seat refusals) (seated_at s new seat refusals) request reply
   made_here = record {
@@ -26,7 +27,7 @@ module _ (says : Entry → Type 0) (s : State) (old new : List Entry) (seat refu
     seen = g.grown;
     seat_is = g.seat_is;
     request_is = g.request_is;
-    reply_is = g.reply_is ∙ ap (λ (h : List Entry). reply_at (run s h) g.entry) (sym (append-nil old));
+    reply_is = subst (λ (h : List Entry). Alike s.told request (reply_at (run s h) g.entry) reply) (sym (append-nil old)) g.reply_is;
     mine = own_exchange;
     refusals = refl;
   }

@@ -6,6 +6,7 @@ use Rattle.portal_model.specs.declared.reply.Refused.{Refused}
 use Rattle.portal_model.specs.declared.reply.Refused.TheVariants.{Memory, Full}
 use Rattle.portal_model.specs.declared.reply.Reply.{Reply}
 use Rattle.portal_model.specs.declared.request.Request.{Request}
+use Rattle.portal_model.specs.Alike.{Alike}
 use Rattle.portal_model.specs.History.{run, cost, cost_of}
 use Rattle.portal_model.specs.State.{State}
 use Rattle.portal_model.specs.Step.{reply_at}
@@ -14,8 +15,8 @@ use Rattle.portal_model.specs.Step.{reply_at}
 abbrev pub cost_after : List Entry → Request → ℕ
 cost_after h request = cost h + cost_of request
 
--- the history grew by one entry, of this seat and request, of which this is said; the reply is that
--- of the step
+-- the history grew by one entry, of this seat and request, of which this is said; the reply is
+-- alike to the step's
 pub record GrowsBy (says : Entry
     → Type 0) (s : State) (old new : List Entry) (seat : ℕ) (request : Request)
     (reply : Reply) : Type 0 where
@@ -23,7 +24,7 @@ pub record GrowsBy (says : Entry
   pub grown : new ≡ old ++ entry ∷ []
   pub seat_is : entry.seat ≡ seat
   pub request_is : entry.request ≡ request
-  pub reply_is : reply ≡ reply_at (run s old) entry
+  pub reply_is : Alike s.told request (reply_at (run s old) entry) reply
   pub said : says entry
 
 -- why a request is no entry: want of memory, which is free, or a history that would cost too much,

@@ -32,7 +32,8 @@ pub trait Storied {
     /// one that has a body.
     ///
     /// The reply is that of one step of the sequential portal, from the state
-    /// after the history, which grows by this request. A refusal leaves the
+    /// after the history, which grows by this request; over a tree that
+    /// doesn't tell its files it is alike to the step's. A refusal leaves the
     /// history as it was. `Full` comes exactly where the history with this
     /// request would cost more than its limit, and whatever is answered, the
     /// history costs no more than that. The Leave of an open connection is

@@ -27,6 +27,7 @@ pub mod Kept
 pub mod Outside
 pub mod Allowed
 pub mod Step
+pub mod Alike
 pub mod Lawful
 pub mod Built
 pub mod Valid

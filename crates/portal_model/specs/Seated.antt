@@ -9,6 +9,7 @@ use Rattle.portal_model.specs.declared.reply.Refused.TheVariants.{Memory, Full}
 use Rattle.portal_model.specs.declared.reply.Reply.{Reply}
 use Rattle.portal_model.specs.declared.request.Request.{Request}
 use Rattle.portal_model.specs.declared.state.Connection.{Connection}
+use Rattle.portal_model.specs.Alike.{Alike}
 use Rattle.portal_model.specs.History.{run, Legal, cost, cost_of}
 use Rattle.portal_model.specs.State.{State, connection_of}
 use Rattle.portal_model.specs.Step.{after, reply_at}
@@ -36,7 +37,8 @@ abbrev pub rises_by : ℕ → ℕ → ℕ
 rises_by count more = max count (min (count + more) (2 ^ 64 - 1))
 
 -- what a seat knows: the state that the history began in, its own number, the history as far as it
--- has seen it, its own entries with their replies, and how many of its requests were refused
+-- has seen it, its own entries with the replies of their steps, and how many of its requests were
+-- refused
 pub record Seated : Type 0 where
   pub opening : State
   pub seat : ℕ
@@ -93,15 +95,16 @@ pub record Moved (old new : Seated) : Type 0 where
   pub begins : BeginsWith new.seen old.seen
 
 -- after the entries of others, this request is the last that was seen, and alone is new of the
--- seat's own; the reply is that of the step
+-- seat's own, with the step's reply; the reply that is given is alike
 pub record Made (old new : Seated) (request : Request) (reply : Reply) : Type 0 where
   pub entry : Entry
   pub others : List Entry
   pub seen : new.seen ≡ old.seen ++ (others ++ entry ∷ [])
   pub seat_is : entry.seat ≡ old.seat
   pub request_is : entry.request ≡ request
-  pub reply_is : reply ≡ reply_at (run old.opening (old.seen ++ others)) entry
-  pub mine : new.mine ≡ old.mine ++ record { entry = entry; reply = reply } ∷ []
+  pub reply_is : Alike old.opening.told request
+      (reply_at (run old.opening (old.seen ++ others)) entry) reply
+  pub mine : new.mine ≡ old.mine ++ exchange (run old.opening (old.seen ++ others)) entry ∷ []
   pub refusals : new.refusals ≡ old.refusals
 
 -- why a request is refused: want of memory, which is free, or a history that would cost too much,

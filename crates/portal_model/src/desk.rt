@@ -10,8 +10,8 @@ use std::alloc::Global;
 /// The place of one seat at a portal.
 ///
 /// Contracts see what the seat knows: its number, the history as far as it has
-/// seen it, its own entries in it with their replies, and how many of its
-/// requests were refused.
+/// seen it, its own entries in it with the replies of their steps, and how many
+/// of its requests were refused.
 pub trait Desk {
     ghost use Rattle.std.specs.Prelude.{◌≡◌, ℕ};
     ghost use Rattle.portal_model.specs.Seated.{Asks, Known, Seated};
@@ -26,10 +26,11 @@ pub trait Desk {
     ///
     /// A reply is that of one step of the sequential portal: the history that
     /// is seen begins with what was seen before and ends with this request,
-    /// which alone is new of the seat's own. A refusal is counted, and leaves
-    /// the seat's own entries; `Full` comes only where the history that is
-    /// seen and this request would cost more than the limit. The Leave of an
-    /// open connection is never refused.
+    /// which alone is new of the seat's own. Over a tree that doesn't tell its
+    /// files the reply is alike to the step's: another content may be read. A
+    /// refusal is counted, and leaves the seat's own entries; `Full` comes only
+    /// where the history that is seen and this request would cost more than
+    /// the limit. The Leave of an open connection is never refused.
     fn ask(&mut self, alloc: Global, request: Request) -> Result<Reply, Refused>
         requires { Built request }
         ensures asks { Asks (seated self.old) request result (seated self.new) }

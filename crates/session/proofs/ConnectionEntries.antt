@@ -28,7 +28,7 @@ use Rattle.session.specs.Items.{AreItems, phase_after}
 use Rattle.session.specs.Ledger.{Grew, World}
 use Rattle.session.specs.Pumps.{Spring}
 use Rattle.session.specs.Sessions.{enter}
-use Rattle.session.proofs.Grew.{grew_none, kept-append}
+use Rattle.session.proofs.Grew.{alike-entries, grew_none, kept-append}
 use Rattle.session.proofs.ItemsFit.{MakesFit, act_fits, after_speaks, are_fit, first_speaks, fit_on, items_fit}
 use Rattle.session.proofs.HeardReplies.{met}
 use Rattle.session.proofs.ServedTraces.{AreEnclosed, IsAskedAt, IsMakers, asked_at, made_by_bound, makers, served_at}
@@ -117,7 +117,8 @@ new_entries : (v w : Seated) (os : List Outcome) (mids after : List Entry) (e : 
     → entries_of (kept os) ≡ of_seat w.seat mids ++ e ∷ of_seat w.seat after
 new_entries v w os mids after e a b g seen own =
     let mine : of_seat w.seat w.seen ≡ of_seat w.seat v.seen ++ entries_of (kept os) =
-    sym (own_entries w b) ∙ (ap entries_of g.mine ∙ (map-append (λ (x : Exchange). x.entry) v.mine (kept os) ∙ ap (λ (z : List Entry). z ++ entries_of (kept os)) (own_entries v a ∙ ap (λ (n : ℕ). of_seat n v.seen) (sym g.moved.seat)))) in
+    sym (own_entries w b) ∙ (ap entries_of g.mine ∙ (map-append (λ (x : Exchange). x.entry) v.mine g.steps ∙ (ap (λ (z : List Entry). entries_of v.mine ++ z) (sym (alike-entries v.opening.told g.steps (kept os) g.alike))
+    ∙ ap (λ (z : List Entry). z ++ entries_of (kept os)) (own_entries v a ∙ ap (λ (n : ℕ). of_seat n v.seen) (sym g.moved.seat))))) in
     let split : of_seat w.seat w.seen ≡ of_seat w.seat v.seen ++ (of_seat w.seat mids ++ e ∷ of_seat w.seat after) =
     ap (of_seat w.seat) seen ∙ (of_seat-append w.seat v.seen (mids ++ e ∷ after) ∙ ap (λ (z : List Entry). of_seat w.seat v.seen ++ z)
     (of_seat-append w.seat mids (e ∷ after) ∙ ap (λ (z : List Entry). of_seat w.seat mids ++ z) (seat_first w.seat e after own))) in

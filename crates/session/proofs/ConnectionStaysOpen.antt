@@ -26,7 +26,7 @@ use Rattle.session.specs.Asked.{asked_by, collect_requests}
 use Rattle.session.specs.Ledger.{Began, Broke, Did, Grew, World}
 use Rattle.session.specs.Sessions.{FeedsOpen, FeedsOver, IsBound, IsOpen, TakesUpTo}
 use Rattle.session.specs.Standings.{Standing}
-use Rattle.session.proofs.Grew.{grew_none, grew_on, kept-append}
+use Rattle.session.proofs.Grew.{alike-entries, grew_none, grew_on, kept-append}
 
 abbrev pub entries_of : List Exchange → List Entry
 entries_of xs = map (λ (x : Exchange). x.entry) xs
@@ -149,7 +149,7 @@ grew_bound v w os a b g =
     ∙ (ap (λ (s : State). bound_by (bound s w.seat) (entries_of w.mine)) g.moved.opening
     ∙ (ap (λ (n : ℕ). bound_by (bound v.opening n) (entries_of w.mine)) g.moved.seat
     ∙ (ap (λ (xs : List Exchange). bound_by (bound v.opening v.seat) (entries_of xs)) g.mine
-    ∙ (ap (bound_by (bound v.opening v.seat)) (map-append (λ (x : Exchange). x.entry) v.mine (kept os))
+    ∙ (ap (bound_by (bound v.opening v.seat)) (map-append (λ (x : Exchange). x.entry) v.mine g.steps ∙ ap (λ (z : List Entry). entries_of v.mine ++ z) (sym (alike-entries v.opening.told g.steps (kept os) g.alike)))
     ∙ (bound-append (entries_of v.mine) (entries_of (kept os)) (bound v.opening v.seat)
     ∙ ap (λ (o : Option Binding). bound_by o (entries_of (kept os))) (sym (own_bound v a)))))))
 

@@ -1,5 +1,5 @@
 -- What is done at a desk and a sink, one part after another.
-use Rattle.std.proofs.Common.{◌≡◌, ℕ, ◌+◌, ◌≤◌, List, [], ◌∷◌, ◌++◌, Option, Some, None, Ok, Err, refl, sym, ap, ◌∙◌, arith}
+use Rattle.std.proofs.Common.{◌≡◌, ℕ, ◌+◌, ◌≤◌, List, [], ◌∷◌, ◌++◌, map, Bool, true, Option, Some, None, Ok, Err, refl, sym, ap, ◌∙◌, subst, arith}
 use Rattle.std.proofs.lemmas.List.{append-nil, append_assoc}
 use Rattle.std.proofs.lemmas.List.Sums.{sum_by-append}
 use Rattle.portal_base.specs.Outside.{onto, HasRisen}
@@ -8,11 +8,15 @@ use Rattle.portal_model.specs.declared.reply.Refused.{Refused}
 use Rattle.portal_model.specs.declared.reply.Refused.TheVariants as refused
 use Rattle.portal_model.specs.declared.reply.Reply.{Reply}
 use Rattle.portal_model.specs.declared.request.Request.{Request}
-use Rattle.portal_model.specs.History.{cost, cost_of}
-use Rattle.portal_model.specs.Seated.{Asks, Exchange, HasCause, Moved, Seated, rises_by}
+use Rattle.portal_model.specs.Alike.{Alike}
+use Rattle.portal_model.specs.History.{cost, cost_of, run}
+use Rattle.portal_model.specs.Seated.{Asks, Exchange, HasCause, Moved, Seated, exchange, rises_by}
+use Rattle.portal_model.specs.State.{State}
+use Rattle.portal_model.specs.Step.{reply_at}
 use Rattle.portal_model.proofs.SeatLaws.{begins-itself, begins-through}
 use Rattle.session.specs.Answers.{Outcome, Made, Denied, kept, denied}
-use Rattle.session.specs.Ledger.{AreCaused, Grew, Grows, IsPassed, World, world}
+use Rattle.session.specs.Laws.{ToldAlike}
+use Rattle.session.specs.Ledger.{AreAlike, AreCaused, Grew, Grows, IsPassed, World, world}
 
 -- ---- what is told, and counts
 
@@ -44,6 +48,37 @@ pub denied-append : (os us : List Outcome) → denied (os ++ us) ≡ denied os +
 denied-append [] us = omega arith
 denied-append (Made x ∷ os) us = denied-append os us
 denied-append (Denied request why ∷ os) us = omega (arith, denied-append os us)
+
+-- ---- replies alike to those of steps
+
+pub alike-append : (told : Bool) (xs ys more others : List Exchange) → AreAlike told xs ys → AreAlike told more others → AreAlike told (xs ++ more) (ys ++ others)
+alike-append told [] [] more others a b = b
+alike-append told (x ∷ xs) (y ∷ ys) more others a b = (a.0, a.1, alike-append told xs ys more others a.2 b)
+alike-append told [] (y ∷ ys) more others a b = absurd a
+alike-append told (x ∷ xs) [] more others a b = absurd a
+
+-- the entries are those of the steps
+pub alike-entries : (told : Bool) (xs ys : List Exchange) → AreAlike told xs ys → map (λ (z : Exchange). z.entry) ys ≡ map (λ (z : Exchange). z.entry) xs
+alike-entries told [] [] a = refl
+alike-entries told (x ∷ xs) (y ∷ ys) a = ap (λ (e : Entry). e ∷ map (λ (z : Exchange). z.entry) ys) a.0 ∙ ap (λ (es : List Entry). x.entry ∷ es) (alike-entries told xs ys a.2)
+alike-entries told [] (y ∷ ys) a = absurd a
+alike-entries told (x ∷ xs) [] a = absurd a
+
+abbrev paired : Entry → Reply → Exchange
+paired e r = record { entry = e; reply = r }
+
+-- over a tree that tells its files they are the steps
+alike-told : (xs ys : List Exchange) → AreAlike true xs ys → ys ≡ xs
+alike-told [] [] a = refl
+alike-told (x ∷ xs) (y ∷ ys) a =
+    let one : y ≡ x = ap (λ (e : Entry). paired e y.reply) a.0 ∙ ap (paired x.entry) a.1 in
+    ap (λ (z : Exchange). z ∷ ys) one ∙ ap (λ (zs : List Exchange). x ∷ zs) (alike-told xs ys a.2)
+alike-told [] (y ∷ ys) a = absurd a
+alike-told (x ∷ xs) [] a = absurd a
+
+pub told_alike : ToldAlike
+told_alike v w os g told =
+    g.mine ∙ ap (λ (zs : List Exchange). v.mine ++ zs) (sym (alike-told g.steps (kept os) (subst (λ (b : Bool). AreAlike b g.steps (kept os)) told g.alike)))
 
 -- ---- the desk
 
@@ -77,7 +112,9 @@ caused-append (Denied request why ∷ os) us w a b = (a.0, caused-append os us w
 pub grew_none : (v : Seated) → Grew v [] v
 grew_none v = record {
   moved = moved_none v;
+  steps = [];
   mine = sym (append-nil v.mine);
+  alike = tt;
   refusals = rises_none v.refusals;
   caused = tt;
 }
@@ -85,7 +122,10 @@ grew_none v = record {
 pub grew_on : (u v w : Seated) (os us : List Outcome) → Grew u os v → Grew v us w → Grew u (os ++ us) w
 grew_on u v w os us a b = record {
   moved = moved_on u v w a.moved b.moved;
-  mine = b.mine ∙ (ap (λ (z : List Exchange). z ++ kept us) a.mine ∙ (append_assoc u.mine (kept os) (kept us) ∙ ap (λ (z : List Exchange). u.mine ++ z) (sym (kept-append os us))));
+  steps = a.steps ++ b.steps;
+  mine = b.mine ∙ (ap (λ (z : List Exchange). z ++ b.steps) a.mine ∙ append_assoc u.mine a.steps b.steps);
+  alike = subst (AreAlike u.opening.told (a.steps ++ b.steps)) (sym (kept-append os us))
+      (alike-append u.opening.told a.steps (kept os) b.steps (kept us) a.alike (subst (λ (s : State). AreAlike s.told b.steps (kept us)) a.moved.opening b.alike));
   refusals = b.refusals ∙ (ap (λ (z : ℕ). rises_by z (denied us)) a.refusals ∙ (rises_rises u.refusals (denied os) (denied us) ∙ ap (rises_by u.refusals) (sym (denied-append os us))));
   caused = caused-append os us w (caused_later os v w b.moved a.caused) b.caused;
 }
@@ -96,7 +136,14 @@ asked_ok v w request reply a = (
   record { entry = a.answered.entry; reply = reply },
   a.answered.request_is,
   refl,
-  record { moved = a.moved; mine = a.answered.mine; refusals = a.answered.refusals ∙ rises_none v.refusals; caused = tt },
+  record {
+    moved = a.moved;
+    steps = exchange (run v.opening (v.seen ++ a.answered.others)) a.answered.entry ∷ [];
+    mine = a.answered.mine;
+    alike = (refl, subst (λ (q : Request). Alike v.opening.told q (reply_at (run v.opening (v.seen ++ a.answered.others)) a.answered.entry) reply) (sym a.answered.request_is) a.answered.reply_is, tt);
+    refusals = a.answered.refusals ∙ rises_none v.refusals;
+    caused = tt;
+  },
 )
 
 pub passes : (w : Seated) (request : Request) (why : Refused) → HasCause w request why → IsPassed w request why
@@ -107,7 +154,9 @@ passes w request (refused.Full now limit) h = (h.1, omega (arith, h.0, h.2))
 pub asked_err : (v w : Seated) (request : Request) (why : Refused) → Asks v request (Err why) w → Grew v (Denied request why ∷ []) w
 asked_err v w request why a = record {
   moved = a.moved;
+  steps = [];
   mine = a.answered.mine ∙ sym (append-nil v.mine);
+  alike = tt;
   refusals = a.answered.refusals;
   caused = (passes w request why a.answered.cause, tt);
 }

@@ -12,10 +12,12 @@ use Rattle.portal_model.specs.declared.reply.Answer.TheVariants as answer
 use Rattle.portal_model.specs.declared.reply.Code.TheVariants as code
 use Rattle.portal_model.specs.declared.reply.NodeAnswer.{NodeAnswer}
 use Rattle.portal_model.specs.declared.reply.NodeAnswer.TheVariants as node
+use Rattle.portal_model.specs.declared.reply.Reply.{Reply}
 use Rattle.portal_model.specs.declared.request.NodeOp.{NodeOp}
 use Rattle.portal_model.specs.declared.request.NodeRequest.{NodeRequest}
 use Rattle.portal_model.specs.declared.request.Request.{Request}
 use Rattle.portal_model.specs.declared.state.Connection.{Connection}
+use Rattle.portal_model.specs.Alike.{AnswersAlike, NodeAlike, ReadsAlike, TellsAlike}
 use Rattle.portal_model.specs.Enter.{enter_answer}
 use Rattle.portal_model.specs.Errno.{ebadf, eio, enoent, enosys}
 use Rattle.portal_model.specs.GetAttr.{attr_of_file, by_place, names_handle}
@@ -27,6 +29,7 @@ use Rattle.portal_model.specs.Step.{all_told, bus_of, collect_step, is_mount, mo
 use Rattle.session.specs.declared.act.Client.{Client}
 use Rattle.session.specs.Frames.{told_of}
 use Rattle.session.specs.Hearing.{Meets}
+use Rattle.session.specs.Laws.{MeetsAlike}
 use Rattle.session.proofs.ItemsFit.{Fits}
 use Rattle.session.proofs.ServedTraces.{IsAskedAt}
 
@@ -94,3 +97,35 @@ met_by c s seat request given (Some b) h (kind, who, inr leaves) = subst (λ (r 
 
 pub met : (c : Client) (s : State) (e : Entry) → IsAskedAt c (bound s e.seat) e.request → Meets e.request (reply_at s e).answer
 met c s e a = met_by c s e.seat e.request e.given (bound s e.seat) refl a
+
+-- ---- the replies that are given
+
+told_given : (size : ℕ) (stepped : NodeAnswer) (given : Answer) → TellsAlike size stepped given → Tells given
+told_given size (node.Content bytes) given h = (node.Content h.0, ap told_of h.1)
+told_given size (node.Entry attr) given h = (node.Entry attr, ap told_of h)
+told_given size (node.Attr attr) given h = (node.Attr attr, ap told_of h)
+told_given size (node.Opened fh) given h = (node.Opened fh, ap told_of h)
+told_given size (node.Created attr fh) given h = (node.Created attr fh, ap told_of h)
+told_given size (node.Written written) given h = (node.Written written, ap told_of h)
+told_given size (node.Names names offset most) given h = (node.Names names offset most, ap told_of h)
+told_given size node.Empty given h = (node.Empty, ap told_of h)
+told_given size node.Quiet given h = (node.Quiet, ap told_of h)
+told_given size (node.Error errno) given h = (node.Error errno, ap told_of h)
+told_given size (node.Init major minor ahead flags background congestion most grain) given h = (node.Init major minor ahead flags background congestion most grain, ap told_of h)
+told_given size node.Statfs given h = (node.Statfs, ap told_of h)
+
+read_given : (size : ℕ) (stepped given : Answer) → ReadsAlike size stepped given → Tells stepped → Tells given
+read_given size (answer.Node told) given h t = told_given size told given h
+read_given size stepped given h t = subst Tells (sym h) t
+
+node_given : (op : NodeOp) (stepped given : Answer) → NodeAlike op stepped given → Tells stepped → Tells given
+node_given (NodeOp.Read fh offset size) stepped given h t = read_given size stepped given h t
+node_given op stepped given h t = subst Tells (sym h) t
+
+answer_given : (request : Request) (stepped given : Answer) → AnswersAlike request stepped given → Meets request stepped → Meets request given
+answer_given (Request.Node r) stepped given h m = node_given r.op stepped given h m
+answer_given request stepped given h m = subst (Meets request) (sym h) m
+
+pub meets_alike : MeetsAlike
+meets_alike true request stepped given h m = subst (λ (z : Reply). Meets request z.answer) (sym h) m
+meets_alike false request stepped given h m = answer_given request stepped.answer given.answer h.1 m

@@ -26,7 +26,7 @@ use Rattle.session.specs.Laws.{AskedAlone, FeedsCostLittle, IsOwn, NoneIsFull, R
 use Rattle.session.specs.Ledger.{AreCaused, Began, Broke, Did, Grew, World}
 use Rattle.session.specs.Sessions.{FeedsOpen, FeedsOver, TakesUpTo}
 use Rattle.session.specs.Standings.{Standing}
-use Rattle.session.proofs.Grew.{grew_none, grew_on}
+use Rattle.session.proofs.Grew.{alike-entries, grew_none, grew_on}
 use Rattle.session.proofs.AnswersAsked.{asked_go, of-append}
 use Rattle.session.proofs.ConnectionStaysOpen.{entries_of}
 use Rattle.session.proofs.ItemsCostLittle.{costs, costs-append, item_cost, items_cost}
@@ -72,12 +72,12 @@ new_kept v w os g a b (more, is, own) =
     ap (exchanges v.seat v.opening) (sym is)
     ∙ (ap (λ (s : State). exchanges v.seat s w.seen) (sym g.moved.opening)
     ∙ (ap (λ (n : ℕ). exchanges n w.opening w.seen) (sym g.moved.seat) ∙ b)) in
-    let both : v.mine ++ exchanges v.seat (run v.opening v.seen) more ≡ v.mine ++ kept os =
+    let both : v.mine ++ exchanges v.seat (run v.opening v.seen) more ≡ v.mine ++ g.steps =
     ap (λ (z : List Exchange). z ++ exchanges v.seat (run v.opening v.seen) more) (sym a)
     ∙ (sym (exchanges-append v.seat v.seen more v.opening) ∙ (then ∙ g.mine)) in
-    let same : exchanges v.seat (run v.opening v.seen) more ≡ kept os =
-    sym (drop-append_seam v.mine (exchanges v.seat (run v.opening v.seen) more)) ∙ (ap (drop (length v.mine)) both ∙ drop-append_seam v.mine (kept os)) in
-    ap entries_of (sym same) ∙ (exchanges-entries v.seat more (run v.opening v.seen) ∙ own_all v.seat more own)
+    let same : exchanges v.seat (run v.opening v.seen) more ≡ g.steps =
+    sym (drop-append_seam v.mine (exchanges v.seat (run v.opening v.seen) more)) ∙ (ap (drop (length v.mine)) both ∙ drop-append_seam v.mine g.steps) in
+    alike-entries v.opening.told g.steps (kept os) g.alike ∙ (ap entries_of (sym same) ∙ (exchanges-entries v.seat more (run v.opening v.seen) ∙ own_all v.seat more own))
 
 new_cost : (v w : Seated) (os : List Outcome) → Grew v os w → IsOwn v → IsOwn w → AskedAlone v w → cost w.seen ≡ cost v.seen + cost (entries_of (kept os))
 new_cost v w os g a b alone =

@@ -16,7 +16,7 @@ use Rattle.session.specs.Frames.{answer_frames, frames_of, refusal_frames}
 
 -- ---- what became of requests
 
--- a request is an entry with its reply, or is refused
+-- a request is an entry with the reply that was given, or is refused
 pub data Outcome : Type 0 where
   Made : Exchange → Outcome
   Denied : Request → Refused → Outcome

@@ -1,11 +1,13 @@
 -- Laws of cutting and of answers, which the public functions of src/laws.rt state.
 use Rattle.std.specs.Prelude.{◌≡◌, ◌⊎◌, ℕ, ◌+◌, ◌*◌, ◌<◌, ◌≤◌, List, [], ◌∷◌, ◌++◌, length, map}
-use Rattle.std.specs.Prelude.{Some}
+use Rattle.std.specs.Prelude.{Bool, Some, true}
 use Rattle.std.specs.List.{All, sum_by}
 use Rattle.portal_base.specs.Outside.{Short, last_count}
 use Rattle.portal_model.specs.declared.entry.Entry.{Entry}
 use Rattle.portal_model.specs.declared.reply.Refused.TheVariants as refused
+use Rattle.portal_model.specs.declared.reply.Reply.{Reply}
 use Rattle.portal_model.specs.declared.request.Request.{Request}
+use Rattle.portal_model.specs.Alike.{Alike}
 use Rattle.portal_model.specs.History.{cost, cost_of}
 use Rattle.portal_model.specs.Seated.{Exchange, Seated, exchanges}
 use Rattle.session.specs.declared.act.Act.{Act}
@@ -19,9 +21,10 @@ use Rattle.session.specs.declared.served.Served.{Served}
 use Rattle.session.specs.declared.served.Served.TheVariants as served
 use Rattle.session.specs.Asked.{asked, requests_of}
 use Rattle.session.specs.Items.{AreItems, Items, joined, phase_after}
-use Rattle.session.specs.Answers.{Answers, AreOf, Denied, Made, Outcome, told_as}
+use Rattle.session.specs.Answers.{Answers, AreOf, Denied, Made, Outcome, kept, told_as}
 use Rattle.session.specs.Connections.{Encloses, Serves, Whole, between}
 use Rattle.session.specs.Cuts.{first_phase}
+use Rattle.session.specs.Hearing.{Meets}
 use Rattle.session.specs.Ledger.{Grew, World}
 use Rattle.session.specs.Pumps.{Spring}
 use Rattle.session.specs.Sessions.{Feeds}
@@ -110,6 +113,17 @@ abbrev pub SayAlike : Type 0
 SayAlike = (serial m n : ℕ) (acts : List Act) (os us : List Outcome) (ps qs : List (List ℕ))
     → map told_as os ≡ map told_as us → Answers serial acts os ps m → Answers serial acts us qs n
     → (ps ≡ qs) × (m ≡ n)
+
+-- Over a tree that tells its files the entries that were made, with the replies that were given,
+-- are the seat's own new exchanges, whose replies are those of the steps.
+abbrev pub ToldAlike : Type 0
+ToldAlike = (v w : Seated) (os : List Outcome) → Grew v os w → v.opening.told ≡ true
+    → w.mine ≡ v.mine ++ kept os
+
+-- what a request meets by the step's reply, it meets by any that is alike, over whatever tree
+abbrev pub MeetsAlike : Type 0
+MeetsAlike = (told : Bool) (request : Request) (stepped given : Reply)
+    → Alike told request stepped given → Meets request stepped.answer → Meets request given.answer
 
 -- a count below its last value stands still
 abbrev pub StandsStill : ℕ → ℕ → Type 0

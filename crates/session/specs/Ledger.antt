@@ -1,12 +1,13 @@
 -- What is done of a stream at a desk and a sink.
 use Rattle.std.specs.Prelude.{◌≡◌, ◌⊎◌, ℕ, ◌+◌, ◌<◌, ◌≤◌, List, [], ◌∷◌, ◌++◌, length, take, drop}
-use Rattle.std.specs.Prelude.{Option, Some, None, Result, Ok, Err}
+use Rattle.std.specs.Prelude.{Bool, Option, Some, None, Result, Ok, Err}
 use Rattle.portal_base.specs.Outside.{onto, HasRisen, Short}
 use Rattle.portal_model.specs.declared.reply.Refused.{Refused}
 use Rattle.portal_model.specs.declared.reply.Refused.TheVariants as refused
 use Rattle.portal_model.specs.declared.request.Request.{Request}
+use Rattle.portal_model.specs.Alike.{Alike}
 use Rattle.portal_model.specs.History.{cost, cost_of}
-use Rattle.portal_model.specs.Seated.{Seated, Moved, rises_by}
+use Rattle.portal_model.specs.Seated.{Exchange, Seated, Moved, rises_by}
 use Rattle.session.specs.declared.act.Act.{Act}
 use Rattle.session.specs.declared.act.Client.{Client}
 use Rattle.session.specs.declared.act.ItemError.TheVariants.{Breaks, Unbuilt}
@@ -36,11 +37,23 @@ AreCaused w [] = Unit {0}
 AreCaused w (Made x ∷ os) = AreCaused w os
 AreCaused w (Denied request why ∷ os) = IsPassed w request why × AreCaused w os
 
+-- Pair by pair, of exchanges of steps and those that were given: the entry is one, and the reply
+-- that was given is alike to the step's.
+abbrev pub AreAlike : Bool → List Exchange → List Exchange → Type 0
+AreAlike told [] [] = Unit {0}
+AreAlike told (x ∷ xs) (y ∷ ys) =
+    (y.entry ≡ x.entry) × Alike told x.entry.request x.reply y.reply × AreAlike told xs ys
+AreAlike told [] (y ∷ ys) = ⊥
+AreAlike told (x ∷ xs) [] = ⊥
+
 -- From one state of a desk to another there came these outcomes, and no others: the seat's own
--- entries grew by those that were made, and the count of refusals rose by the others.
+-- entries grew by steps to which those that were made are alike, and the count of refusals rose by
+-- the others.
 pub record Grew (v : Seated) (outcomes : List Outcome) (w : Seated) : Type 0 where
   pub moved : Moved v w
-  pub mine : w.mine ≡ v.mine ++ kept outcomes
+  pub steps : List Exchange
+  pub mine : w.mine ≡ v.mine ++ steps
+  pub alike : AreAlike v.opening.told steps (kept outcomes)
   pub refusals : w.refusals ≡ rises_by v.refusals (denied outcomes)
   pub caused : AreCaused w outcomes
 

@@ -4,8 +4,8 @@
 
 ghost use Rattle.session.specs.Laws.{AreOne, AreCutAlike, AnswerAsked, CostLittle};
 ghost use Rattle.session.specs.Laws.{EndingsAreTheStreams, EndsStay, FeedsCostLittle};
-ghost use Rattle.session.specs.Laws.{ItemsAreFound, ItemsComeFirst, RoomIsEnough, SayAlike};
-ghost use Rattle.session.specs.Laws.{ShortBegins, WholeInputsEnd};
+ghost use Rattle.session.specs.Laws.{ItemsAreFound, ItemsComeFirst, MeetsAlike, RoomIsEnough};
+ghost use Rattle.session.specs.Laws.{SayAlike, ShortBegins, ToldAlike, WholeInputsEnd};
 
 /// Each stream of bytes has items and a rest.
 pub fn streams_have_items()
@@ -56,6 +56,18 @@ pub fn answers_are_of_what_is_asked()
 /// which requests were refused, and how. What else an entry holds doesn't show.
 pub fn outcomes_say_alike()
     ensures { SayAlike }
+{}
+
+/// Over a tree that tells its files the replies that were given are those of
+/// the steps. Over any other they are alike, and the entries are the same.
+pub fn told_replies_are_the_steps()
+    ensures { ToldAlike }
+{}
+
+/// What a request of a connection meets by the reply of its step, it meets by
+/// the reply that was given.
+pub fn given_replies_are_met()
+    ensures { MeetsAlike }
 {}
 
 /// What is written in part is a prefix of the whole.
