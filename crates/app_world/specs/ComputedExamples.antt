@@ -6,10 +6,10 @@ use Rattle.portal_model.specs.declared.opening.OpeningDocument.{OpeningDocument}
 use Rattle.portal_model.specs.declared.reply.Answer.{Answer}
 use Rattle.portal_model.specs.declared.reply.Code.{Code}
 use Rattle.portal_model.specs.declared.request.Request.{Request}
-use Rattle.portal_model.specs.DocumentExamples.{a_doc, adds, asked, asked_alone, file_there, n_text, presents, rights_call, viewer}
+use Rattle.portal_model.specs.DocumentExamples.{a_doc, adds, asked, asked_alone, file_there, lists_delete, m_text, may_delete, n_text, presents, rights_call, viewer}
 use Rattle.portal_model.specs.Examples.{document, editor, grant}
 use Rattle.portal_model.specs.History.{run}
-use Rattle.portal_model.specs.State.{State}
+use Rattle.portal_model.specs.State.{State, held_of}
 use Rattle.rights_rule.specs.Rights.{RightSet}
 use Rattle.app_world.specs.DocumentExamples.{in_tree, own_answers}
 use Rattle.app_world.specs.Effect.{apply_all}
@@ -74,3 +74,12 @@ adds_one reuse =
 abbrev pub IsGotByAdding : Bool → RightSet → Type 0
 IsGotByAdding reuse rights =
     rights_in (app_step (view presented editor) (own_of presented (adds_one reuse))).0 ≡ rights ∷ []
+
+-- The editor may delete one of two documents. It adds both files again, and lists deletion for the
+-- viewer, which it then does not hold in the other: what the viewer has of it in the first
+abbrev pub listing_delete_twice : List Entry
+listing_delete_twice = presents 1 n_text ∷ presents 1 m_text ∷ lists_delete (0 ∷ 1 ∷ []) [] ∷ []
+
+abbrev pub IsGivenByListing : RightSet → Type 0
+IsGivenByListing rights =
+    held_of (run (in_tree may_delete) listing_delete_twice).rights viewer 10 ≡ rights

@@ -7,6 +7,7 @@
 
 ghost use Rattle.app_world.specs.ComputedExamples.{
   AreRefused,
+  IsGivenByListing,
   IsGotByAdding,
   IsLeft,
   IsSeenInShared,
@@ -108,4 +109,12 @@ pub fn rights_got_by_adding(reuse: bool) -> Rights
     } else {
         Rights::ALL
     }
+}
+
+/// What another application gets in a document by an addition that lists a right
+/// for it which the application that adds doesn't hold in each file of the call.
+pub fn rights_given_by_listing() -> Rights
+    ensures { IsGivenByListing result }
+{
+    Rights::NONE
 }

@@ -23,7 +23,8 @@ abbrev pub applications_of : List DocRecord → List (List ℕ)
 applications_of documents = first_named (each names_granted documents)
 
 -- A document that may be kept behind those before it: it is sound by itself, its number is new, the
--- limits of live and of made documents aren't reached, and with it that of applications isn't passed.
+-- limits of live and of made documents aren't reached, and with it that of applications isn't
+-- passed.
 pub record IsGoodDocument (limits : Limits) (earlier : List DocRecord) (document : DocRecord)
     : Type 0 where
   pub itself : IsSoundDocument document
