@@ -499,8 +499,8 @@ module _ (app : List ℕ) (number : ℕ) (right : Right) where
   or-second true c g = refl
   or-second false c g = g
 
-  with-third : (a b c : Bool) → (a && b) ≡ true → c ≡ true → (a && (b && c)) ≡ true
-  with-third a b c e f = grind arith
+  with-two : (a b had has : Bool) → (a && b) ≡ true → had ≡ false → has ≡ true → (a && (b && (not had && has))) ≡ true
+  with-two a b had has e f g = grind arith
 
   given-run : (h : List Entry) (s : State) → are_identified s ≡ true → EachLawful s h → app_has s.rights app number right ≡ false → app_has (run s h).rights app number right ≡ true → is_given_in app number right s h ≡ true
   given-run [] s i l none some = let x : false ≡ true = sym none ∙ some in cc
@@ -514,7 +514,7 @@ module _ (app : List ℕ) (number : ℕ) (right : Right) where
           ap (λ (k : RightSet). is_in k right) (sym one.rights) ∙ (has-in (after s e).rights app number right ∙ f) in
           let gives : (gives_rights e.request && is_done (reply_at s e).answer) ≡ true =
           told-new (maker (connection_of s.connections e.seat) e.request) e.request (reply_at s e).answer (held_of s.rights app number) (has-in s.rights app number right ∙ none) now in
-          ap (λ (b : Bool). b || is_given_in app number right (after s e) es) (with-third (gives_rights e.request) (is_done (reply_at s e).answer) (app_has (after s e).rights app number right) gives f)
+          ap (λ (b : Bool). b || is_given_in app number right (after s e) es) (with-two (gives_rights e.request) (is_done (reply_at s e).answer) (app_has s.rights app number right) (app_has (after s e).rights app number right) gives none f)
       by_entry false f more = or-second (gives_at app number right s e) (is_given_in app number right (after s e) es) (more f)
 
 pub told : RightsAreTold

@@ -1,7 +1,7 @@
 -- The rights of an application in a document, as a history tells them: by what callers asked and
 -- were answered as they added documents, gave and took rights, and deleted documents. The terms are
 -- those of the documentation of org.freedesktop.portal.Documents.
-use Rattle.std.specs.Prelude.{◌≡◌, ℕ, ◌==◌, List, [], ◌∷◌, fold, Bool, true, false, ◌&&◌, ◌||◌, cond, Option, Some, None}
+use Rattle.std.specs.Prelude.{◌≡◌, ℕ, ◌==◌, List, [], ◌∷◌, fold, Bool, true, false, not, ◌&&◌, ◌||◌, cond, Option, Some, None}
 use Rattle.portal_base.specs.Names.{hex_number, is_doc_id, is_same}
 use Rattle.portal_base.specs.declared.who.Who.{Who}
 use Rattle.rights_rule.specs.Rights.{RightSet, minus, no_rights, rights_named, union}
@@ -109,11 +109,12 @@ gives_rights Request.Leave = false
 gives_rights Request.Collect = false
 gives_rights (Request.Node r) = false
 
--- such an entry, which is done, and after which the application has the right
+-- such an entry, which is done, and by which the application comes to have the right
 abbrev pub gives_at : List ℕ → ℕ → Right → State → Entry → Bool
 gives_at app number right s e =
     gives_rights e.request
-    && (is_done (reply_at s e).answer && app_has (after s e).rights app number right)
+    && (is_done (reply_at s e).answer
+    && (not (app_has s.rights app number right) && app_has (after s e).rights app number right))
 
 abbrev pub is_given_in : List ℕ → ℕ → Right → State → List Entry → Bool
 is_given_in app number right s [] = false
@@ -123,7 +124,8 @@ is_given_in app number right s (e ∷ es) =
 -- ---- the law
 
 -- The rights of an application in the document of a number are those that the entries tell. So one
--- that it has and did not have before was given to it by an entry between, after which it had it.
+-- that it has and did not have before was given to it by an entry between, ahead of which it had it
+-- not and after which it had it.
 pub record RightsAreTold : Type 0 where
   pub entry :
       (app : List ℕ) (number : ℕ) (s : State) (e : Entry) → Valid s → Lawful s e →
