@@ -9,6 +9,7 @@
 mod devices;
 mod error;
 mod keepers;
+mod records;
 mod scripted;
 mod trees;
 
@@ -56,6 +57,7 @@ fn answer(alloc: Global, line: &str) -> Result<String, VectorError> {
         "tree" => trees::tree(alloc, rest),
         "quiet" => trees::quiet(alloc, rest),
         "keeper" => keepers::keeper(alloc, rest),
+        "records" => records::records(alloc, rest),
         _ => Err(VectorError::Line(LineError::BadLine)),
     }
 }

@@ -47,6 +47,7 @@ fn answer(alloc: Global, line: &str) -> Result<String, VectorError> {
         "script" => scripts::script(alloc, rest),
         "line" => scripts::line(alloc, rest),
         "written" => scripts::written(alloc, rest),
+        "outside" => scripts::outside(alloc, rest),
         "opening" => scripts::opening(alloc, rest),
         _ => Err(VectorError::Line(LineError::BadLine)),
     }

@@ -9,6 +9,7 @@ use portal_base::who::{Kind, Who};
 use portal_model::opening::{FileItem, OpeningDocument};
 use portal_model::records::{EntryRecord, GrantRecord};
 use script_form::opening::opening_of;
+use script_form::outside::outside_of;
 use script_form::reader::read_script;
 use script_form::script::{Device, Script, ScriptLine};
 use script_form::writer::write_script;
@@ -72,6 +73,17 @@ pub fn written(alloc: Global, rest: &str) -> Result<String, VectorError> {
     let text = write_script(alloc, &script)?;
     let text = String::from_utf8_lossy(alloc, text.as_slice())?;
     Ok(debug(alloc, &text)?)
+}
+
+/// `outside TEXT`: the words of the script, and the numbers of the calls of the
+/// tree and of the keeper that fail.
+pub fn outside(alloc: Global, rest: &str) -> Result<String, VectorError> {
+    let script = read(alloc, rest)?;
+    let told = outside_of(alloc, &script)?;
+    let words = debug(alloc, &told.words.as_slice())?;
+    let tree = debug(alloc, &told.tree_fails.as_slice())?;
+    let keeper = debug(alloc, &told.keeper_fails.as_slice())?;
+    Ok(format!(in alloc; "words {words}; of the tree {tree}; of the keeper {keeper}")?)
 }
 
 /// What a line says, in the order of its words.
