@@ -39,7 +39,8 @@ pub enum PlanUse {
     LeftOut,
     /// A live one.
     Live(DocId),
-    /// The new one of an item of the same call, by its place from 0.
+    /// The new one of an item that stands ahead in the same call, by its place
+    /// from 0.
     Earlier(u32),
     /// A new one.
     New,
