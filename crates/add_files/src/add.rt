@@ -25,9 +25,9 @@ use std::alloc::Global;
 ///
 /// `InvalidArgument`: there are more than 16 files, or unknown flags; what is
 /// named is neither nobody nor an application, or a right is unknown; or a named
-/// file has no name, or no path. `NotAllowed`: an application lists rights for
-/// the application that is named which it doesn't have itself then. The first of
-/// these that applies is told.
+/// file has no name, or no path. `NotAllowed`: an application lists, for the
+/// application that is named, rights that it doesn't have itself then. The first
+/// of these that applies is told.
 ///
 /// It goes over the documents once for each file at most.
 pub fn plan_add(

@@ -52,7 +52,7 @@ pub enum AddError {
     /// An argument is none that the call takes.
     #[error("an argument is none that the call takes")]
     InvalidArgument,
-    /// An application lists rights for the application that is named which it
+    /// An application lists, for the application that is named, rights that it
     /// doesn't have itself then.
     #[error("the caller may not give what it lists")]
     NotAllowed,
