@@ -22,12 +22,13 @@ use Rattle.portal_model.specs.State.{State}
 use Rattle.portal_model.specs.Verdict.{refuses, walk_unless}
 use Rattle.add_files.specs.Arguments.{FailsCheck, are_few, has_app, has_file_name, is_joined_well}
 use Rattle.add_files.specs.Items.{are_below, item_behind, items_of, left_out, lists_in, made_ahead, makes, may_list_in, may_list_items, paths_of, place_behind, place_used, presented_of, put_behind}
-use Rattle.add_files.specs.Plans.{IsAsked, IsOfCall, IsPlan, IsRefused, as_added, follow_item, named_app, none_followed, own_of, is_new}
+use Rattle.add_files.specs.Plans.{IsAsked, IsOfCall, IsPlan, IsRefused, NameNewOnes, as_added, follow_item, named_app, none_followed, own_of, is_new}
 use Rattle.add_files.specs.declared.plan.AddError.{AddError}
 use Rattle.add_files.specs.declared.plan.AddError.TheVariants.{InvalidArgument, NotAllowed, Memory}
 use Rattle.add_files.specs.declared.plan.AddPlan.{AddPlan}
 use Rattle.add_files.specs.declared.plan.PlanItem.{PlanItem}
 use Rattle.add_files.specs.declared.plan.PlanUse.TheVariants.{LeftOut, New}
+use Rattle.add_files.proofs.Earlier.{names-new-ones}
 use Rattle.add_files.proofs.Following.{files-followed, left-out-is}
 
 -- ---- the items
@@ -260,6 +261,7 @@ call-is documents who a paths plan items app listed used = record {
   app = app;
   listed = listed;
   own = subst (λ (l : List PlanItem). map (λ item. item.own) l ≡ map (λ item. own_of who a item.place) l) (sym items) (items-own documents who a (named_app a) paths [] refl);
+  earlier = subst (λ (l : List PlanItem). NameNewOnes (map (λ item. item.place) l)) (sym items) (names-new-ones documents who a (named_app a) paths);
   used = used;
 }
 

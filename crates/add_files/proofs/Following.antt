@@ -67,7 +67,7 @@ given-keeps who app listed own id s = listed-keeps app listed id (own_given who 
 
 -- ---- looking up
 
-position-inside : {X : Type 0} (p : X → Bool) (xs : List X) (k : ℕ) → position p xs ≡ Some k → k < length xs
+pub position-inside : {X : Type 0} (p : X → Bool) (xs : List X) (k : ℕ) → position p xs ≡ Some k → k < length xs
 position-inside p xs k e = by-test (position_or_len p xs) (length xs) k e
   where
     by-test : (n m k : ℕ) → cond (nat_lt n m) (Some n) None ≡ Some k → k < m

@@ -1,4 +1,5 @@
 pub mod ArgumentLemmas
 pub mod ItemLemmas
 pub mod Following
+pub mod Earlier
 pub mod Adding

@@ -1,4 +1,5 @@
--- What becomes of each file of a call, by the documents that are live and the files ahead of it.
+-- On the way to a plan: what becomes of each file of a call, by the documents that are live and the
+-- files ahead of it. Of these the promise of an addition cites `are_below` alone.
 use Rattle.std.specs.Prelude.{ℕ, List, [], ◌∷◌, ◌++◌, fold, get_or, map, nat_lt, Bool, true, false, ◌&&◌, cond, Option, Some, None}
 use Rattle.std.specs.List.{list_all, position}
 use Rattle.portal_base.specs.Names.{is_in_own_folder, is_same}

@@ -1,7 +1,7 @@
 -- What an Add, AddFull, AddNamed or AddNamedFull plans to do, and why it is refused.
 -- Source: XDG Desktop Portal documentation, org.freedesktop.portal.Documents, AddFull and
 -- AddNamedFull.
-use Rattle.std.specs.Prelude.{◌≡◌, ℕ, ◌≤◌, List, [], ◌∷◌, ◌++◌, drop, fold, get_or, length, map, take, Bool, true, false, cond, Option, Some, None}
+use Rattle.std.specs.Prelude.{◌≡◌, ℕ, ◌<◌, ◌≤◌, List, [], ◌∷◌, ◌++◌, drop, fold, get_or, length, map, slice_get, take, Bool, true, false, cond, Option, Some, None}
 use Rattle.std.specs.List.{count_by}
 use Rattle.portal_base.specs.Names.{doc_text}
 use Rattle.portal_base.specs.declared.names.doc_id.DocId.{DocId}
@@ -145,11 +145,18 @@ is_new (Live id) = false
 is_new (Earlier k) = false
 is_new New = true
 
+-- where an item uses the document of another, that one stands ahead of it and is new
+abbrev pub NameNewOnes : List PlanUse → Type 0
+NameNewOnes places =
+    (at k : ℕ) → slice_get places at ≡ Some (Earlier k) →
+    (k < at) × (slice_get places k ≡ Some New)
+
 -- what the plan tells besides
 pub record IsOfCall (who : Who) (a : AddRequest) (plan : AddPlan) : Type 0 where
   pub app : plan.app ≡ named_app a
   pub listed : plan.listed ≡ rights_named a.names
   pub own : map (λ item. item.own) plan.items ≡ map (λ item. own_of who a item.place) plan.items
+  pub earlier : NameNewOnes (map (λ item. item.place) plan.items)
   -- as many numbers are used as documents are new
   pub used : plan.used ≡ count_by (λ item. is_new item.place) plan.items
 

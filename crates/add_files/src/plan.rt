@@ -13,7 +13,8 @@ pub struct AddPlan {
     pub items: List<PlanItem>,
     /// The application that is given permissions, where one is named.
     pub app: Option<AppId>,
-    /// The rights that it gets in each document.
+    /// The rights that the call lists; the application gets them in each
+    /// document.
     pub listed: Rights,
     /// How many documents are new, each of which uses up a number.
     pub used: u32,
@@ -38,7 +39,8 @@ pub enum PlanUse {
     LeftOut,
     /// A live one.
     Live(DocId),
-    /// The new one of an item of the same call, by its place from 0.
+    /// The new one of an item that stands ahead in the same call, by its place
+    /// from 0.
     Earlier(u32),
     /// A new one.
     New,
@@ -50,7 +52,8 @@ pub enum AddError {
     /// An argument is none that the call takes.
     #[error("an argument is none that the call takes")]
     InvalidArgument,
-    /// An application lists rights for another that it doesn't have then.
+    /// An application lists, for the application that is named, rights that it
+    /// doesn't have itself then.
     #[error("the caller may not give what it lists")]
     NotAllowed,
     /// There was no memory.

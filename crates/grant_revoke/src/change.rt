@@ -21,9 +21,9 @@ use std::alloc::Global;
 ///
 /// `InvalidArgument`: the application has no name, or a right is unknown.
 /// `NotFound`: there is no such document, or the caller has no right in it.
-/// `NotAllowed`: the caller may not give rights in the document; or it lists
-/// one that it hasn't, or takes some of another. The first of these that
-/// applies is told.
+/// `NotAllowed`: of a grant, the caller hasn't grant-permissions or a right
+/// that it lists; of a revocation, it hasn't grant-permissions and names
+/// another. The first of these that applies is told. No limit is asked.
 pub fn check(
     alloc: Global,
     documents: &Documents,
