@@ -38,14 +38,14 @@ module _ {X : Type 0} (f : State → X) (c : Connection) (a : AddRequest) (s : S
       by_call true = h
       by_call false = refl
 
-pub taken-own : (app : List ℕ) (c : Connection) (a : AddRequest) (s : State) → own_taken_from_queue (own_connection app c) a (view s app) ≡ view (taken_from_queue c a s) app
+pub taken-own : (app : List ℕ) (c : Connection) (a : AddRequest) (s : State) → own_taken_from_queue (own_connection app s.handles c) a (view s app) ≡ view (taken_from_queue c a s) app
 taken-own app c a s = by_call (are_presented c.queue a)
   where
     by_call : (b : Bool) → cond b (own_with_queue c.seat (drop a.fds) (view s app)) (view s app) ≡ view (cond b (with_queue c.seat (drop a.fds) s) s) app
     by_call true = view-requeued app c.seat (drop a.fds) s
     by_call false = refl
 
-pub taken-other : (app : List ℕ) (c : Connection) (a : AddRequest) (s : State) → found_connection (own_connections app s.connections) c.seat ≡ None → view s app ≡ view (taken_from_queue c a s) app
+pub taken-other : (app : List ℕ) (c : Connection) (a : AddRequest) (s : State) → found_connection (own_connections app s.handles s.connections) c.seat ≡ None → view s app ≡ view (taken_from_queue c a s) app
 taken-other app c a s e = by_call (are_presented c.queue a)
   where
     by_call : (b : Bool) → view s app ≡ view (cond b (with_queue c.seat (drop a.fds) s) s) app
@@ -83,7 +83,7 @@ touched-kind app s fs true code verdict t = tt
 touched-kind app s fs false code verdict t = t refl
 
 -- another's Add gives the view after it by what it touches, where the numbers that it takes as it is done are free
-pub add-other : (app : List ℕ) (s : State) (c : Connection) (a : AddRequest) (numbers : List DocId) → Facts app s → found_connection (own_connections app s.connections) c.seat ≡ None → is_app app c.who ≡ false →
+pub add-other : (app : List ℕ) (s : State) (c : Connection) (a : AddRequest) (numbers : List DocId) → Facts app s → found_connection (own_connections app s.handles s.connections) c.seat ≡ None → is_app app c.who ≡ false →
     (now : ℕ) (looks : List Look) (failed : Bool) → (walked (add s c a numbers) now looks failed ≡ Some (added s (added_files s c a numbers)) → Free c.who a (begun s c a numbers) (document_paths c.queue a)) →
     TouchedGiven app s (add_touch app s c a numbers) (walked (add s c a numbers) now looks failed)
 add-other app s c a numbers f e o now looks failed n =

@@ -115,10 +115,10 @@ is-told seat s c a given =
 
 -- its own machine comes to the same
 pub add_answer-own : (app : List ℕ) (s : State) (seat : ℕ) (c : Connection) (a : AddRequest) (given : Given) → Valid s → s.told ≡ true → LawfulBus s c (Request.Add a) given → c.who ≡ Who.App app →
-    own_bus_answer (view s app) (own_connection app c) (told_of_add seat s c a given) (Request.Add a) ≡ seen_answer app (bus_answer s c (Request.Add a) given)
+    own_bus_answer (view s app) (own_connection app s.handles c) (told_of_add seat s c a given) (Request.Add a) ≡ seen_answer app (bus_answer s c (Request.Add a) given)
 add_answer-own app s seat c a given v t l named =
     let own : Own = told_of_add seat s c a given in
-    let o : OwnConnection = own_connection app c in
+    let o : OwnConnection = own_connection app s.handles c in
     let now : ℕ = moment_given given.now in
     let failed : Bool = is_tree given.fault in
     let verdict : Option Verdict = walked (add s c a given.numbers) now given.looks failed in
@@ -184,7 +184,7 @@ touch-told app s seat c a numbers =
 
 -- what it touches gives the view after, and nothing is touched where it isn't done
 pub add_answer-other : (app : List ℕ) (s : State) (seat : ℕ) (c : Connection) (a : AddRequest) (given : Given) → Valid (all_told seat s) → LawfulBus (all_told seat s) c (Request.Add a) given → is_app app c.who ≡ false →
-    found_connection (own_connections app (all_told seat s).connections) c.seat ≡ None → view (all_told seat s) app ≡ view s app →
+    found_connection (own_connections app (all_told seat s).handles (all_told seat s).connections) c.seat ≡ None → view (all_told seat s) app ≡ view s app →
     apply_all (view s app) (cond (is_done (bus_answer (all_told seat s) c (Request.Add a) given).1) (bus_touch app s (Request.Add a) given (Some c)) []) ≡ view (bus_answer (all_told seat s) c (Request.Add a) given).0 app
 add_answer-other app s seat c a given v l other e same =
     let t : State = all_told seat s in

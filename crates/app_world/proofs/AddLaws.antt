@@ -151,6 +151,7 @@ module _ (app : List ℕ) (who : Who) (a : AddRequest) (s base : State) (id : Do
     pub limits : base.limits ≡ s.limits
     pub files : base.files ≡ s.files
     pub connections : base.connections ≡ s.connections
+    pub handles : base.handles ≡ s.handles
     pub rights : base.rights ≡ s.rights
     pub joins : Joins s.documents base.documents (held_of s.rights app) d
     pub differ : IsDistinct nat_eq (map (λ x. x.id.number) base.documents)
@@ -164,6 +165,9 @@ module _ (app : List ℕ) (who : Who) (a : AddRequest) (s base : State) (id : Do
 
     t-connections : t.connections ≡ s.connections
     t-connections = rights-keep (λ (x : State). x.connections) (λ x r p. refl) who a id base ∙ b.connections
+
+    t-handles : t.handles ≡ s.handles
+    t-handles = rights-keep (λ (x : State). x.handles) (λ x r p. refl) who a id base ∙ b.handles
 
     pub t-documents : t.documents ≡ base.documents
     t-documents = rights-keep (λ (x : State). x.documents) (λ x r p. refl) who a id base
@@ -199,9 +203,9 @@ module _ (app : List ℕ) (who : Who) (a : AddRequest) (s base : State) (id : Do
       both-same false k = refl
 
       touched-by : (c : Bool) → names_app app a ≡ c → apply_all (view s app) (cond c (gained_in app s (rights_named a.names) d) []) ≡ view t app
-      touched-by true e = joined-touched app s t d t-limits t-files t-connections j (rights_named a.names) (λ n.
+      touched-by true e = joined-touched app s t d t-limits t-files t-connections t-handles j (rights_named a.names) (λ n.
           now-other n ∙ ap (λ (c : Bool). cond (id.number == n) (cond c (union (held_of s.rights app n) (rights_named a.names)) (held_of s.rights app n)) (held_of s.rights app n)) e)
-      touched-by false e = joined-same app s t d t-limits t-files t-connections j (λ n.
+      touched-by false e = joined-same app s t d t-limits t-files t-connections t-handles j (λ n.
           now-other n ∙ (ap (λ (c : Bool). cond (id.number == n) (cond c (union (held_of s.rights app n) (rights_named a.names)) (held_of s.rights app n)) (held_of s.rights app n)) e ∙ both-same (id.number == n) (held_of s.rights app n)))
 
       pub used-other : apply_all (view s app) (cond (names_app app a) (gained_in app s (rights_named a.names) d) []) ≡ view t app
@@ -224,7 +228,7 @@ module _ (app : List ℕ) (a : AddRequest) (s base : State) (id : DocId) (path :
 
   pub used-own : apply (view s app) (Gained (new_document a id path) (adding_rights a) (content_at s.files path)) ≡ view own_t app
   used-own =
-      joined-gained app s own_t (new_document a id path) (t-limits app (Who.App app) a s base id path b) (t-files app (Who.App app) a s base id path b) (t-connections app (Who.App app) a s base id path b)
+      joined-gained app s own_t (new_document a id path) (t-limits app (Who.App app) a s base id path b) (t-files app (Who.App app) a s base id path b) (t-connections app (Who.App app) a s base id path b) (t-handles app (Who.App app) a s base id path b)
       (j app (Who.App app) a s base id path b) (adding_rights a) now-own
 
   elsewhere-own : (n : ℕ) → (id.number == n) ≡ false → held_of own_t.rights app n ≡ held_of s.rights app n
@@ -251,6 +255,7 @@ base-again app who a s id path f e =
       limits = refl;
       files = refl;
       connections = refl;
+      handles = refl;
       rights = refl;
       joins = joins-again s.documents (held_of s.rights app) (new_document a id path) (subst (λ (x : Document). document_of s.documents x.id.number ≡ Some x) (sym same) live);
       differ = f.differ;
@@ -261,6 +266,7 @@ base-new app who a s id path f e = record {
   limits = refl;
   files = refl;
   connections = refl;
+  handles = refl;
   rights = refl;
   joins = joins-new s.documents (held_of s.rights app) (new_document a id path) e (f.unheld id.number e);
   differ = differ-more s.documents (new_document a id path) f.differ e;

@@ -135,7 +135,7 @@ module _ (app : List ℕ) (s : State) (c0 : Connection) (a : AddRequest) (own : 
   c = record c0 { who = Who.App app }
 
   abbrev o : OwnConnection
-  o = own_connection app c
+  o = own_connection app s.handles c
 
   abbrev content : List ℕ → Content
   content path = content_shown (paths_shown c.queue a) own.shown path
@@ -191,7 +191,7 @@ abbrev IsOwn : List ℕ → State → Connection → AddRequest → Own → Bool
 IsOwn app s c a own full now looks failed who =
     let x : Connection = record c { who = who } in
     (full ≡ false → walked (add s x a own.numbers) now looks failed ≡ Some (added s (added_files s x a own.numbers)) → Free who a (begun s x a own.numbers) (document_paths c.queue a)) →
-    option_map (limited full) (walked (own_add (view s app) (own_connection app c) a own) now looks failed) ≡ option_map (limited full) (option_map (seen_verdict app) (walked (add s x a own.numbers) now looks failed))
+    option_map (limited full) (walked (own_add (view s app) (own_connection app s.handles c) a own) now looks failed) ≡ option_map (limited full) (option_map (seen_verdict app) (walked (add s x a own.numbers) now looks failed))
 
 -- The application's own Add comes to the same in its view, where its trace tells what it is to tell: at a limit of
 -- documents it is refused, whatever it would have come to; and where it is done its numbers have to be free.

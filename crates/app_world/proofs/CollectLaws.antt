@@ -13,16 +13,16 @@ use Rattle.app_world.proofs.ViewLaws.{own-some, own_unsent, view-told}
 
 module _ (app : List ℕ) (s : State) (seat : ℕ) (v : Valid s) where
   bus_own : (c : Connection) (m : Bool) → connection_of s.connections seat ≡ Some c → is_app app c.who ≡ true →
-      own_collect_step (view s app) (cond m None (Some (own_connection app c))) ≡ (view (collect_step s (cond m None (Some c))).0 app, (collect_step s (cond m None (Some c))).1)
+      own_collect_step (view s app) (cond m None (Some (own_connection app s.handles c))) ≡ (view (collect_step s (cond m None (Some c))).0 app, (collect_step s (cond m None (Some c))).1)
   bus_own c true e h = refl
   bus_own c false e h = λ i. (sym (view-told app s c.seat) i, reply_with (sym (own_unsent app s seat c v e h) i) Answer.Done)
 
   -- the application's own Collect gives the view after it, and the reply
   pub collect_own : (o : Option Connection) → connection_of s.connections seat ≡ o → made_by app o Request.Collect ≡ true →
-      own_collect_step (view s app) (own_bus_of (found_connection (own_connections app s.connections) seat)) ≡ (view (collect_step s (bus_of o)).0 app, (collect_step s (bus_of o)).1)
+      own_collect_step (view s app) (own_bus_of (found_connection (own_connections app s.handles s.connections) seat)) ≡ (view (collect_step s (bus_of o)).0 app, (collect_step s (bus_of o)).1)
   collect_own None e h = cc
   collect_own (Some c) e h =
-      ap (λ (o : Option OwnConnection). own_collect_step (view s app) (own_bus_of o)) (own-some app seat s.connections c e h) ∙ bus_own c (is_mount c.kind) e h
+      ap (λ (o : Option OwnConnection). own_collect_step (view s app) (own_bus_of o)) (own-some app s.handles seat s.connections c e h) ∙ bus_own c (is_mount c.kind) e h
 
 -- another's leaves the view
 pub collect_other : (app : List ℕ) (s : State) (o : Option Connection) → view s app ≡ view (collect_step s o).0 app

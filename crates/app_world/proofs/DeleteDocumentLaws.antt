@@ -30,11 +30,11 @@ module _ (app : List ℕ) (s : State) where
     now n = held_of (forget_document d.id.number s.rights) app n
 
     gone-seen : apply (view s app) (Gone d.id) ≡ view (deleted s d.id.number) app
-    gone-seen = view-gone s.limits s.files s.documents held now (own_connections app s.connections) d.id (λ n e. held-forget app n d.id.number s.rights e)
+    gone-seen = view-gone s.limits s.files s.documents held now (own_connections app s.handles s.connections) d.id (λ n e. held-forget app n d.id.number s.rights e)
 
     gone-touched : (b : Bool) → holds_any (held d.id.number) ≡ b → apply_all (view s app) (cond b (Gone d.id ∷ []) []) ≡ view (deleted s d.id.number) app
     gone-touched true f = gone-seen
-    gone-touched false f = view-gone-unseen s.limits s.files s.documents held now (own_connections app s.connections) d.id (λ n e. held-forget app n d.id.number s.rights e) f
+    gone-touched false f = view-gone-unseen s.limits s.files s.documents held now (own_connections app s.handles s.connections) d.id (λ n e. held-forget app n d.id.number s.rights e) f
 
   -- ---- of another
 

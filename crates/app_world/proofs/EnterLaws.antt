@@ -6,43 +6,47 @@ use Rattle.std.proofs.lemmas.List.Concat.{flat_map-append}
 use Rattle.std.proofs.lemmas.List.Elements.{filter-append}
 use Rattle.portal_base.specs.declared.who.Kind.{Kind}
 use Rattle.portal_base.specs.declared.who.Who.{Who}
+use Rattle.portal_model.specs.declared.handle.OpenHandle.{OpenHandle}
 use Rattle.portal_model.specs.declared.request.Request.TheVariants as Request
 use Rattle.portal_model.specs.declared.state.Connection.{Connection}
 use Rattle.portal_model.specs.Enter.{enter, entered, enter_answer, new_connection}
 use Rattle.portal_model.specs.History.{made_by}
-use Rattle.portal_model.specs.State.{State, connection_of, held_of, is_app}
+use Rattle.portal_model.specs.State.{State, connection_of, handles_of, held_of, is_app}
+use Rattle.portal_model.specs.Valid.{Valid}
+use Rattle.portal_model.proofs.OpenHandles.{none_open}
 use Rattle.app_world.specs.Enter.{new_own_connection, own_enter, own_entered, own_enter_answer}
-use Rattle.app_world.specs.View.{HeldDocument, OwnConnection, contents_at, found_connection, held_documents, own_connection, own_connections, paths_of_connection, view, view_over}
+use Rattle.app_world.specs.View.{HeldDocument, OwnConnection, contents_at, found_connection, held_documents, own_connection, own_connections, own_handle, paths_of_connection, view, view_over}
 use Rattle.app_world.proofs.ViewLaws.{is_app-named, own-none, own-some, view-connections}
 
 -- the connections of an application, and one more
-more_own : (app : List ℕ) (cs : List Connection) (c : Connection) → own_connections app (cs ++ c ∷ []) ≡ own_connections app cs ++ own_connections app (c ∷ [])
-more_own app cs c =
-    ap (map (own_connection app)) (filter-append (λ (x : Connection). is_app app x.who) cs (c ∷ []))
-    ∙ map-append (own_connection app) (filter (λ (x : Connection). is_app app x.who) cs) (filter (λ (x : Connection). is_app app x.who) (c ∷ []))
+more_own : (app : List ℕ) (hs : List OpenHandle) (cs : List Connection) (c : Connection) → own_connections app hs (cs ++ c ∷ []) ≡ own_connections app hs cs ++ own_connections app hs (c ∷ [])
+more_own app hs cs c =
+    ap (map (own_connection app hs)) (filter-append (λ (x : Connection). is_app app x.who) cs (c ∷ []))
+    ∙ map-append (own_connection app hs) (filter (λ (x : Connection). is_app app x.who) cs) (filter (λ (x : Connection). is_app app x.who) (c ∷ []))
 
-new_own : (app : List ℕ) (seat : ℕ) (who : Who) (kind : Kind) → is_app app who ≡ true → new_own_connection seat who kind ≡ own_connections app (new_connection seat who kind ∷ [])
-new_own app seat who kind h =
-    ap (λ (w : Who). new_own_connection seat w kind) (is_app-named app who h) ∙ sym (rw h refl)
+new_own : (app : List ℕ) (hs : List OpenHandle) (seat : ℕ) (who : Who) (kind : Kind) → is_app app who ≡ true → handles_of hs seat ≡ [] → new_own_connection seat who kind ≡ own_connections app hs (new_connection seat who kind ∷ [])
+new_own app hs seat who kind h o =
+    ap (λ (w : Who). new_own_connection seat w kind) (is_app-named app who h) ∙ (λ i. record { seat = seat; app = app; kind = kind; queue = []; opens = 0; handles = map own_handle (sym o i) } ∷ [])
+    ∙ sym (rw h refl)
 
-own_entered-is : (app : List ℕ) (seat : ℕ) (who : Who) (kind : Kind) (cs : List Connection) (o : Option Connection) → connection_of cs seat ≡ o → made_by app o (Request.Enter who kind) ≡ true →
-    own_entered seat who kind (own_connections app cs) (found_connection (own_connections app cs) seat) ≡ own_connections app (entered seat who kind cs o)
-own_entered-is app seat who kind cs None e h =
-    ap (own_entered seat who kind (own_connections app cs)) (own-none app seat cs e)
-    ∙ (ap (λ (more : List OwnConnection). own_connections app cs ++ more) (new_own app seat who kind h) ∙ sym (more_own app cs (new_connection seat who kind)))
-own_entered-is app seat who kind cs (Some c) e h = ap (own_entered seat who kind (own_connections app cs)) (own-some app seat cs c e h)
+own_entered-is : (app : List ℕ) (hs : List OpenHandle) (seat : ℕ) (who : Who) (kind : Kind) (cs : List Connection) (o : Option Connection) → connection_of cs seat ≡ o → made_by app o (Request.Enter who kind) ≡ true → (o ≡ None → handles_of hs seat ≡ []) →
+    own_entered seat who kind (own_connections app hs cs) (found_connection (own_connections app hs cs) seat) ≡ own_connections app hs (entered seat who kind cs o)
+own_entered-is app hs seat who kind cs None e h n =
+    ap (own_entered seat who kind (own_connections app hs cs)) (own-none app hs seat cs e)
+    ∙ (ap (λ (more : List OwnConnection). own_connections app hs cs ++ more) (new_own app hs seat who kind h (n refl)) ∙ sym (more_own app hs cs (new_connection seat who kind)))
+own_entered-is app hs seat who kind cs (Some c) e h n = ap (own_entered seat who kind (own_connections app hs cs)) (own-some app hs seat cs c e h)
 
-own_answer-is : (app : List ℕ) (seat : ℕ) (who : Who) (kind : Kind) (cs : List Connection) (o : Option Connection) → connection_of cs seat ≡ o → made_by app o (Request.Enter who kind) ≡ true →
-    own_enter_answer (found_connection (own_connections app cs) seat) ≡ enter_answer o
-own_answer-is app seat who kind cs None e h = ap own_enter_answer (own-none app seat cs e)
-own_answer-is app seat who kind cs (Some c) e h = ap own_enter_answer (own-some app seat cs c e h)
+own_answer-is : (app : List ℕ) (hs : List OpenHandle) (seat : ℕ) (who : Who) (kind : Kind) (cs : List Connection) (o : Option Connection) → connection_of cs seat ≡ o → made_by app o (Request.Enter who kind) ≡ true →
+    own_enter_answer (found_connection (own_connections app hs cs) seat) ≡ enter_answer o
+own_answer-is app hs seat who kind cs None e h = ap own_enter_answer (own-none app hs seat cs e)
+own_answer-is app hs seat who kind cs (Some c) e h = ap own_enter_answer (own-some app hs seat cs c e h)
 
-other_entered : (app : List ℕ) (seat : ℕ) (who : Who) (kind : Kind) (cs : List Connection) (o : Option Connection) → made_by app o (Request.Enter who kind) ≡ false →
-    own_connections app (entered seat who kind cs o) ≡ own_connections app cs
-other_entered app seat who kind cs None h =
-    more_own app cs (new_connection seat who kind)
-    ∙ (ap (λ (b : Bool). own_connections app cs ++ map (own_connection app) (cond b (new_connection seat who kind ∷ []) [])) h ∙ append-nil (own_connections app cs))
-other_entered app seat who kind cs (Some c) h = refl
+other_entered : (app : List ℕ) (hs : List OpenHandle) (seat : ℕ) (who : Who) (kind : Kind) (cs : List Connection) (o : Option Connection) → made_by app o (Request.Enter who kind) ≡ false →
+    own_connections app hs (entered seat who kind cs o) ≡ own_connections app hs cs
+other_entered app hs seat who kind cs None h =
+    more_own app hs cs (new_connection seat who kind)
+    ∙ (ap (λ (b : Bool). own_connections app hs cs ++ map (own_connection app hs) (cond b (new_connection seat who kind ∷ []) [])) h ∙ append-nil (own_connections app hs cs))
+other_entered app hs seat who kind cs (Some c) h = refl
 
 -- a connection that was opened now names no path
 new_paths : (seat : ℕ) (who : Who) (kind : Kind) → flat_map paths_of_connection (new_own_connection seat who kind) ≡ []
@@ -56,21 +60,21 @@ entered_paths seat who kind cs None =
 entered_paths seat who kind cs (Some c) = refl
 
 -- the application's own Enter gives the view after it, and the answer
-pub enter_own : (app : List ℕ) (s : State) (seat : ℕ) (who : Who) (kind : Kind) → made_by app (connection_of s.connections seat) (Request.Enter who kind) ≡ true →
+pub enter_own : (app : List ℕ) (s : State) (seat : ℕ) (who : Who) (kind : Kind) → Valid s → made_by app (connection_of s.connections seat) (Request.Enter who kind) ≡ true →
     own_enter (view s app) seat who kind ≡ (view (enter s seat who kind).0 app, (enter s seat who kind).1)
-enter_own app s seat who kind h =
+enter_own app s seat who kind v h =
     let ds : List HeldDocument = held_documents (held_of s.rights app) s.documents in
-    let cs : List OwnConnection = own_connections app s.connections in
+    let cs : List OwnConnection = own_connections app s.handles s.connections in
     let more : List OwnConnection = own_entered seat who kind cs (found_connection cs seat) in
     let seen : record (view s app) { connections = more } ≡ view (enter s seat who kind).0 app =
     (λ i. record (view_over s.limits s.files ds more) {
       contents = contents_at s.files (map (λ (d : HeldDocument). d.document.path) ds ++ entered_paths seat who kind cs (found_connection cs seat) i);
     })
-    ∙ ap (view_over s.limits s.files ds) (own_entered-is app seat who kind s.connections (connection_of s.connections seat) refl h) in
-    λ i. (seen i, own_answer-is app seat who kind s.connections (connection_of s.connections seat) refl h i)
+    ∙ ap (view_over s.limits s.files ds) (own_entered-is app s.handles seat who kind s.connections (connection_of s.connections seat) refl h (λ e. none_open seat s.connections s.handles e v.handles_sound)) in
+    λ i. (seen i, own_answer-is app s.handles seat who kind s.connections (connection_of s.connections seat) refl h i)
 
 -- another's leaves the view
 pub enter_other : (app : List ℕ) (s : State) (seat : ℕ) (who : Who) (kind : Kind) → made_by app (connection_of s.connections seat) (Request.Enter who kind) ≡ false →
     view s app ≡ view (enter s seat who kind).0 app
 enter_other app s seat who kind h =
-    view-connections app s (entered seat who kind s.connections (connection_of s.connections seat)) (sym (other_entered app seat who kind s.connections (connection_of s.connections seat) h))
+    view-connections app s (entered seat who kind s.connections (connection_of s.connections seat)) (sym (other_entered app s.handles seat who kind s.connections (connection_of s.connections seat) h))

@@ -5,7 +5,8 @@ use Rattle.std.specs.List.{IsDistinct}
 use Rattle.std.specs.Str.{is_utf8, chars}
 use Rattle.portal_base.specs.Names.{is_host_path}
 use Rattle.portal_model.specs.Opening.{opened}
-use Rattle.portal_model.specs.Valid.{Valid}
+use Rattle.portal_model.specs.Valid.{Valid, IsValidEntry}
+use Rattle.std.proofs.lemmas.List.Elements.{All-nil}
 use Rattle.portal_model.proofs.ExampleProofs.{a_path, editor_name, other_name}
 use Rattle.app_world.specs.Examples.{b_text, with_another, EffectsOnAView, TracesTellWhatIsHeld}
 use Rattle.app_world.specs.View.{HeldDocument}
@@ -28,10 +29,14 @@ valid_with_another = record {
   rights_placed = refl;
   seats_differ = tt;
   connections_sound = refl;
+  handles_differ = tt;
+  handles_sound = refl;
+  handles_within = refl;
   entries_differ = tt;
-  entries_sound = refl;
+  entries_sound = All-nil IsValidEntry;
   files_differ = ((refl, tt), (tt, tt));
   files_apart = refl;
+  files_named = rw (b_path, a_path) refl;
   files_told = λ e. cc;
   documents_within = omega arith;
   made_within = omega arith;
@@ -48,7 +53,7 @@ first_written (d ∷ ds) = d.rights.write
 pub traces : TracesTellWhatIsHeld
 unfolding first_written
 traces = record {
-  legal = record { opening = valid_with_another; lawful = (record { defined = refl; given = (other_name, refl) }, (record { defined = refl; given = (editor_name, refl) }, (record { defined = refl; given = (refl, refl) }, (record { defined = refl; given = record { clock = refl; words = refl; numbers = refl; full = refl; looks = refl } }, (record { defined = refl; given = record { clock = refl; words = refl; numbers = refl; full = refl; looks = refl } }, tt))))) };
+  legal = record { opening = valid_with_another; lawful = (record { defined = refl; given = (other_name, refl) }, (record { defined = refl; given = (editor_name, refl) }, (record { defined = refl; given = (refl, refl) }, (record { defined = refl; given = record { clock = refl; words = refl; numbers = refl; full = refl; keeper = λ e. cc; looks = (refl, (refl, refl)) } }, (record { defined = refl; given = record { clock = refl; words = refl; numbers = refl; full = refl; keeper = λ e. cc; looks = (refl, (refl, refl)) } }, tt))))) };
   same = refl;
   own_rights = λ e. let p : false ≡ true = ap (λ (t : Trace). first_written t.opening.documents) e in cc;
 }

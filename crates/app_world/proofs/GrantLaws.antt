@@ -58,7 +58,7 @@ module _ (app : List ℕ) (s : State) (d : Document) (live : document_of s.docum
   -- to the application that is named
   given-named : is_same named app ≡ true → (b : Bool) → holds_any more ≡ b → apply_all (view s app) (cond b (Gained d more (content_at s.files d.path) ∷ []) []) ≡ view (given_rights named d.id set s) app
   given-named f true g =
-      view-gained s.limits s.files s.documents s.documents was now (own_connections app s.connections) d more
+      view-gained s.limits s.files s.documents s.documents was now (own_connections app s.handles s.connections) d more
       (λ n. live-still n (d.id.number == n) refl) (λ n. now-named f n (d.id.number == n) refl) (ap (seen (was d.id.number)) live)
   given-named f false g = unchanged (λ n. kept-named f g n (d.id.number == n) refl)
 

@@ -1,5 +1,5 @@
 -- The two laws of each kind of request: of an entry that the application makes, and of one that it does not.
-use Rattle.std.proofs.Common.{◌≡◌, ℕ, List, [], Bool, true, false, cond, refl, ap, ◌∙◌, subst}
+use Rattle.std.proofs.Common.{◌≡◌, ℕ, List, [], Bool, true, false, cond, refl, ap, ◌∙◌}
 use Rattle.portal_base.specs.declared.who.Kind.{Kind}
 use Rattle.portal_base.specs.declared.who.Who.{Who}
 use Rattle.portal_model.specs.declared.reply.Answer.{Answer}
@@ -7,9 +7,8 @@ use Rattle.portal_model.specs.declared.request.AddRequest.{AddRequest}
 use Rattle.portal_model.specs.declared.request.NodeRequest.{NodeRequest}
 use Rattle.portal_model.specs.declared.request.Request.{Request}
 use Rattle.portal_model.specs.declared.request.RightsCall.{RightsCall}
-use Rattle.portal_model.specs.Lawful.{LawfulLooks}
 use Rattle.portal_model.specs.State.{connection_of}
-use Rattle.portal_model.specs.Step.{bus_of, mount_of, node_looks, with_signals}
+use Rattle.portal_model.specs.Step.{bus_of, with_signals}
 use Rattle.app_world.specs.Effect.{apply_all}
 use Rattle.app_world.specs.Laws.{SeenAlways, SeenLawful}
 use Rattle.app_world.specs.View.{AppView, view}
@@ -26,7 +25,7 @@ nothing-touched v false = refl
 
 pub enters : SeenAlways {X = Who × Kind} (λ x. Request.Enter x.0 x.1)
 enters = record {
-  own = λ app s seat x given v m. ap (λ (done : AppView × Answer). with_signals [] done) (enter_own app s seat x.0 x.1 m);
+  own = λ app s seat x given v m. ap (λ (done : AppView × Answer). with_signals [] done) (enter_own app s seat x.0 x.1 v m);
   other = λ app s seat x given v m. nothing-touched (view s app) _ ∙ enter_other app s seat x.0 x.1 m;
 }
 
@@ -96,8 +95,6 @@ additions = record {
 
 pub node_requests : SeenLawful {X = NodeRequest} (λ x. Request.Node x)
 node_requests = record {
-  own = λ app s seat x given t v l m.
-      node_own app s seat x given v (connection_of s.connections seat) refl m
-      (subst (λ (b : Bool). LawfulLooks b (node_looks s x (mount_of (connection_of s.connections seat))) given.fault given.looks) t l.given.looks);
-  other = λ app s seat x given v l m. nothing-touched (view s app) _ ∙ node_other app s seat x given v (mount_of (connection_of s.connections seat));
+  own = λ app s seat x given t v l m. node_own app s seat x given v (connection_of s.connections seat) refl m t l.given;
+  other = λ app s seat x given v l m. node_other app s seat x given v (connection_of s.connections seat) refl m l.given;
 }

@@ -2,16 +2,18 @@
 use Rattle.std.proofs.Common.{◌≡◌, ◌==◌, ℕ, nat_eq, List, [], ◌∷◌, map, not, Bool, true, false, ◌||◌, cond, Option, Some, None, refl, sym, ap, ◌∙◌, arith}
 use Rattle.std.specs.List.{filter, flat_map, IsDistinct, AllByRecursion}
 use Rattle.std.proofs.lemmas.Bool.Decides.{nat_tests}
+use Rattle.portal_model.specs.declared.handle.OpenHandle.{OpenHandle}
 use Rattle.portal_model.specs.declared.request.Request.TheVariants as Request
 use Rattle.portal_model.specs.declared.state.Connection.{Connection}
 use Rattle.portal_model.specs.History.{made_by}
-use Rattle.portal_model.specs.Leave.{leave, leave_answer, left, of_others}
-use Rattle.portal_model.specs.State.{State, connection_of, held_of, is_app}
+use Rattle.portal_model.specs.Leave.{handles_left, handles_of_others, leave, leave_answer, left, of_others}
+use Rattle.portal_model.specs.State.{State, connection_of, handles_of, held_of, is_app}
 use Rattle.portal_model.specs.Valid.{Valid}
 use Rattle.portal_model.proofs.ListLookups.{filters-swap}
 use Rattle.app_world.specs.Leave.{own_leave, own_leave_answer, own_left}
 use Rattle.app_world.specs.View.{OwnConnection, found_connection, held_documents, is_among, named_paths, own_connection, own_connections, paths_of_connection, prune, view, view_over}
-use Rattle.app_world.proofs.ViewLaws.{among-joined, own-some, prune-connections, view-connections}
+use Rattle.app_world.proofs.PresentLaws.{own-other}
+use Rattle.app_world.proofs.ViewLaws.{among-joined, open-elsewhere, own-open, own-some, own_first, prune-connections, view-open}
 
 -- ---- of the application itself
 
@@ -22,21 +24,39 @@ filter-map : {X Y : Type 0} (p : Y → Bool) (f : X → Y) (xs : List X) → fil
 filter-map p f [] = refl
 filter-map p f (x ∷ xs) = grind (arith, filter-map p f xs)
 
+-- what the seats of others have open stays
+pub open-of_others : (seat : ℕ) (hs : List OpenHandle) (n : ℕ) → (n == seat) ≡ false → handles_of (handles_of_others seat hs) n ≡ handles_of hs n
+open-of_others seat [] n e = refl
+open-of_others seat (h ∷ hs) n e = grind (arith, nat_tests, open-of_others seat hs n)
+
 -- what is left of a view's connections is what the view has of those that are left
-own_rest : (app : List ℕ) (seat : ℕ) (cs : List Connection) → filter (is_elsewhere seat) (own_connections app cs) ≡ own_connections app (of_others seat cs)
-own_rest app seat cs =
-    filter-map (is_elsewhere seat) (own_connection app) (filter (λ (c : Connection). is_app app c.who) cs)
-    ∙ ap (map (own_connection app)) (filters-swap (λ (c : Connection). not (c.seat == seat)) (λ (c : Connection). is_app app c.who) cs)
+own_rest : (app : List ℕ) (hs : List OpenHandle) (seat : ℕ) (cs : List Connection) → filter (is_elsewhere seat) (own_connections app hs cs) ≡ own_connections app hs (of_others seat cs)
+own_rest app hs seat cs =
+    filter-map (is_elsewhere seat) (own_connection app hs) (filter (λ (c : Connection). is_app app c.who) cs)
+    ∙ ap (map (own_connection app hs)) (filters-swap (λ (c : Connection). not (c.seat == seat)) (λ (c : Connection). is_app app c.who) cs)
 
-own_left-is : (app : List ℕ) (seat : ℕ) (cs : List Connection) (o : Option Connection) → connection_of cs seat ≡ o → made_by app o Request.Leave ≡ true →
-    own_left seat (own_connections app cs) (found_connection (own_connections app cs) seat) ≡ own_connections app (left seat cs o)
-own_left-is app seat cs None e h = cc
-own_left-is app seat cs (Some c) e h = ap (own_left seat (own_connections app cs)) (own-some app seat cs c e h) ∙ own_rest app seat cs
+one_left : (app : List ℕ) (hs : List OpenHandle) (seat : ℕ) (c : Connection) (cs : List Connection) (b : Bool) → (c.seat == seat) ≡ b →
+    own_connections app (handles_of_others seat hs) cs ≡ own_connections app hs cs →
+    own_connections app (handles_of_others seat hs) (cond (not b) (c ∷ cs) cs) ≡ own_connections app hs (cond (not b) (c ∷ cs) cs)
+one_left app hs seat c cs true e rest = rest
+one_left app hs seat c cs false e rest =
+    own_first app (handles_of_others seat hs) c cs (is_app app c.who) refl
+    ∙ ((λ i. cond (is_app app c.who) (own-open app hs (handles_of_others seat hs) c (open-of_others seat hs c.seat e) i ∷ rest i) (rest i))
+    ∙ sym (own_first app hs c cs (is_app app c.who) refl))
 
-own_answer-is : (app : List ℕ) (seat : ℕ) (cs : List Connection) (o : Option Connection) → connection_of cs seat ≡ o → made_by app o Request.Leave ≡ true →
-    own_leave_answer (found_connection (own_connections app cs) seat) ≡ leave_answer o
-own_answer-is app seat cs None e h = cc
-own_answer-is app seat cs (Some c) e h = ap own_leave_answer (own-some app seat cs c e h)
+rest_open : (app : List ℕ) (hs : List OpenHandle) (seat : ℕ) (cs : List Connection) → own_connections app (handles_of_others seat hs) (of_others seat cs) ≡ own_connections app hs (of_others seat cs)
+rest_open app hs seat [] = refl
+rest_open app hs seat (c ∷ cs) = one_left app hs seat c (of_others seat cs) (c.seat == seat) refl (rest_open app hs seat cs)
+
+own_left-is : (app : List ℕ) (hs : List OpenHandle) (seat : ℕ) (cs : List Connection) (o : Option Connection) → connection_of cs seat ≡ o → made_by app o Request.Leave ≡ true →
+    own_left seat (own_connections app hs cs) (found_connection (own_connections app hs cs) seat) ≡ own_connections app (handles_left seat hs o) (left seat cs o)
+own_left-is app hs seat cs None e h = cc
+own_left-is app hs seat cs (Some c) e h = ap (own_left seat (own_connections app hs cs)) (own-some app hs seat cs c e h) ∙ (own_rest app hs seat cs ∙ sym (rest_open app hs seat cs))
+
+own_answer-is : (app : List ℕ) (hs : List OpenHandle) (seat : ℕ) (cs : List Connection) (o : Option Connection) → connection_of cs seat ≡ o → made_by app o Request.Leave ≡ true →
+    own_leave_answer (found_connection (own_connections app hs cs) seat) ≡ leave_answer o
+own_answer-is app hs seat cs None e h = cc
+own_answer-is app hs seat cs (Some c) e h = ap own_leave_answer (own-some app hs seat cs c e h)
 
 or-true : (a : Bool) {b : Bool} → b ≡ true → (a || b) ≡ true
 or-true true e = refl
@@ -90,25 +110,27 @@ unfolding IsDistinct
 other_gone app seat [] c e h d = cc
 other_gone app seat (x ∷ xs) c e h d = one_gone app seat x xs c (x.seat == seat) refl e h d.0 (λ k. other_gone app seat xs c k h d.1)
 
-other_left : (app : List ℕ) (seat : ℕ) (cs : List Connection) (o : Option Connection) → connection_of cs seat ≡ o → made_by app o Request.Leave ≡ false → IsDistinct nat_eq (map (λ (x : Connection). x.seat) cs) →
-    apps app (left seat cs o) ≡ apps app cs
-other_left app seat cs None e h d = refl
-other_left app seat cs (Some c) e h d = other_gone app seat cs c e h d
+other_left : (app : List ℕ) (hs : List OpenHandle) (seat : ℕ) (cs : List Connection) (o : Option Connection) → connection_of cs seat ≡ o → made_by app o Request.Leave ≡ false → IsDistinct nat_eq (map (λ (x : Connection). x.seat) cs) →
+    own_connections app (handles_left seat hs o) (left seat cs o) ≡ own_connections app hs cs
+other_left app hs seat cs None e h d = refl
+other_left app hs seat cs (Some c) e h d =
+    ap (map (own_connection app (handles_of_others seat hs))) (other_gone app seat cs c e h d)
+    ∙ open-elsewhere app seat hs (handles_of_others seat hs) (open-of_others seat hs) cs (own-other app hs seat cs c d e h)
 
 -- ---- the laws
 
 -- the application's own Leave gives the view after it, and the answer
 pub leave_own : (app : List ℕ) (s : State) (seat : ℕ) → made_by app (connection_of s.connections seat) Request.Leave ≡ true → own_leave (view s app) seat ≡ (view (leave s seat).0 app, (leave s seat).1)
 leave_own app s seat h =
-    let o : Option OwnConnection = found_connection (own_connections app s.connections) seat in
-    let more : List OwnConnection = own_left seat (own_connections app s.connections) o in
+    let o : Option OwnConnection = found_connection (own_connections app s.handles s.connections) seat in
+    let more : List OwnConnection = own_left seat (own_connections app s.handles s.connections) o in
     let seen : prune (record (view s app) { connections = more }) ≡ view (leave s seat).0 app =
-    prune-connections s.limits s.files (held_of s.rights app) s.documents (own_connections app s.connections) more (left_names seat (own_connections app s.connections) o)
-    ∙ ap (view_over s.limits s.files (held_documents (held_of s.rights app) s.documents)) (own_left-is app seat s.connections (connection_of s.connections seat) refl h) in
-    λ i. (seen i, own_answer-is app seat s.connections (connection_of s.connections seat) refl h i)
+    prune-connections s.limits s.files (held_of s.rights app) s.documents (own_connections app s.handles s.connections) more (left_names seat (own_connections app s.handles s.connections) o)
+    ∙ ap (view_over s.limits s.files (held_documents (held_of s.rights app) s.documents)) (own_left-is app s.handles seat s.connections (connection_of s.connections seat) refl h) in
+    λ i. (seen i, own_answer-is app s.handles seat s.connections (connection_of s.connections seat) refl h i)
 
 -- another's leaves the view
 pub leave_other : (app : List ℕ) (s : State) (seat : ℕ) → Valid s → made_by app (connection_of s.connections seat) Request.Leave ≡ false → view s app ≡ view (leave s seat).0 app
 leave_other app s seat v h =
-    view-connections app s (left seat s.connections (connection_of s.connections seat))
-    (ap (map (own_connection app)) (sym (other_left app seat s.connections (connection_of s.connections seat) refl h v.seats_differ)))
+    view-open app s (left seat s.connections (connection_of s.connections seat)) (handles_left seat s.handles (connection_of s.connections seat))
+    (sym (other_left app s.handles seat s.connections (connection_of s.connections seat) refl h v.seats_differ))

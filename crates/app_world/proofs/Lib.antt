@@ -24,7 +24,13 @@ pub mod AddTold
 pub mod AddFree
 pub mod AddGiven
 pub mod PlaceLaws
-pub mod GetAttrLaws
+pub mod NamedPaths
+pub mod NamesHostPaths
+pub mod WalksAlong
+pub mod ShownLaws
+pub mod HandleChangeLaws
+pub mod FileChangeLaws
+pub mod NodeLaws
 pub mod AskedLaws
 pub mod KindLaws
 pub mod WorldLaws
@@ -32,3 +38,4 @@ pub mod RightsToldLaws
 pub mod ExampleProofs
 pub mod DocumentExampleProofs
 pub mod ComputedExampleProofs
+pub mod FileExampleProofs

@@ -1,19 +1,24 @@
--- What an application sees at a node is the same in the state and in its view, and so are the looks there.
-use Rattle.std.proofs.Common.{◌≡◌, ℕ, ◌==◌, List, [], ◌∷◌, Bool, true, false, ◌||◌, cond, Option, Some, None, refl, sym, ap, ◌∙◌}
-use Rattle.portal_base.specs.Names.{is_same}
-use Rattle.portal_base.specs.declared.files.Look.{Look}
-use Rattle.portal_base.specs.declared.who.Who.TheVariants as Who
+-- What an application sees at a node is the same in the state and in its view.
+use Rattle.std.proofs.Common.{◌≡◌, ℕ, zero, suc, ◌==◌, nat_lt, List, [], ◌∷◌, map, Bool, true, false, ◌||◌, cond, Option, Some, None, refl, sym, ap, ◌∙◌, arith}
+use Rattle.std.specs.List.{filter, find, list_all}
+use Rattle.std.specs.Option.{option_map}
+use Rattle.portal_base.specs.declared.who.Who.{Who}
 use Rattle.rights_rule.specs.Rights.{RightSet}
+use Rattle.portal_model.specs.declared.place.Item.{Item}
+use Rattle.portal_model.specs.declared.place.Item.TheVariants.{Root, ByApp, DocumentFolder, DocumentFile}
+use Rattle.portal_model.specs.declared.place.Place.{Place}
 use Rattle.portal_model.specs.declared.state.Document.{Document}
-use Rattle.portal_model.specs.Content.{look_of, look_at}
-use Rattle.portal_model.specs.GetAttr.{looks_at_place}
-use Rattle.portal_model.specs.Place.{Place, DocumentFile, SightOfFile, sight_at, sight_of_document, sight_of_file, place_named, place_of}
+use Rattle.portal_model.specs.ListDocuments.{lower as lower_number}
+use Rattle.portal_model.specs.Ordered.{is_rising, put_all}
+use Rattle.portal_model.specs.Place.{FolderOf, RootOf, SightOfFile, SightOfFolder, may_read as may_read_document, numbers_seen, place_named, place_of, sight_at, sight_in_view, sight_of_document, sight_of_folder, sight_of_item, subject_of}
 use Rattle.portal_model.specs.State.{State, document_of, held_of}
-use Rattle.portal_model.proofs.ListLookups.{found_passes, is_same-refl, nat_is}
-use Rattle.app_world.specs.GetAttr.{own_look_at, own_place, own_sight, shown}
-use Rattle.app_world.specs.View.{HeldDocument, OwnConnection, PathContent, found_document, is_among, named_paths, path_content, seen, view}
-use Rattle.app_world.proofs.ContentLaws.{contents-found}
-use Rattle.app_world.proofs.DocumentLaws.{documents-found}
+use Rattle.portal_model.proofs.ListLookups.{find-filter, find-map, found_passes, nat_is}
+use Rattle.portal_model.proofs.RisingLists.{rising-filter, rising-put_all}
+use Rattle.app_world.specs.Node.{may_read, own_numbers, own_place, own_sight, own_sight_at, own_sight_in, own_sight_of_folder, own_sight_of_item}
+use Rattle.app_world.specs.View.{HeldDocument, held_documents, number_of, seen, view}
+use Rattle.app_world.proofs.DocumentLaws.{documents-found, documents-rising}
+use Rattle.app_world.proofs.Found.{find-kept, find-put_all, kept, told-apart}
+use Rattle.app_world.proofs.Orders.{numbers}
 
 -- ---- one document
 
@@ -23,53 +28,84 @@ sight_bits d k true b e = rw e refl
 sight_bits d k false true e = rw e refl
 sight_bits d k false false e = refl
 
+folder_bits : (view : ℕ) (d : Document) (k : RightSet) (r b : Bool) → k.read ≡ r →
+    own_sight_of_folder view (cond (r || b) (Some (record { document = d; rights = k })) None) ≡ cond r (Some (SightOfFolder (FolderOf view d.id.number d.path k.write))) None
+folder_bits view d k true b e = rw e refl
+folder_bits view d k false true e = rw e refl
+folder_bits view d k false false e = refl
+
+number_bits : (d : Document) (k : RightSet) (r b : Bool) → k.read ≡ r →
+    option_map number_of (kept may_read (cond (r || b) (Some (record { document = d; rights = k })) None)) ≡ option_map (λ (x : Document). x.id.number) (cond r (Some d) None)
+number_bits d k true b e = rw e refl
+number_bits d k false true e = rw e refl
+number_bits d k false false e = refl
+
+-- ---- the numbers that are seen
+
+rising-keys : {X : Type 0} (key : X → ℕ) (xs : List X) → is_rising (λ x y. nat_lt (key x) (key y)) xs ≡ true → is_rising nat_lt (map key xs) ≡ true
+rising-keys key [] h = refl
+rising-keys key (x ∷ xs) h = grind (arith, rising-keys key xs, all-keys x xs)
+  where
+    all-keys : (z : _) (ys : List _) → list_all (λ y. nat_lt (key z) (key y)) ys ≡ list_all (nat_lt (key z)) (map key ys)
+    all-keys z [] = refl
+    all-keys z (y ∷ ys) = grind (arith, all-keys z ys)
+
 module _ (app : List ℕ) (s : State) where
-  sight_seen : (number : ℕ) (o : Option Document) → document_of s.documents number ≡ o → own_sight (seen (held_of s.rights app number) o) ≡ sight_of_document s.rights (Who.App app) o
+  abbrev held : ℕ → RightSet
+  held n = held_of s.rights app n
+
+  abbrev read_held : List HeldDocument
+  read_held = filter may_read (held_documents held s.documents)
+
+  abbrev read_listed : List Document
+  read_listed = filter (may_read_document s.rights (Who.App app)) s.documents
+
+  read_seen : (n : ℕ) (o : Option Document) → option_map number_of (kept may_read (seen (held n) o)) ≡ option_map (λ (x : Document). x.id.number) (cond (held n).read o None)
+  read_seen n None = elim (held n).read as (λ b. None ≡ option_map (λ (x : Document). x.id.number) (cond b None None)) [ true ↦ refl | false ↦ refl ]
+  read_seen n (Some d) = number_bits d (held n) (held n).read _ refl
+
+  number_found : (n : ℕ) → find (λ m. m == n) (own_numbers (held_documents held s.documents)) ≡ find (λ m. m == n) (numbers_seen s.rights (Who.App app) s.documents)
+  number_found n =
+      find-map (λ m. m == n) number_of read_held
+      ∙ (ap (option_map number_of) (find-kept _ _ number_of numbers may_read n (held_documents held s.documents) (documents-rising held s.documents) ∙ ap (kept may_read) (documents-found held n s.documents))
+      ∙ (read_seen n (document_of s.documents n)
+      ∙ sym (find-map (λ m. m == n) (λ (x : Document). x.id.number) (put_all lower_number read_listed)
+      ∙ ap (option_map (λ (x : Document). x.id.number)) (find-put_all _ _ (λ (x : Document). x.id.number) numbers n read_listed
+      ∙ find-filter (λ (x : Document). x.id.number == n) (may_read_document s.rights (Who.App app)) (held n).read (λ x e. ap (λ (m : ℕ). (held m).read) (nat_is x.id.number n e)) s.documents))))
+
+  numbers-seen : own_numbers (held_documents held s.documents) ≡ numbers_seen s.rights (Who.App app) s.documents
+  numbers-seen =
+      told-apart _ _ (λ (n : ℕ). n) numbers (own_numbers (held_documents held s.documents)) (numbers_seen s.rights (Who.App app) s.documents)
+      (rising-keys number_of read_held (rising-filter _ _ number_of numbers may_read (held_documents held s.documents) (documents-rising held s.documents)))
+      (rising-keys (λ (x : Document). x.id.number) (put_all lower_number read_listed) (rising-put_all _ _ (λ (x : Document). x.id.number) numbers read_listed)) number_found
+
+  -- ---- a place
+
+  sight_seen : (number : ℕ) (o : Option Document) → document_of s.documents number ≡ o → own_sight (seen (held number) o) ≡ sight_of_document s.rights (Who.App app) o
   sight_seen number None e = refl
   sight_seen number (Some d) e =
       let n : d.id.number ≡ number = nat_is d.id.number number (found_passes (λ (x : Document). x.id.number == number) s.documents d e) in
-      ap (λ (m : ℕ). own_sight (seen (held_of s.rights app m) (Some d))) (sym n) ∙ sight_bits d (held_of s.rights app d.id.number) (held_of s.rights app d.id.number).read _ refl
+      ap (λ (m : ℕ). own_sight (seen (held m) (Some d))) (sym n) ∙ sight_bits d (held d.id.number) (held d.id.number).read _ refl
 
-  sight_same : (p : Option Place) → sight_at (λ number. own_sight (found_document (view s app).documents number)) p ≡ sight_at (sight_of_file s (Who.App app)) p
-  sight_same None = refl
-  sight_same (Some (DocumentFile number)) = ap own_sight (documents-found (held_of s.rights app) number s.documents) ∙ sight_seen number (document_of s.documents number) refl
+  folder_seen : (view number : ℕ) (o : Option Document) → document_of s.documents number ≡ o → own_sight_of_folder view (seen (held number) o) ≡ sight_of_folder view s.rights (Who.App app) o
+  folder_seen view number None e = refl
+  folder_seen view number (Some d) e =
+      let n : d.id.number ≡ number = nat_is d.id.number number (found_passes (λ (x : Document). x.id.number == number) s.documents d e) in
+      ap (λ (m : ℕ). own_sight_of_folder view (seen (held m) (Some d))) (sym n) ∙ folder_bits view d (held d.id.number) (held d.id.number).read _ refl
+
+  item_same : (k : ℕ) (item : Item) → own_sight_of_item (view s app) k item ≡ sight_of_item s (Who.App app) k (Who.App app) item
+  item_same k Root = ap (λ (ns : List ℕ). Some (SightOfFolder (RootOf k ns false))) numbers-seen
+  item_same k ByApp = refl
+  item_same k (DocumentFolder number) = ap (own_sight_of_folder k) (documents-found held number s.documents) ∙ folder_seen k number (document_of s.documents number) refl
+  item_same k (DocumentFile number) = ap own_sight (documents-found held number s.documents) ∙ sight_seen number (document_of s.documents number) refl
+
+  view_same : (k : ℕ) (item : Item) → own_sight_in (view s app) k item ≡ sight_in_view s (Who.App app) (record { view = k; item = item }) (subject_of s.applications (Who.App app) k)
+  view_same zero item = item_same zero item
+  view_same (suc k) item = refl
+
+  place_same : (p : Option Place) → own_sight_at (view s app) p ≡ sight_at s (Who.App app) p
+  place_same None = refl
+  place_same (Some p) = view_same p.view p.item
 
   pub own_place-is : (node : ℕ) → own_place (view s app) node ≡ place_of s (Who.App app) node
-  own_place-is node = sight_same (place_named node)
-
-  -- ---- what is at a path that is named
-
-  or-true : (a : Bool) {b : Bool} → b ≡ true → (a || b) ≡ true
-  or-true true g = refl
-  or-true false g = g
-
-  first_named : (d x : HeldDocument) (o : Option HeldDocument) (b more : Bool) → cond b (Some d) o ≡ Some x → (o ≡ Some x → more ≡ true) → (is_same d.document.path x.document.path || more) ≡ true
-  first_named d x o true more f g =
-      let same : d ≡ x = cc in
-      ap (λ (y : HeldDocument). is_same y.document.path x.document.path || more) same ∙ ap (λ (b : Bool). b || more) (is_same-refl x.document.path)
-  first_named d x o false more f g = or-true (is_same d.document.path x.document.path) (g f)
-
-  path_named : (ds : List HeldDocument) (number : ℕ) (x : HeldDocument) (cs : List OwnConnection) → found_document ds number ≡ Some x → is_among (named_paths ds cs) x.document.path ≡ true
-  path_named [] number x cs e = cc
-  path_named (d ∷ ds) number x cs e = first_named d x (found_document ds number) (d.document.id.number == number) (is_among (named_paths ds cs) x.document.path) e (path_named ds number x cs)
-
-  look_named : (path : List ℕ) → is_among (named_paths (view s app).documents (view s app).connections) path ≡ true → own_look_at (view s app) path ≡ look_at s.files path
-  look_named path h =
-      ap (λ (o : Option PathContent). look_of (shown o)) (contents-found s.files path (named_paths (view s app).documents (view s app).connections)
-      ∙ ap (λ (b : Bool). cond b (Some (path_content s.files path)) None) h)
-
-  looks_seen : (number : ℕ) (o : Option HeldDocument) → found_document (view s app).documents number ≡ o → looks_at_place (own_look_at (view s app)) (own_sight o) ≡ looks_at_place (look_at s.files) (own_sight o)
-  looks_seen number None e = refl
-  looks_seen number (Some d) e = by_read d.rights.read
-    where
-      by_read : (b : Bool) → looks_at_place (own_look_at (view s app)) (cond b (Some (SightOfFile d.document.path d.rights.write)) None) ≡ looks_at_place (look_at s.files) (cond b (Some (SightOfFile d.document.path d.rights.write)) None)
-      by_read true = ap (λ (look : Look). look ∷ []) (look_named d.document.path (path_named (view s app).documents number d (view s app).connections e))
-      by_read false = refl
-
-  looks_same : (p : Option Place) → looks_at_place (own_look_at (view s app)) (sight_at (λ number. own_sight (found_document (view s app).documents number)) p)
-      ≡ looks_at_place (look_at s.files) (sight_at (λ number. own_sight (found_document (view s app).documents number)) p)
-  looks_same None = refl
-  looks_same (Some (DocumentFile number)) = looks_seen number (found_document (view s app).documents number) refl
-
-  pub own_looks-are : (node : ℕ) → looks_at_place (own_look_at (view s app)) (own_place (view s app) node) ≡ looks_at_place (look_at s.files) (place_of s (Who.App app) node)
-  own_looks-are node = looks_same (place_named node) ∙ ap (looks_at_place (look_at s.files)) (own_place-is node)
+  own_place-is node = place_same (place_named node)

@@ -16,7 +16,6 @@ use Rattle.portal_model.specs.declared.entry.Given.{Given}
 use Rattle.portal_model.specs.declared.reply.Answer.{Answer}
 use Rattle.portal_model.specs.declared.reply.Code.{Code}
 use Rattle.portal_model.specs.declared.request.AddRequest.{AddRequest}
-use Rattle.portal_model.specs.declared.request.NodeOp.{NodeOp}
 use Rattle.portal_model.specs.declared.request.NodeRequest.{NodeRequest}
 use Rattle.portal_model.specs.declared.request.Request.{Request}
 use Rattle.portal_model.specs.declared.request.RightsCall.{RightsCall}
@@ -42,7 +41,9 @@ use Rattle.portal_model.specs.Present.{may_present, present, present_path, queue
 use Rattle.portal_model.specs.Revoke.{may_revoke, names_itself, revoke, revoke_reached, revoked}
 use Rattle.portal_model.specs.Rights.{forget_document, held_by, is_in}
 use Rattle.portal_model.specs.State.{State, app_has, connection_of, document_of, held_of, is_app}
-use Rattle.portal_model.specs.Step.{after, all_told, bus_of, bus_step, collect_step, is_mount, mount_of, node_answer, node_step, reply_at, request_step}
+use Rattle.portal_model.specs.Node.{node_done, node_given, settled_on_node, walk_on_node}
+use Rattle.portal_model.specs.NodeVerdict.{NodeDoing, NodeVerdict, Errs, Yields}
+use Rattle.portal_model.specs.Step.{after, all_told, bus_of, bus_step, collect_step, is_mount, mount_of, node_step, reply_at, request_step}
 use Rattle.portal_model.specs.Valid.{has_identifier}
 use Rattle.portal_model.specs.Verdict.{Doing, Verdict, Refuses, Does, does}
 use Rattle.portal_model.proofs.WalkDoings.{IfDoes, IfGiven, OnWalk, if-passes, on-looks, on-walked, walk-passes}
@@ -408,13 +409,15 @@ module _ (app : List ℕ) (number : ℕ) (s : State) (e : are_identified s ≡ t
       by_answer true = sym (h who)
       by_answer false = refl
 
-  node_answer-keeps : (t : State) (who : Who) (r : NodeRequest) (op : NodeOp) (given : Given) → (node_answer t who r op given).0 ≡ t
-  node_answer-keeps t who r (NodeOp.GetAttr flags fh) given = refl
-  node_answer-keeps t who r op given = refl
+  settled-keeps : {X : Type 0} (f : State → X) → ((t : State) (c : Connection) (d : NodeDoing) → f (node_done t c d) ≡ f t) → (t : State) (c : Connection) (v : Option NodeVerdict) → f (settled_on_node t c v).0 ≡ f t
+  settled-keeps f k t c None = refl
+  settled-keeps f k t c (Some (Errs errno)) = refl
+  settled-keeps f k t c (Some (Yields d)) = k t c d
 
-  node-keeps : {X : Type 0} (f : State → X) → ((t : State) (seat : ℕ) → f (all_told seat t) ≡ f t) → (r : NodeRequest) (given : Given) (o : Option Connection) → f (node_step s r given o).0 ≡ f s
-  node-keeps f h r given None = refl
-  node-keeps f h r given (Some c) = ap f (node_answer-keeps (all_told c.seat s) c.who r r.op given) ∙ h s c.seat
+  node-keeps : {X : Type 0} (f : State → X) → ((t : State) (seat : ℕ) → f (all_told seat t) ≡ f t) → ((t : State) (c : Connection) (d : NodeDoing) → f (node_done t c d) ≡ f t) →
+      (r : NodeRequest) (given : Given) (o : Option Connection) → f (node_step s r given o).0 ≡ f s
+  node-keeps f h k r given None = refl
+  node-keeps f h k r given (Some c) = settled-keeps f k (all_told c.seat s) c (node_given (walk_on_node (all_told c.seat s) c r) given) ∙ h s c.seat
 
   collect-keeps : {X : Type 0} (f : State → X) → ((t : State) (seat : ℕ) → f (all_told seat t) ≡ f t) → (o : Option Connection) → f (collect_step s o).0 ≡ f s
   collect-keeps f h None = refl
@@ -429,8 +432,8 @@ module _ (app : List ℕ) (number : ℕ) (s : State) (e : are_identified s ≡ t
     identified = collect-keeps are_identified (λ t n. refl) (bus_of (connection_of s.connections seat)) ∙ e;
   }
   step-then seat (Request.Node r) given l = record {
-    rights = node-keeps (λ (t : State). held_of t.rights app number) (λ t n. refl) r given (mount_of (connection_of s.connections seat)) ∙ stays (maker (connection_of s.connections seat) (Request.Node r)) (Request.Node r) _ (λ w. refl);
-    identified = node-keeps are_identified (λ t n. refl) r given (mount_of (connection_of s.connections seat)) ∙ e;
+    rights = node-keeps (λ (t : State). held_of t.rights app number) (λ t n. refl) (λ t c d. refl) r given (mount_of (connection_of s.connections seat)) ∙ stays (maker (connection_of s.connections seat) (Request.Node r)) (Request.Node r) _ (λ w. refl);
+    identified = node-keeps are_identified (λ t n. refl) (λ t c d. refl) r given (mount_of (connection_of s.connections seat)) ∙ e;
   }
   step-then seat (Request.Present path) given l = bus-then (Request.Present path) given (connection_of s.connections seat) l
   step-then seat (Request.Add a) given l = bus-then (Request.Add a) given (connection_of s.connections seat) l

@@ -8,18 +8,19 @@ use Rattle.portal_base.specs.declared.limits.Limits.{Limits}
 use Rattle.portal_base.specs.declared.who.Kind.{Kind}
 use Rattle.portal_base.specs.declared.who.Who.{Who}
 use Rattle.rights_rule.specs.Rights.{RightSet, holds_any}
+use Rattle.portal_model.specs.declared.handle.OpenHandle.{OpenHandle}
 use Rattle.portal_model.specs.declared.rights.Right.{Right}
 use Rattle.portal_model.specs.declared.rights.Right.TheVariants.{Read, Write, GrantPermissions, Delete}
 use Rattle.portal_model.specs.declared.state.Connection.{Connection}
 use Rattle.portal_model.specs.declared.state.Document.{Document}
 use Rattle.portal_model.specs.declared.state.Triple.{Triple}
-use Rattle.portal_model.specs.State.{State, app_has, connection_of, document_of, gives, held_of, is_app}
+use Rattle.portal_model.specs.State.{State, app_has, connection_of, document_of, gives, handles_of, held_of, is_app}
 use Rattle.portal_model.specs.Step.{all_told, told_of}
 use Rattle.portal_model.specs.Valid.{Valid, is_none, is_host_bus, is_sound_connection}
 use Rattle.portal_model.proofs.ListLookups.{is_same-eq, nat_is, find-filter-none, find-filter-some, find-map, found_in_all}
 use Rattle.portal_model.proofs.NoChangeWaits.{none-nil}
 use Rattle.app_world.specs.Laws.{with_document, with_right}
-use Rattle.app_world.specs.View.{HeldDocument, OwnConnection, TakesAlike, found_connection, held_documents, is_among, is_held, named_paths, number_of, own_connection, own_connections, prune, pruned, seen, view, view_over}
+use Rattle.app_world.specs.View.{HeldDocument, OwnConnection, TakesAlike, found_connection, held_documents, is_among, is_held, named_paths, number_of, own_connection, own_connections, own_handle, prune, pruned, seen, view, view_over}
 use Rattle.app_world.proofs.ContentLaws.{contents-fewer, contents-same}
 use Rattle.app_world.proofs.DocumentLaws.{documents-are, documents-found, documents-rising, kept-seen, seen-nothing}
 use Rattle.app_world.proofs.Found.{find-kept, kept}
@@ -37,7 +38,7 @@ documents-same held held' documents documents' e =
 pub view-alike : (app : List ℕ) (s t : State) → TakesAlike app s t → view s app ≡ view t app
 view-alike app s t a =
     let ds : List HeldDocument = held_documents (held_of s.rights app) s.documents in
-    let cs : List OwnConnection = own_connections app s.connections in
+    let cs : List OwnConnection = own_connections app s.handles s.connections in
     let documents : ds ≡ held_documents (held_of t.rights app) t.documents = documents-same (held_of s.rights app) (held_of t.rights app) s.documents t.documents a.documents in
     (λ i. record {
       handles = a.handles i;
@@ -53,11 +54,15 @@ view-alike app s t a =
 pub view-documents : (app : List ℕ) (s : State) (documents : List Document) (rights : List Triple) → ((n : ℕ) → seen (held_of s.rights app n) (document_of s.documents n) ≡ seen (held_of rights app n) (document_of documents n)) →
     view s app ≡ view (record s { documents = documents; rights = rights }) app
 view-documents app s documents rights e =
-    ap (λ (ds : List HeldDocument). view_over s.limits s.files ds (own_connections app s.connections)) (documents-same (held_of s.rights app) (held_of rights app) s.documents documents e)
+    ap (λ (ds : List HeldDocument). view_over s.limits s.files ds (own_connections app s.handles s.connections)) (documents-same (held_of s.rights app) (held_of rights app) s.documents documents e)
 
 -- connections of others
-pub view-connections : (app : List ℕ) (s : State) (cs : List Connection) → own_connections app s.connections ≡ own_connections app cs → view s app ≡ view (record s { connections = cs }) app
+pub view-connections : (app : List ℕ) (s : State) (cs : List Connection) → own_connections app s.handles s.connections ≡ own_connections app s.handles cs → view s app ≡ view (record s { connections = cs }) app
 view-connections app s cs e = ap (view_over s.limits s.files (held_documents (held_of s.rights app) s.documents)) e
+
+-- and open handles
+pub view-open : (app : List ℕ) (s : State) (cs : List Connection) (hs : List OpenHandle) → own_connections app s.handles s.connections ≡ own_connections app hs cs → view s app ≡ view (record s { connections = cs; handles = hs }) app
+view-open app s cs hs e = ap (view_over s.limits s.files (held_documents (held_of s.rights app) s.documents)) e
 
 -- a right that another application is given
 has-granted : (app : List ℕ) (rights : List Triple) (t : Triple) (number : ℕ) (right : Right) → is_same t.app app ≡ false → app_has (rights ++ t ∷ []) app number right ≡ app_has rights app number right
@@ -95,7 +100,7 @@ view-added app s d h =
 
 -- ---- what a view keeps where it is pruned
 
-still_held : (held : ℕ → RightSet) (documents : List Document) → filter is_held (held_documents held documents) ≡ held_documents held documents
+pub still_held : (held : ℕ → RightSet) (documents : List Document) → filter is_held (held_documents held documents) ≡ held_documents held documents
 still_held held documents =
     documents-are held documents (filter is_held (held_documents held documents)) (rising-filter _ _ number_of numbers is_held (held_documents held documents) (documents-rising held documents)) (λ n.
     find-kept _ _ number_of numbers is_held n (held_documents held documents) (documents-rising held documents)
@@ -160,34 +165,59 @@ own_unsent app s seat c v e h =
     none-nil c.unsent (own_silent app s.limits.queued c h (found_in_all (λ (x : Connection). x.seat == seat) (is_sound_connection s.limits.queued) s.connections c e v.connections_sound))
 
 -- what a view has of a connection is not what waits to be told
-one_told : (app : List ℕ) (seat : ℕ) (c : Connection) (more more' : List OwnConnection) → more ≡ more' →
-    cond (is_app app (told_of seat c).who) (own_connection app (told_of seat c) ∷ more) more ≡ cond (is_app app c.who) (own_connection app c ∷ more') more'
-one_told app seat c more more' e = elim (c.seat == seat) as (λ b. cond (is_app app (cond b (record c { unsent = [] }) c).who) (own_connection app (cond b (record c { unsent = [] }) c) ∷ more) more ≡ cond (is_app app c.who) (own_connection app c ∷ more') more') [
-  | true ↦ ap (λ (m : List OwnConnection). cond (is_app app c.who) (own_connection app c ∷ m) m) e
-  | false ↦ ap (λ (m : List OwnConnection). cond (is_app app c.who) (own_connection app c ∷ m) m) e
+one_told : (app : List ℕ) (hs : List OpenHandle) (seat : ℕ) (c : Connection) (more more' : List OwnConnection) → more ≡ more' →
+    cond (is_app app (told_of seat c).who) (own_connection app hs (told_of seat c) ∷ more) more ≡ cond (is_app app c.who) (own_connection app hs c ∷ more') more'
+one_told app hs seat c more more' e = elim (c.seat == seat) as (λ b. cond (is_app app (cond b (record c { unsent = [] }) c).who) (own_connection app hs (cond b (record c { unsent = [] }) c) ∷ more) more ≡ cond (is_app app c.who) (own_connection app hs c ∷ more') more') [
+  | true ↦ ap (λ (m : List OwnConnection). cond (is_app app c.who) (own_connection app hs c ∷ m) m) e
+  | false ↦ ap (λ (m : List OwnConnection). cond (is_app app c.who) (own_connection app hs c ∷ m) m) e
 ]
 
-pub own_first : (app : List ℕ) (c : Connection) (cs : List Connection) (b : Bool) → is_app app c.who ≡ b → own_connections app (c ∷ cs) ≡ cond b (own_connection app c ∷ own_connections app cs) (own_connections app cs)
-own_first app c cs true e = rw e refl
-own_first app c cs false e = rw e refl
+pub own_first : (app : List ℕ) (hs : List OpenHandle) (c : Connection) (cs : List Connection) (b : Bool) → is_app app c.who ≡ b → own_connections app hs (c ∷ cs) ≡ cond b (own_connection app hs c ∷ own_connections app hs cs) (own_connections app hs cs)
+own_first app hs c cs true e = rw e refl
+own_first app hs c cs false e = rw e refl
 
-pub own_told : (app : List ℕ) (seat : ℕ) (cs : List Connection) → own_connections app (map (told_of seat) cs) ≡ own_connections app cs
-own_told app seat [] = refl
-own_told app seat (c ∷ cs) =
-    own_first app (told_of seat c) (map (told_of seat) cs) (is_app app (told_of seat c).who) refl
-    ∙ (one_told app seat c (own_connections app (map (told_of seat) cs)) (own_connections app cs) (own_told app seat cs) ∙ sym (own_first app c cs (is_app app c.who) refl))
+pub own_told : (app : List ℕ) (hs : List OpenHandle) (seat : ℕ) (cs : List Connection) → own_connections app hs (map (told_of seat) cs) ≡ own_connections app hs cs
+own_told app hs seat [] = refl
+own_told app hs seat (c ∷ cs) =
+    own_first app hs (told_of seat c) (map (told_of seat) cs) (is_app app (told_of seat c).who) refl
+    ∙ (one_told app hs seat c (own_connections app hs (map (told_of seat) cs)) (own_connections app hs cs) (own_told app hs seat cs) ∙ sym (own_first app hs c cs (is_app app c.who) refl))
 
 -- telling changes no view
 pub view-told : (app : List ℕ) (s : State) (seat : ℕ) → view (all_told seat s) app ≡ view s app
-view-told app s seat = sym (view-connections app s (map (told_of seat) s.connections) (sym (own_told app seat s.connections)))
+view-told app s seat = sym (view-connections app s (map (told_of seat) s.connections) (sym (own_told app s.handles seat s.connections)))
 
 -- the open connection of a seat, where it is the application's
-pub own-none : (app : List ℕ) (seat : ℕ) (cs : List Connection) → connection_of cs seat ≡ None → found_connection (own_connections app cs) seat ≡ None
-own-none app seat cs e =
-    find-map (λ (c : OwnConnection). c.seat == seat) (own_connection app) (filter (λ (c : Connection). is_app app c.who) cs)
-    ∙ ap (option_map (own_connection app)) (find-filter-none (λ (c : Connection). c.seat == seat) (λ (c : Connection). is_app app c.who) cs e)
+pub own-none : (app : List ℕ) (hs : List OpenHandle) (seat : ℕ) (cs : List Connection) → connection_of cs seat ≡ None → found_connection (own_connections app hs cs) seat ≡ None
+own-none app hs seat cs e =
+    find-map (λ (c : OwnConnection). c.seat == seat) (own_connection app hs) (filter (λ (c : Connection). is_app app c.who) cs)
+    ∙ ap (option_map (own_connection app hs)) (find-filter-none (λ (c : Connection). c.seat == seat) (λ (c : Connection). is_app app c.who) cs e)
 
-pub own-some : (app : List ℕ) (seat : ℕ) (cs : List Connection) (c : Connection) → connection_of cs seat ≡ Some c → is_app app c.who ≡ true → found_connection (own_connections app cs) seat ≡ Some (own_connection app c)
-own-some app seat cs c e h =
-    find-map (λ (x : OwnConnection). x.seat == seat) (own_connection app) (filter (λ (x : Connection). is_app app x.who) cs)
-    ∙ ap (option_map (own_connection app)) (find-filter-some (λ (x : Connection). x.seat == seat) (λ (x : Connection). is_app app x.who) cs c e h)
+pub own-some : (app : List ℕ) (hs : List OpenHandle) (seat : ℕ) (cs : List Connection) (c : Connection) → connection_of cs seat ≡ Some c → is_app app c.who ≡ true → found_connection (own_connections app hs cs) seat ≡ Some (own_connection app hs c)
+own-some app hs seat cs c e h =
+    find-map (λ (x : OwnConnection). x.seat == seat) (own_connection app hs) (filter (λ (x : Connection). is_app app x.who) cs)
+    ∙ ap (option_map (own_connection app hs)) (find-filter-some (λ (x : Connection). x.seat == seat) (λ (x : Connection). is_app app x.who) cs c e h)
+
+-- ---- the open handles of a connection
+
+pub own-open : (app : List ℕ) (hs more : List OpenHandle) (c : Connection) → handles_of more c.seat ≡ handles_of hs c.seat → own_connection app more c ≡ own_connection app hs c
+own-open app hs more c e = λ i. record (own_connection app hs c) { handles = map own_handle (e i) }
+
+-- no connection of the view has the seat of which handles change
+module _ (app : List ℕ) (seat : ℕ) (hs more : List OpenHandle) (e : (n : ℕ) → (n == seat) ≡ false → handles_of more n ≡ handles_of hs n) where
+  first_apart : (c : Connection) (cs : List Connection) (b : Bool) → is_app app c.who ≡ b → found_connection (own_connections app hs (c ∷ cs)) seat ≡ None →
+      (found_connection (own_connections app hs cs) seat ≡ None → own_connections app more cs ≡ own_connections app hs cs) → own_connections app more (c ∷ cs) ≡ own_connections app hs (c ∷ cs)
+  first_apart c cs true a f rest =
+      let found : cond (c.seat == seat) (Some (own_connection app hs c)) (found_connection (own_connections app hs cs) seat) ≡ None = ap (λ (xs : List OwnConnection). found_connection xs seat) (sym (own_first app hs c cs true a)) ∙ f in
+      own_first app more c cs true a ∙ (by_seat (c.seat == seat) refl found ∙ sym (own_first app hs c cs true a))
+    where
+      by_seat : (b : Bool) → (c.seat == seat) ≡ b → cond b (Some (own_connection app hs c)) (found_connection (own_connections app hs cs) seat) ≡ None →
+          own_connection app more c ∷ own_connections app more cs ≡ own_connection app hs c ∷ own_connections app hs cs
+      by_seat true k g = cc
+      by_seat false k g = λ i. own-open app hs more c (e c.seat k) i ∷ rest g i
+  first_apart c cs false a f rest =
+      let found : found_connection (own_connections app hs cs) seat ≡ None = ap (λ (xs : List OwnConnection). found_connection xs seat) (sym (own_first app hs c cs false a)) ∙ f in
+      own_first app more c cs false a ∙ (rest found ∙ sym (own_first app hs c cs false a))
+
+  pub open-elsewhere : (cs : List Connection) → found_connection (own_connections app hs cs) seat ≡ None → own_connections app more cs ≡ own_connections app hs cs
+  open-elsewhere [] f = refl
+  open-elsewhere (c ∷ cs) f = first_apart c cs (is_app app c.who) refl f (open-elsewhere cs)

@@ -6,7 +6,8 @@ pub mod OwnVerdict
 pub mod Enter
 pub mod Leave
 pub mod Collect
-pub mod GetAttr
+pub mod Shown
+pub mod Node
 pub mod Present
 pub mod Grant
 pub mod Revoke
@@ -20,3 +21,4 @@ pub mod RightsTold
 pub mod Examples
 pub mod DocumentExamples
 pub mod ComputedExamples
+pub mod FileExamples

@@ -8,10 +8,11 @@ use Rattle.portal_base.specs.declared.limits.Limits.{Limits}
 use Rattle.portal_base.specs.declared.who.Kind.{Kind}
 use Rattle.rights_rule.specs.Rights.{RightSet, holds_any}
 use Rattle.portal_model.specs.declared.handle.Handle.{Handle}
+use Rattle.portal_model.specs.declared.handle.OpenHandle.{OpenHandle}
 use Rattle.portal_model.specs.declared.state.Connection.{Connection}
 use Rattle.portal_model.specs.declared.state.Document.{Document}
 use Rattle.portal_model.specs.Content.{Content, content_at}
-use Rattle.portal_model.specs.State.{State, document_of, held_of, is_app}
+use Rattle.portal_model.specs.State.{State, document_of, handles_of, held_of, is_app}
 use Rattle.portal_model.specs.Ordered.{bytes_less, put_all}
 
 -- a document in which the application has a right, and the rights that it has in it
@@ -30,6 +31,7 @@ pub record OwnConnection : Type 0 where
   pub kind : Kind
   pub queue : List (List ℕ)
   pub opens : ℕ
+  -- in the order in which they were opened, which is that of their numbers
   pub handles : List OwnHandle
 
 pub record PathContent : Type 0 where
@@ -86,20 +88,26 @@ held_documents held documents = put_all lower (filter is_held (map (held_documen
 
 -- ---- connections
 
--- no request opens a handle yet
-abbrev pub own_connection : List ℕ → Connection → OwnConnection
-own_connection app c = record {
+abbrev pub own_handle : OpenHandle → OwnHandle
+own_handle h = record { fh = h.fh; handle = h.handle }
+
+-- what the connection of a seat has open, of what all have open
+abbrev pub own_handles : List OpenHandle → ℕ → List OwnHandle
+own_handles handles seat = map own_handle (handles_of handles seat)
+
+abbrev pub own_connection : List ℕ → List OpenHandle → Connection → OwnConnection
+own_connection app handles c = record {
   seat = c.seat;
   app = app;
   kind = c.kind;
   queue = c.queue;
   opens = c.opens;
-  handles = [];
+  handles = own_handles handles c.seat;
 }
 
-abbrev pub own_connections : List ℕ → List Connection → List OwnConnection
-own_connections app connections =
-    map (own_connection app) (filter (λ c. is_app app c.who) connections)
+abbrev pub own_connections : List ℕ → List OpenHandle → List Connection → List OwnConnection
+own_connections app handles connections =
+    map (own_connection app handles) (filter (λ c. is_app app c.who) connections)
 
 -- ---- contents
 
@@ -141,7 +149,7 @@ abbrev pub view : State → List ℕ → AppView
 view s app =
     view_over s.limits s.files
     (held_documents (held_of s.rights app) s.documents)
-    (own_connections app s.connections)
+    (own_connections app s.handles s.connections)
 
 -- documents without a right leave the view, and paths without a name
 abbrev pub pruned : List HeldDocument → AppView → AppView
@@ -175,7 +183,8 @@ pub record TakesAlike (app : List ℕ) (s t : State) : Type 0 where
   pub handles : s.limits.handles ≡ t.limits.handles
   pub queued : s.limits.queued ≡ t.limits.queued
   pub file_bytes : s.limits.file_bytes ≡ t.limits.file_bytes
-  pub connections : own_connections app s.connections ≡ own_connections app t.connections
+  pub connections :
+      own_connections app s.handles s.connections ≡ own_connections app t.handles t.connections
   pub documents : (number : ℕ) → seen_at s app number ≡ seen_at t app number
   pub contents :
       (path : List ℕ) → names (view s app) path ≡ true →

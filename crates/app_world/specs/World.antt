@@ -1,30 +1,26 @@
 -- The world of one application: its own machine, which sees its view and its own requests alone,
 -- and its trace, which tells these and what others change of the view.
-use Rattle.std.specs.Prelude.{ℕ, List, [], ◌∷◌, ◌++◌, length, take, map, Option, Some, None, cond}
-use Rattle.portal_base.specs.declared.files.Look.{Look}
+use Rattle.std.specs.Prelude.{ℕ, List, [], ◌∷◌, ◌++◌, length, map, Option, Some, None, cond}
 use Rattle.portal_base.specs.declared.names.doc_id.DocId.{DocId}
 use Rattle.portal_model.specs.declared.entry.Entry.{Entry}
-use Rattle.portal_model.specs.declared.entry.Fault.{Fault}
 use Rattle.portal_model.specs.declared.entry.Given.{Given}
-use Rattle.portal_model.specs.declared.reply.Answer.{Answer}
 use Rattle.portal_model.specs.declared.reply.Reply.{Reply}
 use Rattle.portal_model.specs.declared.request.AddRequest.{AddRequest}
-use Rattle.portal_model.specs.declared.request.NodeOp.{NodeOp}
 use Rattle.portal_model.specs.declared.request.NodeRequest.{NodeRequest}
 use Rattle.portal_model.specs.declared.request.Request.{Request}
 use Rattle.portal_model.specs.declared.state.Connection.{Connection}
 use Rattle.portal_model.specs.Content.{Content}
 use Rattle.portal_model.specs.History.{makes}
 use Rattle.portal_model.specs.State.{State, connection_of}
-use Rattle.portal_model.specs.Step.{after, bus_of, is_mount, not_here, reply_at, undefined_answer, with_signals}
+use Rattle.portal_model.specs.Step.{after, bus_of, is_mount, mount_of, not_here, reply_at, with_signals}
 use Rattle.app_world.specs.Add.{reused_by, shown_to}
 use Rattle.app_world.specs.Bus.{bus_touch, own_bus_step}
 use Rattle.app_world.specs.Collect.{own_collect}
 use Rattle.app_world.specs.Effect as effect
 use Rattle.app_world.specs.Effect.{Effect, apply}
 use Rattle.app_world.specs.Enter.{own_enter}
-use Rattle.app_world.specs.GetAttr.{own_get_attr_answer, own_get_attr_looks}
 use Rattle.app_world.specs.Leave.{own_leave}
+use Rattle.app_world.specs.Node.{node_touch, own_node_answer}
 use Rattle.app_world.specs.Own.{Own}
 use Rattle.app_world.specs.Touched.{is_done}
 use Rattle.app_world.specs.TraceItem as item
@@ -32,13 +28,6 @@ use Rattle.app_world.specs.TraceItem.{TraceItem, item_of}
 use Rattle.app_world.specs.View.{AppView, OwnConnection, found_connection, view}
 
 -- ---- the application's own machine
-
--- of the looks that a request takes, those that succeed: where a call of the tree failed, the
--- ones ahead of it
-abbrev pub succeeding : Fault → ℕ → List Look → List Look
-succeeding Fault.None count looks = looks
-succeeding Fault.Tree count looks = take count looks
-succeeding Fault.Keeper count looks = looks
 
 -- the connection, where it is a mount
 abbrev pub own_mount_of : Option OwnConnection → Option OwnConnection
@@ -50,29 +39,9 @@ abbrev pub own_bus_of : Option OwnConnection → Option OwnConnection
 own_bus_of None = None
 own_bus_of (Some c) = cond (is_mount c.kind) None (Some c)
 
-abbrev pub own_node_answer : AppView → NodeRequest → NodeOp → Own → AppView × Answer
-own_node_answer v r (NodeOp.GetAttr flags fh) own =
-    let looks = succeeding own.fault own.looks (own_get_attr_looks v r flags) in
-    (v, own_get_attr_answer v r flags looks)
-own_node_answer v r (NodeOp.Lookup name) own = (v, undefined_answer)
-own_node_answer v r (NodeOp.Forget count) own = (v, undefined_answer)
-own_node_answer v r (NodeOp.BatchForget nodes) own = (v, undefined_answer)
-own_node_answer v r (NodeOp.SetAttr valid fh size) own = (v, undefined_answer)
-own_node_answer v r (NodeOp.Open flags) own = (v, undefined_answer)
-own_node_answer v r (NodeOp.Create name flags) own = (v, undefined_answer)
-own_node_answer v r (NodeOp.Read fh offset size) own = (v, undefined_answer)
-own_node_answer v r (NodeOp.Write fh offset content) own = (v, undefined_answer)
-own_node_answer v r (NodeOp.Flush fh) own = (v, undefined_answer)
-own_node_answer v r (NodeOp.Fsync fh) own = (v, undefined_answer)
-own_node_answer v r (NodeOp.Release fh) own = (v, undefined_answer)
-own_node_answer v r NodeOp.OpenDir own = (v, undefined_answer)
-own_node_answer v r (NodeOp.ReadDir fh offset size) own = (v, undefined_answer)
-own_node_answer v r (NodeOp.ReleaseDir fh) own = (v, undefined_answer)
-own_node_answer v r (NodeOp.Access mask) own = (v, undefined_answer)
-
 abbrev pub own_node_step : AppView → NodeRequest → Own → Option OwnConnection → AppView × Reply
 own_node_step v r own None = not_here v
-own_node_step v r own (Some c) = with_signals [] (own_node_answer v r r.op own)
+own_node_step v r own (Some c) = with_signals [] (own_node_answer v c r own)
 
 -- nothing waits to be told to an application
 abbrev pub own_collect_step : AppView → Option OwnConnection → AppView × Reply
@@ -162,13 +131,13 @@ own_of s e =
       fault = e.given.fault;
     }
 
--- An Enter, a Leave and a Collect change nothing of another's view, and no request on a node does
--- yet
+-- an Enter, a Leave and a Collect change nothing of another's view
 abbrev pub request_touch : List ℕ → State → ℕ → Request → Given → List Effect
 request_touch app s seat (Request.Enter who kind) given = []
 request_touch app s seat Request.Leave given = []
 request_touch app s seat Request.Collect given = []
-request_touch app s seat (Request.Node r) given = []
+request_touch app s seat (Request.Node r) given =
+    node_touch app s r given (mount_of (connection_of s.connections seat))
 request_touch app s seat (Request.Present path) given =
     bus_touch app s (Request.Present path) given (bus_of (connection_of s.connections seat))
 request_touch app s seat (Request.Add a) given =

@@ -20,6 +20,7 @@ ghost use Rattle.app_world.specs.DocumentExamples.{
   WorldsOfCalls,
   WorldsOfRemovals,
 };
+ghost use Rattle.app_world.specs.FileExamples.{AreTold, IsLeftToRead, WorldsOfFiles};
 ghost use Rattle.app_world.specs.Examples.{EffectsOnAView, TracesTellWhatIsHeld};
 
 use portal_model::reply::Code;
@@ -62,6 +63,13 @@ pub fn removals_in_a_world()
 /// addition that names it.
 pub fn what_is_touched()
     ensures { WhatIsTouched }
+{}
+
+/// An application is told of the bytes of the files that its view names, and of
+/// no others, and reads them by its own machine. What it has open stays in its
+/// view, whatever becomes of the document.
+pub fn files_in_a_world()
+    ensures { WorldsOfFiles }
 {}
 
 /// A history tells who has which right: by additions, grants, revocations and
@@ -117,4 +125,20 @@ pub fn rights_given_by_listing() -> Rights
     ensures { IsGivenByListing result }
 {
     Rights::NONE
+}
+
+/// How many effects of the host's write are told to an application that holds the
+/// document, or to one that holds nothing.
+pub fn effects_of_a_write(held: bool) -> u32
+    ensures { AreTold held result }
+{
+    if held { 1 } else { 0 }
+}
+
+/// How many bytes an application reads by a handle, which outlives its rights, once
+/// another has truncated the file.
+pub fn bytes_left_to_read() -> u32
+    ensures { IsLeftToRead result }
+{
+    0
 }

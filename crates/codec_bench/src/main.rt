@@ -6,20 +6,31 @@
 //! - `read ROUNDS HEAD UNIT COUNT`: the message is read so many times, and the
 //!   values of its bodies are counted;
 //! - `write ROUNDS HEAD UNIT COUNT`: the message is read once, the values of its
-//!   body are written so many times, and their bytes are counted.
+//!   body are written so many times, and their bytes are counted;
+//! - `answer ROUNDS HEAD UNIT COUNT`: the message, a call that is answered
+//!   without the portal, is read once, its answer is written as a message so
+//!   many times, and the bytes are counted.
 //!
 //! The bytes of the message are those of HEAD and then COUNT times those of
 //! UNIT, both in hexadecimal digits, or `-` for none.
 #![tactic(auto)]
 
+ghost use Rattle.std.specs.Prelude.{◌≢◌};
+ghost use Rattle.dbus_dispatch.specs.declared.ask.Ask.TheVariants.{Local};
+ghost use Rattle.dbus_dispatch.specs.Writable.{CanBeAnswered};
+
 mod error;
 
 use crate::error::BenchError;
+use dbus_dispatch::ask::{Ask, request_of};
 use dbus_marshal::write::write_value;
 use dbus_message::read::read_message;
 use dbus_message::split::split;
-use dbus_types::message::Message;
+use dbus_message::write::write_message;
+use dbus_types::message::{Message, OutMessage};
+use portal_base::limits::{Limits, Settings};
 use portal_base::list::{ByteList, List};
+use portal_base::names::host_path::HostPath;
 use portal_base::split::Split;
 use std::alloc::Global;
 use std::io;
@@ -79,6 +90,7 @@ fn run(alloc: Global, line: &str) -> Result<u64, BenchError> {
     match rounds.call {
         "read" => read_rounds(alloc, rounds.rounds, bytes.as_slice()),
         "write" => write_rounds(alloc, rounds.rounds, bytes.as_slice()),
+        "answer" => answer_rounds(alloc, rounds.rounds, bytes.as_slice()),
         _ => Err(BenchError::Line),
     }
 }
@@ -127,4 +139,50 @@ fn write_rounds(alloc: Global, rounds: u32, bytes: &[u8]) -> Result<u64, BenchEr
         count = count.wrapping_add(out.len() as u64);
     }
     Ok(count)
+}
+
+fn answer_rounds(alloc: Global, rounds: u32, bytes: &[u8]) -> Result<u64, BenchError> {
+    let message = read_once(alloc, bytes)?;
+    match request_of(alloc, &message, &settings(alloc)?)? {
+        Ask::Local(answer) => written_rounds(alloc, rounds, &answer),
+        _ => Err(BenchError::Message),
+    }
+}
+
+/// Writes an answer so many times, with rising serials.
+fn written_rounds(alloc: Global, rounds: u32, answer: &OutMessage) -> Result<u64, BenchError>
+    requires { CanBeAnswered (Local answer.now) }
+{
+    let mut count: u64 = 0;
+    for round in 0..rounds {
+        let len = written_len(alloc, answer, round + 1)?;
+        count = count.wrapping_add(len as u64);
+    }
+    Ok(count)
+}
+
+/// Writes an answer with a serial; the number of its bytes.
+fn written_len(alloc: Global, answer: &OutMessage, serial: u32) -> Result<usize, BenchError>
+    requires able { CanBeAnswered (Local answer.now) }
+    requires counted { serial ≢ 0 }
+{
+    let bytes = write_message(alloc, answer, serial)?;
+    Ok(bytes.len())
+}
+
+/// A portal whose file view is mounted on `/run/doc`.
+fn settings(alloc: Global) -> Result<Settings, BenchError> {
+    let mountpoint = HostPath::read(alloc, b"/run/doc").map_err(|_| BenchError::Memory)?;
+    Ok(Settings {
+        limits: Limits {
+            documents: 1,
+            made: 1,
+            history: 1,
+            handles: 1,
+            queued: 1,
+            file_bytes: 1,
+        },
+        mountpoint,
+        guid: [0; 16],
+    })
 }

@@ -9,7 +9,6 @@ pub mod ReadValueLaws
 pub mod Loops
 pub mod HeaderFields
 pub mod Bytes
-pub mod ListFronts
 pub mod BytesSet
 pub mod PiecesJoined
 pub mod SpelledKeepsRules

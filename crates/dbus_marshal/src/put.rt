@@ -11,9 +11,9 @@ ghost use Rattle.dbus_types.specs.Spelling.{Extends, aligned, signature_body, te
 use portal_base::list::ByteList;
 use portal_base::memory::WantOfMemory;
 
-/// Zero bytes up to a multiple of the alignment.
-#[tactic(auto, using(crate::proofs::ListFronts::extends_append))]
-pub(crate) fn pad(out: &mut ByteList, to: usize) -> Result<(), WantOfMemory>
+/// Puts zero bytes behind others up to a multiple of an alignment.
+#[tactic(auto, using(dbus_types::proofs::ListFronts::extends_append))]
+pub fn pad(out: &mut ByteList, to: usize) -> Result<(), WantOfMemory>
     requires { 0 < to }
     ensures ok { OnOk result (out.new ≡ out.old ++ replicate (gap to (length out.old)) 0) }
     ensures err { OnErr result (Extends out.old out.new) }
@@ -66,7 +66,7 @@ pub(crate) fn overwrite_byte(out: &mut ByteList, at: usize, number: usize)
     out.set(at, bytes[0]);
 }
 
-#[tactic(auto, using(crate::proofs::ListFronts::extends_refl))]
+#[tactic(auto, using(dbus_types::proofs::ListFronts::extends_refl))]
 pub(crate) fn put_length(out: &mut ByteList, number: usize) -> Result<(), WantOfMemory>
     ensures ok { OnOk result (out.new ≡ out.old ++ to_le_bytes w32 number) }
     ensures err { OnErr result (Extends out.old out.new) }
@@ -74,7 +74,7 @@ pub(crate) fn put_length(out: &mut ByteList, number: usize) -> Result<(), WantOf
     out.extend_from_slice(&four_bytes(number))
 }
 
-#[tactic(auto, using(crate::proofs::ListFronts::extends_refl, crate::proofs::ListFronts::extends_append, crate::proofs::ListFronts::extends_trans))]
+#[tactic(auto, using(dbus_types::proofs::ListFronts::extends_refl, dbus_types::proofs::ListFronts::extends_append, dbus_types::proofs::ListFronts::extends_trans))]
 pub(crate) fn put_16(out: &mut ByteList, number: u16) -> Result<(), WantOfMemory>
     ensures ok { OnOk result (out.new ≡ out.old
         ++ aligned 2 (λ start. number_bytes Little w16 number) (length out.old)) }
@@ -84,7 +84,7 @@ pub(crate) fn put_16(out: &mut ByteList, number: u16) -> Result<(), WantOfMemory
     out.extend_from_slice(&number.to_le_bytes())
 }
 
-#[tactic(auto, using(crate::proofs::ListFronts::extends_refl, crate::proofs::ListFronts::extends_append, crate::proofs::ListFronts::extends_trans))]
+#[tactic(auto, using(dbus_types::proofs::ListFronts::extends_refl, dbus_types::proofs::ListFronts::extends_append, dbus_types::proofs::ListFronts::extends_trans))]
 pub(crate) fn put_32(out: &mut ByteList, number: u32) -> Result<(), WantOfMemory>
     ensures ok { OnOk result (out.new ≡ out.old
         ++ aligned 4 (λ start. number_bytes Little w32 number) (length out.old)) }
@@ -94,7 +94,7 @@ pub(crate) fn put_32(out: &mut ByteList, number: u32) -> Result<(), WantOfMemory
     out.extend_from_slice(&number.to_le_bytes())
 }
 
-#[tactic(auto, using(crate::proofs::ListFronts::extends_refl, crate::proofs::ListFronts::extends_append, crate::proofs::ListFronts::extends_trans))]
+#[tactic(auto, using(dbus_types::proofs::ListFronts::extends_refl, dbus_types::proofs::ListFronts::extends_append, dbus_types::proofs::ListFronts::extends_trans))]
 pub(crate) fn put_64(out: &mut ByteList, number: u64) -> Result<(), WantOfMemory>
     ensures ok { OnOk result (out.new ≡ out.old
         ++ aligned 8 (λ start. number_bytes Little w64 number) (length out.old)) }
@@ -105,7 +105,7 @@ pub(crate) fn put_64(out: &mut ByteList, number: u64) -> Result<(), WantOfMemory
 }
 
 /// A text with its length in four bytes.
-#[tactic(auto, using(crate::proofs::ListFronts::extends_refl, crate::proofs::ListFronts::extends_append, crate::proofs::ListFronts::extends_trans))]
+#[tactic(auto, using(dbus_types::proofs::ListFronts::extends_refl, dbus_types::proofs::ListFronts::extends_append, dbus_types::proofs::ListFronts::extends_trans))]
 pub(crate) fn put_text(out: &mut ByteList, text: &[u8]) -> Result<(), WantOfMemory>
     ensures ok { OnOk result (out.new ≡ out.old
         ++ aligned 4 (λ start. text_body Little text.now) (length out.old)) }
@@ -118,7 +118,7 @@ pub(crate) fn put_text(out: &mut ByteList, text: &[u8]) -> Result<(), WantOfMemo
 }
 
 /// A text with its length in one byte.
-#[tactic(auto, using(crate::proofs::ListFronts::extends_refl, crate::proofs::ListFronts::extends_append, crate::proofs::ListFronts::extends_trans))]
+#[tactic(auto, using(dbus_types::proofs::ListFronts::extends_refl, dbus_types::proofs::ListFronts::extends_append, dbus_types::proofs::ListFronts::extends_trans))]
 pub(crate) fn put_short_text(out: &mut ByteList, text: &[u8]) -> Result<(), WantOfMemory>
     ensures ok { OnOk result (out.new ≡ out.old ++ signature_body text.now) }
     ensures err { OnErr result (Extends out.old out.new) }

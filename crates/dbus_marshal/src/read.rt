@@ -33,6 +33,9 @@ pub(crate) const LONGEST_ARRAY: u32 = 67_108_864;
 
 /// How many values may stand in each other: each in at most 64 arrays, structs,
 /// dict entries and variants, itself not counted.
+///
+/// Source: D-Bus Specification, "Marshaling (Wire Format)": a variant must not
+/// make the depth of the containers larger than 64.
 const MOST_VALUES: u32 = 65;
 
 /// The value of a type at a place, with at most so many values in each other.

@@ -57,7 +57,7 @@ pub(crate) fn type_at(alloc: Global, text: &[u8], at: usize) -> Result<WireType,
 }
 
 /// The signature of a value's type.
-#[tactic(auto, using(crate::proofs::ListFronts::extends_refl, crate::proofs::ListFronts::extends_append, crate::proofs::ListFronts::extends_trans))]
+#[tactic(auto, using(dbus_types::proofs::ListFronts::extends_refl, dbus_types::proofs::ListFronts::extends_append, dbus_types::proofs::ListFronts::extends_trans))]
 pub(crate) fn put_signature(out: &mut ByteList, value: &Value) -> Result<(), WantOfMemory>
     ensures ok { OnOk result (out.new ≡ out.old ++ signature_body (type_text (type_of value.now))) }
     ensures err { OnErr result (Extends out.old out.new) }

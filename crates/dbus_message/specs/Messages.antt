@@ -32,7 +32,8 @@ IsMessage bytes m = (fields : List Value) × IsWhole bytes × AreFieldsOf bytes 
     × IsTrue (are_good fields) × IsTrue (has_needed (kind_of bytes) fields)
     × IsTrue (list_all (λ b. b == 0) (padding_bytes bytes)) × SaysHeader bytes m
     × SaysFields fields m
-    × IsContent (endian_of bytes) (text_of signature_code fields) m.signature m.body (body_bytes bytes)
+    × IsContent (endian_of bytes) (text_of signature_code fields) m.signature m.body
+    (body_bytes bytes)
 
 -- It is this message that is read, unless memory ran out.
 abbrev pub IsReadAs : Message → Result Message MessageError → Type 0

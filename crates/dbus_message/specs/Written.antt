@@ -51,7 +51,8 @@ fields_out (Return to body) = return_fields to body
 fields_out (Error to name) = field error_name_code (V.Str name) ∷ field reply_serial_code (V.U32 to)
     ∷ signature_field (V.Str (last_part name) ∷ []) ∷ []
 fields_out (Signal path interface member body) = field path_code (V.ObjectPath path)
-    ∷ field interface_code (V.Str interface) ∷ field member_code (V.Str member) ∷ signature_field body ∷ []
+    ∷ field interface_code (V.Str interface) ∷ field member_code (V.Str member)
+    ∷ signature_field body ∷ []
 
 -- a little-endian message of version 1, with the flag that no reply is expected: its type, its
 -- serial, the bytes of its fields, and those of its body

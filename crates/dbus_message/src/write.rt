@@ -2,14 +2,14 @@
 //!
 //! Source: D-Bus Specification, "Message Format" and "Header Fields".
 
-ghost use Rattle.std.specs.Prelude.{◌≡◌, ◌+◌, ◌<◌, ◌^◌, ◌≢◌, ◌++◌, ◌==◌, [], ◌∷◌, length, map, replicate, IfOk, OnOk, List, ℕ};
+ghost use Rattle.std.specs.Prelude.{◌≡◌, ◌+◌, ◌<◌, ◌^◌, ◌≢◌, ◌++◌, ◌==◌, [], ◌∷◌, length, map, IfOk, List, ℕ};
 ghost use Rattle.std.specs.Int.{w32};
 ghost use Rattle.dbus_types.specs.declared.types.Endian.TheVariants.{Little};
 ghost use Rattle.dbus_types.specs.declared.types.WireType.TheVariants as W;
 ghost use Rattle.dbus_types.specs.declared.types.Value.TheVariants as V;
 ghost use Rattle.dbus_types.specs.Types.{type_text, types_text};
 ghost use Rattle.dbus_types.specs.Values.{type_of as type_in};
-ghost use Rattle.dbus_types.specs.Spells.{Spells, gap};
+ghost use Rattle.dbus_types.specs.Spells.{Spells};
 ghost use Rattle.dbus_message.specs.Content.{IsBody};
 ghost use Rattle.dbus_message.specs.Fields.{field_type as type_of_field};
 ghost use Rattle.dbus_message.specs.Messages.{IsMessage};
@@ -18,7 +18,7 @@ ghost use Rattle.dbus_message.specs.Written.{field as field_with, signature_fiel
 use crate::fields::{ERROR_NAME, INTERFACE, MEMBER, PATH, REPLY_SERIAL, SIGNATURE};
 use crate::header::{BODY_ALIGNMENT, LITTLE_ENDIAN, PROTOCOL_VERSION};
 use crate::read::field_type;
-use dbus_marshal::write::write_value;
+use dbus_marshal::write::{pad, write_value};
 use dbus_types::message::{ERROR, METHOD_RETURN, NO_REPLY_EXPECTED, OutMessage, SIGNAL};
 use dbus_types::shared::Shared;
 use dbus_types::types::Value;
@@ -129,18 +129,6 @@ fn kind_of(message: &OutMessage) -> u8
     }
 }
 
-/// Zero bytes up to a multiple of 8.
-fn pad(out: &mut ByteList) -> Result<(), WantOfMemory>
-    ensures { OnOk result (out.new ≡ out.old ++ replicate (gap 8 (length out.old)) 0) }
-{
-    let count = (BODY_ALIGNMENT - out.len() % BODY_ALIGNMENT) % BODY_ALIGNMENT;
-    for written in 0..count {
-        let _ = written;
-        out.push(0)?;
-    }
-    Ok(())
-}
-
 /// A message of these parts.
 fn write_parts(
     alloc: Global,
@@ -163,7 +151,7 @@ fn write_parts(
         items: fields,
     };
     write_value(&mut bytes, &fields)?;
-    pad(&mut bytes)?;
+    pad(&mut bytes, BODY_ALIGNMENT)?;
     bytes.extend_from_slice(body)?;
     Ok(bytes)
 }

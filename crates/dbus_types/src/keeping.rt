@@ -2,7 +2,7 @@
 //!
 //! Source: D-Bus Specification, "Type System".
 
-ghost use Rattle.std.specs.Prelude.{◌≡◌, ◌+◌, ◌<◌, ◌≤◌, ◌≢◌, true, IsTrue, ◌↔◌, map, length, All, EachIndex, MatchOption, slice_index};
+ghost use Rattle.std.specs.Prelude.{◌≡◌, ◌+◌, ◌<◌, ◌≤◌, ◌≢◌, true, IsTrue, ◌↔◌, map, length, All, MatchOption};
 ghost use Rattle.dbus_types.specs.Types.{role, members_role, greatest, arrays_deep, brackets_deep, type_text, types_text, IsValidType, IsVariantType};
 ghost use Rattle.dbus_types.specs.Values.{type_of, IsText, IsSignatureText, LeafKeeps, KeepsWithin, KeepsRules};
 ghost use Rattle.dbus_types.specs.declared.types.Value.{out-Value};
@@ -14,6 +14,7 @@ use crate::rules::{arrays_within, brackets_within, is_single, role_of};
 use crate::signature::{LONGEST, MOST_ARRAYS, MOST_BRACKETS, check_signature};
 use crate::types::{Value, WireType};
 use crate::typing::has_type;
+use portal_base::text::has_no_zero;
 
 /// Where the type of a value may stand.
 #[cycle(roles)]
@@ -188,12 +189,6 @@ fn has_variant_type(value: &Value) -> bool
     ensures { IsTrue result ↔ IsVariantType (type_of value.now) }
 {
     has_valid_type(value) && type_leaves(value, LONGEST as u32).is_some()
-}
-
-fn has_no_zero(bytes: &[u8]) -> bool
-    ensures { IsTrue result ↔ EachIndex bytes.now (λ k. slice_index bytes.now k ≢ 0) }
-{
-    bytes.iter().all(|byte| *byte != 0)
 }
 
 /// Says whether a text has no zero byte.

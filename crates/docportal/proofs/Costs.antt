@@ -18,14 +18,15 @@ use Rattle.portal_model.proofs.Histories.{cost-append}
 use Rattle.script_form.specs.declared.script.ScriptLine.{ScriptLine}
 use Rattle.script_form.specs.declared.script.ScriptLine.TheVariants.{Open, Data}
 use Rattle.script_form.specs.Lines.{hex_text, line_text, text_of}
+use Rattle.script_form.specs.Outside.{Outside}
 use Rattle.session.proofs.ItemsCostLittle.{costs, costs-append}
-use Rattle.docportal.specs.Entries.{entries_for, entry_for}
+use Rattle.docportal.specs.Entries.{entries_for, entry_for, outside_past}
 
-pub entries_cost : (rs : List Request) (s : State) (seat : ℕ) → cost (entries_for s seat rs) ≡ costs rs
-entries_cost [] s seat = refl
-entries_cost (r ∷ rs) s seat =
-    let e = entry_for s seat r in
-    cost-append (e ∷ []) (entries_for (after s e) seat rs) ∙ (ap (λ (n : ℕ). cost (e ∷ []) + n) (entries_cost rs (after s e) seat) ∙ sym (costs-append (r ∷ []) rs))
+pub entries_cost : (rs : List Request) (s : State) (o : Outside) (seat : ℕ) → cost (entries_for s o seat rs) ≡ costs rs
+entries_cost [] s o seat = refl
+entries_cost (r ∷ rs) s o seat =
+    let e = entry_for s o seat r in
+    cost-append (e ∷ []) (entries_for (after s e) (outside_past o e) seat rs) ∙ (ap (λ (n : ℕ). cost (e ∷ []) + n) (entries_cost rs (after s e) (outside_past o e) seat) ∙ sym (costs-append (r ∷ []) rs))
 
 -- ---- the length of a line
 

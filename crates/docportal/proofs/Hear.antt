@@ -2,10 +2,8 @@
 use Rattle.std.proofs.Common.{◌≡◌, inl, inr, ℕ, ◌+◌, ◌<◌, ◌≤◌, List, [], ◌∷◌, ◌++◌, length, Some, Bool, true, false, Result, Ok, Err, refl, sym, ap, ◌∙◌, subst, arith}
 use Rattle.std.specs.Prelude.{IfErr, IfOk, ◌⊎◌}
 use Rattle.portal_base.specs.Devices.{SinkState}
-use Rattle.portal_core.specs.Lending.{GrowsByOwn, is_faultless}
-use Rattle.portal_core.specs.Story.{Story, state_now}
+use Rattle.portal_core.specs.Story.{state_first, state_now}
 use Rattle.portal_model.specs.History.{Legal}
-use Rattle.portal_model.specs.Opening.{opened}
 use Rattle.portal_model.specs.Seated.{exchanges, rises_by}
 use Rattle.portal_model.specs.State.{State}
 use Rattle.session.specs.declared.phase.Phase.{Phase}
@@ -29,7 +27,8 @@ use Rattle.docportal.specs.declared.seats.Heard.{Heard}
 use Rattle.session.proofs.ItemsBuilt.{items_built}
 use Rattle.docportal.specs.Entries.{made_for}
 use Rattle.docportal.specs.Lines.{DataIsUnbuilt, IsUnbuiltStop}
-use Rattle.docportal.specs.Seats.{HeardAs, HearsAt, HearsNot, IsMet, WantsMemory, is_last, known_at, sunk}
+use Rattle.docportal.specs.Scenes.{ScriptPortal, outside_at}
+use Rattle.docportal.specs.Seats.{Alone, HeardAs, HearsAt, HearsNot, IsMet, WantsMemory, is_last, known_at, sunk}
 use Rattle.docportal.proofs.MadeAlone.{asked_alone}
 
 some_is : (x y : List (List ℕ)) → Some x ≡ Some y → x ≡ y
@@ -39,7 +38,7 @@ none_denied : (n count : ℕ) → count ≡ 0 → count ≡ rises_by 0 n → n �
 none_denied n count c e = omega arith
 
 -- what was taken of a rest and a piece, at such a desk
-module _ (p q : Story) (seat count : ℕ) (at now : Standing) (bytes : List ℕ) (sink sink' : SinkState) (empty : sink.pieces ≡ []) (same : opened q.opening ≡ opened p.opening) (own : GrowsByOwn is_faultless seat p.history q.history) (legal : Legal (opened q.opening) q.history) (none : count ≡ 0) where
+module _ (p q : ScriptPortal) (seat count : ℕ) (at now : Standing) (bytes : List ℕ) (sink sink' : SinkState) (empty : sink.pieces ≡ []) (same : state_first q.story ≡ state_first p.story) (own : Alone seat p q) (legal : Legal (state_first q.story) q.story.history) (none : count ≡ 0) (told : (state_first p.story).told ≡ true) where
   cut_taken : (what : Stop) → (t : TakesUpTo what at (sunk (known_at p seat 0) sink) bytes now (sunk (known_at q seat count) sink')) → Items at.client at.stage.phase (at.rest ++ bytes) t.did.items t.did.acts now.rest what
   cut_taken what t = record {
     bytes = t.bytes ∙ ap (λ (z : List ℕ). z ++ now.rest) t.did.bytes_are;
@@ -50,14 +49,14 @@ module _ (p q : Story) (seat count : ℕ) (at now : Standing) (bytes : List ℕ)
   takes_hears : (what : Stop) → TakesUpTo what at (sunk (known_at p seat 0) sink) bytes now (sunk (known_at q seat count) sink') → now.fed ≡ fed_of now.before what → HearsAt p q seat at bytes what sink'.pieces now
   takes_hears what t fed_is =
       let d = t.did in
-      let s = opened p.opening in
+      let s = state_first p.story in
       let rs = requests_of d.acts in
-      let mine : exchanges seat s q.history ≡ exchanges seat s p.history ++ kept d.outcomes = sym (ap (λ (z : State). exchanges seat z q.history) same) ∙ told_alike _ _ d.outcomes d.grows.desk refl in
+      let mine : exchanges seat s q.story.history ≡ exchanges seat s p.story.history ++ kept d.outcomes = sym (ap (λ (z : State). exchanges seat z q.story.history) same) ∙ told_alike _ _ d.outcomes d.grows.desk told in
       let fewest : denied d.outcomes ≡ 0 = none_denied (denied d.outcomes) count none d.grows.desk.refusals in
-      let made = asked_alone s p.history q.history seat (subst (λ (z : State). Legal z q.history) same legal) own rs d.outcomes (items_built d.items at.client at.stage.phase d.acts d.each) refl mine fewest (answer_asked.items at.stage.serial now.stage.serial d.acts d.outcomes d.pieces d.answers) in
+      let made = asked_alone p q seat (subst (λ (z : State). Legal z q.story.history) same legal) own rs d.outcomes (items_built d.items at.client at.stage.phase d.acts d.each) told mine fewest (answer_asked.items at.stage.serial now.stage.serial d.acts d.outcomes d.pieces d.answers) in
       let pieces : sink'.pieces ≡ d.pieces = some_is _ _ d.grows.told ∙ ap (λ (z : List (List ℕ)). z ++ d.pieces) empty in
-      let answers : Answers at.stage.serial d.acts (made_for (state_now p) seat rs) sink'.pieces now.stage.serial =
-      subst (λ (z : List (List ℕ)). Answers at.stage.serial d.acts (made_for (state_now p) seat rs) z now.stage.serial) (sym pieces)
+      let answers : Answers at.stage.serial d.acts (made_for (state_now p.story) (outside_at p) seat rs) sink'.pieces now.stage.serial =
+      subst (λ (z : List (List ℕ)). Answers at.stage.serial d.acts (made_for (state_now p.story) (outside_at p) seat rs) z now.stage.serial) (sym pieces)
       (subst (λ (z : List Outcome). Answers at.stage.serial d.acts z d.pieces now.stage.serial) made.1 d.answers) in (
         rs,
         record {

@@ -1,4 +1,5 @@
 pub mod BytesAhead
+pub mod NodeGiven
 pub mod GivenByTree
 pub mod MadeAlone
 pub mod Hear
@@ -13,3 +14,4 @@ pub mod RunLines
 pub mod RunLine
 pub mod ReplayScript
 pub mod Counts
+pub mod StartedScript

@@ -17,6 +17,7 @@ use Rattle.script_form.specs.declared.script.ScriptLine.TheVariants.{File, Doc, 
 use Rattle.script_form.specs.declared.script.ScriptLine.TheVariants as line
 use Rattle.script_form.specs.Lines.{KeepsRules, line_text}
 use Rattle.script_form.specs.Order.{opens}
+use Rattle.script_form.specs.Outside.{Outside}
 use Rattle.session.specs.declared.act.Act.{Act}
 use Rattle.session.specs.declared.act.Client.{Client}
 use Rattle.session.specs.declared.served.Fed.TheVariants as fed
@@ -27,7 +28,7 @@ use Rattle.session.specs.Items.{joined}
 use Rattle.session.specs.Sessions.{fed_of}
 use Rattle.session.specs.Standings.{Standing, client, fresh, longest}
 use Rattle.session.proofs.ConnectionStaysOpen.{ArePlain, act_plain, bound_stays}
-use Rattle.docportal.specs.Entries.{entries_for, entry_for}
+use Rattle.docportal.specs.Entries.{entries_for, entry_for, outside_after, outside_past}
 use Rattle.docportal.specs.Lines.{Comes, CloseDoes, DataDoes, Does, Goes, Hears, Passes}
 use Rattle.docportal.specs.Scenes.{Scene, placed, run_settings}
 use Rattle.docportal.specs.Steps.{Agrees, HaveRoom, IsIdle, IsNew, binding}
@@ -40,35 +41,35 @@ use Rattle.docportal.proofs.Costs.{data_long, enter_cost, entries_cost}
 abbrev seat_test : ℕ → Entry → Bool
 seat_test n e = e.seat == n
 
-own_entries : (rs : List Request) (s : State) (seat : ℕ) → of_seat seat (entries_for s seat rs) ≡ entries_for s seat rs
-own_entries [] s seat = refl
-own_entries (r ∷ rs) s seat =
-    let e = entry_for s seat r in
+own_entries : (rs : List Request) (s : State) (o : Outside) (seat : ℕ) → of_seat seat (entries_for s o seat rs) ≡ entries_for s o seat rs
+own_entries [] s o seat = refl
+own_entries (r ∷ rs) s o seat =
+    let e = entry_for s o seat r in
     let here : (seat == seat) ≡ true = grind (arith, nat_tests) in
-    let more = own_entries rs (after s e) seat in
-    ap (λ (b : Bool). cond b (e ∷ of_seat seat (entries_for (after s e) seat rs)) (of_seat seat (entries_for (after s e) seat rs))) here ∙ ap (λ (l : List Entry). e ∷ l) more
+    let more = own_entries rs (after s e) (outside_past o e) seat in
+    ap (λ (b : Bool). cond b (e ∷ of_seat seat (entries_for (after s e) (outside_past o e) seat rs)) (of_seat seat (entries_for (after s e) (outside_past o e) seat rs))) here ∙ ap (λ (l : List Entry). e ∷ l) more
 
-no_entries : (rs : List Request) (s : State) (seat n : ℕ) → (n == seat) ≡ false → of_seat n (entries_for s seat rs) ≡ []
-no_entries [] s seat n h = refl
-no_entries (r ∷ rs) s seat n h =
-    let e = entry_for s seat r in
+no_entries : (rs : List Request) (s : State) (o : Outside) (seat n : ℕ) → (n == seat) ≡ false → of_seat n (entries_for s o seat rs) ≡ []
+no_entries [] s o seat n h = refl
+no_entries (r ∷ rs) s o seat n h =
+    let e = entry_for s o seat r in
     let there : (seat == n) ≡ false = grind (arith, nat_tests) in
-    ap (λ (b : Bool). cond b (e ∷ of_seat n (entries_for (after s e) seat rs)) (of_seat n (entries_for (after s e) seat rs))) there ∙ no_entries rs (after s e) seat n h
+    ap (λ (b : Bool). cond b (e ∷ of_seat n (entries_for (after s e) (outside_past o e) seat rs)) (of_seat n (entries_for (after s e) (outside_past o e) seat rs))) there ∙ no_entries rs (after s e) (outside_past o e) seat n h
 
 -- what requests make of a seat's connection
 abbrev bound_past : Option Binding → List Request → Option Binding
 bound_past o [] = o
 bound_past o (r ∷ rs) = bound_past (bound_after o r) rs
 
-bound_entries : (rs : List Request) (s : State) (seat : ℕ) (o : Option Binding) → bound_by o (entries_for s seat rs) ≡ bound_past o rs
-bound_entries [] s seat o = refl
-bound_entries (r ∷ rs) s seat o = bound_entries rs (after s (entry_for s seat r)) seat (bound_after o r)
+bound_entries : (rs : List Request) (s : State) (o : Outside) (seat : ℕ) (b : Option Binding) → bound_by b (entries_for s o seat rs) ≡ bound_past b rs
+bound_entries [] s o seat b = refl
+bound_entries (r ∷ rs) s o seat b = bound_entries rs (after s (entry_for s o seat r)) (outside_past o (entry_for s o seat r)) seat (bound_after b r)
 
-bound_here : (rs : List Request) (s : State) (seat : ℕ) → bound (run s (entries_for s seat rs)) seat ≡ bound_past (bound s seat) rs
-bound_here rs s seat = run-bound seat (entries_for s seat rs) s ∙ (ap (bound_by (bound s seat)) (own_entries rs s seat) ∙ bound_entries rs s seat (bound s seat))
+bound_here : (rs : List Request) (s : State) (o : Outside) (seat : ℕ) → bound (run s (entries_for s o seat rs)) seat ≡ bound_past (bound s seat) rs
+bound_here rs s o seat = run-bound seat (entries_for s o seat rs) s ∙ (ap (bound_by (bound s seat)) (own_entries rs s o seat) ∙ bound_entries rs s o seat (bound s seat))
 
-bound_there : (rs : List Request) (s : State) (seat n : ℕ) → (n == seat) ≡ false → bound (run s (entries_for s seat rs)) n ≡ bound s n
-bound_there rs s seat n h = run-bound n (entries_for s seat rs) s ∙ ap (bound_by (bound s n)) (no_entries rs s seat n h)
+bound_there : (rs : List Request) (s : State) (o : Outside) (seat n : ℕ) → (n == seat) ≡ false → bound (run s (entries_for s o seat rs)) n ≡ bound s n
+bound_there rs s o seat n h = run-bound n (entries_for s o seat rs) s ∙ ap (bound_by (bound s n)) (no_entries rs s o seat n h)
 
 plain-append : (rs qs : List Request) → ArePlain rs → ArePlain qs → ArePlain (rs ++ qs)
 plain-append [] qs a b = b
@@ -104,27 +105,27 @@ module _ (a : Scene) (seat : ℕ) (rs : List Request) (now : Option Standing) (a
   placed_idle true n = idle
   placed_idle false n = agrees.idle n
 
-  placed_bound : (b : Bool) (n : ℕ) → (n == seat) ≡ b → bound (run a.portal (entries_for a.portal seat rs)) n ≡ maybe_binding (choose b now (a.sessions n))
+  placed_bound : (b : Bool) (n : ℕ) → (n == seat) ≡ b → bound (run a.portal (entries_for a.portal a.outside seat rs)) n ≡ maybe_binding (choose b now (a.sessions n))
   placed_bound true n h =
       let same : n ≡ seat = grind (arith, nat_tests) in
-      ap (bound (run a.portal (entries_for a.portal seat rs))) same ∙ (bound_here rs a.portal seat ∙ is)
-  placed_bound false n h = bound_there rs a.portal seat n h ∙ agrees.bound_alike n
+      ap (bound (run a.portal (entries_for a.portal a.outside seat rs))) same ∙ (bound_here rs a.portal a.outside seat ∙ is)
+  placed_bound false n h = bound_there rs a.portal a.outside seat n h ∙ agrees.bound_alike n
 
-  comes_scene : Agrees (record { portal = run a.portal (entries_for a.portal seat rs); sessions = placed a.sessions seat now })
+  comes_scene : Agrees (record { portal = run a.portal (entries_for a.portal a.outside seat rs); outside = outside_after a.outside (entries_for a.portal a.outside seat rs); sessions = placed a.sessions seat now })
   comes_scene = record { idle = λ n. placed_idle (n == seat) n; bound_alike = λ n. placed_bound (n == seat) n refl }
 
 comes_agree : (a b : Scene) (seat : ℕ) (rs : List Request) (lines : List (List ℕ)) (now : Option Standing) (es : List Entry) (out : List (List ℕ))
     → Agrees a → IfSome now IsIdle → bound_past (bound a.portal seat) rs ≡ maybe_binding now → Comes a seat rs lines now es out b → Agrees b
 comes_agree a b seat rs lines now es out agrees idle is h =
-    let at : record { portal = run a.portal es; sessions = placed a.sessions seat now } ≡ record { portal = run a.portal (entries_for a.portal seat rs); sessions = placed a.sessions seat now } =
-    ap (λ (z : List Entry). record { portal = run a.portal z; sessions = placed a.sessions seat now }) h.entries_are in
+    let at : record { portal = run a.portal es; outside = outside_after a.outside es; sessions = placed a.sessions seat now } ≡ record { portal = run a.portal (entries_for a.portal a.outside seat rs); outside = outside_after a.outside (entries_for a.portal a.outside seat rs); sessions = placed a.sessions seat now } =
+    ap (λ (z : List Entry). record { portal = run a.portal z; outside = outside_after a.outside z; sessions = placed a.sessions seat now }) h.entries_are in
     subst Agrees (sym (h.scene ∙ at)) (comes_scene a seat rs now agrees idle is)
 
 passes_agree : (a b : Scene) (es : List Entry) (out : List (List ℕ)) → Agrees a → Passes a es out b → Agrees b
 passes_agree a b es out agrees h = subst Agrees (sym h.2) agrees
 
 -- the requests of items leave the connection of a session
-module _ (a b : Scene) (seat : ℕ) (at now : Standing) (bytes : List ℕ) (what : Stop) (rs : List Request) (ps : List (List ℕ)) (es : List Entry) (out : List (List ℕ)) (agrees : Agrees a) (open_at : a.sessions seat ≡ Some at) (x : Hears a.portal seat at bytes what rs ps now) where
+module _ (a b : Scene) (seat : ℕ) (at now : Standing) (bytes : List ℕ) (what : Stop) (rs : List Request) (ps : List (List ℕ)) (es : List Entry) (out : List (List ℕ)) (agrees : Agrees a) (open_at : a.sessions seat ≡ Some at) (x : Hears a.portal a.outside seat at bytes what rs ps now) where
   open_bound : bound a.portal seat ≡ Some (binding at)
   open_bound = agrees.bound_alike seat ∙ ap maybe_binding open_at
 
@@ -142,7 +143,7 @@ module _ (a b : Scene) (seat : ℕ) (at now : Standing) (bytes : List ℕ) (what
   ends_agree lines h = comes_agree a b seat (rs ++ Request.Leave ∷ []) lines None es out agrees tt (past_plain rs (Request.Leave ∷ []) (bound a.portal seat) plain ∙ past_leave (bound a.portal seat)) h
 
 goes_agree : (what : Stop) (a b : Scene) (seat : ℕ) (at now : Standing) (bytes : List ℕ) (rs : List Request) (ps : List (List ℕ)) (es : List Entry) (out : List (List ℕ))
-    → Agrees a → a.sessions seat ≡ Some at → Hears a.portal seat at bytes what rs ps now → Goes a seat what rs ps now es out b → Agrees b
+    → Agrees a → a.sessions seat ≡ Some at → Hears a.portal a.outside seat at bytes what rs ps now → Goes a seat what rs ps now es out b → Agrees b
 goes_agree stop.More a b seat at now bytes rs ps es out agrees e x h = goes_on_agree a b seat at now bytes stop.More rs ps es out agrees e x refl h.0 h.1
 goes_agree (stop.Bad rule) a b seat at now bytes rs ps es out agrees e x h = ends_agree a b seat at now bytes (stop.Bad rule) rs ps es out agrees e x _ h
 goes_agree stop.TooLong a b seat at now bytes rs ps es out agrees e x h = ends_agree a b seat at now bytes stop.TooLong rs ps es out agrees e x _ h
@@ -160,9 +161,9 @@ pub does_agree : (line : ScriptLine) (a b : Scene) (es : List Entry) (out : List
 does_agree (File path content) a b es out agrees new h = passes_agree a b es out agrees h
 does_agree (Doc id reusable path grants) a b es out agrees new h = passes_agree a b es out agrees h
 does_agree (Now moment) a b es out agrees new h = passes_agree a b es out agrees h
-does_agree (line.Entry entry) a b es out agrees new h = absurd h
-does_agree (Fail device call) a b es out agrees new h = absurd h
-does_agree (Word word) a b es out agrees new h = absurd h
+does_agree (line.Entry entry) a b es out agrees new h = passes_agree a b es out agrees h
+does_agree (Fail device call) a b es out agrees new h = passes_agree a b es out agrees h
+does_agree (Word word) a b es out agrees new h = passes_agree a b es out agrees h
 does_agree (Open seat kind who) a b es out agrees new h =
     let closed : bound a.portal seat ≡ None = agrees.bound_alike seat ∙ ap maybe_binding new in
     comes_agree a b seat (Request.Enter who kind ∷ []) [] (Some (fresh (client who kind run_settings))) es out agrees (record { goes_on = refl; between = refl })
@@ -173,21 +174,21 @@ does_agree (Close seat) a b es out agrees new h = close_agrees (a.sessions seat)
 -- ---- what a line costs
 
 -- bytes that are heard between items hold the items
-heard_bytes : (s : State) (seat : ℕ) (at now : Standing) (bytes : List ℕ) (what : Stop) (rs : List Request) (ps : List (List ℕ)) → at.rest ≡ [] → (x : Hears s seat at bytes what rs ps now) → length (joined x.items) ≤ length bytes
-heard_bytes s seat at now bytes what rs ps none x =
+heard_bytes : (s : State) (o : Outside) (seat : ℕ) (at now : Standing) (bytes : List ℕ) (what : Stop) (rs : List Request) (ps : List (List ℕ)) → at.rest ≡ [] → (x : Hears s o seat at bytes what rs ps now) → length (joined x.items) ≤ length bytes
+heard_bytes s o seat at now bytes what rs ps none x =
     let all : bytes ≡ joined x.items ++ now.rest = sym (ap (λ (z : List ℕ). z ++ bytes) none) ∙ x.cut.bytes in
     let long : length bytes ≡ length (joined x.items) + length now.rest = ap length all ∙ length-append (joined x.items) now.rest in
     omega arith
 
-heard_cost : (s : State) (seat : ℕ) (at now : Standing) (bytes : List ℕ) (what : Stop) (rs : List Request) (ps : List (List ℕ)) → at.rest ≡ [] → Hears s seat at bytes what rs ps now → costs rs ≤ 8 * length bytes
-heard_cost s seat at now bytes what rs ps none x =
-    let least = heard_bytes s seat at now bytes what rs ps none x in
+heard_cost : (s : State) (o : Outside) (seat : ℕ) (at now : Standing) (bytes : List ℕ) (what : Stop) (rs : List Request) (ps : List (List ℕ)) → at.rest ≡ [] → Hears s o seat at bytes what rs ps now → costs rs ≤ 8 * length bytes
+heard_cost s o seat at now bytes what rs ps none x =
+    let least = heard_bytes s o seat at now bytes what rs ps none x in
     let most = items_cost x.items at.client at.stage.phase x.acts x.cut.each in
     let same : costs rs ≡ costs (requests_of x.acts) = ap costs x.asked in
     omega arith
 
 comes_cost : (a b : Scene) (seat : ℕ) (rs : List Request) (lines : List (List ℕ)) (now : Option Standing) (es : List Entry) (out : List (List ℕ)) → Comes a seat rs lines now es out b → cost es ≡ costs rs
-comes_cost a b seat rs lines now es out h = ap cost h.entries_are ∙ entries_cost rs a.portal seat
+comes_cost a b seat rs lines now es out h = ap cost h.entries_are ∙ entries_cost rs a.portal a.outside seat
 
 passes_cost : (a b : Scene) (es : List Entry) (out : List (List ℕ)) → Passes a es out b → cost es ≡ 0
 passes_cost a b es out h = ap cost h.0
@@ -210,7 +211,7 @@ data_cost None a b seat bytes es out agrees e h = let none = passes_cost a b es 
 data_cost (Some at) a b seat bytes es out agrees e h =
     let idle = maybe_idle (a.sessions seat) at e (agrees.idle seat) in
     let same = goes_cost h.0 a b seat h.1 h.2 h.3 es out h.5 in
-    let most = heard_cost a.portal seat at h.3 bytes h.0 h.1 h.2 idle.between h.4 in
+    let most = heard_cost a.portal a.outside seat at h.3 bytes h.0 h.1 h.2 idle.between h.4 in
     let text = data_long seat bytes in
     omega arith
 
@@ -222,9 +223,9 @@ pub does_cost : (line : ScriptLine) (a b : Scene) (es : List Entry) (out : List 
 does_cost (File path content) a b es out agrees k h = let none = passes_cost a b es out h in omega arith
 does_cost (Doc id reusable path grants) a b es out agrees k h = let none = passes_cost a b es out h in omega arith
 does_cost (Now moment) a b es out agrees k h = let none = passes_cost a b es out h in omega arith
-does_cost (line.Entry entry) a b es out agrees k h = absurd h
-does_cost (Fail device call) a b es out agrees k h = absurd h
-does_cost (Word word) a b es out agrees k h = absurd h
+does_cost (line.Entry entry) a b es out agrees k h = let none = passes_cost a b es out h in omega arith
+does_cost (Fail device call) a b es out agrees k h = let none = passes_cost a b es out h in omega arith
+does_cost (Word word) a b es out agrees k h = let none = passes_cost a b es out h in omega arith
 does_cost (Open seat kind who) a b es out agrees k h =
     let same = comes_cost a b seat (Request.Enter who kind ∷ []) _ _ es out h in
     let most = enter_cost who seat kind (omega (arith, k.1)) in
@@ -268,7 +269,7 @@ data_room (Some at) a b seat bytes es out less agrees e room h =
     let idle = maybe_idle (a.sessions seat) at e (agrees.idle seat) in
     let held : at.before + more ≤ longest = subst (λ (z : Option Standing). Holds more z) e (room seat) in
     let before = h.4.before in
-    let least = heard_bytes a.portal seat at h.3 bytes h.0 h.1 h.2 idle.between h.4 in
+    let least = heard_bytes a.portal a.outside seat at h.3 bytes h.0 h.1 h.2 idle.between h.4 in
     let text = data_long seat bytes in
     goes_room h.0 a b seat h.1 h.2 h.3 es out less more (omega arith) room (omega arith) h.5
 
@@ -280,9 +281,9 @@ pub does_room : (line : ScriptLine) (a b : Scene) (es : List Entry) (out : List 
 does_room (File path content) a b es out less agrees short room h = passes_room a b es out less _ (omega arith) room h
 does_room (Doc id reusable path grants) a b es out less agrees short room h = passes_room a b es out less _ (omega arith) room h
 does_room (Now moment) a b es out less agrees short room h = passes_room a b es out less _ (omega arith) room h
-does_room (line.Entry entry) a b es out less agrees short room h = absurd h
-does_room (Fail device call) a b es out less agrees short room h = absurd h
-does_room (Word word) a b es out less agrees short room h = absurd h
+does_room (line.Entry entry) a b es out less agrees short room h = passes_room a b es out less _ (omega arith) room h
+does_room (Fail device call) a b es out less agrees short room h = passes_room a b es out less _ (omega arith) room h
+does_room (Word word) a b es out less agrees short room h = passes_room a b es out less _ (omega arith) room h
 does_room (Open seat kind who) a b es out less agrees short room h = comes_room a b seat (Request.Enter who kind ∷ []) _ (Some (fresh (client who kind run_settings))) es out less _ (omega arith) room (omega arith) h
 does_room (Data seat bytes) a b es out less agrees short room h = data_room (a.sessions seat) a b seat bytes es out less agrees refl room h
 does_room (Close seat) a b es out less agrees short room h = close_room (a.sessions seat) a b seat es out less _ (omega arith) room h
@@ -349,9 +350,9 @@ pub does_close : (line : ScriptLine) (a b : Scene) (es : List Entry) (out : List
 does_close (File path content) a b es out lines closed h = passes_closed a b es out lines (File path content) closed h
 does_close (Doc id reusable path grants) a b es out lines closed h = passes_closed a b es out lines (Doc id reusable path grants) closed h
 does_close (Now moment) a b es out lines closed h = passes_closed a b es out lines (Now moment) closed h
-does_close (line.Entry entry) a b es out lines closed h = absurd h
-does_close (Fail device call) a b es out lines closed h = absurd h
-does_close (Word word) a b es out lines closed h = absurd h
+does_close (line.Entry entry) a b es out lines closed h = passes_closed a b es out lines (line.Entry entry) closed h
+does_close (Fail device call) a b es out lines closed h = passes_closed a b es out lines (Fail device call) closed h
+does_close (Word word) a b es out lines closed h = passes_closed a b es out lines (Word word) closed h
 does_close (Open seat kind who) a b es out lines closed h =
     comes_closed a b seat _ _ _ es out lines (Open seat kind who) closed (λ n k same. absurd (opens_own n seat (front_closed n lines (Open seat kind who) k).1 same)) h
 does_close (Data seat bytes) a b es out lines closed h = data_closed (a.sessions seat) a b seat bytes es out lines closed refl h

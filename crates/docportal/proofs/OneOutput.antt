@@ -7,6 +7,7 @@ use Rattle.portal_model.specs.State.{State}
 use Rattle.script_form.specs.declared.script.ScriptLine.{ScriptLine}
 use Rattle.script_form.specs.declared.script.ScriptLine.TheVariants.{File, Doc, Fail, Word, Now, Open, Data, Close}
 use Rattle.script_form.specs.declared.script.ScriptLine.TheVariants as line
+use Rattle.script_form.specs.Outside.{Outside}
 use Rattle.session.specs.declared.act.Act.{Act}
 use Rattle.session.specs.declared.act.Client.{Client}
 use Rattle.session.specs.declared.phase.Phase.{Phase}
@@ -20,7 +21,7 @@ use Rattle.session.specs.Sessions.{fed_of}
 use Rattle.session.specs.Standings.{Standing, stage}
 use Rattle.session.proofs.ItemsAreOne.{are_one}
 use Rattle.session.proofs.AnswersAsked.{say_alike}
-use Rattle.docportal.specs.Entries.{made_for}
+use Rattle.docportal.specs.Entries.{made_for, outside_after}
 use Rattle.docportal.specs.Lines.{Comes, CloseDoes, DataDoes, Does, Goes, Hears, Passes}
 use Rattle.docportal.specs.Plays.{Plays}
 use Rattle.docportal.specs.Scenes.{Scene, placed}
@@ -38,14 +39,14 @@ standing_is x y c p s b r f =
     ∙ ap (λ (z : Fed). standing y.client y.stage.phase y.stage.serial y.before y.rest z) f))))
 
 -- what bytes come to is one thing
-hears_one : (s : State) (seat : ℕ) (at : Standing) (bytes : List ℕ) (what also : Stop) (rs qs : List Request) (ps os : List (List ℕ)) (now then : Standing)
-    → Hears s seat at bytes what rs ps now → Hears s seat at bytes also qs os then → (what ≡ also) × (rs ≡ qs) × (ps ≡ os) × (now ≡ then)
-hears_one s seat at bytes what also rs qs ps os now then x y =
+hears_one : (s : State) (o : Outside) (seat : ℕ) (at : Standing) (bytes : List ℕ) (what also : Stop) (rs qs : List Request) (ps os : List (List ℕ)) (now then : Standing)
+    → Hears s o seat at bytes what rs ps now → Hears s o seat at bytes also qs os then → (what ≡ also) × (rs ≡ qs) × (ps ≡ os) × (now ≡ then)
+hears_one s o seat at bytes what also rs qs ps os now then x y =
     let one = are_one at.client at.stage.phase (at.rest ++ bytes) x.items y.items x.acts y.acts now.rest then.rest what also x.cut y.cut in
     let requests : rs ≡ qs = x.asked ∙ (ap requests_of one.1 ∙ sym y.asked) in
-    let first : Answers at.stage.serial y.acts (made_for s seat qs) ps now.stage.serial =
-    subst (λ (z : List Request). Answers at.stage.serial y.acts (made_for s seat z) ps now.stage.serial) requests (subst (λ (z : List Act). Answers at.stage.serial z (made_for s seat rs) ps now.stage.serial) one.1 x.answers) in
-    let said = say_alike at.stage.serial now.stage.serial then.stage.serial y.acts (made_for s seat qs) (made_for s seat qs) ps os refl first y.answers in
+    let first : Answers at.stage.serial y.acts (made_for s o seat qs) ps now.stage.serial =
+    subst (λ (z : List Request). Answers at.stage.serial y.acts (made_for s o seat z) ps now.stage.serial) requests (subst (λ (z : List Act). Answers at.stage.serial z (made_for s o seat rs) ps now.stage.serial) one.1 x.answers) in
+    let said = say_alike at.stage.serial now.stage.serial then.stage.serial y.acts (made_for s o seat qs) (made_for s o seat qs) ps os refl first y.answers in
     let before : now.before ≡ then.before = x.before ∙ (ap (λ (z : List (List ℕ)). at.before + length (joined z)) one.0 ∙ sym y.before) in
     let fed : now.fed ≡ then.fed = x.fed ∙ (ap (λ (z : ℕ). fed_of z what) before ∙ (ap (fed_of then.before) one.3 ∙ sym y.fed)) in (
       one.3,
@@ -67,7 +68,7 @@ comes_one a b c seat rs lines now es fs out also h k =
     let entries : es ≡ fs = h.entries_are ∙ sym k.entries_are in (
       entries,
       h.out_is ∙ sym k.out_is,
-      h.scene ∙ (ap (λ (z : List Entry). record { portal = run a.portal z; sessions = placed a.sessions seat now }) entries ∙ sym k.scene),
+      h.scene ∙ (ap (λ (z : List Entry). record { portal = run a.portal z; outside = outside_after a.outside z; sessions = placed a.sessions seat now }) entries ∙ sym k.scene),
     )
 
 goes_one : (what : Stop) (a b c : Scene) (seat : ℕ) (rs : List Request) (ps : List (List ℕ)) (now : Standing) (es fs : List Entry) (out also : List (List ℕ))
@@ -78,9 +79,9 @@ goes_one stop.TooLong a b c seat rs ps now es fs out also h k = comes_one a b c 
 goes_one stop.Unbuilt a b c seat rs ps now es fs out also h k = absurd h
 
 heard_one : (a b c : Scene) (seat : ℕ) (at : Standing) (bytes : List ℕ) (what other : Stop) (rs qs : List Request) (ps os : List (List ℕ)) (now then : Standing) (es fs : List Entry) (out also : List (List ℕ))
-    → Hears a.portal seat at bytes what rs ps now → Hears a.portal seat at bytes other qs os then → Goes a seat what rs ps now es out b → Goes a seat other qs os then fs also c → AreSame es fs out also b c
+    → Hears a.portal a.outside seat at bytes what rs ps now → Hears a.portal a.outside seat at bytes other qs os then → Goes a seat what rs ps now es out b → Goes a seat other qs os then fs also c → AreSame es fs out also b c
 heard_one a b c seat at bytes what other rs qs ps os now then es fs out also x y h k =
-    let one = hears_one a.portal seat at bytes what other rs qs ps os now then x y in
+    let one = hears_one a.portal a.outside seat at bytes what other rs qs ps os now then x y in
     let g1 = subst (λ (z : Stop). Goes a seat z rs ps now es out b) one.0 h in
     let g2 = subst (λ (z : List Request). Goes a seat other z ps now es out b) one.1 g1 in
     let g3 = subst (λ (z : List (List ℕ)). Goes a seat other qs z now es out b) one.2 g2 in
@@ -101,9 +102,9 @@ does_one : (line : ScriptLine) (a b c : Scene) (es fs : List Entry) (out also : 
 does_one (File path content) a b c es fs out also h k = passes_one a b c es fs out also h k
 does_one (Doc id reusable path grants) a b c es fs out also h k = passes_one a b c es fs out also h k
 does_one (Now moment) a b c es fs out also h k = passes_one a b c es fs out also h k
-does_one (line.Entry entry) a b c es fs out also h k = absurd h
-does_one (Fail device call) a b c es fs out also h k = absurd h
-does_one (Word word) a b c es fs out also h k = absurd h
+does_one (line.Entry entry) a b c es fs out also h k = passes_one a b c es fs out also h k
+does_one (Fail device call) a b c es fs out also h k = passes_one a b c es fs out also h k
+does_one (Word word) a b c es fs out also h k = passes_one a b c es fs out also h k
 does_one (Open seat kind who) a b c es fs out also h k = comes_one a b c seat _ _ _ es fs out also h k
 does_one (Data seat bytes) a b c es fs out also h k = data_one (a.sessions seat) a b c seat bytes es fs out also h k
 does_one (Close seat) a b c es fs out also h k = close_one (a.sessions seat) a b c seat es fs out also h k

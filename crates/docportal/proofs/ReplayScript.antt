@@ -4,15 +4,13 @@ use Rattle.std.specs.Prelude.{◌≢◌, IsTrue, codes}
 use Rattle.std.proofs.lemmas.List.{append-nil}
 use Rattle.portal_base.specs.Outside.{Short, onto}
 use Rattle.portal_model.specs.declared.entry.Entry.{Entry}
-use Rattle.portal_model.specs.declared.opening.OpeningState.{OpeningState}
-use Rattle.portal_base.specs.declared.limits.Limits.{Limits}
-use Rattle.portal_model.specs.History.{cost}
-use Rattle.portal_model.specs.Opening.{ValidOpening, file_of, opened}
+use Rattle.portal_model.specs.History.{cost, run}
+use Rattle.portal_model.specs.State.{State}
 use Rattle.portal_model.specs.Valid.{Valid}
-use Rattle.portal_core.specs.Story.{Story}
+use Rattle.portal_core.specs.Story.{limit_of, state_first, state_now}
 use Rattle.script_form.specs.declared.script.ScriptLine.{ScriptLine}
 use Rattle.script_form.specs.Lines.{text_of}
-use Rattle.script_form.specs.Opening.{HoldsScripts, opening}
+use Rattle.script_form.specs.Outside.{Outside}
 use Rattle.script_form.specs.Order.{IsRead, IsFault, IsScript, StandBehind}
 use Rattle.docportal.specs.declared.input.InputError.{InputError}
 use Rattle.docportal.specs.declared.input.InputError.TheVariants as input
@@ -22,8 +20,9 @@ use Rattle.docportal.specs.Inputs.{script_limit, AtEnd, IsWhole, Stops}
 use Rattle.docportal.specs.Plays.{Plays, PlaysAll, PlaysPart, PlayStops, PlaysUpTo}
 use Rattle.docportal.specs.Commands.{replay_words, IsNoCommand, IsUnbuiltCommand}
 use Rattle.docportal.specs.Runs.{Cause, IsReplay, Ran, Replays, Risen, WroteFront}
-use Rattle.docportal.specs.Scenes.{Scene, first_scene, opening_state, run_limits}
-use Rattle.docportal.specs.Steps.{AreFirst, MayPlay, scene}
+use Rattle.docportal.specs.Scenes.{Scene, ScriptPortal, first_scene, opening_state, outside_at, run_limits, sessions_of}
+use Rattle.docportal.specs.Steps.{Agrees, AreFirst, MayPlay, scene}
+use Rattle.docportal.specs.Started.{StartsScript}
 use Rattle.docportal.proofs.BytesAhead.{behind_none}
 use Rattle.docportal.proofs.OneOutput.{plays_one}
 use Rattle.docportal.proofs.RunLines.{onto_none, plays_cost, text_joined}
@@ -124,50 +123,41 @@ replayed_none text told = ([], onto_none told, inl refl)
 
 -- ---- over a portal that was just started
 
-holds : HoldsScripts run_limits
-holds = record { documents = omega arith; made = omega arith; made_limit = omega arith; queued_limit = omega arith }
+-- the script's portal begins in the scene that the script opens with
+module _ (text : List ℕ) (lines slice : List ScriptLine) (p : ScriptPortal) (size : length text ≤ script_limit) (b : IsRead text lines) (is : slice ≡ lines) (h : StartsScript lines p) where
+  none : state_now p.story ≡ opening_state lines
+  none = ap (run (state_first p.story)) h.history ∙ h.state
 
-pub valid_opening : (limits : Limits) (o : OpeningState) → limits ≡ run_limits → (HoldsScripts limits → ValidOpening (Some (map file_of o.files)) o) → Valid (opened o)
-valid_opening limits o e h = (h (subst HoldsScripts (sym e) holds)).valid
+  scene_is : scene p [] ≡ first_scene lines
+  scene_is =
+      ap (λ (z : State). record { portal = z; outside = outside_at p; sessions = sessions_of [] }) none
+      ∙ ap (λ (z : Outside). record { portal = opening_state lines; outside = z; sessions = sessions_of [] }) h.outside
 
-pub opening_is : (limits : Limits) (lines : List ScriptLine) (o : OpeningState) → limits ≡ run_limits → o ≡ opening limits lines → o ≡ opening run_limits lines
-opening_is limits lines o e h = h ∙ ap (λ (l : Limits). opening l lines) e
+  pub may_replay : MayPlay [] p [] slice
+  may_replay =
+      let cut : length text ≡ length (text_of lines) = ap length b.whole in
+      let nothing : cost p.story.history ≡ 0 = ap cost h.history in
+      let limit : limit_of p.story ≡ run_limits.history = ap (λ (z : State). z.limits.history) h.state in
+      subst (λ (x : List ScriptLine). MayPlay [] p [] x) (sym is) (record {
+        stand = b.good;
+        told = ap (λ (z : State). z.told) h.state;
+        agrees = subst Agrees (sym scene_is) (record { idle = λ n. tt; bound_alike = λ n. refl });
+        closed = λ n h. refl;
+        room = omega arith;
+        space = λ n. tt;
+        short = omega arith;
+      })
 
-abbrev started : OpeningState → Story
-started o = record { opening = o; history = [] }
+  pub replay_stops : (told told' : Option (List (List ℕ))) (faults faults' : ℕ) (status : Status) → PlayStops (scene p []) slice told faults told' faults' status → Replayed text told told' status
+  replay_stops told told' faults faults' status k =
+      stopped text lines size b h.valid told told' faults faults' status
+      (subst (λ (x : List ScriptLine). PlayStops (first_scene lines) x told faults told' faults' status) is (subst (λ (x : Scene). PlayStops x slice told faults told' faults' status) scene_is k))
 
-first_may : (text : List ℕ) (lines : List ScriptLine) → length text ≤ script_limit → IsRead text lines → MayPlay [] (started (opening run_limits lines)) [] lines
-first_may text lines l b =
-    let cut : length text ≡ length (text_of lines) = ap length b.whole in
-    record {
-      stand = b.good;
-      agrees = record { idle = λ n. tt; bound_alike = λ n. refl };
-      closed = λ n h. refl;
-      room = omega arith;
-      space = λ n. tt;
-      short = omega arith;
-    }
-
-pub may_replay : (text : List ℕ) (lines slice : List ScriptLine) (o : OpeningState) (p : Story)
-    → length text ≤ script_limit → IsRead text lines → slice ≡ lines → o ≡ opening run_limits lines → p ≡ started o → MayPlay [] p [] slice
-may_replay text lines slice o p l b s oe pe =
-    subst (λ (x : List ScriptLine). MayPlay [] p [] x) (sym s) (subst (λ (q : Story). MayPlay [] q [] lines) (sym (pe ∙ ap started oe)) (first_may text lines l b))
-
-scene_is : (lines : List ScriptLine) (o : OpeningState) (p : Story) → o ≡ opening run_limits lines → p ≡ started o → scene p [] ≡ first_scene lines
-scene_is lines o p oe pe = ap (λ (q : Story). scene q []) (pe ∙ ap started oe)
-
-pub replay_stops : (text : List ℕ) (lines slice : List ScriptLine) (o : OpeningState) (p : Story) (told told' : Option (List (List ℕ))) (faults faults' : ℕ) (status : Status)
-    → length text ≤ script_limit → IsRead text lines → Valid (opened o) → slice ≡ lines → o ≡ opening run_limits lines → p ≡ started o → PlayStops (scene p []) slice told faults told' faults' status → Replayed text told told' status
-replay_stops text lines slice o p told told' faults faults' status size b valid s oe pe h =
-    stopped text lines size b (subst (λ (x : OpeningState). Valid (opened x)) oe valid) told told' faults faults' status
-    (subst (λ (x : List ScriptLine). PlayStops (first_scene lines) x told faults told' faults' status) s (subst (λ (x : Scene). PlayStops x slice told faults told' faults' status) (scene_is lines o p oe pe) h))
-
-pub replays_all : (text : List ℕ) (lines slice : List ScriptLine) (o : OpeningState) (p q : Story) (told told' : Option (List (List ℕ)))
-    → length text ≤ script_limit → IsRead text lines → Valid (opened o) → slice ≡ lines → o ≡ opening run_limits lines → p ≡ started o → PlaysAll p q slice told told' → Replayed text told told' Done
-replays_all text lines slice o p q told told' size b valid s oe pe h =
-    let plays : Plays (first_scene lines) lines h.history h.out h.last =
-    subst (λ (x : List ScriptLine). Plays (first_scene lines) x h.history h.out h.last) s (subst (λ (x : Scene). Plays x slice h.history h.out h.last) (scene_is lines o p oe pe) h.plays) in
-    ended text lines told told' h.history h.out h.last size b (subst (λ (x : OpeningState). Valid (opened x)) oe valid) plays h.output
+  pub replays_all : (q : ScriptPortal) (told told' : Option (List (List ℕ))) → PlaysAll p q slice told told' → Replayed text told told' Done
+  replays_all q told told' k =
+      let plays : Plays (first_scene lines) lines k.history k.out k.last =
+      subst (λ (x : List ScriptLine). Plays (first_scene lines) x k.history k.out k.last) is (subst (λ (x : Scene). Plays x slice k.history k.out k.last) scene_is k.plays) in
+      ended text lines told told' k.history k.out k.last size b h.valid plays k.output
 
 -- ---- the whole run
 

@@ -1,8 +1,7 @@
 -- Where the history has room for what bytes can ask, nothing is refused for a full history.
 use Rattle.std.proofs.Common.{◌≡◌, ℕ, ◌+◌, ◌*◌, ◌≤◌, List, [], ◌++◌, length, refl, sym, ap, subst, inl, inr, arith, length-append}
 use Rattle.portal_base.specs.Devices.{SinkState}
-use Rattle.portal_core.specs.Lending.{GrowsByOwn, is_faultless}
-use Rattle.portal_core.specs.Story.{Story, limit_of}
+use Rattle.portal_core.specs.Story.{state_first, limit_of}
 use Rattle.portal_model.specs.declared.request.Request.{Request}
 use Rattle.portal_model.specs.History.{cost}
 use Rattle.portal_model.specs.Seated.{Seated}
@@ -22,7 +21,9 @@ use Rattle.session.proofs.Grew.{grew_none, grew_on}
 use Rattle.session.proofs.AnswersAsked.{asked_go, of-append}
 use Rattle.session.proofs.RoomIsEnough.{room_enough}
 use Rattle.session.proofs.ItemsCostLittle.{costs, costs-append, item_cost, items_cost}
-use Rattle.docportal.specs.Seats.{Unfilled, known_at, outcomes_of, outcomes_over, sunk}
+use Rattle.portal_core.specs.Chain.{answered}
+use Rattle.docportal.specs.Scenes.{ScriptPortal}
+use Rattle.docportal.specs.Seats.{Alone, Unfilled, known_at, outcomes_of, outcomes_over, sunk}
 
 -- these became of some requests, which cost at most eight times so many bytes
 record Costs (v w : Seated) (n : ℕ) (outcomes : List Outcome) : Type 0 where
@@ -86,14 +87,14 @@ fed_costs fed.Memory s v piece t w (inr (inl k, holds), keeps, room) =
     did_costs s.client s.stage k.mid v w k.front (length (s.rest ++ piece)) (omega (arith, bytes, length-append k.front k.after)) k.did
 fed_costs fed.Memory s v piece t w (inr (inr k, holds), keeps, room) = broke_costs s.client s.stage v w (s.rest ++ piece) k.0
 
-pub unfilled_at : (p q : Story) (seat refusals : ℕ) (at now : Standing) (bytes : List ℕ) (sink sink' : SinkState) (r : Fed) → GrowsByOwn is_faultless seat p.history q.history → at.fed ≡ fed.More
-    → cost p.history + 8 * length (at.rest ++ bytes) ≤ limit_of p → Feeds at.fed at (sunk (known_at p seat 0) sink) bytes r now (sunk (known_at q seat refusals) sink') → Unfilled p q seat at bytes now refusals
+pub unfilled_at : (p q : ScriptPortal) (seat refusals : ℕ) (at now : Standing) (bytes : List ℕ) (sink sink' : SinkState) (r : Fed) → Alone seat p q → at.fed ≡ fed.More
+    → cost p.story.history + 8 * length (at.rest ++ bytes) ≤ limit_of p.story → Feeds at.fed at (sunk (known_at p seat 0) sink) bytes r now (sunk (known_at q seat refusals) sink') → Unfilled p q seat at bytes now refusals
 unfilled_at p q seat refusals at now bytes sink sink' r own goes room feeds =
     let v = sunk (known_at p seat 0) sink in
     let w = sunk (known_at q seat refusals) sink' in
     let f : Feeds fed.More at v bytes r now w = subst (λ (z : Fed). Feeds z at v bytes r now w) goes feeds in
     let k = fed_costs r at v bytes now w f in
     let most = k.little in
-    let e = room_enough v.seated w.seated k.requests (outcomes_of r at v bytes now w f) k.are k.grew refl refl (own.0, own.1, λ i d l. (own.2 i d l).0) (omega arith) in
+    let e = room_enough v.seated w.seated k.requests (outcomes_of r at v bytes now w f) k.are k.grew refl refl (answered own.asked, own.grows.grown, own.grows.own) (omega arith) in
     let grown = e.1 in
     record { came = r; first = sink; last = sink'; feeds = f; none_full = e.0; grown = omega arith }

@@ -10,12 +10,11 @@ use Rattle.portal_base.specs.declared.limits.Settings.{Settings}
 use Rattle.portal_base.specs.declared.who.Kind.{Kind}
 use Rattle.portal_base.specs.declared.who.Who.{Who}
 use Rattle.portal_base.specs.Outside.{HasRisen, Short, onto}
-use Rattle.portal_core.specs.Story.{Story, cost_with, limit_of, state_now}
+use Rattle.portal_core.specs.Story.{state_first, cost_with, limit_of, state_now}
 use Rattle.portal_model.specs.declared.entry.Entry.{Entry}
 use Rattle.portal_model.specs.declared.request.Request.{Request}
 use Rattle.portal_model.specs.declared.state.Connection.{Connection}
 use Rattle.portal_model.specs.History.{cost, run}
-use Rattle.portal_model.specs.Opening.{opened}
 use Rattle.portal_model.specs.Seated.{binding_of, bound, is_open}
 use Rattle.portal_model.specs.State.{State, connection_of}
 use Rattle.portal_model.specs.Step.{after}
@@ -25,6 +24,7 @@ use Rattle.script_form.specs.declared.script.ScriptLine.TheVariants.{Open, Data,
 use Rattle.script_form.specs.Lines.{line_text}
 use Rattle.session.specs.declared.act.Client.{Client}
 use Rattle.session.specs.declared.served.Fed.{Fed}
+use Rattle.script_form.specs.Outside.{Outside}
 use Rattle.session.specs.declared.served.Stop.{Stop}
 use Rattle.session.specs.declared.served.Stop.TheVariants as stop
 use Rattle.session.specs.declared.served.Served.TheVariants.{LineTooLong, Malformed}
@@ -32,9 +32,9 @@ use Rattle.session.specs.Sessions.{ending, ending_at}
 use Rattle.session.specs.Standings.{Standing, client, fresh, longest}
 use Rattle.docportal.specs.declared.error.LineError.{LineError}
 use Rattle.docportal.specs.declared.error.LineError.TheVariants as not_run
-use Rattle.docportal.specs.Entries.{entries_for, entry_for}
+use Rattle.docportal.specs.Entries.{entries_for, entry_for, outside_after, outside_past}
 use Rattle.docportal.specs.Lines.{CloseDoes, DataDoes, DataIsUnbuilt, Does, Hears}
-use Rattle.docportal.specs.Scenes.{Scene, placed, run_settings, sessions_of}
+use Rattle.docportal.specs.Scenes.{Scene, ScriptPortal, outside_at, placed, run_settings, sessions_of}
 use Rattle.docportal.specs.Seats.{Asked, HeardAs, HearsNot, IsEnd}
 use Rattle.docportal.specs.Steps.{Agrees, AreFirst, Breaks, IsIdle, MayRun, Opens, Runs, WritesPart, WritesShort, binding, scene}
 use Rattle.docportal.specs.Texts.{end_line, out_line}
@@ -43,22 +43,50 @@ use Rattle.docportal.proofs.RunLines.{IsFront, first_front, onto_more, onto_none
 
 -- ---- scenes
 
-entries-append : (rs qs : List Request) (s : State) (seat : ℕ) → entries_for s seat (rs ++ qs) ≡ entries_for s seat rs ++ entries_for (run s (entries_for s seat rs)) seat qs
-entries-append [] qs s seat = refl
-entries-append (r ∷ rs) qs s seat = ap (λ (l : List Entry). entry_for s seat r ∷ l) (entries-append rs qs (after s (entry_for s seat r)) seat)
+entries-append : (rs qs : List Request) (s : State) (o : Outside) (seat : ℕ) → entries_for s o seat (rs ++ qs) ≡ entries_for s o seat rs ++ entries_for (run s (entries_for s o seat rs)) (outside_after o (entries_for s o seat rs)) seat qs
+entries-append [] qs s o seat = refl
+entries-append (r ∷ rs) qs s o seat =
+    ap (λ (l : List Entry). entry_for s o seat r ∷ l) (entries-append rs qs (after s (entry_for s o seat r)) (outside_past o (entry_for s o seat r)) seat)
 
-state_on : (p q : Story) (es : List Entry) → opened q.opening ≡ opened p.opening → q.history ≡ p.history ++ es → state_now q ≡ run (state_now p) es
-state_on p q es same h = ap (λ (z : State). run z q.history) same ∙ (ap (run (opened p.opening)) h ∙ run-append p.history es (opened p.opening))
+outside-append : (es fs : List Entry) (o : Outside) → outside_after o (es ++ fs) ≡ outside_after (outside_after o es) fs
+outside-append [] fs o = refl
+outside-append (e ∷ es) fs o = outside-append es fs (outside_past o e)
+
+state_on : (p q : ScriptPortal) (es : List Entry) → state_first q.story ≡ state_first p.story → q.story.history ≡ p.story.history ++ es → state_now q.story ≡ run (state_now p.story) es
+state_on p q es same h = ap (λ (z : State). run z q.story.history) same ∙ (ap (run (state_first p.story)) h ∙ run-append p.story.history es (state_first p.story))
 
 -- where these entries and this session lead
-abbrev moved : Story → List (Option Standing) → ℕ → List Entry → Option Standing → Scene
-moved p table seat es now = record { portal = run (state_now p) es; sessions = placed (sessions_of table) seat now }
+abbrev moved : ScriptPortal → List (Option Standing) → ℕ → List Entry → Option Standing → Scene
+moved p table seat es now = record {
+  portal = run (state_now p.story) es;
+  outside = outside_after (outside_at p) es;
+  sessions = placed (sessions_of table) seat now;
+}
 
-scene_on : (p q : Story) (table table' : List (Option Standing)) (seat : ℕ) (es : List Entry) (now : Option Standing) → opened q.opening ≡ opened p.opening → q.history ≡ p.history ++ es → sessions_of table' ≡ placed (sessions_of table) seat now
-    → scene q table' ≡ moved p table seat es now
-scene_on p q table table' seat es now same h put =
-    ap (λ (z : State). record { portal = z; sessions = sessions_of table' }) (state_on p q es same h)
-    ∙ ap (λ (z : ℕ → Option Standing). record { portal = run (state_now p) es; sessions = z }) put
+-- the entries that a seat's requests come to
+abbrev asked_for : ScriptPortal → ℕ → List Request → List Entry
+asked_for p seat rs = entries_for (state_now p.story) (outside_at p) seat rs
+
+scene_on : (p q : ScriptPortal) (table table' : List (Option Standing)) (seat : ℕ) (rs : List Request) (now : Option Standing) → state_first q.story ≡ state_first p.story → Asked p q seat rs → sessions_of table' ≡ placed (sessions_of table) seat now
+    → scene q table' ≡ moved p table seat (asked_for p seat rs) now
+scene_on p q table table' seat rs now same asked put =
+    ap (λ (z : State). record { portal = z; outside = outside_at q; sessions = sessions_of table' }) (state_on p q (asked_for p seat rs) same asked.history)
+    ∙ (ap (λ (z : Outside). record { portal = run (state_now p.story) (asked_for p seat rs); outside = z; sessions = sessions_of table' }) asked.outside
+    ∙ ap (λ (z : ℕ → Option Standing). record { portal = run (state_now p.story) (asked_for p seat rs); outside = outside_after (outside_at p) (asked_for p seat rs); sessions = z }) put)
+
+-- one asks, and then again
+asked_on : (p q r : ScriptPortal) (seat : ℕ) (rs qs : List Request) → state_first q.story ≡ state_first p.story → Asked p q seat rs → Asked q r seat qs → Asked p r seat (rs ++ qs)
+asked_on p q r seat rs qs same first more =
+    let es = asked_for p seat rs in
+    let state : state_now q.story ≡ run (state_now p.story) es = state_on p q es same first.history in
+    let later : asked_for q seat qs ≡ entries_for (run (state_now p.story) es) (outside_after (outside_at p) es) seat qs =
+    ap (λ (z : State). entries_for z (outside_at q) seat qs) state ∙ ap (λ (z : Outside). entries_for (run (state_now p.story) es) z seat qs) first.outside in
+    let all : es ++ asked_for q seat qs ≡ asked_for p seat (rs ++ qs) = ap (λ (z : List Entry). es ++ z) later ∙ sym (entries-append rs qs (state_now p.story) (outside_at p) seat) in
+    record {
+      history = more.history ∙ (ap (λ (z : List Entry). z ++ asked_for q seat qs) first.history ∙ (append_assoc p.story.history es (asked_for q seat qs) ∙ ap (λ (z : List Entry). p.story.history ++ z) all));
+      outside = more.outside ∙ (ap (λ (z : Outside). outside_after z (asked_for q seat qs)) first.outside
+          ∙ (sym (outside-append es (asked_for q seat qs) (outside_at p)) ∙ ap (outside_after (outside_at p)) all));
+    }
 
 same_number : (n m : ℕ) → (n == m) ≡ true → n ≡ m
 same_number n m h = grind (arith, nat_tests)
@@ -81,8 +109,8 @@ placed_twice f seat x y = fun_ext (λ n. twice_at (n == seat) x y (f n))
 pub put_back : (table taken table' : List (Option Standing)) (seat : ℕ) (x : Option Standing) → sessions_of taken ≡ placed (sessions_of table) seat None → sessions_of table' ≡ placed (sessions_of taken) seat x → sessions_of table' ≡ placed (sessions_of table) seat x
 put_back table taken table' seat x took put = put ∙ (ap (λ (f : ℕ → Option Standing). placed f seat x) took ∙ placed_twice (sessions_of table) seat x None)
 
-passed : (p : Story) (table table' : List (Option Standing)) (seat : ℕ) → None ≡ sessions_of table seat → sessions_of table' ≡ placed (sessions_of table) seat None → scene p table' ≡ scene p table
-passed p table table' seat none took = ap (λ (z : ℕ → Option Standing). record { portal = state_now p; sessions = z }) (took ∙ emptied (sessions_of table) seat (sym none))
+passed : (p : ScriptPortal) (table table' : List (Option Standing)) (seat : ℕ) → None ≡ sessions_of table seat → sessions_of table' ≡ placed (sessions_of table) seat None → scene p table' ≡ scene p table
+passed p table table' seat none took = ap (λ (z : ℕ → Option Standing). record { portal = state_now p.story; outside = outside_at p; sessions = z }) (took ∙ emptied (sessions_of table) seat (sym none))
 
 -- ---- open
 
@@ -90,47 +118,47 @@ none_open : (o : Option Connection) → option_map binding_of o ≡ None → is_
 none_open None h = refl
 none_open (Some c) h = absurd (cc)
 
-pub open_closed : (p : Story) (table : List (Option Standing)) (seat : ℕ) (kind : Kind) (who : Who) → MayRun p table (Open seat kind who) → is_open (state_now p) seat ≡ false
-open_closed p table seat kind who m = none_open (connection_of (state_now p).connections seat) (m.agrees.bound_alike seat ∙ ap (λ (o : Option Standing). option_map binding o) m.new)
+pub open_closed : (p : ScriptPortal) (table : List (Option Standing)) (seat : ℕ) (kind : Kind) (who : Who) → MayRun p table (Open seat kind who) → is_open (state_now p.story) seat ≡ false
+open_closed p table seat kind who m = none_open (connection_of (state_now p.story).connections seat) (m.agrees.bound_alike seat ∙ ap (λ (o : Option Standing). option_map binding o) m.new)
 
-pub open_room : (p : Story) (table : List (Option Standing)) (seat : ℕ) (kind : Kind) (who : Who) → MayRun p table (Open seat kind who) → cost_with p (Request.Enter who kind) ≤ limit_of p
+pub open_room : (p : ScriptPortal) (table : List (Option Standing)) (seat : ℕ) (kind : Kind) (who : Who) → MayRun p table (Open seat kind who) → cost_with p.story (Request.Enter who kind) ≤ limit_of p.story
 open_room p table seat kind who m =
     let high = m.itself.1 in
     let most = enter_cost who seat kind (omega arith) in
     let room = m.room in
     omega arith
 
-pub open_opens : (p q : Story) (table table' : List (Option Standing)) (seat : ℕ) (kind : Kind) (who : Who) (settings : Settings) (session : Standing) → settings ≡ run_settings → opened q.opening ≡ opened p.opening
+pub open_opens : (p q : ScriptPortal) (table table' : List (Option Standing)) (seat : ℕ) (kind : Kind) (who : Who) (settings : Settings) (session : Standing) → settings ≡ run_settings → state_first q.story ≡ state_first p.story
     → (session ≡ fresh (client who kind settings)) × Asked p q seat (Request.Enter who kind ∷ []) → sessions_of table' ≡ placed (sessions_of table) seat (Some session) → Opens p table q table' (Open seat kind who)
 open_opens p q table table' seat kind who settings session set same begun put =
-    let es = entries_for (state_now p) seat (Request.Enter who kind ∷ []) in
+    let es = entries_for (state_now p.story) (outside_at p) seat (Request.Enter who kind ∷ []) in
     let fresh_is : session ≡ fresh (client who kind run_settings) = begun.0 ∙ ap (λ (z : Settings). fresh (client who kind z)) set in
     record {
       entries = es;
-      does = record { entries_are = refl; out_is = refl; scene = scene_on p q table table' seat es _ same begun.1 (put ∙ ap (λ (z : Standing). placed (sessions_of table) seat (Some z)) fresh_is) };
-      history = begun.1;
+      does = record { entries_are = refl; out_is = refl; scene = scene_on p q table table' seat (Request.Enter who kind ∷ []) _ same begun.1 (put ∙ ap (λ (z : Standing). placed (sessions_of table) seat (Some z)) fresh_is) };
+      history = begun.1.history;
     }
 
-pub opens_run : (p q : Story) (table table' : List (Option Standing)) (line : ScriptLine) (told : Option (List (List ℕ))) → Opens p table q table' line → Runs p table q table' line told told
+pub opens_run : (p q : ScriptPortal) (table table' : List (Option Standing)) (line : ScriptLine) (told : Option (List (List ℕ))) → Opens p table q table' line → Runs p table q table' line told told
 opens_run p q table table' line told o = record { entries = o.entries; out = []; does = o.does; history = o.history; output = onto_none told }
 
 -- ---- a line that is passed over
 
-pub data_passes : (p : Story) (table table' : List (Option Standing)) (seat : ℕ) (bytes : List ℕ) (told : Option (List (List ℕ))) → None ≡ sessions_of table seat → sessions_of table' ≡ placed (sessions_of table) seat None → Runs p table p table' (Data seat bytes) told told
+pub data_passes : (p : ScriptPortal) (table table' : List (Option Standing)) (seat : ℕ) (bytes : List ℕ) (told : Option (List (List ℕ))) → None ≡ sessions_of table seat → sessions_of table' ≡ placed (sessions_of table) seat None → Runs p table p table' (Data seat bytes) told told
 data_passes p table table' seat bytes told none took = record {
   entries = [];
   out = [];
   does = subst (λ (o : Option Standing). DataDoes (scene p table) seat bytes o [] [] (scene p table')) none (refl, refl, passed p table table' seat none took);
-  history = sym (append-nil p.history);
+  history = sym (append-nil p.story.history);
   output = onto_none told;
 }
 
-pub close_passes : (p : Story) (table table' : List (Option Standing)) (seat : ℕ) (told : Option (List (List ℕ))) → None ≡ sessions_of table seat → sessions_of table' ≡ placed (sessions_of table) seat None → Runs p table p table' (Close seat) told told
+pub close_passes : (p : ScriptPortal) (table table' : List (Option Standing)) (seat : ℕ) (told : Option (List (List ℕ))) → None ≡ sessions_of table seat → sessions_of table' ≡ placed (sessions_of table) seat None → Runs p table p table' (Close seat) told told
 close_passes p table table' seat told none took = record {
   entries = [];
   out = [];
   does = subst (λ (o : Option Standing). CloseDoes (scene p table) seat o [] [] (scene p table')) none (refl, refl, passed p table table' seat none took);
-  history = sym (append-nil p.history);
+  history = sym (append-nil p.story.history);
   output = onto_none told;
 }
 
@@ -142,7 +170,7 @@ stands_idle a seat at agrees e = subst (λ (o : Option Standing). IfSome o IsIdl
 pub stands_bound : (a : Scene) (seat : ℕ) (at : Standing) → Agrees a → Some at ≡ a.sessions seat → bound a.portal seat ≡ Some (binding at)
 stands_bound a seat at agrees e = agrees.bound_alike seat ∙ ap (λ (o : Option Standing). option_map binding o) (sym e)
 
-pub data_space : (p : Story) (table : List (Option Standing)) (seat : ℕ) (bytes : List ℕ) (at : Standing) → MayRun p table (Data seat bytes) → Some at ≡ sessions_of table seat → at.before + length at.rest + length bytes ≤ longest
+pub data_space : (p : ScriptPortal) (table : List (Option Standing)) (seat : ℕ) (bytes : List ℕ) (at : Standing) → MayRun p table (Data seat bytes) → Some at ≡ sessions_of table seat → at.before + length at.rest + length bytes ≤ longest
 data_space p table seat bytes at m e =
     let idle = stands_idle (scene p table) seat at m.agrees e in
     let none : length at.rest ≡ 0 = ap length idle.between in
@@ -150,7 +178,7 @@ data_space p table seat bytes at m e =
     let long = data_long seat bytes in
     omega arith
 
-pub data_room : (p : Story) (table : List (Option Standing)) (seat : ℕ) (bytes : List ℕ) (at : Standing) → MayRun p table (Data seat bytes) → Some at ≡ sessions_of table seat → cost p.history + 8 * length (at.rest ++ bytes) ≤ limit_of p
+pub data_room : (p : ScriptPortal) (table : List (Option Standing)) (seat : ℕ) (bytes : List ℕ) (at : Standing) → MayRun p table (Data seat bytes) → Some at ≡ sessions_of table seat → cost p.story.history + 8 * length (at.rest ++ bytes) ≤ limit_of p.story
 data_room p table seat bytes at m e =
     let idle = stands_idle (scene p table) seat at m.agrees e in
     let same : length (at.rest ++ bytes) ≡ length bytes = ap (λ (z : List ℕ). length (z ++ bytes)) idle.between in
@@ -163,13 +191,13 @@ binding_now at now e = ap (λ (c : Client). record { who = c.who; kind = c.kind 
 
 -- ---- bytes that were heard
 
-module _ (p q : Story) (table : List (Option Standing)) (seat : ℕ) (at now : Standing) (bytes : List ℕ) (pieces : List (List ℕ)) (here : Some at ≡ sessions_of table seat) where
+module _ (p q : ScriptPortal) (table : List (Option Standing)) (seat : ℕ) (at now : Standing) (bytes : List ℕ) (pieces : List (List ℕ)) (here : Some at ≡ sessions_of table seat) where
   abbrev lines : List (List ℕ)
   lines = map (out_line seat) pieces
 
-  more_does : (h : HeardAs false p q seat at bytes pieces now) → Does (scene p table) (Data seat bytes) (entries_for (state_now p) seat h.0.0) lines (moved p table seat (entries_for (state_now p) seat h.0.0) (Some now))
+  more_does : (h : HeardAs false p q seat at bytes pieces now) → Does (scene p table) (Data seat bytes) (entries_for (state_now p.story) (outside_at p) seat h.0.0) lines (moved p table seat (entries_for (state_now p.story) (outside_at p) seat h.0.0) (Some now))
   more_does h =
-      let es = entries_for (state_now p) seat h.0.0 in
+      let es = entries_for (state_now p.story) (outside_at p) seat h.0.0 in
       subst (λ (o : Option Standing). DataDoes (scene p table) seat bytes o es lines (moved p table seat es (Some now))) here
       (stop.More, h.0.0, pieces, now, h.0.1, (h.1, record { entries_are = refl; out_is = refl; scene = refl }))
 
@@ -178,9 +206,9 @@ module _ (p q : Story) (table : List (Option Standing)) (seat : ℕ) (at now : S
   last = end_line seat (ending now.fed now.rest) ∷ []
 
   abbrev left_for : List Request → List Entry
-  left_for rs = entries_for (state_now p) seat (rs ++ Request.Leave ∷ [])
+  left_for rs = entries_for (state_now p.story) (outside_at p) seat (rs ++ Request.Leave ∷ [])
 
-  ends_so : (what : Stop) (rs : List Request) → IsEnd what → Hears (state_now p) seat at bytes what rs pieces now → Does (scene p table) (Data seat bytes) (left_for rs) (lines ++ last) (moved p table seat (left_for rs) None)
+  ends_so : (what : Stop) (rs : List Request) → IsEnd what → Hears (state_now p.story) (outside_at p) seat at bytes what rs pieces now → Does (scene p table) (Data seat bytes) (left_for rs) (lines ++ last) (moved p table seat (left_for rs) None)
   ends_so stop.More rs end x = absurd end
   ends_so (stop.Bad rule) rs end x =
       let said : lines ++ last ≡ lines ++ end_line seat (Malformed now.before rule) ∷ [] = ap (λ (f : Fed). lines ++ end_line seat (ending f now.rest) ∷ []) x.fed in
@@ -196,34 +224,29 @@ module _ (p q : Story) (table : List (Option Standing)) (seat : ℕ) (at now : S
   end_does h = ends_so h.0 h.2.0 h.1 h.2.1
 
   -- the session goes on
-  pub more_runs : (table' : List (Option Standing)) (told told' : Option (List (List ℕ))) → HeardAs false p q seat at bytes pieces now → opened q.opening ≡ opened p.opening → sessions_of table' ≡ placed (sessions_of table) seat (Some now)
+  pub more_runs : (table' : List (Option Standing)) (told told' : Option (List (List ℕ))) → HeardAs false p q seat at bytes pieces now → state_first q.story ≡ state_first p.story → sessions_of table' ≡ placed (sessions_of table) seat (Some now)
       → told' ≡ onto told lines → Runs p table q table' (Data seat bytes) told told'
   more_runs table' told told' h same put wrote =
-      let es = entries_for (state_now p) seat h.0.0 in
+      let es = entries_for (state_now p.story) (outside_at p) seat h.0.0 in
       record {
         entries = es;
         out = lines;
-        does = subst (λ (b : Scene). Does (scene p table) (Data seat bytes) es lines b) (sym (scene_on p q table table' seat es (Some now) same h.0.2 put)) (more_does h);
-        history = h.0.2;
+        does = subst (λ (b : Scene). Does (scene p table) (Data seat bytes) es lines b) (sym (scene_on p q table table' seat h.0.0 (Some now) same h.0.2 put)) (more_does h);
+        history = h.0.2.history;
         output = wrote;
       }
 
   -- it ends, and leaves
-  pub end_runs : (r : Story) (table' : List (Option Standing)) (told mid told' : Option (List (List ℕ))) → HeardAs true p q seat at bytes pieces now → opened q.opening ≡ opened p.opening → opened r.opening ≡ opened q.opening
+  pub end_runs : (r : ScriptPortal) (table' : List (Option Standing)) (told mid told' : Option (List (List ℕ))) → HeardAs true p q seat at bytes pieces now → state_first q.story ≡ state_first p.story → state_first r.story ≡ state_first q.story
       → Asked q r seat (Request.Leave ∷ []) → sessions_of table' ≡ placed (sessions_of table) seat None → mid ≡ onto told lines → told' ≡ onto mid last → Runs p table r table' (Data seat bytes) told told'
   end_runs r table' told mid told' h same also left took wrote ended =
       let rs = h.2.0 in
-      let first = entries_for (state_now p) seat rs in
-      let state : state_now q ≡ run (state_now p) first = state_on p q first same h.2.2 in
-      let all : r.history ≡ p.history ++ left_for rs =
-      left ∙ (ap (λ (z : List Entry). z ++ entries_for (state_now q) seat (Request.Leave ∷ [])) h.2.2
-      ∙ (append_assoc p.history first (entries_for (state_now q) seat (Request.Leave ∷ []))
-      ∙ ap (λ (z : List Entry). p.history ++ z) (ap (λ (s : State). first ++ entries_for s seat (Request.Leave ∷ [])) state ∙ sym (entries-append rs (Request.Leave ∷ []) (state_now p) seat)))) in
+      let all : Asked p r seat (rs ++ Request.Leave ∷ []) = asked_on p q r seat rs (Request.Leave ∷ []) same h.2.2 left in
       record {
         entries = left_for rs;
         out = lines ++ last;
-        does = subst (λ (b : Scene). Does (scene p table) (Data seat bytes) (left_for rs) (lines ++ last) b) (sym (scene_on p r table table' seat (left_for rs) None (also ∙ same) all took)) (end_does h);
-        history = all;
+        does = subst (λ (b : Scene). Does (scene p table) (Data seat bytes) (left_for rs) (lines ++ last) b) (sym (scene_on p r table table' seat (rs ++ Request.Leave ∷ []) None (also ∙ same) all took)) (end_does h);
+        history = all.history;
         output = ended ∙ (ap (λ (z : Option (List (List ℕ))). onto z last) wrote ∙ onto_more told lines last);
       }
 
@@ -238,12 +261,12 @@ module _ (p q : Story) (table : List (Option Standing)) (seat : ℕ) (at now : S
 
 -- ---- a close
 
-module _ (p q : Story) (table : List (Option Standing)) (seat : ℕ) (at : Standing) (here : Some at ≡ sessions_of table seat) (agrees : Agrees (scene p table)) where
+module _ (p q : ScriptPortal) (table : List (Option Standing)) (seat : ℕ) (at : Standing) (here : Some at ≡ sessions_of table seat) (agrees : Agrees (scene p table)) where
   abbrev closing : List (List ℕ)
   closing = end_line seat (ending at.fed at.rest) ∷ []
 
   abbrev leaving : List Entry
-  leaving = entries_for (state_now p) seat (Request.Leave ∷ [])
+  leaving = entries_for (state_now p.story) (outside_at p) seat (Request.Leave ∷ [])
 
   close_does : Does (scene p table) (Close seat) leaving closing (moved p table seat leaving None)
   close_does =
@@ -251,13 +274,13 @@ module _ (p q : Story) (table : List (Option Standing)) (seat : ℕ) (at : Stand
       let said : closing ≡ end_line seat (ending_at at.rest) ∷ [] = ap (λ (f : Fed). end_line seat (ending f at.rest) ∷ []) idle.goes_on in
       subst (λ (o : Option Standing). CloseDoes (scene p table) seat o leaving closing (moved p table seat leaving None)) here (record { entries_are = refl; out_is = said; scene = refl })
 
-  pub close_runs : (table' : List (Option Standing)) (told told' : Option (List (List ℕ))) → opened q.opening ≡ opened p.opening → Asked p q seat (Request.Leave ∷ []) → sessions_of table' ≡ placed (sessions_of table) seat None → told' ≡ onto told closing
+  pub close_runs : (table' : List (Option Standing)) (told told' : Option (List (List ℕ))) → state_first q.story ≡ state_first p.story → Asked p q seat (Request.Leave ∷ []) → sessions_of table' ≡ placed (sessions_of table) seat None → told' ≡ onto told closing
       → Runs p table q table' (Close seat) told told'
   close_runs table' told told' same left took wrote = record {
     entries = leaving;
     out = closing;
-    does = subst (λ (b : Scene). Does (scene p table) (Close seat) leaving closing b) (sym (scene_on p q table table' seat leaving None same left took)) close_does;
-    history = left;
+    does = subst (λ (b : Scene). Does (scene p table) (Close seat) leaving closing b) (sym (scene_on p q table table' seat (Request.Leave ∷ []) None same left took)) close_does;
+    history = left.history;
     output = wrote;
   }
 
@@ -266,7 +289,7 @@ module _ (p q : Story) (table : List (Option Standing)) (seat : ℕ) (at : Stand
 
 -- ---- why a line was not run
 
-pub breaks_heard : (p q : Story) (table : List (Option Standing)) (seat : ℕ) (at now : Standing) (bytes : List ℕ) (told : Option (List (List ℕ))) (faults : ℕ) → Some at ≡ sessions_of table seat → (e : LineError) → HearsNot p q seat at bytes now e
+pub breaks_heard : (p q : ScriptPortal) (table : List (Option Standing)) (seat : ℕ) (at now : Standing) (bytes : List ℕ) (told : Option (List (List ℕ))) (faults : ℕ) → Some at ≡ sessions_of table seat → (e : LineError) → HearsNot p q seat at bytes now e
     → Breaks (scene p table) (Data seat bytes) told faults told faults e
 breaks_heard p q table seat at now bytes told faults here not_run.Unbuilt h = (refl, subst (λ (o : Option Standing). DataIsUnbuilt bytes o) here h, refl)
 breaks_heard p q table seat at now bytes told faults here not_run.WriteFault h = absurd h
@@ -337,16 +360,16 @@ module _ (seat : ℕ) (xs : List (List ℕ)) (i : ℕ) where
 -- ---- bytes of a data line, from first to last
 
 -- what was heard on a connection, and how far its answers were written
-pub record Answered (p q : Story) (table : List (Option Standing)) (seat : ℕ) (at now : Standing) (bytes : List ℕ) (pieces : List (List ℕ)) (b : Bool) : Type 0 where
+pub record Answered (p q : ScriptPortal) (table : List (Option Standing)) (seat : ℕ) (at now : Standing) (bytes : List ℕ) (pieces : List (List ℕ)) (b : Bool) : Type 0 where
   pub here : Some at ≡ sessions_of table seat
   pub heard : HeardAs b p q seat at bytes pieces now
-  pub same : opened q.opening ≡ opened p.opening
+  pub same : state_first q.story ≡ state_first p.story
 
-pub answered_at : (p q : Story) (table : List (Option Standing)) (seat : ℕ) (at now : Standing) (lent bytes : List ℕ) (pieces : List (List ℕ)) (b : Bool) → Some at ≡ sessions_of table seat → lent ≡ bytes → opened q.opening ≡ opened p.opening
+pub answered_at : (p q : ScriptPortal) (table : List (Option Standing)) (seat : ℕ) (at now : Standing) (lent bytes : List ℕ) (pieces : List (List ℕ)) (b : Bool) → Some at ≡ sessions_of table seat → lent ≡ bytes → state_first q.story ≡ state_first p.story
     → HeardAs b p q seat at lent pieces now → Answered p q table seat at now bytes pieces b
 answered_at p q table seat at now lent bytes pieces b here e same h = record { here = here; heard = subst (λ (z : List ℕ). HeardAs b p q seat at z pieces now) e h; same = same }
 
-module _ (p q : Story) (table : List (Option Standing)) (seat : ℕ) (at now : Standing) (bytes : List ℕ) (pieces lent : List (List ℕ)) (b : Bool) (a : Answered p q table seat at now bytes pieces b) (e : lent ≡ pieces) where
+module _ (p q : ScriptPortal) (table : List (Option Standing)) (seat : ℕ) (at now : Standing) (bytes : List ℕ) (pieces lent : List (List ℕ)) (b : Bool) (a : Answered p q table seat at now bytes pieces b) (e : lent ≡ pieces) where
   pub pieces_break : (told told' : Option (List (List ℕ))) (faults faults' : ℕ) (error : LineError) → WritesShort (map (out_line seat) lent) told faults told' faults' error → Breaks (scene p table) (Data seat bytes) told faults told' faults' error
   pieces_break told told' faults faults' error h =
       breaks_written (scene p table) (Data seat bytes) (map (out_line seat) pieces) told told told' faults faults faults' refl (λ IsPart front ws short wrote. part p q table seat at now bytes pieces a.here IsPart front b told told' ws a.heard short wrote) error
@@ -361,7 +384,7 @@ module _ (p q : Story) (table : List (Option Standing)) (seat : ℕ) (at now : S
   on : b ≡ false → HeardAs false p q seat at bytes pieces now
   on t = subst (λ (z : Bool). HeardAs z p q seat at bytes pieces now) t a.heard
 
-  pub last_runs : b ≡ true → (r : Story) (table' : List (Option Standing)) (told mid told' : Option (List (List ℕ))) → opened r.opening ≡ opened q.opening → Asked q r seat (Request.Leave ∷ []) → sessions_of table' ≡ placed (sessions_of table) seat None
+  pub last_runs : b ≡ true → (r : ScriptPortal) (table' : List (Option Standing)) (told mid told' : Option (List (List ℕ))) → state_first r.story ≡ state_first q.story → Asked q r seat (Request.Leave ∷ []) → sessions_of table' ≡ placed (sessions_of table) seat None
       → mid ≡ onto told (map (out_line seat) lent) → told' ≡ onto mid (end_line seat (ending now.fed now.rest) ∷ []) → Runs p table r table' (Data seat bytes) told told'
   last_runs t r table' told mid told' also left took wrote ended = end_runs p q table seat at now bytes pieces a.here r table' told mid told' (over t) a.same also left took (wrote_is told mid wrote) ended
 
@@ -382,11 +405,11 @@ module _ (p q : Story) (table : List (Option Standing)) (seat : ℕ) (at now : S
 
 -- ---- lines of the opening
 
-pub opening_runs : (p : Story) (table : List (Option Standing)) (line line' : ScriptLine) (told : Option (List (List ℕ))) → line ≡ line' → ((a : Scene) → Does a line' [] [] a) → Runs p table p table line told told
+pub opening_runs : (p : ScriptPortal) (table : List (Option Standing)) (line line' : ScriptLine) (told : Option (List (List ℕ))) → line ≡ line' → ((a : Scene) → Does a line' [] [] a) → Runs p table p table line told told
 opening_runs p table line line' told e does = record {
   entries = [];
   out = [];
   does = subst (λ (z : ScriptLine). Does (scene p table) z [] [] (scene p table)) (sym e) (does (scene p table));
-  history = sym (append-nil p.history);
+  history = sym (append-nil p.story.history);
   output = onto_none told;
 }

@@ -4,10 +4,9 @@ use Rattle.std.proofs.Common.{◌≡◌, ℕ, suc, ◌+◌, ◌*◌, ◌<◌, �
 use Rattle.std.proofs.Math.Seq.{take-suc}
 use Rattle.std.proofs.lemmas.List.{append-nil, take-append-drop, take_all}
 use Rattle.portal_base.specs.Outside.{HasRisen, Short, onto}
-use Rattle.portal_core.specs.Story.{Story, limit_of}
+use Rattle.portal_core.specs.Story.{state_first, limit_of}
 use Rattle.portal_model.specs.declared.entry.Entry.{Entry}
 use Rattle.portal_model.specs.History.{cost}
-use Rattle.portal_model.specs.Opening.{opened}
 use Rattle.portal_model.specs.State.{State}
 use Rattle.portal_model.proofs.Histories.{cost-append}
 use Rattle.script_form.specs.declared.script.ScriptLine.{ScriptLine}
@@ -19,7 +18,7 @@ use Rattle.docportal.specs.declared.error.LineError.{LineError}
 use Rattle.docportal.specs.declared.error.LineError.TheVariants as not_run
 use Rattle.docportal.specs.Lines.{Does}
 use Rattle.docportal.specs.Plays.{Plays, PlaysAll, PlaysPart, PlayStops, status_at}
-use Rattle.docportal.specs.Scenes.{Scene, sessions_of}
+use Rattle.docportal.specs.Scenes.{Scene, ScriptPortal, sessions_of}
 use Rattle.docportal.specs.Steps.{Agrees, AreFirst, Breaks, HaveRoom, IsNew, MayPlay, MayRun, Runs, WritesPart, scene}
 use Rattle.docportal.proofs.Costs.{text_more}
 use Rattle.docportal.proofs.NextLineMayRun.{AreClosed, does_agree, does_close, does_cost, does_room, holds_less}
@@ -93,15 +92,15 @@ plays_on (x ∷ front) a b c line es fs out said (first, more, here, later, mid,
 )
 
 -- the lines up to this index were run, their history is stored, and their output is written
-pub record Played (old : Story) (lines : List ScriptLine) (told told' : Option (List (List ℕ))) (index : ℕ) (now : Story) (table : List (Option Standing)) : Type 0 where
+pub record Played (old : ScriptPortal) (lines : List ScriptLine) (told told' : Option (List (List ℕ))) (index : ℕ) (now : ScriptPortal) (table : List (Option Standing)) : Type 0 where
   pub history : List Entry
   pub out : List (List ℕ)
   pub plays : Plays (scene old []) (take index lines) history out (scene now table)
-  pub stored : now.history ≡ old.history ++ history
+  pub stored : now.story.history ≡ old.story.history ++ history
   pub wrote : told' ≡ onto told out
 
-pub played_none : (p : Story) (lines : List ScriptLine) (told : Option (List (List ℕ))) → Played p lines told told 0 p []
-played_none p lines told = record { history = []; out = []; plays = (refl, refl, refl); stored = sym (append-nil p.history); wrote = onto_none told }
+pub played_none : (p : ScriptPortal) (lines : List ScriptLine) (told : Option (List (List ℕ))) → Played p lines told told 0 p []
+played_none p lines told = record { history = []; out = []; plays = (refl, refl, refl); stored = sym (append-nil p.story.history); wrote = onto_none told }
 
 rest_is : (lines : List ScriptLine) (index : ℕ) (line : ScriptLine) → index < length lines → line ≡ get_or lines index line → drop index lines ≡ line ∷ drop (index + 1) lines
 rest_is lines index line h is = rw (add-one, drop-cons lines index line) (ap (λ (x : ScriptLine). x ∷ drop (suc index) lines) (sym is))
@@ -112,18 +111,18 @@ front_is lines index line h is = rw (add-one, take-suc lines index line) (ap (λ
 whole_is : (lines : List ScriptLine) (index : ℕ) (line : ScriptLine) → index < length lines → line ≡ get_or lines index line → lines ≡ take index lines ++ line ∷ drop (index + 1) lines
 whole_is lines index line h is = sym (take-append-drop index lines) ∙ ap (λ (z : List ScriptLine). take index lines ++ z) (rest_is lines index line h is)
 
-pub played_on : (first : Story) (lines : List ScriptLine) (told told' told'' : Option (List (List ℕ))) (index : ℕ) (p q : Story) (table table' : List (Option Standing)) (line : ScriptLine)
+pub played_on : (first : ScriptPortal) (lines : List ScriptLine) (told told' told'' : Option (List (List ℕ))) (index : ℕ) (p q : ScriptPortal) (table table' : List (Option Standing)) (line : ScriptLine)
     → index < length lines → line ≡ get_or lines index line → Played first lines told told' index p table → Runs p table q table' line told' told'' → Played first lines told told'' (index + 1) q table'
 played_on first lines told told' told'' index p q table table' line h is before r = record {
   history = before.history ++ r.entries;
   out = before.out ++ r.out;
   plays = subst (λ (z : List ScriptLine). Plays (scene first []) z (before.history ++ r.entries) (before.out ++ r.out) (scene q table')) (sym (front_is lines index line h is))
       (plays_on (take index lines) (scene first []) (scene p table) (scene q table') line before.history r.entries before.out r.out before.plays r.does);
-  stored = r.history ∙ (ap (λ (z : List Entry). z ++ r.entries) before.stored ∙ append_assoc first.history before.history r.entries);
+  stored = r.history ∙ (ap (λ (z : List Entry). z ++ r.entries) before.stored ∙ append_assoc first.story.history before.history r.entries);
   wrote = r.output ∙ (ap (λ (z : Option (List (List ℕ))). onto z r.out) before.wrote ∙ onto_more told before.out r.out);
 }
 
-pub played_all : (first now : Story) (table : List (Option Standing)) (lines : List ScriptLine) (told told' : Option (List (List ℕ))) (index : ℕ) → length lines ≡ index → Played first lines told told' index now table → PlaysAll first now lines told told'
+pub played_all : (first now : ScriptPortal) (table : List (Option Standing)) (lines : List ScriptLine) (told told' : Option (List (List ℕ))) (index : ℕ) → length lines ≡ index → Played first lines told told' index now table → PlaysAll first now lines told told'
 played_all first now table lines told told' index all p = record {
   history = p.history;
   out = p.out;
@@ -138,7 +137,7 @@ later : (first last faults : ℕ) → faults ≡ first → HasRisen faults last 
 later first last faults h r = omega arith
 
 -- a front of a line's output was written behind that of the lines before it
-part_on : (IsPart : List (List ℕ) → List (List ℕ) → Type 0) → IsFront IsPart → (first : Story) (lines : List ScriptLine) (told told' told'' : Option (List (List ℕ))) (index : ℕ) (p : Story) (table : List (Option Standing)) (line : ScriptLine)
+part_on : (IsPart : List (List ℕ) → List (List ℕ) → Type 0) → IsFront IsPart → (first : ScriptPortal) (lines : List ScriptLine) (told told' told'' : Option (List (List ℕ))) (index : ℕ) (p : ScriptPortal) (table : List (Option Standing)) (line : ScriptLine)
     → index < length lines → line ≡ get_or lines index line → Played first lines told told' index p table → WritesPart IsPart (scene p table) line told' told'' → PlaysPart IsPart (scene first []) lines told told''
 part_on IsPart front first lines told told' told'' index p table line h is before (entries, out, b, pieces, does, short, wrote) = record {
   front = take index lines ++ line ∷ [];
@@ -156,7 +155,7 @@ part_on IsPart front first lines told told' told'' index p table line h is befor
 }
 
 -- nothing of the line was written
-none_on : (first : Story) (lines : List ScriptLine) (told told' told'' : Option (List (List ℕ))) (index : ℕ) (p : Story) (table : List (Option Standing)) → Played first lines told told' index p table → told'' ≡ told' → PlaysPart AreFirst (scene first []) lines told told''
+none_on : (first : ScriptPortal) (lines : List ScriptLine) (told told' told'' : Option (List (List ℕ))) (index : ℕ) (p : ScriptPortal) (table : List (Option Standing)) → Played first lines told told' index p table → told'' ≡ told' → PlaysPart AreFirst (scene first []) lines told told''
 none_on first lines told told' told'' index p table before same = record {
   front = take index lines;
   history = before.history;
@@ -168,7 +167,7 @@ none_on first lines told told' told'' index p table before same = record {
   output = same ∙ before.wrote;
 }
 
-pub play_stops : (first : Story) (lines : List ScriptLine) (told told' told'' : Option (List (List ℕ))) (faults faults' faults'' : ℕ) (index : ℕ) (p : Story) (table : List (Option Standing)) (line : ScriptLine)
+pub play_stops : (first : ScriptPortal) (lines : List ScriptLine) (told told' told'' : Option (List (List ℕ))) (faults faults' faults'' : ℕ) (index : ℕ) (p : ScriptPortal) (table : List (Option Standing)) (line : ScriptLine)
     → index < length lines → line ≡ get_or lines index line → faults' ≡ faults → Played first lines told told' index p table
     → (e : LineError) → Breaks (scene p table) line told' faults' told'' faults'' e → PlayStops (scene first []) lines told faults told'' faults'' (status_at e index)
 play_stops first lines told told' told'' faults faults' faults'' index p table line h is same before not_run.Unbuilt b = (
@@ -218,7 +217,7 @@ text_joined (line ∷ front) later =
     let part = text_more line front in
     omega arith
 
-module _ (earlier lines : List ScriptLine) (p : Story) (table : List (Option Standing)) (line : ScriptLine) (m : MayPlay earlier p table (line ∷ lines)) where
+module _ (earlier lines : List ScriptLine) (p : ScriptPortal) (table : List (Option Standing)) (line : ScriptLine) (m : MayPlay earlier p table (line ∷ lines)) where
   is_new : IsNew (scene p table) line
   is_new = line_new line earlier (scene p table) m.stand.0.order m.closed
 
@@ -226,6 +225,7 @@ module _ (earlier lines : List ScriptLine) (p : Story) (table : List (Option Sta
   next_may_run =
       let text = text_more line lines in
       record {
+        told = m.told;
         agrees = m.agrees;
         itself = m.stand.0.itself;
         new = is_new;
@@ -233,19 +233,20 @@ module _ (earlier lines : List ScriptLine) (p : Story) (table : List (Option Sta
         space = λ n. holds_less (sessions_of table n) (length (line_text line)) (length (text_of (line ∷ lines))) (omega arith) (m.space n);
       }
 
-  next_may_play : (q : Story) (table' : List (Option Standing)) (told told' : Option (List (List ℕ))) → opened q.opening ≡ opened p.opening → Runs p table q table' line told told' → MayPlay (earlier ++ line ∷ []) q table' lines
+  next_may_play : (q : ScriptPortal) (table' : List (Option Standing)) (told told' : Option (List (List ℕ))) → state_first q.story ≡ state_first p.story → Runs p table q table' line told told' → MayPlay (earlier ++ line ∷ []) q table' lines
   next_may_play q table' told told' same r =
       let a = scene p table in
       let b = scene q table' in
       let text = text_more line lines in
       let least = does_cost line a b r.entries r.out m.agrees m.stand.0.itself r.does in
-      let grown : cost q.history ≡ cost p.history + cost r.entries = ap cost r.history ∙ cost-append p.history r.entries in
-      let limit : limit_of q ≡ limit_of p = ap (λ (z : State). z.limits.history) same in
+      let grown : cost q.story.history ≡ cost p.story.history + cost r.entries = ap cost r.history ∙ cost-append p.story.history r.entries in
+      let limit : limit_of q.story ≡ limit_of p.story = ap (λ (z : State). z.limits.history) same in
       let more : HaveRoom a (length (line_text line) + 1 + length (text_of lines)) = λ n. holds_less (sessions_of table n) _ (length (text_of (line ∷ lines))) (omega arith) (m.space n) in
       let room = m.room in
       let short = m.short in
       record {
         stand = m.stand.1;
+        told = ap (λ (z : State). z.told) same ∙ m.told;
         agrees = does_agree line a b r.entries r.out m.agrees is_new r.does;
         closed = does_close line a b r.entries r.out earlier m.closed r.does;
         room = omega arith;
@@ -253,11 +254,11 @@ module _ (earlier lines : List ScriptLine) (p : Story) (table : List (Option Sta
         short = omega arith;
       }
 
-pub may_run : (lines : List ScriptLine) (index : ℕ) (p : Story) (table : List (Option Standing)) (line : ScriptLine) → index < length lines → line ≡ get_or lines index line → MayPlay (take index lines) p table (drop index lines) → MayRun p table line
+pub may_run : (lines : List ScriptLine) (index : ℕ) (p : ScriptPortal) (table : List (Option Standing)) (line : ScriptLine) → index < length lines → line ≡ get_or lines index line → MayPlay (take index lines) p table (drop index lines) → MayRun p table line
 may_run lines index p table line h is m = next_may_run (take index lines) (drop (index + 1) lines) p table line (subst (λ (z : List ScriptLine). MayPlay (take index lines) p table z) (rest_is lines index line h is) m)
 
-pub may_go_on : (lines : List ScriptLine) (index : ℕ) (p q : Story) (table table' : List (Option Standing)) (line : ScriptLine) (told told' : Option (List (List ℕ))) → index < length lines → line ≡ get_or lines index line
-    → opened q.opening ≡ opened p.opening → MayPlay (take index lines) p table (drop index lines) → Runs p table q table' line told told' → MayPlay (take (index + 1) lines) q table' (drop (index + 1) lines)
+pub may_go_on : (lines : List ScriptLine) (index : ℕ) (p q : ScriptPortal) (table table' : List (Option Standing)) (line : ScriptLine) (told told' : Option (List (List ℕ))) → index < length lines → line ≡ get_or lines index line
+    → state_first q.story ≡ state_first p.story → MayPlay (take index lines) p table (drop index lines) → Runs p table q table' line told told' → MayPlay (take (index + 1) lines) q table' (drop (index + 1) lines)
 may_go_on lines index p q table table' line told told' h is same m r =
     subst (λ (z : List ScriptLine). MayPlay z q table' (drop (index + 1) lines)) (sym (front_is lines index line h is))
     (next_may_play (take index lines) (drop (index + 1) lines) p table line (subst (λ (z : List ScriptLine). MayPlay (take index lines) p table z) (rest_is lines index line h is) m) q table' told told' same r)

@@ -36,7 +36,7 @@ passes_lead a b es out h = record {
 
 comes_lead : (a b : Scene) (seat : ℕ) (rs : List Request) (lines : List (List ℕ)) (now : Option Standing) (es : List Entry) (out : List (List ℕ)) → Comes a seat rs lines now es out b → AllBuilt rs → NameCallers rs → Leads a es b
 comes_lead a b seat rs lines now es out h d n = record {
-  lawful = subst (EachLawful a.portal) (sym h.entries_are) (entries_lawful rs a.portal seat d n);
+  lawful = subst (EachLawful a.portal) (sym h.entries_are) (entries_lawful rs a.portal a.outside seat d n);
   portal = ap (λ (z : Scene). z.portal) h.scene;
 }
 
@@ -73,9 +73,9 @@ pub does_lead : (line : ScriptLine) (a b : Scene) (es : List Entry) (out : List 
 does_lead (File path content) a b es out k h = passes_lead a b es out h
 does_lead (Doc id reusable path grants) a b es out k h = passes_lead a b es out h
 does_lead (Now moment) a b es out k h = passes_lead a b es out h
-does_lead (line.Entry entry) a b es out k h = absurd h
-does_lead (Fail device call) a b es out k h = absurd h
-does_lead (Word word) a b es out k h = absurd h
+does_lead (line.Entry entry) a b es out k h = passes_lead a b es out h
+does_lead (Fail device call) a b es out k h = passes_lead a b es out h
+does_lead (Word word) a b es out k h = passes_lead a b es out h
 does_lead (Open seat kind who) a b es out k h = comes_lead a b seat _ _ _ es out h (tt, tt) (caller_named who k.2, tt)
 does_lead (Data seat bytes) a b es out k h = data_leads (a.sessions seat) a b seat bytes es out h
 does_lead (Close seat) a b es out k h = close_leads (a.sessions seat) a b seat es out h

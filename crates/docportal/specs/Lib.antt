@@ -6,6 +6,7 @@ pub mod Scenes
 pub mod Lines
 pub mod Seats
 pub mod Steps
+pub mod Started
 pub mod Plays
 pub mod Runs
 pub mod Statuses

@@ -9,6 +9,7 @@ use Rattle.portal_model.specs.State.{State}
 use Rattle.script_form.specs.declared.script.ScriptLine.{ScriptLine}
 use Rattle.script_form.specs.declared.script.ScriptLine.TheVariants.{File, Doc, Fail, Word, Now, Open, Data, Close}
 use Rattle.script_form.specs.declared.script.ScriptLine.TheVariants as line
+use Rattle.script_form.specs.Outside.{Outside}
 use Rattle.session.specs.declared.act.Act.{Act}
 use Rattle.session.specs.declared.served.Stop.{Stop}
 use Rattle.session.specs.declared.served.Stop.TheVariants as stop
@@ -18,7 +19,7 @@ use Rattle.session.specs.Asked.{requests_of}
 use Rattle.session.specs.Items.{Items, joined, phase_after}
 use Rattle.session.specs.Sessions.{ending_at, fed_of}
 use Rattle.session.specs.Standings.{Standing, client, fresh}
-use Rattle.docportal.specs.Entries.{entries_for, made_for}
+use Rattle.docportal.specs.Entries.{entries_for, made_for, outside_after}
 use Rattle.docportal.specs.Scenes.{Scene, placed, run_settings}
 use Rattle.docportal.specs.Texts.{out_line, end_line}
 
@@ -26,13 +27,13 @@ use Rattle.docportal.specs.Texts.{out_line, end_line}
 
 -- Bytes come behind the rest of a connection: the items that are whole now ask these requests and
 -- are answered by these pieces, this stands behind them, and the session goes on so.
-pub record Hears (s : State) (seat : ℕ) (at : Standing) (bytes : List ℕ) (what : Stop)
+pub record Hears (s : State) (o : Outside) (seat : ℕ) (at : Standing) (bytes : List ℕ) (what : Stop)
     (requests : List Request) (pieces : List (List ℕ)) (now : Standing) : Type 0 where
   pub items : List (List ℕ)
   pub acts : List Act
   pub cut : Items at.client at.stage.phase (at.rest ++ bytes) items acts now.rest what
   pub asked : requests ≡ requests_of acts
-  pub answers : Answers at.stage.serial acts (made_for s seat requests) pieces now.stage.serial
+  pub answers : Answers at.stage.serial acts (made_for s o seat requests) pieces now.stage.serial
   pub client : now.client ≡ at.client
   pub phase : now.stage.phase ≡ phase_after at.client at.stage.phase items
   pub before : now.before ≡ at.before + length (joined items)
@@ -48,9 +49,13 @@ Passes a entries out b = (entries ≡ []) × (out ≡ []) × (b ≡ a)
 -- its number.
 pub record Comes (a : Scene) (seat : ℕ) (requests : List Request) (lines : List (List ℕ))
     (now : Option Standing) (entries : List Entry) (out : List (List ℕ)) (b : Scene) : Type 0 where
-  pub entries_are : entries ≡ entries_for a.portal seat requests
+  pub entries_are : entries ≡ entries_for a.portal a.outside seat requests
   pub out_is : out ≡ lines
-  pub scene : b ≡ record { portal = run a.portal entries; sessions = placed a.sessions seat now }
+  pub scene : b ≡ record {
+    portal = run a.portal entries;
+    outside = outside_after a.outside entries;
+    sessions = placed a.sessions seat now;
+  }
 
 -- A connection whose bytes end between items goes on; one with an item that breaks a rule, or with
 -- a line that is too long, ends by itself and leaves. A request that isn't built isn't asked, and
@@ -75,7 +80,7 @@ abbrev pub DataDoes : Scene → ℕ → List ℕ → Option Standing → List En
 DataDoes a seat bytes None entries out b = Passes a entries out b
 DataDoes a seat bytes (Some at) entries out b =
     (what : Stop) × (requests : List Request) × (pieces : List (List ℕ)) × (now : Standing)
-    × Hears a.portal seat at bytes what requests pieces now
+    × Hears a.portal a.outside seat at bytes what requests pieces now
     × Goes a seat what requests pieces now entries out b
 
 -- So is the close of one.
@@ -84,15 +89,14 @@ CloseDoes a seat None entries out b = Passes a entries out b
 CloseDoes a seat (Some at) entries out b =
     Comes a seat (Request.Leave ∷ []) (end_line seat (ending_at at.rest) ∷ []) None entries out b
 
--- A line is run: from one scene to another, with these entries and this output. Files, documents
--- and times are in the state that the script opens with: no request that is built reads the clock.
--- A kept entry of the permission store, a call that fails and a word for a document's number need
--- parts that aren't built.
+-- A line is run: from one scene to another, with these entries and this output. Files, documents,
+-- entries and times are in the state that the script opens with, calls that fail and words in its
+-- outside: no request that is built reads the clock.
 abbrev pub Does : Scene → ScriptLine → List Entry → List (List ℕ) → Scene → Type 0
 Does a (File path content) entries out b = Passes a entries out b
-Does a (line.Entry entry) entries out b = ⊥
-Does a (Fail device call) entries out b = ⊥
-Does a (Word word) entries out b = ⊥
+Does a (line.Entry entry) entries out b = Passes a entries out b
+Does a (Fail device call) entries out b = Passes a entries out b
+Does a (Word word) entries out b = Passes a entries out b
 Does a (Now moment) entries out b = Passes a entries out b
 Does a (Doc id reusable path grants) entries out b = Passes a entries out b
 Does a (Open seat kind who) entries out b = Comes a seat (Request.Enter who kind ∷ []) []
@@ -116,10 +120,7 @@ DataIsUnbuilt bytes (Some at) =
     × Items at.client at.stage.phase (at.rest ++ bytes) items acts left what
     × IsUnbuiltStop what left
 
--- a line that needs a part which isn't built
+-- a line that isn't built
 abbrev pub IsUnbuilt : Scene → ScriptLine → Type 0
-IsUnbuilt a (line.Entry entry) = Unit {0}
-IsUnbuilt a (Fail device call) = Unit {0}
-IsUnbuilt a (Word word) = Unit {0}
 IsUnbuilt a (Data seat bytes) = DataIsUnbuilt bytes (a.sessions seat)
 IsUnbuilt a line = ⊥

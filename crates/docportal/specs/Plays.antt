@@ -1,7 +1,7 @@
 -- What running lines one after another comes to.
 use Rattle.std.specs.Prelude.{◌≡◌, ℕ, ◌+◌, List, [], ◌∷◌, ◌++◌, length, Option}
 use Rattle.portal_base.specs.Outside.{HasRisen, Short, onto}
-use Rattle.portal_core.specs.Story.{Story, state_now}
+use Rattle.portal_core.specs.Story.{state_now}
 use Rattle.portal_model.specs.declared.entry.Entry.{Entry}
 use Rattle.script_form.specs.declared.script.ScriptLine.{ScriptLine}
 use Rattle.docportal.specs.declared.status.Status.{Status}
@@ -10,7 +10,7 @@ use Rattle.docportal.specs.declared.status.Status.TheVariants.{WriteFault, Memor
 use Rattle.docportal.specs.declared.error.LineError.{LineError}
 use Rattle.docportal.specs.declared.error.LineError.TheVariants as line
 use Rattle.docportal.specs.Lines.{Does, IsUnbuilt}
-use Rattle.docportal.specs.Scenes.{Scene}
+use Rattle.docportal.specs.Scenes.{Scene, ScriptPortal}
 use Rattle.docportal.specs.Steps.{AreFirst, scene}
 
 -- Lines are run, each from the scene that the one before it left: these are their entries and their
@@ -39,14 +39,14 @@ StopsAt lines front b number = (line : ScriptLine) × (later : List ScriptLine)
 
 -- All lines are run at a portal with no connection open, and their output is written. The portal
 -- has stored their history behind its own, and is in the state after it.
-pub record PlaysAll (old new : Story) (lines : List ScriptLine)
+pub record PlaysAll (old new : ScriptPortal) (lines : List ScriptLine)
     (told told' : Option (List (List ℕ))) : Type 0 where
   pub history : List Entry
   pub out : List (List ℕ)
   pub last : Scene
   pub plays : Plays (scene old []) lines history out last
-  pub stored : new.history ≡ old.history ++ history
-  pub state : state_now new ≡ last.portal
+  pub stored : new.story.history ≡ old.story.history ++ history
+  pub state : state_now new.story ≡ last.portal
   pub output : told' ≡ onto told out
 
 -- such a part of the output of some of them is written

@@ -1,12 +1,17 @@
 -- What a script has come to, between two of its lines.
-use Rattle.std.specs.Prelude.{ℕ, ◌==◌, List, [], ◌∷◌, Option, None, codes, if◌then◌else◌}
+use Rattle.std.specs.Prelude.{ℕ, ◌==◌, List, [], ◌∷◌, Option, Some, None, codes, if◌then◌else◌}
 use Rattle.std.specs.Prelude.{slice_index_or}
 use Rattle.portal_base.specs.declared.limits.Limits.{Limits}
 use Rattle.portal_base.specs.declared.limits.Settings.{Settings}
-use Rattle.portal_model.specs.Opening.{opened}
+use Rattle.host_tree.specs.Devices.{TreeState}
+use Rattle.portal_core.specs.Story.{PortalIs}
+use Rattle.portal_model.specs.Opening.{opened_over}
 use Rattle.portal_model.specs.State.{State}
 use Rattle.script_form.specs.declared.script.ScriptLine.{ScriptLine}
+use Rattle.record_keeper.specs.Devices.{KeeperState}
+use Rattle.script_form.specs.Devices.{tree_files}
 use Rattle.script_form.specs.Opening.{opening}
+use Rattle.script_form.specs.Outside.{Outside, after_keeper_call, outside_of}
 use Rattle.session.specs.Standings.{Standing}
 
 -- the limits of the portal that a script runs
@@ -28,9 +33,24 @@ run_settings = record {
   guid = 1 ∷ 35 ∷ 69 ∷ 103 ∷ 137 ∷ 171 ∷ 205 ∷ 239 ∷ 1 ∷ 35 ∷ 69 ∷ 103 ∷ 137 ∷ 171 ∷ 205 ∷ 239 ∷ [];
 }
 
--- the state of the portal, and at each number the session of the connection that is open there
+-- a portal over devices in memory
+abbrev pub ScriptPortal : Type 0
+ScriptPortal = PortalIs TreeState KeeperState ℕ (List ℕ)
+
+-- what is left of the outside where its devices are these
+abbrev pub outside_at : ScriptPortal → Outside
+outside_at p = record {
+  words = p.words;
+  clock = p.clock;
+  tree = p.tree.count.calls;
+  keeper = p.keeper.count.calls;
+}
+
+-- the state of the portal, what is left of the outside, and at each number the session of the
+-- connection that is open there
 pub record Scene : Type 0 where
   pub portal : State
+  pub outside : Outside
   pub sessions : ℕ → Option Standing
 
 -- at one number this stands now, and at the others what stood there
@@ -45,10 +65,15 @@ no_sessions n = None
 abbrev pub sessions_of : List (Option Standing) → ℕ → Option Standing
 sessions_of table n = slice_index_or table n None
 
--- the state that a script opens with
+-- the state that a script opens with, over the tree of its files
 abbrev pub opening_state : List ScriptLine → State
-opening_state lines = opened (opening run_limits lines)
+opening_state lines = opened_over (Some (tree_files lines)) (opening run_limits lines)
 
--- and before its first line no connection is open
+-- and before its first line the keeper was called once, to load the records, and no connection is
+-- open
 abbrev pub first_scene : List ScriptLine → Scene
-first_scene lines = record { portal = opening_state lines; sessions = no_sessions }
+first_scene lines = record {
+  portal = opening_state lines;
+  outside = after_keeper_call (outside_of lines);
+  sessions = no_sessions;
+}

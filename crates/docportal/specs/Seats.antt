@@ -1,13 +1,16 @@
 -- What the sessions of a script ask of its portal.
 use Rattle.std.specs.Prelude.{◌≡◌, ℕ, ◌+◌, ◌*◌, ◌≤◌, Bool, true, false, List, [], ◌++◌, length}
-use Rattle.std.specs.Prelude.{Some}
+use Rattle.std.specs.Prelude.{Option, Some}
 use Rattle.std.proofs.Common.{inl, inr}
 use Rattle.portal_base.specs.Devices.{SinkState}
-use Rattle.portal_core.specs.Lending.{seated_at}
-use Rattle.portal_core.specs.Story.{Story, state_now}
+use Rattle.host_tree.specs.Devices.{tree_of}
+use Rattle.portal_core.specs.Answered.{Went}
+use Rattle.portal_core.specs.Chain.{Chain}
+use Rattle.portal_core.specs.Lending.{GrowsByOwn, seated_at}
+use Rattle.portal_core.specs.Story.{state_first, state_now}
+use Rattle.portal_model.specs.declared.entry.Entry.{Entry}
 use Rattle.portal_model.specs.declared.request.Request.{Request}
 use Rattle.portal_model.specs.History.{cost}
-use Rattle.portal_model.specs.Opening.{opened}
 use Rattle.portal_model.specs.Seated.{Seated}
 use Rattle.session.specs.declared.served.Fed.{Fed}
 use Rattle.session.specs.declared.served.Fed.TheVariants as fed
@@ -22,26 +25,39 @@ use Rattle.session.specs.Sessions.{Feeds, FeedsOver}
 use Rattle.session.specs.Standings.{Standing}
 use Rattle.docportal.specs.declared.error.LineError.{LineError}
 use Rattle.docportal.specs.declared.error.LineError.TheVariants as not_run
-use Rattle.docportal.specs.Entries.{entries_for}
+use Rattle.docportal.specs.Entries.{entries_for, outside_after}
 use Rattle.docportal.specs.Lines.{Hears, DataIsUnbuilt}
+use Rattle.docportal.specs.Scenes.{ScriptPortal, outside_at}
 
 -- what a seat knows that has a portal alone
-abbrev pub known_at : Story → ℕ → ℕ → Seated
-known_at p seat refusals = seated_at (opened p.opening) p.history seat refusals
+abbrev pub known_at : ScriptPortal → ℕ → ℕ → Seated
+known_at p seat refusals = seated_at (state_first p.story) p.story.history seat refusals
 
 -- such a seat, and a sink in memory
 abbrev pub sunk : Seated → SinkState → World
 sunk d sink = world d (Some sink.pieces) sink.faults
 
--- these requests of a seat, and no others, are new in the history
-abbrev pub Asked : Story → Story → ℕ → List Request → Type 0
-Asked old new seat requests = new.history ≡ old.history ++ entries_for (state_now old) seat requests
+-- only this seat asked: its entries are new in the history, and of each of them, one after another,
+-- the portal says what its devices went through
+pub record Alone (seat : ℕ) (old new : ScriptPortal) : Type 0 where
+  pub asked : List (Option Entry)
+  pub grows : GrowsByOwn seat asked old.story.history new.story.history
+  pub chain : Chain (Went tree_of) (λ p q. q ≡ p) old asked new
+
+-- these requests of a seat, and no others, are new in the history, and the devices went through
+-- them
+pub record Asked (old new : ScriptPortal) (seat : ℕ) (requests : List Request) : Type 0 where
+  pub history : new.story.history
+      ≡ old.story.history ++ entries_for (state_now old.story) (outside_at old) seat requests
+  pub outside : outside_at new ≡ outside_after (outside_at old)
+      (entries_for (state_now old.story) (outside_at old) seat requests)
 
 -- bytes were heard on a connection, and what they ask was asked
-abbrev pub HearsAt : Story → Story → ℕ → Standing → List ℕ → Stop → List (List ℕ) → Standing
-    → Type 0
+abbrev pub HearsAt : ScriptPortal → ScriptPortal → ℕ → Standing → List ℕ → Stop
+    → List (List ℕ) → Standing → Type 0
 HearsAt old new seat at bytes what pieces now =
-    (requests : List Request) × Hears (state_now old) seat at bytes what requests pieces now
+    (requests : List Request)
+    × Hears (state_now old.story) (outside_at old) seat at bytes what requests pieces now
     × Asked old new seat requests
 
 -- what became of what was asked by a piece that ends a connection
@@ -73,8 +89,8 @@ outcomes_of fed.Memory s v piece t w (inr (inr broke, holds), keeps, room) =
 -- with so many refusals: it asked what they ask. What is new in the history costs at most eight
 -- times the bytes with those ahead of them, and none of the requests was refused for a full
 -- history.
-pub record Unfilled (old new : Story) (seat : ℕ) (at : Standing) (bytes : List ℕ) (now : Standing)
-    (refusals : ℕ) : Type 0 where
+pub record Unfilled (old new : ScriptPortal) (seat : ℕ) (at : Standing) (bytes : List ℕ)
+    (now : Standing) (refusals : ℕ) : Type 0 where
   pub came : Fed
   pub first : SinkState
   pub last : SinkState
@@ -82,7 +98,7 @@ pub record Unfilled (old new : Story) (seat : ℕ) (at : Standing) (bytes : List
       (sunk (known_at new seat refusals) last)
   pub none_full : NoneIsFull (outcomes_of came at (sunk (known_at old seat 0) first) bytes now
       (sunk (known_at new seat refusals) last) feeds)
-  pub grown : cost new.history ≤ cost old.history + 8 * length (at.rest ++ bytes)
+  pub grown : cost new.story.history ≤ cost old.story.history + 8 * length (at.rest ++ bytes)
 
 -- there was no memory: to hold the bytes or to gather an answer, as the session says, or for a
 -- request
@@ -100,8 +116,8 @@ IsEnd stop.TooLong = Unit {0}
 IsEnd stop.Unbuilt = ⊥
 
 -- bytes were heard, and the connection goes on between items, or is over
-abbrev pub HeardAs : Bool → Story → Story → ℕ → Standing → List ℕ → List (List ℕ) → Standing
-    → Type 0
+abbrev pub HeardAs : Bool → ScriptPortal → ScriptPortal → ℕ → Standing → List ℕ
+    → List (List ℕ) → Standing → Type 0
 HeardAs false old new seat at bytes pieces now =
     HearsAt old new seat at bytes stop.More pieces now × (now.rest ≡ [])
 HeardAs true old new seat at bytes pieces now =
@@ -122,7 +138,8 @@ is_last (served.LineTooLong at) = true
 is_last other = false
 
 -- why bytes were not heard
-abbrev pub HearsNot : Story → Story → ℕ → Standing → List ℕ → Standing → LineError → Type 0
+abbrev pub HearsNot : ScriptPortal → ScriptPortal → ℕ → Standing → List ℕ → Standing
+    → LineError → Type 0
 HearsNot old new seat at bytes now not_run.Unbuilt = DataIsUnbuilt bytes (Some at)
 HearsNot old new seat at bytes now not_run.WriteFault = ⊥
 HearsNot old new seat at bytes now not_run.Memory =

@@ -1,10 +1,10 @@
 -- What running one line comes to.
-use Rattle.std.specs.Prelude.{◌≡◌, ◌⊎◌, ℕ, ◌+◌, ◌*◌, ◌≤◌, ◌++◌, false, List, [], length, take}
+use Rattle.std.specs.Prelude.{◌≡◌, ◌⊎◌, ℕ, ◌+◌, ◌*◌, ◌≤◌, ◌++◌, true, false, List, [], length, take}
 use Rattle.std.specs.Prelude.{Option, None, IfSome}
 use Rattle.std.specs.List.{list_any}
 use Rattle.std.specs.Option.{option_map}
 use Rattle.portal_base.specs.Outside.{HasRisen, Short, onto}
-use Rattle.portal_core.specs.Story.{Story, state_now, limit_of}
+use Rattle.portal_core.specs.Story.{state_first, state_now, limit_of}
 use Rattle.portal_model.specs.declared.entry.Entry.{Entry}
 use Rattle.portal_model.specs.History.{cost}
 use Rattle.portal_model.specs.Seated.{Binding, bound}
@@ -17,11 +17,15 @@ use Rattle.session.specs.Standings.{Standing, longest}
 use Rattle.docportal.specs.declared.error.LineError.{LineError}
 use Rattle.docportal.specs.declared.error.LineError.TheVariants.{Unbuilt, WriteFault, Memory}
 use Rattle.docportal.specs.Lines.{Does, IsUnbuilt}
-use Rattle.docportal.specs.Scenes.{Scene, sessions_of}
+use Rattle.docportal.specs.Scenes.{Scene, ScriptPortal, outside_at, sessions_of}
 
 -- the scene of a portal and a table of sessions
-abbrev pub scene : Story → List (Option Standing) → Scene
-scene p table = record { portal = state_now p; sessions = sessions_of table }
+abbrev pub scene : ScriptPortal → List (Option Standing) → Scene
+scene p table = record {
+  portal = state_now p.story;
+  outside = outside_at p;
+  sessions = sessions_of table;
+}
 
 -- ---- what a line needs
 
@@ -48,44 +52,47 @@ IsNew a line = Unit {0}
 abbrev pub HaveRoom : Scene → ℕ → Type 0
 HaveRoom a more = (n : ℕ) → IfSome (a.sessions n) (λ at. at.before + more ≤ longest)
 
--- the history and each session have room for what the line brings
-pub record MayRun (p : Story) (table : List (Option Standing)) (line : ScriptLine) : Type 0 where
+-- the tree tells its files, and the history and each session have room for what the line brings
+pub record MayRun (p : ScriptPortal) (table : List (Option Standing)) (line : ScriptLine)
+    : Type 0 where
+  pub told : (state_first p.story).told ≡ true
   pub agrees : Agrees (scene p table)
   pub itself : KeepsRules line
   pub new : IsNew (scene p table) line
-  pub room : cost p.history + 8 * (length (line_text line) + 1) ≤ limit_of p
+  pub room : cost p.story.history + 8 * (length (line_text line) + 1) ≤ limit_of p.story
   pub space : HaveRoom (scene p table) (length (line_text line))
 
 -- The lines may be run behind those that were run, which left the portal and the table so: they are
 -- lines of the script, nothing is open at a number that no line opened, and there is room for what
 -- they bring.
-pub record MayPlay (earlier : List ScriptLine) (p : Story) (table : List (Option Standing))
+pub record MayPlay (earlier : List ScriptLine) (p : ScriptPortal) (table : List (Option Standing))
     (lines : List ScriptLine) : Type 0 where
   pub stand : StandBehind earlier lines
+  pub told : (state_first p.story).told ≡ true
   pub agrees : Agrees (scene p table)
   pub closed : (n : ℕ) → list_any (opens n) earlier ≡ false → sessions_of table n ≡ None
-  pub room : cost p.history + 8 * length (text_of lines) ≤ limit_of p
+  pub room : cost p.story.history + 8 * length (text_of lines) ≤ limit_of p.story
   pub space : HaveRoom (scene p table) (length (text_of lines))
   pub short : length (text_of lines) ≤ script_limit
 
 -- ---- what it comes to
 
 -- a line was run, and its output is written
-pub record Runs (old : Story) (table : List (Option Standing)) (new : Story)
+pub record Runs (old : ScriptPortal) (table : List (Option Standing)) (new : ScriptPortal)
     (table' : List (Option Standing)) (line : ScriptLine)
     (told told' : Option (List (List ℕ))) : Type 0 where
   pub entries : List Entry
   pub out : List (List ℕ)
   pub does : Does (scene old table) line entries out (scene new table')
-  pub history : new.history ≡ old.history ++ entries
+  pub history : new.story.history ≡ old.story.history ++ entries
   pub output : told' ≡ onto told out
 
 -- a connection was opened, and nothing is written
-pub record Opens (old : Story) (table : List (Option Standing)) (new : Story)
+pub record Opens (old : ScriptPortal) (table : List (Option Standing)) (new : ScriptPortal)
     (table' : List (Option Standing)) (line : ScriptLine) : Type 0 where
   pub entries : List Entry
   pub does : Does (scene old table) line entries [] (scene new table')
-  pub history : new.history ≡ old.history ++ entries
+  pub history : new.story.history ≡ old.story.history ++ entries
 
 -- these are the first of some pieces, each of them whole
 abbrev pub AreFirst : List (List ℕ) → List (List ℕ) → Type 0

@@ -1,10 +1,9 @@
 //! The words of the program.
 
 ghost use Rattle.std.specs.Prelude.{◌≡◌, ◌≢◌, ◌↔◌, ◌∷◌, [], IsTrue, MatchOption, codes};
-ghost use Rattle.portal_base.specs.Names.{is_app_name as is_name, is_name_byte as is_byte_of_name, is_nothing_or_dots as is_none_or_dots, has_app_form};
-ghost use Rattle.std.specs.List.{list_all};
 ghost use Rattle.docportal.specs.Commands.{IsCount, ReadsCommand};
 
+use portal_base::names::AppId;
 use portal_base::text::Text;
 use script_form::read_number;
 
@@ -21,9 +20,6 @@ pub enum Command {
 
 /// The greatest number of requests that may be generated.
 const MOST_REQUESTS: u64 = 100_000;
-
-/// The longest name of an application, in bytes.
-const LONGEST_NAME: usize = 255;
 
 /// What the words ask for; `None` where they are none of the three commands.
 pub fn command_of(words: &[Text]) -> Option<Command>
@@ -48,57 +44,13 @@ fn command_of_one(word: &[u8]) -> Option<Command>
 fn command_of_two(first: &[u8], second: &[u8]) -> Option<Command>
     ensures { ReadsCommand (first.now ∷ second.now ∷ []) result }
 {
-    if first == b"worlds".as_slice() && is_app_name(second) {
+    if first == b"worlds".as_slice() && AppId::is_name(second) {
         return Some(Command::Worlds);
     }
     if first == b"generate".as_slice() && is_count(second) {
         return Some(Command::Generate);
     }
     None
-}
-
-/// Whether a word is an application's name.
-///
-/// `AppId::read` tells it too, but may want memory, and then not whether the word
-/// is one.
-#[tactic(auto, unfolding(portal_base::specs::Names::is_app_name))]
-fn is_app_name(word: &[u8]) -> bool
-    ensures { result ≡ is_name word.now }
-{
-    has_form(word) && word.len() <= LONGEST_NAME
-}
-
-/// Whether a word is an application's name but for its length.
-fn has_form(word: &[u8]) -> bool
-    ensures { result ≡ has_app_form word.now }
-{
-    are_name_bytes(word) && !is_nothing_or_dots(word)
-}
-
-/// Whether each byte of a word may stand in an application's name.
-fn are_name_bytes(word: &[u8]) -> bool
-    ensures { result ≡ list_all is_byte_of_name word.now }
-{
-    word.iter().all(|byte| is_name_byte(*byte))
-}
-
-/// Whether a word is nothing at all, `.` or `..`.
-fn is_nothing_or_dots(word: &[u8]) -> bool
-    ensures { result ≡ is_none_or_dots word.now }
-{
-    match word {
-        [] => true,
-        [only] => *only == b'.',
-        [first, second] => *first == b'.' && *second == b'.',
-        _ => false,
-    }
-}
-
-/// Whether a byte may stand in an application's name.
-fn is_name_byte(byte: u8) -> bool
-    ensures { result ≡ is_byte_of_name byte }
-{
-    byte.is_ascii_alphanumeric() || byte == b'.' || byte == b'_' || byte == b'-'
 }
 
 /// Whether a word is a number from 1 to 100,000.

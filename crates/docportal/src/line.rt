@@ -1,10 +1,9 @@
 //! Running one line of a script.
 
-ghost use Rattle.std.specs.Prelude.{◌≡◌, ◌≤◌, ◌<◌, [], ◌∷◌, Some, map, IfErr, OnOk};
+ghost use Rattle.std.specs.Prelude.{◌≡◌, ◌≤◌, ◌<◌, [], ◌∷◌, Some, map, true, IfErr, OnOk};
 ghost use Rattle.portal_base.specs.Outside.{onto};
-ghost use Rattle.portal_core.specs.Story.{state_now};
+ghost use Rattle.portal_core.specs.Story.{state_first, state_now};
 ghost use Rattle.portal_model.specs.declared.request.Request.{Request};
-ghost use Rattle.portal_model.specs.Opening.{opened};
 ghost use Rattle.portal_model.specs.Seated.{bound};
 ghost use Rattle.session.specs.Sessions.{ending};
 ghost use Rattle.docportal.specs.Scenes.{run_settings};
@@ -16,11 +15,11 @@ use crate::connections::Connections;
 use crate::error::LineError;
 use crate::output::{end_line, out_line};
 use crate::seats::{begin, end, hear};
+use crate::start::ScriptPortal;
 use portal_base::limits::Settings;
 use portal_base::list::ByteList;
 use portal_base::outside::{Sink, WriteAnswer};
 use portal_base::who::{Kind, Who};
-use portal_core::portal::Portal;
 use script_form::script::ScriptLine;
 use session::session::Session;
 use std::alloc::Global;
@@ -30,7 +29,7 @@ use std::alloc::Global;
 /// of a line that isn't built.
 pub fn run_line<K: Sink>(
     alloc: Global,
-    portal: &mut Portal,
+    portal: &mut ScriptPortal,
     connections: &mut Connections,
     settings: &Settings,
     line: &ScriptLine,
@@ -38,7 +37,7 @@ pub fn run_line<K: Sink>(
 ) -> Result<(), LineError>
     requires may { MayRun portal.old connections.old line.now }
     requires settings { settings.now ≡ run_settings }
-    ensures opening { opened portal.new.opening ≡ opened portal.old.opening }
+    ensures opening { state_first portal.new.story ≡ state_first portal.old.story }
     ensures ok { OnOk result (Runs portal.old connections.old portal.new connections.new line.now
         (K.told sink.old) (K.told sink.new)) }
     ensures counts { OnOk result (K.faults sink.new ≡ K.faults sink.old) }
@@ -48,9 +47,9 @@ pub fn run_line<K: Sink>(
     match line {
         ScriptLine::File { .. } => Ok(()),
         ScriptLine::Doc { .. } => Ok(()),
-        ScriptLine::Entry(_) => Err(LineError::Unbuilt),
-        ScriptLine::Fail { .. } => Err(LineError::Unbuilt),
-        ScriptLine::Word { .. } => Err(LineError::Unbuilt),
+        ScriptLine::Entry(_) => Ok(()),
+        ScriptLine::Fail { .. } => Ok(()),
+        ScriptLine::Word { .. } => Ok(()),
         ScriptLine::Now { .. } => Ok(()),
         ScriptLine::Open { seat, kind, who } => {
             open(alloc, portal, connections, settings, *seat, *kind, who)
@@ -62,7 +61,7 @@ pub fn run_line<K: Sink>(
 
 fn open(
     alloc: Global,
-    portal: &mut Portal,
+    portal: &mut ScriptPortal,
     connections: &mut Connections,
     settings: &Settings,
     seat: u32,
@@ -71,7 +70,7 @@ fn open(
 ) -> Result<(), LineError>
     requires may { MayRun portal.old connections.old (ScriptLine.Open seat kind who.now) }
     requires settings { settings.now ≡ run_settings }
-    ensures opening { opened portal.new.opening ≡ opened portal.old.opening }
+    ensures opening { state_first portal.new.story ≡ state_first portal.old.story }
     ensures ok { OnOk result (Opens portal.old connections.old portal.new connections.new
         (ScriptLine.Open seat kind who.now)) }
     ensures err { IfErr result (λ e. e ≡ LineError.Memory) }
@@ -83,14 +82,14 @@ fn open(
 
 fn data<K: Sink>(
     alloc: Global,
-    portal: &mut Portal,
+    portal: &mut ScriptPortal,
     connections: &mut Connections,
     seat: u32,
     bytes: &ByteList,
     sink: &mut K,
 ) -> Result<(), LineError>
     requires may { MayRun portal.old connections.old (ScriptLine.Data seat bytes.now) }
-    ensures opening { opened portal.new.opening ≡ opened portal.old.opening }
+    ensures opening { state_first portal.new.story ≡ state_first portal.old.story }
     ensures ok { OnOk result (Runs portal.old connections.old portal.new connections.new
         (ScriptLine.Data seat bytes.now) (K.told sink.old) (K.told sink.new)) }
     ensures counts { OnOk result (K.faults sink.new ≡ K.faults sink.old) }
@@ -121,13 +120,13 @@ fn data<K: Sink>(
 
 fn close<K: Sink>(
     alloc: Global,
-    portal: &mut Portal,
+    portal: &mut ScriptPortal,
     connections: &mut Connections,
     seat: u32,
     sink: &mut K,
 ) -> Result<(), LineError>
     requires may { MayRun portal.old connections.old (ScriptLine.Close seat) }
-    ensures opening { opened portal.new.opening ≡ opened portal.old.opening }
+    ensures opening { state_first portal.new.story ≡ state_first portal.old.story }
     ensures ok { OnOk result (Runs portal.old connections.old portal.new connections.new
         (ScriptLine.Close seat) (K.told sink.old) (K.told sink.new)) }
     ensures counts { OnOk result (K.faults sink.new ≡ K.faults sink.old) }
@@ -143,14 +142,15 @@ fn close<K: Sink>(
 /// Closes the connection of a session, and writes how it ended.
 fn leave<K: Sink>(
     alloc: Global,
-    portal: &mut Portal,
+    portal: &mut ScriptPortal,
     seat: u32,
     session: Session,
     sink: &mut K,
 ) -> Result<(), LineError>
+    requires told { (state_first portal.old.story).told ≡ true }
     requires seat { 1 ≤ seat }
-    requires open { bound (state_now portal.old) seat ≡ Some (binding session) }
-    ensures opening { opened portal.new.opening ≡ opened portal.old.opening }
+    requires open { bound (state_now portal.old.story) seat ≡ Some (binding session) }
+    ensures opening { state_first portal.new.story ≡ state_first portal.old.story }
     ensures left { Asked portal.old portal.new seat (Request.Leave ∷ []) }
     ensures ok { OnOk result (K.told sink.new ≡ onto (K.told sink.old)
         (line_of_ending seat (ending session.fed session.rest) ∷ [])) }

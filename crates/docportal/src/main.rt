@@ -10,6 +10,7 @@
 //! | `command`, `settings` | the words of the program, and what a run is set to |
 //! | `input`, `output` | the input, read to its end; the lines of the output |
 //! | `run`, `status` | the whole of a run, and how it ends |
+//! | `start` | the portal that a script opens, over devices in memory |
 //! | `replay` | a script's lines, one after another |
 //! | `line`, `error` | one line, and why it isn't run |
 //! | `seats`, `connections` | the sessions of a script, each at its seat of the portal |
@@ -31,6 +32,7 @@ mod replay;
 mod run;
 mod seats;
 mod settings;
+mod start;
 mod status;
 
 use crate::run::run;

@@ -8,10 +8,10 @@ ghost use Rattle.docportal.specs.Steps.{MayPlay, scene};
 use crate::connections::Connections;
 use crate::error::LineError;
 use crate::line::run_line;
+use crate::start::ScriptPortal;
 use crate::status::Status;
 use portal_base::limits::Settings;
 use portal_base::outside::Sink;
-use portal_core::portal::Portal;
 use script_form::script::ScriptLine;
 use std::alloc::Global;
 
@@ -19,7 +19,7 @@ use std::alloc::Global;
 /// An error says how the run ended there.
 pub fn run_lines<K: Sink>(
     alloc: Global,
-    portal: &mut Portal,
+    portal: &mut ScriptPortal,
     settings: &Settings,
     lines: &[ScriptLine],
     sink: &mut K,

@@ -11,13 +11,12 @@ ghost use Rattle.docportal.specs.Runs.{Ran, Replays, Risen};
 use crate::command::{Command, command_of};
 use crate::input::{InputError, read_to_end};
 use crate::replay::run_lines;
-use crate::settings::{limits, settings};
+use crate::settings::settings;
+use crate::start::start;
 use crate::status::Status;
 use portal_base::outside::{Sink, Source};
 use portal_base::text::Text;
-use portal_core::portal::Portal;
 use script_form::error::ScriptError;
-use script_form::opening::opening_of;
 use script_form::reader::read_script;
 use script_form::script::Script;
 use std::alloc::Global;
@@ -83,10 +82,7 @@ fn replay_script<K: Sink>(alloc: Global, script: &Script, sink: &mut K) -> Statu
         × Replays (text_of script.now.lines) pieces result }
     ensures risen { Risen result 0 0 (K.faults sink.old) (K.faults sink.new) }
 {
-    let Ok(opening) = opening_of(alloc, script, limits()) else {
-        return Status::Memory;
-    };
-    let Ok(mut portal) = Portal::start(alloc, &opening) else {
+    let Ok(mut portal) = start(alloc, script) else {
         return Status::Memory;
     };
     let Ok(settings) = settings(alloc) else {

@@ -2,26 +2,24 @@
 
 ghost use Rattle.std.specs.Prelude.{◌≡◌, ℕ, ◌+◌, ◌*◌, ◌≤◌, [], ◌∷◌, ◌++◌, length, true, false};
 ghost use Rattle.std.specs.Prelude.{Some, IfOk, IfErr};
-ghost use Rattle.portal_core.specs.Lending.{GrowsByOwn, is_faultless};
-ghost use Rattle.portal_core.specs.Story.{cost_with, limit_of, state_now};
+ghost use Rattle.portal_core.specs.Story.{cost_with, limit_of, state_first, state_now};
 ghost use Rattle.portal_model.specs.declared.request.Request.{Request};
 ghost use Rattle.portal_model.specs.History.{Legal, cost};
-ghost use Rattle.portal_model.specs.Opening.{opened};
 ghost use Rattle.portal_model.specs.Seated.{bound, is_open};
 ghost use Rattle.session.specs.Sessions.{Closes, Feeds, Opens, ending};
 ghost use Rattle.session.specs.Standings.{client, fresh, longest};
 ghost use Rattle.session.specs.declared.served.Fed.TheVariants as fed;
-ghost use Rattle.docportal.specs.Seats.{Asked, HeardAs, HearsNot, IsMet, Unfilled, is_last};
+ghost use Rattle.docportal.specs.Seats.{Alone, Asked, HeardAs, HearsNot, IsMet, Unfilled, is_last};
 ghost use Rattle.docportal.specs.Seats.{known_at, sunk};
 ghost use Rattle.docportal.specs.Steps.{binding};
 
 use crate::error::LineError;
+use crate::start::ScriptPortal;
 use portal_base::limits::Settings;
 use portal_base::memory::WantOfMemory;
 use portal_base::outside::MemorySink;
 use portal_base::who::{Kind, Who};
 use portal_core::local_desk::LocalDesk;
-use portal_core::portal::Portal;
 use portal_model::desk::Desk;
 use portal_model::reply::Refused;
 use session::served::{Fed, Served};
@@ -40,16 +38,18 @@ pub struct Heard {
 /// Opens a connection at a seat where none is open.
 pub fn begin(
     alloc: Global,
-    portal: &mut Portal,
+    portal: &mut ScriptPortal,
     seat: u32,
     who: &Who,
     kind: Kind,
     settings: &Settings,
 ) -> Result<Session, WantOfMemory>
+    requires told { (state_first portal.old.story).told ≡ true }
     requires seat { 1 ≤ seat }
-    requires closed { is_open (state_now portal.old) seat ≡ false }
-    requires room { cost_with portal.old (Request.Enter who.now kind) ≤ limit_of portal.old }
-    ensures opening { opened portal.new.opening ≡ opened portal.old.opening }
+    requires closed { is_open (state_now portal.old.story) seat ≡ false }
+    requires room { cost_with portal.old.story (Request.Enter who.now kind)
+        ≤ limit_of portal.old.story }
+    ensures opening { state_first portal.new.story ≡ state_first portal.old.story }
     ensures ok { IfOk result (λ session. (session ≡ fresh (client who.now kind settings.now))
         × Asked portal.old portal.new seat (Request.Enter who.now kind ∷ [])) }
 {
@@ -63,17 +63,17 @@ pub fn begin(
 /// Begins a session at the desk of a seat.
 fn begin_at(
     alloc: Global,
-    portal: &mut Portal,
+    portal: &mut ScriptPortal,
     seat: u32,
     who: &Who,
     kind: Kind,
     settings: &Settings,
 ) -> Result<Session, Refused>
     requires seat { 1 ≤ seat }
-    requires closed { is_open (state_now portal.old) seat ≡ false }
-    ensures opening { opened portal.new.opening ≡ opened portal.old.opening }
-    ensures own { GrowsByOwn is_faultless seat portal.old.history portal.new.history }
-    ensures legal { Legal (opened portal.new.opening) portal.new.history }
+    requires closed { is_open (state_now portal.old.story) seat ≡ false }
+    ensures opening { state_first portal.new.story ≡ state_first portal.old.story }
+    ensures own { Alone seat portal.old portal.new }
+    ensures legal { Legal (state_first portal.new.story) portal.new.story.history }
     ensures opens { (count : ℕ) × Opens (client who.now kind settings.now)
         (known_at portal.old seat 0) result (known_at portal.new seat count) }
 {
@@ -95,18 +95,18 @@ struct Feeding {
 /// Feeds bytes to a session at the desk of a seat, and gathers its answers.
 fn feed(
     alloc: Global,
-    portal: &mut Portal,
+    portal: &mut ScriptPortal,
     seat: u32,
     session: &mut Session,
     bytes: &[u8],
     written: &mut MemorySink,
 ) -> Feeding
     requires seat { 1 ≤ seat }
-    ensures opening { opened portal.new.opening ≡ opened portal.old.opening }
-    ensures stays_open { bound (state_now portal.old) seat ≡ Some (binding session.old)
-        → bound (state_now portal.new) seat ≡ Some (binding session.old) }
-    ensures own { GrowsByOwn is_faultless seat portal.old.history portal.new.history }
-    ensures legal { Legal (opened portal.new.opening) portal.new.history }
+    ensures opening { state_first portal.new.story ≡ state_first portal.old.story }
+    ensures stays_open { bound (state_now portal.old.story) seat ≡ Some (binding session.old)
+        → bound (state_now portal.new.story) seat ≡ Some (binding session.old) }
+    ensures own { Alone seat portal.old portal.new }
+    ensures legal { Legal (state_first portal.new.story) portal.new.story.history }
     ensures feeds { Feeds session.old.fed session.old
         (sunk (known_at portal.old seat 0) written.old) bytes.now result.fed session.new
         (sunk (known_at portal.new seat result.refusals) written.new) }
@@ -125,19 +125,20 @@ fn feed(
 /// for what they ask, so a request that is refused wants memory.
 pub fn hear(
     alloc: Global,
-    portal: &mut Portal,
+    portal: &mut ScriptPortal,
     seat: u32,
     session: &mut Session,
     bytes: &[u8],
 ) -> Result<Heard, LineError>
+    requires told { (state_first portal.old.story).told ≡ true }
     requires seat { 1 ≤ seat }
     requires goes_on { session.old.fed ≡ fed.More }
-    requires room { cost portal.old.history + 8 * length (session.old.rest ++ bytes.now)
-        ≤ limit_of portal.old }
+    requires room { cost portal.old.story.history + 8 * length (session.old.rest ++ bytes.now)
+        ≤ limit_of portal.old.story }
     requires space { session.old.before + length session.old.rest + length bytes.now ≤ longest }
-    ensures opening { opened portal.new.opening ≡ opened portal.old.opening }
-    ensures stays_open { bound (state_now portal.old) seat ≡ Some (binding session.old)
-        → bound (state_now portal.new) seat ≡ Some (binding session.old) }
+    ensures opening { state_first portal.new.story ≡ state_first portal.old.story }
+    ensures stays_open { bound (state_now portal.old.story) seat ≡ Some (binding session.old)
+        → bound (state_now portal.new.story) seat ≡ Some (binding session.old) }
     ensures unfilled { (refusals : ℕ) × Unfilled portal.old portal.new seat session.old bytes.now
         session.new refusals }
     ensures ok { IfOk result (λ heard. HeardAs heard.is_over portal.old portal.new seat session.old
@@ -184,10 +185,11 @@ fn heard_last(served: Served, written: MemorySink) -> Result<Heard, LineError>
 }
 
 /// Closes the connection of a session, and says how it ended.
-pub fn end(alloc: Global, portal: &mut Portal, seat: u32, session: Session) -> Served
+pub fn end(alloc: Global, portal: &mut ScriptPortal, seat: u32, session: Session) -> Served
+    requires told { (state_first portal.old.story).told ≡ true }
     requires seat { 1 ≤ seat }
-    requires open { bound (state_now portal.old) seat ≡ Some (binding session) }
-    ensures opening { opened portal.new.opening ≡ opened portal.old.opening }
+    requires open { bound (state_now portal.old.story) seat ≡ Some (binding session) }
+    ensures opening { state_first portal.new.story ≡ state_first portal.old.story }
     ensures left { Asked portal.old portal.new seat (Request.Leave ∷ []) }
     ensures ended { result ≡ ending session.fed session.rest }
 {
@@ -195,12 +197,12 @@ pub fn end(alloc: Global, portal: &mut Portal, seat: u32, session: Session) -> S
 }
 
 /// Ends a session at the desk of a seat.
-fn end_at(alloc: Global, portal: &mut Portal, seat: u32, session: Session) -> Served
+fn end_at(alloc: Global, portal: &mut ScriptPortal, seat: u32, session: Session) -> Served
     requires seat { 1 ≤ seat }
-    requires open { bound (state_now portal.old) seat ≡ Some (binding session) }
-    ensures opening { opened portal.new.opening ≡ opened portal.old.opening }
-    ensures own { GrowsByOwn is_faultless seat portal.old.history portal.new.history }
-    ensures legal { Legal (opened portal.new.opening) portal.new.history }
+    requires open { bound (state_now portal.old.story) seat ≡ Some (binding session) }
+    ensures opening { state_first portal.new.story ≡ state_first portal.old.story }
+    ensures own { Alone seat portal.old portal.new }
+    ensures legal { Legal (state_first portal.new.story) portal.new.story.history }
     ensures closes { (count : ℕ) × Closes session (known_at portal.old seat 0) result
         (known_at portal.new seat count) }
 {

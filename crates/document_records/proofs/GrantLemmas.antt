@@ -62,7 +62,7 @@ module _ (app : List ℕ) (number : ℕ) (right : Right) where
   has-of : (g : Grant) → app_has (triples_of_grant g) app number right ≡ (is_of app number g && is_in g.rights right)
   has-of g = gives-of app number right g.app g.id g.rights
 
-  has-more : (g : Grant) (gs : List Grant) → app_has (triples_of_grants (g ∷ gs)) app number right ≡ ((is_of app number g && is_in g.rights right) || app_has (triples_of_grants gs) app number right)
+  pub has-more : (g : Grant) (gs : List Grant) → app_has (triples_of_grants (g ∷ gs)) app number right ≡ ((is_of app number g && is_in g.rights right) || app_has (triples_of_grants gs) app number right)
   has-more g gs = list_any-append _ (triples_of_grant g) (triples_of_grants gs) ∙ ap (λ (b : Bool). b || app_has (triples_of_grants gs) app number right) (has-of g)
 
   looked : (g : Grant) (gs : List Grant) (b : Bool) (r : Option Grant) → is_of app number g ≡ b → find (is_of app number) (g ∷ gs) ≡ r → cond b (Some g) (find (is_of app number) gs) ≡ r
@@ -296,7 +296,7 @@ taken-is app number set (g ∷ gs) =
     (λ i. taken-one app number set g (is_of app number g) refl i ++ taken-is app number set gs i)
     ∙ sym (filter-append (λ t. not (is_listed app number set t)) (triples_of_grant g) (triples_of_grants gs))
 
-taken-key : (app : List ℕ) (number : ℕ) (set : RightSet) (g : Grant) → key_of (taken app number set g) ≡ key_of g
+pub taken-key : (app : List ℕ) (number : ℕ) (set : RightSet) (g : Grant) → key_of (taken app number set g) ≡ key_of g
 taken-key app number set g = at (is_of app number g)
   where
     at : (b : Bool) → key_of (cond b (record g { rights = minus g.rights set }) g) ≡ key_of g

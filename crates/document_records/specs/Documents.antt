@@ -1,9 +1,10 @@
 -- The documents of a portal, as lists.
 -- Source: XDG Desktop Portal documentation, org.freedesktop.portal.Documents.
-use Rattle.std.specs.Prelude.{◌≡◌, ℕ, ◌==◌, ◌-◌, min, List, [], ◌∷◌, ◌++◌, length, take, Bool, not}
+use Rattle.std.specs.Prelude.{◌≡◌, ℕ, ◌==◌, ◌-◌, min, List, [], ◌∷◌, ◌++◌, length, take, Bool, false, not, Option, Some, None}
 use Rattle.std.specs.List.{filter}
 use Rattle.portal_base.specs.declared.names.doc_id.DocId.{DocId}
 use Rattle.portal_model.specs.declared.state.Document.{Document}
+use Rattle.portal_model.specs.State.{document_of}
 
 pub record DocumentList : Type 0 where
   -- how many documents may be live, and how many may be made
@@ -47,3 +48,11 @@ pub record IsLast (s : DocumentList) (id : DocId) : Type 0 where
   pub last : Document
   pub number : last.id ≡ id
   pub added : s ≡ with_document before last
+
+abbrev pub is_persistent : Option Document → Bool
+is_persistent None = false
+is_persistent (Some d) = d.persistent
+
+-- the document of the number is live, and outlives the run
+abbrev pub is_kept : List Document → ℕ → Bool
+is_kept documents number = is_persistent (document_of documents number)

@@ -6,13 +6,17 @@ use Rattle.rights_rule.specs.Rights.{RightSet, union, minus, is_no_right}
 use Rattle.portal_model.specs.declared.state.Triple.{Triple}
 use Rattle.document_records.specs.declared.grants.Grant.{Grant}
 use Rattle.portal_model.specs.Ordered.{bytes_less, is_rising}
-use Rattle.portal_model.specs.Rights.{triples_of}
+use Rattle.portal_model.specs.Rights.{triples_of, add_rights}
 
 abbrev pub triples_of_grant : Grant → List Triple
 triples_of_grant g = triples_of g.app g.id g.rights
 
 abbrev pub triples_of_grants : List Grant → List Triple
 triples_of_grants grants = flat_map triples_of_grant grants
+
+-- the rights with those that a grant gives
+abbrev pub with_given : List Triple → Grant → List Triple
+with_given rights g = add_rights g.app g.id g.rights rights
 
 abbrev pub is_of : List ℕ → ℕ → Grant → Bool
 is_of app number g = g.id.number == number && is_same g.app app

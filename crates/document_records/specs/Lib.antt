@@ -3,3 +3,4 @@ pub mod DocumentErrors
 pub mod DocumentIndex
 pub mod Documents
 pub mod Grants
+pub mod Holdings

@@ -132,6 +132,13 @@ impl Documents {
         DocId { number }
     }
 
+    /// The live documents, in order of addition.
+    pub fn live(&self) -> &[Document]
+        ensures { result.now ≡ self.now.live }
+    {
+        self.live.as_slice()
+    }
+
     /// The live document of a number.
     pub fn find(&self, id: DocId) -> Option<&Document>
         ensures { option_copied result ≡ document_of self.now.live id.number }

@@ -1,24 +1,33 @@
 //! Which application has which right in which document.
 
-ghost use Rattle.std.specs.Prelude.{◌≡◌, [], OnOk, OnErr, map, None, true, false, option_copied};
+ghost use Rattle.std.specs.Prelude.{◌≡◌, [], OnOk, OnErr, IfOk, map, fold, None, true, false, option_copied};
 ghost use Rattle.std.specs.List.{prefix_len, find, filter};
 ghost use Rattle.portal_model.specs.State.{held_of};
 ghost use Rattle.portal_model.specs.Ordered.{put};
 ghost use Rattle.rights_rule.specs.Rights.{is_no_right};
+ghost use Rattle.portal_model.specs.Info.{holders, row_of};
+ghost use Rattle.portal_model.specs.Kept.{grant_record};
 ghost use Rattle.portal_model.specs.Rights.{add_rights, take_rights, forget_document, are_in_order};
 
+use crate::holdings::{records_left, rows};
+use portal_base::list::List;
 use portal_base::memory::{Replica, WantOfMemory};
 use portal_base::names::{AppId, DocId};
+use portal_model::records::{GrantRecord, Row};
 use rights_rule::Rights;
 use std::alloc::Global;
+use std::cmp::Ordering;
 use std::marker::Model;
 
 /// The rights of one application in one document.
 #[derive(Drop)]
-struct Grant {
-    id: DocId,
-    app: AppId,
-    rights: Rights,
+pub struct Grant {
+    /// The document.
+    pub id: DocId,
+    /// The application.
+    pub app: AppId,
+    /// Its rights in it.
+    pub rights: Rights,
 }
 
 /// The rights of applications in documents, as triples of an application, a
@@ -52,6 +61,18 @@ impl Grants {
             alloc,
             grants: Vec::new(alloc),
         }
+    }
+
+    /// The rights that grants give together. The grants may come in any order
+    /// and several of one application in one document; n of them take about
+    /// n log n steps.
+    pub fn of(alloc: Global, grants: List<Grant>) -> Result<Grants, WantOfMemory>
+        ensures { IfOk result (λ rights. rights ≡ fold with_given [] grants) }
+    {
+        let mut grants = grants.into_vec();
+        // In their order each is added behind the others.
+        grants.sort_unstable_by(|first, second| place_order(first, second));
+        gathered(alloc, &grants)
     }
 
     /// The rights of an application in a document. All rights stand in their
@@ -97,6 +118,38 @@ impl Grants {
         leave_held(&mut self.grants);
     }
 
+    /// The applications that have a right in a document, in byte order of their
+    /// names, each with the names of its rights.
+    pub fn rows(&self, id: DocId) -> Result<List<Row>, WantOfMemory>
+        ensures { IfOk result (λ rows. rows
+            ≡ map (row_of self.now id.number) (holders self.now id.number)) }
+    {
+        rows(self.alloc, &self.grants, id)
+    }
+
+    /// The rights in a document as they are kept, in byte order of the
+    /// applications' names.
+    pub fn records(&self, id: DocId) -> Result<List<GrantRecord>, WantOfMemory>
+        ensures { IfOk result (λ records. records
+            ≡ map (grant_record self.now id.number) (holders self.now id.number)) }
+    {
+        records_left(self.alloc, &self.grants, id, &[], Rights::NONE)
+    }
+
+    /// The same, as they will be kept once these rights of an application are
+    /// taken away.
+    pub fn records_without(
+        &self,
+        app: &AppId,
+        id: DocId,
+        rights: Rights,
+    ) -> Result<List<GrantRecord>, WantOfMemory>
+        ensures { IfOk result (λ records. let left = take_rights app.now id.number rights self.now
+            in records ≡ map (grant_record left id.number) (holders left id.number)) }
+    {
+        records_left(self.alloc, &self.grants, id, app.as_bytes(), rights)
+    }
+
     /// Takes all rights in a document away.
     pub fn forget(&mut self, id: DocId)
         ensures { self.new ≡ forget_document id.number self.old }
@@ -105,7 +158,26 @@ impl Grants {
     }
 }
 
-ghost use Rattle.document_records.specs.Grants.{is_of, is_before, given, taken, has_a_right, is_elsewhere, grant_less, are_grants_in_order};
+ghost use Rattle.document_records.specs.Grants.{is_of, is_before, given, taken, has_a_right, is_elsewhere, grant_less, are_grants_in_order, with_given};
+
+/// Which of two grants has its place first.
+fn place_order(first: &Grant, second: &Grant) -> Ordering {
+    if first.id.number == second.id.number {
+        return first.app.as_bytes().cmp(second.app.as_bytes());
+    }
+    first.id.number.cmp(&second.id.number)
+}
+
+/// The rights of grants that are added one after another.
+fn gathered(alloc: Global, grants: &[Grant]) -> Result<Grants, WantOfMemory>
+    ensures { IfOk result (λ rights. rights ≡ fold with_given [] grants.now) }
+{
+    let mut rights = Grants::new(alloc);
+    for grant in grants {
+        rights.add(&grant.app, grant.id, grant.rights)?;
+    }
+    Ok(rights)
+}
 
 /// Says whether a grant is of an application in a document.
 fn is_of(grant: &Grant, app: &AppId, id: DocId) -> bool

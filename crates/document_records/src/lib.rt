@@ -9,7 +9,9 @@
 //! | Room | Holds |
 //! |---|---|
 //! | `documents` | [`Documents`]: the live ones by number, and the made numbers |
-//! | `grants` | [`Grants`]: who holds which rights in which document |
+//! | `grants` | [`Grants`]: who holds which rights in which document, and [`Grant`], the rights of one in one |
+//! | `holdings` | the rights in a document, as they are told and as they are kept |
+//! | `texts` | identifiers and names as texts |
 //! | `applications` | [`Applications`]: the numbers of applications, from 1 |
 //!
 //! ```text
@@ -25,8 +27,11 @@
 pub mod applications;
 pub mod documents;
 pub mod grants;
+mod holdings;
+mod texts;
 
 pub use applications::Applications;
 pub use documents::{DocError, Documents};
-pub use grants::Grants;
+pub use grants::{Grant, Grants};
 pub use portal_model::state::Document;
+pub use texts::id_text;

@@ -1,8 +1,7 @@
 //! The bodies of requests, by the structs of `include/uapi/linux/fuse.h`. A
 //! body of another form is answered `None`.
 
-ghost use Rattle.std.specs.Prelude.{◌≡◌, ◌*◌, ◌≤◌, ◌==◌, length, not, IfOk};
-ghost use Rattle.std.specs.List.{list_all};
+ghost use Rattle.std.specs.Prelude.{◌≡◌, ◌*◌, ◌≤◌, length, IfOk};
 ghost use Rattle.fuse_wire.specs.Asks.{sized, lookup_op, create_op, write_op, batch_forget_op};
 ghost use Rattle.fuse_wire.specs.Bodies.{access_in, access_in_len, flush_in, flush_in_len, forget_in, forget_in_len, forget_one, forget_one_len, forget_ones, fsync_in, fsync_in_len, getattr_in, getattr_in_len};
 ghost use Rattle.fuse_wire.specs.Bodies.{is_name, name_of, open_in, open_in_len, read_in, read_in_len, release_in, release_in_len, setattr_in, setattr_in_len};
@@ -11,6 +10,7 @@ ghost use Rattle.portal_model.specs.declared.request.NodeOp.TheVariants as op;
 use crate::frame::{behind, u32_at, u64_at};
 use portal_base::list::{ByteList, List};
 use portal_base::memory::WantOfMemory;
+use portal_base::text::has_no_zero;
 use portal_model::request::{ForgetItem, NodeOp};
 use std::alloc::Global;
 
@@ -299,10 +299,4 @@ fn is_name(bytes: &[u8]) -> bool
         return false;
     }
     has_no_zero(&bytes[..last])
-}
-
-fn has_no_zero(bytes: &[u8]) -> bool
-    ensures { result ≡ list_all (λ b. not (b == 0)) bytes.now }
-{
-    bytes.iter().all(|byte| *byte != 0)
 }

@@ -226,22 +226,6 @@ put-and-without f (g ∷ gs) e = step (is_lt (path_order f.path g.path)) (is_sam
         ap (λ (b : Bool). cond (not b) (g ∷ without f.path (put_file f gs)) (without f.path (put_file f gs))) d
         ∙ ap (λ (fs : List File). g ∷ fs) (more e)
 
-all-step : (q : List ℕ → Bool) (f g : File) (gs hs : List File) (b : Bool) → list_all q (paths_of hs) ≡ (q f.path && list_all q (paths_of gs)) → list_all q (paths_of (cond b (f ∷ g ∷ gs) (g ∷ hs))) ≡ (q f.path && (q g.path && list_all q (paths_of gs)))
-all-step q f g gs hs true e = refl
-all-step q f g gs hs false e = grind arith
-
-pub all-put : (q : List ℕ → Bool) (f : File) (fs : List File) → list_all q (paths_of (put_file f fs)) ≡ (q f.path && list_all q (paths_of fs))
-all-put q f [] = refl
-all-put q f (g ∷ gs) = all-step q f g gs (put_file f gs) (is_lt (path_order f.path g.path)) (all-put q f gs)
-
-any-step : (q : List ℕ → Bool) (f g : File) (gs hs : List File) (b : Bool) → list_any q (paths_of hs) ≡ (q f.path || list_any q (paths_of gs)) → list_any q (paths_of (cond b (f ∷ g ∷ gs) (g ∷ hs))) ≡ (q f.path || (q g.path || list_any q (paths_of gs)))
-any-step q f g gs hs true e = refl
-any-step q f g gs hs false e = grind arith
-
-pub any-put : (q : List ℕ → Bool) (f : File) (fs : List File) → list_any q (paths_of (put_file f fs)) ≡ (q f.path || list_any q (paths_of fs))
-any-put q f [] = refl
-any-put q f (g ∷ gs) = any-step q f g gs (put_file f gs) (is_lt (path_order f.path g.path)) (any-put q f gs)
-
 pub not-zero : (g : ℕ) → (g ≡ 0 → ⊥) → (0 == g) ≡ false
 not-zero g n = grind (arith, nat_tests)
 

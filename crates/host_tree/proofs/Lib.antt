@@ -2,4 +2,3 @@ pub mod PathsBelow
 pub mod Bytes
 pub mod FileCreated
 pub mod Entries
-pub mod Paths

@@ -13,6 +13,7 @@ use Rattle.std.specs.declared.ops.Bound.TheVariants.{Excluded, Unbounded}
 use Rattle.portal_base.specs.PathOrder.{path_order, byte_order}
 use Rattle.portal_base.specs.Content.{is_above}
 use Rattle.portal_base.specs.declared.files.File.{File}
+use Rattle.portal_base.proofs.PathsAbove.{above-more, first-same, rest-below, slash-first, slash-is}
 use Rattle.host_tree.specs.Stored.{files_of}
 use Rattle.host_tree.specs.declared.files.Stored.{Stored}
 
@@ -28,21 +29,6 @@ less-or-tied : (o p : Ordering) → ordering_then o p ≡ Less → (o ≡ Less) 
 less-or-tied Less p e = inl refl
 less-or-tied Equal p e = inr (refl, e)
 less-or-tied Greater p e = absurd (cc)
-
-pub first-same : (a b : ℕ) (ps bs : List ℕ) → is_above (a ∷ ps) (b ∷ bs) ≡ true → a ≡ b
-first-same a b ps bs h = grind (arith, nat_tests)
-
-pub rest-below : (a b : ℕ) (ps bs : List ℕ) → is_above (a ∷ ps) (b ∷ bs) ≡ true → is_above ps bs ≡ true
-rest-below a b ps bs h = grind (arith, nat_tests)
-
-pub above-more : (a c : ℕ) (ps cs : List ℕ) → a ≡ c → is_above ps cs ≡ true → is_above (a ∷ ps) (c ∷ cs) ≡ true
-above-more a c ps cs e h = grind (arith, nat_tests)
-
-pub slash-first : (b : ℕ) (bs : List ℕ) → is_above [] (b ∷ bs) ≡ true → b ≡ 47
-slash-first b bs h = grind (arith, nat_tests)
-
-pub slash-is : (b : ℕ) (bs : List ℕ) → b ≡ 47 → is_above [] (b ∷ bs) ≡ true
-slash-is b bs e = grind (arith, nat_tests)
 
 same-byte : (a b : ℕ) → a ≡ b → byte_order a b ≡ Equal
 same-byte a b e = grind (arith, nat_tests)

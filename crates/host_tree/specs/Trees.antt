@@ -1,14 +1,11 @@
 -- What a tree of files answers, and what each call leaves of it.
--- Source: POSIX.1-2017, pread, pwrite and ftruncate: a write behind the end fills the gap with
--- zero bytes, a write of no bytes changes nothing.
-use Rattle.std.specs.Prelude.{◌≡◌, ℕ, ◌+◌, ◌-◌, ◌≤◌, List, [], ◌∷◌, ◌++◌, length, take, drop, map, replicate, Bool, true, false, not, ◌&&◌, cond, Option, Some, None, is_some, option_map, IfSome}
+use Rattle.std.specs.Prelude.{◌≡◌, ℕ, ◌+◌, ◌≤◌, List, length, Bool, true, false, not, ◌&&◌, cond, Option, Some, None, is_some, option_map, IfSome}
 use Rattle.std.specs.List.{filter}
-use Rattle.std.specs.Ordering.{is_lt}
 use Rattle.portal_base.specs.Calls.{Calls, next_call, FailsAsTold}
 use Rattle.portal_base.specs.Devices.{count_after}
 use Rattle.portal_base.specs.Names.{is_same}
-use Rattle.portal_base.specs.PathOrder.{path_order}
-use Rattle.portal_base.specs.Content.{file_at, file_named, is_folder, has_room, is_named, look_at}
+use Rattle.portal_base.specs.Content.{file_at, file_named, is_folder, has_room, look_at}
+pub use Rattle.portal_base.specs.FileChanges.{bytes_from, cut_to, overlaid, with_bytes, written, resized, change_named, put_file, file_with, new_file}
 use Rattle.portal_base.specs.declared.files.File.{File}
 use Rattle.portal_base.specs.declared.files.FileName.{FileName}
 use Rattle.host_tree.specs.declared.tree.AttrAnswer.{AttrAnswer}
@@ -78,10 +75,6 @@ Attrs told name (attr.Is size moment) =
 Attrs told name attr.NotFile = IfSome told (λ files. file_named files name ≡ None)
 Attrs told name attr.Failed = Unit {0}
 
--- the bytes from an offset on, at most so many
-abbrev pub bytes_from : List ℕ → ℕ → ℕ → List ℕ
-bytes_from bytes offset size = take size (drop offset bytes)
-
 abbrev pub Gets : Option (List File) → FileName → ℕ → ℕ → TreeRead → Type 0
 Gets told name offset size (read.Got bytes) = (length bytes ≤ size)
     × IfSome told (λ files. option_map (λ f. bytes_from f.bytes offset size) (file_named files name)
@@ -92,45 +85,9 @@ Gets told name offset size read.Memory = Unit {0}
 
 -- ---- changes
 
--- the first bytes, so many, with zero bytes behind them where there are fewer
-abbrev pub cut_to : ℕ → List ℕ → List ℕ
-cut_to size bytes = take size bytes ++ replicate (size - length bytes) 0
-
--- what stood ahead of the offset, the content, and what stood behind
-abbrev pub overlaid : List ℕ → ℕ → List ℕ → List ℕ
-overlaid bytes offset content = cut_to offset bytes
-    ++ (content ++ drop (offset + length content) bytes)
-
-abbrev pub with_bytes : List ℕ → ℕ → File → File
-with_bytes bytes moment f = record f { bytes = bytes; moment = moment }
-
--- a write of no bytes changes nothing, the moment neither
-abbrev pub written : ℕ → List ℕ → ℕ → File → File
-written offset [] moment f = f
-written offset (b ∷ bs) moment f = with_bytes (overlaid f.bytes offset (b ∷ bs)) moment f
-
-abbrev pub resized : ℕ → ℕ → File → File
-resized size moment f = with_bytes (cut_to size f.bytes) moment f
-
--- the file of a name changed, every other as it was
-abbrev pub change_named : FileName → (File → File) → List File → List File
-change_named name change files = map (λ f. cond (is_named name f) (change f) f) files
-
--- a new file at its place in the order of paths
-abbrev pub put_file : File → List File → List File
-put_file new [] = new ∷ []
-put_file new (f ∷ fs) = cond (is_lt (path_order new.path f.path)) (new ∷ f ∷ fs) (f
-    ∷ put_file new fs)
-
 -- the files but that of a path
 abbrev pub without : List ℕ → List File → List File
 without path files = filter (λ f. not (is_same f.path path)) files
-
-abbrev pub file_with : List ℕ → List ℕ → ℕ → File
-file_with path bytes moment = record { path = path; generation = 0; bytes = bytes; moment = moment }
-
-abbrev pub new_file : List ℕ → ℕ → File
-new_file path moment = file_with path [] moment
 
 -- whether nothing stands at the path and its parent is a folder
 abbrev pub may_create : List File → List ℕ → Bool

@@ -2,7 +2,6 @@
 
 ghost use Rattle.std.specs.Prelude.{◌≡◌, ◌≤◌, ◌+◌, ◌-◌, [], Some, None, false, true, IfOk, OnOk, OnErr, length, take, drop, ◌++◌, map, option_map, option_copied};
 ghost use Rattle.std.specs.List.{list_any, list_all};
-ghost use Rattle.portal_base.specs.Names.{is_same, root};
 ghost use Rattle.portal_base.specs.Content.{look_at, is_folder, is_above, file_named, file_at, IsTree, ArePlaced, paths_of};
 ghost use Rattle.host_tree.specs.Trees.{overlaid, cut_to, bytes_from, Does, has_file, change_named, written, resized, may_create, put_file, file_with, without, new_file, is_done_fault};
 
@@ -11,13 +10,11 @@ use portal_base::files::{FileName, Look};
 use portal_base::list::{ByteList, List};
 use portal_base::memory::{Replica, WantOfMemory};
 use portal_base::names::HostPath;
+use portal_base::names::host_path::{is_root, lies_above};
 use std::alloc::Global;
 use std::collections::BTreeMap;
 use std::marker::Model;
 use std::ops::Bound;
-
-/// The byte between two parts of a path.
-const SLASH: u8 = b'/';
 
 /// What is stored of a file.
 #[derive(Drop)]
@@ -316,18 +313,4 @@ fn done(outcome: Result<(), WantOfMemory>) -> TreeDone
         Ok(()) => TreeDone::Done,
         Err(_) => TreeDone::Memory,
     }
-}
-
-/// Says whether a path is `/`.
-fn is_root(path: &[u8]) -> bool
-    ensures { result ≡ is_same path.now root }
-{
-    path == b"/".as_slice()
-}
-
-/// Says whether one path lies above another.
-fn lies_above(path: &[u8], below: &[u8]) -> bool
-    ensures { result ≡ is_above path.now below.now }
-{
-    below.len() > path.len() && below.starts_with(path) && below[path.len()] == SLASH
 }

@@ -5,3 +5,7 @@ pub mod AppBreaks
 pub mod OwnFolders
 pub mod Parents
 pub mod DocIdDigits
+pub mod PathsAbove
+pub mod RefusedNames
+pub mod RisingNumbers
+pub mod NoZeros

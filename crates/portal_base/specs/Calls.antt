@@ -1,5 +1,5 @@
 -- The calls of a device that tells them.
-use Rattle.std.specs.Prelude.{◌≡◌, ℕ, ◌==◌, List, [], Bool, false, cond, Option, IfSome}
+use Rattle.std.specs.Prelude.{◌≡◌, ℕ, ◌==◌, List, Bool, Option, IfSome}
 use Rattle.std.specs.List.{list_any}
 use Rattle.portal_base.specs.Outside.{rises_by}
 use Rattle.portal_base.specs.Devices.{count_after}

@@ -1,6 +1,8 @@
 //! A text in UTF-8.
 
 ghost use Rattle.std.specs.Prelude.{◌≡◌, [], ◌++◌, length, IfOk, OnOk, OnErr, string_bytes};
+ghost use Rattle.std.specs.List.{list_all};
+ghost use Rattle.portal_base.specs.Names.{is_byte_of_path};
 
 use crate::memory::{Replica, WantOfMemory};
 use std::alloc::{AllocError, Global};
@@ -83,6 +85,13 @@ impl Text {
         self.inner.push_str(text)?;
         Ok(())
     }
+}
+
+/// Says whether no byte of a text is zero.
+pub fn has_no_zero(text: &[u8]) -> bool
+    ensures { result ≡ list_all is_byte_of_path text.now }
+{
+    text.iter().all(|byte| *byte != 0)
 }
 
 impl Replica for Text {

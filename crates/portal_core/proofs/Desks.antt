@@ -1,6 +1,7 @@
 -- A desk that sees the whole history: what it answers is what a desk promises.
-use Rattle.std.proofs.Common.{◌≡◌, ℕ, List, [], ◌∷◌, ◌++◌, Ok, refl, sym, ap, ◌∙◌, subst}
+use Rattle.std.proofs.Common.{◌≡◌, ℕ, List, [], ◌∷◌, ◌++◌, ◌≤◌, Some, None, Ok, refl, sym, ap, ◌∙◌, subst, arith}
 use Rattle.std.proofs.lemmas.List.{append-nil}
+use Rattle.std.proofs.lemmas.List.Elements.{All-cons, All-nil}
 use Rattle.portal_model.specs.declared.entry.Entry.{Entry}
 use Rattle.portal_model.specs.declared.reply.Reply.{Reply}
 use Rattle.portal_model.specs.declared.request.Request.{Request}
@@ -11,7 +12,7 @@ use Rattle.portal_model.specs.State.{State}
 use Rattle.portal_model.specs.Step.{reply_at}
 use Rattle.portal_model.proofs.SeatLaws.{exchanges-own}
 use Rattle.portal_core.specs.Growth.{GrowsBy}
-use Rattle.portal_core.specs.Lending.{seated_at}
+use Rattle.portal_core.specs.Lending.{GoesOn, seated_at}
 
 module _ (says : Entry → Type 0) (s : State) (old new : List Entry) (seat refusals : ℕ) (request : Request) (reply : Reply) (g : GrowsBy says s old new seat request reply) where
   own_exchange : exchanges seat s new ≡ exchanges seat s old ++ exchange (run s (old ++ [])) g.entry ∷ []
@@ -40,3 +41,25 @@ pub asked : (says : Entry → Type 0) (s t : State) (old new : List Entry) (seat
     Asks (seated_at s old seat refusals) request (Ok reply) (seated_at t new seat refusals)
 asked says s t old new seat refusals request reply e g =
     subst (λ (u : State). Asks (seated_at s old seat refusals) request (Ok reply) (seated_at u new seat refusals)) (sym e) (asked_here says s old new seat refusals request reply g)
+
+-- ---- how such a desk goes on
+
+pub goes_on : {S : Type 0} (says : S → Entry → S → Type 0) (spends : S → S → Type 0) (a b : S) (s t : State) (old new : List Entry) (seat refusals : ℕ) (request : Request) (reply : Reply) → t ≡ s → GrowsBy (λ e. says a e b) s old new seat request reply →
+    GoesOn says spends a (seated_at s old seat refusals) b (seated_at t new seat refusals)
+goes_on says spends a b s t old new seat refusals request reply e g = record {
+  moved = record { opening = e; seat = refl; begins = (g.entry ∷ [], g.grown) };
+  count = omega arith;
+  asked = Some g.entry ∷ [];
+  grows = record { grown = g.grown; own = All-cons (λ (x : Entry). x.seat ≡ seat) g.entry [] g.seat_is (All-nil _) };
+  chain = (b, g.said, refl);
+}
+
+pub goes_refused : {S : Type 0} (says : S → Entry → S → Type 0) (spends : S → S → Type 0) (a b : S) (s t : State) (old new : List Entry) (seat refusals more : ℕ) → t ≡ s → new ≡ old → refusals ≤ more → spends a b →
+    GoesOn says spends a (seated_at s old seat refusals) b (seated_at t new seat more)
+goes_refused says spends a b s t old new seat refusals more e n k spent = record {
+  moved = record { opening = e; seat = refl; begins = ([], n ∙ sym (append-nil old)) };
+  count = k;
+  asked = None ∷ [];
+  grows = record { grown = n ∙ sym (append-nil old); own = All-nil _ };
+  chain = (b, spent, refl);
+}

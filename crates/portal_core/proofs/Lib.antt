@@ -1,8 +1,13 @@
-pub mod Paths
-pub mod TreeLemmas
 pub mod NameLemmas
 pub mod Loops
 pub mod OpeningRights
 pub mod ValidNames
+pub mod Found
+pub mod KeptRights
+pub mod GoodRecords
+pub mod FreshItems
+pub mod Beginning
+pub mod OwnFileEntries
+pub mod Looks
 pub mod Steps
 pub mod Desks

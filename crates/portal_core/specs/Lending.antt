@@ -1,17 +1,13 @@
 -- The desk of one seat at a history that it borrows.
-use Rattle.std.specs.Prelude.{◌≡◌, ◌≤◌, ℕ, List, [], ◌++◌, refl}
+use Rattle.std.specs.Prelude.{◌≡◌, ◌≤◌, ℕ, List, [], ◌∷◌, ◌++◌, Option, Some, None, refl}
 use Rattle.std.specs.List.{All}
 use Rattle.std.proofs.Common.{◌∙◌, sym, ap, subst, arith}
 use Rattle.std.proofs.lemmas.List.{append-nil, append_assoc}
 use Rattle.std.proofs.lemmas.List.Elements.{All-append, All-nil}
 use Rattle.portal_model.specs.declared.entry.Entry.{Entry}
-use Rattle.portal_model.specs.declared.entry.Fault.TheVariants as Fault
 use Rattle.portal_model.specs.Seated.{Moved, Seated, exchanges}
 use Rattle.portal_model.specs.State.{State}
-
--- no device failed in it
-abbrev pub is_faultless : Entry → Type 0
-is_faultless e = e.given.fault ≡ Fault.None
+use Rattle.portal_core.specs.Chain.{Chain, answered}
 
 -- what a seat knows that sees a whole history from a state
 abbrev pub seated_at : State → List Entry → ℕ → ℕ → Seated
@@ -23,54 +19,78 @@ seated_at s h seat refusals = record {
   refusals = refusals;
 }
 
--- the history grew by entries of the seat alone, and of each of them this is said
-abbrev pub GrowsByOwn : (Entry → Type 0) → ℕ → List Entry → List Entry → Type 0
-GrowsByOwn says seat old new = (more : List Entry) × (new ≡ old ++ more)
-    × All (λ e. (e.seat ≡ seat) × says e) more
+-- the history grew by what was answered of this, which is of the seat alone
+pub record GrowsByOwn (seat : ℕ) (asked : List (Option Entry)) (old new : List Entry) : Type 0 where
+  pub grown : new ≡ old ++ answered asked
+  pub own : All (λ e. e.seat ≡ seat) (answered asked)
 
--- the count of refusals doesn't fall, and whatever was refused, the history grew by entries of this
--- seat alone: a desk alone borrows what keeps the history, so no other seat asks in between
-pub record GoesOn (says : Entry → Type 0) (old new : Seated) : Type 0 where
+-- The count of refusals doesn't fall, and the history grew by entries of this seat alone: a desk
+-- alone borrows what keeps the history, so no other seat asks in between. Of each of them, and of
+-- each refusal, what keeps the history says what it says.
+pub record GoesOn {S : Type 0} (says : S → Entry → S → Type 0) (spends : S → S → Type 0)
+    (keeper : S) (old : Seated) (keeper' : S) (new : Seated) : Type 0 where
   pub moved : Moved old new
   pub count : old.refusals ≤ new.refusals
-  pub own : GrowsByOwn says old.seat old.seen new.seen
+  pub asked : List (Option Entry)
+  pub grows : GrowsByOwn old.seat asked old.seen new.seen
+  pub chain : Chain says spends keeper asked keeper'
 
 -- ---- its laws, which a desk that goes on so gives
 
-pub goes_nowhere : (says : Entry → Type 0) (d : Seated) → GoesOn says d d
-goes_nowhere says d = record {
-  moved = record { opening = refl; seat = refl; begins = ([], sym (append-nil d.seen)) };
-  count = omega arith;
-  own = ([], sym (append-nil d.seen), All-nil _);
-}
+-- the entries among two lists joined
+pub answered-append : (p q : List (Option Entry)) → answered (p ++ q) ≡ answered p ++ answered q
+answered-append [] q = refl
+answered-append (None ∷ p) q = answered-append p q
+answered-append (Some e ∷ p) q = ap (λ (x : List Entry). e ∷ x) (answered-append p q)
 
 -- the entries of a seat are those of an equal one
-own_of_same : (says : Entry → Type 0) (n m : ℕ) → n ≡ m → (h i : List Entry) → GrowsByOwn says n h i
-    → GrowsByOwn says m h i
-own_of_same says n m e h i g = subst (λ (k : ℕ). GrowsByOwn says k h i) e g
+own_of_same : (n m : ℕ) → n ≡ m → (asked : List (Option Entry)) (h i : List Entry)
+    → GrowsByOwn n asked h i → GrowsByOwn m asked h i
+own_of_same n m e asked h i g = subst (λ (k : ℕ). GrowsByOwn k asked h i) e g
 
-own_further : (says : Entry → Type 0) (n : ℕ) (h i j : List Entry) → GrowsByOwn says n h i
-    → GrowsByOwn says n i j → GrowsByOwn says n h j
-own_further says n h i j p q = (
-  p.0 ++ q.0,
-  q.1 ∙ (ap (λ (x : List Entry). x ++ q.0) p.1 ∙ append_assoc h p.0 q.0),
-  All-append (λ (e : Entry). (e.seat ≡ n) × says e) p.0 q.0 p.2 q.2,
-)
-
-pub goes_further : (says : Entry → Type 0) (d e f : Seated) → GoesOn says d e → GoesOn says e f
-    → GoesOn says d f
-goes_further says d e f p q = record {
-  moved = record {
-    opening = q.moved.opening ∙ p.moved.opening;
-    seat = q.moved.seat ∙ p.moved.seat;
-    begins = (
-      p.moved.begins.0 ++ q.moved.begins.0,
-      q.moved.begins.1
-          ∙ (ap (λ (x : List Entry). x ++ q.moved.begins.0) p.moved.begins.1
-          ∙ append_assoc d.seen p.moved.begins.0 q.moved.begins.0),
-    );
-  };
-  count = let a = p.count in let b = q.count in omega arith;
-  own = own_further says d.seat d.seen e.seen f.seen p.own
-      (own_of_same says e.seat d.seat p.moved.seat e.seen f.seen q.own);
+own_further : (n : ℕ) (p q : List (Option Entry)) (h i j : List Entry) → GrowsByOwn n p h i
+    → GrowsByOwn n q i j → GrowsByOwn n (p ++ q) h j
+own_further n p q h i j k l = record {
+  grown = l.grown
+      ∙ (ap (λ (x : List Entry). x ++ answered q) k.grown
+      ∙ (append_assoc h (answered p) (answered q)
+      ∙ ap (λ (x : List Entry). h ++ x) (sym (answered-append p q))));
+  own = subst (All (λ (e : Entry). e.seat ≡ n)) (sym (answered-append p q))
+      (All-append (λ (e : Entry). e.seat ≡ n) (answered p) (answered q) k.own l.own);
 }
+
+module _ {S : Type 0} (says : S → Entry → S → Type 0) (spends : S → S → Type 0) where
+  pub Chain-append : (p q : List (Option Entry)) (a b c : S) → Chain says spends a p b
+      → Chain says spends b q c → Chain says spends a (p ++ q) c
+  Chain-append [] q a b c h k = subst (λ (x : S). Chain says spends x q c) h k
+  Chain-append (None ∷ p) q a b c h k = (h.0, h.1, Chain-append p q h.0 b c h.2 k)
+  Chain-append (Some e ∷ p) q a b c h k = (h.0, h.1, Chain-append p q h.0 b c h.2 k)
+
+  pub goes_nowhere : (a : S) (d : Seated) → GoesOn says spends a d a d
+  goes_nowhere a d = record {
+    moved = record { opening = refl; seat = refl; begins = ([], sym (append-nil d.seen)) };
+    count = omega arith;
+    asked = [];
+    grows = record { grown = sym (append-nil d.seen); own = All-nil _ };
+    chain = refl;
+  }
+
+  pub goes_further : (a : S) (d : Seated) (b : S) (e : Seated) (c : S) (f : Seated)
+      → GoesOn says spends a d b e → GoesOn says spends b e c f → GoesOn says spends a d c f
+  goes_further a d b e c f p q = record {
+    moved = record {
+      opening = q.moved.opening ∙ p.moved.opening;
+      seat = q.moved.seat ∙ p.moved.seat;
+      begins = (
+        p.moved.begins.0 ++ q.moved.begins.0,
+        q.moved.begins.1
+            ∙ (ap (λ (x : List Entry). x ++ q.moved.begins.0) p.moved.begins.1
+            ∙ append_assoc d.seen p.moved.begins.0 q.moved.begins.0),
+      );
+    };
+    count = let m = p.count in let n = q.count in omega arith;
+    asked = p.asked ++ q.asked;
+    grows = own_further d.seat p.asked q.asked d.seen e.seen f.seen p.grows
+        (own_of_same e.seat d.seat p.moved.seat q.asked e.seen f.seen q.grows);
+    chain = Chain-append p.asked q.asked a b c p.chain q.chain;
+  }

@@ -1,6 +1,10 @@
-pub mod Served
 pub mod Story
+pub mod TreeCalls
+pub mod Answered
+pub mod Served
+pub mod Started
 pub mod Held
 pub mod Growth
+pub mod Chain
 pub mod Lending
 pub mod Borrowing

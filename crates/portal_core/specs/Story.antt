@@ -1,25 +1,37 @@
--- What a portal is to contracts: its opening state and its history.
-use Rattle.std.specs.Prelude.{◌≡◌, ◌+◌, ◌<◌, ◌≤◌, ℕ, List, [], ◌∷◌, ◌++◌}
+-- What a portal is to contracts: its devices, and its story.
+use Rattle.std.specs.Prelude.{◌≡◌, ◌+◌, ◌<◌, ◌≤◌, ℕ, List, Option}
+use Rattle.portal_base.specs.declared.files.File.{File}
 use Rattle.portal_model.specs.declared.entry.Entry.{Entry}
-use Rattle.portal_model.specs.declared.entry.Fault.TheVariants as Fault
 use Rattle.portal_model.specs.declared.opening.OpeningState.{OpeningState}
 use Rattle.portal_model.specs.declared.reply.Refused.{Refused}
 use Rattle.portal_model.specs.declared.reply.Refused.TheVariants.{Memory, Full}
-use Rattle.portal_model.specs.declared.reply.Reply.{Reply}
 use Rattle.portal_model.specs.declared.request.Request.{Request}
 use Rattle.portal_model.specs.History.{run, cost, cost_of}
-use Rattle.portal_model.specs.Lawful.{Lawful}
-use Rattle.portal_model.specs.Opening.{opened}
+use Rattle.portal_model.specs.Opening.{opened_over}
 use Rattle.portal_model.specs.State.{State}
-use Rattle.portal_model.specs.Step.{reply_at}
 
+-- the files that the tree began with, where it tells them; the opening state, which has an empty
+-- list of files; and the history
 pub record Story : Type 0 where
+  pub began : Option (List File)
   pub opening : OpeningState
   pub history : List Entry
 
+-- the four devices, and the story
+pub record PortalIs (T K C W : Type 0) : Type 0 where
+  pub tree : T
+  pub keeper : K
+  pub clock : C
+  pub words : W
+  pub story : Story
+
+-- the state that the history began in
+abbrev pub state_first : Story → State
+state_first p = opened_over p.began p.opening
+
 -- the state after the whole history
 abbrev pub state_now : Story → State
-state_now p = run (opened p.opening) p.history
+state_now p = run (state_first p) p.history
 
 -- the limit of the history's cost, in bytes
 abbrev pub limit_of : Story → ℕ
@@ -28,17 +40,6 @@ limit_of p = p.opening.limits.history
 -- what the history would cost with this request too
 abbrev pub cost_with : Story → Request → ℕ
 cost_with p request = cost p.history + cost_of request
-
--- the history grew by one lawful entry, of this seat and request, to which the step replies so; the
--- files in memory never fail
-pub record Answers (old new : Story) (seat : ℕ) (request : Request) (reply : Reply) : Type 0 where
-  pub entry : Entry
-  pub grown : new.history ≡ old.history ++ entry ∷ []
-  pub seat_is : entry.seat ≡ seat
-  pub request_is : entry.request ≡ request
-  pub lawful : Lawful (state_now old) entry
-  pub faultless : entry.given.fault ≡ Fault.None
-  pub reply_is : reply ≡ reply_at (state_now old) entry
 
 -- why a request is no entry: want of memory, which is free, or a history that would cost too much,
 -- told by both numbers

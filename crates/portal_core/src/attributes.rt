@@ -1,22 +1,17 @@
 //! FUSE_GETATTR: the attributes of a node, as `include/uapi/linux/fuse.h`
 //! lists them.
 
-ghost use Rattle.std.specs.Prelude.{◌≡◌, map, if◌then◌else◌, [], Some, None};
-ghost use Rattle.portal_model.specs.GetAttr.{by_look, by_handle_or_place, names_handle as is_by_handle, looks_at_place};
-ghost use Rattle.portal_model.specs.Content.{look_at as look_shown};
-ghost use Rattle.portal_model.specs.Opening.{file_of};
-ghost use Rattle.portal_core.specs.Served.{sight_in, taken};
+ghost use Rattle.std.specs.Prelude.{◌≡◌, Some, None};
+ghost use Rattle.portal_core.specs.Served.{GetsAttr, by_look, by_looks, sight_in, taken};
 
 use crate::place::{FileSight, sight_at};
-use crate::tree::look_at;
-use document_records::Grants;
+use document_records::{Documents, Grants};
+use host_tree::{HostTree, LookAnswer};
 use portal_base::files::Look;
 use portal_base::who::Who;
-use portal_model::errno::{EBADF, ENOENT};
-use portal_model::opening::FileItem;
+use portal_model::errno::{EBADF, EIO, ENOENT};
 use portal_model::reply::{Answer, Attr, Code, NodeAnswer};
 use portal_model::request::{NodeRequest, names_handle};
-use portal_model::state::Document;
 
 /// A file that its owner may read.
 const FILE_MODE: u32 = 0o100400;
@@ -33,8 +28,8 @@ const PREFERRED_SIZE: u32 = 4096;
 pub struct NodeDone {
     /// The answer.
     pub answer: Answer,
-    /// What the tree showed.
-    pub look: Option<Look>,
+    /// What the tree answered, where it was asked.
+    pub look: Option<LookAnswer>,
 }
 
 impl NodeDone {
@@ -49,26 +44,21 @@ impl NodeDone {
     }
 }
 
-/// Answers a caller's GETATTR of a node with these flags, over the portal's
-/// lists.
+/// Answers a caller's GETATTR of a node with these flags.
 ///
 /// A request that names a handle is refused, since no connection has one
 /// yet.
-pub fn get_attr(
-    documents: &[Document],
+pub fn get_attr<T: HostTree>(
+    tree: &mut T,
+    documents: &Documents,
     rights: &Grants,
-    files: &[FileItem],
     who: &Who,
     request: &NodeRequest,
     flags: u32,
 ) -> NodeDone
-    ensures answer { result.answer
-        ≡ by_handle_or_place request.now flags
-        (sight_in documents.now rights.now who.now request.now.node) (taken result.look) }
-    ensures look { taken result.look
-        ≡ (if is_by_handle flags then []
-        else looks_at_place (look_shown (map file_of files.now))
-        (sight_in documents.now rights.now who.now request.now.node)) }
+    ensures { GetsAttr request.now flags
+        (sight_in documents.now.live rights.now who.now request.now.node) (T.is tree.old)
+        result.answer result.look (T.is tree.new) }
 {
     if names_handle(flags) {
         return NodeDone::refused(Code::Errno(EBADF));
@@ -76,12 +66,21 @@ pub fn get_attr(
     match sight_at(documents, rights, who, request.node) {
         None => NodeDone::refused(Code::Errno(ENOENT)),
         Some(FileSight { path, may_write }) => {
-            let look = look_at(files, path.as_bytes());
+            let look = tree.look(path);
             NodeDone {
-                answer: answer_by_look(request, may_write, look),
+                answer: answer_to_look(request, may_write, look),
                 look: Some(look),
             }
         }
+    }
+}
+
+fn answer_to_look(request: &NodeRequest, may_write: bool, look: LookAnswer) -> Answer
+    ensures { result ≡ by_looks request.now may_write (taken (Some look)) }
+{
+    match look {
+        LookAnswer::Is(shown) => answer_by_look(request, may_write, shown),
+        LookAnswer::Failed => Answer::Refused(Code::Errno(EIO)),
     }
 }
 

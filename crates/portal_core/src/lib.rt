@@ -1,22 +1,25 @@
-//! The portal: it answers requests one at a time, and keeps the history of
-//! all that it answered.
+//! The portal: it answers requests one at a time, over the tree of files and the
+//! records that a keeper loads, and keeps the history of all that it answered.
 //!
 //! **It promises** that an answer is that of one step of the sequential portal, at
-//! the end of one legal history which grows by this one entry; that a refusal
-//! changes nothing; and that the Leave of an open connection is never refused. It
-//! is asked nothing but what has a body: Enter, Leave, Collect and GETATTR.
+//! the end of one legal history which grows by this one entry; that just the calls
+//! of its devices were made that the step reaches; that a refusal changes nothing;
+//! and that the Leave of an open connection is never refused. It is asked nothing
+//! but what has a body: Enter, Leave, Collect and GETATTR. It starts exactly where
+//! the records are good, and else says what is wrong and hands the devices back.
 //!
 //! | Room | Holds |
 //! |---|---|
 //! | `portal` | [`portal::Portal`]: the state as lists, and `ask` |
+//! | `start` | why a portal doesn't start, and what it starts with |
 //! | `storied` | [`storied::Storied`]: what anything that keeps a history promises |
 //! | `local_desk` | [`local_desk::LocalDesk`]: the desk of one seat, on one thread |
 //! | `opening` | the lists that an opening state begins with |
-//! | `lists`, `place`, `tree` | what is looked up among connections, documents and files |
+//! | `lists`, `place` | what is looked up among connections and documents |
 //! | `attributes` | GETATTR |
 //!
 //! ```text
-//! let mut portal = Portal::start(alloc, &opening)?;
+//! let mut portal = Portal::start(alloc, tree, keeper, clock, words, limits)?;
 //! let reply = portal.ask(alloc, 1, Request::Enter { who: Who::Host, kind: Kind::Bus })?;
 //! ```
 #![tactic(auto)]
@@ -27,5 +30,5 @@ pub mod local_desk;
 mod opening;
 mod place;
 pub mod portal;
+pub mod start;
 pub mod storied;
-mod tree;

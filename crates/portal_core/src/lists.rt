@@ -2,7 +2,7 @@
 
 ghost use Rattle.std.specs.Prelude.{◌≡◌, option_copied};
 ghost use Rattle.portal_model.specs.Rights.{held_by};
-ghost use Rattle.portal_model.specs.State.{connection_of as open_connection, document_of as live_document};
+ghost use Rattle.portal_model.specs.State.{connection_of as open_connection};
 ghost use Rattle.portal_model.specs.Leave.{of_others as connections_of_others};
 ghost use Rattle.portal_model.specs.Step.{bus_of as open_bus, mount_of as open_mount};
 
@@ -10,7 +10,7 @@ use document_records::Grants;
 use portal_base::list::List;
 use portal_base::names::DocId;
 use portal_base::who::{Kind, Who};
-use portal_model::state::{Connection, Document};
+use portal_model::state::Connection;
 use rights_rule::Rights;
 
 /// The open connection of a seat.
@@ -20,15 +20,6 @@ pub fn connection_of(connections: &[Connection], seat: u32) -> Option<&Connectio
     connections
         .iter()
         .find(|connection| connection.seat == seat)
-}
-
-/// The live document of a number.
-pub fn document_of(documents: &[Document], number: u32) -> Option<&Document>
-    ensures { option_copied result ≡ live_document documents.now number }
-{
-    documents
-        .iter()
-        .find(|document| document.id.number == number)
 }
 
 /// The rights of a caller in the live document of a number.

@@ -54,9 +54,11 @@ impl<'a, S: Storied> Desk for LocalDesk<'a, S> {
         (S.entries d.portal.now) d.seat d.refusals };
 
     ghost goes = { λ d e. (e.portal.ghost_name ≡ d.portal.ghost_name)
-        × GoesOn S.says (seated_at (S.opening d.portal.now)
-        (S.entries d.portal.now) d.seat d.refusals)
-        (seated_at (S.opening e.portal.now) (S.entries e.portal.now) e.seat e.refusals) };
+        × GoesOn S.says S.spends
+        d.portal.now (seated_at (S.opening d.portal.now) (S.entries d.portal.now) d.seat
+        d.refusals)
+        e.portal.now (seated_at (S.opening e.portal.now) (S.entries e.portal.now) e.seat
+        e.refusals) };
 
     fn ask(&mut self, alloc: Global, request: Request) -> Result<Reply, Refused> {
         match self.portal.ask(alloc, self.seat, request) {
@@ -72,7 +74,7 @@ impl<'a, S: Storied> Desk for LocalDesk<'a, S> {
         self.portal.known();
     }
 
-    ghost stands = { λ d. (refl, goes_nowhere S.says _) };
+    ghost stands = { λ d. (refl, goes_nowhere S.says S.spends _ _) };
 
-    ghost follows = { λ d e f h k. (k.0 ∙ h.0, goes_further S.says _ _ _ h.1 k.1) };
+    ghost follows = { λ d e f h k. (k.0 ∙ h.0, goes_further S.says S.spends _ _ _ _ _ _ h.1 k.1) };
 }

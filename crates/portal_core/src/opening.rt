@@ -1,46 +1,155 @@
-//! The portal's lists in an opening state.
+//! The opening state that stands for records, and the portal's lists in it.
 
-ghost use Rattle.std.specs.Prelude.{◌≡◌, cond, map, true, IfOk, OnOk};
-ghost use Rattle.std.specs.List.{list_all};
-ghost use Rattle.portal_base.specs.Names.{is_app_name, is_host_path};
-ghost use Rattle.portal_model.specs.Opening.{document_kept, rights_kept, set_of_bits as set_kept, with_grant, with_grants};
+ghost use Rattle.std.specs.Prelude.{◌≡◌, ◌≢◌, ◌<◌, ◌≤◌, ◌^◌, ◌++◌, ◌∷◌, [], cond, length, map, nat_eq, true, false, IfOk, OnOk};
+ghost use Rattle.std.specs.List.{All, IsDistinct, list_all};
+ghost use Rattle.document_records.specs.Documents.{room, with_document};
+ghost use Rattle.portal_base.specs.Names.{is_app_name, is_host_path, is_same};
+ghost use Rattle.portal_model.specs.Opening.{document_kept, id_of, rights_kept, set_of_bits as set_kept, with_grant, with_grants};
 ghost use Rattle.portal_model.specs.Rights.{are_in_order};
+ghost use Rattle.portal_model.specs.Valid.{applications_limit, is_made};
+ghost use Rattle.record_keeper.specs.BadRecords.{applications_of};
+ghost use Rattle.record_keeper.specs.SoundRecords.{IsSoundDocument};
 ghost use Rattle.rights_rule.specs.Rights.{no_rights};
+ghost use Rattle.portal_core.specs.Started.{document_loaded, given_by, is_narrow, opening_loaded};
 
-use document_records::Grants;
+use document_records::{Applications, DocError, Documents, Grant, Grants};
+use portal_base::limits::Limits;
 use portal_base::list::List;
-use portal_base::memory::{Replica, WantOfMemory};
+use portal_base::memory::WantOfMemory;
 use portal_base::names::{AppId, DocId, HostPath, NameError};
 use portal_model::opening::{OpeningDocument, OpeningState};
-use portal_model::records::GrantRecord;
+use portal_model::records::{DocRecord, GrantRecord, Records};
 use portal_model::state::Document;
+use record_keeper::Named;
 use rights_rule::Rights;
 use std::alloc::Global;
 
-/// A copy of an opening state.
-pub fn copied(alloc: Global, opening: &OpeningState) -> Result<OpeningState, WantOfMemory>
-    ensures { IfOk result (λ copy. copy ≡ opening.now) }
+/// The opening state that stands for records. Its list of files is empty.
+pub fn opening_loaded(
+    alloc: Global,
+    records: Records,
+    limits: &Limits,
+) -> Result<OpeningState, WantOfMemory>
+    requires { All IsSoundDocument records.documents }
+    ensures state { IfOk result (λ opening. opening ≡ opening_loaded limits.now records) }
+    ensures narrow { IfOk result (λ opening. list_all is_narrow opening.made ≡ true) }
 {
+    let made = numbers_of(alloc, records.documents.as_slice())?;
+    let applications = names_of(alloc, records.documents.as_slice())?;
+    let Records {
+        version: _,
+        documents,
+        entries,
+    } = records;
     Ok(OpeningState {
-        limits: opening.limits,
-        documents: opening.documents.replica(alloc)?,
-        made: List::copied(alloc, opening.made.as_slice())?,
-        applications: opening.applications.replica(alloc)?,
-        entries: opening.entries.replica(alloc)?,
-        files: opening.files.replica(alloc)?,
+        limits: *limits,
+        documents: persistent(alloc, documents)?,
+        made,
+        applications,
+        entries,
+        files: List::new(alloc),
     })
 }
 
-/// The live documents.
-pub fn documents(alloc: Global, items: &[OpeningDocument]) -> Result<List<Document>, WantOfMemory>
-    requires { list_all (λ d. is_host_path d.path) (map document_kept items.now) ≡ true }
-    ensures { IfOk result (λ list. list ≡ map document_kept items.now) }
+/// The numbers of kept documents, which have 32 bits.
+fn numbers_of(alloc: Global, items: &[DocRecord]) -> Result<List<DocId>, WantOfMemory>
+    ensures numbers { IfOk result (λ numbers. numbers ≡ map (λ d. id_of d.number) items.now) }
+    ensures narrow { IfOk result (λ numbers. list_all is_narrow numbers ≡ true) }
+{
+    let mut numbers = List::new(alloc);
+    for item in items {
+        add_number(&mut numbers, item)?;
+    }
+    Ok(numbers)
+}
+
+/// Adds the number of a kept document.
+fn add_number(numbers: &mut List<DocId>, item: &DocRecord) -> Result<(), WantOfMemory>
+    requires { list_all is_narrow numbers.old ≡ true }
+    ensures numbers { OnOk result (numbers.new ≡ numbers.old ++ id_of item.now.number ∷ []) }
+    ensures narrow { OnOk result (list_all is_narrow numbers.new ≡ true) }
+{
+    let number = number_of(item);
+    numbers.push(DocId { number })?;
+    Ok(())
+}
+
+/// The number of a kept document.
+fn number_of(item: &DocRecord) -> u32
+    ensures { result ≡ item.now.number }
+{
+    item.number
+}
+
+/// The applications that kept documents give rights to, as they first name
+/// them.
+fn names_of(alloc: Global, items: &[DocRecord]) -> Result<List<AppId>, WantOfMemory>
+    requires { All IsSoundDocument items.now }
+    ensures { IfOk result (λ names. names ≡ applications_of items.now) }
+{
+    let mut named = Named::new(alloc);
+    for item in items {
+        named.add_granted(alloc, item.grants.as_slice())?;
+    }
+    Ok(named.into_names())
+}
+
+/// Kept documents as documents that persist.
+fn persistent(alloc: Global, items: List<DocRecord>) -> Result<List<OpeningDocument>, WantOfMemory>
+    ensures { IfOk result (λ documents. documents ≡ map document_loaded items) }
 {
     let mut documents = List::new(alloc);
-    for item in items {
-        documents.push(document(alloc, item)?)?;
+    for kept in items.into_vec() {
+        documents.push(OpeningDocument {
+            kept,
+            persistent: true,
+        })?;
     }
     Ok(documents)
+}
+
+/// The live documents, and the numbers that were made, which are theirs.
+pub fn documents(
+    alloc: Global,
+    items: &[OpeningDocument],
+    limits: &Limits,
+) -> Result<Documents, WantOfMemory>
+    requires paths { list_all (λ d. is_host_path d.path) (map document_kept items.now) ≡ true }
+    requires differ { IsDistinct nat_eq (map (λ d. d.kept.number) items.now) }
+    requires live { length items.now ≤ limits.now.documents }
+    requires made { length items.now ≤ limits.now.made }
+    requires limit { limits.now.made < 2 ^ 32 }
+    ensures { IfOk result (λ documents. documents ≡ record {
+      most_live = limits.now.documents;
+      most_made = limits.now.made;
+      live = map document_kept items.now;
+      made = map (λ d. id_of d.kept.number) items.now;
+    }) }
+{
+    let mut documents = Documents::new(alloc, limits);
+    for item in items {
+        add_document(alloc, &mut documents, item)?;
+    }
+    Ok(documents)
+}
+
+/// Adds a document whose number is new, where there is room.
+fn add_document(
+    alloc: Global,
+    documents: &mut Documents,
+    item: &OpeningDocument,
+) -> Result<(), WantOfMemory>
+    requires path { is_host_path item.now.kept.path ≡ true }
+    requires new { is_made documents.old.made item.now.kept.number ≡ false }
+    requires room { room documents.old ≢ 0 }
+    ensures { OnOk result (documents.new ≡ with_document documents.old (document_kept item.now)) }
+{
+    let document = document(alloc, item)?;
+    match documents.add(document) {
+        Ok(()) => Ok(()),
+        Err(DocError::Memory) => Err(WantOfMemory),
+        Err(DocError::Full { .. }) => unreachable!(),
+    }
 }
 
 fn document(alloc: Global, item: &OpeningDocument) -> Result<Document, WantOfMemory>
@@ -57,30 +166,45 @@ fn document(alloc: Global, item: &OpeningDocument) -> Result<Document, WantOfMem
     })
 }
 
+/// The numbered applications, which differ.
+pub fn applications(alloc: Global, names: &[AppId]) -> Result<Applications, WantOfMemory>
+    requires differ { IsDistinct is_same names.now }
+    requires few { length names.now ≤ applications_limit }
+    ensures { IfOk result (λ applications. applications ≡ names.now) }
+{
+    let mut applications = Applications::new(alloc);
+    for name in names {
+        applications.number(name)?;
+    }
+    Ok(applications)
+}
+
 /// The rights that are held in the documents.
 pub fn rights(alloc: Global, items: &[OpeningDocument]) -> Result<Grants, WantOfMemory>
     requires { list_all (λ t. is_app_name t.app) (rights_kept items.now) ≡ true }
     ensures { IfOk result (λ rights. rights ≡ rights_kept items.now) }
 {
-    let mut rights = Grants::new(alloc);
+    let mut grants = List::new(alloc);
     for item in items {
-        add_document(alloc, &mut rights, item)?;
+        add_grants(alloc, &mut grants, item)?;
     }
-    Ok(rights)
+    Grants::of(alloc, grants)
 }
 
-fn add_document(
+/// Adds the rights of a document to those that are given together.
+fn add_grants(
     alloc: Global,
-    rights: &mut Grants,
+    grants: &mut List<Grant>,
     item: &OpeningDocument,
 ) -> Result<(), WantOfMemory>
-    requires order { are_in_order rights.old ≡ true }
-    requires names { list_all (λ t. is_app_name t.app) (with_grants rights.old item.now) ≡ true }
-    ensures { OnOk result (rights.new ≡ with_grants rights.old item.now) }
+    requires order { are_in_order (given_by grants.old) ≡ true }
+    requires names { list_all (λ t. is_app_name t.app) (with_grants (given_by grants.old) item.now)
+        ≡ true }
+    ensures { OnOk result (given_by grants.new ≡ with_grants (given_by grants.old) item.now) }
 {
     let number = item.kept.number;
     for grant in item.kept.grants.as_slice() {
-        add_grant(alloc, rights, number, grant)?;
+        add_grant(alloc, grants, number, grant)?;
     }
     Ok(())
 }
@@ -89,21 +213,24 @@ fn add_document(
 /// some.
 fn add_grant(
     alloc: Global,
-    rights: &mut Grants,
+    grants: &mut List<Grant>,
     number: u32,
     grant: &GrantRecord,
 ) -> Result<(), WantOfMemory>
-    requires order { are_in_order rights.old ≡ true }
-    requires names { list_all (λ t. is_app_name t.app) (with_grant number rights.old grant.now)
-        ≡ true }
-    ensures { OnOk result (rights.new ≡ with_grant number rights.old grant.now) }
+    requires order { are_in_order (given_by grants.old) ≡ true }
+    requires names { list_all (λ t. is_app_name t.app)
+        (with_grant number (given_by grants.old) grant.now) ≡ true }
+    ensures { OnOk result
+        (given_by grants.new ≡ with_grant number (given_by grants.old) grant.now) }
 {
-    let given = set_of_bits(grant.rights);
-    if given.is_empty() {
+    let rights = set_of_bits(grant.rights);
+    if rights.is_empty() {
         return Ok(());
     }
     let app = known_name(alloc, grant.app.as_slice())?;
-    rights.add(&app, DocId { number }, given)
+    let id = DocId { number };
+    grants.push(Grant { id, app, rights })?;
+    Ok(())
 }
 
 /// The rights that a record's number stands for.

@@ -4,12 +4,11 @@ ghost use Rattle.std.specs.Prelude.{◌≡◌, Some, None, MatchOption};
 ghost use Rattle.portal_model.specs.Place.{SightOfFile};
 ghost use Rattle.portal_core.specs.Served.{sight_in};
 
-use crate::lists::{document_of, rights_of};
-use document_records::Grants;
-use portal_base::names::HostPath;
+use crate::lists::rights_of;
+use document_records::{Documents, Grants};
+use portal_base::names::{DocId, HostPath};
 use portal_base::who::Who;
 use portal_model::place::file_number;
-use portal_model::state::Document;
 use rights_rule::Rights;
 
 /// A document's file, as a caller sees it.
@@ -23,17 +22,17 @@ pub struct FileSight<'a> {
 /// What a caller sees at a node: a document's file where it has the right to
 /// read the document.
 pub fn sight_at<'a>(
-    documents: &'a [Document],
+    documents: &'a Documents,
     rights: &Grants,
     who: &Who,
     node: u64,
 ) -> Option<FileSight<'a>>
-    ensures { MatchOption result (sight_in documents.now rights.now who.now node ≡ None)
-        (λ sight. sight_in documents.now rights.now who.now node
+    ensures { MatchOption result (sight_in documents.now.live rights.now who.now node ≡ None)
+        (λ sight. sight_in documents.now.live rights.now who.now node
         ≡ Some (SightOfFile sight.path.now sight.may_write)) }
 {
     let number = file_number(node)?;
-    let document = document_of(documents, number)?;
+    let document = documents.find(DocId { number })?;
     let held = rights_of(rights, who, document.id.number);
     if !held.contains(Rights::READ) {
         return None;

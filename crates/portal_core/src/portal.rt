@@ -1,130 +1,212 @@
 //! The portal.
 
-ghost use Rattle.std.specs.Prelude.{◌≡◌, ◌<◌, ◌≤◌, ◌^◌, [], length, true, IfErr, IfOk, IsOk, OnErr, OnOk, option_copied};
+ghost use Rattle.std.specs.Prelude.{◌≡◌, ◌<◌, ◌≤◌, ◌^◌, [], ◌∷◌, length, true, IfErr, IfOk, IsOk, OnErr, OnOk, Some, None, option_copied};
 ghost use Rattle.portal_model.specs.Built.{Built, BuiltOp};
 ghost use Rattle.portal_model.specs.History.{Legal, cost};
 ghost use Rattle.portal_model.specs.Enter.{new_connection};
-ghost use Rattle.portal_model.specs.Opening.{opened};
 ghost use Rattle.portal_model.specs.Seated.{is_open};
-ghost use Rattle.portal_model.specs.Step.{reply_with};
+ghost use Rattle.portal_model.specs.State.{connection_of as open_connection};
+ghost use Rattle.portal_model.specs.Step.{mount_of as open_mount, reply_with};
 ghost use Rattle.portal_model.specs.Valid.{Valid, is_caller};
-ghost use Rattle.portal_core.specs.Served.{Serves, collect_answer as answer_of_bus, entry_of, taken};
-ghost use Rattle.portal_core.specs.Story.{Answers, HasCause, cost_with, limit_of, state_now};
+ghost use Rattle.portal_core.specs.Answered.{Answers, KeepsState, TellsFault};
+ghost use Rattle.portal_core.specs.Held.{told_files};
+ghost use Rattle.portal_core.specs.Served.{NodeServed, collect_answer as answer_of_bus, entry_of, fault_of, taken};
+ghost use Rattle.portal_core.specs.Started.{HandsBack, Starts};
+ghost use Rattle.portal_core.specs.Story.{HasCause, cost_with, limit_of, state_first, state_now};
 
 use crate::attributes::{NodeDone, get_attr};
 use crate::lists::{bus_of, connection_of, mount_of, of_others};
-use crate::opening;
-use document_records::Grants;
+use crate::start::{Lists, StartRefusal, load};
+use document_records::{Applications, Documents, Grants};
+use host_tree::{HostTree, LookAnswer};
 use portal_base::files::Look;
+use portal_base::limits::Limits;
 use portal_base::list::List;
 use portal_base::memory::{Replica, WantOfMemory};
+use portal_base::outside::{Clock, Words};
 use portal_base::who::{Kind, Who};
 use portal_history::{History, cost_of};
 use portal_model::entry::{Entry, Fault, Given};
 use portal_model::opening::OpeningState;
 use portal_model::reply::{Answer, Code, Refused, Reply};
 use portal_model::request::{NodeOp, NodeRequest, Request};
-use portal_model::state::{Connection, Document};
+use portal_model::state::Connection;
+use record_keeper::Keeper;
 use std::alloc::Global;
 use std::marker::Model;
 use std::mem;
 
-/// A portal over plain lists and the files of its opening state.
+/// A portal over a tree of files, a keeper of records, a clock and words.
 ///
-/// Contracts see its opening state and its history. The history is legal, and
-/// the portal is in the state after it.
+/// Contracts see the four devices, the opening state, the files that the tree
+/// began with, and the history. The history is legal, and the portal is in the
+/// state after it: a tree that tells has the files of that state, and a keeper
+/// that tells the records that stand for it.
 #[derive(Drop)]
-pub struct Portal {
+pub struct Portal<T: HostTree, K: Keeper, C: Clock, W: Words> {
+    tree: T,
+    keeper: K,
+    clock: C,
+    words: W,
     opening: OpeningState,
-    documents: List<Document>,
+    documents: Documents,
     rights: Grants,
+    applications: Applications,
     connections: List<Connection>,
     history: History,
 }
 
-impl Model for Portal {
-    ghost use Rattle.std.specs.Prelude.{◌≤◌, length};
-    ghost use Rattle.portal_core.specs.Story.{Story};
-    ghost use Rattle.portal_core.specs.Held.{Stands};
+impl<T: HostTree, K: Keeper, C: Clock, W: Words> Model for Portal<T, K, C, W> {
+    ghost use Rattle.std.specs.Prelude.{◌≡◌, ◌≤◌, length};
+    ghost use Rattle.portal_core.specs.Answered.{KeepsState};
+    ghost use Rattle.portal_core.specs.Held.{Stands, state_of};
+    ghost use Rattle.portal_core.specs.Story.{PortalIs};
 
-    ghost Value = { Story };
+    ghost Value = { PortalIs T K C W };
 
-    ghost view = { λ p. record { opening = p.opening; history = p.history.entries } };
+    ghost view = { λ p. record {
+      tree = p.tree;
+      keeper = p.keeper;
+      clock = p.clock;
+      words = p.words;
+      story = record {
+        began = (T.is p.tree).began;
+        opening = p.opening;
+        history = p.history.entries;
+      };
+    } };
 
     // Room is kept for a Leave of each open connection.
-    ghost invariant = { λ p. Stands p.opening p.history.entries p.history.limit p.documents p.rights
-        p.connections
-        × (length p.connections ≤ p.history.spare) };
+    ghost invariant = { λ p. Stands (T.is p.tree).began p.opening p.history.entries p.history.limit
+        p.documents p.rights p.applications p.connections
+        × (length p.connections ≤ p.history.spare)
+        × ((T.is p.tree).told ≡ (T.is p.tree).began)
+        × KeepsState (K.is p.keeper).told
+        (state_of (T.is p.tree).began p.opening p.documents p.rights p.applications
+        p.connections) };
 }
 
-impl Portal {
-    /// A portal in an opening state, which is valid.
-    pub fn start(alloc: Global, opening: &OpeningState) -> Result<Portal, WantOfMemory>
-        requires { Valid (opened opening.now) }
-        ensures { IfOk result (λ portal. portal ≡ record { opening = opening.now; history = [] }) }
+impl<T: HostTree, K: Keeper, C: Clock, W: Words> Portal<T, K, C, W> {
+    /// A portal with the records that the keeper loads. Documents that were
+    /// kept persist; no other number was made; the applications are numbered
+    /// as the records first name them.
+    ///
+    /// Where no portal starts the devices come back. A tree that tells its
+    /// files has those that it began with.
+    pub fn start(
+        alloc: Global,
+        tree: T,
+        keeper: K,
+        clock: C,
+        words: W,
+        limits: Limits,
+    ) -> Result<Portal<T, K, C, W>, StartRefusal<T, K, C, W>>
+        requires made { limits.made < 2 ^ 32 }
+        requires queued { limits.queued < 2 ^ 32 }
+        requires told { (T.is tree).told ≡ (T.is tree).began }
+        ensures ok { IfOk result (Starts T.is K.is tree keeper clock words limits) }
+        ensures err { IfErr result (HandsBack K.is tree keeper clock words limits) }
     {
-        let documents = opening::documents(alloc, opening.documents.as_slice())?;
-        let rights = opening::rights(alloc, opening.documents.as_slice())?;
-        Ok(Portal {
-            opening: opening::copied(alloc, opening)?,
-            documents,
-            rights,
-            connections: List::new(alloc),
-            history: History::new(alloc, &opening.limits),
-        })
+        let mut keeper = keeper;
+        tree.known();
+        match load(alloc, &mut keeper, &limits) {
+            Ok(
+                Lists {
+                    opening,
+                    documents,
+                    rights,
+                    applications,
+                },
+            ) => Ok(Portal {
+                tree,
+                keeper,
+                clock,
+                words,
+                opening,
+                documents,
+                rights,
+                applications,
+                connections: List::new(alloc),
+                history: History::new(alloc, &limits),
+            }),
+            Err(error) => Err(StartRefusal {
+                error,
+                tree,
+                keeper,
+                clock,
+                words,
+            }),
+        }
+    }
+
+    /// The state that the history began in, with an empty list of files: its
+    /// files are those that the tree began with.
+    pub fn opening(&self) -> &OpeningState
+        ensures { result.now ≡ self.now.story.opening }
+    {
+        &self.opening
     }
 
     /// The history: every request that was answered, in order.
     pub fn history(&self) -> &History
-        ensures entries { result.now.entries ≡ self.now.history }
-        ensures limit { result.now.limit ≡ limit_of self.now }
+        ensures entries { result.now.entries ≡ self.now.story.history }
+        ensures limit { result.now.limit ≡ limit_of self.now.story }
     {
         &self.history
     }
 
     /// What is true of every portal: its history is legal, within its limit
-    /// and countable, and its state is valid.
+    /// and countable, its state is valid, and its devices tell the files and
+    /// the records of that state, where they tell.
     pub fn known(&self)
-        ensures legal { Legal (opened self.now.opening) self.now.history }
-        ensures valid { Valid (state_now self.now) }
-        ensures within { cost self.now.history ≤ limit_of self.now }
-        ensures short { length self.now.history < 2 ^ 64 }
+        ensures legal { Legal (state_first self.now.story) self.now.story.history }
+        ensures valid { Valid (state_now self.now.story) }
+        ensures within { cost self.now.story.history ≤ limit_of self.now.story }
+        ensures short { length self.now.story.history < 2 ^ 64 }
+        ensures told { (T.is self.now.tree).told ≡ told_files (state_now self.now.story) }
+        ensures kept { KeepsState (K.is self.now.keeper).told (state_now self.now.story) }
     {
         let _ = self.history.len();
     }
 
     /// Answers a request of a seat, which is a number from 1. The request is
-    /// one of those that have a body: an Enter, a Leave, a Collect or a
-    /// GETATTR.
+    /// one of those that have a body: an Enter, a Leave, a Collect, or a GETATTR
+    /// of a document's file in the caller's own view, by its node.
     ///
     /// The reply is that of one step of the sequential portal, from the state
-    /// after the history, which grows by this request. A refusal leaves the
-    /// portal as it was. `Full` comes exactly where the history with this
-    /// request would cost more than its limit; want of memory may come at any
-    /// other request, but not at the Leave of an open connection, which is
-    /// never refused.
+    /// after the history, which grows by this request. Just the calls of the
+    /// tree that the step reaches are made; EIO comes only where one of them
+    /// failed. A refusal leaves the portal as it was. `Full` comes exactly
+    /// where the history with this request would cost more than its limit;
+    /// want of memory may come at any other request, but not at the Leave of
+    /// an open connection, which is never refused.
     pub fn ask(&mut self, alloc: Global, seat: u32, request: Request) -> Result<Reply, Refused>
         requires seat { 1 ≤ seat }
         requires built { Built request }
 
-        ensures opening { self.new.opening ≡ self.old.opening }
-        ensures ok { IfOk result (Answers self.old self.new seat request) }
+        ensures began { self.new.story.began ≡ self.old.story.began }
+        ensures opening { self.new.story.opening ≡ self.old.story.opening }
+        ensures ok { IfOk result (Answers T.is self.old self.new seat request) }
+        ensures fault { IfOk result (TellsFault (T.is self.old.tree) (T.is self.new.tree)) }
         ensures err { OnErr result (self.new ≡ self.old) }
 
         // Both ways: it is full exactly where the cost would pass the limit.
-        ensures full { limit_of self.old < cost_with self.old request
-            → result ≡ Err (Refused.Full (cost self.old.history) (limit_of self.old)) }
-        ensures cause { IfErr result (HasCause self.old request) }
+        ensures full { limit_of self.old.story < cost_with self.old.story request
+            → result
+            ≡ Err (Refused.Full (cost self.old.story.history) (limit_of self.old.story)) }
+        ensures cause { IfErr result (HasCause self.old.story request) }
 
         // Enter took the room for it.
-        ensures leave { request ≡ Request.Leave → is_open (state_now self.old) seat ≡ true
+        ensures leave { request ≡ Request.Leave → is_open (state_now self.old.story) seat ≡ true
             → IsOk result }
 
         // Whatever it answers.
-        ensures legal { Legal (opened self.new.opening) self.new.history }
-        ensures valid { Valid (state_now self.new) }
-        ensures within { cost self.new.history ≤ limit_of self.new }
-        ensures short { length self.new.history < 2 ^ 64 }
+        ensures legal { Legal (state_first self.new.story) self.new.story.history }
+        ensures valid { Valid (state_now self.new.story) }
+        ensures within { cost self.new.story.history ≤ limit_of self.new.story }
+        ensures short { length self.new.story.history < 2 ^ 64 }
+        ensures told { (T.is self.new.tree).told ≡ told_files (state_now self.new.story) }
+        ensures kept { KeepsState (K.is self.new.keeper).told (state_now self.new.story) }
     {
         let answered = self.answer(alloc, seat, request);
         self.known();
@@ -133,13 +215,16 @@ impl Portal {
 
     fn answer(&mut self, alloc: Global, seat: u32, request: Request) -> Result<Reply, Refused>
         requires { Built request }
-        ensures opening { self.new.opening ≡ self.old.opening }
-        ensures ok { IfOk result (Answers self.old self.new seat request) }
+        ensures began { self.new.story.began ≡ self.old.story.began }
+        ensures opening { self.new.story.opening ≡ self.old.story.opening }
+        ensures ok { IfOk result (Answers T.is self.old self.new seat request) }
+        ensures fault { IfOk result (TellsFault (T.is self.old.tree) (T.is self.new.tree)) }
         ensures err { OnErr result (self.new ≡ self.old) }
-        ensures full { limit_of self.old < cost_with self.old request
-            → result ≡ Err (Refused.Full (cost self.old.history) (limit_of self.old)) }
-        ensures cause { IfErr result (HasCause self.old request) }
-        ensures leave { request ≡ Request.Leave → is_open (state_now self.old) seat ≡ true
+        ensures full { limit_of self.old.story < cost_with self.old.story request
+            → result
+            ≡ Err (Refused.Full (cost self.old.story.history) (limit_of self.old.story)) }
+        ensures cause { IfErr result (HasCause self.old.story request) }
+        ensures leave { request ≡ Request.Leave → is_open (state_now self.old.story) seat ≡ true
             → IsOk result }
     {
         self.check_cost(&request)?;
@@ -162,10 +247,11 @@ impl Portal {
     /// Refuses a request with which the history would cost too much.
     fn check_cost(&self, request: &Request) -> Result<(), Refused>
         ensures leave { request.now ≡ Request.Leave → IsOk result }
-        ensures fits { OnOk result (cost_with self.now request.now ≤ limit_of self.now) }
+        ensures fits { OnOk result
+            (cost_with self.now.story request.now ≤ limit_of self.now.story) }
         ensures full { IfErr result
-            (λ e. (e ≡ Refused.Full (cost self.now.history) (limit_of self.now))
-            × (limit_of self.now < cost_with self.now request.now)) }
+            (λ e. (e ≡ Refused.Full (cost self.now.story.history) (limit_of self.now.story))
+            × (limit_of self.now.story < cost_with self.now.story request.now)) }
     {
         let cost = self.history.cost();
         let limit = self.history.limit();
@@ -182,9 +268,11 @@ impl Portal {
         who: Who,
         kind: Kind,
     ) -> Result<Reply, WantOfMemory>
-        requires { cost_with self.old (Request.Enter who kind) ≤ limit_of self.old }
-        ensures opening { self.new.opening ≡ self.old.opening }
-        ensures ok { IfOk result (Answers self.old self.new seat (Request.Enter who kind)) }
+        requires { cost_with self.old.story (Request.Enter who kind) ≤ limit_of self.old.story }
+        ensures began { self.new.story.began ≡ self.old.story.began }
+        ensures opening { self.new.story.opening ≡ self.old.story.opening }
+        ensures ok { IfOk result (Answers T.is self.old self.new seat (Request.Enter who kind)) }
+        ensures fault { IfOk result (TellsFault (T.is self.old.tree) (T.is self.new.tree)) }
         ensures err { OnErr result (self.new ≡ self.old) }
     {
         check_caller(&who);
@@ -193,7 +281,7 @@ impl Portal {
             who: who.replica(alloc)?,
             kind,
         };
-        let entry = entry_made(alloc, seat, request, List::new(alloc));
+        let entry = entry_made(alloc, seat, request, List::new(alloc), Fault::None);
         // Besides the Leaves of the connections that are there, for this entry
         // and for the Leave of the new one.
         self.history.reserve(self.connections.as_slice().len() + 2)?;
@@ -213,28 +301,43 @@ impl Portal {
         seat: u32,
         request: NodeRequest,
     ) -> Result<Reply, WantOfMemory>
-        requires fits { cost_with self.old (Request.Node request) ≤ limit_of self.old }
-        requires built { BuiltOp request.op }
-        ensures opening { self.new.opening ≡ self.old.opening }
-        ensures ok { IfOk result (Answers self.old self.new seat (Request.Node request)) }
+        requires fits { cost_with self.old.story (Request.Node request)
+            ≤ limit_of self.old.story }
+        requires built { BuiltOp request.node request.op }
+        ensures began { self.new.story.began ≡ self.old.story.began }
+        ensures opening { self.new.story.opening ≡ self.old.story.opening }
+        ensures ok { IfOk result (Answers T.is self.old self.new seat (Request.Node request)) }
+        ensures fault { IfOk result (TellsFault (T.is self.old.tree) (T.is self.new.tree)) }
         ensures err { OnErr result (self.new ≡ self.old) }
     {
-        let NodeDone { answer, look } = self.serve(seat, &request);
-        let looks = looks_made(alloc, look)?;
-        let entry = entry_made(alloc, seat, Request::Node(request), looks);
+        // All memory is taken before the tree is asked.
+        let room = room_for_look(alloc)?;
         self.history.reserve(self.connections.as_slice().len() + 1)?;
+        let NodeDone { answer, look } = serve(
+            &mut self.tree,
+            &self.documents,
+            &self.rights,
+            self.connections.as_slice(),
+            seat,
+            &request,
+        );
+        let fault = fault_shown(look);
+        let looks = looks_made(room, look);
+        let entry = entry_made(alloc, seat, Request::Node(request), looks, fault);
         self.history.push(entry);
         Ok(silent_reply(alloc, answer))
     }
 
     fn leave(&mut self, alloc: Global, seat: u32) -> Result<Reply, WantOfMemory>
-        ensures opening { self.new.opening ≡ self.old.opening }
-        ensures ok { IfOk result (Answers self.old self.new seat Request.Leave) }
+        ensures began { self.new.story.began ≡ self.old.story.began }
+        ensures opening { self.new.story.opening ≡ self.old.story.opening }
+        ensures ok { IfOk result (Answers T.is self.old self.new seat Request.Leave) }
+        ensures fault { IfOk result (TellsFault (T.is self.old.tree) (T.is self.new.tree)) }
         ensures err { OnErr result (self.new ≡ self.old) }
-        ensures here { is_open (state_now self.old) seat ≡ true → IsOk result }
+        ensures here { is_open (state_now self.old.story) seat ≡ true → IsOk result }
     {
         let is_here = connection_of(self.connections.as_slice(), seat).is_some();
-        let entry = entry_made(alloc, seat, Request::Leave, List::new(alloc));
+        let entry = entry_made(alloc, seat, Request::Leave, List::new(alloc), Fault::None);
         if !is_here {
             self.history.reserve(self.connections.as_slice().len() + 1)?;
             self.history.push(entry);
@@ -247,38 +350,58 @@ impl Portal {
     }
 
     fn collect(&mut self, alloc: Global, seat: u32) -> Result<Reply, WantOfMemory>
-        requires { cost_with self.old Request.Collect ≤ limit_of self.old }
-        ensures opening { self.new.opening ≡ self.old.opening }
-        ensures ok { IfOk result (Answers self.old self.new seat Request.Collect) }
+        requires { cost_with self.old.story Request.Collect ≤ limit_of self.old.story }
+        ensures began { self.new.story.began ≡ self.old.story.began }
+        ensures opening { self.new.story.opening ≡ self.old.story.opening }
+        ensures ok { IfOk result (Answers T.is self.old self.new seat Request.Collect) }
+        ensures fault { IfOk result (TellsFault (T.is self.old.tree) (T.is self.new.tree)) }
         ensures err { OnErr result (self.new ≡ self.old) }
     {
         let answer = collect_answer(bus_of(self.connections.as_slice(), seat));
-        let entry = entry_made(alloc, seat, Request::Collect, List::new(alloc));
+        let entry = entry_made(alloc, seat, Request::Collect, List::new(alloc), Fault::None);
         self.history.reserve(self.connections.as_slice().len() + 1)?;
         self.history.push(entry);
         Ok(silent_reply(alloc, answer))
     }
+}
 
-    /// Serves a request of a seat on a node, which changes nothing.
-    fn serve(&self, seat: u32, request: &NodeRequest) -> NodeDone
-        requires { BuiltOp request.now.op }
-        ensures { Serves (state_now self.now) seat request.now result.answer result.look }
+impl<T: HostTree, K: Keeper, C: Clock, W: Words> Portal<T, K, C, W> {
+    ghost use Rattle.std.specs.Borrow.{Lends, sem};
+    ghost use Rattle.portal_core.specs.contracts.portal.Portal.{the_row};
+
+    /// The clock, through which nothing else changes.
+    pub fn clock_mut(&mut self) -> &mut C
+        ensures value { result.now ≡ self.old.clock }
+        ensures* lends { sem 𝓛 (Lends (the_row T.row K.row C.row W.row T.HostTree K.Keeper
+            C.Clock W.Words) C.row self.entry result
+            (λ clock. record self.old { clock = clock })) }
     {
-        let NodeOp::GetAttr { flags, .. } = &request.op else {
-            unreachable!();
-        };
-        let Some(connection) = mount_of(self.connections.as_slice(), seat) else {
-            return NodeDone::refused(Code::NotHere);
-        };
-        get_attr(
-            self.documents.as_slice(),
-            &self.rights,
-            self.opening.files.as_slice(),
-            &connection.who,
-            request,
-            *flags,
-        )
+        &mut self.clock
     }
+}
+
+/// Serves a request of a seat on a node, which changes nothing. It takes no
+/// memory.
+fn serve<T: HostTree>(
+    tree: &mut T,
+    documents: &Documents,
+    rights: &Grants,
+    connections: &[Connection],
+    seat: u32,
+    request: &NodeRequest,
+) -> NodeDone
+    requires { BuiltOp request.now.node request.now.op }
+    ensures { NodeServed documents.now.live rights.now
+        (open_mount (open_connection connections.now seat)) request.now (T.is tree.old)
+        result.answer result.look (T.is tree.new) }
+{
+    let NodeOp::GetAttr { flags, .. } = &request.op else {
+        unreachable!();
+    };
+    let Some(connection) = mount_of(connections, seat) else {
+        return NodeDone::refused(Code::NotHere);
+    };
+    get_attr(tree, documents, rights, &connection.who, request, *flags)
 }
 
 /// Nothing to do: an application's name keeps the rule of names by its type.
@@ -301,20 +424,44 @@ fn collect_answer(bus: Option<&Connection>) -> Answer
     }
 }
 
-/// The looks that were taken, of which there is one at most.
-fn looks_made(alloc: Global, look: Option<Look>) -> Result<List<Look>, WantOfMemory>
-    ensures { IfOk result (λ looks. looks ≡ taken look) }
+/// A list with room for one look.
+fn room_for_look(alloc: Global) -> Result<List<Look>, WantOfMemory>
+    ensures { IfOk result (λ room. room ≡ Look.Missing ∷ []) }
 {
-    let mut looks = List::new(alloc);
-    if let Some(look) = look {
-        looks.push(look)?;
-    }
-    Ok(looks)
+    let mut room = List::new(alloc);
+    room.push(Look::Missing)?;
+    Ok(room)
 }
 
-/// The entry of a request for which the tree showed these looks alone.
-fn entry_made(alloc: Global, seat: u32, request: Request, looks: List<Look>) -> Entry
-    ensures { result ≡ entry_of seat request looks }
+/// The looks that were taken, of which there is one at most.
+fn looks_made(room: List<Look>, look: Option<LookAnswer>) -> List<Look>
+    requires { room ≡ Look.Missing ∷ [] }
+    ensures { result ≡ taken look }
+{
+    let mut looks = room;
+    match look {
+        Some(LookAnswer::Is(shown)) => looks.set(0, shown),
+        Some(LookAnswer::Failed) => looks.truncate(0),
+        None => looks.truncate(0),
+    }
+    looks
+}
+
+/// Whether the tree failed.
+fn fault_shown(look: Option<LookAnswer>) -> Fault
+    ensures { result ≡ fault_of look }
+{
+    match look {
+        Some(LookAnswer::Is(_)) => Fault::None,
+        Some(LookAnswer::Failed) => Fault::Tree,
+        None => Fault::None,
+    }
+}
+
+/// The entry of a request for which the tree showed these looks alone, or
+/// failed.
+fn entry_made(alloc: Global, seat: u32, request: Request, looks: List<Look>, fault: Fault) -> Entry
+    ensures { result ≡ entry_of seat request looks fault }
 {
     Entry {
         seat,
@@ -325,7 +472,7 @@ fn entry_made(alloc: Global, seat: u32, request: Request, looks: List<Look>) -> 
             numbers: List::new(alloc),
             looks,
             full: false,
-            fault: Fault::None,
+            fault,
         },
     }
 }

@@ -7,8 +7,11 @@ ghost use Rattle.portal_model.specs.History.{Legal, cost, run};
 ghost use Rattle.portal_model.specs.Seated.{is_open};
 
 use crate::portal::Portal;
+use host_tree::HostTree;
+use portal_base::outside::{Clock, Words};
 use portal_model::reply::{Refused, Reply};
 use portal_model::request::Request;
+use record_keeper::Keeper;
 use std::alloc::Global;
 
 /// What answers requests of seats and keeps them all, as a portal does.
@@ -25,8 +28,12 @@ pub trait Storied {
     /// The entries, in order.
     ghost entries: { Self → List Entry };
 
-    /// What is true of each entry that it makes.
-    ghost says: { Entry → Type 0 };
+    /// What an answer does, of the value before, its entry and the value
+    /// after.
+    ghost says: { Self → Entry → Self → Type 0 };
+
+    /// What a refusal may do.
+    ghost spends: { Self → Self → Type 0 };
 
     /// Answers a request of a seat, which is a number from 1. The request is
     /// one that has a body.
@@ -44,8 +51,10 @@ pub trait Storied {
 
         ensures opening { opening self.new ≡ opening self.old }
         ensures answered { IfOk result
-            (GrowsBy says (opening self.old) (entries self.old) (entries self.new) seat request) }
+            (GrowsBy (λ e. says self.old e self.new) (opening self.old) (entries self.old)
+            (entries self.new) seat request) }
         ensures refused { OnErr result (entries self.new ≡ entries self.old) }
+        ensures spent { OnErr result (spends self.old self.new) }
 
         // Both ways: it is full exactly where the cost would pass the limit.
         ensures full { (opening self.old).limits.history < cost_after (entries self.old) request
@@ -73,16 +82,20 @@ pub trait Storied {
         ensures short { length (entries self.now) < 2 ^ 64 };
 }
 
-impl Storied for Portal {
-    ghost use Rattle.portal_model.specs.Opening.{opened};
-    ghost use Rattle.portal_core.specs.Lending.{is_faultless};
+impl<T: HostTree, K: Keeper, C: Clock, W: Words> Storied for Portal<T, K, C, W> {
+    ghost use Rattle.std.specs.Prelude.{◌≡◌};
+    ghost use Rattle.portal_core.specs.Answered.{Went};
+    ghost use Rattle.portal_core.specs.Story.{state_first};
 
-    ghost opening = { λ p. opened p.opening };
+    ghost opening = { λ p. state_first p.story };
 
-    ghost entries = { λ p. p.history };
+    ghost entries = { λ p. p.story.history };
 
-    // The files in memory never fail.
-    ghost says = { is_faultless };
+    // Just the calls of the tree that the step reaches were made.
+    ghost says = { Went T.is };
+
+    // No request that has a body draws words.
+    ghost spends = { λ p q. q ≡ p };
 
     fn ask(&mut self, alloc: Global, seat: u32, request: Request) -> Result<Reply, Refused> {
         Portal::ask(self, alloc, seat, request)

@@ -25,6 +25,7 @@ use Rattle.portal_model.proofs.DrawnNumbers.{Unused}
 use Rattle.portal_model.proofs.ListLookups.{found_in_all}
 use Rattle.portal_model.proofs.GrantValid.{given-sound}
 use Rattle.portal_model.proofs.LiveDocuments.{IsLiveId, live-again}
+use Rattle.portal_model.proofs.OpenHandles.{requeued-handles}
 use Rattle.portal_model.proofs.Queues.{dropped-connections, picked, queue_sound, sound-connected}
 use Rattle.portal_model.proofs.SoundParts.{Sound, is_live, sound-lists, sound-valid, valid-sound}
 
@@ -219,6 +220,7 @@ module _ (who : Who) (a : AddRequest) (caller : is_caller who ≡ true) (named :
 
 taken_by : (c : Connection) (a : AddRequest) (s : State) (b : Bool) → Sound s → Sound (cond b (with_queue c.seat (drop a.fds) s) s)
 taken_by c a s true k = sound-connected s (map (requeued c.seat (drop a.fds)) s.connections) k (dropped-connections s.limits.queued c.seat a.fds s.connections (k.connected.seats_differ, k.connected.connections_sound))
+    (requeued-handles c.seat s.limits.handles (drop a.fds) s.connections s.handles (record { differ = k.connected.handles_differ; sound = k.connected.handles_sound; within = k.connected.handles_within }))
 taken_by c a s false k = k
 
 pub taken-sound : (c : Connection) (a : AddRequest) (s : State) → Sound s → Sound (taken_from_queue c a s)

@@ -19,7 +19,7 @@ use Rattle.portal_model.specs.declared.state.Document.{Document}
 use Rattle.portal_model.specs.declared.state.Triple.{Triple}
 use Rattle.portal_model.specs.Add.{add, add_allowed, add_looking, add_presented, added, added_files, are_of_kind, may_list_all}
 use Rattle.portal_model.specs.AddArguments.{are_add_arguments, are_presented, document_paths, paths_shown}
-use Rattle.portal_model.specs.Allowed.{has_place, is_allowed, is_host, is_live, is_refusal, may_add, may_delete_in, may_grant_in, may_revoke_in}
+use Rattle.portal_model.specs.Allowed.{has_place, is_allowed, is_live, is_refusal, may_add, may_delete_in, may_grant_in, may_revoke_in}
 use Rattle.portal_model.specs.Arguments.{ahead_of_end, document_named, if_reached, is_ended_path, reached}
 use Rattle.portal_model.specs.Bus.{bus_walk, is_tree, kept, moment_given, refused_state, settled, verdict_given}
 use Rattle.portal_model.specs.Content.{look_at}
@@ -34,7 +34,7 @@ use Rattle.portal_model.specs.Outside.{LawfulBus, files_told}
 use Rattle.portal_model.specs.Present.{may_present, present, present_path, queue_path, with_queue}
 use Rattle.portal_model.specs.Revoke.{may_revoke, names_itself, revoke_reached, revoked}
 use Rattle.portal_model.specs.Rights.{held_by}
-use Rattle.portal_model.specs.State.{State, who_has}
+use Rattle.portal_model.specs.State.{is_host, State, who_has}
 use Rattle.portal_model.specs.Verdict.{Doing, Verdict, Refuses, Does, does, unless, walk_unless}
 use Rattle.portal_model.specs.Walk.{Walk, Answers, Gives, looks_at_all, walked}
 use Rattle.portal_model.proofs.BusLaws.{HoldsGiven, bus_walk-holds, walked-holds}

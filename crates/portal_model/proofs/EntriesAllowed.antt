@@ -1,36 +1,29 @@
 -- What an entry may ask is done.
-use Rattle.std.proofs.Common.{◌≡◌, ℕ, List, [], map, Bool, true, false, not, ◌&&◌, ◌||◌, cond, Option, Some, None, is_some, refl, ap, ◌∙◌}
+use Rattle.std.proofs.Common.{◌≡◌, ℕ, List, map, Bool, true, false, not, ◌&&◌, ◌||◌, Option, Some, None, is_some, refl, ap, ◌∙◌}
 use Rattle.std.specs.List.{list_all}
-use Rattle.portal_base.specs.declared.files.Look.{Look}
 use Rattle.portal_base.specs.declared.who.Who.{Who}
 use Rattle.portal_model.specs.declared.entry.Fault.{Fault}
 use Rattle.portal_model.specs.declared.entry.Given.{Given}
-use Rattle.portal_model.specs.declared.reply.Answer.{Answer}
-use Rattle.portal_model.specs.declared.reply.Code.{Code}
 use Rattle.portal_model.specs.declared.request.AddRequest.{AddRequest}
-use Rattle.portal_model.specs.declared.request.NodeOp.{NodeOp}
 use Rattle.portal_model.specs.declared.request.NodeRequest.{NodeRequest}
 use Rattle.portal_model.specs.declared.request.Request.{Request}
 use Rattle.portal_model.specs.declared.request.RightsCall.{RightsCall}
 use Rattle.portal_model.specs.declared.state.Connection.{Connection}
 use Rattle.portal_model.specs.declared.state.Document.{Document}
-use Rattle.portal_model.specs.Add.{are_of_kind, is_file, may_list}
+use Rattle.portal_model.specs.Add.{are_of_kind, may_list}
 use Rattle.portal_model.specs.AddArguments.{are_add_arguments, are_presented, document_paths, names_nobody, paths_shown}
-use Rattle.portal_model.specs.Allowed.{allowed, allowed_on_bus, allowed_on_mount, has_file, has_place, is_allowed, is_refusal, may_add, may_ask_node, may_delete_in, may_grant_in, may_revoke_in, place_on}
+use Rattle.portal_model.specs.Allowed.{allowed, allowed_on_bus, allowed_on_mount, has_place, is_allowed, is_refusal, limits_kept, may_add, may_delete_in, may_grant_in, may_revoke_in, node_within, place_on}
 use Rattle.portal_model.specs.Arguments.{document_named}
 use Rattle.portal_model.specs.Content.{look_at}
 use Rattle.portal_model.specs.DocumentLaws.{AllowedIsDone, ToldFor}
 use Rattle.portal_model.specs.Enter.{enter_answer}
-use Rattle.portal_model.specs.Errno.{ebadf}
-use Rattle.portal_model.specs.GetAttr.{by_handle_or_place, by_look, by_place, looks_at_place, names_handle}
 use Rattle.portal_model.specs.Grant.{are_rights_arguments}
 use Rattle.portal_model.specs.Lawful.{LawfulGiven, LawfulOnBus, LawfulOnNode}
 use Rattle.portal_model.specs.Leave.{leave_answer}
-use Rattle.portal_model.specs.Place.{Sight, SightOfFile, place_of}
 use Rattle.portal_model.specs.State.{State, connection_of}
-use Rattle.portal_model.specs.Step.{all_told, bus_of, bus_step, collect_step, mount_of, node_answer, node_looks, node_op_looks, node_step, request_step}
+use Rattle.portal_model.specs.Step.{all_told, bus_of, bus_step, collect_step, mount_of, node_step, request_step}
 use Rattle.portal_model.proofs.AllowedLaws.{bus-done}
-use Rattle.portal_model.proofs.LooksTaken.{looks_given}
+use Rattle.portal_model.proofs.NodeAllowed.{node-done}
 
 -- ---- a request on documents
 
@@ -83,31 +76,9 @@ on-bus s request given (Some c) t h k l e f =
 
 -- ---- a request on a node
 
-looked-at : (r : NodeRequest) (may_write : Bool) (look : Look) → is_file look ≡ true → is_refusal (by_look r may_write look) ≡ false
-looked-at r may_write (Look.File generation size moment) h = refl
-looked-at r may_write Look.Folder h = cc
-looked-at r may_write Look.Missing h = cc
-
-at-place : (s : State) (r : NodeRequest) (sight : Option Sight) → has_file s sight ≡ true → is_refusal (by_place r sight (looks_at_place (look_at s.files) sight)) ≡ false
-at-place s r None h = cc
-at-place s r (Some (SightOfFile path may_write)) h = looked-at r may_write (look_at s.files path) h
-
-by-handle : (s : State) (r : NodeRequest) (flags : ℕ) (b : Bool) (sight : Option Sight) → names_handle flags ≡ b → (not b && has_file s sight) ≡ true →
-    is_refusal (by_handle_or_place r flags sight (cond (names_handle flags) [] (looks_at_place (look_at s.files) sight))) ≡ false
-by-handle s r flags true sight e h = cc
-by-handle s r flags false sight e h =
-    (λ i. is_refusal (cond (e i) (Answer.Refused (Code.Errno ebadf)) (by_place r sight (cond (e i) [] (looks_at_place (look_at s.files) sight))))) ∙ at-place s r sight h
-
-node-done : (s : State) (c : Connection) (r : NodeRequest) (op : NodeOp) (given : Given) → may_ask_node s c.who r op ≡ true → given.looks ≡ node_op_looks s c.who r op →
-    is_refusal (node_answer (all_told c.seat s) c.who r op given).1 ≡ false
-node-done s c r (NodeOp.GetAttr flags fh) given h l =
-    ap (λ (looks : List Look). is_refusal (by_handle_or_place r flags (place_of s c.who r.node) looks)) l
-    ∙ by-handle s r flags (names_handle flags) (place_of s c.who r.node) refl h
-node-done s c r op given h l = cc
-
-on-mount : (s : State) (r : NodeRequest) (given : Given) (o : Option Connection) → s.told ≡ true → allowed_on_mount s r o ≡ true → LawfulOnNode s r given o → given.fault ≡ Fault.None → is_refusal (node_step s r given o).1.answer ≡ false
-on-mount s r given None t h l e = cc
-on-mount s r given (Some c) t h l e = node-done s c r r.op given h (looks_given s.told (node_looks s r (Some c)) given.looks given.fault t e l.looks)
+on-mount : (s : State) (r : NodeRequest) (given : Given) (o : Option Connection) → s.told ≡ true → allowed_on_mount s r o ≡ true → node_within s r.op o ≡ true → LawfulOnNode s r given o → given.fault ≡ Fault.None → is_refusal (node_step s r given o).1.answer ≡ false
+on-mount s r given None t h k l e = cc
+on-mount s r given (Some c) t h k l e = node-done (all_told c.seat s) c r given t h k l e
 
 -- ---- connections that open and close
 
@@ -125,12 +96,12 @@ collected-done s (Some c) h = refl
 
 -- ---- an entry
 
-step-done : (s : State) (seat : ℕ) (request : Request) (given : Given) → ToldFor s request → allowed s seat request ≡ true → place_on s request (bus_of (connection_of s.connections seat)) ≡ true → LawfulGiven s seat request given → given.fault ≡ Fault.None → given.full ≡ false →
+step-done : (s : State) (seat : ℕ) (request : Request) (given : Given) → ToldFor s request → allowed s seat request ≡ true → limits_kept s request (connection_of s.connections seat) ≡ true → LawfulGiven s seat request given → given.fault ≡ Fault.None → given.full ≡ false →
     is_refusal (request_step s seat request given).1.answer ≡ false
 step-done s seat (Request.Enter who kind) given t h k l e f = entered-done (connection_of s.connections seat) h
 step-done s seat Request.Leave given t h k l e f = left-done (connection_of s.connections seat) h
 step-done s seat Request.Collect given t h k l e f = collected-done s (bus_of (connection_of s.connections seat)) h
-step-done s seat (Request.Node r) given t h k l e f = on-mount s r given (mount_of (connection_of s.connections seat)) t h l e
+step-done s seat (Request.Node r) given t h k l e f = on-mount s r given (mount_of (connection_of s.connections seat)) t h k l e
 step-done s seat (Request.Present path) given t h k l e f = on-bus s (Request.Present path) given (bus_of (connection_of s.connections seat)) t h k l e f
 step-done s seat (Request.Add a) given t h k l e f = on-bus s (Request.Add a) given (bus_of (connection_of s.connections seat)) t h k l e f
 step-done s seat (Request.Grant call) given t h k l e f = on-bus s (Request.Grant call) given (bus_of (connection_of s.connections seat)) t h k l e f

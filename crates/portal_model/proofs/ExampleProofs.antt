@@ -6,7 +6,8 @@ use Rattle.std.specs.Str.{is_utf8, chars}
 use Rattle.portal_base.specs.Names.{is_host_path, is_app_name}
 use Rattle.portal_model.specs.Examples.{editor, other, a_text, read_write, of_other, of_nobody, AttributesOfGrantedFile, ForeignIsAsMissing, CostsOfRequests, AnswersOfSeats, LeaveAndCollect, FailedLook}
 use Rattle.portal_model.specs.Opening.{opened}
-use Rattle.portal_model.specs.Valid.{Valid}
+use Rattle.portal_model.specs.Valid.{Valid, IsValidEntry}
+use Rattle.std.proofs.lemmas.List.Elements.{All-nil}
 
 -- ---- the names in the examples are names
 
@@ -37,10 +38,14 @@ valid_read_write = record {
   rights_placed = refl;
   seats_differ = tt;
   connections_sound = refl;
+  handles_differ = tt;
+  handles_sound = refl;
+  handles_within = refl;
   entries_differ = tt;
-  entries_sound = refl;
+  entries_sound = All-nil IsValidEntry;
   files_differ = (tt, tt);
   files_apart = refl;
+  files_named = rw a_path refl;
   files_told = λ e. cc;
   documents_within = omega arith;
   made_within = omega arith;
@@ -62,10 +67,14 @@ valid_of_other = record {
   rights_placed = refl;
   seats_differ = tt;
   connections_sound = refl;
+  handles_differ = tt;
+  handles_sound = refl;
+  handles_within = refl;
   entries_differ = tt;
-  entries_sound = refl;
+  entries_sound = All-nil IsValidEntry;
   files_differ = (tt, tt);
   files_apart = refl;
+  files_named = rw a_path refl;
   files_told = λ e. cc;
   documents_within = omega arith;
   made_within = omega arith;
@@ -87,10 +96,14 @@ valid_of_nobody = record {
   rights_placed = refl;
   seats_differ = tt;
   connections_sound = refl;
+  handles_differ = tt;
+  handles_sound = refl;
+  handles_within = refl;
   entries_differ = tt;
-  entries_sound = refl;
+  entries_sound = All-nil IsValidEntry;
   files_differ = (tt, tt);
   files_apart = refl;
+  files_named = rw a_path refl;
   files_told = λ e. cc;
   documents_within = omega arith;
   made_within = omega arith;
@@ -106,15 +119,15 @@ costs = record { enter = refl; attributes = refl; leave = refl; collect = refl; 
 
 pub attributes : AttributesOfGrantedFile
 attributes = record {
-  legal = record { opening = valid_read_write; lawful = (record { defined = refl; given = (editor_name, refl) }, (record { defined = refl; given = record { clock = refl; words = refl; numbers = refl; full = refl; looks = refl } }, tt)) };
+  legal = record { opening = valid_read_write; lawful = (record { defined = refl; given = (editor_name, refl) }, (record { defined = refl; given = record { clock = refl; words = refl; numbers = refl; full = refl; keeper = λ e. cc; looks = (refl, (refl, refl)) } }, tt)) };
   replies_are = refl;
 }
 
 pub foreign : ForeignIsAsMissing
 foreign = record {
-  legal_foreign = record { opening = valid_of_other; lawful = (record { defined = refl; given = (editor_name, refl) }, (record { defined = refl; given = record { clock = refl; words = refl; numbers = refl; full = refl; looks = refl } }, tt)) };
+  legal_foreign = record { opening = valid_of_other; lawful = (record { defined = refl; given = (editor_name, refl) }, (record { defined = refl; given = record { clock = refl; words = refl; numbers = refl; full = refl; keeper = λ e. cc; looks = (refl, refl) } }, tt)) };
   foreign = refl;
-  legal_missing = record { opening = valid_of_nobody; lawful = (record { defined = refl; given = (editor_name, refl) }, (record { defined = refl; given = record { clock = refl; words = refl; numbers = refl; full = refl; looks = refl } }, tt)) };
+  legal_missing = record { opening = valid_of_nobody; lawful = (record { defined = refl; given = (editor_name, refl) }, (record { defined = refl; given = record { clock = refl; words = refl; numbers = refl; full = refl; keeper = λ e. cc; looks = (refl, refl) } }, tt)) };
   missing = refl;
 }
 
@@ -125,7 +138,7 @@ seats = record {
   twice = refl;
   on_a_bus = refl;
   by_handle = refl;
-  by_handle_lawful = record { defined = refl; given = record { clock = refl; words = refl; numbers = refl; full = refl; looks = refl } };
+  by_handle_given = record { clock = refl; words = refl; numbers = refl; full = refl; keeper = λ e. cc; looks = (refl, refl) };
 }
 
 pub endings : LeaveAndCollect
@@ -144,5 +157,5 @@ endings = record {
 pub failed : FailedLook
 failed = record {
   reply = refl;
-  lawful = record { defined = refl; given = record { clock = refl; words = refl; numbers = refl; full = refl; looks = (refl, omega arith) } };
+  lawful = record { defined = refl; given = record { clock = refl; words = refl; numbers = refl; full = refl; keeper = λ e. cc; looks = refl } };
 }

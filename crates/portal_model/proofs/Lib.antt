@@ -10,6 +10,12 @@ pub mod TripleOrder
 pub mod FourTriples
 pub mod RightsLaws
 pub mod DocumentChanges
+pub mod OpenHandles
+pub mod FilesValid
+pub mod NodeWalks
+pub mod NodeValid
+pub mod NodeAllowed
+pub mod OwnFiles
 pub mod Queues
 pub mod WalkDoings
 pub mod DrawnNumbers
@@ -28,3 +34,5 @@ pub mod AllowedLaws
 pub mod Refusals
 pub mod LooksTaken
 pub mod EntriesAllowed
+pub mod NodeLawsHold
+pub mod FileExampleProofs

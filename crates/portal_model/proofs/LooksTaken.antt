@@ -7,6 +7,7 @@ use Rattle.portal_model.specs.declared.entry.Fault.{Fault}
 use Rattle.portal_model.specs.declared.entry.Given.{Given}
 use Rattle.portal_model.specs.declared.reply.Code.{Code}
 use Rattle.portal_model.specs.declared.request.AddRequest.{AddRequest}
+use Rattle.portal_model.specs.declared.request.NodeRequest.{NodeRequest}
 use Rattle.portal_model.specs.declared.request.Request.{Request}
 use Rattle.portal_model.specs.declared.state.Connection.{Connection}
 use Rattle.portal_model.specs.Add.{add, add_allowed, add_looking, add_presented, added, added_files, are_of_kind, may_list_all}
@@ -14,10 +15,11 @@ use Rattle.portal_model.specs.AddArguments.{are_add_arguments, are_presented, do
 use Rattle.portal_model.specs.Bus.{bus_walk, is_tree}
 use Rattle.portal_model.specs.Content.{look_at}
 use Rattle.portal_model.specs.DocumentLaws.{LooksAreTaken}
-use Rattle.portal_model.specs.Lawful.{LawfulGiven, LawfulLooks, LawfulOnBus}
+use Rattle.portal_model.specs.Lawful.{LawfulGiven, LawfulOnBus, LawfulOnNode}
+use Rattle.portal_model.specs.Node.{walk_on_node}
 use Rattle.portal_model.specs.Outside.{files_told}
 use Rattle.portal_model.specs.State.{State, connection_of}
-use Rattle.portal_model.specs.Step.{all_told, bus_looks, bus_of, looks_taken}
+use Rattle.portal_model.specs.Step.{all_told, bus_looks, bus_of, looks_taken, mount_of, node_looks}
 use Rattle.portal_model.specs.Verdict.{Verdict, unless, walk_unless}
 use Rattle.portal_model.specs.Walk.{Walk, Answers, Looks, Ends, Gives, looks_at_all, looks_shown}
 
@@ -60,26 +62,28 @@ walk_shown_alike files s c request ns ms = refl
 
 -- ---- each kind
 
+-- the looks of a walk over a tree that tells, where none fails
+pub walk_taken : {X : Type 0} (s : State) (w : Walk X) (given : Given) → s.told ≡ true → given.fault ≡ Fault.None → Gives (files_told s) w given.looks (is_tree given.fault) → given.looks ≡ looks_shown s.files w
+walk_taken s w given t f g =
+    let told : files_told s ≡ Some s.files = ap (λ (b : Bool). cond b (Some s.files) None) t in
+    shown_given s.files w given.looks
+    (subst (λ (files : Option (List File)). Gives files w given.looks false) told (subst (λ (fault : Fault). Gives (files_told s) w given.looks (is_tree fault)) f g))
+
 bus_taken : (s : State) (request : Request) (given : Given) (o : Option Connection) → s.told ≡ true → given.fault ≡ Fault.None → LawfulOnBus s request given o → given.looks ≡ bus_looks s request o
 bus_taken s request given None t f l = ap (λ (g : Given). g.looks) l
 bus_taken s request given (Some c) t f l =
     let w = bus_walk (all_told c.seat s) c request given.numbers in
-    let told : files_told s ≡ Some s.files = ap (λ (b : Bool). cond b (Some s.files) None) t in
-    let gives : Gives (Some s.files) w given.looks false = subst (λ (files : Option (List File)). Gives files w given.looks false) told
-    (subst (λ (fault : Fault). Gives (files_told s) w given.looks (is_tree fault)) f l.looks) in
-    shown_given s.files w given.looks gives ∙ walk_shown_alike s.files (all_told c.seat s) c request given.numbers []
+    walk_taken (all_told c.seat s) w given t f l.looks ∙ walk_shown_alike s.files (all_told c.seat s) c request given.numbers []
 
-pub looks_given : (told : Bool) (taken looks : List Look) (fault : Fault) → told ≡ true → fault ≡ Fault.None → LawfulLooks told taken fault looks → looks ≡ taken
-looks_given true taken looks Fault.None t f h = h
-looks_given true taken looks Fault.Tree t f h = cc
-looks_given true taken looks Fault.Keeper t f h = cc
-looks_given false taken looks fault t f h = cc
+pub node-taken : (s : State) (r : NodeRequest) (given : Given) (o : Option Connection) → s.told ≡ true → given.fault ≡ Fault.None → LawfulOnNode s r given o → given.looks ≡ node_looks s r o
+node-taken s r given None t f l = ap (λ (g : Given). g.looks) l
+node-taken s r given (Some c) t f l = walk_taken (all_told c.seat s) (walk_on_node (all_told c.seat s) c r) given t f l.looks
 
 given_taken : (s : State) (seat : ℕ) (request : Request) (given : Given) → s.told ≡ true → given.fault ≡ Fault.None → LawfulGiven s seat request given → given.looks ≡ looks_taken s seat request
 given_taken s seat (Request.Enter who kind) given t f l = ap (λ (g : Given). g.looks) l.1
 given_taken s seat Request.Leave given t f l = ap (λ (g : Given). g.looks) l
 given_taken s seat Request.Collect given t f l = ap (λ (g : Given). g.looks) l
-given_taken s seat (Request.Node r) given t f l = looks_given s.told (looks_taken s seat (Request.Node r)) given.looks given.fault t f l.looks
+given_taken s seat (Request.Node r) given t f l = node-taken s r given (mount_of (connection_of s.connections seat)) t f l
 given_taken s seat (Request.Present path) given t f l = bus_taken s (Request.Present path) given (bus_of (connection_of s.connections seat)) t f l
 given_taken s seat (Request.Add a) given t f l = bus_taken s (Request.Add a) given (bus_of (connection_of s.connections seat)) t f l
 given_taken s seat (Request.Grant call) given t f l = bus_taken s (Request.Grant call) given (bus_of (connection_of s.connections seat)) t f l

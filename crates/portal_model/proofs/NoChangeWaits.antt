@@ -1,20 +1,21 @@
 -- As long as no connection waits for a change, a step tells none, and leaves the connections that are there.
-use Rattle.std.proofs.Common.{◌≡◌, ℕ, ◌==◌, List, [], ◌∷◌, map, true, false, cond, Option, Some, None, refl, sym, subst, arith}
+use Rattle.std.proofs.Common.{◌≡◌, ℕ, ◌+◌, ◌==◌, List, [], ◌∷◌, map, true, false, cond, Option, Some, None, refl, sym, subst, arith}
 use Rattle.std.proofs.lemmas.List.Folds.{list_all-append}
 use Rattle.portal_base.specs.declared.who.Kind.{Kind}
 use Rattle.portal_base.specs.declared.who.Who.{Who}
 use Rattle.portal_model.specs.declared.entry.Entry.{Entry}
 use Rattle.portal_model.specs.declared.entry.Given.{Given}
-use Rattle.portal_model.specs.declared.request.NodeOp.{NodeOp}
 use Rattle.portal_model.specs.declared.request.NodeRequest.{NodeRequest}
 use Rattle.portal_model.specs.declared.request.Request.{Request}
 use Rattle.portal_model.specs.declared.state.Connection.{Connection}
 use Rattle.portal_model.specs.Enter.{entered, new_connection}
 use Rattle.portal_model.specs.Leave.{left}
 use Rattle.portal_model.specs.History.{run}
+use Rattle.portal_model.specs.Node.{connections_after, counted, node_answer, node_given, settled_on_node, walk_on_node}
+use Rattle.portal_model.specs.NodeVerdict.{HandleChange, HandlesStay, Opens, Closes, NodeVerdict, Errs, Yields}
 use Rattle.portal_model.specs.Present.{requeued}
 use Rattle.portal_model.specs.State.{State, connection_of}
-use Rattle.portal_model.specs.Step.{after, all_told, bus_of, bus_step, collect_step, told_of, node_answer, node_step, request_step, mount_of, with_signals}
+use Rattle.portal_model.specs.Step.{after, all_told, bus_of, bus_step, collect_step, told_of, node_step, request_step, mount_of, with_signals}
 use Rattle.portal_model.specs.Valid.{is_none, is_silent}
 use Rattle.portal_model.proofs.DistinctItems.{list_all-filter}
 use Rattle.portal_model.proofs.BusLaws.{bus_step-holds}
@@ -46,9 +47,9 @@ unsent-silent seat cs c e h = none-nil c.unsent (found_in_all (λ (x : Connectio
 
 -- a request on a node, of an open mount
 pub node_step-silent : (s : State) (seat : ℕ) (c : Connection) (r : NodeRequest) (given : Given) → connection_of s.connections seat ≡ Some c → is_silent s.connections ≡ true →
-    node_step s r given (Some c) ≡ with_signals [] (node_answer s c.who r r.op given)
+    node_step s r given (Some c) ≡ with_signals [] (node_answer s c r given)
 node_step-silent s seat c r given e h =
-    (λ i. with_signals (unsent-silent seat s.connections c e h i) (node_answer (all_told-silent c.seat s h i) c.who r r.op given))
+    (λ i. with_signals (unsent-silent seat s.connections c e h i) (node_answer (all_told-silent c.seat s h i) c r given))
 
 entered-silent : (seat : ℕ) (who : Who) (kind : Kind) (cs : List Connection) (o : Option Connection) → is_silent cs ≡ true → is_silent (entered seat who kind cs o) ≡ true
 entered-silent seat who kind cs None h = rw (list_all-append (λ (c : Connection). is_none c.unsent) cs (new_connection seat who kind ∷ []), h) refl
@@ -62,13 +63,29 @@ collect_kept : (s : State) (o : Option Connection) → is_silent s.connections �
 collect_kept s None h = h
 collect_kept s (Some c) h = subst (λ (t : State). is_silent t.connections ≡ true) (sym (all_told-silent c.seat s h)) h
 
-node_answer-silent : (s : State) (who : Who) (r : NodeRequest) (op : NodeOp) (given : Given) → is_silent s.connections ≡ true → is_silent (node_answer s who r op given).0.connections ≡ true
-node_answer-silent s who r (NodeOp.GetAttr flags fh) given h = h
-node_answer-silent s who r op given h = h
+counted-silent : (seat : ℕ) (cs : List Connection) → is_silent cs ≡ true → is_silent (map (counted seat) cs) ≡ true
+counted-silent seat [] h = refl
+counted-silent seat (c ∷ cs) h =
+    let one : is_none c.unsent ≡ true = grind arith in
+    let all : is_silent (map (counted seat) cs) ≡ true = counted-silent seat cs (grind arith) in
+    elim (c.seat == seat) as (λ b. is_silent (cond b (record c { opens = c.opens + 1 }) c ∷ map (counted seat) cs) ≡ true) [
+      | true ↦ grind (arith, one, all)
+      | false ↦ grind (arith, one, all)
+    ]
+
+changed-silent : (c : Connection) (change : HandleChange) (cs : List Connection) → is_silent cs ≡ true → is_silent (connections_after c change cs) ≡ true
+changed-silent c HandlesStay cs h = h
+changed-silent c (Opens handle) cs h = counted-silent c.seat cs h
+changed-silent c (Closes fh) cs h = h
+
+settled-silent : (s : State) (c : Connection) (v : Option NodeVerdict) → is_silent s.connections ≡ true → is_silent (settled_on_node s c v).0.connections ≡ true
+settled-silent s c None h = h
+settled-silent s c (Some (Errs errno)) h = h
+settled-silent s c (Some (Yields d)) h = changed-silent c d.handle s.connections h
 
 node_step_kept : (s : State) (r : NodeRequest) (given : Given) (o : Option Connection) → is_silent s.connections ≡ true → is_silent (node_step s r given o).0.connections ≡ true
 node_step_kept s r given None h = h
-node_step_kept s r given (Some c) h = node_answer-silent (all_told c.seat s) c.who r r.op given (subst (λ (t : State). is_silent t.connections ≡ true) (sym (all_told-silent c.seat s h)) h)
+node_step_kept s r given (Some c) h = settled-silent (all_told c.seat s) c (node_given (walk_on_node (all_told c.seat s) c r) given) (subst (λ (t : State). is_silent t.connections ≡ true) (sym (all_told-silent c.seat s h)) h)
 
 requeued-silent : (seat : ℕ) (change : List (List ℕ) → List (List ℕ)) (cs : List Connection) → is_silent cs ≡ true → is_silent (map (requeued seat change) cs) ≡ true
 requeued-silent seat change [] h = refl

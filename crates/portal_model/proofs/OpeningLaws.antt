@@ -18,7 +18,7 @@ use Rattle.portal_model.specs.Laws.{OpeningsAreValid}
 use Rattle.portal_model.specs.Opening.{id_of, document_kept, set_of_bits, with_grant, with_grants, each, file_of, opened, opened_over, first_named, names_kept, SoundOpening, ValidOpening}
 use Rattle.portal_model.specs.Rights.{are_in_order}
 use Rattle.portal_model.specs.State.{State, document_of}
-use Rattle.portal_model.specs.Valid.{Valid, has_identifier, is_made, is_numbered, is_placed}
+use Rattle.portal_model.specs.Valid.{Valid, has_identifier, is_made, is_numbered, is_placed, same_handle}
 use Rattle.portal_model.proofs.DistinctItems.{IsDistinct-first, list_all-filter, list_all-weaken}
 use Rattle.portal_model.proofs.ListLookups.{is_same-eq, is_same-refl}
 use Rattle.portal_model.proofs.RightsLaws.{all-add_rights, ordered-add_rights}
@@ -152,6 +152,10 @@ no_seats : IsDistinct nat_eq []
 unfolding IsDistinct
 no_seats = tt
 
+no_handles : IsDistinct same_handle []
+unfolding IsDistinct
+no_handles = tt
+
 -- each document of the records is live, and each application in them numbered
 all_placed : (ds : List OpeningDocument) →
     list_all (λ (d : OpeningDocument). is_live ds d.kept.number && list_all (is_numbered (first_named (each names_kept ds))) (names_kept d)) ds ≡ true
@@ -171,10 +175,14 @@ sound-Valid o k = record {
   rights_placed = placed_kept (opened o) o.documents [] (ap (λ (apps : List (List ℕ)). list_all (λ (d : OpeningDocument). is_live o.documents d.kept.number && list_all (is_numbered apps) (names_kept d)) o.documents) k.applications ∙ all_placed o.documents) refl;
   seats_differ = no_seats;
   connections_sound = refl;
+  handles_differ = no_handles;
+  handles_sound = refl;
+  handles_within = refl;
   entries_differ = k.entries_differ;
   entries_sound = k.entries_sound;
   files_differ = subst (IsDistinct is_same) (sym (paths_of_files o.files)) k.files_differ;
   files_apart = list_all-map (λ (f : File). not (is_folder (map file_of o.files) f.path)) file_of o.files ∙ k.files_apart;
+  files_named = list_all-map (λ (f : File). is_host_path f.path) file_of o.files ∙ k.files_named;
   files_told = λ e. cc;
   documents_within = rw (length-map o.documents document_kept) k.documents_within;
   made_within = rw (k.made, length-map o.documents (λ (d : OpeningDocument). id_of d.kept.number)) k.made_within;
@@ -205,10 +213,14 @@ quiet-Valid o k =
       rights_placed = v.rights_placed;
       seats_differ = v.seats_differ;
       connections_sound = v.connections_sound;
+      handles_differ = v.handles_differ;
+      handles_sound = v.handles_sound;
+      handles_within = v.handles_within;
       entries_differ = v.entries_differ;
       entries_sound = v.entries_sound;
       files_differ = no_files;
       files_apart = refl;
+      files_named = refl;
       files_told = λ e. refl;
       documents_within = v.documents_within;
       made_within = v.made_within;

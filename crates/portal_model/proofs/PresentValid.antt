@@ -11,8 +11,9 @@ use Rattle.portal_model.specs.Valid.{Valid}
 use Rattle.portal_model.specs.Verdict.{Doing, does}
 use Rattle.portal_model.proofs.DocumentChanges.{second_of_both}
 use Rattle.portal_model.proofs.WalkDoings.{IfDoes, if-passes}
+use Rattle.portal_model.proofs.OpenHandles.{requeued-handles}
 use Rattle.portal_model.proofs.Queues.{pushed-connections}
-use Rattle.portal_model.proofs.SoundParts.{Valid-connections}
+use Rattle.portal_model.proofs.SoundParts.{Valid-connections, valid-handles}
 
 pub present-valid : (P : Doing → Type 0) → ((d : Doing) → Valid d.state → P d) → (s : State) (c found : Connection) (bytes : List ℕ) → connection_of s.connections c.seat ≡ Some found → found.queue ≡ c.queue → Valid s →
     IfDoes P (present s c bytes)
@@ -23,4 +24,4 @@ present-valid P valid s c found bytes f q v =
     if-passes P (nat_lt (length c.queue) s.limits.queued) Code.LimitsExceeded (does (with_queue c.seat (λ queue. queue ++ path ∷ []) s) (Answer.Place (length c.queue))) (λ room.
     let host : is_host_path path ≡ true = second_of_both (has_end bytes) (is_host_path path) ended in
     let place : nat_lt (length found.queue) s.limits.queued ≡ true = rw q room in
-    valid _ (Valid-connections s _ v (pushed-connections s.limits.queued c.seat path host s.connections found f place (v.seats_differ, v.connections_sound))))))
+    valid _ (Valid-connections s _ v (pushed-connections s.limits.queued c.seat path host s.connections found f place (v.seats_differ, v.connections_sound)) (requeued-handles c.seat s.limits.handles (λ queue. queue ++ path ∷ []) s.connections s.handles (valid-handles s v))))))

@@ -12,7 +12,7 @@ use Rattle.portal_model.specs.Step.{told_of}
 use Rattle.portal_model.specs.Valid.{is_caller, is_host_bus, is_none, is_sound_change, is_sound_connection}
 use Rattle.portal_model.proofs.DocumentChanges.{both, first_of_both, second_of_both}
 use Rattle.portal_model.proofs.ListLookups.{nat_is}
-use Rattle.portal_model.proofs.SoundParts.{Sound, SoundConnections}
+use Rattle.portal_model.proofs.SoundParts.{Sound, SoundConnections, SoundHandles}
 
 abbrev pub seats : List Connection → List ℕ
 seats cs = map (λ (c : Connection). c.seat) cs
@@ -175,17 +175,21 @@ picked p (suc n) i [] h l m = absurd (omega arith)
 picked p (suc n) zero (x ∷ xs) h l m = first_of_both (p x) (list_all p xs) h
 picked p (suc n) (suc i) (x ∷ xs) h l m = picked p n i xs (second_of_both (p x) (list_all p xs) h) (omega arith) (omega arith)
 
--- the queue of a connection of a sound state that a seat has
-pub sound-connected : (s : State) (cs : List Connection) → Sound s → SoundConnections s.limits.queued cs → Sound (record s { connections = cs })
-sound-connected s cs k c = record {
+-- other connections of a sound state
+pub sound-connected : (s : State) (cs : List Connection) → Sound s → SoundConnections s.limits.queued cs → SoundHandles s.limits.handles cs s.handles → Sound (record s { connections = cs })
+sound-connected s cs k c h = record {
   documented = k.documented;
   connected = record {
     seats_differ = c.0;
     connections_sound = c.1;
+    handles_differ = h.differ;
+    handles_sound = h.sound;
+    handles_within = h.within;
     entries_differ = k.connected.entries_differ;
     entries_sound = k.connected.entries_sound;
     files_differ = k.connected.files_differ;
     files_apart = k.connected.files_apart;
+    files_named = k.connected.files_named;
     files_told = k.connected.files_told;
     made_limit = k.connected.made_limit;
     queued_limit = k.connected.queued_limit;

@@ -9,17 +9,18 @@ use Rattle.portal_base.specs.declared.who.Kind.{Kind}
 use Rattle.portal_base.specs.declared.who.Who.{Who}
 use Rattle.portal_model.specs.declared.entry.Entry.{Entry}
 use Rattle.portal_model.specs.declared.entry.Given.{Given}
-use Rattle.portal_model.specs.declared.request.NodeOp.{NodeOp}
 use Rattle.portal_model.specs.declared.request.NodeRequest.{NodeRequest}
 use Rattle.portal_model.specs.declared.request.Request.{Request}
 use Rattle.portal_model.specs.declared.state.Connection.{Connection}
 use Rattle.portal_model.specs.Enter.{entered, new_connection}
 use Rattle.portal_model.specs.History.{run, of_seat}
 use Rattle.portal_model.specs.Leave.{left, of_others}
+use Rattle.portal_model.specs.Node.{connections_after, counted, node_given, settled_on_node, walk_on_node}
+use Rattle.portal_model.specs.NodeVerdict.{HandleChange, HandlesStay, Opens, Closes, NodeVerdict, Errs, Yields}
 use Rattle.portal_model.specs.Present.{requeued}
 use Rattle.portal_model.specs.Seated.{BeginsWith, Binding, Exchange, binding_of, bound, bound_after, bound_by, exchange, exchanges, is_open}
 use Rattle.portal_model.specs.State.{State, connection_of}
-use Rattle.portal_model.specs.Step.{after, all_told, bus_of, bus_step, collect_step, mount_of, node_answer, node_step, request_step, told_of}
+use Rattle.portal_model.specs.Step.{after, all_told, bus_of, bus_step, collect_step, mount_of, node_step, request_step, told_of}
 use Rattle.portal_model.proofs.BusLaws.{bus_step-holds}
 use Rattle.portal_model.proofs.ListLookups.{find-filter}
 
@@ -151,13 +152,35 @@ collect_bound : (s : State) (o : Option Connection) (seat : ℕ) → bound (coll
 collect_bound s None seat = refl
 collect_bound s (Some c) seat = binding-told seat c.seat s.connections
 
-node_answer_bound : (s : State) (who : Who) (r : NodeRequest) (op : NodeOp) (given : Given) (seat : ℕ) → bound (node_answer s who r op given).0 seat ≡ bound s seat
-node_answer_bound s who r (NodeOp.GetAttr flags fh) given seat = refl
-node_answer_bound s who r op given seat = refl
+counted_first : (seat : ℕ) (c : Connection) (b : Bool) (o p : Option Connection) → option_map binding_of o ≡ option_map binding_of p →
+    option_map binding_of (cond ((cond b (record c { opens = c.opens + 1 }) c).seat == seat) (Some (cond b (record c { opens = c.opens + 1 }) c)) o) ≡ option_map binding_of (cond (c.seat == seat) (Some c) p)
+counted_first seat c true o p h = elim (c.seat == seat) as (λ m. option_map binding_of (cond m (Some (record c { opens = c.opens + 1 })) o) ≡ option_map binding_of (cond m (Some c) p)) [
+  | true ↦ refl
+  | false ↦ h
+]
+counted_first seat c false o p h = elim (c.seat == seat) as (λ m. option_map binding_of (cond m (Some c) o) ≡ option_map binding_of (cond m (Some c) p)) [
+  | true ↦ refl
+  | false ↦ h
+]
+
+-- a handle that is opened ends no connection and binds none otherwise
+binding-counted : (seat other : ℕ) (cs : List Connection) → binding (map (counted other) cs) seat ≡ binding cs seat
+binding-counted seat other [] = refl
+binding-counted seat other (c ∷ cs) = counted_first seat c (c.seat == other) (connection_of (map (counted other) cs) seat) (connection_of cs seat) (binding-counted seat other cs)
+
+changed_bound : (seat : ℕ) (c : Connection) (change : HandleChange) (cs : List Connection) → binding (connections_after c change cs) seat ≡ binding cs seat
+changed_bound seat c HandlesStay cs = refl
+changed_bound seat c (Opens handle) cs = binding-counted seat c.seat cs
+changed_bound seat c (Closes fh) cs = refl
+
+settled_bound : (s : State) (c : Connection) (v : Option NodeVerdict) (seat : ℕ) → bound (settled_on_node s c v).0 seat ≡ bound s seat
+settled_bound s c None seat = refl
+settled_bound s c (Some (Errs errno)) seat = refl
+settled_bound s c (Some (Yields d)) seat = changed_bound seat c d.handle s.connections
 
 node_bound : (s : State) (r : NodeRequest) (given : Given) (o : Option Connection) (seat : ℕ) → bound (node_step s r given o).0 seat ≡ bound s seat
 node_bound s r given None seat = refl
-node_bound s r given (Some c) seat = node_answer_bound (all_told c.seat s) c.who r r.op given seat ∙ binding-told seat c.seat s.connections
+node_bound s r given (Some c) seat = settled_bound (all_told c.seat s) c (node_given (walk_on_node (all_told c.seat s) c r) given) seat ∙ binding-told seat c.seat s.connections
 
 requeued_first : (seat other : ℕ) (change : List (List ℕ) → List (List ℕ)) (c : Connection) (b : Bool) (o p : Option Connection) → option_map binding_of o ≡ option_map binding_of p →
     option_map binding_of (cond ((cond b (record c { queue = change c.queue }) c).seat == seat) (Some (cond b (record c { queue = change c.queue }) c)) o) ≡ option_map binding_of (cond (c.seat == seat) (Some c) p)

@@ -1,11 +1,12 @@
 -- What is true of a valid state beside the limits of documents and applications, in two parts: its documents and rights,
 -- and all else. A change of one part leaves the other.
 use Rattle.std.proofs.Common.{◌≡◌, ℕ, ◌^◌, ◌<◌, ◌≤◌, nat_eq, nat_lt, length, List, [], map, Bool, true, false, not, ◌&&◌, ◌||◌, is_some, refl, arith}
-use Rattle.std.specs.List.{list_all, IsDistinct}
+use Rattle.std.specs.List.{All, list_all, IsDistinct}
 use Rattle.std.proofs.lemmas.Bool.Decides.{nat_tests}
 use Rattle.portal_base.specs.Names.{is_same, is_app_name, is_host_path}
 use Rattle.portal_base.specs.declared.files.File.{File}
 use Rattle.portal_base.specs.declared.names.doc_id.DocId.{DocId}
+use Rattle.portal_model.specs.declared.handle.OpenHandle.{OpenHandle}
 use Rattle.portal_model.specs.declared.state.Connection.{Connection}
 use Rattle.portal_model.specs.declared.state.Document.{Document}
 use Rattle.portal_model.specs.declared.state.Triple.{Triple}
@@ -13,7 +14,7 @@ use Rattle.portal_model.specs.Content.{is_folder}
 use Rattle.portal_model.specs.Grant.{exceeds_limits}
 use Rattle.portal_model.specs.Rights.{are_in_order}
 use Rattle.portal_model.specs.State.{State, document_of}
-use Rattle.portal_model.specs.Valid.{Valid, applications_limit, has_identifier, is_made, is_numbered, is_sound_connection, is_sound_entry, same_entry}
+use Rattle.portal_model.specs.Valid.{Valid, applications_limit, has_identifier, is_made, is_numbered, is_sound_connection, is_sound_handle, opens_within, IsValidEntry, same_entry, same_handle}
 
 abbrev pub numbers : List Document → List ℕ
 numbers ds = map (λ (d : Document). d.id.number) ds
@@ -40,10 +41,14 @@ pub record Documented (ds : List Document) (made : List DocId) (rights : List Tr
 pub record Connected (s : State) : Type 0 where
   pub seats_differ : IsDistinct nat_eq (map (λ (c : Connection). c.seat) s.connections)
   pub connections_sound : list_all (is_sound_connection s.limits.queued) s.connections ≡ true
+  pub handles_differ : IsDistinct same_handle s.handles
+  pub handles_sound : list_all (is_sound_handle s.connections) s.handles ≡ true
+  pub handles_within : list_all (opens_within s.limits.handles s.handles) s.connections ≡ true
   pub entries_differ : IsDistinct same_entry s.entries
-  pub entries_sound : list_all is_sound_entry s.entries ≡ true
+  pub entries_sound : All IsValidEntry s.entries
   pub files_differ : IsDistinct is_same (map (λ (f : File). f.path) s.files)
   pub files_apart : list_all (λ (f : File). not (is_folder s.files f.path)) s.files ≡ true
+  pub files_named : list_all (λ (f : File). is_host_path f.path) s.files ≡ true
   pub files_told : s.told ≡ false → s.files ≡ []
   pub made_limit : s.limits.made < 2 ^ 32
   pub queued_limit : s.limits.queued < 2 ^ 32
@@ -67,10 +72,14 @@ valid-sound s v = record {
   connected = record {
     seats_differ = v.seats_differ;
     connections_sound = v.connections_sound;
+    handles_differ = v.handles_differ;
+    handles_sound = v.handles_sound;
+    handles_within = v.handles_within;
     entries_differ = v.entries_differ;
     entries_sound = v.entries_sound;
     files_differ = v.files_differ;
     files_apart = v.files_apart;
+    files_named = v.files_named;
     files_told = v.files_told;
     made_limit = v.made_limit;
     queued_limit = v.queued_limit;
@@ -107,10 +116,14 @@ sound-valid s e k =
       rights_placed = k.documented.rights_placed;
       seats_differ = k.connected.seats_differ;
       connections_sound = k.connected.connections_sound;
+      handles_differ = k.connected.handles_differ;
+      handles_sound = k.connected.handles_sound;
+      handles_within = k.connected.handles_within;
       entries_differ = k.connected.entries_differ;
       entries_sound = k.connected.entries_sound;
       files_differ = k.connected.files_differ;
       files_apart = k.connected.files_apart;
+      files_named = k.connected.files_named;
       files_told = k.connected.files_told;
       documents_within = within s.limits.documents (length s.documents) (neither_first documents (made || applications) e);
       made_within = within s.limits.made (length s.made) (neither_first made applications later);
@@ -129,10 +142,14 @@ sound-lists s ds made rights apps k d = record {
   connected = record {
     seats_differ = k.connected.seats_differ;
     connections_sound = k.connected.connections_sound;
+    handles_differ = k.connected.handles_differ;
+    handles_sound = k.connected.handles_sound;
+    handles_within = k.connected.handles_within;
     entries_differ = k.connected.entries_differ;
     entries_sound = k.connected.entries_sound;
     files_differ = k.connected.files_differ;
     files_apart = k.connected.files_apart;
+    files_named = k.connected.files_named;
     files_told = k.connected.files_told;
     made_limit = k.connected.made_limit;
     queued_limit = k.connected.queued_limit;
@@ -152,10 +169,14 @@ fewer-lists s ds rights v d fewer = record {
   rights_placed = d.rights_placed;
   seats_differ = v.seats_differ;
   connections_sound = v.connections_sound;
+  handles_differ = v.handles_differ;
+  handles_sound = v.handles_sound;
+  handles_within = v.handles_within;
   entries_differ = v.entries_differ;
   entries_sound = v.entries_sound;
   files_differ = v.files_differ;
   files_apart = v.files_apart;
+  files_named = v.files_named;
   files_told = v.files_told;
   documents_within = fewer;
   made_within = v.made_within;
@@ -168,8 +189,29 @@ fewer-lists s ds rights v d fewer = record {
 abbrev pub SoundConnections : ℕ → List Connection → Type 0
 SoundConnections queued cs = IsDistinct nat_eq (map (λ (c : Connection). c.seat) cs) × (list_all (is_sound_connection queued) cs ≡ true)
 
-pub Valid-connections : (s : State) (cs : List Connection) → Valid s → SoundConnections s.limits.queued cs → Valid (record s { connections = cs })
-Valid-connections s cs v k = record {
+-- what is true of open handles, beside these connections
+pub record SoundHandles (limit : ℕ) (cs : List Connection) (hs : List OpenHandle) : Type 0 where
+  pub differ : IsDistinct same_handle hs
+  pub sound : list_all (is_sound_handle cs) hs ≡ true
+  pub within : list_all (opens_within limit hs) cs ≡ true
+
+-- what is true of the files of a tree that tells them or doesn't
+pub record SoundFiles (told : Bool) (files : List File) : Type 0 where
+  pub differ : IsDistinct is_same (map (λ (f : File). f.path) files)
+  pub apart : list_all (λ (f : File). not (is_folder files f.path)) files ≡ true
+  pub named : list_all (λ (f : File). is_host_path f.path) files ≡ true
+  pub none : told ≡ false → files ≡ []
+
+pub valid-handles : (s : State) → Valid s → SoundHandles s.limits.handles s.connections s.handles
+valid-handles s v = record { differ = v.handles_differ; sound = v.handles_sound; within = v.handles_within }
+
+pub valid-files : (s : State) → Valid s → SoundFiles s.told s.files
+valid-files s v = record { differ = v.files_differ; apart = v.files_apart; named = v.files_named; none = v.files_told }
+
+-- other connections, handles and files
+pub Valid-open : (s : State) (cs : List Connection) (hs : List OpenHandle) (files : List File) → Valid s → SoundConnections s.limits.queued cs → SoundHandles s.limits.handles cs hs → SoundFiles s.told files →
+    Valid (record s { connections = cs; handles = hs; files = files })
+Valid-open s cs hs files v k h f = record {
   numbers_differ = v.numbers_differ;
   numbers_made = v.numbers_made;
   identifiers = v.identifiers;
@@ -180,14 +222,21 @@ Valid-connections s cs v k = record {
   rights_placed = v.rights_placed;
   seats_differ = k.0;
   connections_sound = k.1;
+  handles_differ = h.differ;
+  handles_sound = h.sound;
+  handles_within = h.within;
   entries_differ = v.entries_differ;
   entries_sound = v.entries_sound;
-  files_differ = v.files_differ;
-  files_apart = v.files_apart;
-  files_told = v.files_told;
+  files_differ = f.differ;
+  files_apart = f.apart;
+  files_named = f.named;
+  files_told = f.none;
   documents_within = v.documents_within;
   made_within = v.made_within;
   applications_within = v.applications_within;
   made_limit = v.made_limit;
   queued_limit = v.queued_limit;
 }
+
+pub Valid-connections : (s : State) (cs : List Connection) → Valid s → SoundConnections s.limits.queued cs → SoundHandles s.limits.handles cs s.handles → Valid (record s { connections = cs })
+Valid-connections s cs v k h = Valid-open s cs s.handles s.files v k h (valid-files s v)

@@ -1,22 +1,23 @@
 -- Whether a tree tells its files stays as it is.
 use Rattle.std.proofs.Common.{◌≡◌, ℕ, Option, Some, None, refl}
-use Rattle.portal_base.specs.declared.who.Who.{Who}
 use Rattle.portal_model.specs.declared.entry.Given.{Given}
-use Rattle.portal_model.specs.declared.request.NodeOp.{NodeOp}
 use Rattle.portal_model.specs.declared.request.NodeRequest.{NodeRequest}
 use Rattle.portal_model.specs.declared.request.Request.{Request}
 use Rattle.portal_model.specs.declared.state.Connection.{Connection}
+use Rattle.portal_model.specs.Node.{node_given, settled_on_node, walk_on_node}
+use Rattle.portal_model.specs.NodeVerdict.{NodeVerdict, Errs, Yields}
 use Rattle.portal_model.specs.State.{State, connection_of}
-use Rattle.portal_model.specs.Step.{all_told, bus_of, bus_step, collect_step, mount_of, node_answer, node_step, request_step}
+use Rattle.portal_model.specs.Step.{all_told, bus_of, bus_step, collect_step, mount_of, node_step, request_step}
 use Rattle.portal_model.proofs.BusLaws.{bus_step-holds}
 
-node_answer-told : (s : State) (who : Who) (r : NodeRequest) (op : NodeOp) (given : Given) → (node_answer s who r op given).0.told ≡ s.told
-node_answer-told s who r (NodeOp.GetAttr flags fh) given = refl
-node_answer-told s who r op given = refl
+settled-told : (s : State) (c : Connection) (v : Option NodeVerdict) → (settled_on_node s c v).0.told ≡ s.told
+settled-told s c None = refl
+settled-told s c (Some (Errs errno)) = refl
+settled-told s c (Some (Yields d)) = refl
 
 node_step-told : (s : State) (r : NodeRequest) (given : Given) (o : Option Connection) → (node_step s r given o).0.told ≡ s.told
 node_step-told s r given None = refl
-node_step-told s r given (Some c) = node_answer-told (all_told c.seat s) c.who r r.op given
+node_step-told s r given (Some c) = settled-told (all_told c.seat s) c (node_given (walk_on_node (all_told c.seat s) c r) given)
 
 collect_step-told : (s : State) (o : Option Connection) → (collect_step s o).0.told ≡ s.told
 collect_step-told s None = refl

@@ -15,7 +15,6 @@ use Rattle.portal_model.specs.declared.entry.Given.{Given}
 use Rattle.portal_model.specs.declared.reply.Answer.{Answer}
 use Rattle.portal_model.specs.declared.reply.Code.{Code}
 use Rattle.portal_model.specs.declared.request.AddRequest.{AddRequest}
-use Rattle.portal_model.specs.declared.request.NodeOp.{NodeOp}
 use Rattle.portal_model.specs.declared.request.NodeRequest.{NodeRequest}
 use Rattle.portal_model.specs.declared.request.Request.{Request}
 use Rattle.portal_model.specs.declared.state.Connection.{Connection}
@@ -27,14 +26,14 @@ use Rattle.portal_model.specs.Documents.{first_of}
 use Rattle.portal_model.specs.Enter.{entered, new_connection}
 use Rattle.portal_model.specs.History.{run, EachLawful, Legal}
 use Rattle.portal_model.specs.Info.{info, info_of}
-use Rattle.portal_model.specs.Lawful.{Lawful, LawfulGiven, LawfulOnBus}
+use Rattle.portal_model.specs.Lawful.{Lawful, LawfulGiven, LawfulOnBus, LawfulOnNode}
 use Rattle.portal_model.specs.Leave.{left, of_others}
 use Rattle.portal_model.specs.ListDocuments.{documents_listed, list_documents}
 use Rattle.portal_model.specs.LookupDocument.{lookup_document, text_of}
 use Rattle.portal_model.specs.Outside.{AreDrawn, LawfulBus, meets_limit, verdict_of, words_drawn}
 use Rattle.portal_model.specs.Present.{with_queue}
 use Rattle.portal_model.specs.State.{State, connection_of}
-use Rattle.portal_model.specs.Step.{after, all_told, bus_of, bus_step, collect_step, is_mount, told_of, node_answer, node_step, request_step, mount_of}
+use Rattle.portal_model.specs.Step.{after, all_told, bus_of, bus_step, collect_step, is_mount, told_of, node_step, request_step, mount_of}
 use Rattle.portal_model.specs.Valid.{Valid, is_caller, is_sound_connection}
 use Rattle.portal_model.specs.Verdict.{Doing, Verdict, Refuses, Does, does}
 use Rattle.portal_model.proofs.AddValid.{add-valid}
@@ -45,9 +44,11 @@ use Rattle.portal_model.proofs.DrawnNumbers.{Unused, drawn-length, drawn-unused}
 use Rattle.portal_model.proofs.ListLookups.{found_in_all, found_passes, nat_is}
 use Rattle.portal_model.proofs.GrantValid.{grant-valid}
 use Rattle.portal_model.proofs.PresentValid.{present-valid}
+use Rattle.portal_model.proofs.NodeValid.{node-valid}
+use Rattle.portal_model.proofs.OpenHandles.{entered-handles, left-handles, requeued-handles, told-handles}
 use Rattle.portal_model.proofs.Queues.{caller_sound, dropped-connections, found_told, seats}
 use Rattle.portal_model.proofs.RevokeValid.{revoke-valid}
-use Rattle.portal_model.proofs.SoundParts.{SoundConnections, Valid-connections}
+use Rattle.portal_model.proofs.SoundParts.{SoundConnections, Valid-connections, Valid-open, valid-files, valid-handles}
 
 -- ---- Enter
 
@@ -106,20 +107,13 @@ told_sound queued seat (c ∷ cs) h = grind (arith, told_one queued c (c.seat ==
 pub all_told-Valid : (s : State) (seat : ℕ) → Valid s → Valid (all_told seat s)
 all_told-Valid s seat v = Valid-connections s (map (told_of seat) s.connections) v
     (subst (IsDistinct nat_eq) (sym (told_seats seat s.connections)) v.seats_differ, told_sound s.limits.queued seat s.connections v.connections_sound)
+    (told-handles seat s.limits.handles s.connections s.handles (valid-handles s v))
 
 -- ---- a step
-
-node_answer-Valid : (s : State) (who : Who) (r : NodeRequest) (op : NodeOp) (given : Given) → Valid s → Valid (node_answer s who r op given).0
-node_answer-Valid s who r (NodeOp.GetAttr flags fh) given v = v
-node_answer-Valid s who r op given v = v
 
 collect_step-Valid : (s : State) (o : Option Connection) → Valid s → Valid (collect_step s o).0
 collect_step-Valid s None v = v
 collect_step-Valid s (Some c) v = all_told-Valid s c.seat v
-
-node_step-Valid : (s : State) (r : NodeRequest) (given : Given) (o : Option Connection) → Valid s → Valid (node_step s r given o).0
-node_step-Valid s r given None v = v
-node_step-Valid s r given (Some c) v = node_answer-Valid (all_told c.seat s) c.who r r.op given (all_told-Valid s c.seat v)
 
 -- ---- a request on documents
 
@@ -166,6 +160,7 @@ module _ (s : State) (c found : Connection) (numbers : List DocId) (f : connecti
 
   taken-valid : (a : AddRequest) (b : Bool) → Valid (cond b (with_queue c.seat (drop a.fds) s) s)
   taken-valid a true = Valid-connections s _ v (dropped-connections s.limits.queued c.seat a.fds s.connections (v.seats_differ, v.connections_sound))
+      (requeued-handles c.seat s.limits.handles (drop a.fds) s.connections s.handles (valid-handles s v))
   taken-valid a false = v
 
   refused-valid : (request : Request) → Valid (refused_state s c request)
@@ -213,13 +208,30 @@ bus_step-Valid s seat request given (Some c) e v l =
     let sound : is_sound_connection s.limits.queued c ≡ true = found_in_all (λ (x : Connection). x.seat == seat) (is_sound_connection s.limits.queued) s.connections c there v.connections_sound in
     bus_answer-Valid (all_told c.seat s) c (record c { unsent = [] }) request given (found_told c.seat c s.connections here) refl (caller_sound s.limits.queued c sound) (all_told-Valid s c.seat v) l
 
+mount_is : (o : Option Connection) (c : Connection) → mount_of o ≡ Some c → (o ≡ Some c) × (is_mount c.kind ≡ true)
+mount_is None c e = cc
+mount_is (Some d) c e = elim (is_mount d.kind) as (λ b. is_mount d.kind ≡ b → cond b (Some d) None ≡ Some c → (Some d ≡ Some c) × (is_mount c.kind ≡ true)) [
+  | true ↦ λ m h. (h, let same : d ≡ c = cc in ap (λ (x : Connection). is_mount x.kind) (sym same) ∙ m)
+  | false ↦ λ m h. cc
+] refl e
+
+node_step-Valid : (s : State) (seat : ℕ) (r : NodeRequest) (given : Given) (o : Option Connection) → mount_of (connection_of s.connections seat) ≡ o → Valid s → LawfulOnNode s r given o → Valid (node_step s r given o).0
+node_step-Valid s seat r given None e v l = v
+node_step-Valid s seat r given (Some c) e v l =
+    let there = mount_is (connection_of s.connections seat) c e in
+    let own : c.seat ≡ seat = nat_is c.seat seat (found_passes (λ (x : Connection). x.seat == seat) s.connections c there.0) in
+    let here : connection_of s.connections c.seat ≡ Some c = subst (λ (n : ℕ). connection_of s.connections n ≡ Some c) (sym own) there.0 in
+    node-valid (all_told c.seat s) c (record c { unsent = [] }) (found_told c.seat c s.connections here) refl there.1 (all_told-Valid s c.seat v) r given l
+
 request_step-Valid : (s : State) (seat : ℕ) (request : Request) (given : Given) → LawfulGiven s seat request given → Valid s → Valid (request_step s seat request given).0
 request_step-Valid s seat (Request.Enter who kind) given l v =
     Valid-connections s _ v (entered_sound seat who kind s.limits.queued l.0 s.connections (connection_of s.connections seat) refl (v.seats_differ, v.connections_sound))
+    (entered-handles seat s.limits.handles who kind s.connections s.handles (connection_of s.connections seat) refl (valid-handles s v))
 request_step-Valid s seat Request.Leave given l v =
-    Valid-connections s _ v (left_sound seat s.limits.queued s.connections (connection_of s.connections seat) (v.seats_differ, v.connections_sound))
+    Valid-open s _ _ s.files v (left_sound seat s.limits.queued s.connections (connection_of s.connections seat) (v.seats_differ, v.connections_sound))
+    (left-handles seat s.limits.handles s.connections s.handles (connection_of s.connections seat) (valid-handles s v)) (valid-files s v)
 request_step-Valid s seat Request.Collect given l v = collect_step-Valid s (bus_of (connection_of s.connections seat)) v
-request_step-Valid s seat (Request.Node r) given l v = node_step-Valid s r given (mount_of (connection_of s.connections seat)) v
+request_step-Valid s seat (Request.Node r) given l v = node_step-Valid s seat r given (mount_of (connection_of s.connections seat)) refl v l
 request_step-Valid s seat (Request.Present path) given l v = bus_step-Valid s seat (Request.Present path) given (bus_of (connection_of s.connections seat)) refl v l
 request_step-Valid s seat (Request.Add a) given l v = bus_step-Valid s seat (Request.Add a) given (bus_of (connection_of s.connections seat)) refl v l
 request_step-Valid s seat (Request.Grant call) given l v = bus_step-Valid s seat (Request.Grant call) given (bus_of (connection_of s.connections seat)) refl v l

@@ -1,8 +1,12 @@
 -- What a seat may ask: what is allowed is done, where no device fails and no limit is met.
-use Rattle.std.specs.Prelude.{ℕ, [], map, Bool, true, false, not, ◌&&◌, ◌||◌, length, nat_lt, Option, Some, None, is_some}
-use Rattle.portal_base.specs.Names.{is_app_name, is_same}
+use Rattle.std.specs.Prelude.{ℕ, ◌+◌, List, [], map, Bool, true, false, not, ◌&&◌, ◌||◌, length, nat_lt, Option, Some, None, is_some, cond}
+use Rattle.portal_base.specs.Content.{file_named, has_room}
+use Rattle.portal_base.specs.Names.{is_app_name, is_same, name_of}
+use Rattle.portal_base.specs.declared.files.FileName.{FileName}
+use Rattle.portal_base.specs.declared.files.Look.{Look}
 use Rattle.portal_base.specs.declared.who.Who.{Who}
 use Rattle.rights_rule.specs.Rights.{holds_any, rights_named}
+use Rattle.portal_model.specs.declared.handle.Handle.{Handle}
 use Rattle.portal_model.specs.declared.reply.Answer.{Answer}
 use Rattle.portal_model.specs.declared.request.AddRequest.{AddRequest}
 use Rattle.portal_model.specs.declared.request.NodeOp.{NodeOp}
@@ -12,26 +16,31 @@ use Rattle.portal_model.specs.declared.request.RightsCall.{RightsCall}
 use Rattle.portal_model.specs.declared.rights.Right.TheVariants.{Delete, GrantPermissions}
 use Rattle.portal_model.specs.declared.state.Connection.{Connection}
 use Rattle.portal_model.specs.declared.state.Document.{Document}
+use Rattle.portal_model.specs.Access.{executes, writes_to}
 use Rattle.portal_model.specs.Add.{are_of_kind, is_file, may_list_all}
 use Rattle.portal_model.specs.AddArguments.{are_add_arguments, are_presented, document_paths, paths_shown}
 use Rattle.portal_model.specs.Arguments.{ahead_of_end, document_named, is_ended_path}
 use Rattle.portal_model.specs.Content.{look_at}
 use Rattle.portal_model.specs.GetAttr.{names_handle}
 use Rattle.portal_model.specs.Grant.{are_rights_arguments, may_grant}
-use Rattle.portal_model.specs.Place.{Sight, SightOfFile, place_of}
+use Rattle.portal_model.specs.Lookup.{named_in_root, named_in_views}
+use Rattle.portal_model.specs.Node.{room_of}
+use Rattle.portal_model.specs.NodeVerdict.{is_too_long}
+use Rattle.portal_model.specs.Open.{has_no_mode, opens_to_write}
+use Rattle.portal_model.specs.Place.{Folder, RootOf, Views, FolderOf, Sight, SightOfFile, SightOfFolder, place_of}
 use Rattle.portal_model.specs.Present.{may_present}
+use Rattle.portal_model.specs.Read.{read_limit}
 use Rattle.portal_model.specs.Revoke.{names_itself}
 use Rattle.portal_model.specs.Rights.{held_by}
-use Rattle.portal_model.specs.State.{State, connection_of, who_has}
+use Rattle.portal_model.specs.SetAttr.{sets_by_handle, sets_owner_or_mode, sets_size}
+use Rattle.portal_model.specs.State.{State, connection_of, handle_of, is_host, who_has}
 use Rattle.portal_model.specs.Step.{bus_of, mount_of}
+use Rattle.portal_model.specs.Valid.{is_none}
+use Rattle.portal_model.specs.Write.{write_limit}
 
 abbrev pub is_refusal : Answer → Bool
 is_refusal (Answer.Refused code) = true
 is_refusal answer = false
-
-abbrev pub is_host : Who → Bool
-is_host Who.Host = true
-is_host (Who.App app) = false
 
 -- the files that are there are of the kind that the call needs
 abbrev pub may_add : State → Connection → AddRequest → Bool
@@ -96,31 +105,146 @@ has_place s c (Request.Node r) = true
 
 -- ---- a request on a node
 
--- a file that is there, where there is a place
-abbrev pub has_file : State → Option Sight → Bool
-has_file s None = false
-has_file s (Some (SightOfFile path may_write)) = is_file (look_at s.files path)
+abbrev pub is_missing : Look → Bool
+is_missing (Look.File generation size moment) = false
+is_missing Look.Folder = false
+is_missing Look.Missing = true
 
--- A GETATTR asks a file of its place: no connection has an open handle that it could name. The
--- other requests on nodes have no definition yet.
-abbrev pub may_ask_node : State → Who → NodeRequest → NodeOp → Bool
-may_ask_node s who r (NodeOp.GetAttr flags fh) =
-    not (names_handle flags) && has_file s (place_of s who r.node)
-may_ask_node s who r (NodeOp.Lookup name) = false
-may_ask_node s who r (NodeOp.Forget count) = false
-may_ask_node s who r (NodeOp.BatchForget nodes) = false
-may_ask_node s who r (NodeOp.SetAttr valid fh size) = false
-may_ask_node s who r (NodeOp.Open flags) = false
-may_ask_node s who r (NodeOp.Create name flags) = false
-may_ask_node s who r (NodeOp.Read fh offset size) = false
-may_ask_node s who r (NodeOp.Write fh offset content) = false
-may_ask_node s who r (NodeOp.Flush fh) = false
-may_ask_node s who r (NodeOp.Fsync fh) = false
-may_ask_node s who r (NodeOp.Release fh) = false
-may_ask_node s who r NodeOp.OpenDir = false
-may_ask_node s who r (NodeOp.ReadDir fh offset size) = false
-may_ask_node s who r (NodeOp.ReleaseDir fh) = false
-may_ask_node s who r (NodeOp.Access mask) = false
+-- whether a look shows a file
+abbrev pub has_file : State → List ℕ → Bool
+has_file s path = is_file (look_at s.files path)
+
+abbrev pub has_named : State → FileName → Bool
+has_named s name = is_some (file_named s.files name)
+
+-- a file of which this is asked of its right to be written, where it is there; or a folder
+abbrev pub at_sight : State → (Bool → Bool) → (Folder → Bool) → Option Sight → Bool
+at_sight s file folder None = false
+at_sight s file folder (Some (SightOfFile path may_write)) = has_file s path && file may_write
+at_sight s file folder (Some (SightOfFolder f)) = folder f
+
+-- what is asked of an open file by whether it may be read and written, where it is there
+abbrev pub on_handle : State → (Bool → Bool → Bool) → Option Handle → Bool
+on_handle s asked None = false
+on_handle s asked (Some (Handle.File name node read write)) = asked read write && has_named s name
+on_handle s asked (Some (Handle.Folder node names)) = false
+
+abbrev pub is_file_handle : Option Handle → Bool
+is_file_handle None = false
+is_file_handle (Some (Handle.File name node read write)) = true
+is_file_handle (Some (Handle.Folder node names)) = false
+
+abbrev pub is_folder_handle : Option Handle → Bool
+is_folder_handle None = false
+is_folder_handle (Some (Handle.File name node read write)) = false
+is_folder_handle (Some (Handle.Folder node names)) = true
+
+abbrev pub has_child : State → List ℕ → Folder → Bool
+has_child s name (RootOf view numbers has_views) =
+    is_some (named_in_root view numbers has_views name)
+has_child s name (Views applications) = is_some (named_in_views applications name)
+has_child s name (FolderOf view number path may_write) =
+    is_same name (name_of path) && has_file s path
+
+-- nothing is there, and the parent is a folder
+abbrev pub is_free : State → List ℕ → Bool
+is_free s path = is_missing (look_at s.files path) && has_room s.files path
+
+abbrev pub may_create_in : State → List ℕ → Folder → Bool
+may_create_in s name (RootOf view numbers has_views) = false
+may_create_in s name (Views applications) = false
+may_create_in s name (FolderOf view number path may_write) =
+    is_same name (name_of path) && (may_write && is_free s path)
+
+abbrev pub never : {X : Type 0} → X → Bool
+never x = false
+
+abbrev pub always : {X : Type 0} → X → Bool
+always x = true
+
+-- a GETATTR of an open folder asks its node
+abbrev pub may_get_attr : State → Bool → Option Sight → Option Handle → Bool
+may_get_attr s by_handle sight handle =
+    cond by_handle
+    (on_handle s (λ read write. true) handle
+    || (is_folder_handle handle && at_sight s always always sight))
+    (at_sight s always always sight)
+
+abbrev pub may_set_attr : State → ℕ → Option Sight → Option Handle → Bool
+may_set_attr s valid sight handle =
+    not (sets_owner_or_mode valid)
+    && cond (sets_by_handle valid)
+    (on_handle s (λ read write. not (sets_size valid) || write) handle)
+    (at_sight s (λ may_write. not (sets_size valid) || may_write)
+    (λ folder. not (sets_size valid)) sight)
+
+abbrev pub may_access : State → ℕ → Option Sight → Bool
+may_access s mask sight =
+    not (nat_lt 7 mask)
+    && at_sight s
+    (λ may_write. not (executes mask) && (not (writes_to mask) || may_write))
+    (λ folder. not (writes_to mask)) sight
+
+-- a write of no bytes needs no file
+abbrev pub may_write_to : State → List ℕ → Option Handle → Bool
+may_write_to s content None = false
+may_write_to s content (Some (Handle.File name node read write)) =
+    write && (is_none content || has_named s name)
+may_write_to s content (Some (Handle.Folder node names)) = false
+
+abbrev pub may_ask_at : State → NodeOp → Option Sight → (ℕ → Option Handle) → Bool
+may_ask_at s (NodeOp.Lookup name) sight handle =
+    not (is_too_long name) && at_sight s never (has_child s name) sight
+may_ask_at s (NodeOp.Forget count) sight handle = true
+may_ask_at s (NodeOp.BatchForget nodes) sight handle = true
+may_ask_at s (NodeOp.GetAttr flags fh) sight handle =
+    may_get_attr s (names_handle flags) sight (handle fh)
+may_ask_at s (NodeOp.SetAttr valid fh size) sight handle =
+    may_set_attr s valid sight (handle fh)
+may_ask_at s (NodeOp.Open flags) sight handle =
+    not (has_no_mode flags)
+    && at_sight s (λ may_write. not (opens_to_write flags) || may_write) never sight
+may_ask_at s (NodeOp.Create name flags) sight handle =
+    not (has_no_mode flags)
+    && (not (is_too_long name) && at_sight s never (may_create_in s name) sight)
+may_ask_at s (NodeOp.Read fh offset size) sight handle =
+    not (nat_lt read_limit size) && on_handle s (λ read write. read) (handle fh)
+may_ask_at s (NodeOp.Write fh offset content) sight handle =
+    not (nat_lt write_limit (length content)) && may_write_to s content (handle fh)
+may_ask_at s (NodeOp.Flush fh) sight handle = is_file_handle (handle fh)
+may_ask_at s (NodeOp.Fsync fh) sight handle = on_handle s (λ read write. true) (handle fh)
+may_ask_at s (NodeOp.Release fh) sight handle = is_file_handle (handle fh)
+may_ask_at s NodeOp.OpenDir sight handle = at_sight s never always sight
+may_ask_at s (NodeOp.ReadDir fh offset size) sight handle =
+    not (nat_lt read_limit size) && is_folder_handle (handle fh)
+may_ask_at s (NodeOp.ReleaseDir fh) sight handle = is_folder_handle (handle fh)
+may_ask_at s (NodeOp.Access mask) sight handle = may_access s mask sight
+
+-- A request on a node of this connection, which is a mount.
+abbrev pub may_ask_node : State → Connection → NodeRequest → Bool
+may_ask_node s c r =
+    may_ask_at s r.op (place_of s c.who r.node) (handle_of s.handles c.seat)
+
+-- no limit is met: that of open handles, and that of a file's length
+abbrev pub within : State → Connection → NodeOp → Bool
+within s c (NodeOp.Open flags) = not (room_of s c).full
+within s c (NodeOp.Create name flags) = not (room_of s c).full
+within s c NodeOp.OpenDir = not (room_of s c).full
+within s c (NodeOp.SetAttr valid fh size) =
+    not (sets_size valid) || not (nat_lt s.limits.file_bytes size)
+within s c (NodeOp.Write fh offset content) =
+    is_none content || not (nat_lt s.limits.file_bytes (offset + length content))
+within s c (NodeOp.Lookup name) = true
+within s c (NodeOp.Forget count) = true
+within s c (NodeOp.BatchForget nodes) = true
+within s c (NodeOp.GetAttr flags fh) = true
+within s c (NodeOp.Read fh offset size) = true
+within s c (NodeOp.Flush fh) = true
+within s c (NodeOp.Fsync fh) = true
+within s c (NodeOp.Release fh) = true
+within s c (NodeOp.ReadDir fh offset size) = true
+within s c (NodeOp.ReleaseDir fh) = true
+within s c (NodeOp.Access mask) = true
 
 -- ---- a request of a seat
 
@@ -130,7 +254,7 @@ allowed_on_bus s request (Some c) = is_allowed s c request
 
 abbrev pub allowed_on_mount : State → NodeRequest → Option Connection → Bool
 allowed_on_mount s r None = false
-allowed_on_mount s r (Some c) = may_ask_node s c.who r r.op
+allowed_on_mount s r (Some c) = may_ask_node s c r
 
 -- The seat has an open connection of the request's kind, for an Enter none at all, and the
 -- request is allowed there.
@@ -162,5 +286,14 @@ abbrev pub place_on : State → Request → Option Connection → Bool
 place_on s request None = true
 place_on s request (Some c) = has_place s c request
 
+-- and a request on a node meets no limit
+abbrev pub node_within : State → NodeOp → Option Connection → Bool
+node_within s op None = true
+node_within s op (Some c) = within s c op
+
+abbrev pub limits_kept : State → Request → Option Connection → Bool
+limits_kept s (Request.Node r) o = node_within s r.op (mount_of o)
+limits_kept s request o = place_on s request (bus_of o)
+
 abbrev pub place_left : State → ℕ → Request → Bool
-place_left s seat request = place_on s request (bus_of (connection_of s.connections seat))
+place_left s seat request = limits_kept s request (connection_of s.connections seat)

@@ -1,31 +1,35 @@
 -- The requests that the portal has a body for. The others have a definition ahead of it, and are
 -- asked nowhere yet.
+use Rattle.std.specs.Prelude.{◌≡◌, ℕ, true, false}
 use Rattle.portal_model.specs.declared.request.NodeOp.{NodeOp}
 use Rattle.portal_model.specs.declared.request.Request.{Request}
+use Rattle.portal_model.specs.GetAttr.{names_handle}
+use Rattle.portal_model.specs.Place.{is_own_file}
 
-abbrev pub BuiltOp : NodeOp → Type 0
-BuiltOp (NodeOp.GetAttr flags fh) = Unit {0}
-BuiltOp (NodeOp.Lookup name) = ⊥
-BuiltOp (NodeOp.Forget count) = ⊥
-BuiltOp (NodeOp.BatchForget nodes) = ⊥
-BuiltOp (NodeOp.SetAttr valid fh size) = ⊥
-BuiltOp (NodeOp.Open flags) = ⊥
-BuiltOp (NodeOp.Create name flags) = ⊥
-BuiltOp (NodeOp.Read fh offset size) = ⊥
-BuiltOp (NodeOp.Write fh offset content) = ⊥
-BuiltOp (NodeOp.Flush fh) = ⊥
-BuiltOp (NodeOp.Fsync fh) = ⊥
-BuiltOp (NodeOp.Release fh) = ⊥
-BuiltOp NodeOp.OpenDir = ⊥
-BuiltOp (NodeOp.ReadDir fh offset size) = ⊥
-BuiltOp (NodeOp.ReleaseDir fh) = ⊥
-BuiltOp (NodeOp.Access mask) = ⊥
+-- a GETATTR of a document's file in the caller's own view, by its node
+abbrev pub BuiltOp : ℕ → NodeOp → Type 0
+BuiltOp node (NodeOp.GetAttr flags fh) = (names_handle flags ≡ false) × (is_own_file node ≡ true)
+BuiltOp node (NodeOp.Lookup name) = ⊥
+BuiltOp node (NodeOp.Forget count) = ⊥
+BuiltOp node (NodeOp.BatchForget nodes) = ⊥
+BuiltOp node (NodeOp.SetAttr valid fh size) = ⊥
+BuiltOp node (NodeOp.Open flags) = ⊥
+BuiltOp node (NodeOp.Create name flags) = ⊥
+BuiltOp node (NodeOp.Read fh offset size) = ⊥
+BuiltOp node (NodeOp.Write fh offset content) = ⊥
+BuiltOp node (NodeOp.Flush fh) = ⊥
+BuiltOp node (NodeOp.Fsync fh) = ⊥
+BuiltOp node (NodeOp.Release fh) = ⊥
+BuiltOp node NodeOp.OpenDir = ⊥
+BuiltOp node (NodeOp.ReadDir fh offset size) = ⊥
+BuiltOp node (NodeOp.ReleaseDir fh) = ⊥
+BuiltOp node (NodeOp.Access mask) = ⊥
 
 abbrev pub Built : Request → Type 0
 Built (Request.Enter who kind) = Unit {0}
 Built Request.Leave = Unit {0}
 Built Request.Collect = Unit {0}
-Built (Request.Node r) = BuiltOp r.op
+Built (Request.Node r) = BuiltOp r.node r.op
 Built (Request.Present path) = ⊥
 Built (Request.Add a) = ⊥
 Built (Request.Grant call) = ⊥

@@ -64,8 +64,8 @@ ToldFor s (Request.Enter who kind) = Unit {0}
 ToldFor s Request.Leave = Unit {0}
 ToldFor s Request.Collect = Unit {0}
 
--- What is allowed is done, where no device fails, no limit of documents or applications is met, and
--- the queue has a place: an Add and a request on a node over a tree that tells, all else over any
+-- What is allowed is done, where no device fails, no limit of documents, applications, open handles
+-- or a file's length is met, and the queue has a place: an Add and a request on a node over a tree that tells, all else over any
 -- tree. It is so of each lawful entry, and of a request on documents of any connection.
 pub record AllowedIsDone : Type 0 where
   pub entry :

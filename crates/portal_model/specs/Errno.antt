@@ -16,11 +16,32 @@ ebadf = 9
 abbrev pub enomem : ℕ
 enomem = 12
 
+abbrev pub eacces : ℕ
+eacces = 13
+
+abbrev pub eexist : ℕ
+eexist = 17
+
+abbrev pub enotdir : ℕ
+enotdir = 20
+
+abbrev pub eisdir : ℕ
+eisdir = 21
+
 abbrev pub einval : ℕ
 einval = 22
 
+abbrev pub emfile : ℕ
+emfile = 24
+
+abbrev pub efbig : ℕ
+efbig = 27
+
 abbrev pub enospc : ℕ
 enospc = 28
+
+abbrev pub enametoolong : ℕ
+enametoolong = 36
 
 abbrev pub enosys : ℕ
 enosys = 38

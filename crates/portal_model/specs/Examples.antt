@@ -24,7 +24,7 @@ use Rattle.portal_model.specs.declared.request.NodeOp.{NodeOp}
 use Rattle.portal_model.specs.declared.request.Request.{Request}
 use Rattle.portal_model.specs.History.{Legal, replies, cost_of}
 use Rattle.portal_model.specs.State.{State}
-use Rattle.portal_model.specs.Lawful.{Lawful}
+use Rattle.portal_model.specs.Lawful.{Lawful, LawfulGiven}
 use Rattle.portal_model.specs.Step.{after, reply_at, step}
 use Rattle.portal_model.specs.Opening.{opened, id_of, first_named, each, names_kept}
 
@@ -187,7 +187,8 @@ pub record AnswersOfSeats : Type 0 where
   pub on_a_bus : step (after read_write_state enters_bus) (asks 1 a_node [])
       ≡ (after read_write_state enters_bus, not_here_reply)
   pub by_handle : reply_at entered_state asks_handle ≡ replied (Answer.Refused (Code.Errno 9))
-  pub by_handle_lawful : Lawful entered_state asks_handle
+  pub by_handle_given :
+      LawfulGiven entered_state 1 (asks_attributes a_node 1 7) (given [])
 
 -- ---- what was not told yet, and the end of a connection
 

@@ -1,6 +1,5 @@
 -- What the outside may have given to an entry, by the kind of its request.
-use Rattle.std.specs.Prelude.{◌≡◌, ℕ, ◌<◌, List, [], length, take, Bool, true, false, Option, Some, None}
-use Rattle.portal_base.specs.declared.files.Look.{Look}
+use Rattle.std.specs.Prelude.{◌≡◌, ℕ, [], Bool, true, false, Option, Some, None}
 use Rattle.portal_base.specs.declared.who.Who.{Who}
 use Rattle.portal_model.specs.declared.entry.Entry.{Entry}
 use Rattle.portal_model.specs.declared.entry.Fault.{Fault}
@@ -9,31 +8,17 @@ use Rattle.portal_model.specs.declared.request.NodeOp.{NodeOp}
 use Rattle.portal_model.specs.declared.request.NodeRequest.{NodeRequest}
 use Rattle.portal_model.specs.declared.request.Request.{Request}
 use Rattle.portal_model.specs.declared.state.Connection.{Connection}
+use Rattle.portal_model.specs.NodeOutside.{LawfulNode}
 use Rattle.portal_model.specs.Outside.{LawfulBus}
 use Rattle.portal_model.specs.State.{State, connection_of}
-use Rattle.portal_model.specs.Step.{all_told, bus_of, mount_of, node_looks}
+use Rattle.portal_model.specs.Step.{all_told, bus_of, mount_of}
 use Rattle.portal_model.specs.Valid.{is_caller}
 
 -- ---- the requests that may be entries
 
--- the requests on nodes whose answers are defined
-abbrev pub is_defined_op : NodeOp → Bool
-is_defined_op (NodeOp.GetAttr flags fh) = true
-is_defined_op (NodeOp.Lookup name) = false
-is_defined_op (NodeOp.Forget count) = false
-is_defined_op (NodeOp.BatchForget nodes) = false
-is_defined_op (NodeOp.SetAttr valid fh size) = false
-is_defined_op (NodeOp.Open flags) = false
-is_defined_op (NodeOp.Create name flags) = false
-is_defined_op (NodeOp.Read fh offset size) = false
-is_defined_op (NodeOp.Write fh offset content) = false
-is_defined_op (NodeOp.Flush fh) = false
-is_defined_op (NodeOp.Fsync fh) = false
-is_defined_op (NodeOp.Release fh) = false
-is_defined_op NodeOp.OpenDir = false
-is_defined_op (NodeOp.ReadDir fh offset size) = false
-is_defined_op (NodeOp.ReleaseDir fh) = false
-is_defined_op (NodeOp.Access mask) = false
+-- each request on a node: an application learns nothing of others by it
+abbrev pub is_defined_op : ℕ → NodeOp → Bool
+is_defined_op node op = true
 
 abbrev pub is_defined : Request → Bool
 is_defined (Request.Enter who kind) = true
@@ -47,7 +32,7 @@ is_defined (Request.DeleteDocument doc) = true
 is_defined (Request.LookupDocument path) = true
 is_defined (Request.Info doc) = true
 is_defined (Request.ListDocuments app) = true
-is_defined (Request.Node r) = is_defined_op r.op
+is_defined (Request.Node r) = is_defined_op r.node r.op
 
 -- ---- what is given where nothing is looked at
 
@@ -69,35 +54,11 @@ LawfulEnter who given = (is_caller who ≡ true) × (given ≡ nothing_given)
 
 -- ---- what is given to a request on a node
 
--- over a tree that tells: the looks are those that the request takes; where a call of the tree
--- failed, those ahead of it. The keeper isn't asked, since no record changes
-abbrev pub LooksAre : List Look → Fault → List Look → Type 0
-LooksAre taken Fault.None looks = looks ≡ taken
-LooksAre taken Fault.Tree looks = (looks ≡ take (length looks) taken)
-    × (length looks < length taken)
-LooksAre taken Fault.Keeper looks = ⊥
-
--- over a tree that does not tell: as many looks, whatever they show
-abbrev pub LooksCount : ℕ → Fault → ℕ → Type 0
-LooksCount taken Fault.None count = count ≡ taken
-LooksCount taken Fault.Tree count = count < taken
-LooksCount taken Fault.Keeper count = ⊥
-
-abbrev pub LawfulLooks : Bool → List Look → Fault → List Look → Type 0
-LawfulLooks true taken fault looks = LooksAre taken fault looks
-LawfulLooks false taken fault looks = LooksCount (length taken) fault (length looks)
-
--- looks alone, where these are taken: the clock isn't read, no word is drawn, no document is made
--- and no limit of documents is met
-pub record GivesLooks (told : Bool) (taken : List Look) (given : Given) : Type 0 where
-  pub clock : given.now ≡ None
-  pub words : given.words ≡ []
-  pub numbers : given.numbers ≡ []
-  pub full : given.full ≡ false
-  pub looks : LawfulLooks told taken given.fault given.looks
-
+-- Where the seat has no open mount, nothing is. Else it is as the state shows it in which the
+-- connection was told what it waited for.
 abbrev pub LawfulOnNode : State → NodeRequest → Given → Option Connection → Type 0
-LawfulOnNode s r given o = GivesLooks s.told (node_looks s r o) given
+LawfulOnNode s r given None = given ≡ nothing_given
+LawfulOnNode s r given (Some c) = LawfulNode (all_told c.seat s) c r given
 
 -- ---- what is given to a request on documents
 

@@ -1,11 +1,21 @@
 -- The nodes of the file view: the arithmetic of their numbers, and what a caller finds at them.
--- A number is view * 2^36 + kind * 2^32 + id. The view 0 is the caller's own.
-use Rattle.std.specs.Prelude.{ℕ, ◌==◌, ◌/◌, ◌%◌, ◌^◌, ◌&&◌, List, Bool, Option, Some, None, cond}
+-- A number is view * 2^36 + kind * 2^32 + id. The view 0 is the caller's own, the view k that of
+-- application k, for the host alone.
+use Rattle.std.specs.Prelude.{ℕ, zero, suc, ◌+◌, ◌*◌, ◌==◌, ◌/◌, ◌%◌, ◌^◌, ◌&&◌, List, map, Bool, true, false, Option, Some, None, cond, option_map}
+use Rattle.std.specs.List.{filter}
 use Rattle.portal_base.specs.declared.who.Who.{Who}
+use Rattle.portal_model.specs.declared.place.Item.{Item}
+use Rattle.portal_model.specs.declared.place.Item.TheVariants.{Root, ByApp, DocumentFolder, DocumentFile}
+use Rattle.portal_model.specs.declared.place.Place.{Place}
 use Rattle.portal_model.specs.declared.rights.Right.TheVariants.{Read, Write}
 use Rattle.portal_model.specs.declared.state.Document.{Document}
 use Rattle.portal_model.specs.declared.state.Triple.{Triple}
-use Rattle.portal_model.specs.State.{State, document_of, who_has}
+use Rattle.portal_model.specs.Applications.{name_of_number}
+use Rattle.portal_model.specs.ListDocuments.{lower}
+use Rattle.portal_model.specs.Ordered.{put_all}
+use Rattle.portal_model.specs.State.{State, document_of, is_host, who_has}
+
+-- ---- numbers
 
 abbrev pub view_of_node : ℕ → ℕ
 view_of_node node = node / 2 ^ 36
@@ -16,35 +26,127 @@ kind_of_node node = node / 2 ^ 32 % 16
 abbrev pub id_of_node : ℕ → ℕ
 id_of_node node = node % 2 ^ 32
 
--- what a number names, whoever asks
-pub data Place : Type 0 where
-  -- kind 2: the file of the document of this number, in the caller's own view
-  DocumentFile : ℕ → Place
+abbrev pub node_number : ℕ → ℕ → ℕ → ℕ
+node_number view kind id = view * 2 ^ 36 + (kind * 2 ^ 32 + id)
 
+-- kind 0: the root of a view has the identifier 1, and in view 0 the folder of all views has 2
+abbrev pub item_of_kind_0 : ℕ → ℕ → Option Item
+item_of_kind_0 view id =
+    cond (id == 1) (Some Root) (cond (id == 2 && view == 0) (Some ByApp) None)
+
+-- kind 1 is a document's folder, kind 2 a document's file
+abbrev pub item_named : ℕ → ℕ → ℕ → Option Item
+item_named view kind id =
+    cond (kind == 0) (item_of_kind_0 view id)
+    (cond (kind == 1) (Some (DocumentFolder id))
+    (cond (kind == 2) (Some (DocumentFile id)) None))
+
+-- what a number names, whoever asks
 abbrev pub place_named : ℕ → Option Place
-place_named node = cond (view_of_node node == 0 && kind_of_node node == 2)
-    (Some (DocumentFile (id_of_node node))) None
+place_named node =
+    option_map (λ item. record { view = view_of_node node; item = item })
+    (item_named (view_of_node node) (kind_of_node node) (id_of_node node))
+
+abbrev pub root_node : ℕ → ℕ
+root_node view = node_number view 0 1
+
+abbrev pub by_app_node : ℕ
+by_app_node = node_number 0 0 2
+
+abbrev pub folder_node : ℕ → ℕ → ℕ
+folder_node view number = node_number view 1 number
+
+abbrev pub file_node : ℕ → ℕ → ℕ
+file_node view number = node_number view 2 number
+
+-- the number of a place
+abbrev pub node_in : ℕ → Item → ℕ
+node_in view Root = root_node view
+node_in view ByApp = by_app_node
+node_in view (DocumentFolder number) = folder_node view number
+node_in view (DocumentFile number) = file_node view number
+
+abbrev pub node_of : Place → ℕ
+node_of p = node_in p.view p.item
+
+-- the file of a document, in the caller's own view
+abbrev pub is_own_file : ℕ → Bool
+is_own_file node = view_of_node node == 0 && kind_of_node node == 2
+
+-- ---- what a caller sees
+
+-- a folder, as a caller sees it
+pub data Folder : Type 0 where
+  -- the root of a view: its number, the numbers of the documents that are seen in it, in rising
+  -- order, and whether the folder of all views stands in it
+  RootOf : ℕ → List ℕ → Bool → Folder
+  -- the folder of all views: the names of the numbered applications, in order of their numbers
+  Views : List (List ℕ) → Folder
+  -- the folder of a document: the view, the document's number and its path, and whether the subject
+  -- may write the file
+  FolderOf : ℕ → ℕ → List ℕ → Bool → Folder
 
 -- what a caller sees at a place
 pub data Sight : Type 0 where
   -- a document's file: the document's path, and whether the subject may write it
   SightOfFile : List ℕ → Bool → Sight
+  SightOfFolder : Folder → Sight
 
--- what is seen at a place, where this is how the file of each document is seen
-abbrev pub sight_at : (ℕ → Option Sight) → Option Place → Option Sight
-sight_at file None = None
-sight_at file (Some (DocumentFile number)) = file number
-
--- a document is seen exactly where the subject has the right to read it
+-- a document's file is seen exactly where the subject has the right to read the document
 abbrev pub sight_of_document : List Triple → Who → Option Document → Option Sight
 sight_of_document rights who None = None
 sight_of_document rights who (Some d) =
     cond (who_has rights who d.id.number Read)
     (Some (SightOfFile d.path (who_has rights who d.id.number Write))) None
 
-abbrev pub sight_of_file : State → Who → ℕ → Option Sight
-sight_of_file s who number = sight_of_document s.rights who (document_of s.documents number)
+-- and so is its folder
+abbrev pub sight_of_folder : ℕ → List Triple → Who → Option Document → Option Sight
+sight_of_folder view rights who None = None
+sight_of_folder view rights who (Some d) =
+    cond (who_has rights who d.id.number Read)
+    (Some (SightOfFolder (FolderOf view d.id.number d.path
+    (who_has rights who d.id.number Write)))) None
 
--- the place of a node for a caller, who is the subject of the view 0
+abbrev pub may_read : List Triple → Who → Document → Bool
+may_read rights who d = who_has rights who d.id.number Read
+
+-- the numbers of the documents that a subject sees
+abbrev pub numbers_seen : List Triple → Who → List Document → List ℕ
+numbers_seen rights who documents =
+    map (λ d. d.id.number) (put_all lower (filter (may_read rights who) documents))
+
+-- the folder of all views stands in the host's own root
+abbrev pub has_views : Who → ℕ → Bool
+has_views caller view = is_host caller && view == 0
+
+-- what the caller sees in a view of this subject
+abbrev pub sight_of_item : State → Who → ℕ → Who → Item → Option Sight
+sight_of_item s caller view who Root =
+    Some (SightOfFolder (RootOf view (numbers_seen s.rights who s.documents)
+    (has_views caller view)))
+sight_of_item s caller view who ByApp =
+    cond (is_host caller) (Some (SightOfFolder (Views s.applications))) None
+sight_of_item s caller view who (DocumentFolder number) =
+    sight_of_folder view s.rights who (document_of s.documents number)
+sight_of_item s caller view who (DocumentFile number) =
+    sight_of_document s.rights who (document_of s.documents number)
+
+-- The subject of a view: the caller of view 0, and application k of view k, which is there for the
+-- host alone.
+abbrev pub subject_of : List (List ℕ) → Who → ℕ → Option Who
+subject_of applications caller zero = Some caller
+subject_of applications Who.Host (suc k) =
+    option_map Who.App (name_of_number applications (suc k))
+subject_of applications (Who.App app) (suc k) = None
+
+abbrev pub sight_in_view : State → Who → Place → Option Who → Option Sight
+sight_in_view s caller p None = None
+sight_in_view s caller p (Some who) = sight_of_item s caller p.view who p.item
+
+abbrev pub sight_at : State → Who → Option Place → Option Sight
+sight_at s caller None = None
+sight_at s caller (Some p) = sight_in_view s caller p (subject_of s.applications caller p.view)
+
+-- what a caller sees at a node
 abbrev pub place_of : State → Who → ℕ → Option Sight
-place_of s who node = sight_at (sight_of_file s who) (place_named node)
+place_of s caller node = sight_at s caller (place_named node)

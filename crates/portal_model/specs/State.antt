@@ -1,13 +1,16 @@
 -- The state of the sequential portal: plain lists, and what is looked up in them. The terms are
 -- those of the documentation of org.freedesktop.portal.Documents, where an application has
 -- permissions in documents.
-use Rattle.std.specs.Prelude.{ℕ, ◌==◌, ◌&&◌, List, Bool, true, false, Option, is_some}
-use Rattle.std.specs.List.{find, list_any}
+use Rattle.std.specs.Prelude.{ℕ, ◌==◌, ◌&&◌, List, length, Bool, true, false, Option, is_some, option_map}
+use Rattle.std.specs.List.{filter, find, list_any}
 use Rattle.portal_base.specs.Names.{is_same}
 use Rattle.rights_rule.specs.Rights.{RightSet}
 use Rattle.portal_base.specs.declared.limits.Limits.{Limits}
 use Rattle.portal_base.specs.declared.names.doc_id.DocId.{DocId}
+use Rattle.portal_base.specs.declared.who.Kind.{Kind}
 use Rattle.portal_base.specs.declared.who.Who.{Who}
+use Rattle.portal_model.specs.declared.handle.Handle.{Handle}
+use Rattle.portal_model.specs.declared.handle.OpenHandle.{OpenHandle}
 use Rattle.portal_model.specs.declared.records.EntryRecord.{EntryRecord}
 use Rattle.portal_model.specs.declared.rights.Right.{Right}
 use Rattle.portal_model.specs.declared.rights.Right.TheVariants.{Read, Write, GrantPermissions, Delete}
@@ -28,6 +31,8 @@ pub record State : Type 0 where
   -- the names of the numbered applications: application k is the k-th
   pub applications : List (List ℕ)
   pub connections : List Connection
+  -- what connections have open, in order of opening
+  pub handles : List OpenHandle
   -- whether the tree of files tells what it has; where it does not, there are no files here
   pub told : Bool
   pub files : List File
@@ -51,6 +56,10 @@ document_of documents number = find (λ d. d.id.number == number) documents
 -- the open connection of a seat
 abbrev pub connection_of : List Connection → ℕ → Option Connection
 connection_of connections seat = find (λ c. c.seat == seat) connections
+
+abbrev pub is_mount : Kind → Bool
+is_mount Kind.Mount = true
+is_mount Kind.Bus = false
 
 -- whether the triple gives this application this right in the document of this number
 abbrev pub gives : List ℕ → ℕ → Right → Triple → Bool
@@ -81,3 +90,20 @@ held_of rights app number = record {
 abbrev pub is_app : List ℕ → Who → Bool
 is_app app Who.Host = false
 is_app app (Who.App name) = is_same name app
+
+abbrev pub is_host : Who → Bool
+is_host Who.Host = true
+is_host (Who.App app) = false
+
+-- ---- open handles
+
+abbrev pub is_handle : ℕ → ℕ → OpenHandle → Bool
+is_handle seat fh h = h.seat == seat && h.fh == fh
+
+-- the open handle of a number, on the connection of a seat
+abbrev pub handle_of : List OpenHandle → ℕ → ℕ → Option Handle
+handle_of handles seat fh = option_map (λ h. h.handle) (find (is_handle seat fh) handles)
+
+-- what the connection of a seat has open
+abbrev pub handles_of : List OpenHandle → ℕ → List OpenHandle
+handles_of handles seat = filter (λ h. h.seat == seat) handles

@@ -9,24 +9,19 @@ use Rattle.portal_model.specs.declared.reply.Answer.{Answer}
 use Rattle.portal_model.specs.declared.reply.Change.{Change}
 use Rattle.portal_model.specs.declared.reply.Code.TheVariants as Code
 use Rattle.portal_model.specs.declared.reply.Reply.{Reply}
-use Rattle.portal_model.specs.declared.request.NodeOp.{NodeOp}
 use Rattle.portal_model.specs.declared.request.NodeRequest.{NodeRequest}
 use Rattle.portal_model.specs.declared.request.Request.{Request}
 use Rattle.portal_model.specs.declared.state.Connection.{Connection}
 use Rattle.portal_model.specs.Bus.{bus_answer, bus_walk}
 use Rattle.portal_model.specs.Collect.{collect}
 use Rattle.portal_model.specs.Enter.{enter}
-use Rattle.portal_model.specs.Errno.{enosys}
-use Rattle.portal_model.specs.GetAttr.{get_attr_answer, get_attr_looks}
 use Rattle.portal_model.specs.Leave.{leave}
+use Rattle.portal_model.specs.Node.{node_answer, walk_on_node}
 use Rattle.portal_model.specs.State.{State, connection_of}
 use Rattle.portal_model.specs.Walk.{looks_shown}
+pub use Rattle.portal_model.specs.State.{is_mount}
 
 -- ---- the connection that asks
-
-abbrev pub is_mount : Kind → Bool
-is_mount Kind.Mount = true
-is_mount Kind.Bus = false
 
 -- the connection, where it is a mount
 abbrev pub mount_of : Option Connection → Option Connection
@@ -64,17 +59,8 @@ on_connection s answered (Some c) = with_signals c.unsent (answered (all_told c.
 
 -- ---- the step
 
--- the answer in place of those that have no definition yet: a request with it is no lawful entry
-abbrev pub undefined_answer : Answer
-undefined_answer = Answer.Refused (Code.Errno enosys)
-
--- a request on a node, of this caller: the state after, and the answer
-abbrev pub node_answer : State → Who → NodeRequest → NodeOp → Given → State × Answer
-node_answer s who r (NodeOp.GetAttr flags fh) given = (s, get_attr_answer s who r flags given.looks)
-node_answer s who r op given = (s, undefined_answer)
-
 abbrev pub node_step : State → NodeRequest → Given → Option Connection → State × Reply
-node_step s r given o = on_connection s (λ s c. node_answer s c.who r r.op given) o
+node_step s r given o = on_connection s (λ s c. node_answer s c r given) o
 
 abbrev pub collect_step : State → Option Connection → State × Reply
 collect_step s o = on_connection s (λ s c. collect s) o
@@ -119,16 +105,11 @@ reply_at s e = (step s e).1
 
 -- ---- looks at the tree
 
--- The looks that an entry takes over a tree that tells its files, where none fails. Requests on
--- nodes that have no definition yet are no lawful entries: the empty list says nothing of them.
-
-abbrev pub node_op_looks : State → Who → NodeRequest → NodeOp → List Look
-node_op_looks s who r (NodeOp.GetAttr flags fh) = get_attr_looks s who r flags
-node_op_looks s who r op = []
+-- the looks that an entry takes over a tree that tells its files, where none fails
 
 abbrev pub node_looks : State → NodeRequest → Option Connection → List Look
 node_looks s r None = []
-node_looks s r (Some c) = node_op_looks s c.who r r.op
+node_looks s r (Some c) = looks_shown s.files (walk_on_node (all_told c.seat s) c r)
 
 -- The looks of the walk: an Add's, and none of another request on documents. The numbers that new
 -- documents get don't bear on them.

@@ -1,19 +1,23 @@
 -- What is true of every state that a portal reaches.
-use Rattle.std.specs.Prelude.{◌≡◌, ℕ, ◌==◌, ◌^◌, ◌<◌, ◌≤◌, nat_eq, nat_le, nat_lt, List, [], ◌∷◌, length, map, Bool, true, false, not, ◌&&◌, ◌||◌, is_some}
-use Rattle.std.specs.List.{list_any, list_all, IsDistinct}
+use Rattle.std.specs.Prelude.{◌≡◌, ℕ, ◌==◌, ◌^◌, ◌<◌, ◌≤◌, nat_eq, nat_le, nat_lt, List, [], ◌∷◌, length, map, Bool, true, false, not, ◌&&◌, ◌||◌, Option, Some, None, is_some}
+use Rattle.std.specs.List.{All, list_any, list_all, IsDistinct}
+use Rattle.dbus_types.specs.declared.types.Value.{Value}
 use Rattle.portal_base.specs.Names.{is_same, is_app_name, is_host_path, is_byte_of_path}
 use Rattle.portal_base.specs.declared.names.doc_id.DocId.{DocId}
 use Rattle.portal_base.specs.declared.who.Kind.{Kind}
 use Rattle.portal_base.specs.declared.who.Who.{Who}
+use Rattle.portal_model.specs.declared.handle.Handle.{Handle}
+use Rattle.portal_model.specs.declared.handle.OpenHandle.{OpenHandle}
 use Rattle.portal_model.specs.declared.records.EntryRecord.{EntryRecord}
 use Rattle.portal_model.specs.declared.records.Row.{Row}
 use Rattle.portal_model.specs.declared.reply.Change.{Change}
 use Rattle.portal_model.specs.declared.state.Connection.{Connection}
 use Rattle.portal_model.specs.declared.state.Document.{Document}
 use Rattle.portal_model.specs.declared.state.Triple.{Triple}
+use Rattle.portal_model.specs.Changed.{HasDatum}
 use Rattle.portal_model.specs.Content.{is_folder}
 use Rattle.portal_model.specs.Rights.{are_in_order}
-use Rattle.portal_model.specs.State.{State, document_of}
+use Rattle.portal_model.specs.State.{State, connection_of, document_of, handles_of, is_mount}
 
 abbrev pub is_made : List DocId → ℕ → Bool
 is_made made number = list_any (λ id. id.number == number) made
@@ -48,6 +52,7 @@ is_text t = list_all is_byte_of_path t
 abbrev pub has_texts : Row → Bool
 has_texts row = is_text row.app && list_all is_text row.names
 
+-- a change has as yet no data and no rows, so its texts are all that there is to say of it
 abbrev pub is_sound_change : Change → Bool
 is_sound_change c = is_text c.table && is_text c.id
 
@@ -68,12 +73,41 @@ is_sound_connection queued c =
 abbrev pub same_entry : EntryRecord → EntryRecord → Bool
 same_entry a b = is_same a.table b.table && is_same a.id b.id
 
-abbrev pub is_sound_entry : EntryRecord → Bool
-is_sound_entry e = is_text e.table && (is_text e.id && list_all has_texts e.rows)
+abbrev pub has_entry_texts : EntryRecord → Bool
+has_entry_texts e = is_text e.table && (is_text e.id && list_all has_texts e.rows)
+
+-- The texts of the entry have no zero byte, and its data is a variant that keeps the rules of types
+-- and values, holds no handle, and can be told in a message.
+pub record IsValidEntry (e : EntryRecord) : Type 0 where
+  pub texts : has_entry_texts e ≡ true
+  pub told : (datum : Value) × HasDatum e datum
 
 -- the greatest number of applications that may be numbered
 abbrev pub applications_limit : ℕ
 applications_limit = 16777216
+
+-- ---- open handles
+
+-- the number of a handle is one that the seat's mount was given
+abbrev pub opened_here : ℕ → Option Connection → Bool
+opened_here fh None = false
+opened_here fh (Some c) = is_mount c.kind && (nat_lt 0 fh && nat_le fh c.opens)
+
+-- an open file is named by a path on the host
+abbrev pub has_host_path : Handle → Bool
+has_host_path (Handle.File name node read write) = is_host_path name.path
+has_host_path (Handle.Folder node names) = true
+
+abbrev pub is_sound_handle : List Connection → OpenHandle → Bool
+is_sound_handle connections h =
+    opened_here h.fh (connection_of connections h.seat) && has_host_path h.handle
+
+abbrev pub same_handle : OpenHandle → OpenHandle → Bool
+same_handle a b = a.seat == b.seat && a.fh == b.fh
+
+-- the connection has at most so many handles open
+abbrev pub opens_within : ℕ → List OpenHandle → Connection → Bool
+opens_within limit handles c = nat_le (length (handles_of handles c.seat)) limit
 
 pub record Valid (s : State) : Type 0 where
   -- live numbers differ, are made, and are those that identifiers write
@@ -88,11 +122,17 @@ pub record Valid (s : State) : Type 0 where
   pub rights_placed : list_all (is_placed s) s.rights ≡ true
   pub seats_differ : IsDistinct nat_eq (map (λ c. c.seat) s.connections)
   pub connections_sound : list_all (is_sound_connection s.limits.queued) s.connections ≡ true
+  -- open handles of a seat differ in number
+  pub handles_differ : IsDistinct same_handle s.handles
+  pub handles_sound : list_all (is_sound_handle s.connections) s.handles ≡ true
+  pub handles_within :
+      list_all (opens_within s.limits.handles s.handles) s.connections ≡ true
   pub entries_differ : IsDistinct same_entry s.entries
-  pub entries_sound : list_all is_sound_entry s.entries ≡ true
-  -- files differ in path; none lies below a file, and none is the root
+  pub entries_sound : All IsValidEntry s.entries
+  -- files differ in path, which is one on the host; none lies below a file, and none is the root
   pub files_differ : IsDistinct is_same (map (λ f. f.path) s.files)
   pub files_apart : list_all (λ f. not (is_folder s.files f.path)) s.files ≡ true
+  pub files_named : list_all (λ f. is_host_path f.path) s.files ≡ true
   pub files_told : s.told ≡ false → s.files ≡ []
   pub documents_within : length s.documents ≤ s.limits.documents
   pub made_within : length s.made ≤ s.limits.made

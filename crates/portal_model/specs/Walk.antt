@@ -1,7 +1,6 @@
 -- The calls of the tree of files that a request makes, one after another: what comes next is told
 -- by what was shown so far. What the tree gives to a request, where a call may fail and whether
--- the clock is read follow from this, once for all requests on documents; a GETATTR has its looks
--- apart.
+-- the clock is read follow from this, once for all requests on documents and on nodes.
 use Rattle.std.specs.Prelude.{◌≡◌, ℕ, List, [], ◌∷◌, length, Bool, true, false, Option, Some, None, cond, is_some}
 use Rattle.portal_base.specs.declared.files.FileName.{FileName}
 use Rattle.portal_base.specs.declared.files.File.{File}

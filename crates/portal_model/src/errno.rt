@@ -11,10 +11,24 @@ pub const EIO: u32 = 5;
 pub const EBADF: u32 = 9;
 /// Out of memory.
 pub const ENOMEM: u32 = 12;
+/// Permission denied.
+pub const EACCES: u32 = 13;
+/// File exists.
+pub const EEXIST: u32 = 17;
+/// Not a directory.
+pub const ENOTDIR: u32 = 20;
+/// Is a directory.
+pub const EISDIR: u32 = 21;
 /// Invalid argument.
 pub const EINVAL: u32 = 22;
+/// Too many open files.
+pub const EMFILE: u32 = 24;
+/// File too large.
+pub const EFBIG: u32 = 27;
 /// No space left on device.
 pub const ENOSPC: u32 = 28;
+/// File name too long.
+pub const ENAMETOOLONG: u32 = 36;
 /// Function not implemented.
 pub const ENOSYS: u32 = 38;
 /// Protocol error.

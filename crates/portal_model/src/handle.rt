@@ -27,3 +27,14 @@ pub enum Handle {
         names: List<DirName>,
     },
 }
+
+/// An open handle of a connection.
+#[derive(Debug, Drop)]
+pub struct OpenHandle {
+    /// The seat of the connection.
+    pub seat: u32,
+    /// Its number, from 1, which no other handle of the connection ever has.
+    pub fh: u64,
+    /// What it stands for.
+    pub handle: Handle,
+}

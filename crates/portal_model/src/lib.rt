@@ -14,8 +14,8 @@
 //! | `opening`, `records` | what a run begins with, and the records that outlive it |
 //! | `errno` | the numbers of errors on nodes |
 //! | `desk` | [`desk::Desk`], where a seat asks |
-//! | `laws`, `document_laws` | laws of histories, and of requests on documents |
-//! | `examples`, `document_examples` | cases that are worked out by hand, computed over the definitions |
+//! | `laws`, `document_laws`, `node_laws` | laws of histories, of requests on documents, and of requests on nodes |
+//! | `examples`, `document_examples`, `file_examples` | cases that are worked out by hand, computed over the definitions |
 //!
 //! ```text
 //! let reply = desk.ask(alloc, Request::Enter { who: Who::Host, kind: Kind::Bus })?;
@@ -31,8 +31,10 @@ pub mod document_laws;
 pub mod entry;
 pub mod errno;
 pub mod examples;
+pub mod file_examples;
 pub mod handle;
 pub mod laws;
+pub mod node_laws;
 pub mod opening;
 pub mod place;
 pub mod records;

@@ -1,7 +1,7 @@
 //! The nodes of the file view: the arithmetic of their numbers.
 
-ghost use Rattle.std.specs.Prelude.{◌≡◌, Some, None, MatchOption};
-ghost use Rattle.portal_model.specs.Place.{DocumentFile, place_named};
+ghost use Rattle.std.specs.Prelude.{◌≡◌, MatchOption, true, false};
+ghost use Rattle.portal_model.specs.Place.{id_of_node, is_own_file};
 
 /// Where the view stands in a node's number, which is
 /// `view * 2^36 + kind * 2^32 + id`.
@@ -18,10 +18,32 @@ const OWN_VIEW: u64 = 0;
 /// The kind of a document's file.
 const DOCUMENT_FILE: u64 = 2;
 
+/// What stands in a view.
+#[derive(Clone, Copy, Debug, PartialEq, Eq)]
+pub enum Item {
+    /// The root of the view.
+    Root,
+    /// The folder with the views of all applications.
+    ByApp,
+    /// The folder of the document of this number.
+    DocumentFolder(u32),
+    /// The file of the document of this number.
+    DocumentFile(u32),
+}
+
+/// A place of the file view, which a node's number names.
+#[derive(Clone, Copy, Debug, PartialEq, Eq)]
+pub struct Place {
+    /// The view: 0 for the caller's own, k for that of application k.
+    pub view: u32,
+    /// What stands there.
+    pub item: Item,
+}
+
 /// The number of the document whose file a node is, in the caller's own view.
 pub fn file_number(node: u64) -> Option<u32>
-    ensures { MatchOption result (place_named node ≡ None)
-        (λ number. place_named node ≡ Some (DocumentFile number)) }
+    ensures { MatchOption result (is_own_file node ≡ false)
+        (λ number. (is_own_file node ≡ true) × (number ≡ id_of_node node)) }
 {
     if node >> VIEW_SHIFT == OWN_VIEW && (node >> KIND_SHIFT) & KIND_MASK == DOCUMENT_FILE {
         Some((node & ID_MASK) as u32)

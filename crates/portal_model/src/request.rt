@@ -2,7 +2,6 @@
 
 ghost use Rattle.std.specs.Prelude.{◌≡◌};
 ghost use Rattle.portal_model.specs.GetAttr.{names_handle as is_by_handle};
-ghost use Rattle.portal_model.specs.Lawful.{is_defined_op};
 
 use portal_base::list::{ByteList, List};
 use portal_base::memory::{Replica, WantOfMemory};
@@ -121,32 +120,6 @@ pub enum NodeOp {
         /// The rights that are asked for, as in access(2).
         mask: u32,
     },
-}
-
-impl NodeOp {
-    /// Says whether the portal's definitions say what is answered.
-    pub fn is_defined(&self) -> bool
-        ensures { result ≡ is_defined_op self.now }
-    {
-        match self {
-            NodeOp::GetAttr { .. } => true,
-            NodeOp::Lookup { .. }
-            | NodeOp::Forget { .. }
-            | NodeOp::BatchForget { .. }
-            | NodeOp::SetAttr { .. }
-            | NodeOp::Open { .. }
-            | NodeOp::Create { .. }
-            | NodeOp::Read { .. }
-            | NodeOp::Write { .. }
-            | NodeOp::Flush { .. }
-            | NodeOp::Fsync { .. }
-            | NodeOp::Release { .. }
-            | NodeOp::OpenDir
-            | NodeOp::ReadDir { .. }
-            | NodeOp::ReleaseDir { .. }
-            | NodeOp::Access { .. } => false,
-        }
-    }
 }
 
 /// The bit of the flags of a FUSE_GETATTR that says that it names an open

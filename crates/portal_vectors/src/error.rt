@@ -2,6 +2,7 @@
 
 use portal_base::memory::WantOfMemory;
 use portal_base::names::NameError;
+use portal_core::start::StartError;
 use script_form::error::ScriptError;
 use std::alloc::{AllocError, Global};
 use vector_lines::error::LineError;
@@ -16,6 +17,8 @@ pub enum VectorError {
     Name(NameError),
     /// The text is no script.
     Script(ScriptError),
+    /// No portal starts.
+    Start(StartError),
 }
 
 impl VectorError {
@@ -25,6 +28,7 @@ impl VectorError {
             VectorError::Line(error) => debug(alloc, &error),
             VectorError::Name(error) => debug(alloc, &error),
             VectorError::Script(error) => debug(alloc, &error),
+            VectorError::Start(error) => debug(alloc, &error),
         }
     }
 }

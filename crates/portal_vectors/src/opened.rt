@@ -4,11 +4,14 @@ ghost use Rattle.std.specs.Prelude.{◌≡◌, [], ◌≤◌, length, IfOk};
 ghost use Rattle.script_form.specs.Opening.{HoldsScripts};
 
 use crate::error::VectorError;
+use host_tree::MemoryTree;
 use portal_base::limits::Limits;
 use portal_base::names::AppId;
+use portal_base::outside::{ListWords, SetClock};
 use portal_base::who::{Kind, Who};
 use portal_core::portal::Portal;
-use script_form::opening::opening_of;
+use record_keeper::MemoryKeeper;
+use script_form::devices::{ScriptDevices, devices_of};
 use script_form::reader::read_script;
 use std::alloc::Global;
 use vector_lines::error::LineError;
@@ -33,14 +36,25 @@ pub fn limits(history: u64) -> Limits
     }
 }
 
+/// A portal over devices in memory.
+pub type ScriptPortal = Portal<MemoryTree, MemoryKeeper, SetClock, ListWords>;
+
 /// A portal that a script opens, whose history may cost so much.
-pub fn opened_by(alloc: Global, script: &[u8], history: u64) -> Result<Portal, VectorError>
+pub fn opened_by(alloc: Global, script: &[u8], history: u64) -> Result<ScriptPortal, VectorError>
     requires { length script.now ≤ LONGEST }
-    ensures { IfOk result (λ portal. portal.history ≡ []) }
+    ensures { IfOk result (λ portal. portal.story.history ≡ []) }
 {
     let script = read_script(alloc, script)?;
-    let opening = opening_of(alloc, &script, limits(history))?;
-    Ok(Portal::start(alloc, &opening)?)
+    let ScriptDevices {
+        tree,
+        keeper,
+        words,
+    } = devices_of(alloc, &script)?;
+    let clock = SetClock::new(0);
+    match Portal::start(alloc, tree, keeper, clock, words, limits(history)) {
+        Ok(portal) => Ok(portal),
+        Err(refusal) => Err(VectorError::Start(refusal.error)),
+    }
 }
 
 /// A caller: `host`, or the name of an application.

@@ -4,16 +4,16 @@ ghost use Rattle.std.specs.Prelude.{IfOk};
 ghost use Rattle.portal_model.specs.Built.{Built};
 
 use crate::error::VectorError;
-use crate::opened::{LONGEST, kind, opened_by, who};
+use crate::opened::{LONGEST, ScriptPortal, kind, opened_by, who};
 use portal_base::limits::Limits;
 use portal_base::list::List;
 use portal_core::local_desk::LocalDesk;
-use portal_core::portal::Portal;
 use portal_history::History;
 use portal_model::desk::Desk;
 use portal_model::entry::{Entry, Fault, Given};
+use portal_model::place::file_number;
 use portal_model::reply::{Refused, Reply};
-use portal_model::request::{NodeOp, NodeRequest, Request};
+use portal_model::request::{NodeOp, NodeRequest, Request, names_handle};
 use std::alloc::Global;
 use vector_lines::error::LineError;
 use vector_lines::notation::{self, cut, debug, number, small_number};
@@ -22,7 +22,8 @@ use vector_lines::notation::{self, cut, debug, number, small_number};
 /// a portal that the script opens and whose history may cost LIMIT; and then how
 /// many entries the history has, and their cost. A request is `SEAT enter WHO
 /// KIND`, `SEAT leave`, `SEAT collect` or `SEAT getattr NODE FLAGS FH`, the last
-/// by user and group 1000; `desk SEAT REQUEST, REQUEST ..` asks them of one desk
+/// by user and group 1000, of a document's file in the own view and without a
+/// handle; `desk SEAT REQUEST, REQUEST ..` asks them of one desk
 /// of the seat.
 pub fn portal(alloc: Global, rest: &str) -> Result<String, VectorError> {
     let (limit, rest) = cut(rest);
@@ -31,14 +32,14 @@ pub fn portal(alloc: Global, rest: &str) -> Result<String, VectorError> {
 }
 
 /// What each request behind the script is answered, and the history then.
-fn answered(alloc: Global, portal: &mut Portal, rest: &str) -> Result<String, VectorError> {
+fn answered(alloc: Global, portal: &mut ScriptPortal, rest: &str) -> Result<String, VectorError> {
     let replies = asked_in_turn(alloc, portal, rest)?;
     let history = told(alloc, portal)?;
     Ok(format!(in alloc; "{replies}{history}")?)
 }
 
 /// A portal that the script ahead of the requests opens.
-fn opened_in(alloc: Global, rest: &str, limit: u64) -> Result<Portal, VectorError> {
+fn opened_in(alloc: Global, rest: &str, limit: u64) -> Result<ScriptPortal, VectorError> {
     let script = notation::text(alloc, rest.split(" | ").next().unwrap_or(""))?;
     if script.len() > LONGEST {
         return Err(VectorError::Line(LineError::BadLine));
@@ -47,14 +48,18 @@ fn opened_in(alloc: Global, rest: &str, limit: u64) -> Result<Portal, VectorErro
 }
 
 /// How many entries the history has, and their cost.
-fn told(alloc: Global, portal: &Portal) -> Result<String, VectorError> {
+fn told(alloc: Global, portal: &ScriptPortal) -> Result<String, VectorError> {
     let entries = portal.history().len();
     let cost = portal.history().cost();
     Ok(format!(in alloc; "{entries} entries of {cost}")?)
 }
 
 /// What each request behind the script is answered.
-fn asked_in_turn(alloc: Global, portal: &mut Portal, rest: &str) -> Result<String, VectorError> {
+fn asked_in_turn(
+    alloc: Global,
+    portal: &mut ScriptPortal,
+    rest: &str,
+) -> Result<String, VectorError> {
     let mut out = String::new(alloc);
     for part in rest.split(" | ").skip(1) {
         let reply = asked(alloc, portal, part)?;
@@ -65,7 +70,7 @@ fn asked_in_turn(alloc: Global, portal: &mut Portal, rest: &str) -> Result<Strin
 }
 
 /// What one request is answered.
-fn asked(alloc: Global, portal: &mut Portal, part: &str) -> Result<String, VectorError> {
+fn asked(alloc: Global, portal: &mut ScriptPortal, part: &str) -> Result<String, VectorError> {
     if let Some(request) = part.strip_prefix("desk ") {
         return asked_at_desk(alloc, portal, request);
     }
@@ -79,7 +84,11 @@ fn asked(alloc: Global, portal: &mut Portal, part: &str) -> Result<String, Vecto
 }
 
 /// What each request of a desk is answered, and how many the desk refused by then.
-fn asked_at_desk(alloc: Global, portal: &mut Portal, part: &str) -> Result<String, VectorError> {
+fn asked_at_desk(
+    alloc: Global,
+    portal: &mut ScriptPortal,
+    part: &str,
+) -> Result<String, VectorError> {
     let (seat, requests) = cut(part);
     let seat = seat_of(seat)?;
     if seat == 0 {
@@ -99,7 +108,7 @@ fn asked_at_desk(alloc: Global, portal: &mut Portal, part: &str) -> Result<Strin
 /// What one request of a desk is answered, and how many it refused by then.
 fn asked_once(
     alloc: Global,
-    desk: &mut LocalDesk<Portal>,
+    desk: &mut LocalDesk<ScriptPortal>,
     words: &str,
 ) -> Result<String, VectorError> {
     let reply = desk.ask(alloc, request_of(alloc, words)?);
@@ -146,14 +155,17 @@ fn getattr(rest: &str) -> Result<Request, VectorError>
 {
     let (node, rest) = cut(rest);
     let (flags, fh) = cut(rest);
+    let node = number(node)?;
+    let flags = small_number(flags)?;
+    let fh = number(fh)?;
+    if names_handle(flags) || file_number(node).is_none() {
+        return Err(VectorError::Line(LineError::BadLine));
+    }
     Ok(Request::Node(NodeRequest {
-        node: number(node)?,
+        node,
         uid: 1000,
         gid: 1000,
-        op: NodeOp::GetAttr {
-            flags: small_number(flags)?,
-            fh: number(fh)?,
-        },
+        op: NodeOp::GetAttr { flags, fh },
     }))
 }
 

@@ -5,7 +5,7 @@ ghost use Rattle.portal_model.specs.Seated.{is_open, state_seen};
 
 use crate::drip::Drip;
 use crate::error::VectorError;
-use crate::opened::{PLENTY, kind, limits, opened_by, who};
+use crate::opened::{PLENTY, ScriptPortal, kind, limits, opened_by, who};
 use crate::waiting::{Counting, Waiting};
 use portal_base::limits::Settings;
 use portal_base::list::{ByteList, List};
@@ -13,7 +13,6 @@ use portal_base::names::HostPath;
 use portal_base::outside::{MemorySink, Sink, Source};
 use portal_base::who::{Kind, Who};
 use portal_core::local_desk::LocalDesk;
-use portal_core::portal::Portal;
 use portal_model::desk::Desk;
 use session::connection::serve_connection;
 use session::served::Served;
@@ -136,13 +135,13 @@ struct Came {
 /// Serves a connection of a portal that has no connection yet.
 fn serve_portal<S: Source, K: Sink>(
     alloc: Global,
-    portal: &mut Portal,
+    portal: &mut ScriptPortal,
     who: &Who,
     kind: Kind,
     source: &mut S,
     sink: &mut K,
 ) -> Result<Came, VectorError>
-    requires { portal.old.history ≡ [] }
+    requires { portal.old.story.history ≡ [] }
 {
     let settings = settings(alloc)?;
     let served = {
@@ -164,11 +163,11 @@ fn served(alloc: Global, client: &Client, size: u64) -> Result<String, VectorErr
 /// The same over a portal that has no connection yet.
 fn served_by(
     alloc: Global,
-    portal: &mut Portal,
+    portal: &mut ScriptPortal,
     client: &Client,
     size: u64,
 ) -> Result<String, VectorError>
-    requires { portal.old.history ≡ [] }
+    requires { portal.old.story.history ≡ [] }
 {
     let mut source = dripped(alloc, client, size)?;
     let mut sink = MemorySink::new(alloc, client.options.write);
@@ -274,11 +273,11 @@ fn fed_to_host(
 /// The same of a portal that has no connection yet.
 fn fed_portal(
     alloc: Global,
-    portal: &mut Portal,
+    portal: &mut ScriptPortal,
     pieces: &[ByteList; 3],
     sink: &mut MemorySink,
 ) -> Result<String, VectorError>
-    requires { portal.old.history ≡ [] }
+    requires { portal.old.story.history ≡ [] }
 {
     let settings = settings(alloc)?;
     let told = {

@@ -102,7 +102,7 @@ found_same table id entry text other =
 pub entry_taken : (old new : List (List ℕ)) (entry : EntryRecord) (key : List ℕ) → IsSoundEntry entry → key ≡ key_text entry.table entry.id
     → list_any (is_same key) old ≡ false → ((test : List ℕ → Bool) → list_any test new ≡ (test key || list_any test old)) → TakesEntry old entry new true
 entry_taken old new entry key sound is fresh wider = λ earlier kept.
-    let text = (and_parts (is_text entry.table) _ sound.texts).0 in (
+    let text = (and_parts (is_text entry.table) _ sound.valid.texts).0 in (
       record { itself = sound; new = sym (kept entry.table entry.id text) ∙ ap (λ (k : List ℕ). list_any (is_same k) old) (sym is) ∙ fresh },
       λ table id plain. more (is_of_key table id) earlier entry _ (is_same (key_text table id) key)
           (found_same table id entry plain text ∙ ap (is_same (key_text table id)) (sym is))

@@ -1,7 +1,7 @@
 pub mod Behind
 pub mod EarlierFacts
 pub mod FirstPassing
-pub mod NameForms
+pub mod SameTexts
 pub mod NameSets
 pub mod NamingFacts
 pub mod OneIsWrong

@@ -10,7 +10,7 @@ use Rattle.portal_model.specs.Opening.{each, first_named}
 use Rattle.portal_model.specs.declared.records.DocRecord.{DocRecord}
 use Rattle.record_keeper.specs.BadRecords.{names_granted, applications_of}
 use Rattle.record_keeper.specs.Naming.{also_named}
-use Rattle.record_keeper.proofs.NameForms.{same_from_test}
+use Rattle.record_keeper.proofs.SameTexts.{same_from_test}
 use Rattle.record_keeper.proofs.StoppedReader.{append_nil}
 
 abbrev fresh : List (List ℕ) → List ℕ → Bool

@@ -2,6 +2,7 @@
 use Rattle.std.specs.Prelude.{◌≡◌, ◌≢◌, ◌⊎◌, ℕ, ◌+◌, ◌<◌, ◌≤◌, false, List, [], ◌∷◌, ◌++◌, length, map, Option, None, Some}
 use Rattle.std.specs.List.{list_any}
 use Rattle.portal_base.specs.declared.limits.Limits.{Limits}
+use Rattle.portal_model.specs.Kept.{records_version}
 use Rattle.portal_model.specs.Opening.{each, first_named}
 use Rattle.portal_model.specs.RecordChanges.{is_numbered, is_of_key}
 use Rattle.portal_model.specs.Valid.{applications_limit}
@@ -57,10 +58,6 @@ IsFirstBad {X} Good items place = (before : List X) × (bad : X) × (behind : Li
     × (place ≡ length before)
 
 -- ---- all records
-
--- the only version that records have
-abbrev pub records_version : ℕ
-records_version = 1
 
 -- no record is bad
 pub record AreGood (limits : Limits) (records : Records) : Type 0 where

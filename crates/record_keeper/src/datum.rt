@@ -2,8 +2,8 @@
 
 ghost use Rattle.std.specs.Prelude.{◌≡◌, IfOk, map};
 ghost use Rattle.std.specs.List.{list_any};
+ghost use Rattle.portal_model.specs.Changed.{holds_handle as holds_handle_in};
 ghost use Rattle.record_keeper.specs.Reading.{ReadsDatum};
-ghost use Rattle.record_keeper.specs.SoundRecords.{holds_handle as holds_handle_in};
 
 use dbus_marshal::error::ReadError;
 use dbus_marshal::read::read_value;

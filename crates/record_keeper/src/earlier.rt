@@ -62,8 +62,7 @@ impl EarlierDocuments {
         if self.numbers.contains(&document.number) {
             return Ok(false);
         }
-        let sound = is_sound_document(alloc, document)?;
-        if !sound {
+        if !is_sound_document(document) {
             return Ok(false);
         }
         self.put(alloc, document)?;

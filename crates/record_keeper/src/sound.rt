@@ -3,15 +3,16 @@
 ghost use Rattle.std.specs.Prelude.{◌≡◌, ◌↔◌, IfOk, IsTrue};
 ghost use Rattle.std.specs.List.{list_any, list_all};
 ghost use Rattle.dbus_types.specs.declared.types.Value.{Value as Value'};
-ghost use Rattle.portal_model.specs.Valid.{is_sound_entry as has_texts, has_texts as row_has_texts, is_text as is_text_of};
-ghost use Rattle.record_keeper.specs.SoundRecords.{IsSoundEntry, HasDatum, is_empty_row as is_empty};
+ghost use Rattle.portal_model.specs.Changed.{HasDatum};
+ghost use Rattle.portal_model.specs.Valid.{has_entry_texts as has_texts, has_texts as row_has_texts, is_text};
+ghost use Rattle.record_keeper.specs.SoundRecords.{IsSoundEntry, is_empty_row as is_empty};
 
 use crate::changed_signal::message_length;
 use crate::datum::read_datum;
 use crate::keys::keys_rise;
 use dbus_marshal::write::one_spelling;
 use portal_base::memory::WantOfMemory;
-use portal_base::text::Text;
+use portal_base::text::{Text, has_no_zero};
 use portal_model::records::{EntryRecord, Row};
 use std::alloc::Global;
 
@@ -36,25 +37,18 @@ pub fn is_sound_entry(alloc: Global, entry: &EntryRecord) -> Result<bool, WantOf
     has_datum(alloc, entry)
 }
 
-/// Whether a text has no zero byte.
-fn is_text(text: &[u8]) -> bool
-    ensures { result ≡ is_text_of text.now }
-{
-    text.iter().all(|byte| *byte != 0)
-}
-
 /// Whether none of the texts has a zero byte.
 fn are_texts(texts: &[Text]) -> bool
-    ensures { result ≡ list_all is_text_of texts.now }
+    ensures { result ≡ list_all is_text texts.now }
 {
-    texts.iter().all(|text| is_text(text.as_bytes()))
+    texts.iter().all(|text| has_no_zero(text.as_bytes()))
 }
 
 /// Whether no text of a row has a zero byte.
 fn has_sound_row(row: &Row) -> bool
     ensures { result ≡ row_has_texts row.now }
 {
-    is_text(row.app.as_bytes()) && are_texts(row.names.as_slice())
+    has_no_zero(row.app.as_bytes()) && are_texts(row.names.as_slice())
 }
 
 /// Whether no text of the rows has a zero byte.
@@ -68,8 +62,8 @@ fn have_sound_rows(rows: &[Row]) -> bool
 fn has_sound_texts(entry: &EntryRecord) -> bool
     ensures { result ≡ has_texts entry.now }
 {
-    is_text(entry.table.as_bytes())
-        && is_text(entry.id.as_bytes())
+    has_no_zero(entry.table.as_bytes())
+        && has_no_zero(entry.id.as_bytes())
         && have_sound_rows(entry.rows.as_slice())
 }
 

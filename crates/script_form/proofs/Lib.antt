@@ -2,7 +2,6 @@ pub mod GrantFacts
 pub mod TextFacts
 pub mod WordFacts
 pub mod LineFacts
-pub mod PathFacts
 pub mod SetFacts
 pub mod JoinFacts
 pub mod RowFacts
@@ -14,3 +13,4 @@ pub mod SoundFacts
 pub mod OneWay
 pub mod RecordsFacts
 pub mod WrittenFacts
+pub mod FilesPlaced

@@ -6,7 +6,7 @@ use Rattle.std.specs.List.{All, list_any, list_all, AllByRecursion, IsDistinct}
 use Rattle.std.proofs.lemmas.Bool.{and_parts, ltb-true}
 use Rattle.std.proofs.lemmas.Bool.Decides.{nat_tests}
 use Rattle.std.proofs.lemmas.List.{length-append, take_all}
-use Rattle.std.proofs.lemmas.List.Elements.{All-head, All-tail}
+use Rattle.std.proofs.lemmas.List.Elements.{All-nil, All-cons, All-head, All-tail}
 use Rattle.std.proofs.lemmas.List.Folds.{list_any-append}
 use Rattle.std.proofs.lemmas.List.Sums.{sum_by-append}
 use Rattle.portal_base.specs.Names.{is_same, is_app_name, is_host_path, root}
@@ -19,7 +19,7 @@ use Rattle.portal_model.specs.declared.opening.OpeningDocument.{OpeningDocument}
 use Rattle.portal_model.specs.declared.records.GrantRecord.{GrantRecord}
 use Rattle.portal_model.specs.declared.opening.OpeningState.{OpeningState}
 use Rattle.portal_model.proofs.OpeningLaws.{sound-ValidOpening}
-use Rattle.portal_model.specs.Valid.{same_entry, is_sound_entry}
+use Rattle.portal_model.specs.Valid.{same_entry, IsValidEntry}
 use Rattle.portal_model.specs.declared.records.EntryRecord.{EntryRecord}
 use Rattle.record_keeper.specs.SoundRecords.{IsGrant, IsRising}
 use Rattle.script_form.specs.Lines.{is_script_path, is_plain}
@@ -30,7 +30,7 @@ use Rattle.script_form.specs.declared.script.ScriptLine.{ScriptLine}
 use Rattle.script_form.specs.declared.script.ScriptLine.TheVariants.{File, Doc, Entry}
 use Rattle.script_form.proofs.ScriptFacts.{append_nil}
 use Rattle.script_form.proofs.TextFacts.{no_true, eqb_yes}
-use Rattle.record_keeper.proofs.NameForms.{same_from_test}
+use Rattle.record_keeper.proofs.SameTexts.{same_from_test}
 use Rattle.script_form.proofs.WordFacts.{same_refl}
 
 not_true : (b : Bool) → not b ≡ true → b ≡ false
@@ -185,9 +185,9 @@ entries_differ [] earlier all = tt
 entries_differ (Entry e ∷ ls) earlier all = (later_entries e ls _ (λ f same. now (stores f.table f.id) earlier (Entry e) same) all.1, entries_differ ls _ all.1)
 entries_differ (line ∷ ls) earlier all = entries_differ ls _ all.1
 
-entries_sound : (lines earlier : List ScriptLine) → StandBehind earlier lines → list_all is_sound_entry (entries_of lines) ≡ true
-entries_sound [] earlier all = refl
-entries_sound (Entry e ∷ ls) earlier all = both_true (is_sound_entry e) _ all.0.itself.1.texts (entries_sound ls _ all.1)
+entries_sound : (lines earlier : List ScriptLine) → StandBehind earlier lines → All IsValidEntry (entries_of lines)
+entries_sound [] earlier all = All-nil IsValidEntry
+entries_sound (Entry e ∷ ls) earlier all = All-cons IsValidEntry e _ all.0.itself.1.valid (entries_sound ls _ all.1)
 entries_sound (line ∷ ls) earlier all = entries_sound ls _ all.1
 
 -- ---- files
@@ -196,14 +196,14 @@ entries_sound (line ∷ ls) earlier all = entries_sound ls _ all.1
 abbrev Known : List ℕ → List ScriptLine → Type 0
 Known p earlier = (q : List ℕ) → clash q p ≡ true → list_any (clashes q) earlier ≡ true
 
-abbrev paths : ℕ → List ScriptLine → List (List ℕ)
+abbrev pub paths : ℕ → List ScriptLine → List (List ℕ)
 paths time lines = map (λ (f : FileItem). f.path) (files_from time lines)
 
 -- no two are the same, or above one another
-abbrev Clear : List ℕ → List (List ℕ) → Type 0
+abbrev pub Clear : List ℕ → List (List ℕ) → Type 0
 Clear p qs = AllByRecursion (λ q. clash q p ≡ false) qs
 
-abbrev AllClear : List (List ℕ) → Type 0
+abbrev pub AllClear : List (List ℕ) → Type 0
 AllClear [] = Unit {0}
 AllClear (p ∷ ps) = Clear p ps × AllClear ps
 
@@ -221,15 +221,20 @@ later_clear p (File q content ∷ ls) earlier time known all = (
 )
 later_clear p (line ∷ ls) earlier time known all = later_clear p ls _ (time_behind time line) (known_more p earlier _ known) all.1
 
-all_clear : (lines earlier : List ScriptLine) (time : ℕ) → StandBehind earlier lines → AllClear (paths time lines)
+pub all_clear : (lines earlier : List ScriptLine) (time : ℕ) → StandBehind earlier lines → AllClear (paths time lines)
 all_clear [] earlier time all = tt
 all_clear (File p content ∷ ls) earlier time all = (later_clear p ls _ time (λ q c. now (clashes q) earlier (File p content) c) all.1, all_clear ls _ time all.1)
 all_clear (line ∷ ls) earlier time all = all_clear ls _ (time_behind time line) all.1
 
-no_root : (lines earlier : List ScriptLine) (time : ℕ) → StandBehind earlier lines → AllByRecursion (λ p. is_same p root ≡ false) (paths time lines)
+pub no_root : (lines earlier : List ScriptLine) (time : ℕ) → StandBehind earlier lines → AllByRecursion (λ p. is_same p root ≡ false) (paths time lines)
 no_root [] earlier time all = tt
 no_root (File p content ∷ ls) earlier time all = (no_true (is_same p root) (λ same. all.0.itself.1 (same_from_test p root same)), no_root ls _ time all.1)
 no_root (line ∷ ls) earlier time all = no_root ls _ (time_behind time line) all.1
+
+files_named : (lines earlier : List ScriptLine) (time : ℕ) → StandBehind earlier lines → list_all (λ (f : FileItem). is_host_path f.path) (files_from time lines) ≡ true
+files_named [] earlier time all = refl
+files_named (File p content ∷ ls) earlier time all = both_true (is_host_path p) _ (path_is p all.0.itself.0) (files_named ls _ time all.1)
+files_named (line ∷ ls) earlier time all = files_named ls _ (time_behind time line) all.1
 
 same_clear : (p : List ℕ) (qs : List (List ℕ)) → Clear p qs → AllByRecursion (λ q. is_same p q ≡ false) qs
 same_clear p [] clear = tt
@@ -305,6 +310,7 @@ sound limits lines good holds =
       entries_sound = entries_sound lines [] good;
       files_differ = clear_differ (paths 0 lines) (all_clear lines [] 0 good);
       files_apart = files_apart (files_of lines) (files_of lines) (no_root lines [] 0 good) (none_above (paths 0 lines) (all_clear lines [] 0 good));
+      files_named = files_named lines [] 0 good;
       documents_within = omega arith;
       made_within = omega arith;
       applications_within = applications_few lines [] (omega arith) good;

@@ -28,7 +28,7 @@ use Rattle.script_form.proofs.TextFacts.{free_from}
 use Rattle.hex.specs.Hex.{is_hex_digit, IsBytes, decode_of, encode_lower, encode_with}
 use Rattle.hex.proofs.HexLemmas.{decode_of-encode_lower, decode_of-ok}
 use Rattle.script_form.specs.Lines.{hex_text, AreBytes}
-use Rattle.record_keeper.proofs.NameForms.{same_from_test}
+use Rattle.record_keeper.proofs.SameTexts.{same_from_test}
 
 and_false : (b : Bool) → (b && false) ≡ false
 and_false true = refl

@@ -8,3 +8,4 @@ pub mod Outside
 pub mod Paths
 pub mod Preceding
 pub mod Reading
+pub mod Devices

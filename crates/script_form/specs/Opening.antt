@@ -7,7 +7,7 @@ use Rattle.portal_model.specs.declared.opening.OpeningDocument.{OpeningDocument}
 use Rattle.portal_model.specs.declared.opening.OpeningState.{OpeningState}
 use Rattle.portal_model.specs.declared.records.EntryRecord.{EntryRecord}
 use Rattle.portal_model.specs.declared.records.Records.{Records}
-use Rattle.record_keeper.specs.BadRecords.{records_version}
+use Rattle.portal_model.specs.Kept.{records_version}
 use Rattle.script_form.specs.Lines.{kept_document}
 use Rattle.script_form.specs.declared.script.ScriptLine.{ScriptLine}
 use Rattle.script_form.specs.declared.script.ScriptLine.TheVariants.{File, Doc, Entry, Now}

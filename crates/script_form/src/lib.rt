@@ -19,6 +19,7 @@
 //! | `preceding`, `paths` | the lines so far, and what they say of the next one |
 //! | `opening` | the state that a script opens with |
 //! | `outside` | the words of a script, and the calls that fail in it |
+//! | `devices` | the tree, the keeper and the words of its run |
 //! | `laws` | what is true of every script |
 //!
 //! ```text
@@ -27,6 +28,7 @@
 //! ```
 #![tactic(auto)]
 
+pub mod devices;
 pub mod error;
 mod grants;
 mod joined;

@@ -60,7 +60,10 @@ fn state_of(alloc: Global, script: &Script, limits: Limits) -> Result<OpeningSta
 }
 
 /// The documents that lines keep.
-fn documents_in(alloc: Global, lines: &[ScriptLine]) -> Result<List<OpeningDocument>, WantOfMemory>
+pub(crate) fn documents_in(
+    alloc: Global,
+    lines: &[ScriptLine],
+) -> Result<List<OpeningDocument>, WantOfMemory>
     ensures { IfOk result (λ documents. documents ≡ documents_of lines.now) }
 {
     let mut documents = List::new(alloc);
@@ -111,7 +114,10 @@ fn numbers_of(alloc: Global, documents: &[OpeningDocument]) -> Result<List<DocId
 }
 
 /// The entries that lines keep.
-fn entries_in(alloc: Global, lines: &[ScriptLine]) -> Result<List<EntryRecord>, WantOfMemory>
+pub(crate) fn entries_in(
+    alloc: Global,
+    lines: &[ScriptLine],
+) -> Result<List<EntryRecord>, WantOfMemory>
     ensures { IfOk result (λ entries. entries ≡ entries_of lines.now) }
 {
     let mut entries = List::new(alloc);
@@ -149,7 +155,7 @@ fn files_in(alloc: Global, lines: &[ScriptLine]) -> Result<List<FileItem>, WantO
 }
 
 /// The time behind a line, where it is this ahead of it.
-fn time_behind(line: &ScriptLine, time: u64) -> u64
+pub(crate) fn time_behind(line: &ScriptLine, time: u64) -> u64
     ensures { result ≡ time_after time line.now }
 {
     match line {

@@ -6,7 +6,7 @@ ghost use Rattle.portal_model.specs.Content.{is_above};
 ghost use Rattle.script_form.specs.Paths.{clash};
 
 use portal_base::memory::WantOfMemory;
-use portal_base::names::host_path::HostPath;
+use portal_base::names::host_path::{HostPath, lies_above};
 use std::alloc::Global;
 use std::collections::BTreeSet;
 use std::marker::Model;
@@ -88,15 +88,5 @@ impl PathSet {
     {
         self.paths.insert(path)?;
         Ok(())
-    }
-}
-
-/// Whether one path lies above another.
-fn lies_above(path: &[u8], below: &[u8]) -> bool
-    ensures { result ≡ is_above path.now below.now }
-{
-    match below.strip_prefix(path) {
-        Some(rest) => !rest.is_empty() && rest[0] == b'/',
-        None => false,
     }
 }

@@ -19,13 +19,13 @@ use Rattle.portal_model.specs.declared.request.Request.{Request}
 use Rattle.portal_model.specs.declared.state.Connection.{Connection}
 use Rattle.portal_model.specs.Alike.{AnswersAlike, NodeAlike, ReadsAlike, TellsAlike}
 use Rattle.portal_model.specs.Enter.{enter_answer}
-use Rattle.portal_model.specs.Errno.{ebadf, eio, enoent, enosys}
-use Rattle.portal_model.specs.GetAttr.{attr_of_file, by_place, names_handle}
+use Rattle.portal_model.specs.Errno.{eio}
 use Rattle.portal_model.specs.Leave.{leave_answer}
-use Rattle.portal_model.specs.Place.{Sight, SightOfFile, place_of}
+use Rattle.portal_model.specs.Node.{node_given as verdict_given, settled_on_node, walk_on_node}
+use Rattle.portal_model.specs.NodeVerdict.{NodeVerdict, Errs, Yields}
 use Rattle.portal_model.specs.Seated.{Binding, binding_of, bound}
 use Rattle.portal_model.specs.State.{State, connection_of}
-use Rattle.portal_model.specs.Step.{all_told, bus_of, collect_step, is_mount, mount_of, node_answer, node_step, reply_at, request_step}
+use Rattle.portal_model.specs.Step.{all_told, bus_of, collect_step, is_mount, mount_of, node_step, reply_at, request_step}
 use Rattle.session.specs.declared.act.Client.{Client}
 use Rattle.session.specs.Frames.{told_of}
 use Rattle.session.specs.Hearing.{Meets}
@@ -33,26 +33,17 @@ use Rattle.session.specs.Laws.{MeetsAlike}
 use Rattle.session.proofs.ItemsFit.{Fits}
 use Rattle.session.proofs.ServedTraces.{IsAskedAt}
 
--- ---- GETATTR
+-- ---- a request on a node
 
 -- a frame tells it
 abbrev Tells : Answer → Type 0
 Tells met = (told : NodeAnswer) × (told_of met ≡ Some told)
 
-place_tells : (r : NodeRequest) (sight : Option Sight) (looks : List Look) → Tells (by_place r sight looks)
-place_tells r None looks = (node.Error enoent, refl)
-place_tells r (Some (SightOfFile path may_write)) [] = (node.Error eio, refl)
-place_tells r (Some (SightOfFile path may_write)) (look.Missing ∷ looks) = (node.Error enoent, refl)
-place_tells r (Some (SightOfFile path may_write)) (look.Folder ∷ looks) = (node.Error enoent, refl)
-place_tells r (Some (SightOfFile path may_write)) (look.File generation size moment ∷ looks) = (node.Attr (attr_of_file r may_write size moment), refl)
-
-handle_tells : (b : Bool) (r : NodeRequest) (sight : Option Sight) (looks : List Look) → Tells (cond b (answer.Refused (code.Errno ebadf)) (by_place r sight looks))
-handle_tells true r sight looks = (node.Error ebadf, refl)
-handle_tells false r sight looks = place_tells r sight looks
-
-op_tells : (s : State) (who : Who) (r : NodeRequest) (op : NodeOp) (given : Given) → Tells (node_answer s who r op given).1
-op_tells s who r (NodeOp.GetAttr flags fh) given = handle_tells (names_handle flags) r (place_of s who r.node) given.looks
-op_tells s who r op given = (node.Error enosys, refl)
+-- a refusal on a node is told by its number, and what is done by its answer
+settled_tells : (s : State) (c : Connection) (v : Option NodeVerdict) → Tells (settled_on_node s c v).1
+settled_tells s c None = (node.Error eio, refl)
+settled_tells s c (Some (Errs errno)) = (node.Error errno, refl)
+settled_tells s c (Some (Yields d)) = (d.answer, refl)
 
 -- ---- the open connection
 
@@ -74,7 +65,7 @@ collect_done s (Some c) b h k = ap (λ (z : Kind). (collect_step s (cond (is_mou
 node_told : (s : State) (r : NodeRequest) (given : Given) (o : Option Connection) (b : Binding) → option_map binding_of o ≡ Some b → b.kind ≡ Kind.Mount → Tells (node_step s r given (mount_of o)).1.answer
 node_told s r given None b h k = absurd (cc)
 node_told s r given (Some c) b h k =
-    subst (λ (z : Kind). Tells (node_step s r given (cond (is_mount z) (Some c) None)).1.answer) (sym (kind_is c b h ∙ k)) (op_tells (all_told c.seat s) c.who r r.op given)
+    subst (λ (z : Kind). Tells (node_step s r given (cond (is_mount z) (Some c) None)).1.answer) (sym (kind_is c b h ∙ k)) (settled_tells (all_told c.seat s) c (verdict_given (walk_on_node (all_told c.seat s) c r) given))
 
 -- ---- the step
 

@@ -1,5 +1,5 @@
 -- What items ask has a body.
-use Rattle.std.proofs.Common.{◌≡◌, ℕ, List, [], ◌∷◌, ◌++◌, Bool, true, false, Ok, sym, subst, refl}
+use Rattle.std.proofs.Common.{◌≡◌, ℕ, List, [], ◌∷◌, ◌++◌, Bool, true, false, not, ◌&&◌, Ok, sym, subst, refl}
 use Rattle.dbus_auth.specs.declared.handshake.AuthAnswer.{AuthAnswer}
 use Rattle.dbus_auth.specs.declared.handshake.AuthAnswer.TheVariants.{Say, Begin, Early}
 use Rattle.dbus_auth.specs.Handshake.{step}
@@ -16,6 +16,8 @@ use Rattle.portal_model.specs.declared.request.NodeOp.{NodeOp}
 use Rattle.portal_model.specs.declared.request.NodeOp.TheVariants.{GetAttr}
 use Rattle.portal_model.specs.declared.request.NodeRequest.{NodeRequest}
 use Rattle.portal_model.specs.declared.request.Request.{Request}
+use Rattle.portal_model.specs.GetAttr.{names_handle}
+use Rattle.portal_model.specs.Place.{is_own_file}
 use Rattle.session.specs.Asked.{act_of_ask, act_of_frame, asked_by, collect_requests, is_built, is_built_op, is_host, line_act, node_act, reply_to, requests_of}
 use Rattle.session.specs.Cuts.{line_of, next_phase}
 use Rattle.session.specs.Items.{AreItems, IsItem}
@@ -51,8 +53,12 @@ call_built c m (ask.Local answer) act e = by_act act (Call (reply_to m answer) (
 call_built c m ask.Ignore act e = by_act act Nothing e tt
 call_built c m ask.Unbuilt act e = absurd (cc)
 
-op_built : (node : ℕ) (op : NodeOp) → is_built_op node op ≡ true → BuiltOp op
-op_built node (GetAttr flags fh) h = tt
+op_built : (node : ℕ) (op : NodeOp) → is_built_op node op ≡ true → BuiltOp node op
+op_built node (GetAttr flags fh) h = by_parts (names_handle flags) (is_own_file node) h
+  where
+    by_parts : (a b : Bool) → (not a && b) ≡ true → (a ≡ false) × (b ≡ true)
+    by_parts true b k = absurd (cc)
+    by_parts false b k = (refl, k)
 op_built node op h = absurd (cc)
 
 node_built : (unique : ℕ) (r : NodeRequest) (b : Bool) (act : Act) → is_built r ≡ b → Ok act ≡ node_act unique r b → AllBuilt (asked_by act)

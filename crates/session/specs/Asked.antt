@@ -10,7 +10,7 @@ use Rattle.portal_model.specs.declared.request.NodeRequest.{NodeRequest}
 use Rattle.portal_model.specs.declared.request.Request.{Request}
 use Rattle.portal_model.specs.Built.{Built}
 use Rattle.portal_model.specs.GetAttr.{names_handle}
-use Rattle.portal_model.specs.Place.{place_named}
+use Rattle.portal_model.specs.Place.{is_own_file}
 use Rattle.dbus_auth.specs.declared.handshake.AuthAnswer.{AuthAnswer}
 use Rattle.dbus_auth.specs.declared.handshake.AuthAnswer.TheVariants.{Say, Begin, Early}
 use Rattle.dbus_auth.specs.Handshake.{step}
@@ -68,7 +68,7 @@ act_of_message c message = act_of_ask c message (ask_of c.settings message)
 -- of requests on nodes the one that is asked is FUSE_GETATTR of a file in the caller's own view, by
 -- its node
 abbrev pub is_built_op : ℕ → NodeOp → Bool
-is_built_op node (NodeOp.GetAttr flags fh) = not (names_handle flags) && is_some (place_named node)
+is_built_op node (NodeOp.GetAttr flags fh) = not (names_handle flags) && is_own_file node
 is_built_op node op = false
 
 abbrev pub is_built : NodeRequest → Bool

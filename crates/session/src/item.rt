@@ -151,7 +151,7 @@ fn frame_act(unique: u64, asked: FuseAsk) -> Result<Act, ItemError>
 /// Says whether a request on a node is one that is asked.
 fn is_built(request: &NodeRequest) -> bool
     ensures answers { result ≡ is_built request.now }
-    ensures has_body { result ≡ true → BuiltOp request.now.op }
+    ensures has_body { result ≡ true → BuiltOp request.now.node request.now.op }
 {
     match &request.op {
         NodeOp::GetAttr { flags, .. } => {

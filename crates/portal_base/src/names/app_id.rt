@@ -51,6 +51,16 @@ impl AppId {
         }
     }
 
+    /// Says whether a text is a name; it takes no memory.
+    pub fn is_name(text: &[u8]) -> bool
+        ensures { result ≡ is_app_name text.now }
+    {
+        match first_break(text) {
+            Some(_) => false,
+            None => true,
+        }
+    }
+
     /// The bytes of the name, which keep its rule.
     pub fn as_bytes(&self) -> &[u8]
         ensures bytes { result.now ≡ self.now }

@@ -4,6 +4,7 @@ ghost use Rattle.std.specs.Prelude.{◌≡◌, ◌<◌, ◌≤◌, ◌-◌, IfOk
 ghost use Rattle.std.specs.List.{suffix_len};
 ghost use Rattle.portal_base.specs.Names.{is_host_path, child_of, parent_of, name_of, is_in_own_folder, is_same, is_slash, root};
 ghost use Rattle.portal_base.specs.PathOrder.{path_order, place_of_byte};
+ghost use Rattle.portal_base.specs.Content.{is_above};
 
 use crate::list::{ByteList, List};
 use crate::memory::{Replica, WantOfMemory};
@@ -52,6 +53,16 @@ impl HostPath {
             None => Ok(HostPath {
                 text: List::copied(alloc, text)?,
             }),
+        }
+    }
+
+    /// Says whether a text is a path; it takes no memory.
+    pub fn is_path(text: &[u8]) -> bool
+        ensures { result ≡ is_host_path text.now }
+    {
+        match first_break(text) {
+            Some(_) => false,
+            None => true,
         }
     }
 
@@ -212,14 +223,22 @@ fn place_of_byte(byte: u8) -> u16
     byte as u16 + 1
 }
 
-/// Says whether a text is `/`.
-fn is_root(text: &[u8]) -> bool
-    ensures { result ≡ is_same text.now root }
+/// Says whether the bytes of a path are `/`.
+pub fn is_root(path: &[u8]) -> bool
+    ensures { result ≡ is_same path.now root }
 {
-    match text {
+    match path {
         [only] => *only == b'/',
         _ => false,
     }
+}
+
+/// Says whether one path lies above another, where both are given by their
+/// bytes and the first isn't `/`: the second begins with the first and a slash.
+pub fn lies_above(path: &[u8], below: &[u8]) -> bool
+    ensures { result ≡ is_above path.now below.now }
+{
+    below.len() > path.len() && below.starts_with(path) && below[path.len()] == b'/'
 }
 
 /// The place just behind the last slash, or 0 where there is none.

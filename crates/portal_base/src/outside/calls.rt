@@ -1,21 +1,29 @@
 //! The calls of a device in memory, some of which are to fail.
 
-ghost use Rattle.std.specs.Prelude.{◌≡◌, List, ℕ, ◌==◌};
+ghost use Rattle.std.specs.Prelude.{◌≡◌, List, ℕ, ◌==◌, true};
 ghost use Rattle.std.specs.List.{list_any};
+ghost use Rattle.std.specs.List.Sorted.{IsNonDecreasing};
 ghost use Rattle.portal_base.specs.Calls.{counted, uncalled, is_to_fail, next_call};
 
 use crate::list::List;
 use std::marker::Model;
 
 /// How many calls came, which of them are to fail, and how many failed.
+///
+/// Where the numbers of those that are to fail rise, a call costs the logarithm
+/// of how many they are; else it looks at each of them, since no memory is
+/// taken to put them in order.
 #[derive(Debug, Drop)]
 pub struct CallCount {
     made: u64,
     failing: List<u64>,
+    rising: bool,
     faults: u64,
 }
 
 impl Model for CallCount {
+    ghost use Rattle.std.specs.Prelude.{◌≡◌, true};
+    ghost use Rattle.std.specs.List.Sorted.{IsNonDecreasing};
     ghost use Rattle.portal_base.specs.Calls.{Counted};
 
     ghost Value = { Counted };
@@ -24,6 +32,8 @@ impl Model for CallCount {
       calls = record { made = c.made; failing = c.failing };
       faults = c.faults;
     } };
+
+    ghost invariant = { λ c. c.rising ≡ true → IsNonDecreasing c.failing };
 }
 
 impl CallCount {
@@ -31,9 +41,11 @@ impl CallCount {
     pub fn new(failing: List<u64>) -> CallCount
         ensures { result ≡ uncalled failing }
     {
+        let rising = do_rise(&failing);
         CallCount {
             made: 0,
             failing,
+            rising,
             faults: 0,
         }
     }
@@ -46,7 +58,7 @@ impl CallCount {
         ensures counted { self.new ≡ counted self.old result }
     {
         self.made = self.made.saturating_add(1);
-        let fails = has_number(&self.failing, self.made);
+        let fails = has_number(&self.failing, self.rising, self.made);
         if fails {
             self.faults = self.faults.saturating_add(1);
         }
@@ -54,9 +66,20 @@ impl CallCount {
     }
 }
 
+/// Says whether none of the numbers is below the one before it.
+fn do_rise(numbers: &List<u64>) -> bool
+    ensures { result ≡ true → IsNonDecreasing numbers.now }
+{
+    numbers.as_slice().is_sorted()
+}
+
 /// Says whether a number is among others.
-fn has_number(numbers: &List<u64>, number: u64) -> bool
+fn has_number(numbers: &List<u64>, rising: bool, number: u64) -> bool
+    requires { rising ≡ true → IsNonDecreasing numbers.now }
     ensures { result ≡ list_any (λ n. n == number) numbers.now }
 {
+    if rising {
+        return numbers.as_slice().binary_search(&number).is_ok();
+    }
     numbers.iter().any(|n| *n == number)
 }

@@ -21,4 +21,4 @@ returns c = λ text spelled.
     let r : d ≡ b ++ number Little w32 serial = c.in_ok-extend_from_slice-3.ensures.ok ∙ ap (λ (w : List ℕ). b ++ w) c.to_le_bytes-2.ensures in
     parts_laid k serial text body a b d c.write_value.new.out c.pad.new.out c.extend_from_slice-4.new.self p q r
     (c.in_ok-write_value.ensures.ok (W.Array field_type) text (spelled_at (length d) c.in_ok-new.field-0 c.args.fields text (header_len k serial text body a b d p q r) (c.in_ok-new.ensures ∙ c.in_ok-field_type.ensures) spelled))
-    c.in_ok-pad.ensures c.in_ok-extend_from_slice-4.ensures.ok
+    c.in_ok-pad.ensures.ok c.in_ok-extend_from_slice-4.ensures.ok

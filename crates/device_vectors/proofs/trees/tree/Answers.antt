@@ -5,7 +5,7 @@ use Rattle.portal_base.specs.PathOrder.{path_order}
 use Rattle.portal_base.specs.Content.{ArePlaced, paths_of, is_above}
 use Rattle.portal_base.specs.declared.files.File.{File}
 use Rattle.host_tree.specs.Trees.{put_file}
-use Rattle.host_tree.proofs.Paths.{above_longer}
+use Rattle.portal_base.proofs.PathsAbove.{above_longer}
 use Rattle.device_vectors.proofs.trees.tree.Goals as goal
 
 alone : (f : File) → IsStrictlySortedBy path_order (f.path ∷ [])

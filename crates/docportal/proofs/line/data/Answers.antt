@@ -15,7 +15,7 @@ hear-requires-clause-space g c =
 
 pub hear-requires-clause-room : goal.hear-requires-clause-room
 hear-requires-clause-room g c =
-    subst (λ (z : List ℕ). cost c.args.portal.now.history + 8 * length (c.in-Some.session.rest ++ z) ≤ limit_of c.args.portal.now) (sym c.as_slice.ensures)
+    subst (λ (z : List ℕ). cost c.args.portal.now.story.history + 8 * length (c.in-Some.session.rest ++ z) ≤ limit_of c.args.portal.now.story) (sym c.as_slice.ensures)
     (data_room c.args.portal.now c.args.connections.now c.args.seat c.args.bytes.now c.in-Some.session c.requires.may c.in-Some.ensures.taken)
 
 pub returns-in-Err-write_pieces-clause-err : goal.returns-in-Err-write_pieces-clause-err

@@ -1,5 +1,5 @@
 use Rattle.std.proofs.Common.{refl}
-use Rattle.script_form.specs.declared.script.ScriptLine.TheVariants.{File, Doc, Now}
+use Rattle.script_form.specs.declared.script.ScriptLine.TheVariants.{File, Doc, Now, Word}
 use Rattle.docportal.proofs.RunLine.{opening_runs}
 use Rattle.docportal.proofs.line.run_line.Goals as goal
 
@@ -11,3 +11,12 @@ returns-in-Doc-clause-ok g c = opening_runs c.args.portal.now c.args.connections
 
 pub returns-in-Now-clause-ok : goal.returns-in-Now-clause-ok
 returns-in-Now-clause-ok g c = opening_runs c.args.portal.now c.args.connections.now c.args.line.now (Now c.in-Now.moment) _ c.in-Now.is (λ a. (refl, refl, refl))
+
+pub returns-in-Entry-clause-ok : goal.returns-in-Entry-clause-ok
+returns-in-Entry-clause-ok g c = opening_runs c.args.portal.now c.args.connections.now c.args.line.now _ _ c.in-Entry.is (λ a. (refl, refl, refl))
+
+pub returns-in-Fail-clause-ok : goal.returns-in-Fail-clause-ok
+returns-in-Fail-clause-ok g c = opening_runs c.args.portal.now c.args.connections.now c.args.line.now _ _ c.in-Fail.is (λ a. (refl, refl, refl))
+
+pub returns-in-Word-clause-ok : goal.returns-in-Word-clause-ok
+returns-in-Word-clause-ok g c = opening_runs c.args.portal.now c.args.connections.now c.args.line.now (Word c.in-Word.word) _ c.in-Word.is (λ a. (refl, refl, refl))

@@ -12,4 +12,4 @@ pub returns-in-Ok-clause-ok : goal.returns-in-Ok-clause-ok
 returns-in-Ok-clause-ok c =
     let e = c.begin_at.ensures in
     entered c.args.portal.now c.begin_at.new.portal c.args.seat e.opens.0 c.args.who.now c.args.kind c.args.settings.now c.begin_at.result c.in-Ok.session
-    e.opening e.own e.legal c.in-Ok.is e.opens.1
+    e.opening e.own e.legal c.requires.told c.in-Ok.is e.opens.1

@@ -77,14 +77,14 @@ pub returns-in-More-2-clause-ok : goal.returns-in-More-2-clause-ok
 returns-in-More-2-clause-ok c =
     let e = c.feed-fed.ensures in
     heard_more c.args.portal.now c.feed-fed.new.portal c.args.seat c.feed-fed.result.refusals c.args.session.now c.feed-fed.new.session c.args.bytes.now c.new-written.result c.feed-fed.new.written
-    (ap (λ (z : SinkState). z.pieces) c.new-written.ensures) e.opening e.own e.legal (omega arith) c.requires.goes_on c.held.result c.held.ensures c.if-held-gt0.false
+    (ap (λ (z : SinkState). z.pieces) c.new-written.ensures) e.opening e.own e.legal (omega arith) c.requires.told c.requires.goes_on c.held.result c.held.ensures c.if-held-gt0.false
     (subst (λ (r : Fed). Feeds c.args.session.now.fed c.args.session.now (sunk (known_at c.args.portal.now c.args.seat 0) c.new-written.result) c.args.bytes.now r c.feed-fed.new.session (sunk (known_at c.feed-fed.new.portal c.args.seat c.feed-fed.result.refusals) c.feed-fed.new.written)) c.in-More-2.is c.feed-fed.ensures.feeds)
 
 pub returns-in-Over-clause-ok : goal.returns-in-Over-clause-ok
 returns-in-Over-clause-ok c =
     let e = c.feed-fed.ensures in
     heard_last c.args.portal.now c.feed-fed.new.portal c.args.seat c.feed-fed.result.refusals c.args.session.now c.feed-fed.new.session c.args.bytes.now c.new-written.result c.feed-fed.new.written
-    (ap (λ (z : SinkState). z.pieces) c.new-written.ensures) e.opening e.own e.legal (omega arith) c.requires.goes_on c.in-Over.served
+    (ap (λ (z : SinkState). z.pieces) c.new-written.ensures) e.opening e.own e.legal (omega arith) c.requires.told c.requires.goes_on c.in-Over.served
     (subst (λ (r : Fed). Feeds c.args.session.now.fed c.args.session.now (sunk (known_at c.args.portal.now c.args.seat 0) c.new-written.result) c.args.bytes.now r c.feed-fed.new.session (sunk (known_at c.feed-fed.new.portal c.args.seat c.feed-fed.result.refusals) c.feed-fed.new.written)) c.in-Over.is c.feed-fed.ensures.feeds)
     c.heard_last.result c.heard_last.ensures.ok
 
@@ -92,6 +92,6 @@ pub returns-in-Over-clause-err : goal.returns-in-Over-clause-err
 returns-in-Over-clause-err c =
     let e = c.feed-fed.ensures in
     unheard_last c.args.portal.now c.feed-fed.new.portal c.args.seat c.feed-fed.result.refusals c.args.session.now c.feed-fed.new.session c.args.bytes.now c.new-written.result c.feed-fed.new.written
-    (ap (λ (z : SinkState). z.pieces) c.new-written.ensures) e.opening e.own e.legal (omega arith) c.requires.goes_on c.in-Over.served c.requires.space
+    (ap (λ (z : SinkState). z.pieces) c.new-written.ensures) e.opening e.own e.legal (omega arith) c.requires.told c.requires.goes_on c.in-Over.served c.requires.space
     (subst (λ (r : Fed). Feeds c.args.session.now.fed c.args.session.now (sunk (known_at c.args.portal.now c.args.seat 0) c.new-written.result) c.args.bytes.now r c.feed-fed.new.session (sunk (known_at c.feed-fed.new.portal c.args.seat c.feed-fed.result.refusals) c.feed-fed.new.written)) c.in-Over.is c.feed-fed.ensures.feeds)
     c.heard_last.result c.heard_last.ensures.err

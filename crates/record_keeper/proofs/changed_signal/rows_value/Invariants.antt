@@ -1,5 +1,5 @@
 use Rattle.std.proofs.Common.{◌≡◌, map, take}
-use Rattle.record_keeper.specs.SoundRecords.{row_value}
+use Rattle.portal_model.specs.Changed.{row_value}
 use Rattle.record_keeper.proofs.changed_signal.rows_value.Given as goal
 
 abbrev pub invariant-loop-row : goal.invariant-loop-row

@@ -1,6 +1,6 @@
 use Rattle.std.proofs.Common.{◌≡◌, map, drop}
 use Rattle.std.specs.List.{list_any}
-use Rattle.record_keeper.specs.SoundRecords.{holds_handle}
+use Rattle.portal_model.specs.Changed.{holds_handle}
 use Rattle.record_keeper.proofs.datum.+handles.Given as goal
 
 -- whether one of all values holds a handle is seen at those that are left

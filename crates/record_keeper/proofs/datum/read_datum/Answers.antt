@@ -1,5 +1,5 @@
 use Rattle.std.proofs.Common.{◌≡◌, ◌∙◌, sym, ap, [], arith, true}
-use Rattle.record_keeper.specs.SoundRecords.{holds_handle}
+use Rattle.portal_model.specs.Changed.{holds_handle}
 use Rattle.record_keeper.proofs.StoppedReader.{stopped, append_nil}
 use Rattle.record_keeper.proofs.datum.read_datum.Goals as goal
 use Rattle.record_keeper.proofs.datum.read_datum.Goals.{then-read-bytes-via-then-read-bytes, then-read-bytes-via-else-read-bytes+then-holds_handle}

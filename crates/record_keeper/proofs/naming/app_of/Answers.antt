@@ -1,4 +1,4 @@
-use Rattle.record_keeper.proofs.NameForms.{broken_app}
+use Rattle.portal_base.proofs.RefusedNames.{broken_app}
 use Rattle.record_keeper.proofs.naming.app_of.Goals as goal
 
 pub unreachable-requires : goal.unreachable-requires

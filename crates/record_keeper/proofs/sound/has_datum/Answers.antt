@@ -4,7 +4,7 @@ use Rattle.dbus_types.specs.declared.types.Endian.TheVariants.{Little}
 use Rattle.dbus_types.specs.declared.types.Value.{Value}
 use Rattle.dbus_types.specs.declared.types.WireType.TheVariants as W
 use Rattle.portal_model.specs.declared.records.EntryRecord.{EntryRecord}
-use Rattle.record_keeper.specs.SoundRecords.{IsDatum, changed_length, message_limit}
+use Rattle.portal_model.specs.Changed.{IsDatum, changed_length, message_limit}
 use Rattle.record_keeper.proofs.sound.has_datum.Goals as goal
 
 few_told : (entry : EntryRecord) (datum other : Value) (n : ℕ) → datum ≡ other → n ≡ changed_length entry datum → changed_length entry other ≤ message_limit → n ≤ message_limit

@@ -1,5 +1,5 @@
 use Rattle.script_form.proofs.GrantFacts.{no_grant, grant_halves}
-use Rattle.record_keeper.proofs.NameForms.{broken_app}
+use Rattle.portal_base.proofs.RefusedNames.{broken_app}
 use Rattle.script_form.proofs.grants.read_grant.Goals as goal
 
 pub returns-in_default : goal.returns-in_default

@@ -1,6 +1,6 @@
 use Rattle.std.proofs.Common.{sym, ◌∙◌}
 use Rattle.script_form.proofs.LineFacts.{file_text, file_cut, no_file, file_made}
-use Rattle.record_keeper.proofs.NameForms.{same_from_test}
+use Rattle.record_keeper.proofs.SameTexts.{same_from_test}
 use Rattle.script_form.proofs.WordFacts.{differ}
 use Rattle.script_form.proofs.line.read_file.Goals as goal
 

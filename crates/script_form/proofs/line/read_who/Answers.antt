@@ -1,6 +1,6 @@
 use Rattle.std.proofs.Common.{sym, ◌∙◌}
 use Rattle.script_form.proofs.LineFacts.{no_caller}
-use Rattle.record_keeper.proofs.NameForms.{broken_app}
+use Rattle.portal_base.proofs.RefusedNames.{broken_app}
 use Rattle.script_form.proofs.WordFacts.{differ}
 use Rattle.script_form.proofs.line.read_who.Goals as goal
 

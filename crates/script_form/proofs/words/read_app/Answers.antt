@@ -1,4 +1,4 @@
-use Rattle.record_keeper.proofs.NameForms.{broken_app}
+use Rattle.portal_base.proofs.RefusedNames.{broken_app}
 use Rattle.script_form.proofs.words.read_app.Goals as goal
 
 pub returns-in-Err-BadName : goal.returns-in-Err-BadName

@@ -1,5 +1,5 @@
 use Rattle.std.proofs.Common.{refl}
-use Rattle.record_keeper.proofs.NameForms.{broken_path}
+use Rattle.portal_base.proofs.RefusedNames.{broken_path}
 use Rattle.script_form.proofs.words.read_path.Goals as goal
 
 pub returns-in-Err-BadName : goal.returns-in-Err-BadName

@@ -1,4 +1,5 @@
 use Rattle.std.proofs.Common.{◌≡◌, ◌∙◌, [], ap, arith, refl, rules}
+use Rattle.portal_model.specs.declared.entry.Fault.TheVariants as Fault
 use Rattle.portal_model.specs.declared.request.Request.TheVariants as Request
 use Rattle.portal_model.specs.State.{connection_of}
 use Rattle.portal_model.specs.Step.{bus_of, reply_at, reply_with}
@@ -8,18 +9,20 @@ use Rattle.portal_core.proofs.Steps.{collect_answered, stands_collected}
 use Rattle.portal_core.proofs.portal.Portal.collect.Goals as goal
 
 pub invariant_of-self-2 : goal.invariant_of-self-2
-invariant_of-self-2 c =
+invariant_of-self-2 g c =
     let room = rw (c.as_slice-2.ensures) at c.in_ok-reserve.ensures.ok in
     rw (c.push.ensures, c.in_ok-reserve.ensures.entries, c.in_ok-reserve.ensures.limit, c.entry_made-entry.ensures, c.new.ensures) (
-      stands_collected c.self.inside.opening c.self.inside.history.entries c.self.inside.history.limit c.self.inside.documents c.self.inside.rights c.self.inside.connections c.self.invariant.0
+      stands_collected (g.T.HostTree.is c.self.inside.tree).began c.self.inside.opening c.self.inside.history.entries c.self.inside.history.limit c.self.inside.documents c.self.inside.rights c.self.inside.applications c.self.inside.connections c.self.invariant.0
           c.args.seat (rw (← c.self.view_is) at c.requires),
       omega (arith, room),
+      c.self.invariant.2,
+      c.self.invariant.3,
     )
 
 pub returns-clause-ok : goal.returns-clause-ok
-returns-clause-ok c =
-    let replied : reply_with [] (collect_answer (bus_of (connection_of c.self.inside.connections c.args.seat))) ≡ reply_at (state_now c.args.self.now) (entry_of c.args.seat Request.Collect []) =
-    rw (← c.self.view_is) (collect_answered c.self.inside.opening c.self.inside.history.entries c.self.inside.history.limit c.self.inside.documents c.self.inside.rights c.self.inside.connections c.self.invariant.0 c.args.seat) in
+returns-clause-ok g c =
+    let replied : reply_with [] (collect_answer (bus_of (connection_of c.self.inside.connections c.args.seat))) ≡ reply_at (state_now c.args.self.now.story) (entry_of c.args.seat Request.Collect [] Fault.None) =
+    rw (← c.self.view_is) (collect_answered (g.T.HostTree.is c.self.inside.tree).began c.self.inside.opening c.self.inside.history.entries c.self.inside.history.limit c.self.inside.documents c.self.inside.rights c.self.inside.applications c.self.inside.connections c.self.invariant.0 c.args.seat) in
     let answered : c.collect_answer-answer.result ≡ collect_answer (bus_of (connection_of c.self.inside.connections c.args.seat)) =
     rw (c.collect_answer-answer.ensures, c.bus_of.ensures, c.as_slice.ensures) refl in
     record {
@@ -28,6 +31,6 @@ returns-clause-ok c =
       seat_is = search rules;
       request_is = search rules;
       lawful = search rules;
-      faultless = search rules;
+      went = search rules;
       reply_is = c.silent_reply.ensures ∙ ap (reply_with []) answered ∙ rw (c.entry_made-entry.ensures) replied;
     }

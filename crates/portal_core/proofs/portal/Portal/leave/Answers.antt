@@ -5,19 +5,23 @@ use Rattle.portal_core.proofs.Steps.{fewer_others, stands_absent, stands_left}
 use Rattle.portal_core.proofs.portal.Portal.leave.Goals as goal
 
 pub invariant_of-self-then-not-is_here : goal.invariant_of-self-then-not-is_here
-invariant_of-self-then-not-is_here c =
+invariant_of-self-then-not-is_here g c =
     let room = rw (c.as_slice-then-not-is_here.ensures) at c.in_ok-reserve.ensures.ok in
     rw (c.push.ensures, c.in_ok-reserve.ensures.entries, c.in_ok-reserve.ensures.limit, c.entry_made-entry.ensures, c.new.ensures) (
-      stands_absent c.self.inside.opening c.self.inside.history.entries c.self.inside.history.limit c.self.inside.documents c.self.inside.rights c.self.inside.connections c.self.invariant.0
+      stands_absent (g.T.HostTree.is c.self.inside.tree).began c.self.inside.opening c.self.inside.history.entries c.self.inside.history.limit c.self.inside.documents c.self.inside.rights c.self.inside.applications c.self.inside.connections c.self.invariant.0
           c.args.seat (search rules),
       omega (arith, room),
+      c.self.invariant.2,
+      c.self.invariant.3,
     )
 
 pub invariant_of-self-2 : goal.invariant_of-self-2
-invariant_of-self-2 c =
+invariant_of-self-2 g c =
     let here : is_some (connection_of c.self.inside.connections c.args.seat) ≡ true = search rules in
     let fewer : length (of_others c.args.seat c.self.inside.connections) < length c.self.inside.connections = fewer_others c.args.seat c.self.inside.connections here in
     rw (c.push-2.ensures, c.of_others.ensures, c.replace-connections.ensures.value, c.entry_made-entry.ensures, c.new.ensures) (
-      stands_left c.self.inside.opening c.self.inside.history.entries c.self.inside.history.limit c.self.inside.documents c.self.inside.rights c.self.inside.connections c.self.invariant.0 c.args.seat here,
+      stands_left (g.T.HostTree.is c.self.inside.tree).began c.self.inside.opening c.self.inside.history.entries c.self.inside.history.limit c.self.inside.documents c.self.inside.rights c.self.inside.applications c.self.inside.connections c.self.invariant.0 c.args.seat here,
       omega (arith, c.self.invariant.1),
+      c.self.invariant.2,
+      c.self.invariant.3,
     )

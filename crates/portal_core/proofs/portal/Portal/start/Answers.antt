@@ -1,6 +1,19 @@
-use Rattle.portal_model.specs.Opening.{opened}
-use Rattle.portal_core.proofs.ValidNames.{rights_named}
+use Rattle.std.proofs.Common.{ap, arith, sym, ◌∙◌}
+use Rattle.portal_model.specs.declared.opening.OpeningState.{OpeningState}
+use Rattle.portal_core.proofs.Beginning.{kept_first, stands_first, valid_loaded}
 use Rattle.portal_core.proofs.portal.Portal.start.Goals as goal
 
-pub rights-requires : goal.rights-requires
-rights-requires c = rw c.as_slice-2.ensures (rights_named (opened c.args.opening.now) c.requires)
+pub invariant_of-result : goal.invariant_of-result
+invariant_of-result g c =
+    let began = (g.T.HostTree.is c.args.tree).began in
+    let lists = c.in-Ok.field-0 in
+    let are = c.in-Ok.ensures.lists in
+    let load = c.in-Ok.ensures.good in
+    let valid = valid_loaded c.args.limits load.records lists.opening load.opening_is load.good are.narrow c.requires.made c.requires.queued in
+    rw (c.new.ensures, c.new-in-Ok.ensures.entries) (
+      stands_first began lists.opening lists.documents lists.rights lists.applications are.documents are.rights are.applications c.new-in-Ok.result.limit valid c.known.ensures.began
+          (c.new-in-Ok.ensures.limit ∙ ap (λ (o : OpeningState). o.limits.history) (sym load.opening_is)),
+      omega arith,
+      c.requires.told,
+      kept_first began lists.opening lists.documents lists.rights lists.applications are.documents are.rights are.applications c.args.limits (g.K.Keeper.is c.args.keeper) (g.K.Keeper.is c.load.new.keeper) load,
+    )

@@ -1,0 +1,4 @@
+pub mod Giving
+pub mod Limits
+pub mod Placing
+pub mod Shown

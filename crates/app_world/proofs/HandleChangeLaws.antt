@@ -1,0 +1,236 @@
+-- A change of the open handles of a seat: what it is to the view of the application whose seat it is, and to another's.
+use Rattle.std.proofs.Common.{◌≡◌, ℕ, ◌+◌, ◌==◌, List, [], ◌∷◌, ◌++◌, map, Bool, true, false, not, ◌&&◌, ◌||◌, cond, Some, None, refl, sym, ap, ◌∙◌, arith}
+use Rattle.std.specs.List.{filter, find, flat_map}
+use Rattle.std.specs.Option.{option_map}
+use Rattle.std.proofs.lemmas.Bool.Decides.{nat_tests}
+use Rattle.std.proofs.lemmas.List.{append-nil, map-append}
+use Rattle.std.proofs.lemmas.List.Elements.{filter-append}
+use Rattle.portal_base.specs.Names.{is_same}
+use Rattle.portal_base.specs.declared.files.File.{File}
+use Rattle.portal_base.specs.declared.limits.Limits.{Limits}
+use Rattle.rights_rule.specs.Rights.{RightSet}
+use Rattle.portal_model.specs.declared.handle.Handle.{Handle}
+use Rattle.portal_model.specs.declared.handle.OpenHandle.{OpenHandle}
+use Rattle.portal_model.specs.declared.state.Connection.{Connection}
+use Rattle.portal_model.specs.declared.state.Document.{Document}
+use Rattle.portal_model.specs.Node.{connections_after, counted, handles_after, new_handle}
+use Rattle.portal_model.specs.NodeVerdict.{HandleChange, HandlesStay, Opens, Closes}
+use Rattle.portal_model.specs.State.{handle_of, handles_of, is_app, is_handle}
+use Rattle.portal_model.proofs.ListLookups.{is_same-eq}
+use Rattle.app_world.specs.Node.{next_own_handle, own_closed, own_connections_after, own_handle_of, own_opened}
+use Rattle.app_world.specs.View.{HeldDocument, OwnConnection, OwnHandle, found_connection, held_documents, is_among, named_paths, own_connection, own_connections, own_handle, own_handles, paths_of_connection, paths_of_handle, prune, pruned, view_over}
+use Rattle.app_world.proofs.ContentLaws.{contents-fewer}
+use Rattle.app_world.proofs.WalksAlong.{OpensOn}
+use Rattle.app_world.proofs.ViewLaws.{among-joined, own_first, still_held}
+
+-- ---- one handle
+
+-- the open handle of a number is the same in the state and in the view
+pub handle-found : (hs : List OpenHandle) (seat fh : ℕ) → own_handle_of (own_handles hs seat) fh ≡ handle_of hs seat fh
+handle-found [] seat fh = refl
+handle-found (h ∷ hs) seat fh = by_seat (h.seat == seat) (h.fh == fh) (handle-found hs seat fh)
+  where
+    by_seat : (b c : Bool) → own_handle_of (own_handles hs seat) fh ≡ handle_of hs seat fh → option_map (λ (x : OwnHandle). x.handle) (find (λ x. x.fh == fh) (map own_handle (cond b (h ∷ handles_of hs seat) (handles_of hs seat)))) ≡ option_map (λ (x : OpenHandle). x.handle) (cond (b && h.fh == fh) (Some h) (find (is_handle seat fh) hs))
+    by_seat true c e = elim (h.fh == fh) as (λ k. option_map (λ (x : OwnHandle). x.handle) (cond k (Some (own_handle h)) (find (λ x. x.fh == fh) (own_handles hs seat))) ≡ option_map (λ (x : OpenHandle). x.handle) (cond k (Some h) (find (is_handle seat fh) hs))) [ true ↦ refl | false ↦ e ]
+    by_seat false c e = e
+
+-- ---- in the state as in the view
+
+module _ (app : List ℕ) (hs more : List OpenHandle) (f : Connection → Connection) (g : OwnConnection → OwnConnection) (who : (c : Connection) → (f c).who ≡ c.who)
+    (each : (c : Connection) → own_connection app more (f c) ≡ g (own_connection app hs c)) where
+  first_mapped : (c : Connection) (cs : List Connection) (b : Bool) → is_app app c.who ≡ b → own_connections app more (map f cs) ≡ map g (own_connections app hs cs) →
+      own_connections app more (f c ∷ map f cs) ≡ map g (own_connections app hs (c ∷ cs))
+  first_mapped c cs b e rest =
+      own_first app more (f c) (map f cs) b (ap (is_app app) (who c) ∙ e) ∙ (by_app b ∙ ap (map g) (sym (own_first app hs c cs b e)))
+    where
+      by_app : (d : Bool) → cond d (own_connection app more (f c) ∷ own_connections app more (map f cs)) (own_connections app more (map f cs)) ≡ map g (cond d (own_connection app hs c ∷ own_connections app hs cs) (own_connections app hs cs))
+      by_app true = λ i. each c i ∷ rest i
+      by_app false = rest
+
+  own-mapped : (cs : List Connection) → own_connections app more (map f cs) ≡ map g (own_connections app hs cs)
+  own-mapped [] = refl
+  own-mapped (c ∷ cs) = first_mapped c cs (is_app app c.who) refl (own-mapped cs)
+
+-- handles of a seat where one handle of a seat is closed
+closed-here : (seat fh n : ℕ) (hs : List OpenHandle) → (n == seat) ≡ true → own_handles (filter (λ h. not (is_handle seat fh h)) hs) n ≡ filter (λ h. not (h.fh == fh)) (own_handles hs n)
+closed-here seat fh n [] e = refl
+closed-here seat fh n (h ∷ hs) e = grind (arith, nat_tests, closed-here seat fh n hs)
+
+closed-elsewhere : (seat fh n : ℕ) (hs : List OpenHandle) → (n == seat) ≡ false → own_handles (filter (λ h. not (is_handle seat fh h)) hs) n ≡ own_handles hs n
+closed-elsewhere seat fh n [] e = refl
+closed-elsewhere seat fh n (h ∷ hs) e = grind (arith, nat_tests, closed-elsewhere seat fh n hs)
+
+turned : (a b : ℕ) (c : Bool) → (a == b) ≡ c → (b == a) ≡ c
+turned a b c e = grind (arith, nat_tests)
+
+module _ (app : List ℕ) (c : Connection) (hs : List OpenHandle) where
+  abbrev mine : OwnConnection
+  mine = own_connection app hs c
+
+  opened_handles : (handle : Handle) (n : ℕ) (b : Bool) → (c.seat == n) ≡ b → own_handles (hs ++ new_handle c handle ∷ []) n ≡ own_handles hs n ++ cond b (next_own_handle mine handle ∷ []) []
+  opened_handles handle n b e =
+      ap (map own_handle) (filter-append (λ (h : OpenHandle). h.seat == n) hs (new_handle c handle ∷ []))
+      ∙ (map-append own_handle (handles_of hs n) (cond (c.seat == n) (new_handle c handle ∷ []) [])
+      ∙ (ap (λ (k : Bool). own_handles hs n ++ map own_handle (cond k (new_handle c handle ∷ []) [])) e ∙ by_seat b))
+    where
+      by_seat : (k : Bool) → own_handles hs n ++ map own_handle (cond k (new_handle c handle ∷ []) []) ≡ own_handles hs n ++ cond k (next_own_handle mine handle ∷ []) []
+      by_seat true = refl
+      by_seat false = refl
+
+  opened_one : (handle : Handle) (x : Connection) (b : Bool) → (x.seat == c.seat) ≡ b →
+      own_connection app (hs ++ new_handle c handle ∷ []) (counted c.seat x) ≡ own_opened c.seat (next_own_handle mine handle) (own_connection app hs x)
+  opened_one handle x true e =
+      ap (λ (k : Bool). own_connection app (hs ++ new_handle c handle ∷ []) (cond k (record x { opens = x.opens + 1 }) x)) e
+      ∙ ((λ i. record (own_connection app hs x) { opens = x.opens + 1; handles = opened_handles handle x.seat true (turned x.seat c.seat true e) i })
+      ∙ ap (λ (k : Bool). cond k (record (own_connection app hs x) { opens = x.opens + 1; handles = own_handles hs x.seat ++ next_own_handle mine handle ∷ [] }) (own_connection app hs x)) (sym e))
+  opened_one handle x false e =
+      ap (λ (k : Bool). own_connection app (hs ++ new_handle c handle ∷ []) (cond k (record x { opens = x.opens + 1 }) x)) e
+      ∙ ((λ i. record (own_connection app hs x) { handles = (opened_handles handle x.seat false (turned x.seat c.seat false e) ∙ append-nil (own_handles hs x.seat)) i })
+      ∙ ap (λ (k : Bool). cond k (record (own_connection app hs x) { opens = x.opens + 1; handles = own_handles hs x.seat ++ next_own_handle mine handle ∷ [] }) (own_connection app hs x)) (sym e))
+
+  closed_one : (fh : ℕ) (x : Connection) (b : Bool) → (x.seat == c.seat) ≡ b → own_connection app (filter (λ h. not (is_handle c.seat fh h)) hs) x ≡ own_closed c.seat fh (own_connection app hs x)
+  closed_one fh x true e =
+      (λ i. record (own_connection app hs x) { handles = closed-here c.seat fh x.seat hs e i })
+      ∙ ap (λ (k : Bool). cond k (record (own_connection app hs x) { handles = filter (λ h. not (h.fh == fh)) (own_handles hs x.seat) }) (own_connection app hs x)) (sym e)
+  closed_one fh x false e =
+      (λ i. record (own_connection app hs x) { handles = closed-elsewhere c.seat fh x.seat hs e i })
+      ∙ ap (λ (k : Bool). cond k (record (own_connection app hs x) { handles = filter (λ h. not (h.fh == fh)) (own_handles hs x.seat) }) (own_connection app hs x)) (sym e)
+
+  counted_who : (x : Connection) → (counted c.seat x).who ≡ x.who
+  counted_who x = elim (x.seat == c.seat) as (λ b. (cond b (record x { opens = x.opens + 1 }) x).who ≡ x.who) [ true ↦ refl | false ↦ refl ]
+
+  mapped-same : (xs : List Connection) → map (λ (x : Connection). x) xs ≡ xs
+  mapped-same [] = refl
+  mapped-same (x ∷ xs) = ap (λ (ys : List Connection). x ∷ ys) (mapped-same xs)
+
+  pub connections-changed : (change : HandleChange) (cs : List Connection) → own_connections app (handles_after c change hs) (connections_after c change cs) ≡ own_connections_after mine change (own_connections app hs cs)
+  connections-changed HandlesStay cs = refl
+  connections-changed (Opens handle) cs =
+      own-mapped app hs (hs ++ new_handle c handle ∷ []) (counted c.seat) (own_opened c.seat (next_own_handle mine handle)) counted_who (λ x. opened_one handle x (x.seat == c.seat) refl) cs
+  connections-changed (Closes fh) cs =
+      ap (own_connections app (filter (λ h. not (is_handle c.seat fh h)) hs)) (sym (mapped-same cs))
+      ∙ own-mapped app hs (filter (λ h. not (is_handle c.seat fh h)) hs) (λ x. x) (own_closed c.seat fh) (λ x. refl) (λ x. closed_one fh x (x.seat == c.seat) refl) cs
+
+-- ---- of another: no connection of the view has the seat
+
+opened-elsewhere : (seat : ℕ) (h : OwnHandle) (cs : List OwnConnection) → found_connection cs seat ≡ None → map (own_opened seat h) cs ≡ cs
+opened-elsewhere seat h [] e = refl
+opened-elsewhere seat h (c ∷ cs) e = by_seat (c.seat == seat) e (opened-elsewhere seat h cs)
+  where
+    by_seat : (b : Bool) → cond b (Some c) (found_connection cs seat) ≡ None → (found_connection cs seat ≡ None → map (own_opened seat h) cs ≡ cs) →
+        cond b (record c { opens = c.opens + 1; handles = c.handles ++ h ∷ [] }) c ∷ map (own_opened seat h) cs ≡ c ∷ cs
+    by_seat true f more = cc
+    by_seat false f more = ap (λ (xs : List OwnConnection). c ∷ xs) (more f)
+
+closes-elsewhere : (seat fh : ℕ) (cs : List OwnConnection) → found_connection cs seat ≡ None → map (own_closed seat fh) cs ≡ cs
+closes-elsewhere seat fh [] e = refl
+closes-elsewhere seat fh (c ∷ cs) e = by_seat (c.seat == seat) e (closes-elsewhere seat fh cs)
+  where
+    by_seat : (b : Bool) → cond b (Some c) (found_connection cs seat) ≡ None → (found_connection cs seat ≡ None → map (own_closed seat fh) cs ≡ cs) →
+        cond b (record c { handles = filter (λ h. not (h.fh == fh)) c.handles }) c ∷ map (own_closed seat fh) cs ≡ c ∷ cs
+    by_seat true f more = cc
+    by_seat false f more = ap (λ (xs : List OwnConnection). c ∷ xs) (more f)
+
+pub changed-elsewhere : (c : OwnConnection) (change : HandleChange) (cs : List OwnConnection) → found_connection cs c.seat ≡ None → own_connections_after c change cs ≡ cs
+changed-elsewhere c HandlesStay cs e = refl
+changed-elsewhere c (Opens handle) cs e = opened-elsewhere c.seat (next_own_handle c handle) cs e
+changed-elsewhere c (Closes fh) cs e = closes-elsewhere c.seat fh cs e
+
+-- ---- of the application itself: what is named then was named before
+
+abbrev Among : List (List ℕ) → List ℕ → Type 0
+Among paths path = is_among paths path ≡ true
+
+either-way : (a b : Bool) {x : Bool} → (a ≡ true → x ≡ true) → (b ≡ true → x ≡ true) → (a || b) ≡ true → x ≡ true
+either-way true b f g h = f refl
+either-way false b f g h = g h
+
+left-way : (a b : Bool) → a ≡ true → (a || b) ≡ true
+left-way true b h = refl
+left-way false b h = cc
+
+right-way : (a : Bool) {b : Bool} → b ≡ true → (a || b) ≡ true
+right-way true h = refl
+right-way false h = h
+
+-- through both parts of a list of paths
+among-parts : (ps qs : List (List ℕ)) (path : List ℕ) {x : Bool} → (Among ps path → x ≡ true) → (Among qs path → x ≡ true) → Among (ps ++ qs) path → x ≡ true
+among-parts ps qs path f g h = either-way (is_among ps path) (is_among qs path) f g (sym (among-joined ps qs path) ∙ h)
+
+among-left : (ps qs : List (List ℕ)) (path : List ℕ) → Among ps path → Among (ps ++ qs) path
+among-left ps qs path h = among-joined ps qs path ∙ left-way (is_among ps path) (is_among qs path) h
+
+among-right : (ps qs : List (List ℕ)) (path : List ℕ) → Among qs path → Among (ps ++ qs) path
+among-right ps qs path h = among-joined ps qs path ∙ right-way (is_among ps path) h
+
+abbrev handle_paths : List OwnHandle → List (List ℕ)
+handle_paths hs = flat_map (λ (h : OwnHandle). paths_of_handle h.handle) hs
+
+joined_paths : (hs : List OwnHandle) (h : OwnHandle) (path : List ℕ) {x : Bool} → (Among (handle_paths hs) path → x ≡ true) → (Among (paths_of_handle h.handle) path → x ≡ true) → Among (handle_paths (hs ++ h ∷ [])) path → x ≡ true
+joined_paths [] h path f g k = among-parts (paths_of_handle h.handle) [] path g (λ e. cc) k
+joined_paths (y ∷ hs) h path f g k =
+    among-parts (paths_of_handle y.handle) (handle_paths (hs ++ h ∷ [])) path (λ e. f (among-left (paths_of_handle y.handle) (handle_paths hs) path e))
+    (joined_paths hs h path (λ e. f (among-right (paths_of_handle y.handle) (handle_paths hs) path e)) g) k
+
+fewer_handles : (p : OwnHandle → Bool) (hs : List OwnHandle) (path : List ℕ) → Among (handle_paths (filter p hs)) path → Among (handle_paths hs) path
+fewer_handles p [] path h = h
+fewer_handles p (y ∷ hs) path h = by_test (p y) (fewer_handles p hs path) h
+  where
+    by_test : (b : Bool) → (Among (handle_paths (filter p hs)) path → Among (handle_paths hs) path) → Among (handle_paths (cond b (y ∷ filter p hs) (filter p hs))) path → Among (paths_of_handle y.handle ++ handle_paths hs) path
+    by_test true f k = among-parts (paths_of_handle y.handle) (handle_paths (filter p hs)) path (among-left (paths_of_handle y.handle) (handle_paths hs) path) (λ e. among-right (paths_of_handle y.handle) (handle_paths hs) path (f e)) k
+    by_test false f k = among-right (paths_of_handle y.handle) (handle_paths hs) path (f k)
+
+-- the paths of connections that change by themselves
+module _ (f : OwnConnection → OwnConnection) (path : List ℕ) (x : Bool) (one : (c : OwnConnection) → (Among (paths_of_connection c) path → x ≡ true) → Among (paths_of_connection (f c)) path → x ≡ true) where
+  all_paths : (cs : List OwnConnection) → (Among (flat_map paths_of_connection cs) path → x ≡ true) → Among (flat_map paths_of_connection (map f cs)) path → x ≡ true
+  all_paths [] g h = g h
+  all_paths (c ∷ cs) g h =
+      among-parts (paths_of_connection (f c)) (flat_map paths_of_connection (map f cs)) path
+      (one c (λ e. g (among-left (paths_of_connection c) (flat_map paths_of_connection cs) path e)))
+      (all_paths cs (λ e. g (among-right (paths_of_connection c) (flat_map paths_of_connection cs) path e))) h
+
+opened_paths : (seat : ℕ) (h : OwnHandle) (c : OwnConnection) (path : List ℕ) (x : Bool) → (Among (paths_of_handle h.handle) path → x ≡ true) → (Among (paths_of_connection c) path → x ≡ true) → Among (paths_of_connection (own_opened seat h c)) path → x ≡ true
+opened_paths seat h c path x k g = elim (c.seat == seat) as (λ b. Among (paths_of_connection (cond b (record c { opens = c.opens + 1; handles = c.handles ++ h ∷ [] }) c)) path → x ≡ true) [
+  | true ↦ λ e. joined_paths c.handles h path g k e
+  | false ↦ g
+]
+
+closed_paths : (seat fh : ℕ) (c : OwnConnection) (path : List ℕ) (x : Bool) → (Among (paths_of_connection c) path → x ≡ true) → Among (paths_of_connection (own_closed seat fh c)) path → x ≡ true
+closed_paths seat fh c path x g = elim (c.seat == seat) as (λ b. Among (paths_of_connection (cond b (record c { handles = filter (λ h. not (h.fh == fh)) c.handles }) c)) path → x ≡ true) [
+  | true ↦ λ e. g (fewer_handles (λ h. not (h.fh == fh)) c.handles path e)
+  | false ↦ g
+]
+
+-- an opened file has a path that is named
+opened_on : (ps : List (List ℕ)) (handle : Handle) (path : List ℕ) → OpensOn (Among ps) (Opens handle) → Among (paths_of_handle handle) path → Among ps path
+opened_on ps (Handle.File name node read write) path n h =
+    let same : is_same name.path path ≡ true = either-way (is_same name.path path) false (λ e. e) (λ e. cc) h in
+    ap (is_among ps) (sym (is_same-eq name.path path same)) ∙ n
+opened_on ps (Handle.Folder node entries) path n h = let no : false ≡ true = h in cc
+
+module _ (ds : List HeldDocument) (c : OwnConnection) (cs : List OwnConnection) where
+  abbrev docs : List (List ℕ)
+  docs = map (λ (d : HeldDocument). d.document.path) ds
+
+  pub changed-named : (change : HandleChange) → OpensOn (Among (named_paths ds cs)) change → (path : List ℕ) → Among (named_paths ds (own_connections_after c change cs)) path → Among (named_paths ds cs) path
+  changed-named HandlesStay n path h = h
+  changed-named (Opens handle) n path h =
+      among-parts docs (flat_map paths_of_connection (map (own_opened c.seat (next_own_handle c handle)) cs)) path
+      (among-left docs (flat_map paths_of_connection cs) path)
+      (all_paths (own_opened c.seat (next_own_handle c handle)) path (is_among (named_paths ds cs) path)
+      (λ x. opened_paths c.seat (next_own_handle c handle) x path (is_among (named_paths ds cs) path) (opened_on (named_paths ds cs) handle path n)) cs
+      (among-right docs (flat_map paths_of_connection cs) path)) h
+  changed-named (Closes fh) n path h =
+      among-parts docs (flat_map paths_of_connection (map (own_closed c.seat fh) cs)) path
+      (among-left docs (flat_map paths_of_connection cs) path)
+      (all_paths (own_closed c.seat fh) path (is_among (named_paths ds cs) path) (λ x. closed_paths c.seat fh x path (is_among (named_paths ds cs) path)) cs
+      (among-right docs (flat_map paths_of_connection cs) path)) h
+
+-- where fewer paths are named, pruning leaves what is named
+pub prune-named : (limits : Limits) (files : List File) (held : ℕ → RightSet) (documents : List Document) (cs more : List OwnConnection) →
+    ((path : List ℕ) → Among (named_paths (held_documents held documents) more) path → Among (named_paths (held_documents held documents) cs) path) →
+    prune (record (view_over limits files (held_documents held documents) cs) { connections = more }) ≡ view_over limits files (held_documents held documents) more
+prune-named limits files held documents cs more e =
+    let ds : List HeldDocument = held_documents held documents in
+    ap (λ (xs : List HeldDocument). pruned xs (record (view_over limits files ds cs) { connections = more })) (still_held held documents)
+    ∙ (λ i. record (view_over limits files ds more) { contents = contents-fewer files (named_paths ds cs) (named_paths ds more) e i })

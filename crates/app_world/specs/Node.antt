@@ -1,0 +1,167 @@
+-- A request on a node, in the view of the application that asks, and in that of another.
+use Rattle.std.specs.Prelude.{ℕ, zero, suc, ◌+◌, ◌==◌, nat_lt, List, [], ◌∷◌, ◌++◌, length, map, not, Bool, false, Option, Some, None, cond, option_map}
+use Rattle.std.specs.List.{filter, find}
+use Rattle.portal_base.specs.FileChanges.{cut_to, overlaid}
+use Rattle.portal_base.specs.declared.files.FileName.{FileName}
+use Rattle.portal_model.specs.declared.entry.Given.{Given}
+use Rattle.portal_model.specs.declared.handle.Handle.{Handle}
+use Rattle.portal_model.specs.declared.place.Item.{Item}
+use Rattle.portal_model.specs.declared.place.Item.TheVariants.{Root, ByApp, DocumentFolder, DocumentFile}
+use Rattle.portal_model.specs.declared.place.Place.{Place}
+use Rattle.portal_model.specs.declared.reply.Answer.{Answer}
+use Rattle.portal_model.specs.declared.reply.Code.TheVariants as Code
+use Rattle.portal_model.specs.declared.request.NodeRequest.{NodeRequest}
+use Rattle.portal_model.specs.declared.state.Connection.{Connection}
+use Rattle.portal_model.specs.Bus.{is_tree, moment_given}
+use Rattle.portal_model.specs.Content.{OfFile}
+use Rattle.portal_model.specs.Errno.{eio}
+use Rattle.portal_model.specs.Node.{NodeFacts, bytes_named, node_given, node_walk, walk_on_node}
+use Rattle.portal_model.specs.NodeVerdict.{FileChange, FilesStay, Writes, Resizes, Creates, HandleChange, HandlesStay, Opens, Closes, NodeDoing, NodeVerdict, Errs, Yields, Room}
+use Rattle.portal_model.specs.Place.{FolderOf, RootOf, Sight, SightOfFile, SightOfFolder, place_named}
+use Rattle.portal_model.specs.State.{State}
+use Rattle.portal_model.specs.Walk.{Walk, walked}
+use Rattle.app_world.specs.Effect.{Effect, Bytes, apply_all}
+use Rattle.app_world.specs.Own.{Own}
+use Rattle.app_world.specs.Shown.{own_bytes, own_looks, succeeding}
+use Rattle.app_world.specs.View.{AppView, HeldDocument, OwnConnection, OwnHandle, found_document, names, number_of, prune, view}
+
+-- ---- what the application sees at a node
+
+-- the application sees a document's file where it may read it
+abbrev pub own_sight : Option HeldDocument → Option Sight
+own_sight None = None
+own_sight (Some d) = cond d.rights.read (Some (SightOfFile d.document.path d.rights.write)) None
+
+-- and its folder
+abbrev pub own_sight_of_folder : ℕ → Option HeldDocument → Option Sight
+own_sight_of_folder view None = None
+own_sight_of_folder view (Some d) =
+    cond d.rights.read
+    (Some (SightOfFolder (FolderOf view (number_of d) d.document.path d.rights.write))) None
+
+abbrev pub may_read : HeldDocument → Bool
+may_read d = d.rights.read
+
+-- the numbers of the documents that it sees, in rising order
+abbrev pub own_numbers : List HeldDocument → List ℕ
+own_numbers documents = map number_of (filter may_read documents)
+
+-- the folder of all views is the host's alone
+abbrev pub own_sight_of_item : AppView → ℕ → Item → Option Sight
+own_sight_of_item v view Root =
+    Some (SightOfFolder (RootOf view (own_numbers v.documents) false))
+own_sight_of_item v view ByApp = None
+own_sight_of_item v view (DocumentFolder number) =
+    own_sight_of_folder view (found_document v.documents number)
+own_sight_of_item v view (DocumentFile number) = own_sight (found_document v.documents number)
+
+-- of all views an application has its own alone
+abbrev pub own_sight_in : AppView → ℕ → Item → Option Sight
+own_sight_in v zero item = own_sight_of_item v zero item
+own_sight_in v (suc k) item = None
+
+abbrev pub own_sight_at : AppView → Option Place → Option Sight
+own_sight_at v None = None
+own_sight_at v (Some p) = own_sight_in v p.view p.item
+
+abbrev pub own_place : AppView → ℕ → Option Sight
+own_place v node = own_sight_at v (place_named node)
+
+-- ---- what a request depends on
+
+abbrev pub own_handle_of : List OwnHandle → ℕ → Option Handle
+own_handle_of handles fh = option_map (λ h. h.handle) (find (λ h. h.fh == fh) handles)
+
+abbrev pub own_room : AppView → OwnConnection → Room
+own_room v c = record {
+  opens = c.opens;
+  full = not (nat_lt (length c.handles) v.handles);
+}
+
+abbrev pub own_facts : AppView → OwnConnection → ℕ → NodeFacts
+own_facts v c node = record {
+  sight = own_place v node;
+  handle = own_handle_of c.handles;
+  bytes = own_bytes v;
+  room = own_room v c;
+  file_limit = v.file_bytes;
+}
+
+abbrev pub own_walk : AppView → OwnConnection → NodeRequest → Walk NodeVerdict
+own_walk v c r = node_walk (own_facts v c r.node) r r.op
+
+-- ---- the view after
+
+abbrev pub own_opened : ℕ → OwnHandle → OwnConnection → OwnConnection
+own_opened seat handle c =
+    cond (c.seat == seat)
+    (record c { opens = c.opens + 1; handles = c.handles ++ handle ∷ [] }) c
+
+abbrev pub own_closed : ℕ → ℕ → OwnConnection → OwnConnection
+own_closed seat fh c =
+    cond (c.seat == seat) (record c { handles = filter (λ h. not (h.fh == fh)) c.handles }) c
+
+-- the next handle of the connection that asks
+abbrev pub next_own_handle : OwnConnection → Handle → OwnHandle
+next_own_handle c handle = record { fh = c.opens + 1; handle = handle }
+
+abbrev pub own_connections_after :
+    OwnConnection → HandleChange → List OwnConnection → List OwnConnection
+own_connections_after c HandlesStay connections = connections
+own_connections_after c (Opens handle) connections =
+    map (own_opened c.seat (next_own_handle c handle)) connections
+own_connections_after c (Closes fh) connections = map (own_closed c.seat fh) connections
+
+-- the file of a name has these bytes, since a moment
+abbrev pub bytes_at : AppView → FileName → List ℕ → ℕ → List Effect
+bytes_at v name bytes now =
+    cond (names v name.path)
+    (Bytes name.path name.generation (OfFile name.generation bytes now) ∷ []) []
+
+-- What a change of a file is to a view that names its path, where the files have these bytes. A
+-- write of no bytes changes nothing.
+abbrev pub bytes_effects : AppView → (FileName → List ℕ) → FileChange → List Effect
+bytes_effects v bytes FilesStay = []
+bytes_effects v bytes (Writes name offset [] now) = []
+bytes_effects v bytes (Writes name offset (b ∷ bs) now) =
+    bytes_at v name (overlaid (bytes name) offset (b ∷ bs)) now
+bytes_effects v bytes (Resizes name size now) = bytes_at v name (cut_to size (bytes name)) now
+bytes_effects v bytes (Creates path now) =
+    bytes_at v (record { path = path; generation = 0 }) [] now
+
+-- what was named by a closed file alone leaves the view
+abbrev pub own_node_done : AppView → OwnConnection → NodeDoing → AppView
+own_node_done v c d =
+    apply_all
+    (prune (record v { connections = own_connections_after c d.handle v.connections }))
+    (bytes_effects v (own_bytes v) d.file)
+
+-- ---- the answer
+
+abbrev pub own_settled_on_node : AppView → OwnConnection → Option NodeVerdict → AppView × Answer
+own_settled_on_node v c None = (v, Answer.Refused (Code.Errno eio))
+own_settled_on_node v c (Some (Errs errno)) = (v, Answer.Refused (Code.Errno errno))
+own_settled_on_node v c (Some (Yields d)) = (own_node_done v c d, Answer.Node d.answer)
+
+-- the looks are those that the view's contents show, up to a call that failed
+abbrev pub own_node_given : AppView → Walk NodeVerdict → Own → Option NodeVerdict
+own_node_given v walk own =
+    walked walk (moment_given own.now) (succeeding own.fault own.looks (own_looks v walk))
+    (is_tree own.fault)
+
+-- the view after, and the answer
+abbrev pub own_node_answer : AppView → OwnConnection → NodeRequest → Own → AppView × Answer
+own_node_answer v c r own = own_settled_on_node v c (own_node_given v (own_walk v c r) own)
+
+-- ---- what it changes of another's view
+
+abbrev pub verdict_touch : List ℕ → State → Option NodeVerdict → List Effect
+verdict_touch app s None = []
+verdict_touch app s (Some (Errs errno)) = []
+verdict_touch app s (Some (Yields d)) =
+    cond s.told (bytes_effects (view s app) (bytes_named s.files) d.file) []
+
+abbrev pub node_touch : List ℕ → State → NodeRequest → Given → Option Connection → List Effect
+node_touch app s r given None = []
+node_touch app s r given (Some c) =
+    verdict_touch app s (node_given (walk_on_node s c r) given)

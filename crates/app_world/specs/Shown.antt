@@ -1,0 +1,68 @@
+-- What an application sees of the tree of files: the contents of its view.
+use Rattle.std.specs.Prelude.{ℕ, ◌==◌, List, [], ◌∷◌, take, Bool, true, false, Option, Some, None, cond}
+use Rattle.portal_base.specs.declared.files.FileName.{FileName}
+use Rattle.portal_base.specs.declared.files.Look.{Look}
+use Rattle.portal_model.specs.declared.entry.Fault.{Fault}
+use Rattle.portal_model.specs.Content.{Content, OfFile, OfFolder, NotThere, look_of}
+use Rattle.portal_model.specs.Walk.{Walk, Answers, Looks, Ends, Target, AtPath, Named, LastCall, Uses, Changes, Makes}
+use Rattle.app_world.specs.View.{AppView, PathContent, found_content}
+
+-- the view has a content for each path that it names
+abbrev pub shown : Option PathContent → Content
+shown None = NotThere false
+shown (Some c) = c.content
+
+abbrev pub own_content : AppView → List ℕ → Content
+own_content v path = shown (found_content v.contents path)
+
+-- where the file has another generation, nothing is there
+abbrev pub of_generation : ℕ → Content → Content
+of_generation generation (OfFile g bytes moment) =
+    cond (g == generation) (OfFile g bytes moment) (NotThere false)
+of_generation generation OfFolder = NotThere false
+of_generation generation (NotThere room) = NotThere false
+
+-- the file of a name
+abbrev pub own_file : AppView → FileName → Content
+own_file v name = of_generation name.generation (own_content v name.path)
+
+abbrev pub bytes_in : Content → List ℕ
+bytes_in (OfFile generation bytes moment) = bytes
+bytes_in OfFolder = []
+bytes_in (NotThere room) = []
+
+abbrev pub own_bytes : AppView → FileName → List ℕ
+own_bytes v name = bytes_in (own_file v name)
+
+abbrev pub is_file : Content → Bool
+is_file (OfFile generation bytes moment) = true
+is_file OfFolder = false
+is_file (NotThere room) = false
+
+abbrev pub is_place : Content → Bool
+is_place (OfFile generation bytes moment) = false
+is_place OfFolder = false
+is_place (NotThere room) = room
+
+-- ---- walks
+
+abbrev pub own_shown_at : AppView → Target → Look
+own_shown_at v (AtPath path) = look_of (own_content v path)
+own_shown_at v (Named name) = look_of (own_file v name)
+
+abbrev pub own_found : AppView → LastCall → Bool
+own_found v (Uses name) = is_file (own_file v name)
+own_found v (Changes name) = is_file (own_file v name)
+own_found v (Makes path) = is_place (own_content v path)
+
+-- the looks that a walk takes, where none fails
+abbrev pub own_looks : {X : Type 0} → AppView → Walk X → List Look
+own_looks v (Answers x) = []
+own_looks v (Looks target next) = own_shown_at v target ∷ own_looks v (next (own_shown_at v target))
+own_looks v (Ends call done missing) = cond (own_found v call) [] (Look.Missing ∷ [])
+
+-- of these, those that succeed: where a call of the tree failed, the ones ahead of it
+abbrev pub succeeding : Fault → ℕ → List Look → List Look
+succeeding Fault.None count looks = looks
+succeeding Fault.Tree count looks = take count looks
+succeeding Fault.Keeper count looks = looks

@@ -1,0 +1,10 @@
+mod PathArguments
+mod ServedSteps
+mod ReadAnswers
+mod ListedDocuments
+mod DeleteSteps
+mod QueueSteps
+mod KeptRights
+mod RevokeSteps
+mod AddedRights
+mod GrantSteps

@@ -1,0 +1,12 @@
+pub mod SeatMounts
+pub mod HandleChanges
+pub mod FoundHandles
+pub mod OlderHandleLaws
+pub mod OpenRights
+pub mod ChangedPaths
+pub mod ChangedContents
+pub mod BytesTold
+pub mod RightsTouched
+pub mod TouchLaws
+pub mod OpenExampleProofs
+pub mod TouchExampleProofs

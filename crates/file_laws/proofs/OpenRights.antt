@@ -1,0 +1,183 @@
+-- What an application opens goes by the rights that it has then.
+use Rattle.std.proofs.Common.{◌≡◌, ℕ, zero, suc, ◌==◌, List, [], ◌∷◌, ◌++◌, Bool, true, false, not, ◌&&◌, cond, Option, Some, None, refl, sym, ap, subst, ◌∙◌}
+use Rattle.portal_base.specs.declared.files.File.{File}
+use Rattle.portal_base.specs.declared.files.FileName.{FileName}
+use Rattle.portal_base.specs.declared.who.Who.{Who}
+use Rattle.portal_model.specs.declared.entry.Given.{Given}
+use Rattle.portal_model.specs.declared.place.Item.{Item}
+use Rattle.portal_model.specs.declared.place.Place.{Place}
+use Rattle.portal_model.specs.declared.request.NodeOp.{NodeOp}
+use Rattle.portal_model.specs.declared.request.NodeRequest.{NodeRequest}
+use Rattle.portal_model.specs.declared.request.Request.{Request}
+use Rattle.portal_model.specs.declared.rights.Right.{Right}
+use Rattle.portal_model.specs.declared.rights.Right.TheVariants.{Read, Write}
+use Rattle.portal_model.specs.declared.state.Connection.{Connection}
+use Rattle.portal_model.specs.declared.state.Document.{Document}
+use Rattle.portal_model.specs.declared.state.Triple.{Triple}
+use Rattle.portal_model.specs.Bus.{is_tree, moment_given}
+use Rattle.portal_model.specs.Errno.{eacces, einval, emfile, enoent}
+use Rattle.portal_model.specs.History.{Legal, made_by, run}
+use Rattle.portal_model.specs.Lawful.{LawfulGiven, LawfulOnNode}
+use Rattle.portal_model.specs.Node.{facts_of, node_given, node_walk, settled_on_node, walk_on_node}
+use Rattle.portal_model.specs.NodeVerdict.{NodeDoing, NodeVerdict, Errs, FilesStay, Resizes, Room, Yields, by_place, errs_if}
+use Rattle.portal_model.specs.Open.{file_handle, has_no_mode, open_file, open_folder, open_name, open_node, opened_file, opens_to_write, truncates}
+use Rattle.portal_model.specs.Outside.{files_told}
+use Rattle.portal_model.specs.Place.{FolderOf, Sight, SightOfFile, SightOfFolder, place_named, place_of, sight_at, sight_in_view, sight_of_document, sight_of_folder, sight_of_item, subject_of}
+use Rattle.portal_model.specs.State.{State, app_has, connection_of, document_of, is_app}
+use Rattle.portal_model.specs.Step.{after, all_told, mount_of, node_step, request_step}
+use Rattle.portal_model.specs.Walk.{Answers, Changes, Ends}
+use Rattle.portal_model.proofs.Histories.{Legal-front, Legal-rest}
+use Rattle.portal_model.proofs.ListLookups.{found_passes, is_same-eq, nat_is}
+use Rattle.portal_model.proofs.NodeWalks.{IfMet, OnNode, at_file-on, errs_if-on, on-given}
+use Rattle.app_world.specs.RightsTold.{is_given_in}
+use Rattle.app_world.specs.Touched.{is_done}
+use Rattle.app_world.proofs.RightsToldLaws.{told}
+use Rattle.file_laws.specs.Revocations.{NoOpenAfterARevocation, file_in_own_view}
+use Rattle.file_laws.proofs.SeatMounts.{mount-seat}
+
+-- ---- what an application sees as a file
+
+record FileSeen (app : List ℕ) (rights : List Triple) (p : Option Place) (writes : Bool) : Type 0 where
+  number : ℕ
+  place : p ≡ Some (file_in_own_view number)
+  may_read : app_has rights app number Read ≡ true
+  may_write : app_has rights app number Write ≡ writes
+
+module _ (app : List ℕ) (s : State) (path : List ℕ) (writes : Bool) where
+  abbrev Seen : Option Sight → Type 0
+  Seen o = o ≡ Some (SightOfFile path writes)
+
+  no-folder : (number : ℕ) (o : Option Document) {X : Type 0} → Seen (sight_of_folder 0 s.rights (Who.App app) o) → X
+  no-folder number None e = cc
+  no-folder number (Some d) e = by_right (app_has s.rights app d.id.number Read) e
+    where
+      by_right : (b : Bool) {Y : Type 0} → Seen (cond b (Some (SightOfFolder (FolderOf 0 d.id.number d.path (app_has s.rights app d.id.number Write)))) None) → Y
+      by_right true f = cc
+      by_right false f = cc
+
+  of-document : (number : ℕ) (o : Option Document) → document_of s.documents number ≡ o → Seen (sight_of_document s.rights (Who.App app) o) → FileSeen app s.rights (Some (file_in_own_view number)) writes
+  of-document number None k e = cc
+  of-document number (Some d) k e = subst (λ (n : ℕ). FileSeen app s.rights (Some (file_in_own_view n)) writes) (nat_is d.id.number number (found_passes (λ (x : Document). x.id.number == number) s.documents d k)) (by_right (app_has s.rights app d.id.number Read) refl e)
+    where
+      by_right : (b : Bool) → app_has s.rights app d.id.number Read ≡ b → Seen (cond b (Some (SightOfFile d.path (app_has s.rights app d.id.number Write))) None) → FileSeen app s.rights (Some (file_in_own_view d.id.number)) writes
+      by_right true h f = let same : app_has s.rights app d.id.number Write ≡ writes = cc in record { number = d.id.number; place = refl; may_read = h; may_write = same }
+      by_right false h f = cc
+
+  of-item : (item : Item) → Seen (sight_of_item s (Who.App app) 0 (Who.App app) item) → FileSeen app s.rights (Some (record { view = 0; item = item })) writes
+  of-item Item.Root e = cc
+  of-item Item.ByApp e = cc
+  of-item (Item.DocumentFolder number) e = no-folder number (document_of s.documents number) e
+  of-item (Item.DocumentFile number) e = of-document number (document_of s.documents number) refl e
+
+  in-view : (view : ℕ) (item : Item) → Seen (sight_in_view s (Who.App app) (record { view = view; item = item }) (subject_of s.applications (Who.App app) view)) → FileSeen app s.rights (Some (record { view = view; item = item })) writes
+  in-view zero item e = of-item item e
+  in-view (suc k) item e = cc
+
+  at-place : (p : Option Place) → Seen (sight_at s (Who.App app) p) → FileSeen app s.rights p writes
+  at-place None e = cc
+  at-place (Some p) e = in-view p.view p.item e
+
+-- ---- what an application opens
+
+-- its own document's file, by the rights that it has
+record OpensBy (app : List ℕ) (flags : ℕ) (rights : List Triple) (p : Option Place) : Type 0 where
+  number : ℕ
+  place : p ≡ Some (file_in_own_view number)
+  may_read : app_has rights app number Read ≡ true
+  may_write : opens_to_write flags ≡ true → app_has rights app number Write ≡ true
+
+may-write : (opens writes : Bool) → (opens && not writes) ≡ false → opens ≡ true → writes ≡ true
+may-write true true h e = refl
+may-write true false h e = cc
+may-write false writes h e = cc
+
+module _ (app : List ℕ) (s : State) (r : NodeRequest) (flags : ℕ) (room : Room) (tree : Option (List File)) where
+  abbrev By : Type 0
+  By = OpensBy app flags s.rights (place_named r.node)
+
+  abbrev P : NodeDoing → Type 0
+  P d = By
+
+  name-by : (name : FileName) → By → OnNode tree P (open_name r flags room name)
+  name-by name h = elim (truncates flags) as (λ b. OnNode tree P (cond b (Ends (Changes name) (λ now. opened_file room (file_handle name r.node flags) (Resizes name 0 now)) (Errs enoent)) (Answers (opened_file room (file_handle name r.node flags) FilesStay)))) [
+    | true ↦ ((λ now found. h), tt)
+    | false ↦ h
+  ]
+
+  by-seen : (path : List ℕ) (w : Bool) → FileSeen app s.rights (place_named r.node) w → (opens_to_write flags && not w) ≡ false → By
+  by-seen path w seen h = record {
+    number = seen.number;
+    place = seen.place;
+    may_read = seen.may_read;
+    may_write = λ e. seen.may_write ∙ may-write (opens_to_write flags) w h e;
+  }
+
+  sight-by : (sight : Option Sight) → place_of s (Who.App app) r.node ≡ sight → OnNode tree P (by_place sight (open_file r flags room) open_folder)
+  sight-by None e = tt
+  sight-by (Some (SightOfFile path w)) e = at_file-on tree P path (open_file r flags room path w) (λ g size m.
+      let name : FileName = record { path = path; generation = g } in
+      errs_if-on tree P (opens_to_write flags && not w) eacces (errs_if room.full emfile (open_name r flags room name)) (λ k.
+      errs_if-on tree P room.full emfile (open_name r flags room name) (λ n. name-by name (by-seen path w (at-place app s path w (place_named r.node) e) k))))
+  sight-by (Some (SightOfFolder folder)) e = tt
+
+  open-by : (sight : Option Sight) → place_of s (Who.App app) r.node ≡ sight → OnNode tree P (open_node r flags sight room)
+  open-by sight e = errs_if-on tree P (has_no_mode flags) einval (by_place sight (open_file r flags room) open_folder) (λ n. sight-by sight e)
+
+settled-by : {X : Type 0} (tree : Option (List File)) (t : State) (c : Connection) (o : Option NodeVerdict) → IfMet tree (λ d. X) o → is_done (settled_on_node t c o).1 ≡ true → X
+settled-by tree t c None m e = cc
+settled-by tree t c (Some (Errs errno)) m e = cc
+settled-by tree t c (Some (Yields d)) m e = m
+
+who-app : (app : List ℕ) (who : Who) → is_app app who ≡ true → who ≡ Who.App app
+who-app app Who.Host e = cc
+who-app app (Who.App name) e = ap Who.App (is_same-eq name app e)
+
+module _ (app : List ℕ) (s : State) (r : NodeRequest) (flags : ℕ) (op : r.op ≡ NodeOp.Open flags) where
+  mount-by : (given : Given) (o : Option Connection) → ((c : Connection) → o ≡ Some c → is_app app c.who ≡ true) → LawfulOnNode s r given o → is_done (node_step s r given o).1.answer ≡ true → OpensBy app flags s.rights (place_named r.node)
+  mount-by given None f l e = cc
+  mount-by given (Some c) f l e =
+      let t = all_told c.seat s in
+      let facts = facts_of t c r.node in
+      let P : NodeDoing → Type 0 = λ d. OpensBy app flags s.rights (place_named r.node) in
+      let on : OnNode (files_told t) P (walk_on_node t c r) =
+      subst (λ (x : NodeOp). OnNode (files_told t) P (node_walk facts r x)) (sym op)
+      (open-by app t r flags facts.room (files_told t) facts.sight (ap (λ (w : Who). place_of t w r.node) (sym (who-app app c.who (f c refl))))) in
+      settled-by (files_told t) t c (node_given (walk_on_node t c r) given) (on-given (files_told t) P (walk_on_node t c r) (moment_given given.now) given.looks (is_tree given.fault) l.looks on) e
+
+  -- the application makes the entry
+  maker-app : (n : ℕ) (o : Option Connection) → made_by app o (Request.Node r) ≡ true → (c : Connection) → o ≡ Some c → is_app app c.who ≡ true
+  maker-app n o h c e = ap (λ (x : Option Connection). made_by app x (Request.Node r)) (sym e) ∙ h
+
+  step-by : (n : ℕ) (request : Request) (given : Given) → request ≡ Request.Node r → made_by app (connection_of s.connections n) request ≡ true → LawfulGiven s n request given → is_done (request_step s n request given).1.answer ≡ true → OpensBy app flags s.rights (place_named r.node)
+  step-by n request given asked own l done =
+      mount-by given (mount_of (connection_of s.connections n))
+      (λ c m. maker-app n (connection_of s.connections n) (ap (made_by app (connection_of s.connections n)) (sym asked) ∙ own) c (mount-seat s.connections n (connection_of s.connections n) refl c m).1)
+      (subst (λ (q : Request). LawfulGiven s n q given) asked l)
+      (ap (λ (q : Request). is_done (request_step s n q given).1.answer) (sym asked) ∙ done)
+
+-- ---- the law
+
+lost : (had has : Bool) → (had && not has) ≡ true → has ≡ false
+lost true true h = cc
+lost true false h = refl
+lost false has h = cc
+
+pub opened : NoOpenAfterARevocation
+opened s before earlier between opening rest app r flags l o =
+    let ahead = run s before in
+    let here = Legal-rest before (earlier ∷ (between ++ opening ∷ rest)) s l in
+    let then : Legal (after ahead earlier) (between ++ opening ∷ rest) = Legal-rest (earlier ∷ []) (between ++ opening ∷ rest) ahead here in
+    let front = Legal-front between (opening ∷ rest) (after ahead earlier) then in
+    let now = run (after ahead earlier) between in
+    let last : Legal now (opening ∷ rest) = Legal-rest between (opening ∷ rest) (after ahead earlier) then in
+    let by = step-by app now r flags o.op opening.seat opening.request opening.given o.asked o.own last.lawful.0.given o.done in
+    let again : (right : Right) → app_has now.rights app by.number right ≡ true → (app_has ahead.rights app by.number right && not (app_has (after ahead earlier).rights app by.number right)) ≡ true → is_given_in app by.number right (after ahead earlier) between ≡ true =
+    λ right has loses. told.given app by.number right (after ahead earlier) between front (lost (app_has ahead.rights app by.number right) (app_has (after ahead earlier).rights app by.number right) loses) has in
+    record {
+      number = by.number;
+      place = by.place;
+      read = again Read by.may_read;
+      write = λ writes. again Write (by.may_write writes);
+      may_read = by.may_read;
+      may_write = by.may_write;
+    }

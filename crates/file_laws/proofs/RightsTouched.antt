@@ -1,0 +1,239 @@
+-- A request that is none on a node tells of rights that it lists, and of documents that are held.
+use Rattle.std.proofs.Common.{◌≡◌, ℕ, ◌==◌, List, [], ◌∷◌, ◌++◌, Bool, true, false, not, ◌&&◌, ◌||◌, cond, Option, Some, None, is_some, refl, sym, ap, ◌∙◌, arith}
+use Rattle.portal_base.specs.Names.{hex_number, is_doc_id, is_same}
+use Rattle.rights_rule.specs.Rights.{RightSet, contains, holds_any, minus, rights_named}
+use Rattle.portal_model.specs.declared.entry.Entry.{Entry}
+use Rattle.portal_model.specs.declared.entry.Given.{Given}
+use Rattle.portal_model.specs.declared.request.AddRequest.{AddRequest}
+use Rattle.portal_model.specs.declared.request.Request.{Request}
+use Rattle.portal_model.specs.declared.request.RightsCall.{RightsCall}
+use Rattle.portal_model.specs.declared.state.Connection.{Connection}
+use Rattle.portal_model.specs.declared.state.Document.{Document}
+use Rattle.portal_base.specs.declared.files.File.{File}
+use Rattle.portal_base.specs.declared.names.doc_id.DocId.{DocId}
+use Rattle.portal_base.specs.declared.who.Who.{Who}
+use Rattle.portal_model.specs.Add.{Added, add_file, caller_rights, first_number, new_document, taken_from_queue, use_document, used_again, with_new_document, with_rights_of}
+use Rattle.portal_model.specs.AddArguments.{document_paths, is_left_out, names_nobody}
+use Rattle.portal_model.specs.Arguments.{document_named}
+use Rattle.portal_model.specs.Content.{content_at}
+use Rattle.portal_model.specs.Grant.{given_rights}
+use Rattle.portal_model.specs.State.{State, connection_of, document_of, held_of}
+use Rattle.portal_model.specs.Step.{bus_of, reply_at}
+use Rattle.portal_model.proofs.ListLookups.{found_passes, nat_is}
+use Rattle.portal_model.proofs.TripleOrder.{nat-itself}
+use Rattle.app_world.specs.Add.{document_used, file_touch, files_touch, names_app}
+use Rattle.app_world.specs.Bus.{add_touch_by}
+use Rattle.app_world.specs.DeleteDocument.{deleted_from}
+use Rattle.app_world.specs.Effect.{Effect}
+use Rattle.app_world.specs.Grant.{gained_if, gained_in, grant_touch, granted_to}
+use Rattle.app_world.specs.Laws.{asks}
+use Rattle.app_world.specs.Revoke.{common, lost_in, revoke_touch, revoked_from}
+use Rattle.app_world.specs.RightsTold.{identifies}
+use Rattle.app_world.specs.Touched.{is_done}
+use Rattle.app_world.specs.View.{AppView, HeldDocument, found_document, seen, view}
+use Rattle.app_world.specs.World.{request_touch, touch}
+use Rattle.app_world.proofs.AddCallLaws.{taken-keeps}
+use Rattle.app_world.proofs.DocumentLaws.{documents-found}
+use Rattle.file_laws.specs.Touches.{EachEffect, IsOfDocument, is_on_node}
+
+-- ---- sets of rights
+
+new-within : (x y : Bool) → (not (x && not y) || x) ≡ true
+new-within x y = grind arith
+
+both-left : (x y : Bool) → (not (x && y) || x) ≡ true
+both-left x y = grind arith
+
+both-right : (x y : Bool) → (not (x && y) || y) ≡ true
+both-right x y = grind arith
+
+all-four : (a b c d : Bool) → a ≡ true → b ≡ true → c ≡ true → d ≡ true → (a && (b && (c && d))) ≡ true
+all-four a b c d e f g h = grind arith
+
+new-listed : (a b : RightSet) → contains a (minus a b) ≡ true
+new-listed a b = all-four _ _ _ _ (new-within a.read b.read) (new-within a.write b.write) (new-within a.grant_permissions b.grant_permissions) (new-within a.delete b.delete)
+
+common-listed : (a b : RightSet) → contains a (common a b) ≡ true
+common-listed a b = all-four _ _ _ _ (both-left a.read b.read) (both-left a.write b.write) (both-left a.grant_permissions b.grant_permissions) (both-left a.delete b.delete)
+
+common-held : (a b : RightSet) → contains b (common a b) ≡ true
+common-held a b = all-four _ _ _ _ (both-right a.read b.read) (both-right a.write b.write) (both-right a.grant_permissions b.grant_permissions) (both-right a.delete b.delete)
+
+common-some : (a b : RightSet) → holds_any (common a b) ≡ true → holds_any b ≡ true
+common-some a b e = grind arith
+
+-- ---- the document that a call names
+
+named-number : (documents : List Document) (n : ℕ) (d : Document) → document_of documents n ≡ Some d → d.id.number ≡ n
+named-number documents n d e = nat_is d.id.number n (found_passes (λ (x : Document). x.id.number == n) documents d e)
+
+named-identified : (documents : List Document) (doc : List ℕ) (d : Document) → document_named documents doc ≡ Some d → identifies doc d.id.number ≡ true
+named-identified documents doc d e = by_form (is_doc_id doc) e
+  where
+    by_form : (b : Bool) → cond b (document_of documents (hex_number doc)) None ≡ Some d → (b && hex_number doc == d.id.number) ≡ true
+    by_form true f = ap (λ (k : ℕ). k == d.id.number) (sym (named-number documents (hex_number doc) d f)) ∙ nat-itself d.id.number
+    by_form false f = cc
+
+named-lives : (documents : List Document) (doc : List ℕ) (d : Document) → document_named documents doc ≡ Some d → document_of documents d.id.number ≡ Some d
+named-lives documents doc d e = by_form (is_doc_id doc) e
+  where
+    by_form : (b : Bool) → cond b (document_of documents (hex_number doc)) None ≡ Some d → document_of documents d.id.number ≡ Some d
+    by_form true f = ap (document_of documents) (named-number documents (hex_number doc) d f) ∙ f
+    by_form false f = cc
+
+and-both : (a b : Bool) → a ≡ true → b ≡ true → (a && b) ≡ true
+and-both a b e f = grind arith
+
+-- ---- an addition changes no file
+
+caller-files : (who : Who) (a : AddRequest) (id : DocId) (s : State) → (caller_rights who a id s).files ≡ s.files
+caller-files Who.Host a id s = refl
+caller-files (Who.App app) a id s = refl
+
+listed-files : (b : Bool) (a : AddRequest) (id : DocId) (s : State) → (cond b s (given_rights a.app id (rights_named a.names) s)).files ≡ s.files
+listed-files true a id s = refl
+listed-files false a id s = refl
+
+rights-files : (who : Who) (a : AddRequest) (id : DocId) (s : State) → (with_rights_of who a id s).files ≡ s.files
+rights-files who a id s = listed-files (names_nobody a) a id (caller_rights who a id s) ∙ caller-files who a id s
+
+use-files : (who : Who) (a : AddRequest) (path : List ℕ) (done : Added) (again : Option DocId) → (use_document who a path done again).state.files ≡ done.state.files
+use-files who a path done None = rights-files who a (first_number done.numbers) (with_new_document (new_document a (first_number done.numbers) path) done.state)
+use-files who a path done (Some id) = rights-files who a id done.state
+
+either-file : (b : Bool) (x y done : Added) → x.state.files ≡ done.state.files → y.state.files ≡ done.state.files → (cond b x y).state.files ≡ done.state.files
+either-file true x y done h k = h
+either-file false x y done h k = k
+
+file-keeps : (who : Who) (a : AddRequest) (done : Added) (path : List ℕ) → (add_file who a done path).state.files ≡ done.state.files
+file-keeps who a done path =
+    let again = used_again done.state.documents a path in
+    either-file (is_left_out a path) (record done { ids = done.ids ++ [] ∷ [] }) (use_document who a path done again) done refl (use-files who a path done again)
+
+module _ (app : List ℕ) (s : State) where
+  abbrev v : AppView
+  v = view s app
+
+  abbrev Of : Request → List Effect → Type 0
+  Of request effects = EachEffect (IsOfDocument app s request) effects
+
+  abbrev was : ℕ → RightSet
+  was n = held_of s.rights app n
+
+  held-found : (doc : List ℕ) (d : Document) → document_named s.documents doc ≡ Some d → holds_any (was d.id.number) ≡ true → found_document v.documents d.id.number ≡ Some (record { document = d; rights = was d.id.number })
+  held-found doc d e h =
+      documents-found was d.id.number s.documents
+      ∙ (ap (seen (was d.id.number)) (named-lives s.documents doc d e)
+      ∙ ap (λ (b : Bool). cond {A = Option HeldDocument} b (Some (record { document = d; rights = was d.id.number })) None) h)
+
+  -- ---- a grant
+
+  granted-of : (call : RightsCall) (d : Document) (m : RightSet) (b : Bool) → holds_any (minus (rights_named call.names) m) ≡ b → (identifies call.doc d.id.number && is_same call.app app) ≡ true →
+      Of (Request.Grant call) (gained_if s d (minus (rights_named call.names) m))
+  granted-of call d m true e g = rw e (record { given = g; some = e; listed = new-listed (rights_named call.names) m; shows = refl }, tt)
+  granted-of call d m false e g = rw e tt
+
+  grant-of : (call : RightsCall) → Of (Request.Grant call) (grant_touch app s call)
+  grant-of call = by_app (is_same call.app app) refl
+    where
+      by_document : (o : Option Document) → document_named s.documents call.doc ≡ o → is_same call.app app ≡ true → Of (Request.Grant call) (granted_to app s call o)
+      by_document None e f = tt
+      by_document (Some d) e f = granted-of call d (was d.id.number) (holds_any (minus (rights_named call.names) (was d.id.number))) refl (and-both (identifies call.doc d.id.number) (is_same call.app app) (named-identified s.documents call.doc d e) f)
+
+      by_app : (b : Bool) → is_same call.app app ≡ b → Of (Request.Grant call) (cond b (granted_to app s call (document_named s.documents call.doc)) [])
+      by_app true e = by_document (document_named s.documents call.doc) refl e
+      by_app false e = tt
+
+  -- ---- a revocation
+
+  revoked-of : (call : RightsCall) (d : Document) (b : Bool) → holds_any (common (rights_named call.names) (was d.id.number)) ≡ b → document_named s.documents call.doc ≡ Some d → is_same call.app app ≡ true →
+      Of (Request.Revoke call) (lost_in app s (rights_named call.names) d)
+  revoked-of call d true e f g = rw e (
+    record {
+      held = record { document = d; rights = was d.id.number };
+      there = held-found call.doc d f (common-some (rights_named call.names) (was d.id.number) e);
+      taken = and-both (identifies call.doc d.id.number) (is_same call.app app) (named-identified s.documents call.doc d f) g;
+      some = e;
+      listed = common-listed (rights_named call.names) (was d.id.number);
+      had = common-held (rights_named call.names) (was d.id.number);
+    },
+    tt,
+  )
+  revoked-of call d false e f g = rw e tt
+
+  revoke-of : (call : RightsCall) → Of (Request.Revoke call) (revoke_touch app s call)
+  revoke-of call = by_app (is_same call.app app) refl
+    where
+      by_document : (o : Option Document) → document_named s.documents call.doc ≡ o → is_same call.app app ≡ true → Of (Request.Revoke call) (revoked_from app s call o)
+      by_document None e f = tt
+      by_document (Some d) e f = revoked-of call d (holds_any (common (rights_named call.names) (was d.id.number))) refl e f
+
+      by_app : (b : Bool) → is_same call.app app ≡ b → Of (Request.Revoke call) (cond b (revoked_from app s call (document_named s.documents call.doc)) [])
+      by_app true e = by_document (document_named s.documents call.doc) refl e
+      by_app false e = tt
+
+  -- ---- a deletion
+
+  deleted-of : (doc : List ℕ) (o : Option Document) → document_named s.documents doc ≡ o → Of (Request.DeleteDocument doc) (deleted_from app s o)
+  deleted-of doc None e = tt
+  deleted-of doc (Some d) e = by_rights (holds_any (was d.id.number)) refl
+    where
+      by_rights : (b : Bool) → holds_any (was d.id.number) ≡ b → Of (Request.DeleteDocument doc) (deleted_from app s (Some d))
+      by_rights true h = rw h (record { there = ap is_some (held-found doc d e h); deleted = named-identified s.documents doc d e }, tt)
+      by_rights false h = rw h tt
+
+  -- ---- an addition
+
+  joined : (request : Request) (xs ys : List Effect) → Of request xs → Of request ys → Of request (xs ++ ys)
+  joined request [] ys h k = k
+  joined request (x ∷ xs) ys h k = (h.0, joined request xs ys h.1 k)
+
+  added-of : (a : AddRequest) (t : State) (d : Document) (m : RightSet) (b : Bool) → t.files ≡ s.files → holds_any (minus (rights_named a.names) m) ≡ b → names_app app a ≡ true →
+      Of (Request.Add a) (gained_if t d (minus (rights_named a.names) m))
+  added-of a t d m true h e g = rw e (record { given = g; some = e; listed = new-listed (rights_named a.names) m; shows = ap (λ (fs : List File). content_at fs d.path) h }, tt)
+  added-of a t d m false h e g = rw e tt
+
+  used-of : (a : AddRequest) (t : State) (used : Document) (b c : Bool) → t.files ≡ s.files → names_app app a ≡ c → Of (Request.Add a) (cond b [] (cond c (gained_in app t (rights_named a.names) used) []))
+  used-of a t used true c h e = tt
+  used-of a t used false true h e = added-of a t used (held_of t.rights app used.id.number) (holds_any (minus (rights_named a.names) (held_of t.rights app used.id.number))) h refl e
+  used-of a t used false false h e = tt
+
+  file-of : (a : AddRequest) (done : Added) (path : List ℕ) → done.state.files ≡ s.files → Of (Request.Add a) (file_touch app a done path)
+  file-of a done path h = used-of a done.state (document_used a done.numbers path (used_again done.state.documents a path)) (is_left_out a path) (names_app app a) h refl
+
+  files-of : (paths : List (List ℕ)) (who : Who) (a : AddRequest) (done : Added) → done.state.files ≡ s.files → Of (Request.Add a) (files_touch app who a done paths)
+  files-of [] who a done h = tt
+  files-of (path ∷ paths) who a done h =
+      joined (Request.Add a) (file_touch app a done path) (files_touch app who a (add_file who a done path) paths) (file-of a done path h)
+      (files-of paths who a (add_file who a done path) (file-keeps who a done path ∙ h))
+
+  add-of : (a : AddRequest) (given : Given) (o : Option Connection) → Of (Request.Add a) (add_touch_by app s a given o)
+  add-of a given None = tt
+  add-of a given (Some c) = files-of (document_paths c.queue a) c.who a (record { state = taken_from_queue c a s; numbers = given.numbers; ids = [] }) (taken-keeps (λ (t : State). t.files) c a s refl)
+
+  -- ---- each request
+
+  if-done : (request : Request) (b : Bool) (effects : List Effect) → Of request effects → Of request (cond b effects [])
+  if-done request true effects h = h
+  if-done request false effects h = tt
+
+  each-of : (seat : ℕ) (request : Request) (given : Given) → is_on_node request ≡ false → Of request (request_touch app s seat request given)
+  each-of seat (Request.Enter who kind) given e = tt
+  each-of seat Request.Leave given e = tt
+  each-of seat Request.Collect given e = tt
+  each-of seat (Request.Node r) given e = cc
+  each-of seat (Request.Present path) given e = tt
+  each-of seat (Request.Add a) given e = add-of a given (bus_of (connection_of s.connections seat))
+  each-of seat (Request.Grant call) given e = grant-of call
+  each-of seat (Request.Revoke call) given e = revoke-of call
+  each-of seat (Request.DeleteDocument doc) given e = deleted-of doc (document_named s.documents doc) refl
+  each-of seat (Request.LookupDocument path) given e = tt
+  each-of seat (Request.Info doc) given e = tt
+  each-of seat (Request.ListDocuments name) given e = tt
+
+  pub documents-told : (seat : ℕ) (request : Request) (given : Given) → is_on_node request ≡ false → Of request (touch app s (asks seat request given))
+  documents-told seat request given e = if-done request (is_done (reply_at s (asks seat request given)).answer) (request_touch app s seat request given) (each-of seat request given e)
+
+-- an entry that is not done tells nothing
+pub nothing-told : (app : List ℕ) (s : State) (e : Entry) → is_done (reply_at s e).answer ≡ false → touch app s e ≡ []
+nothing-told app s e h = ap (λ (b : Bool). cond {A = List Effect} b (request_touch app s e.seat e.request e.given) []) h

@@ -1,0 +1,5 @@
+pub mod KeptHandles
+pub mod Revocations
+pub mod Touches
+pub mod Examples
+pub mod TouchExamples

@@ -1,0 +1,340 @@
+-- A request on a node leaves a valid state valid.
+use Rattle.std.proofs.Common.{◌≡◌, ℕ, ◌+◌, ◌==◌, nat_eq, nat_lt, length, List, [], ◌∷◌, map, Bool, true, false, not, ◌&&◌, ◌||◌, cond, Option, Some, None, refl, sym, ap, subst, ◌∙◌, arith}
+use Rattle.std.specs.List.{list_all, IsDistinct}
+use Rattle.portal_base.specs.Content.{paths_of}
+use Rattle.portal_base.specs.FileChanges.{new_file, resized, written}
+use Rattle.portal_base.specs.Names.{is_host_path, is_same, name_of}
+use Rattle.portal_base.specs.declared.files.File.{File}
+use Rattle.portal_base.specs.declared.files.FileName.{FileName}
+use Rattle.portal_base.specs.declared.files.Look.{Look}
+use Rattle.portal_base.specs.declared.who.Who.{Who}
+use Rattle.portal_model.specs.declared.entry.Given.{Given}
+use Rattle.portal_model.specs.declared.handle.Handle.{Handle}
+use Rattle.portal_model.specs.declared.handle.OpenHandle.{OpenHandle}
+use Rattle.portal_model.specs.declared.place.Item.{Item}
+use Rattle.portal_model.specs.declared.place.Place.{Place}
+use Rattle.portal_model.specs.declared.request.NodeOp.{NodeOp}
+use Rattle.portal_model.specs.declared.request.NodeRequest.{NodeRequest}
+use Rattle.portal_model.specs.declared.rights.Right.TheVariants.{Read, Write}
+use Rattle.portal_model.specs.declared.state.Connection.{Connection}
+use Rattle.portal_model.specs.declared.state.Document.{Document}
+use Rattle.portal_model.specs.declared.reply.NodeAnswer.{NodeAnswer}
+use Rattle.portal_model.specs.Access.{access, access_file, access_folder, executes, writes_to}
+use Rattle.portal_model.specs.Attributes.{attr_of_file, attr_of_folder, on_node}
+use Rattle.portal_model.specs.Bus.{is_tree, moment_given}
+use Rattle.portal_model.specs.Create.{create, create_in, create_there}
+use Rattle.portal_model.specs.Errno.{eacces, ebadf, efbig, einval, eisdir, emfile, enametoolong, enoent, enotdir, eperm}
+use Rattle.portal_model.specs.Fsync.{fsync_open}
+use Rattle.portal_model.specs.GetAttr.{get_attr_by_handle, get_attr_by_place, names_handle, tells_file, tells_folder}
+use Rattle.portal_model.specs.Lookup.{entry_of_file, found_folder, lookup_in, named_in_root, named_in_views}
+use Rattle.portal_model.specs.Node.{NodeFacts, connections_after, counted, files_after, handles_after, is_full, node_answer, node_done, node_given, node_walk, facts_of, room_of, settled_on_node, walk_on_node}
+use Rattle.portal_model.specs.NodeOutside.{LawfulNode}
+use Rattle.portal_model.specs.NodeVerdict.{NodeDoing, NodeVerdict, FileChange, FilesStay, Writes, Resizes, Creates, HandleChange, HandlesStay, Opens, Closes, Errs, Yields, Room, at_file, by_file_handle, by_place, errs, errs_if, is_too_long, no_file, told}
+use Rattle.portal_model.specs.Open.{file_handle, has_no_mode, open_file, open_folder, open_name, open_node, opened_file, opens_to_write, truncates}
+use Rattle.portal_model.specs.OpenDir.{open_dir, open_dir_in, open_found}
+use Rattle.portal_model.specs.Outside.{files_told}
+use Rattle.portal_model.specs.Place.{Folder, RootOf, Views, FolderOf, file_node, Sight, SightOfFile, SightOfFolder, place_named, place_of, sight_at, sight_in_view, sight_of_item, sight_of_document, sight_of_folder, subject_of}
+use Rattle.portal_model.specs.Read.{read, read_limit, read_open}
+use Rattle.portal_model.specs.ReadDir.{read_names}
+use Rattle.portal_model.specs.ReleaseDir.{release_dir}
+use Rattle.portal_model.specs.SetAttr.{SetsAttr, resize, set_attr, set_attr_at, set_attr_of, set_attr_of_folder, set_attr_open, sets_by_handle, sets_owner_or_mode, sets_size}
+use Rattle.portal_model.specs.State.{State, connection_of, document_of, handles_of, is_handle, is_host, is_mount, who_has}
+use Rattle.portal_model.specs.Valid.{Valid, has_host_path, is_sound_connection}
+use Rattle.portal_model.specs.Walk.{Walk, Answers, Looks, Ends, AtPath, Changes, IsFound, IsShown, Makes}
+use Rattle.portal_model.specs.Write.{write, write_content, write_limit, write_open}
+use Rattle.portal_model.proofs.FilesValid.{changed-paths, files-sound, missing-is, put-paths, sound-paths, SoundPaths, written-path}
+use Rattle.portal_model.proofs.ListLookups.{found_in_all}
+use Rattle.portal_model.proofs.NodeWalks.{IfMet, OnNode, at_file-on, at_name-on, by_file_handle-on, by_place-on, errs_if-on, on-given}
+use Rattle.portal_model.proofs.OpenHandles.{closed-handles, opened-handles}
+use Rattle.portal_model.proofs.Queues.{seats}
+use Rattle.portal_model.proofs.SoundParts.{SoundConnections, SoundFiles, SoundHandles, Valid-open, valid-files, valid-handles}
+
+-- ---- what a request on a node does
+
+-- a handle is opened only where there is a place left for one, on a path of the host
+abbrev pub HandleFine : Room → HandleChange → Type 0
+HandleFine room HandlesStay = Unit {0}
+HandleFine room (Opens handle) = (room.full ≡ false) × (has_host_path handle ≡ true)
+HandleFine room (Closes fh) = Unit {0}
+
+-- a file is made only where nothing is and the parent is a folder
+abbrev pub FileFine : Option (List File) → FileChange → Type 0
+FileFine tree FilesStay = Unit {0}
+FileFine tree (Writes name offset content now) = Unit {0}
+FileFine tree (Resizes name size now) = Unit {0}
+FileFine tree (Creates path now) = IsShown tree (AtPath path) Look.Missing × IsFound tree (Makes path) true × (is_host_path path ≡ true)
+
+abbrev pub Fine : Option (List File) → Room → NodeDoing → Type 0
+Fine tree room d = HandleFine room d.handle × FileFine tree d.file
+
+-- the path of a document is one on the host
+abbrev pub IsHostFolder : Folder → Type 0
+IsHostFolder (RootOf view numbers has_views) = Unit {0}
+IsHostFolder (Views applications) = Unit {0}
+IsHostFolder (FolderOf view number path may_write) = is_host_path path ≡ true
+
+abbrev pub IsHostSight : Option Sight → Type 0
+IsHostSight None = Unit {0}
+IsHostSight (Some (SightOfFile path may_write)) = is_host_path path ≡ true
+IsHostSight (Some (SightOfFolder f)) = IsHostFolder f
+
+host_folder : (sight : Option Sight) (f : Folder) → sight ≡ Some (SightOfFolder f) → IsHostSight sight → IsHostFolder f
+host_folder sight f e h = subst IsHostSight e h
+
+module _ (tree : Option (List File)) (f : NodeFacts) (r : NodeRequest) where
+  abbrev P : NodeDoing → Type 0
+  P = Fine tree f.room
+
+  abbrev On : Walk NodeVerdict → Type 0
+  On = OnNode tree P
+
+  found-fine : (o : Option ℕ) → On (found_folder r o)
+  found-fine None = tt
+  found-fine (Some node) = (tt, tt)
+
+  lookup-fine : (name : List ℕ) (folder : Folder) → On (lookup_in r name folder)
+  lookup-fine name (RootOf view numbers has_views) = found-fine (named_in_root view numbers has_views name)
+  lookup-fine name (Views applications) = found-fine (named_in_views applications name)
+  lookup-fine name (FolderOf view number path may_write) = elim (is_same name (name_of path)) as (λ b. On (cond b (at_file path (entry_of_file r (file_node view number) may_write)) (errs enoent))) [
+    | true ↦ at_file-on tree P path (entry_of_file r (file_node view number) may_write) (λ g s m. (tt, tt))
+    | false ↦ tt
+  ]
+
+  attr-fine : (sight : Option Sight) → On (get_attr_by_place r sight)
+  attr-fine sight = by_place-on tree P sight (λ path may_write. tells_file r may_write) (tells_folder r) (λ path w g s m. (tt, tt)) (λ folder e. (tt, tt))
+
+  handle-attr-fine : (sight : Option Sight) (handle : Option Handle) → On (get_attr_by_handle r sight handle)
+  handle-attr-fine sight None = tt
+  handle-attr-fine sight (Some (Handle.File name node read write)) = at_name-on tree P name (tells_file (on_node r node) write) (λ g s m. (tt, tt))
+  handle-attr-fine sight (Some (Handle.Folder node names)) = attr-fine sight
+
+  get_attr-fine : (b : Bool) (sight : Option Sight) (handle : Option Handle) → On (cond b (get_attr_by_handle r sight handle) (get_attr_by_place r sight))
+  get_attr-fine true sight handle = handle-attr-fine sight handle
+  get_attr-fine false sight handle = attr-fine sight
+
+  size-fine : (q : NodeRequest) (a : SetsAttr) (errno : ℕ) (name : FileName) (may_write : Bool) (size moment : ℕ) → On (set_attr_of q a errno name may_write size moment)
+  size-fine q a errno name may_write size moment = elim (sets_size a.valid) as (λ b. On (cond b (errs_if (not may_write) errno (errs_if (nat_lt a.limit a.size) efbig (resize q a name may_write))) (told (NodeAnswer.Attr (attr_of_file q may_write size moment))))) [
+    | true ↦
+        errs_if-on tree P (not may_write) errno (errs_if (nat_lt a.limit a.size) efbig (resize q a name may_write)) (λ e.
+        errs_if-on tree P (nat_lt a.limit a.size) efbig (resize q a name may_write) (λ k. ((λ now found. (tt, tt)), tt)))
+    | false ↦ (tt, tt)
+  ]
+
+  folder-size-fine : (a : SetsAttr) (folder : Folder) → On (set_attr_of_folder r a folder)
+  folder-size-fine a folder = errs_if-on tree P (sets_size a.valid) eisdir (told (NodeAnswer.Attr (attr_of_folder r))) (λ e. (tt, tt))
+
+  set_attr-fine : (a : SetsAttr) (sight : Option Sight) (handle : Option Handle) → On (set_attr r a sight handle)
+  set_attr-fine a sight handle =
+      errs_if-on tree P (sets_owner_or_mode a.valid) eperm (cond (sets_by_handle a.valid) (by_file_handle handle (set_attr_open r a)) (by_place sight (set_attr_at r a) (set_attr_of_folder r a))) (λ e.
+      elim (sets_by_handle a.valid) as (λ b. On (cond b (by_file_handle handle (set_attr_open r a)) (by_place sight (set_attr_at r a) (set_attr_of_folder r a)))) [
+        | true ↦ by_file_handle-on tree P handle (set_attr_open r a) (λ name node read write. at_name-on tree P name (λ g s m. set_attr_of (on_node r node) a ebadf name write s m) (λ g s m. size-fine (on_node r node) a ebadf name write s m))
+        | false ↦ by_place-on tree P sight (set_attr_at r a) (set_attr_of_folder r a) (λ path w g s m. size-fine r a eacces (record { path = path; generation = g }) w s m) (λ folder e. folder-size-fine a folder)
+      ])
+
+  open-name-fine : (flags : ℕ) (name : FileName) → f.room.full ≡ false → is_host_path name.path ≡ true → On (open_name r flags f.room name)
+  open-name-fine flags name e host = elim (truncates flags) as (λ b. On (cond b (Ends (Changes name) (λ now. opened_file f.room (file_handle name r.node flags) (Resizes name 0 now)) (Errs enoent)) (Answers (opened_file f.room (file_handle name r.node flags) FilesStay)))) [
+    | true ↦ ((λ now found. ((e, host), tt)), tt)
+    | false ↦ ((e, host), tt)
+  ]
+
+  open-place-fine : (flags : ℕ) (sight : Option Sight) → IsHostSight sight → On (by_place sight (open_file r flags f.room) open_folder)
+  open-place-fine flags None h = tt
+  open-place-fine flags (Some (SightOfFile path w)) h = at_file-on tree P path (open_file r flags f.room path w) (λ g s m.
+      let name : FileName = record { path = path; generation = g } in
+      errs_if-on tree P (opens_to_write flags && not w) eacces (errs_if f.room.full emfile (open_name r flags f.room name)) (λ k.
+      errs_if-on tree P f.room.full emfile (open_name r flags f.room name) (λ n. open-name-fine flags name n h)))
+  open-place-fine flags (Some (SightOfFolder folder)) h = tt
+
+  open-fine : (flags : ℕ) (sight : Option Sight) → IsHostSight sight → On (open_node r flags sight f.room)
+  open-fine flags sight h = errs_if-on tree P (has_no_mode flags) einval (by_place sight (open_file r flags f.room) open_folder) (λ e. open-place-fine flags sight h)
+
+  there-fine : (flags : ℕ) (path : List ℕ) (node : ℕ) → f.room.full ≡ false → is_host_path path ≡ true → (look : Look) → IsShown tree (AtPath path) look → On (create_there r flags f.room path node look)
+  there-fine flags path node e host (Look.File g s m) shown = tt
+  there-fine flags path node e host Look.Folder shown = tt
+  there-fine flags path node e host Look.Missing shown = ((λ now found. ((e, host), (shown, found, host))), tt)
+
+  create-in-fine : (name : List ℕ) (flags : ℕ) (folder : Folder) → IsHostFolder folder → On (create_in r name flags f.room folder)
+  create-in-fine name flags (RootOf view numbers has_views) h = tt
+  create-in-fine name flags (Views applications) h = tt
+  create-in-fine name flags (FolderOf view number path may_write) h =
+      let there = Looks (AtPath path) (create_there r flags f.room path (file_node view number)) in
+      errs_if-on tree P (not (is_same name (name_of path))) eacces (errs_if (not may_write) eacces (errs_if f.room.full emfile there)) (λ a.
+      errs_if-on tree P (not may_write) eacces (errs_if f.room.full emfile there) (λ b.
+      errs_if-on tree P f.room.full emfile there (λ e. λ look shown. there-fine flags path (file_node view number) e h look shown)))
+
+  create-fine : (name : List ℕ) (flags : ℕ) (sight : Option Sight) → IsHostSight sight → On (create r name flags sight f.room)
+  create-fine name flags sight h =
+      let place = by_place sight (no_file enotdir) (create_in r name flags f.room) in
+      errs_if-on tree P (has_no_mode flags) einval (errs_if (is_too_long name) enametoolong place) (λ a.
+      errs_if-on tree P (is_too_long name) enametoolong place (λ b.
+      by_place-on tree P sight (no_file enotdir) (create_in r name flags f.room) (λ path w g s m. tt)
+      (λ folder e. create-in-fine name flags folder (host_folder sight folder e h))))
+
+  found-dir-fine : (folder : Folder) → f.room.full ≡ false → On (open_found r f.room folder)
+  found-dir-fine (RootOf view numbers has_views) e = ((e, refl), tt)
+  found-dir-fine (Views applications) e = ((e, refl), tt)
+  found-dir-fine (FolderOf view number path may_write) e = λ look shown. ((e, refl), tt)
+
+  open_dir-fine : (sight : Option Sight) → On (open_dir r sight f.room)
+  open_dir-fine sight = by_place-on tree P sight (no_file enotdir) (open_dir_in r f.room) (λ path w g s m. tt)
+      (λ folder k. errs_if-on tree P f.room.full emfile (open_found r f.room folder) (λ e. found-dir-fine folder e))
+
+  read-fine : (offset size : ℕ) (handle : Option Handle) → On (read f.bytes offset size handle)
+  read-fine offset size handle =
+      errs_if-on tree P (nat_lt read_limit size) einval (by_file_handle handle (read_open f.bytes offset size)) (λ e.
+      by_file_handle-on tree P handle (read_open f.bytes offset size) (λ name node may_read may_write.
+      errs_if-on tree P (not may_read) ebadf _ (λ k. ((λ now found. (tt, tt)), tt))))
+
+  content-fine : (limit : ℕ) (name : FileName) (offset : ℕ) (content : List ℕ) → On (write_content limit name offset content)
+  content-fine limit name offset [] = (tt, tt)
+  content-fine limit name offset (b ∷ bs) = errs_if-on tree P (nat_lt limit (offset + length (b ∷ bs))) efbig _ (λ e. ((λ now found. (tt, tt)), tt))
+
+  write-fine : (limit offset : ℕ) (content : List ℕ) (handle : Option Handle) → On (write limit offset content handle)
+  write-fine limit offset content handle =
+      errs_if-on tree P (nat_lt write_limit (length content)) einval (by_file_handle handle (write_open limit offset content)) (λ e.
+      by_file_handle-on tree P handle (write_open limit offset content) (λ name node may_read may_write.
+      errs_if-on tree P (not may_write) ebadf (write_content limit name offset content) (λ k. content-fine limit name offset content)))
+
+  names-fine : (offset size : ℕ) (handle : Option Handle) → On (read_names offset size handle)
+  names-fine offset size None = tt
+  names-fine offset size (Some (Handle.File name node read write)) = tt
+  names-fine offset size (Some (Handle.Folder node names)) = (tt, tt)
+
+  release_dir-fine : (fh : ℕ) (handle : Option Handle) → On (release_dir fh handle)
+  release_dir-fine fh None = tt
+  release_dir-fine fh (Some (Handle.File name node read write)) = tt
+  release_dir-fine fh (Some (Handle.Folder node names)) = (tt, tt)
+
+  access-fine : (mask : ℕ) (sight : Option Sight) → On (access mask sight)
+  access-fine mask sight =
+      errs_if-on tree P (nat_lt 7 mask) einval (by_place sight (access_file mask) (access_folder mask)) (λ e.
+      by_place-on tree P sight (access_file mask) (access_folder mask)
+      (λ path w g s m. errs_if-on tree P (executes mask || writes_to mask && not w) eacces (told NodeAnswer.Empty) (λ k. (tt, tt)))
+      (λ folder h. errs_if-on tree P (writes_to mask) eacces (told NodeAnswer.Empty) (λ k. (tt, tt))))
+
+  pub walk-fine : IsHostSight f.sight → (op : NodeOp) → On (node_walk f r op)
+  walk-fine h (NodeOp.Lookup name) = errs_if-on tree P (is_too_long name) enametoolong (by_place f.sight (no_file enotdir) (lookup_in r name)) (λ e.
+      by_place-on tree P f.sight (no_file enotdir) (lookup_in r name) (λ path w g s m. tt) (λ folder k. lookup-fine name folder))
+  walk-fine h (NodeOp.Forget count) = (tt, tt)
+  walk-fine h (NodeOp.BatchForget nodes) = (tt, tt)
+  walk-fine h (NodeOp.GetAttr flags fh) = get_attr-fine (names_handle flags) f.sight (f.handle fh)
+  walk-fine h (NodeOp.SetAttr valid fh size) = set_attr-fine (record { valid = valid; size = size; limit = f.file_limit }) f.sight (f.handle fh)
+  walk-fine h (NodeOp.Open flags) = open-fine flags f.sight h
+  walk-fine h (NodeOp.Create name flags) = create-fine name flags f.sight h
+  walk-fine h (NodeOp.Read fh offset size) = read-fine offset size (f.handle fh)
+  walk-fine h (NodeOp.Write fh offset content) = write-fine f.file_limit offset content (f.handle fh)
+  walk-fine h (NodeOp.Flush fh) = by_file_handle-on tree P (f.handle fh) _ (λ name node read write. (tt, tt))
+  walk-fine h (NodeOp.Fsync fh) = by_file_handle-on tree P (f.handle fh) fsync_open (λ name node read write. ((λ now found. (tt, tt)), tt))
+  walk-fine h (NodeOp.Release fh) = by_file_handle-on tree P (f.handle fh) _ (λ name node read write. (tt, tt))
+  walk-fine h NodeOp.OpenDir = open_dir-fine f.sight
+  walk-fine h (NodeOp.ReadDir fh offset size) = errs_if-on tree P (nat_lt read_limit size) einval (read_names offset size (f.handle fh)) (λ e. names-fine offset size (f.handle fh))
+  walk-fine h (NodeOp.ReleaseDir fh) = release_dir-fine fh (f.handle fh)
+  walk-fine h (NodeOp.Access mask) = access-fine mask f.sight
+
+-- ---- what is seen
+
+module _ (s : State) (v : Valid s) where
+  folder_host : (view : ℕ) (who : Who) (number : ℕ) (o : Option Document) → document_of s.documents number ≡ o → IsHostSight (sight_of_folder view s.rights who o)
+  folder_host view who number None e = tt
+  folder_host view who number (Some d) e = elim (who_has s.rights who d.id.number Read) as (λ b. IsHostSight (cond b (Some (SightOfFolder (FolderOf view d.id.number d.path (who_has s.rights who d.id.number Write)))) None)) [
+    | true ↦ found_in_all (λ (x : Document). x.id.number == number) (λ (x : Document). is_host_path x.path) s.documents d e v.paths
+    | false ↦ tt
+  ]
+
+  file_host : (who : Who) (number : ℕ) (o : Option Document) → document_of s.documents number ≡ o → IsHostSight (sight_of_document s.rights who o)
+  file_host who number None e = tt
+  file_host who number (Some d) e = elim (who_has s.rights who d.id.number Read) as (λ b. IsHostSight (cond b (Some (SightOfFile d.path (who_has s.rights who d.id.number Write))) None)) [
+    | true ↦ found_in_all (λ (x : Document). x.id.number == number) (λ (x : Document). is_host_path x.path) s.documents d e v.paths
+    | false ↦ tt
+  ]
+
+  item_host : (caller : Who) (view : ℕ) (who : Who) (item : Item) → IsHostSight (sight_of_item s caller view who item)
+  item_host caller view who Item.Root = tt
+  item_host caller view who Item.ByApp = elim (is_host caller) as (λ b. IsHostSight (cond b (Some (SightOfFolder (Views s.applications))) None)) [ true ↦ tt | false ↦ tt ]
+  item_host caller view who (Item.DocumentFolder number) = folder_host view who number (document_of s.documents number) refl
+  item_host caller view who (Item.DocumentFile number) = file_host who number (document_of s.documents number) refl
+
+  view_host : (caller : Who) (p : Place) (o : Option Who) → IsHostSight (sight_in_view s caller p o)
+  view_host caller p None = tt
+  view_host caller p (Some who) = item_host caller p.view who p.item
+
+  at_host : (caller : Who) (p : Option Place) → IsHostSight (sight_at s caller p)
+  at_host caller None = tt
+  at_host caller (Some p) = view_host caller p (subject_of s.applications caller p.view)
+
+  pub place-host : (caller : Who) (node : ℕ) → IsHostSight (place_of s caller node)
+  place-host caller node = at_host caller (place_named node)
+
+-- ---- the state after
+
+counted_one : (queued : ℕ) (c : Connection) (b : Bool) → is_sound_connection queued c ≡ true → is_sound_connection queued (cond b (record c { opens = c.opens + 1 }) c) ≡ true
+counted_one queued c true h = h
+counted_one queued c false h = h
+
+counted_sound : (queued seat : ℕ) (cs : List Connection) → list_all (is_sound_connection queued) cs ≡ true → list_all (is_sound_connection queued) (map (counted seat) cs) ≡ true
+counted_sound queued seat [] h = refl
+counted_sound queued seat (c ∷ cs) h = grind (arith, counted_one queued c (c.seat == seat), counted_sound queued seat cs)
+
+counted_seats : (seat : ℕ) (cs : List Connection) → seats (map (counted seat) cs) ≡ seats cs
+counted_seats seat [] = refl
+counted_seats seat (c ∷ cs) = elim (c.seat == seat) as (λ b. (cond b (record c { opens = c.opens + 1 }) c).seat ∷ seats (map (counted seat) cs) ≡ c.seat ∷ seats cs) [
+  | true ↦ ap (λ (x : List ℕ). c.seat ∷ x) (counted_seats seat cs)
+  | false ↦ ap (λ (x : List ℕ). c.seat ∷ x) (counted_seats seat cs)
+]
+
+has_place : (limit : ℕ) (handles : List OpenHandle) → is_full limit handles ≡ false → nat_lt (length handles) limit ≡ true
+has_place limit handles h = not_not (nat_lt (length handles) limit) h
+  where
+    not_not : (b : Bool) → not b ≡ false → b ≡ true
+    not_not true e = refl
+    not_not false e = cc
+
+-- c is the connection that asks, which the state has as `found`
+module _ (s : State) (c found : Connection) (here : connection_of s.connections c.seat ≡ Some found) (opens : found.opens ≡ c.opens) (mount : is_mount found.kind ≡ true) (v : Valid s) where
+  connections-valid : (change : HandleChange) → SoundConnections s.limits.queued (connections_after c change s.connections)
+  connections-valid HandlesStay = (v.seats_differ, v.connections_sound)
+  connections-valid (Opens handle) = (
+    subst (IsDistinct nat_eq) (sym (counted_seats c.seat s.connections)) v.seats_differ,
+    counted_sound s.limits.queued c.seat s.connections v.connections_sound,
+  )
+  connections-valid (Closes fh) = (v.seats_differ, v.connections_sound)
+
+  handles-valid : (change : HandleChange) → HandleFine (room_of s c) change → SoundHandles s.limits.handles (connections_after c change s.connections) (handles_after c change s.handles)
+  handles-valid HandlesStay h = valid-handles s v
+  handles-valid (Opens handle) h = opened-handles c found opens handle s.limits.handles s.connections s.handles here mount (has_place s.limits.handles (handles_of s.handles c.seat) h.0) h.1 (valid-handles s v)
+  handles-valid (Closes fh) h = closed-handles (λ (x : OpenHandle). not (is_handle c.seat fh x)) s.limits.handles s.connections s.handles (valid-handles s v)
+
+  paths-valid : (change : FileChange) → FileFine (Some s.files) change → SoundPaths (paths_of (files_after true change s.files))
+  paths-valid FilesStay h = sound-paths s.files s.told (valid-files s v)
+  paths-valid (Writes name offset content now) h = subst SoundPaths (sym (changed-paths name (written offset content now) (written-path offset content now) s.files)) (sound-paths s.files s.told (valid-files s v))
+  paths-valid (Resizes name size now) h = subst SoundPaths (sym (changed-paths name (resized size now) (λ f. refl) s.files)) (sound-paths s.files s.told (valid-files s v))
+  paths-valid (Creates path now) h =
+      let missing = missing-is s.files path (sym h.0) in
+      put-paths (new_file path now) s.files missing.0 missing.1 (sym h.1) h.2 (sound-paths s.files s.told (valid-files s v))
+
+  not-told : (change : FileChange) → files_after false change s.files ≡ s.files
+  not-told FilesStay = refl
+  not-told (Writes name offset content now) = refl
+  not-told (Resizes name size now) = refl
+  not-told (Creates path now) = refl
+
+  files-valid : (change : FileChange) (b : Bool) → s.told ≡ b → FileFine (files_told s) change → SoundFiles s.told (files_after b change s.files)
+  files-valid change true e h =
+      files-sound (files_after true change s.files) s.told
+      (paths-valid change (subst (λ (b : Bool). FileFine (cond b (Some s.files) None) change) e h)) (λ n. let no : true ≡ false = sym e ∙ n in cc)
+  files-valid change false e h = subst (SoundFiles s.told) (sym (not-told change)) (valid-files s v)
+
+  pub done-valid : (d : NodeDoing) → Fine (files_told s) (room_of s c) d → Valid (node_done s c d)
+  done-valid d h = Valid-open s _ _ _ v (connections-valid d.handle) (handles-valid d.handle h.0) (files-valid d.file s.told refl h.1)
+
+  settled-valid : (o : Option NodeVerdict) → IfMet (files_told s) (Fine (files_told s) (room_of s c)) o → Valid (settled_on_node s c o).0
+  settled-valid None h = v
+  settled-valid (Some (Errs errno)) h = v
+  settled-valid (Some (Yields d)) h = done-valid d h
+
+  pub node-valid : (r : NodeRequest) (given : Given) → LawfulNode s c r given → Valid (node_answer s c r given).0
+  node-valid r given l =
+      let f = facts_of s c r.node in
+      settled-valid (node_given (walk_on_node s c r) given)
+      (on-given (files_told s) (Fine (files_told s) (room_of s c)) (walk_on_node s c r) (moment_given given.now) given.looks (is_tree given.fault) l.looks
+      (walk-fine (files_told s) f r (place-host s v c.who r.node) r.op))

@@ -1,0 +1,128 @@
+-- What a request on a node comes to, told by what it depends on alone: what the caller sees at the
+-- node, the seat's open handle, the content of a path, and how many handles the seat opened. Each
+-- kind of request is a walk over these, so whoever knows them answers it, without the state.
+use Rattle.std.specs.Prelude.{ℕ, ◌+◌, nat_lt, List, [], length, Bool, true, false, not, Option, Some, None, cond}
+use Rattle.portal_base.specs.declared.files.FileName.{FileName}
+use Rattle.portal_base.specs.declared.files.Look.{Look}
+use Rattle.portal_model.specs.declared.handle.Handle.{Handle}
+use Rattle.portal_model.specs.declared.reply.NodeAnswer.{NodeAnswer}
+use Rattle.portal_model.specs.Errno.{ebadf, enoent}
+use Rattle.portal_model.specs.Place.{Folder, Sight, SightOfFile, SightOfFolder}
+use Rattle.portal_model.specs.Walk.{Walk, Answers, Looks, AtPath, Named}
+
+-- ---- what is done
+
+-- how the files of the tree change, at a moment
+pub data FileChange : Type 0 where
+  FilesStay : FileChange
+  -- the content of a file from an offset on
+  Writes : FileName → ℕ → List ℕ → ℕ → FileChange
+  -- the length of a file
+  Resizes : FileName → ℕ → ℕ → FileChange
+  -- an empty file at a path
+  Creates : List ℕ → ℕ → FileChange
+
+-- how the open handles of the seat change
+pub data HandleChange : Type 0 where
+  HandlesStay : HandleChange
+  -- one more, by the next number
+  Opens : Handle → HandleChange
+  -- the one of a number is gone
+  Closes : ℕ → HandleChange
+
+pub record NodeDoing : Type 0 where
+  pub answer : NodeAnswer
+  pub file : FileChange
+  pub handle : HandleChange
+
+-- a refusal by the number of the error, or what is done
+pub data NodeVerdict : Type 0 where
+  Errs : ℕ → NodeVerdict
+  Yields : NodeDoing → NodeVerdict
+
+-- an answer alone
+abbrev pub tells : NodeAnswer → NodeVerdict
+tells answer = Yields (record { answer = answer; file = FilesStay; handle = HandlesStay })
+
+-- a file is changed
+abbrev pub changes : FileChange → NodeAnswer → NodeVerdict
+changes change answer = Yields (record { answer = answer; file = change; handle = HandlesStay })
+
+-- the tree isn't asked
+abbrev pub errs : ℕ → Walk NodeVerdict
+errs errno = Answers (Errs errno)
+
+abbrev pub told : NodeAnswer → Walk NodeVerdict
+told answer = Answers (tells answer)
+
+-- checks, in their order: where this is wrong the request is refused so, and nothing comes behind
+abbrev pub errs_if : Bool → ℕ → Walk NodeVerdict → Walk NodeVerdict
+errs_if wrong errno walk = cond wrong (errs errno) walk
+
+-- ---- a file that is looked at
+
+-- by its generation, its length and its moment
+abbrev pub OnFile : Type 0
+OnFile = ℕ → ℕ → ℕ → Walk NodeVerdict
+
+-- where the look shows no file there is none
+abbrev pub if_file : OnFile → Look → Walk NodeVerdict
+if_file next (Look.File generation size moment) = next generation size moment
+if_file next Look.Folder = errs enoent
+if_file next Look.Missing = errs enoent
+
+abbrev pub at_file : List ℕ → OnFile → Walk NodeVerdict
+at_file path next = Looks (AtPath path) (if_file next)
+
+abbrev pub at_name : FileName → OnFile → Walk NodeVerdict
+at_name name next = Looks (Named name) (if_file next)
+
+-- the same error, whatever file is there
+abbrev pub errs_on_file : ℕ → OnFile
+errs_on_file errno generation size moment = errs errno
+
+-- ---- by place
+
+-- A request on what is seen at its node: a file is there where a look shows it, and is told by its
+-- path, whether it may be written, and the look.
+abbrev pub by_place :
+    Option Sight → (List ℕ → Bool → OnFile) → (Folder → Walk NodeVerdict) → Walk NodeVerdict
+by_place None file folder = errs enoent
+by_place (Some (SightOfFile path may_write)) file folder = at_file path (file path may_write)
+by_place (Some (SightOfFolder f)) file folder = folder f
+
+-- the same error at each file
+abbrev pub no_file : ℕ → List ℕ → Bool → OnFile
+no_file errno path may_write = errs_on_file errno
+
+-- ---- by handle
+
+-- an open file, by its name, the node that was opened, and whether it may be read and written
+abbrev pub OnHandle : Type 0
+OnHandle = FileName → ℕ → Bool → Bool → Walk NodeVerdict
+
+-- a request on an open file alone
+abbrev pub by_file_handle : Option Handle → OnHandle → Walk NodeVerdict
+by_file_handle None next = errs ebadf
+by_file_handle (Some (Handle.File name node read write)) next = next name node read write
+by_file_handle (Some (Handle.Folder node names)) next = errs ebadf
+
+-- ---- handles that are opened
+
+-- how many handles the seat's connection opened so far, and whether it may open no more
+pub record Room : Type 0 where
+  pub opens : ℕ
+  pub full : Bool
+
+-- the number that the next handle gets
+abbrev pub next_handle : Room → ℕ
+next_handle room = room.opens + 1
+
+-- ---- names
+
+-- the greatest length of a name, in bytes
+abbrev pub name_limit : ℕ
+name_limit = 255
+
+abbrev pub is_too_long : List ℕ → Bool
+is_too_long name = nat_lt name_limit (length name)

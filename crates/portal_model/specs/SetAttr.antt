@@ -1,0 +1,64 @@
+-- FUSE_SETATTR (include/uapi/linux/fuse.h): of the attributes a file's length alone may be set.
+use Rattle.std.specs.Prelude.{ℕ, ◌/◌, ◌%◌, ◌==◌, nat_lt, List, Bool, not, Option, cond}
+use Rattle.portal_base.specs.declared.files.FileName.{FileName}
+use Rattle.portal_model.specs.declared.handle.Handle.{Handle}
+use Rattle.portal_model.specs.declared.reply.NodeAnswer.TheVariants as NodeAnswer
+use Rattle.portal_model.specs.declared.request.NodeRequest.{NodeRequest}
+use Rattle.portal_model.specs.Attributes.{attr_of_file, attr_of_folder, on_node}
+use Rattle.portal_model.specs.Errno.{eacces, ebadf, efbig, eisdir, enoent, eperm}
+use Rattle.portal_model.specs.NodeVerdict.{NodeVerdict, OnFile, OnHandle, Errs, Resizes, at_name, by_file_handle, by_place, changes, errs_if, told}
+use Rattle.portal_model.specs.Place.{Folder, Sight}
+use Rattle.portal_model.specs.Walk.{Walk, Ends, Changes}
+
+-- FATTR_MODE, FATTR_UID, FATTR_GID
+abbrev pub sets_owner_or_mode : ℕ → Bool
+sets_owner_or_mode valid = not (valid % 8 == 0)
+
+-- FATTR_SIZE
+abbrev pub sets_size : ℕ → Bool
+sets_size valid = valid / 8 % 2 == 1
+
+-- FATTR_FH
+abbrev pub sets_by_handle : ℕ → Bool
+sets_by_handle valid = valid / 64 % 2 == 1
+
+-- what is asked: which attributes, the length, and how long a file may be
+pub record SetsAttr : Type 0 where
+  pub valid : ℕ
+  pub size : ℕ
+  pub limit : ℕ
+
+-- the length that is asked for, at the moment of now
+abbrev pub resize : NodeRequest → SetsAttr → FileName → Bool → Walk NodeVerdict
+resize r a name may_write =
+    Ends (Changes name)
+    (λ now. changes (Resizes name a.size now)
+    (NodeAnswer.Attr (attr_of_file r may_write a.size now)))
+    (Errs enoent)
+
+-- a file of this name that was looked at; the error is that of one that may not be written
+abbrev pub set_attr_of : NodeRequest → SetsAttr → ℕ → FileName → Bool → ℕ → ℕ → Walk NodeVerdict
+set_attr_of r a errno name may_write size moment =
+    cond (sets_size a.valid)
+    (errs_if (not may_write) errno
+    (errs_if (nat_lt a.limit a.size) efbig (resize r a name may_write)))
+    (told (NodeAnswer.Attr (attr_of_file r may_write size moment)))
+
+abbrev pub set_attr_at : NodeRequest → SetsAttr → List ℕ → Bool → OnFile
+set_attr_at r a path may_write generation size moment =
+    set_attr_of r a eacces (record { path = path; generation = generation }) may_write size moment
+
+abbrev pub set_attr_of_folder : NodeRequest → SetsAttr → Folder → Walk NodeVerdict
+set_attr_of_folder r a folder =
+    errs_if (sets_size a.valid) eisdir (told (NodeAnswer.Attr (attr_of_folder r)))
+
+abbrev pub set_attr_open : NodeRequest → SetsAttr → OnHandle
+set_attr_open r a name node read write =
+    at_name name (λ generation size moment.
+    set_attr_of (on_node r node) a ebadf name write size moment)
+
+abbrev pub set_attr : NodeRequest → SetsAttr → Option Sight → Option Handle → Walk NodeVerdict
+set_attr r a sight handle =
+    errs_if (sets_owner_or_mode a.valid) eperm
+    (cond (sets_by_handle a.valid) (by_file_handle handle (set_attr_open r a))
+    (by_place sight (set_attr_at r a) (set_attr_of_folder r a)))
