@@ -11,10 +11,8 @@ use add_files::{AddPlan, PlanItem, PlanUse};
 use document_records::{Applications, Documents};
 use portal_base::names::AppId;
 use portal_base::who::Who;
+use portal_model::state::APPLICATIONS_LIMIT;
 use rights_rule::Rights;
-
-/// The most applications that may have a number.
-const APPLICATIONS_LIMIT: u32 = 16_777_216;
 
 /// Says whether a plan of a caller, followed with whatever numbers, passes a
 /// limit of live documents, of made ones or of applications.

@@ -33,7 +33,7 @@ use Rattle.add_files.proofs.Following.{files-followed, left-out-is}
 
 -- ---- the items
 
-items-paths : (documents : List Document) (who : Who) (a : AddRequest) (app : Option (List ℕ)) (paths : List (List ℕ)) (ahead : List PlanItem) →
+pub items-paths : (documents : List Document) (who : Who) (a : AddRequest) (app : Option (List ℕ)) (paths : List (List ℕ)) (ahead : List PlanItem) →
     map (λ item. item.path) (fold (put_behind documents who a app) ahead paths) ≡ map (λ item. item.path) ahead ++ paths
 items-paths documents who a app [] ahead = sym (append-nil (map (λ item. item.path) ahead))
   where

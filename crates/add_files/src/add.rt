@@ -1,11 +1,11 @@
 //! The plan of an addition.
 
-ghost use Rattle.std.specs.Prelude.{◌≡◌, IfOk, IfErr, List, length, true};
+ghost use Rattle.std.specs.Prelude.{◌≡◌, IfOk, IfErr, List, length, map, true};
 ghost use Rattle.portal_base.specs.declared.names.doc_id.DocId.{DocId as Number};
 ghost use Rattle.portal_model.specs.declared.state.Connection.{Connection};
 ghost use Rattle.portal_model.specs.Add.{add as add_walk};
 ghost use Rattle.portal_model.specs.State.{State};
-ghost use Rattle.add_files.specs.Items.{are_below};
+ghost use Rattle.add_files.specs.Items.{are_below, paths_of};
 ghost use Rattle.add_files.specs.Plans.{IsAsked, IsOfCall, IsPlan, IsRefused};
 
 use crate::arguments::{few, file_name, listed, named_app};
@@ -36,10 +36,12 @@ pub fn plan_add(
     grants: &Grants,
     who: &Who,
     add: &AddRequest,
-    paths: &List<HostPath>,
+    paths: &[HostPath],
 ) -> Result<AddPlan, AddError>
     requires { are_below (length paths.now) add.now.handles ≡ true }
     ensures call { IfOk result (IsOfCall who.now add.now) }
+    ensures paths { IfOk result (λ plan. map (λ item. item.path) plan.items
+        ≡ paths_of add.now paths.now add.now.handles) }
     ensures ok { IfOk result (λ plan. (s : State) (c : Connection) →
         IsAsked s c add.now documents.now.live grants.now who.now paths.now →
         IsPlan s c add.now plan) }
@@ -52,15 +54,7 @@ pub fn plan_add(
     let rights = listed(&add.names)?;
     let app = named_app(alloc, add)?;
     let mut items = List::new(alloc);
-    if let Err(error) = plan_files(
-        alloc,
-        documents,
-        who,
-        add,
-        &app,
-        paths.as_slice(),
-        &mut items,
-    ) {
+    if let Err(error) = plan_files(alloc, documents, who, add, &app, paths, &mut items) {
         return Err(error);
     }
     if !may_list(grants, who, add, &app, rights, items.as_slice()) {

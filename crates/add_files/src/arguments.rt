@@ -136,18 +136,7 @@ fn is_part(alloc: Global, name: &[u8]) -> Result<bool, WantOfMemory>
     ensures { IfOk result (λ answer. answer ≡ is_host_path (47 ∷ name.now)) }
 {
     let path = rooted(alloc, name)?;
-    is_path(alloc, path.as_slice())
-}
-
-/// Says whether bytes are a path.
-fn is_path(alloc: Global, text: &[u8]) -> Result<bool, WantOfMemory>
-    ensures { IfOk result (λ answer. answer ≡ is_host_path text.now) }
-{
-    match HostPath::read(alloc, text) {
-        Ok(_) => Ok(true),
-        Err(NameError::Memory) => Err(WantOfMemory),
-        Err(NameError::BadName { .. }) => Ok(false),
-    }
+    Ok(HostPath::is_path(path.as_slice()))
 }
 
 /// A slash and bytes.

@@ -4,12 +4,10 @@ use Rattle.std.specs.List.{flat_map}
 use Rattle.std.specs.Option.{option_map}
 use Rattle.portal_base.specs.Names.{is_same}
 use Rattle.portal_model.specs.declared.handle.Handle.{Handle}
-use Rattle.portal_model.specs.declared.place.Item.{Item}
-use Rattle.portal_model.specs.declared.place.Item.TheVariants.{Root, ByApp, DocumentFolder, DocumentFile}
 use Rattle.portal_model.specs.declared.place.Place.{Place}
 use Rattle.portal_model.specs.Place.{Folder, FolderOf, RootOf, Views, Sight, SightOfFile, SightOfFolder, place_named}
 use Rattle.portal_model.proofs.ListLookups.{is_same-refl}
-use Rattle.app_world.specs.Node.{own_handle_of, own_place, own_sight, own_sight_at, own_sight_in, own_sight_of_folder, own_sight_of_item}
+use Rattle.app_world.specs.Node.{in_own_view, own_handle_of, own_numbers, own_place, own_sight, own_sight_at, own_sight_of_folder, own_sight_of_place}
 use Rattle.app_world.specs.View.{AppView, HeldDocument, OwnConnection, OwnHandle, found_connection, found_document, is_among, names, paths_of_connection, paths_of_handle}
 use Rattle.app_world.proofs.ViewLaws.{among-joined}
 
@@ -68,19 +66,19 @@ module _ (v : AppView) where
     | false ↦ tt
   ]
 
-  item_on : (k : ℕ) (item : Item) → SightOn Documents (own_sight_of_item v k item)
-  item_on k Root = tt
-  item_on k ByApp = tt
-  item_on k (DocumentFolder number) = folder_on k number (found_document v.documents number) refl
-  item_on k (DocumentFile number) = file_on number (found_document v.documents number) refl
+  in_on : (k : ℕ) (sight : Option Sight) → SightOn Documents sight → SightOn Documents (in_own_view k sight)
+  in_on zero sight h = h
+  in_on (suc k) sight h = tt
 
-  in_on : (k : ℕ) (item : Item) → SightOn Documents (own_sight_in v k item)
-  in_on zero item = item_on zero item
-  in_on (suc k) item = tt
+  there_on : (p : Place) → SightOn Documents (own_sight_of_place v p)
+  there_on (Place.Root k) = in_on k (Some (SightOfFolder (RootOf k (own_numbers v.documents) false))) tt
+  there_on Place.ByApp = tt
+  there_on (Place.Folder k id) = in_on k (own_sight_of_folder k (found_document v.documents id.number)) (folder_on k id.number (found_document v.documents id.number) refl)
+  there_on (Place.File k id) = in_on k (own_sight (found_document v.documents id.number)) (file_on id.number (found_document v.documents id.number) refl)
 
   at_on : (p : Option Place) → SightOn Documents (own_sight_at v p)
   at_on None = tt
-  at_on (Some p) = in_on p.view p.item
+  at_on (Some p) = there_on p
 
   -- what is seen at a node has a document's path
   pub place_on : (node : ℕ) → SightOn Documents (own_place v node)

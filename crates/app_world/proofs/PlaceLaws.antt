@@ -4,18 +4,16 @@ use Rattle.std.specs.List.{filter, find, list_all}
 use Rattle.std.specs.Option.{option_map}
 use Rattle.portal_base.specs.declared.who.Who.{Who}
 use Rattle.rights_rule.specs.Rights.{RightSet}
-use Rattle.portal_model.specs.declared.place.Item.{Item}
-use Rattle.portal_model.specs.declared.place.Item.TheVariants.{Root, ByApp, DocumentFolder, DocumentFile}
 use Rattle.portal_model.specs.declared.place.Place.{Place}
 use Rattle.portal_model.specs.declared.state.Document.{Document}
 use Rattle.portal_model.specs.ListDocuments.{lower as lower_number}
 use Rattle.portal_model.specs.Ordered.{is_rising, put_all}
-use Rattle.portal_model.specs.Place.{FolderOf, RootOf, SightOfFile, SightOfFolder, may_read as may_read_document, numbers_seen, place_named, place_of, sight_at, sight_in_view, sight_of_document, sight_of_folder, sight_of_item, subject_of}
+use Rattle.portal_model.specs.Place.{FolderOf, RootOf, SightOfFile, SightOfFolder, may_read as may_read_document, numbers_seen, place_named, place_of, Sight, seen_by, sight_at, sight_of_document, sight_of_folder, sight_of_place, sight_of_root, subject_of}
 use Rattle.portal_model.specs.State.{State, document_of, held_of}
 use Rattle.portal_model.proofs.ListLookups.{find-filter, find-map, found_passes, nat_is}
 use Rattle.portal_model.proofs.RisingLists.{rising-filter, rising-put_all}
-use Rattle.app_world.specs.Node.{may_read, own_numbers, own_place, own_sight, own_sight_at, own_sight_in, own_sight_of_folder, own_sight_of_item}
-use Rattle.app_world.specs.View.{HeldDocument, held_documents, number_of, seen, view}
+use Rattle.app_world.specs.Node.{in_own_view, may_read, own_numbers, own_place, own_sight, own_sight_at, own_sight_of_folder, own_sight_of_place}
+use Rattle.app_world.specs.View.{HeldDocument, found_document, held_documents, number_of, seen, view}
 use Rattle.app_world.proofs.DocumentLaws.{documents-found, documents-rising}
 use Rattle.app_world.proofs.Found.{find-kept, find-put_all, kept, told-apart}
 use Rattle.app_world.proofs.Orders.{numbers}
@@ -93,19 +91,23 @@ module _ (app : List ℕ) (s : State) where
       let n : d.id.number ≡ number = nat_is d.id.number number (found_passes (λ (x : Document). x.id.number == number) s.documents d e) in
       ap (λ (m : ℕ). own_sight_of_folder view (seen (held m) (Some d))) (sym n) ∙ folder_bits view d (held d.id.number) (held d.id.number).read _ refl
 
-  item_same : (k : ℕ) (item : Item) → own_sight_of_item (view s app) k item ≡ sight_of_item s (Who.App app) k (Who.App app) item
-  item_same k Root = ap (λ (ns : List ℕ). Some (SightOfFolder (RootOf k ns false))) numbers-seen
-  item_same k ByApp = refl
-  item_same k (DocumentFolder number) = ap (own_sight_of_folder k) (documents-found held number s.documents) ∙ folder_seen k number (document_of s.documents number) refl
-  item_same k (DocumentFile number) = ap own_sight (documents-found held number s.documents) ∙ sight_seen number (document_of s.documents number) refl
+  view_same : (k : ℕ) (own : Option Sight) (sight : Who → Option Sight) → own ≡ sight (Who.App app) → in_own_view k own ≡ seen_by (subject_of s.applications (Who.App app) k) sight
+  view_same zero own sight e = e
+  view_same (suc k) own sight e = refl
 
-  view_same : (k : ℕ) (item : Item) → own_sight_in (view s app) k item ≡ sight_in_view s (Who.App app) (record { view = k; item = item }) (subject_of s.applications (Who.App app) k)
-  view_same zero item = item_same zero item
-  view_same (suc k) item = refl
+  there_same : (p : Place) → own_sight_of_place (view s app) p ≡ sight_of_place s (Who.App app) p
+  there_same (Place.Root k) = view_same k (Some (SightOfFolder (RootOf k (own_numbers (held_documents held s.documents)) false))) (sight_of_root s (Who.App app) k) (ap (λ (ns : List ℕ). Some (SightOfFolder (RootOf k ns false))) numbers-seen)
+  there_same Place.ByApp = refl
+  there_same (Place.Folder k id) =
+      view_same k (own_sight_of_folder k (found_document (held_documents held s.documents) id.number)) (λ who. sight_of_folder k s.rights who (document_of s.documents id.number))
+      (ap (own_sight_of_folder k) (documents-found held id.number s.documents) ∙ folder_seen k id.number (document_of s.documents id.number) refl)
+  there_same (Place.File k id) =
+      view_same k (own_sight (found_document (held_documents held s.documents) id.number)) (λ who. sight_of_document s.rights who (document_of s.documents id.number))
+      (ap own_sight (documents-found held id.number s.documents) ∙ sight_seen id.number (document_of s.documents id.number) refl)
 
   place_same : (p : Option Place) → own_sight_at (view s app) p ≡ sight_at s (Who.App app) p
   place_same None = refl
-  place_same (Some p) = view_same p.view p.item
+  place_same (Some p) = there_same p
 
   pub own_place-is : (node : ℕ) → own_place (view s app) node ≡ place_of s (Who.App app) node
   own_place-is node = place_same (place_named node)

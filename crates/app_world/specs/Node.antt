@@ -5,8 +5,6 @@ use Rattle.portal_base.specs.FileChanges.{cut_to, overlaid}
 use Rattle.portal_base.specs.declared.files.FileName.{FileName}
 use Rattle.portal_model.specs.declared.entry.Given.{Given}
 use Rattle.portal_model.specs.declared.handle.Handle.{Handle}
-use Rattle.portal_model.specs.declared.place.Item.{Item}
-use Rattle.portal_model.specs.declared.place.Item.TheVariants.{Root, ByApp, DocumentFolder, DocumentFile}
 use Rattle.portal_model.specs.declared.place.Place.{Place}
 use Rattle.portal_model.specs.declared.reply.Answer.{Answer}
 use Rattle.portal_model.specs.declared.reply.Code.TheVariants as Code
@@ -46,23 +44,24 @@ may_read d = d.rights.read
 abbrev pub own_numbers : List HeldDocument → List ℕ
 own_numbers documents = map number_of (filter may_read documents)
 
--- the folder of all views is the host's alone
-abbrev pub own_sight_of_item : AppView → ℕ → Item → Option Sight
-own_sight_of_item v view Root =
-    Some (SightOfFolder (RootOf view (own_numbers v.documents) false))
-own_sight_of_item v view ByApp = None
-own_sight_of_item v view (DocumentFolder number) =
-    own_sight_of_folder view (found_document v.documents number)
-own_sight_of_item v view (DocumentFile number) = own_sight (found_document v.documents number)
-
 -- of all views an application has its own alone
-abbrev pub own_sight_in : AppView → ℕ → Item → Option Sight
-own_sight_in v zero item = own_sight_of_item v zero item
-own_sight_in v (suc k) item = None
+abbrev pub in_own_view : ℕ → Option Sight → Option Sight
+in_own_view zero sight = sight
+in_own_view (suc k) sight = None
+
+-- the folder of all views is the host's alone
+abbrev pub own_sight_of_place : AppView → Place → Option Sight
+own_sight_of_place v (Place.Root view) =
+    in_own_view view (Some (SightOfFolder (RootOf view (own_numbers v.documents) false)))
+own_sight_of_place v Place.ByApp = None
+own_sight_of_place v (Place.Folder view id) =
+    in_own_view view (own_sight_of_folder view (found_document v.documents id.number))
+own_sight_of_place v (Place.File view id) =
+    in_own_view view (own_sight (found_document v.documents id.number))
 
 abbrev pub own_sight_at : AppView → Option Place → Option Sight
 own_sight_at v None = None
-own_sight_at v (Some p) = own_sight_in v p.view p.item
+own_sight_at v (Some p) = own_sight_of_place v p
 
 abbrev pub own_place : AppView → ℕ → Option Sight
 own_place v node = own_sight_at v (place_named node)

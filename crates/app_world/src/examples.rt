@@ -20,7 +20,7 @@ ghost use Rattle.app_world.specs.DocumentExamples.{
   WorldsOfCalls,
   WorldsOfRemovals,
 };
-ghost use Rattle.app_world.specs.FileExamples.{AreTold, IsLeftToRead, WorldsOfFiles};
+ghost use Rattle.app_world.specs.FileExamples.{AreTold, FilesGivenLawfully, IsLeftToRead, WorldsOfFiles};
 ghost use Rattle.app_world.specs.Examples.{EffectsOnAView, TracesTellWhatIsHeld};
 
 use portal_model::reply::Code;
@@ -70,6 +70,11 @@ pub fn what_is_touched()
 /// view, whatever becomes of the document.
 pub fn files_in_a_world()
     ensures { WorldsOfFiles }
+{}
+
+/// What the outside gave is lawful in each of these requests on files.
+pub fn files_are_given_lawfully()
+    ensures { FilesGivenLawfully }
 {}
 
 /// A history tells who has which right: by additions, grants, revocations and

@@ -1,7 +1,7 @@
 -- The bodies of answers keep the rules of values, and are short.
-use Rattle.std.proofs.Common.{◌≡◌, ℕ, zero, suc, ◌+◌, ◌<◌, ◌≤◌, ◌^◌, max, true, List, [], ◌∷◌, ◌++◌, length, map, refl, sym, ap, subst, ◌∙◌, arith}
+use Rattle.std.proofs.Common.{◌≡◌, ℕ, suc, ◌+◌, ◌<◌, ◌≤◌, ◌^◌, max, true, List, [], ◌∷◌, ◌++◌, length, map, refl, sym, ap, subst, ◌∙◌, arith}
 use Rattle.std.specs.Prelude.{All, IsTrue, codes}
-use Rattle.std.proofs.lemmas.List.{length-append, length-map}
+use Rattle.std.proofs.lemmas.List.{length-append}
 use Rattle.std.proofs.lemmas.List.Elements.{All-nil, All-cons, All-append, All-head, All-tail}
 use Rattle.dbus_types.specs.declared.types.Endian.TheVariants.{Little}
 use Rattle.dbus_types.specs.declared.types.WireType.{WireType, the_lemmas as type_lemmas}
@@ -11,7 +11,7 @@ use Rattle.dbus_types.specs.declared.types.Value.TheOpen.{Value-F}
 use Rattle.dbus_types.specs.declared.types.Value.TheVariants as V
 use Rattle.dbus_types.specs.declared.roles.Role.{Role}
 use Rattle.dbus_types.specs.declared.roles.Role.TheVariants.{Basic, Single}
-use Rattle.dbus_types.specs.Types.{is_single, array_role, entry_role, role, arrays_deep, brackets_deep, alignment, type_text, types_text, IsValidType, IsVariantType}
+use Rattle.dbus_types.specs.Types.{is_single, array_role, entry_role, role, arrays_deep, brackets_deep, alignment, type_text, IsValidType, IsVariantType}
 use Rattle.dbus_types.specs.Values.{type_of, IsText, ValueKeeps, KeepsWithin, KeepsRules}
 use Rattle.dbus_types.proofs.TypeLayers.{text_array, text_entry, role_array, role_entry, role_byte, arrays_array, arrays_entry, brackets_array, brackets_entry}
 use Rattle.dbus_types.specs.Spelling.{spellings}
@@ -26,52 +26,52 @@ use Rattle.dbus_dispatch.proofs.Lengths.{Below, below_more, below_byte, below_u3
 
 -- ---- types
 
-role_str : role W.Str ≡ Basic
+pub role_str : role W.Str ≡ Basic
 role_str = search type_lemmas
 
-role_u32 : role W.U32 ≡ Basic
+pub role_u32 : role W.U32 ≡ Basic
 role_u32 = search type_lemmas
 
-role_variant : role W.Variant ≡ Single
+pub role_variant : role W.Variant ≡ Single
 role_variant = search type_lemmas
 
-arrays_u32 : arrays_deep W.U32 ≡ 0
+pub arrays_u32 : arrays_deep W.U32 ≡ 0
 arrays_u32 = search type_lemmas
 
-arrays_byte : arrays_deep W.Byte ≡ 0
+pub arrays_byte : arrays_deep W.Byte ≡ 0
 arrays_byte = search type_lemmas
 
-arrays_str : arrays_deep W.Str ≡ 0
+pub arrays_str : arrays_deep W.Str ≡ 0
 arrays_str = search type_lemmas
 
-arrays_variant : arrays_deep W.Variant ≡ 0
+pub arrays_variant : arrays_deep W.Variant ≡ 0
 arrays_variant = search type_lemmas
 
-brackets_u32 : brackets_deep W.U32 ≡ 0
+pub brackets_u32 : brackets_deep W.U32 ≡ 0
 brackets_u32 = search type_lemmas
 
-brackets_byte : brackets_deep W.Byte ≡ 0
+pub brackets_byte : brackets_deep W.Byte ≡ 0
 brackets_byte = search type_lemmas
 
-brackets_str : brackets_deep W.Str ≡ 0
+pub brackets_str : brackets_deep W.Str ≡ 0
 brackets_str = search type_lemmas
 
-brackets_variant : brackets_deep W.Variant ≡ 0
+pub brackets_variant : brackets_deep W.Variant ≡ 0
 brackets_variant = search type_lemmas
 
-text_u32 : type_text W.U32 ≡ 117 ∷ []
+pub text_u32 : type_text W.U32 ≡ 117 ∷ []
 text_u32 = search type_lemmas
 
-text_byte : type_text W.Byte ≡ 121 ∷ []
+pub text_byte : type_text W.Byte ≡ 121 ∷ []
 text_byte = search type_lemmas
 
-text_str : type_text W.Str ≡ 115 ∷ []
+pub text_str : type_text W.Str ≡ 115 ∷ []
 text_str = search type_lemmas
 
-text_variant : type_text W.Variant ≡ 118 ∷ []
+pub text_variant : type_text W.Variant ≡ 118 ∷ []
 text_variant = search type_lemmas
 
-valid : (t : WireType) (r : Role) (a b : ℕ) → role t ≡ r → is_single r ≡ true → arrays_deep t ≡ a → brackets_deep t ≡ b → a ≤ 32 → b ≤ 32 → IsValidType t
+pub valid : (t : WireType) (r : Role) (a b : ℕ) → role t ≡ r → is_single r ≡ true → arrays_deep t ≡ a → brackets_deep t ≡ b → a ≤ 32 → b ≤ 32 → IsValidType t
 valid t r a b stands single arrays brackets small short = (subst (λ (x : Role). IsTrue (is_single x)) (sym stands) single, omega (arith, arrays, small), omega (arith, brackets, short))
 
 number_type : IsVariantType W.U32
@@ -94,22 +94,22 @@ entries_type =
     let brackets : brackets_deep entry_type ≡ 1 = brackets_entry W.Str W.Variant ∙ (λ i. max (brackets_str i) (brackets_variant i) + 1) in
     valid (W.Array entry_type) Single 1 1 stands refl (omega (arith, arrays_array entry_type, arrays)) (omega (arith, brackets_array entry_type, brackets)) (omega arith) (omega arith)
 
-type_u32 : (n : ℕ) → type_of (V.U32 n) ≡ W.U32
+pub type_u32 : (n : ℕ) → type_of (V.U32 n) ≡ W.U32
 type_u32 n = search the_lemmas
 
-type_byte : (n : ℕ) → type_of (V.Byte n) ≡ W.Byte
+pub type_byte : (n : ℕ) → type_of (V.Byte n) ≡ W.Byte
 type_byte n = search the_lemmas
 
-type_str : (text : List ℕ) → type_of (V.Str text) ≡ W.Str
+pub type_str : (text : List ℕ) → type_of (V.Str text) ≡ W.Str
 type_str text = search the_lemmas
 
-type_variant : (v : Value) → type_of (V.Variant v) ≡ W.Variant
+pub type_variant : (v : Value) → type_of (V.Variant v) ≡ W.Variant
 type_variant v = search the_lemmas
 
-type_array : (t : WireType) (vs : List Value) → type_of (V.Array t vs) ≡ W.Array t
+pub type_array : (t : WireType) (vs : List Value) → type_of (V.Array t vs) ≡ W.Array t
 type_array t vs = search the_lemmas
 
-type_entry : (k v : Value) → type_of (V.DictEntry k v) ≡ W.DictEntry (type_of k) (type_of v)
+pub type_entry : (k v : Value) → type_of (V.DictEntry k v) ≡ W.DictEntry (type_of k) (type_of v)
 type_entry k v = search the_lemmas
 
 out_u32 : (n : ℕ) → out-Value (V.U32 n) ≡ Value-F.U32 n
@@ -121,7 +121,7 @@ out_byte n = search the_lemmas
 out_str : (text : List ℕ) → out-Value (V.Str text) ≡ Value-F.Str text
 out_str text = search the_lemmas
 
-out_variant : (v : Value) → out-Value (V.Variant v) ≡ Value-F.Variant v
+pub out_variant : (v : Value) → out-Value (V.Variant v) ≡ Value-F.Variant v
 out_variant v = search the_lemmas
 
 out_array : (t : WireType) (vs : List Value) → out-Value (V.Array t vs) ≡ Value-F.Array t vs
@@ -132,7 +132,7 @@ out_entry k v = search the_lemmas
 
 -- ---- the values keep the rules
 
-number_keeps : (d n : ℕ) → n < 2 ^ 32 → KeepsWithin (suc d) (V.U32 n)
+pub number_keeps : (d n : ℕ) → n < 2 ^ 32 → KeepsWithin (suc d) (V.U32 n)
 unfolding KeepsWithin
 number_keeps d n h = subst (ValueKeeps (KeepsWithin d)) (sym (out_u32 n)) h
 
@@ -140,19 +140,19 @@ variant_keeps : (d n : ℕ) → n < 2 ^ 32 → KeepsWithin (suc (suc d)) (varian
 unfolding KeepsWithin
 variant_keeps d n h = subst (ValueKeeps (KeepsWithin (suc d))) (sym (out_variant (V.U32 n))) (subst IsVariantType (sym (type_u32 n)) number_type, number_keeps d n h)
 
-byte_keeps : (d n : ℕ) → n < 256 → KeepsWithin (suc d) (V.Byte n)
+pub byte_keeps : (d n : ℕ) → n < 256 → KeepsWithin (suc d) (V.Byte n)
 unfolding KeepsWithin
 byte_keeps d n h = subst (ValueKeeps (KeepsWithin d)) (sym (out_byte n)) h
 
-str_keeps : (d : ℕ) (text : List ℕ) → IsText text → KeepsWithin (suc d) (V.Str text)
+pub str_keeps : (d : ℕ) (text : List ℕ) → IsText text → KeepsWithin (suc d) (V.Str text)
 unfolding KeepsWithin
 str_keeps d text h = subst (ValueKeeps (KeepsWithin d)) (sym (out_str text)) h
 
-array_keeps : (d : ℕ) (t : WireType) (vs : List Value) → All (λ v. (type_of v ≡ t) × KeepsWithin d v) vs → KeepsWithin (suc d) (V.Array t vs)
+pub array_keeps : (d : ℕ) (t : WireType) (vs : List Value) → All (λ v. (type_of v ≡ t) × KeepsWithin d v) vs → KeepsWithin (suc d) (V.Array t vs)
 unfolding KeepsWithin
 array_keeps d t vs h = subst (ValueKeeps (KeepsWithin d)) (sym (out_array t vs)) h
 
-entry_keeps : (d : ℕ) (k v : Value) → KeepsWithin d k → KeepsWithin d v → KeepsWithin (suc d) (V.DictEntry k v)
+pub entry_keeps : (d : ℕ) (k v : Value) → KeepsWithin d k → KeepsWithin d v → KeepsWithin (suc d) (V.DictEntry k v)
 unfolding KeepsWithin
 entry_keeps d k v h g = subst (ValueKeeps (KeepsWithin d)) (sym (out_entry k v)) (h, g)
 

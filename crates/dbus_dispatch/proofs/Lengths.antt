@@ -1,5 +1,5 @@
 -- How many bytes the spellings of values take at most.
-use Rattle.std.proofs.Common.{◌≡◌, ℕ, suc, ◌+◌, ◌<◌, ◌≤◌, List, [], ◌∷◌, ◌++◌, length, map, replicate, refl, sym, ap, subst, ◌∙◌, arith}
+use Rattle.std.proofs.Common.{◌≡◌, ℕ, ◌+◌, ◌<◌, ◌≤◌, List, [], ◌∷◌, ◌++◌, length, map, replicate, sym, ap, subst, ◌∙◌, arith}
 use Rattle.std.specs.Prelude.{All}
 use Rattle.std.specs.Int.{w8, w32, to_le_bytes}
 use Rattle.std.proofs.lemmas.Nat.{mod_below}
@@ -13,7 +13,7 @@ use Rattle.dbus_types.specs.declared.types.Value.TheVariants as V
 use Rattle.dbus_types.specs.declared.types.Value.TheOpen.{Value-F}
 use Rattle.dbus_types.specs.Types.{alignment, type_text}
 use Rattle.dbus_types.specs.Spells.{number, gap}
-use Rattle.dbus_types.specs.Spelling.{aligned, in_row, text_body, array_body, signature_body, variant_body, Spelled, spell_step, spelled, spelling, spellings}
+use Rattle.dbus_types.specs.Spelling.{aligned, in_row, text_body, array_body, Spelled, spell_step, spelled, spelling, spellings}
 use Rattle.dbus_marshal.proofs.TakenFronts.{four, number_len}
 use Rattle.dbus_types.proofs.OneSpelling.{roll_byte, roll_u32, roll_str, roll_signature, roll_variant, roll_array, roll_struct, roll_entry}
 use Rattle.dbus_message.specs.Written.{field}

@@ -1,5 +1,9 @@
+pub mod Behind
 pub mod Methods
 pub mod Utf8
+pub mod Identifiers
 pub mod Lengths
+pub mod ReturnLength
 pub mod Bodies
+pub mod Told
 pub mod Writable

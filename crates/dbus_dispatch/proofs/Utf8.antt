@@ -1,9 +1,9 @@
 -- The bytes of UTF-8 are below 256.
-use Rattle.std.proofs.Common.{◌≡◌, ℕ, ◌+◌, ◌/◌, ◌%◌, ◌<◌, Bool, true, false, cond, ltb, List, [], ◌∷◌, ◌++◌, refl, subst, arith, inl, inr}
+use Rattle.std.proofs.Common.{◌≡◌, ℕ, ◌+◌, ◌/◌, ◌%◌, ◌<◌, Bool, true, false, cond, ltb, List, [], ◌∷◌, refl, subst, arith, inl, inr}
 use Rattle.std.specs.Prelude.{All}
 use Rattle.std.specs.Str.{is_utf8}
 use Rattle.std.proofs.Math.Utf8.{encode, encodes, scalar, scalars, scalar_cases}
-use Rattle.std.proofs.lemmas.Bool.{and_parts, ltb-true, ltb-false}
+use Rattle.std.proofs.lemmas.Bool.{and_parts, ltb-true}
 use Rattle.std.proofs.lemmas.List.Elements.{All-nil, All-cons, All-append}
 use Rattle.std.proofs.lemmas.Str.{IsUtf8-from_is_utf8}
 

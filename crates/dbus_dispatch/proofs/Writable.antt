@@ -1,6 +1,6 @@
 -- What is answered can be written.
-use Rattle.std.proofs.Common.{◌≡◌, ◌≢◌, ℕ, ◌+◌, ◌<◌, ◌≤◌, ◌^◌, Bool, true, false, cond, List, [], ◌∷◌, length, map, find, Option, Some, None, Result, Ok, Err, refl, sym, subst, arith}
-use Rattle.std.specs.Prelude.{All, IsTrue, IfOk, IfSome, ok_or, nat_le, ◌&&◌, ◌||◌}
+use Rattle.std.proofs.Common.{◌≡◌, ◌≢◌, ℕ, ◌+◌, ◌<◌, ◌≤◌, ◌^◌, Bool, true, false, cond, List, [], ◌∷◌, length, map, ◌∙◌, Option, Some, None, Result, Ok, Err, refl, sym, subst, arith}
+use Rattle.std.specs.Prelude.{All, IsTrue, IfOk, ok_or, nat_le, ◌&&◌, ◌||◌}
 use Rattle.std.specs.List.{list_all, slice_split}
 use Rattle.std.specs.Str.{bytes_eq, is_utf8}
 use Rattle.std.specs.Option.{option_map}
@@ -9,7 +9,7 @@ use Rattle.std.proofs.lemmas.List.Elements.{All-nil, All-cons}
 use Rattle.portal_base.specs.declared.limits.Settings.{Settings}
 use Rattle.portal_base.specs.Names.{is_same, is_slash, is_rooted, root, is_byte_of_path, has_path_form, path_limit, is_host_path}
 use Rattle.dbus_types.specs.declared.types.Endian.TheVariants.{Little}
-use Rattle.dbus_types.specs.declared.types.WireType.{WireType, the_lemmas as type_lemmas}
+use Rattle.dbus_types.specs.declared.types.WireType.{the_lemmas as type_lemmas}
 use Rattle.dbus_types.specs.declared.types.Value.{Value}
 use Rattle.dbus_types.specs.declared.types.Value.TheVariants as V
 use Rattle.dbus_types.specs.declared.message.Message.{Message}
@@ -18,12 +18,14 @@ use Rattle.dbus_types.specs.declared.message.OutMessage.TheVariants.{Return, Err
 use Rattle.dbus_types.specs.Names.{is_interface_name}
 use Rattle.dbus_types.specs.Types.{alignment, types_text}
 use Rattle.dbus_types.specs.Values.{type_of}
-use Rattle.dbus_types.specs.Spells.{gap}
 use Rattle.dbus_types.specs.Spelling.{spelling, spellings}
 use Rattle.dbus_message.specs.Fields.{field_type}
-use Rattle.dbus_message.specs.Written.{field, signature_field, last_part, kind_out, body_out, return_fields, fields_out, IsGoodBody, KeepsKinds, CanWrite}
+use Rattle.dbus_message.specs.Written.{field, signature_field, last_part, kind_out, body_out, fields_out, IsGoodBody, KeepsKinds, CanWrite, message_bytes}
 use Rattle.dbus_message.proofs.WrittenHasSpelling.{part_good}
 use Rattle.dbus_message.proofs.WriteMessage.{whole_len}
+use Rattle.portal_model.specs.Changed.{message_limit}
+use Rattle.portal_model.specs.declared.reply.Answer.{Answer}
+use Rattle.portal_model.specs.declared.request.Request.{Request}
 use Rattle.dbus_dispatch.specs.declared.object.Object.{Object}
 use Rattle.dbus_dispatch.specs.declared.interface.Interface.{Interface}
 use Rattle.dbus_dispatch.specs.declared.interface.Interface.TheVariants as I
@@ -36,12 +38,15 @@ use Rattle.dbus_dispatch.specs.declared.ask.Ask.{Ask}
 use Rattle.dbus_dispatch.specs.declared.ask.Ask.TheVariants.{Local, Ignore}
 use Rattle.dbus_dispatch.specs.Tables.{Property, version, properties_of}
 use Rattle.dbus_dispatch.specs.Errors.{error_name, error_to}
-use Rattle.dbus_dispatch.specs.Calls.{object_of, interface_named, called}
+use Rattle.dbus_dispatch.specs.Calls.{object_of, found, called}
 use Rattle.dbus_dispatch.specs.Properties.{texts, interface_or, value_named, value_or, value_in, interface_in, variant_of, dictionary}
-use Rattle.dbus_dispatch.specs.Asks.{is_call, answered, closed_bytes, asked, asked_or_refused, ask_of}
-use Rattle.dbus_dispatch.specs.Writable.{CanBeAnswered}
+use Rattle.dbus_dispatch.specs.Arguments.{request_in}
+use Rattle.dbus_dispatch.specs.Asks.{is_call, answered, closed_bytes, asked_of_portal, asked, asked_or_refused, ask_of}
+use Rattle.dbus_dispatch.specs.Replies.{error_in, body_of, return_length, told, reply_by, reply_of}
+use Rattle.dbus_dispatch.specs.Writable.{CanBeAnswered, IsTold, IsToldTo, IsWritable}
 use Rattle.dbus_dispatch.proofs.Lengths.{Below, below_more, below_u32, below_str, below_signature, code_u32, code_str, code_signature, below_field, below_array, gap_small, total, each_length}
 use Rattle.dbus_dispatch.proofs.Bodies.{IsShortBody, none_short, variant_short, bytes_short, dictionary_short}
+use Rattle.dbus_dispatch.proofs.Told.{told_body}
 use Rattle.dbus_dispatch.proofs.Utf8.{utf8_bytes}
 
 -- ---- messages
@@ -156,18 +161,28 @@ module _ (mountpoint : List ℕ) (call : Message) (path : is_host_path mountpoin
   answers value P (Ok x) h k = returns (value x ∷ []) (k x h)
   answers value P (Err e) h k = fails e
 
-  mount_short : IsShortBody (closed_bytes mountpoint ∷ [])
+  mount_bytes : All (λ b. b < 256) mountpoint
   unfolding is_host_path
-  mount_short =
+  mount_bytes =
       let rule = and_parts (has_path_form mountpoint) (nat_le (length mountpoint) path_limit) path in
       let text : List ℕ = mountpoint in
       let form = and_parts (is_utf8 text && list_all is_byte_of_path text) (is_same text root || is_rooted (slice_split is_slash text)) rule.0 in
       let utf8 = and_parts (is_utf8 text) (list_all is_byte_of_path text) form.0 in
-      bytes_short mountpoint (utf8_bytes mountpoint utf8.0) (leb-true (length mountpoint) path_limit rule.1)
+      utf8_bytes mountpoint utf8.0
+
+  mount_short : IsShortBody (closed_bytes mountpoint ∷ [])
+  unfolding is_host_path
+  mount_short =
+      let rule = and_parts (has_path_form mountpoint) (nat_le (length mountpoint) path_limit) path in
+      bytes_short mountpoint mount_bytes (leb-true (length mountpoint) path_limit rule.1)
 
   any_interface : (r : Result Interface ErrorName) → IfOk r (λ interface. Unit {0})
   any_interface (Ok interface) = tt
   any_interface (Err e) = tt
+
+  portal_can : (o : Option Request) → CanBeAnswered (asked_of_portal call o)
+  portal_can (Some request) = tt
+  portal_can None = fails E.InvalidArgs
 
   asked_can : (method : Method) → CanBeAnswered (asked mountpoint call method)
   asked_can M.Ping = returns [] none_short
@@ -176,16 +191,16 @@ module _ (mountpoint : List ℕ) (call : Message) (path : is_host_path mountpoin
       let r = interface_in (object_of call) (texts call.body) in
       answers (λ interface. dictionary (properties_of interface)) (λ interface. Unit {0}) r (any_interface r) (λ interface u. dictionary_short interface)
   asked_can M.GetMountPoint = returns (closed_bytes mountpoint ∷ []) mount_short
-  asked_can M.Add = tt
-  asked_can M.AddNamed = tt
-  asked_can M.AddFull = tt
-  asked_can M.AddNamedFull = tt
-  asked_can M.GrantPermissions = tt
-  asked_can M.RevokePermissions = tt
-  asked_can M.DeleteDocument = tt
-  asked_can M.LookupDocument = tt
-  asked_can M.Info = tt
-  asked_can M.ListDocuments = tt
+  asked_can M.Add = portal_can (request_in call M.Add)
+  asked_can M.AddNamed = portal_can (request_in call M.AddNamed)
+  asked_can M.AddFull = portal_can (request_in call M.AddFull)
+  asked_can M.AddNamedFull = portal_can (request_in call M.AddNamedFull)
+  asked_can M.GrantPermissions = portal_can (request_in call M.GrantPermissions)
+  asked_can M.RevokePermissions = portal_can (request_in call M.RevokePermissions)
+  asked_can M.DeleteDocument = portal_can (request_in call M.DeleteDocument)
+  asked_can M.LookupDocument = portal_can (request_in call M.LookupDocument)
+  asked_can M.Info = portal_can (request_in call M.Info)
+  asked_can M.ListDocuments = portal_can (request_in call M.ListDocuments)
   asked_can M.LookupEntry = tt
   asked_can M.SetEntry = tt
   asked_can M.DeleteEntry = tt
@@ -194,7 +209,7 @@ module _ (mountpoint : List ℕ) (call : Message) (path : is_host_path mountpoin
   asked_can M.DeletePermission = tt
   asked_can M.GetPermission = tt
   asked_can M.ListEntries = tt
-  asked_can M.Present = tt
+  asked_can M.Present = portal_can (request_in call M.Present)
 
   call_can : (r : Result Method ErrorName) → CanBeAnswered (asked_or_refused mountpoint call r)
   call_can (Ok method) = asked_can method
@@ -211,6 +226,31 @@ module _ (mountpoint : List ℕ) (call : Message) (path : is_host_path mountpoin
 
   pub error_writes : (out : OutMessage) (e : ErrorName) → out ≡ error_to call e → CanBeAnswered (Local out)
   error_writes out e is = subst (λ (o : OutMessage). CanBeAnswered (Local o)) (sym is) (fails e)
+
+  -- ---- replies
+
+  same_length : (out : OutMessage) (serial : ℕ) → length (message_bytes out serial) ≡ length (message_bytes out 1)
+  same_length out serial =
+      let F : List ℕ = spelling Little 12 (V.Array field_type (fields_out out)) in
+      let B : List ℕ = spellings Little 0 (body_out out) in
+      whole_len (kind_out out) serial F B ∙ sym (whole_len (kind_out out) 1 F B)
+
+  within_can : (body : List Value) → IsGoodBody body → (b : Bool) → nat_le (return_length call body) message_limit ≡ b → IsWritable (cond b (Return call.serial body) (error_to call E.LimitsExceeded))
+  within_can body good true is serial some small =
+      (some, (fits, good), omega (arith, same_length (Return call.serial body) serial, leb-true (return_length call body) message_limit is))
+  within_can body good false is serial some small = fails E.LimitsExceeded serial some small
+
+  told_can : (body : List Value) → IsGoodBody body → (o : Option ErrorName) → IsWritable (told call body o)
+  told_can body good (Some e) = fails e
+  told_can body good None = within_can body good (nat_le (return_length call body) message_limit) refl
+
+  by_method : (answer : Answer) (r : Result Method ErrorName) → ((method : Method) → r ≡ Ok method → IsTold method answer) → IsWritable (reply_by mountpoint call answer r)
+  by_method answer (Ok method) h = told_can (body_of method mountpoint answer) (told_body mountpoint mount_bytes method answer (h method refl)) (error_in answer)
+  by_method answer (Err e) h = fails e
+
+  pub reply_writes : {E : Type 0} (r : Result OutMessage E) (answer : Answer) → IfOk r (λ reply. reply ≡ reply_of mountpoint call answer) → IsToldTo call answer → IfOk r IsWritable
+  reply_writes (Ok reply) answer is h = subst IsWritable (sym is) (by_method answer (found call) h)
+  reply_writes (Err e) answer is h = tt
 
 -- what a message is answered can be written
 pub can_be_answered : (settings : Settings) (message : Message) → is_host_path settings.mountpoint ≡ true → message.serial < 2 ^ 32 → CanBeAnswered (ask_of settings message)

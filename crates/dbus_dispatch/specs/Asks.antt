@@ -1,6 +1,6 @@
 -- What each message asks (D-Bus Specification, "Message Protocol": the message types; "Standard
 -- Interfaces").
-use Rattle.std.specs.Prelude.{ℕ, List, [], ◌∷◌, ◌++◌, map, Bool, ◌&&◌, ◌==◌, bit_and, if◌then◌else◌, Result, Ok, Err}
+use Rattle.std.specs.Prelude.{ℕ, List, [], ◌∷◌, ◌++◌, map, Bool, ◌&&◌, ◌==◌, bit_and, if◌then◌else◌, Option, Some, None, Result, Ok, Err}
 use Rattle.portal_base.specs.declared.limits.Settings.{Settings}
 use Rattle.dbus_types.specs.declared.types.WireType.TheVariants as W
 use Rattle.dbus_types.specs.declared.types.Value.{Value}
@@ -8,14 +8,17 @@ use Rattle.dbus_types.specs.declared.types.Value.TheVariants as V
 use Rattle.dbus_types.specs.declared.message.Message.{Message}
 use Rattle.dbus_types.specs.declared.message.OutMessage.{OutMessage}
 use Rattle.dbus_types.specs.declared.message.OutMessage.TheVariants.{Return}
+use Rattle.portal_model.specs.declared.request.Request.{Request}
 use Rattle.dbus_dispatch.specs.declared.method.Method.{Method}
 use Rattle.dbus_dispatch.specs.declared.method.Method.TheVariants as M
 use Rattle.dbus_dispatch.specs.declared.ask.Ask.{Ask}
-use Rattle.dbus_dispatch.specs.declared.ask.Ask.TheVariants.{Local, Ignore, Unbuilt}
+use Rattle.dbus_dispatch.specs.declared.ask.Ask.TheVariants.{Local, Ignore, Portal, Unbuilt}
 use Rattle.dbus_dispatch.specs.declared.error_name.ErrorName.{ErrorName}
+use Rattle.dbus_dispatch.specs.declared.error_name.ErrorName.TheVariants.{InvalidArgs}
 use Rattle.dbus_dispatch.specs.Tables.{properties_of}
 use Rattle.dbus_dispatch.specs.Errors.{error_to}
 use Rattle.dbus_dispatch.specs.Calls.{object_of, called}
+use Rattle.dbus_dispatch.specs.Arguments.{request_in}
 use Rattle.dbus_dispatch.specs.Properties.{texts, value_in, interface_in, variant_of, dictionary}
 
 -- METHOD_CALL
@@ -39,6 +42,11 @@ answered call value (Err error) = error_to call error
 abbrev pub closed_bytes : List ℕ → Value
 closed_bytes bytes = V.Array W.Byte (map V.Byte (bytes ++ 0 ∷ []))
 
+-- the request of a call, or the refusal of arguments that are none of its method
+abbrev pub asked_of_portal : Message → Option Request → Ask
+asked_of_portal call (Some request) = Portal request
+asked_of_portal call None = Local (error_to call InvalidArgs)
+
 -- what a call of a method asks that no rule refuses, by the mount point
 abbrev pub asked : List ℕ → Message → Method → Ask
 asked mountpoint call M.Ping = Local (returned call [])
@@ -48,7 +56,15 @@ asked mountpoint call M.GetAll =
     Local (answered call (λ interface. dictionary (properties_of interface))
     (interface_in (object_of call) (texts call.body)))
 asked mountpoint call M.GetMountPoint = Local (returned call (closed_bytes mountpoint ∷ []))
-asked mountpoint call _ = Unbuilt
+asked mountpoint call M.LookupEntry = Unbuilt
+asked mountpoint call M.SetEntry = Unbuilt
+asked mountpoint call M.DeleteEntry = Unbuilt
+asked mountpoint call M.SetValue = Unbuilt
+asked mountpoint call M.SetPermission = Unbuilt
+asked mountpoint call M.DeletePermission = Unbuilt
+asked mountpoint call M.GetPermission = Unbuilt
+asked mountpoint call M.ListEntries = Unbuilt
+asked mountpoint call method = asked_of_portal call (request_in call method)
 
 -- what a call asks: its method's answer, or the first refusal
 abbrev pub asked_or_refused : List ℕ → Message → Result Method ErrorName → Ask

@@ -1,6 +1,9 @@
+pub mod Signatures
 pub mod Tables
 pub mod Errors
 pub mod Calls
+pub mod Arguments
 pub mod Properties
 pub mod Asks
+pub mod Replies
 pub mod Writable

@@ -1,22 +1,17 @@
 -- `org.freedesktop.DBus.Properties` (D-Bus Specification, "org.freedesktop.DBus.Properties").
-use Rattle.std.specs.Prelude.{ℕ, List, [], ◌∷◌, map, find, Option, Some, None, Result, Ok, Err, ok_or}
+use Rattle.std.specs.Prelude.{ℕ, List, [], ◌∷◌, map, find, Option, Some, Result, Ok, Err, ok_or}
 use Rattle.std.specs.Option.{option_map}
 use Rattle.std.specs.Str.{bytes_eq}
 use Rattle.dbus_types.specs.declared.types.WireType.TheVariants as W
 use Rattle.dbus_types.specs.declared.types.Value.{Value, out-Value}
 use Rattle.dbus_types.specs.declared.types.Value.TheVariants as V
-use Rattle.dbus_types.specs.declared.types.Value.TheOpen.{Value-F}
 use Rattle.dbus_dispatch.specs.declared.object.Object.{Object}
 use Rattle.dbus_dispatch.specs.declared.interface.Interface.{Interface}
 use Rattle.dbus_dispatch.specs.declared.error_name.ErrorName.{ErrorName}
 use Rattle.dbus_dispatch.specs.declared.error_name.ErrorName.TheVariants.{UnknownInterface, UnknownProperty, InvalidArgs}
 use Rattle.dbus_dispatch.specs.Tables.{Property, properties_of}
+use Rattle.dbus_dispatch.specs.Arguments.{text_of}
 use Rattle.dbus_dispatch.specs.Calls.{interface_named}
-
--- the text that a value is
-abbrev pub text_of : Value-F Value → Option (List ℕ)
-text_of (Value-F.Str text) = Some text
-text_of _ = None
 
 -- the texts that the arguments of a call are
 abbrev pub texts : List Value → List (Option (List ℕ))

@@ -3,19 +3,22 @@
 //! Source: D-Bus Specification, "Message Protocol" and "Standard Interfaces".
 
 ghost use Rattle.std.specs.Prelude.{◌≡◌, ◌≢◌, ◌<◌, ◌^◌, ◌↔◌, [], ◌∷◌, IfOk};
-ghost use Rattle.dbus_dispatch.specs.Asks.{ask_of, asked, returned, expects_reply, closed_bytes};
+ghost use Rattle.dbus_dispatch.specs.Arguments.{request_in};
+ghost use Rattle.dbus_dispatch.specs.Asks.{ask_of, asked, asked_of_portal, returned, expects_reply};
 ghost use Rattle.dbus_dispatch.specs.Writable.{CanBeAnswered};
 
+use crate::body::{closed_bytes, only};
 use crate::call::{called, object_of};
 use crate::error_name::ErrorName;
 use crate::method::Method;
 use crate::properties::{dictionary, interface_in, value_in, variant};
+use crate::request::request_in;
 use dbus_types::message::{METHOD_CALL, Message, NO_REPLY_EXPECTED, OutMessage};
-use dbus_types::shared::Shared;
-use dbus_types::types::{Value, WireType};
+use dbus_types::types::Value;
 use portal_base::limits::Settings;
 use portal_base::list::List;
 use portal_base::memory::WantOfMemory;
+use portal_model::request::Request;
 use std::alloc::Global;
 
 /// What a message asks.
@@ -26,7 +29,9 @@ pub enum Ask {
     Local(OutMessage),
     /// Nothing: the message is no call.
     Ignore,
-    /// What isn't built yet.
+    /// This request to the portal.
+    Portal(Request),
+    /// A call of the permission store, which isn't built yet.
     Unbuilt,
 }
 
@@ -55,14 +60,14 @@ pub fn request_of(
     }
     let mountpoint = settings.mountpoint.as_bytes();
     fits(message.serial);
-    match called(alloc, message)? {
+    match called(message) {
         Ok(method) => asked(alloc, message, mountpoint, method),
         Err(error) => Ok(Ask::Local(error.answer_to(alloc, message)?)),
     }
 }
 
 /// Says to a caller's proof that a serial is a number of 32 bits.
-fn fits(serial: u32)
+pub(crate) fn fits(serial: u32)
     ensures { serial < 2 ^ 32 }
 {}
 
@@ -89,41 +94,36 @@ fn asked(
             let path = closed_bytes(alloc, mountpoint)?;
             returned(call, only(alloc, path)?)
         }
-        _ => return Ok(Ask::Unbuilt),
+        Method::LookupEntry
+        | Method::SetEntry
+        | Method::DeleteEntry
+        | Method::SetValue
+        | Method::SetPermission
+        | Method::DeletePermission
+        | Method::GetPermission
+        | Method::ListEntries => return Ok(Ask::Unbuilt),
+        _ => return asked_of_portal(alloc, call, method),
     };
     Ok(Ask::Local(answer))
 }
 
+/// What a call asks the portal, or the refusal of arguments that aren't those
+/// of its method.
+fn asked_of_portal(alloc: Global, call: &Message, method: Method) -> Result<Ask, WantOfMemory>
+    ensures { IfOk result (λ ask. ask ≡ asked_of_portal call.now (request_in call.now method)) }
+{
+    match request_in(alloc, call, method)? {
+        Some(request) => Ok(Ask::Portal(request)),
+        None => Ok(Ask::Local(ErrorName::InvalidArgs.answer_to(alloc, call)?)),
+    }
+}
+
 /// The return of a call.
-fn returned(call: &Message, body: List<Value>) -> OutMessage
+pub(crate) fn returned(call: &Message, body: List<Value>) -> OutMessage
     ensures { result ≡ returned call.now body }
 {
     OutMessage::Return {
         to: call.serial,
         body,
     }
-}
-
-/// A list of one value.
-fn only(alloc: Global, value: Value) -> Result<List<Value>, WantOfMemory>
-    ensures { IfOk result (λ list. list ≡ value ∷ []) }
-{
-    let mut list = List::new(alloc);
-    list.push(value)?;
-    Ok(list)
-}
-
-/// Bytes as `ay`, with a zero byte behind them.
-fn closed_bytes(alloc: Global, bytes: &[u8]) -> Result<Value, WantOfMemory>
-    ensures { IfOk result (λ value. value ≡ closed_bytes bytes.now) }
-{
-    let mut items = List::new(alloc);
-    for byte in bytes {
-        items.push(Value::Byte(*byte))?;
-    }
-    items.push(Value::Byte(0))?;
-    Ok(Value::Array {
-        element: Shared::new(alloc, WireType::Byte)?,
-        items,
-    })
 }

@@ -2,18 +2,16 @@
 //!
 //! Source: D-Bus Specification, "Header Fields" and "Method Calls".
 
-ghost use Rattle.std.specs.Prelude.{◌≡◌, [], IfOk, unwrap_or};
+ghost use Rattle.std.specs.Prelude.{◌≡◌, [], unwrap_or};
 ghost use Rattle.dbus_dispatch.specs.Calls.{object_of, names_ping, found, called};
 
 use crate::error_name::ErrorName;
 use crate::interface::interface_named;
 use crate::method::{Method, method_at, method_named};
 use crate::object::{Object, object_at};
+use crate::signature::have_signature;
 use dbus_types::message::Message;
-use dbus_types::write::write_signature;
-use portal_base::memory::WantOfMemory;
 use portal_base::text::Text;
-use std::alloc::Global;
 
 /// The object that a call is sent to.
 pub fn object_of(call: &Message) -> Object
@@ -27,24 +25,23 @@ pub fn object_of(call: &Message) -> Object
 ///
 /// A call that names no interface means the one interface of its object that
 /// has the member.
-pub fn called(alloc: Global, call: &Message) -> Result<Result<Method, ErrorName>, WantOfMemory>
-    ensures { IfOk result (λ method. method ≡ called call.now) }
+pub fn called(call: &Message) -> Result<Method, ErrorName>
+    ensures { result ≡ called call.now }
 {
     let method = match found(call) {
         Ok(method) => method,
-        Err(error) => return Ok(Err(error)),
+        Err(error) => return Err(error),
     };
-    let signature = write_signature(alloc, call.signature.as_slice())?;
-    if signature.as_slice() == method.takes() {
-        Ok(Ok(method))
+    if have_signature(call.signature.as_slice(), method.takes()) {
+        Ok(method)
     } else {
-        Ok(Err(ErrorName::InvalidArgs))
+        Err(ErrorName::InvalidArgs)
     }
 }
 
 /// The method that a call means, or the first refusal but that of the
 /// signature.
-fn found(call: &Message) -> Result<Method, ErrorName>
+pub(crate) fn found(call: &Message) -> Result<Method, ErrorName>
     ensures { result ≡ found call.now }
 {
     let object = object_of(call);

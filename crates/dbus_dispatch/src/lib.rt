@@ -1,5 +1,4 @@
-//! What a D-Bus call asks, and the answers to the calls that the portal itself
-//! isn't asked about.
+//! What a D-Bus call asks, and its answers.
 //!
 //! **It promises** that each message asks one thing, as the tables of objects,
 //! interfaces, methods and signatures say; that a refused call gets the first
@@ -9,7 +8,9 @@
 //! |---|---|
 //! | `ask` | [`ask::request_of`]: what a message asks |
 //! | `object`, `interface`, `method` | the tables |
-//! | `call` | the method that a call names, or its error |
+//! | `call`, `signature` | the method that a call names, or its error |
+//! | `arguments`, `request` | what the arguments of a call ask the portal |
+//! | `reply`, `body` | [`reply::reply_message`]: what an answer of the portal is told as |
 //! | `properties`, `refused`, `error_name` | answers that need no portal |
 //! | `laws` | laws of these answers |
 //!
@@ -17,7 +18,8 @@
 //! match request_of(alloc, &message, &settings)? {
 //!     Ask::Local(answer) => ..,               // Ping, Properties, an error
 //!     Ask::Ignore => ..,                      // no call
-//!     Ask::Unbuilt => ..,
+//!     Ask::Portal(request) => ..,             // a call on documents
+//!     Ask::Unbuilt => ..,                     // a call of the permission store
 //! }
 //! ```
 //!
@@ -25,7 +27,9 @@
 //! of errors.
 #![tactic(auto)]
 
+mod arguments;
 pub mod ask;
+mod body;
 pub mod call;
 pub mod error_name;
 pub mod interface;
@@ -34,3 +38,6 @@ pub mod method;
 pub mod object;
 pub mod properties;
 pub mod refused;
+pub mod reply;
+mod request;
+mod signature;

@@ -3,11 +3,11 @@
 //! Source: D-Bus Specification, "org.freedesktop.DBus.Properties".
 
 ghost use Rattle.std.specs.Prelude.{◌≡◌, IfOk};
-ghost use Rattle.std.specs.Option.{option_map, option_copied, option_to_list};
-ghost use Rattle.dbus_types.specs.declared.types.Value.{out-Value};
+ghost use Rattle.std.specs.Option.{option_map, option_to_list};
 ghost use Rattle.dbus_dispatch.specs.Tables.{properties_of, version};
-ghost use Rattle.dbus_dispatch.specs.Properties.{text_of, texts, value_in, interface_in, variant_of, dictionary};
+ghost use Rattle.dbus_dispatch.specs.Properties.{texts, value_in, interface_in, variant_of, dictionary};
 
+use crate::arguments::text_of;
 use crate::error_name::ErrorName;
 use crate::interface::{Interface, interface_named};
 use crate::object::Object;
@@ -90,15 +90,5 @@ fn version_of(interface: Interface) -> Option<u32>
         Interface::Documents => Some(4),
         Interface::PermissionStore => Some(2),
         Interface::Files | Interface::Properties | Interface::Peer => None,
-    }
-}
-
-/// The text that a value is.
-fn text_of(value: &Value) -> Option<&Text>
-    ensures { option_copied result ≡ text_of (out-Value value.now) }
-{
-    match value {
-        Value::Str(text) => Some(text),
-        _ => None,
     }
 }

@@ -1,18 +1,21 @@
 -- Header fields, read as structs of a byte and a variant.
-use Rattle.std.proofs.Common.{◌≡◌, ℕ, ◌-◌, List, [], ◌∷◌, Result, Ok, Err, refl, sym, ap, ◌∙◌, arith}
-use Rattle.std.specs.Prelude.{Bool, true, false, zero, suc, length, nat_lt, if◌then◌else◌}
+use Rattle.std.proofs.Common.{◌≡◌, ℕ, ◌-◌, List, [], ◌∷◌, Result, Ok, Err, refl, sym, ap, subst, ◌∙◌, arith}
+use Rattle.std.specs.Prelude.{Bool, true, false, zero, suc, length, filter, nat_lt, if◌then◌else◌}
 use Rattle.std.specs.Int.{w32}
 use Rattle.dbus_types.specs.declared.types.Endian.{Endian}
 use Rattle.dbus_types.specs.declared.types.WireType.{WireType, out-WireType, the_lemmas}
 use Rattle.dbus_types.specs.declared.types.WireType.TheOpen.{WireType-F}
 use Rattle.dbus_types.specs.declared.types.WireType.TheVariants as W
-use Rattle.dbus_types.specs.declared.types.Value.{Value}
+use Rattle.dbus_types.specs.declared.types.Value.{Value, out-Value, the_lemmas as value_lemmas}
+use Rattle.dbus_types.specs.declared.types.Value.TheOpen.{Value-F}
 use Rattle.dbus_types.specs.declared.types.Value.TheVariants as V
 use Rattle.dbus_marshal.specs.declared.error.ReadError.{ReadError}
-use Rattle.dbus_marshal.specs.declared.error.ReadError.TheVariants.{BadSignature, TooLong}
-use Rattle.dbus_marshal.specs.Reads.{◌>>=◌, Fails, Read, padded, byte_at, taken, type_in, ended, flat, layer, members, joined, reads, number_at, listed, elements, within_array, inside_at, field_at, fields_at, field_type, fields_type}
+use Rattle.dbus_marshal.specs.declared.error.ReadError.TheVariants.{Short, Padding, BadBool, BadText, TooLong, BadSignature, TooDeep, BadArray, Memory}
+use Rattle.dbus_marshal.specs.Reads.{◌>>=◌, Fails, Read, padded, byte_at, taken, type_in, ended, flat, layer, members, joined, reads, number_at, listed, elements, within_array, inside_at, field_at, fields_at, field_type, fields_type, has_code_to, sifted}
 use Rattle.dbus_marshal.proofs.Depths.{reads_more, reads_array, reads_struct, out_byte, out_struct}
 use Rattle.dbus_marshal.proofs.Loops.{fails_as}
+use Rattle.dbus_marshal.proofs.SpelledIsRead.{ok_is}
+use Rattle.dbus_marshal.proofs.StepBreaks.{err_is}
 
 -- what follows a reading goes into its last step
 into : {A B C : Type 0} (r : Result A ReadError) (f : A → Result B ReadError) (g : B → Result C ReadError) (h : A → Result C ReadError) → ((x : A) → (f x >>= g) ≡ h x) → ((r >>= f) >>= g) ≡ (r >>= h)
@@ -66,7 +69,7 @@ byte_is n e at bytes some = reads_more n e W.Byte at bytes some ∙ (ap (λ (x :
 out_variant : out-WireType W.Variant ≡ WireType-F.Variant
 out_variant = search the_lemmas
 
-variant_read : (n : ℕ) (e : Endian) (at : ℕ) (bytes : List ℕ) → (n ≡ 0 → ⊥) → reads n e W.Variant at bytes ≡ (inside_at (reads (n - 1) e) at bytes >>= held)
+pub variant_read : (n : ℕ) (e : Endian) (at : ℕ) (bytes : List ℕ) → (n ≡ 0 → ⊥) → reads n e W.Variant at bytes ≡ (inside_at (reads (n - 1) e) at bytes >>= held)
 variant_read n e at bytes some = reads_more n e W.Variant at bytes some ∙ (ap (λ (x : WireType-F WireType). layer (reads (n - 1) e) e x at bytes) out_variant ∙ sym (variant_is (reads (n - 1) e) e at bytes))
 
 -- a code and what a variant holds, as the members of a struct
@@ -112,17 +115,75 @@ listed_array : (q : Result (List Value) ReadError) (next : ℕ) (rest : List ℕ
 listed_array (Ok vs) next rest = refl
 listed_array (Err d) next rest = refl
 
-array_is : (e : Endian) (at : ℕ) (bytes : List ℕ) → (fields_at e at bytes >>= an_array) ≡ layer (reads 64 e) e (WireType-F.Array field_type) at bytes
-unfolding layer fields_at
+-- the array of the header fields, of which all are kept
+abbrev all_at : Endian → ℕ → List ℕ → Read (List Value)
+all_at e at bytes = do
+  start ← padded 4 at bytes
+  n ← number_at e w32 start.0 start.1
+  if nat_lt 67_108_864 n.0 then Err (TooLong start.0) else do
+    from ← padded 8 n.1 n.2
+    body ← taken n.0 from.0 from.1
+    vs ← within_array (elements (length body.0) (field_at e) from.0 body.0)
+    Ok (vs, body.1, body.2)
+
+array_is : (e : Endian) (at : ℕ) (bytes : List ℕ) → (all_at e at bytes >>= an_array) ≡ layer (reads 64 e) e (WireType-F.Array field_type) at bytes
+unfolding layer
 array_is e at bytes = into (padded 4 at bytes) _ an_array _ (λ start. into (number_at e w32 start.0 start.1) _ an_array _ (λ n. choice (nat_lt 67_108_864 n.0) (TooLong start.0) _ an_array _
     (rw (out_struct (W.Byte ∷ W.Variant ∷ [])) (into (padded 8 n.1 n.2) _ an_array _ (λ from. into (taken n.0 from.0 from.1) _ an_array _ (λ body.
     rw (elements_alike (length body.0) (reads 64 e field_type) (field_at e) (field_is e) from.0 body.0) (listed_array (within_array (elements (length body.0) (field_at e) from.0 body.0)) body.1 body.2)))))))
 
-fields_are : (e : Endian) (at : ℕ) (bytes : List ℕ) → (fields_at e at bytes >>= an_array) ≡ reads 65 e fields_type at bytes
-fields_are e at bytes = array_is e at bytes ∙ sym (reads_array 65 e fields_type field_type at bytes (λ z. omega (arith, z)) refl)
+all_are : (e : Endian) (at : ℕ) (bytes : List ℕ) → (all_at e at bytes >>= an_array) ≡ reads 65 e fields_type at bytes
+all_are e at bytes = array_is e at bytes ∙ sym (reads_array 65 e fields_type field_type at bytes (λ z. omega (arith, z)) refl)
 
-pub fields_give : (e : Endian) (at : ℕ) (bytes : List ℕ) (x : List Value × ℕ × List ℕ) → fields_at e at bytes ≡ Ok x → reads 65 e fields_type at bytes ≡ Ok (V.Array field_type x.0, x.1, x.2)
-fields_give e at bytes x is = sym (fields_are e at bytes) ∙ rw is refl
+-- and then those whose codes are at most so high
+abbrev a_sieve : ℕ → List Value × ℕ × List ℕ → Read (List Value)
+a_sieve highest vs = Ok (filter (has_code_to highest) vs.0, vs.1, vs.2)
 
-pub fields_fail : (e : Endian) (at : ℕ) (bytes : List ℕ) (d : ReadError) → Fails d (fields_at e at bytes) → Fails d (reads 65 e fields_type at bytes)
-fields_fail e at bytes d h = rw (← fields_are e at bytes) (fails_as d (fields_at e at bytes) (λ x. x >>= an_array) (λ k. refl) h)
+listed_sieve : (highest : ℕ) (q : Result (List Value) ReadError) (next : ℕ) (rest : List ℕ) → ((within_array q >>= listing next rest) >>= a_sieve highest) ≡ (within_array (sifted highest q) >>= listing next rest)
+listed_sieve highest (Ok vs) next rest = refl
+listed_sieve highest (Err d) next rest = refl
+
+fields_are : (highest : ℕ) (e : Endian) (at : ℕ) (bytes : List ℕ) → (all_at e at bytes >>= a_sieve highest) ≡ fields_at highest e at bytes
+unfolding fields_at
+fields_are highest e at bytes = into (padded 4 at bytes) _ (a_sieve highest) _ (λ start. into (number_at e w32 start.0 start.1) _ (a_sieve highest) _ (λ n. choice (nat_lt 67_108_864 n.0) (TooLong start.0) _ (a_sieve highest) _
+    (into (padded 8 n.1 n.2) _ (a_sieve highest) _ (λ from. into (taken n.0 from.0 from.1) _ (a_sieve highest) _ (λ body.
+    listed_sieve highest (elements (length body.0) (field_at e) from.0 body.0) body.1 body.2)))))
+
+-- what was sifted, and what from
+sieved : (highest : ℕ) (q : Read (List Value)) (x : List Value × ℕ × List ℕ) → (q >>= a_sieve highest) ≡ Ok x → (all : List Value) × (x.0 ≡ filter (has_code_to highest) all) × (q ≡ Ok (all, x.1, x.2))
+sieved highest (Ok vs) x is =
+    let same = ok_is (filter (has_code_to highest) vs.0, vs.1, vs.2) x is in
+    (vs.0, sym (ap (λ (p : List Value × ℕ × List ℕ). p.0) same), ap (λ (p : List Value × ℕ × List ℕ). Ok (vs.0, p.1, p.2)) same)
+sieved highest (Err d) x is = absurd cc
+
+pub fields_give : (highest : ℕ) (e : Endian) (at : ℕ) (bytes : List ℕ) (x : List Value × ℕ × List ℕ) → fields_at highest e at bytes ≡ Ok x
+    → (all : List Value) × (x.0 ≡ filter (has_code_to highest) all) × (reads 65 e fields_type at bytes ≡ Ok (V.Array field_type all, x.1, x.2))
+fields_give highest e at bytes x is =
+    let s = sieved highest (all_at e at bytes) x (fields_are highest e at bytes ∙ is) in
+    (s.0, s.1, sym (all_are e at bytes) ∙ ap (λ (q : Read (List Value)). q >>= an_array) s.2)
+
+sieve_err : (highest : ℕ) (q : Read (List Value)) (d : ReadError) → (q >>= a_sieve highest) ≡ Err d → q ≡ Err d
+sieve_err highest (Ok vs) d is = absurd cc
+sieve_err highest (Err k) d is = ap (λ (e : ReadError). Err e) (err_is {A = List Value × ℕ × List ℕ} k d is)
+
+fails_sieve : (highest : ℕ) (d : ReadError) (q : Read (List Value)) → Fails d (q >>= a_sieve highest) → Fails d q
+fails_sieve highest Memory q h = tt
+fails_sieve highest (Short at) q h = sieve_err highest q (Short at) h
+fails_sieve highest (Padding at) q h = sieve_err highest q (Padding at) h
+fails_sieve highest (BadBool at) q h = sieve_err highest q (BadBool at) h
+fails_sieve highest (BadText at) q h = sieve_err highest q (BadText at) h
+fails_sieve highest (TooLong at) q h = sieve_err highest q (TooLong at) h
+fails_sieve highest (BadSignature at) q h = sieve_err highest q (BadSignature at) h
+fails_sieve highest (TooDeep at) q h = sieve_err highest q (TooDeep at) h
+fails_sieve highest (BadArray at) q h = sieve_err highest q (BadArray at) h
+
+pub fields_fail : (highest : ℕ) (e : Endian) (at : ℕ) (bytes : List ℕ) (d : ReadError) → Fails d (fields_at highest e at bytes) → Fails d (reads 65 e fields_type at bytes)
+fields_fail highest e at bytes d h =
+    let all = fails_sieve highest d (all_at e at bytes) (subst (Fails d) (sym (fields_are highest e at bytes)) h) in
+    subst (Fails d) (all_are e at bytes) (fails_as d (all_at e at bytes) (λ x. x >>= an_array) (λ k. refl) all)
+
+out_fields : (t : WireType) (vs : List Value) → out-Value (V.Array t vs) ≡ Value-F.Array t vs
+out_fields t vs = search value_lemmas
+
+pub same_fields : (vs ws : List Value) → V.Array field_type vs ≡ V.Array field_type ws → vs ≡ ws
+same_fields vs ws e = let p : Value-F.Array field_type vs ≡ Value-F.Array field_type ws = sym (out_fields field_type vs) ∙ (ap out-Value e ∙ out_fields field_type ws) in cc

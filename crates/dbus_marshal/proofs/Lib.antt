@@ -8,9 +8,12 @@ pub mod SpelledIsRead
 pub mod ReadValueLaws
 pub mod Loops
 pub mod HeaderFields
+pub mod Verdicts
+pub mod KeptFields
 pub mod Bytes
 pub mod BytesSet
 pub mod PiecesJoined
+pub mod SpellingsMove
 pub mod SpelledKeepsRules
 pub mod AsciiNames
 pub mod EveryValueIsSpelled

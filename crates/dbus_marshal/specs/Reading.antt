@@ -49,3 +49,13 @@ after bytes x = (x.0, x.1, drop x.1 bytes)
 -- an offset, and the bytes from there on
 abbrev pub place : List ℕ → ℕ → ℕ × List ℕ
 place bytes next = (next, drop next bytes)
+
+-- the place after what is read, without it
+abbrev pub past : {X : Type 0} → Read X → Result (ℕ × List ℕ) ReadError
+past (Ok x) = Ok (x.1, x.2)
+past (Err e) = Err e
+
+-- whether something is read, without it
+abbrev pub verdict : {X : Type 0} → Result X ReadError → Result (Unit {0}) ReadError
+verdict (Ok x) = Ok tt
+verdict (Err e) = Err e

@@ -1,6 +1,6 @@
 -- Reading a value of a type from an offset, with the first break that is met. What is read from is
 -- the offset and the list of the bytes from there on.
-use Rattle.std.specs.Prelude.{ℕ, zero, suc, ◌+◌, ◌==◌, List, [], ◌∷◌, ◌++◌, length, take, drop, Result, Ok, Err, nat_lt, if◌then◌else◌, Bool, true, false}
+use Rattle.std.specs.Prelude.{ℕ, zero, suc, ◌+◌, ◌==◌, List, [], ◌∷◌, ◌++◌, length, take, drop, filter, Option, Some, None, Result, Ok, Err, nat_lt, nat_le, if◌then◌else◌, Bool, true, false}
 use Rattle.std.specs.Int.{Width, w16, w32, w64, byte_len, from_le_bytes, from_be_bytes, cast_signed}
 use Rattle.std.specs.List.{list_any}
 use Rattle.std.specs.Str.{is_utf8}
@@ -9,7 +9,8 @@ use Rattle.dbus_types.specs.declared.types.Endian.TheVariants.{Little, Big}
 use Rattle.dbus_types.specs.declared.types.WireType.{WireType, out-WireType}
 use Rattle.dbus_types.specs.declared.types.WireType.TheOpen.{WireType-F}
 use Rattle.dbus_types.specs.declared.types.WireType.TheVariants as W
-use Rattle.dbus_types.specs.declared.types.Value.{Value}
+use Rattle.dbus_types.specs.declared.types.Value.{Value, out-Value}
+use Rattle.dbus_types.specs.declared.types.Value.TheOpen.{Value-F}
 use Rattle.dbus_types.specs.declared.types.Value.TheVariants as V
 use Rattle.dbus_marshal.specs.declared.error.ReadError.{ReadError}
 use Rattle.dbus_marshal.specs.declared.error.ReadError.TheVariants.{Short, Padding, BadBool, BadText, TooLong, BadSignature, TooDeep, Memory}
@@ -20,7 +21,7 @@ use Rattle.dbus_types.specs.Reading.{whole_at, single_at, passed}
 use Rattle.dbus_types.specs.Types.{alignment}
 use Rattle.dbus_types.specs.Spells.{gap}
 pub use Rattle.dbus_marshal.specs.Breaks.{array_error}
-pub use Rattle.dbus_marshal.specs.Reading.{◌>>=◌, Fails, Gives, IsRead, IsStopped, IsRefused, Read, after, place}
+pub use Rattle.dbus_marshal.specs.Reading.{◌>>=◌, Fails, Gives, IsRead, IsStopped, IsRefused, Read, after, place, past, verdict}
 
 -- so many zero bytes
 unfoldable pub zeros : ℕ → ℕ → List ℕ → Result (ℕ × List ℕ) ReadError
@@ -239,15 +240,46 @@ field_at e at bytes = do
   x ← inside_at (reads 62 e) code.1 code.2
   Ok (V.Struct (V.Byte code.0 ∷ V.Variant x.0 ∷ []), x.1, x.2)
 
--- the array of the header fields: the field and its values are read as those of any other type
-unfoldable pub fields_at : Endian → ℕ → List ℕ → Read (List Value)
-fields_at e at bytes = do
+abbrev pub members_of : Value-F Value → List Value
+members_of (Value-F.Struct vs) = vs
+members_of _ = []
+
+abbrev pub byte_of : Value-F Value → ℕ
+byte_of (Value-F.Byte n) = n
+byte_of _ = 0
+
+abbrev pub first_of : List Value → ℕ
+first_of [] = 0
+first_of (v ∷ vs) = byte_of (out-Value v)
+
+-- the code of a header field
+abbrev pub field_code : Value → ℕ
+field_code f = first_of (members_of (out-Value f))
+
+-- the field's code is at most so high
+abbrev pub has_code_to : ℕ → Value → Bool
+has_code_to highest f = nat_le (field_code f) highest
+
+-- a field whose code is at most so high, and of another nothing
+abbrev pub kept : ℕ → Read Value → Read (Option Value)
+kept highest (Ok x) = Ok (if has_code_to highest x.0 then Some x.0 else None, x.1, x.2)
+kept highest (Err e) = Err e
+
+-- the fields whose codes are at most so high
+abbrev pub sifted : ℕ → Result (List Value) ReadError → Result (List Value) ReadError
+sifted highest (Ok vs) = Ok (filter (has_code_to highest) vs)
+sifted highest (Err e) = Err e
+
+-- The array of the header fields, of which those are kept whose codes are at most so high: the
+-- fields and their values are read as those of any other type.
+unfoldable pub fields_at : ℕ → Endian → ℕ → List ℕ → Read (List Value)
+fields_at highest e at bytes = do
   start ← padded 4 at bytes
   n ← number_at e w32 start.0 start.1
   if nat_lt 67_108_864 n.0 then Err (TooLong start.0) else do
     from ← padded 8 n.1 n.2
     body ← taken n.0 from.0 from.1
-    vs ← within_array (elements (length body.0) (field_at e) from.0 body.0)
+    vs ← within_array (sifted highest (elements (length body.0) (field_at e) from.0 body.0))
     Ok (vs, body.1, body.2)
 
 -- the type of a header field

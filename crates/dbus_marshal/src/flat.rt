@@ -3,7 +3,7 @@
 ghost use Rattle.std.specs.Prelude.{◌≡◌, ◌+◌, ◌<◌, ◌≤◌, ◌^◌, length, take, drop, true, false, IfOk, MatchOption};
 ghost use Rattle.std.specs.Int.{w16, w32, w64, cast_signed};
 ghost use Rattle.dbus_types.specs.declared.types.WireType.{out-WireType};
-ghost use Rattle.dbus_marshal.specs.Reads.{Gives, after, is_text, is_path_text, padded_number, ended_with, text_at, signature_with, signature_at as signature_in, fixed, flat};
+ghost use Rattle.dbus_marshal.specs.Reads.{Gives, after, place, past, is_text, is_path_text, padded_number, text_at, signature_at as signature_in, fixed, flat};
 
 use crate::error::ReadError;
 use crate::fields::{
@@ -49,89 +49,57 @@ fn as_path(raw: &[u8]) -> Option<&str>
     }
 }
 
-/// A text, and the zero byte behind it.
-fn text_before(
-    alloc: Global,
-    bytes: &[u8],
-    end: usize,
-    text: &str,
-) -> Result<(Text, usize), ReadError>
-    requires { end ≤ length bytes.now }
-    ensures read { Gives (after bytes.now) result (ended_with text.now end (drop end bytes.now)) }
-    ensures within { IfOk result (λ r. (end < r.1) × (r.1 ≤ length bytes.now)) }
-{
-    let next = ended(bytes, end, ReadError::BadText { at: end })?;
-    let text = Text::copied(alloc, text)?;
-    Ok((text, next))
-}
-
 #[tactic(auto, unfolding(crate::specs::Reads::text_at))]
-fn string_at(
-    alloc: Global,
-    endian: Endian,
-    bytes: &[u8],
-    at: usize,
-) -> Result<(Text, usize), ReadError>
+fn string_at(endian: Endian, bytes: &[u8], at: usize) -> Result<(&str, usize), ReadError>
     requires { at ≤ length bytes.now }
-    ensures read { Gives (after bytes.now) result (text_at endian is_text at (drop at bytes.now)) }
+    ensures read { Gives (λ r. after bytes.now (r.0.now, r.1)) result
+        (text_at endian is_text at (drop at bytes.now)) }
     ensures within { IfOk result (λ r. (at < r.1) × (r.1 ≤ length bytes.now)) }
 {
     let (count, start) = number_32(endian, bytes, at)?;
     let (raw, end) = taken(bytes, start, count as usize)?;
     match as_text(raw) {
-        Some(text) => text_before(alloc, bytes, end, text),
+        Some(text) => {
+            let next = ended(bytes, end, ReadError::BadText { at: end })?;
+            Ok((text, next))
+        }
         None => Err(ReadError::BadText { at: start }),
     }
 }
 
 #[tactic(auto, unfolding(crate::specs::Reads::text_at))]
-fn path_at(
-    alloc: Global,
-    endian: Endian,
-    bytes: &[u8],
-    at: usize,
-) -> Result<(Text, usize), ReadError>
+fn path_at(endian: Endian, bytes: &[u8], at: usize) -> Result<(&str, usize), ReadError>
     requires { at ≤ length bytes.now }
-    ensures read { Gives (after bytes.now) result
+    ensures read { Gives (λ r. after bytes.now (r.0.now, r.1)) result
         (text_at endian is_path_text at (drop at bytes.now)) }
     ensures within { IfOk result (λ r. (at < r.1) × (r.1 ≤ length bytes.now)) }
 {
     let (count, start) = number_32(endian, bytes, at)?;
     let (raw, end) = taken(bytes, start, count as usize)?;
     match as_path(raw) {
-        Some(text) => text_before(alloc, bytes, end, text),
+        Some(text) => {
+            let next = ended(bytes, end, ReadError::BadText { at: end })?;
+            Ok((text, next))
+        }
         None => Err(ReadError::BadText { at: start }),
     }
 }
 
-/// A signature, and the zero byte behind it.
-fn signature_before(
-    alloc: Global,
-    bytes: &[u8],
-    end: usize,
-    text: &str,
-) -> Result<(Text, usize), ReadError>
-    requires { end ≤ length bytes.now }
-    ensures read { Gives (after bytes.now) result
-        (signature_with text.now end (drop end bytes.now)) }
-    ensures within { IfOk result (λ r. (end < r.1) × (r.1 ≤ length bytes.now)) }
-{
-    let next = ended(bytes, end, ReadError::BadSignature { at: end })?;
-    let text = Text::copied(alloc, text)?;
-    Ok((text, next))
-}
-
 #[tactic(auto, unfolding(crate::specs::Reads::signature_at))]
-fn signature_at(alloc: Global, bytes: &[u8], at: usize) -> Result<(Text, usize), ReadError>
+fn signature_at(bytes: &[u8], at: usize) -> Result<(&str, usize), ReadError>
     requires { at ≤ length bytes.now }
-    ensures read { Gives (after bytes.now) result (signature_in at (drop at bytes.now)) }
+    ensures read { Gives (λ r. after bytes.now (r.0.now, r.1)) result
+        (signature_in at (drop at bytes.now)) }
     ensures within { IfOk result (λ r. (at < r.1) × (r.1 ≤ length bytes.now)) }
 {
     let (count, start) = byte_at(bytes, at)?;
     let (raw, end) = taken(bytes, start, count as usize)?;
     check_at(raw, start)?;
     match as_text(raw) {
-        Some(text) => signature_before(alloc, bytes, end, text),
+        Some(text) => {
+            let next = ended(bytes, end, ReadError::BadSignature { at: end })?;
+            Ok((text, next))
+        }
         None => Err(ReadError::BadSignature { at: start }),
     }
 }
@@ -245,18 +213,71 @@ pub(crate) fn read_flat(
         }
         WireType::Str => {
             let start = skip_padding(bytes, at, 4)?;
-            let (text, next) = string_at(alloc, endian, bytes, start)?;
-            Ok((Value::Str(text), next))
+            let (text, next) = string_at(endian, bytes, start)?;
+            Ok((Value::Str(Text::copied(alloc, text)?), next))
         }
         WireType::ObjectPath => {
             let start = skip_padding(bytes, at, 4)?;
-            let (path, next) = path_at(alloc, endian, bytes, start)?;
-            Ok((Value::ObjectPath(path), next))
+            let (path, next) = path_at(endian, bytes, start)?;
+            Ok((Value::ObjectPath(Text::copied(alloc, path)?), next))
         }
         WireType::Signature => {
-            let (text, next) = signature_at(alloc, bytes, at)?;
-            Ok((Value::Signature(text), next))
+            let (text, next) = signature_at(bytes, at)?;
+            Ok((Value::Signature(Text::copied(alloc, text)?), next))
         }
         _ => read_fixed(endian, bytes, at, kind),
+    }
+}
+
+fn check_fixed(endian: Endian, bytes: &[u8], at: usize, kind: &WireType) -> Result<usize, ReadError>
+    requires { at ≤ length bytes.now }
+    ensures read { Gives (place bytes.now) result
+        (past (fixed endian (out-WireType kind.now) at (drop at bytes.now))) }
+    ensures within { IfOk result (λ next. (at < next) × (next ≤ length bytes.now)) }
+{
+    let (_, next) = read_fixed(endian, bytes, at, kind)?;
+    Ok(next)
+}
+
+/// The place after the value of a type with no value inside, which is checked
+/// as it is where it is read.
+#[tactic(auto, unfolding(crate::specs::Reads::flat))]
+pub(crate) fn check_flat(
+    endian: Endian,
+    bytes: &[u8],
+    at: usize,
+    kind: &WireType,
+) -> Result<usize, ReadError>
+    requires { at ≤ length bytes.now }
+    ensures read { Gives (place bytes.now) result
+        (past (flat endian (out-WireType kind.now) at (drop at bytes.now))) }
+    ensures within { IfOk result (λ next. (at < next) × (next ≤ length bytes.now)) }
+{
+    match kind {
+        WireType::Byte => {
+            let (_, next) = byte_at(bytes, at)?;
+            Ok(next)
+        }
+        WireType::Bool => {
+            let start = skip_padding(bytes, at, 4)?;
+            let (number, next) = number_32(endian, bytes, start)?;
+            let _ = truth(start, number)?;
+            Ok(next)
+        }
+        WireType::Str => {
+            let start = skip_padding(bytes, at, 4)?;
+            let (_, next) = string_at(endian, bytes, start)?;
+            Ok(next)
+        }
+        WireType::ObjectPath => {
+            let start = skip_padding(bytes, at, 4)?;
+            let (_, next) = path_at(endian, bytes, start)?;
+            Ok(next)
+        }
+        WireType::Signature => {
+            let (_, next) = signature_at(bytes, at)?;
+            Ok(next)
+        }
+        _ => check_fixed(endian, bytes, at, kind),
     }
 }

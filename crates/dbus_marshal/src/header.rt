@@ -1,15 +1,16 @@
 //! Reading the fields of a message's header: an array of structs of a byte and
-//! a variant, without a tree of values for each.
+//! a variant, without a tree of values for each. The values of fields that
+//! nobody knows are checked, and not made.
 //!
 //! Source: D-Bus Specification, "Message Format", "Header Fields".
 
-ghost use Rattle.std.specs.Prelude.{◌≡◌, ◌+◌, ◌-◌, ◌<◌, ◌≤◌, ◌^◌, ℕ, List, ◌++◌, length, take, drop, IfOk};
+ghost use Rattle.std.specs.Prelude.{◌≡◌, ◌+◌, ◌-◌, ◌<◌, ◌≤◌, ◌^◌, ℕ, List, ◌++◌, length, take, drop, filter, IfOk};
 ghost use Rattle.dbus_types.specs.declared.types.Value.{Value as Value'};
 ghost use Rattle.dbus_types.specs.declared.types.Value.TheVariants as V;
 ghost use Rattle.dbus_types.specs.Spells.{Spells};
-ghost use Rattle.dbus_marshal.specs.Reads.{Gives, IsRead, after, elements, field_at};
-ghost use Rattle.dbus_marshal.specs.Reads.{field_type, fields_type, fields_at};
+ghost use Rattle.dbus_marshal.specs.Reads.{Gives, IsRead, after, elements, field_at, field_type, fields_type, fields_at, has_code_to, kept, sifted};
 
+use crate::check::check_inside;
 use crate::error::ReadError;
 use crate::fields::{array_error, byte_at, number_32, skip_padding, taken};
 use crate::read::{LONGEST_ARRAY, read_inside, room_for};
@@ -49,21 +50,29 @@ impl Model for HeaderField {
     ghost view = { λ f. V.Struct (V.Byte f.code ∷ V.Variant f.value ∷ []) };
 }
 
+/// The field at a place where its code is at most so high, and otherwise only
+/// the place after it.
 #[tactic(auto, unfolding(crate::specs::Reads::field_at))]
 fn read_field(
     alloc: Global,
     endian: Endian,
     bytes: &[u8],
     at: usize,
-) -> Result<(HeaderField, usize), ReadError>
+    highest: u8,
+) -> Result<(Option<HeaderField>, usize), ReadError>
     requires { at ≤ length bytes.now }
-    ensures read { Gives (after bytes.now) result (field_at endian at (drop at bytes.now)) }
+    ensures read { Gives (after bytes.now) result
+        (kept highest (field_at endian at (drop at bytes.now))) }
     ensures within { IfOk result (λ r. (at < r.1) × (r.1 ≤ length bytes.now)) }
 {
     let start = skip_padding(bytes, at, FIELD_ALIGNMENT)?;
     let (code, middle) = byte_at(bytes, start)?;
+    if highest < code {
+        let next = check_inside(alloc, endian, bytes, middle, MOST_VALUES_INSIDE)?;
+        return Ok((None, next));
+    }
     let (value, next) = read_inside(alloc, endian, bytes, middle, MOST_VALUES_INSIDE)?;
-    Ok((HeaderField { code, value }, next))
+    Ok((Some(HeaderField { code, value }), next))
 }
 
 /// The fields up to the end of the bytes. Each but the last takes a multiple of
@@ -73,17 +82,20 @@ fn read_fields(
     endian: Endian,
     bytes: &[u8],
     at: usize,
+    highest: u8,
 ) -> Result<List<HeaderField>, ReadError>
     requires { at ≤ length bytes.now }
-    ensures read { Gives (λ fields. fields) result
-        (elements (length (drop at bytes.now)) (field_at endian) at (drop at bytes.now)) }
+    ensures read { Gives (λ fields. fields) result (sifted highest
+        (elements (length (drop at bytes.now)) (field_at endian) at (drop at bytes.now))) }
 {
     let mut fields = room_for(alloc, (bytes.len() - at) / FIELD_ALIGNMENT + 1)?;
     let mut next = at;
     while next < bytes.len() {
-        match read_field(alloc, endian, bytes, next) {
+        match read_field(alloc, endian, bytes, next, highest) {
             Ok((field, end)) => {
-                fields.push(field)?;
+                if let Some(field) = field {
+                    fields.push(field)?;
+                }
                 next = end;
             }
             Err(error) => return Err(error),
@@ -98,9 +110,11 @@ fn read_array(
     endian: Endian,
     bytes: &[u8],
     at: usize,
+    highest: u8,
 ) -> Result<(List<HeaderField>, usize), ReadError>
     requires { at ≤ length bytes.now }
-    ensures read { Gives (after bytes.now) result (fields_at endian at (drop at bytes.now)) }
+    ensures read { Gives (after bytes.now) result
+        (fields_at highest endian at (drop at bytes.now)) }
     ensures within { IfOk result (λ r. (at < r.1) × (r.1 ≤ length bytes.now)) }
 {
     let start = skip_padding(bytes, at, 4)?;
@@ -110,7 +124,7 @@ fn read_array(
     }
     let from = skip_padding(bytes, begins, FIELD_ALIGNMENT)?;
     let (_body, end) = taken(bytes, from, count as usize)?;
-    match read_fields(alloc, endian, &bytes[..end], from) {
+    match read_fields(alloc, endian, &bytes[..end], from, highest) {
         Ok(fields) => Ok((fields, end)),
         Err(error) => Err(array_error(error)),
     }
@@ -119,16 +133,18 @@ fn read_array(
 /// The fields of a header that were read.
 #[derive(Debug, Drop)]
 pub struct ReadHeader {
-    /// The fields, in their order.
+    /// The fields whose codes are at most as high as was asked, in their order.
     pub fields: List<HeaderField>,
     /// The index of the byte after their array.
     pub next: usize,
 }
 
 /// Reads the array of a header's fields that the bytes spell from a place, whose
-/// index is the offset that alignments go by: what `read_value` reads of `a(yv)`.
+/// index is the offset that alignments go by: what `read_value` reads of
+/// `a(yv)`, without the fields whose codes are above `highest`. Of these it is
+/// only checked that they are spelled.
 ///
-/// It fails where that fails, and for the same reason.
+/// It fails where `read_value` fails, and for the same reason.
 ///
 /// Source: D-Bus Specification, "Message Format".
 pub fn read_header(
@@ -136,18 +152,21 @@ pub fn read_header(
     endian: Endian,
     bytes: &[u8],
     at: usize,
+    highest: u8,
 ) -> Result<ReadHeader, ReadError>
     requires { at ≤ length bytes.now }
-    // What is read is spelled there.
+    // What is read is spelled there, among fields of higher codes.
     ensures found { IfOk result (λ r. (at ≤ r.next) × (r.next ≤ length bytes.now)
-        × Spells endian at fields_type (V.Array field_type r.fields)
+        × (all : List Value') × (r.fields ≡ filter (has_code_to highest) all)
+        × Spells endian at fields_type (V.Array field_type all)
         (take (r.next - at) (drop at bytes.now))) }
     // What is spelled there is read, unless memory runs out.
-    ensures only { (value : Value') (text rest : List ℕ) → Spells endian at fields_type value text
+    ensures only { (all : List Value') (text rest : List ℕ)
+        → Spells endian at fields_type (V.Array field_type all) text
         → drop at bytes.now ≡ text ++ rest
-        → IsRead result (λ r. (V.Array field_type r.fields ≡ value)
+        → IsRead result (λ r. (r.fields ≡ filter (has_code_to highest) all)
         × (r.next ≡ at + length text)) }
 {
-    let (fields, next) = read_array(alloc, endian, bytes, at)?;
+    let (fields, next) = read_array(alloc, endian, bytes, at, highest)?;
     Ok(ReadHeader { fields, next })
 }

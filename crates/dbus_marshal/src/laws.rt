@@ -2,7 +2,7 @@
 //!
 //! Source: D-Bus Specification, "Marshaling (Wire Format)".
 
-ghost use Rattle.std.specs.Prelude.{◌≡◌, ◌<◌, ◌≤◌, ◌⊎◌, ℕ, List, ◌++◌, All, length};
+ghost use Rattle.std.specs.Prelude.{◌≡◌, ◌<◌, ◌≤◌, ◌%◌, ◌⊎◌, ℕ, List, ◌++◌, All, length};
 ghost use Rattle.dbus_types.specs.declared.types.Value.{Value as Value'};
 ghost use Rattle.dbus_types.specs.declared.types.Endian.{Endian as Endian'};
 ghost use Rattle.dbus_types.specs.declared.types.WireType.{WireType as WireType'};
@@ -10,7 +10,7 @@ ghost use Rattle.dbus_types.specs.Values.{type_of, KeepsRules};
 ghost use Rattle.dbus_marshal.specs.declared.error.ReadError.{ReadError as ReadError'};
 ghost use Rattle.dbus_marshal.specs.Breaks.{Breaks};
 ghost use Rattle.dbus_types.specs.Spells.{Spells};
-ghost use Rattle.dbus_types.specs.Spelling.{spelling};
+ghost use Rattle.dbus_types.specs.Spelling.{spelling, spellings};
 
 /// A value that keeps the rules has a spelling, in either order of bytes and
 /// at each offset: what is written for it, where that has at most 67,108,864
@@ -19,6 +19,15 @@ pub fn every_value_is_spelled()
     ensures { (endian : Endian') (at : ℕ) (value : Value') → KeepsRules value
         → length (spelling endian at value) ≤ 67_108_864
         → Spells endian at (type_of value) value (spelling endian at value) }
+{}
+
+/// The spelling of a value, and of several one after another, depends on the
+/// offset modulo 8 alone: 8 is the greatest alignment.
+pub fn spellings_move()
+    ensures one { (endian : Endian') (at other : ℕ) (value : Value') → at % 8 ≡ other % 8
+        → spelling endian at value ≡ spelling endian other value }
+    ensures several { (endian : Endian') (at other : ℕ) (values : List Value') → at % 8 ≡ other % 8
+        → spellings endian at values ≡ spellings endian other values }
 {}
 
 /// Bytes begin with the spelling of a value of a type, or go wrong first in

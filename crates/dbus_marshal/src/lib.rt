@@ -10,10 +10,11 @@
 //! |---|---|
 //! | `read` | [`read::read_value`]: the value of a type at an offset |
 //! | `header` | [`header::read_header`]: the fields of a message's header |
-//! | `write` | [`write::write_value`]: the spelling of a value behind others |
+//! | `write` | [`write::write_value`]: the spelling of a value behind others, and of several |
 //! | `error` | [`error::ReadError`]: where and why a spelling breaks |
+//! | `check` | values of which only the place after them is asked |
 //! | `flat`, `fields`, `signature`, `skip`, `put` | the pieces that values are spelled with |
-//! | `laws` | that each value has a spelling, and that bytes are spelled or break |
+//! | `laws` | that each value has a spelling, that bytes are spelled or break, and that spellings move |
 //!
 //! ```text
 //! write_value(&mut out, &value)?;
@@ -23,6 +24,7 @@
 //! Source: D-Bus Specification, "Marshaling (Wire Format)".
 #![tactic(auto)]
 
+mod check;
 pub mod error;
 mod fields;
 mod flat;

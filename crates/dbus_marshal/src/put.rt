@@ -44,7 +44,7 @@ fn one_byte(number: usize) -> [u8; 1]
 
 /// Writes the lowest four bytes of a number over those at a place.
 #[tactic(auto, using(crate::proofs::BytesSet::four_set))]
-pub(crate) fn overwrite_length(out: &mut ByteList, at: usize, number: usize)
+pub fn overwrite_length(out: &mut ByteList, at: usize, number: usize)
     requires { at + 4 ≤ length out.old }
     ensures { out.new ≡ take at out.old ++ (to_le_bytes w32 number ++ drop (at + 4) out.old) }
 {

@@ -110,7 +110,8 @@ pub(crate) fn room_for<T>(alloc: Global, count: usize) -> Result<List<T>, WantOf
     Ok(List::from_vec(room))
 }
 
-fn is_byte(kind: &WireType) -> bool
+/// Says whether a type is that of bytes.
+pub(crate) fn is_byte(kind: &WireType) -> bool
     ensures { IsTrue result ↔ (kind.now ≡ W.Byte) }
 {
     matches!(kind, WireType::Byte)

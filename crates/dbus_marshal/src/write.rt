@@ -12,8 +12,8 @@ ghost use Rattle.dbus_types.specs.declared.types.Endian.TheVariants.{Little};
 ghost use Rattle.dbus_types.specs.Spells.{Spells, gap};
 ghost use Rattle.dbus_types.specs.Spelling.{Extends, aligned, spelled, spelling, spellings, signature_body, text_body, array_body};
 
-pub use crate::put::pad;
-use crate::put::{overwrite_length, put_16, put_32, put_64, put_length, put_short_text, put_text};
+pub use crate::put::{overwrite_length, pad};
+use crate::put::{put_16, put_32, put_64, put_length, put_short_text, put_text};
 use crate::signature::put_signature;
 use dbus_types::layout::alignment_of;
 use dbus_types::types::Value;
@@ -110,9 +110,13 @@ fn put_bytes(out: &mut ByteList, values: &[Value]) -> Result<usize, WantOfMemory
     Ok(values.len())
 }
 
+/// Puts the spellings of values, one after another, at the end of a list, whose
+/// length is the offset of the first.
+///
+/// Where there is no memory the list begins with what it had.
 #[cycle(write)]
 #[tactic(auto, using(dbus_types::proofs::ListFronts::extends_refl, dbus_types::proofs::ListFronts::extends_append, dbus_types::proofs::ListFronts::extends_trans))]
-fn write_all(out: &mut ByteList, values: &[Value]) -> Result<(), WantOfMemory>
+pub fn write_all(out: &mut ByteList, values: &[Value]) -> Result<(), WantOfMemory>
     ensures ok { OnOk result (out.new ≡ out.old ++ spellings Little (length out.old) values.now) }
     ensures err { OnErr result (Extends out.old out.new) }
 {

@@ -14,7 +14,7 @@ use Rattle.dbus_marshal.specs.Reads.{IsRead}
 use Rattle.dbus_marshal.proofs.SpelledIsRead.{one_spelling}
 use Rattle.dbus_message.specs.declared.error.MessageError.TheVariants.{Bad}
 use Rattle.dbus_message.specs.Header.{endian_of, field_bytes}
-use Rattle.dbus_message.specs.Fields.{field_type, AreFieldsOf}
+use Rattle.dbus_message.specs.Fields.{field_type, AreFieldsOf, known}
 use Rattle.dbus_message.specs.Errors.{error_of}
 use Rattle.dbus_message.specs.Answers.{IsReadFields}
 use Rattle.dbus_message.proofs.Bodies.{refused, weak}
@@ -25,7 +25,7 @@ out_array t vs = search the_lemmas
 out_array_type : (t : WireType) → out-WireType (W.Array t) ≡ WireType-F.Array t
 out_array_type t = search type_lemmas
 
-same_items : (t u : WireType) (vs ws : List Value) → V.Array t vs ≡ V.Array u ws → vs ≡ ws
+pub same_items : (t u : WireType) (vs ws : List Value) → V.Array t vs ≡ V.Array u ws → vs ≡ ws
 same_items t u vs ws e = let p : Value-F.Array t vs ≡ Value-F.Array u ws = sym (out_array t vs) ∙ (ap out-Value e ∙ out_array u ws) in cc
 
 pub is_array : (e : Endian) (t : WireType) (at : ℕ) (v : Value) (text : List ℕ) → Spells e at (W.Array t) v text → (vs : List Value) × (v ≡ V.Array t vs)
@@ -39,16 +39,20 @@ whole_text : (next : ℕ) (bytes : List ℕ) → length bytes ≤ next → take 
 whole_text next bytes le = take_all (next - 12) (drop 12 bytes) (omega (arith, length-drop {A = ℕ} 12 bytes, le))
 
 module _ (e : Endian) (bytes : List ℕ) (items : List Value) (next : ℕ) (long : 12 ≤ length bytes)
-    (only : (w : Value) (text rest : List ℕ) → Spells e 12 (W.Array field_type) w text → drop 12 bytes ≡ text ++ rest → (V.Array field_type items ≡ w) × (next ≡ 12 + length text)) where
-  pub fields_good : length bytes ≤ next → Spells e 12 (W.Array field_type) (V.Array field_type items) (take (next - 12) (drop 12 bytes)) → IsReadFields e (drop 12 bytes) (Ok items)
+    (only : (all : List Value) (text rest : List ℕ) → Spells e 12 (W.Array field_type) (V.Array field_type all) text → drop 12 bytes ≡ text ++ rest → (items ≡ known all) × (next ≡ 12 + length text)) where
+  pub fields_good : length bytes ≤ next → (all : List Value) × (items ≡ known all) × Spells e 12 (W.Array field_type) (V.Array field_type all) (take (next - 12) (drop 12 bytes)) → IsReadFields e (drop 12 bytes) (Ok items)
   fields_good end found = (
-    subst (λ (w : List ℕ). Spells e 12 (W.Array field_type) (V.Array field_type items) w) (whole_text next bytes end) found,
-    λ gs h. sym (same_items field_type field_type items gs (only (V.Array field_type gs) (drop 12 bytes) [] h (sym (append-nil (drop 12 bytes)))).0),
+    (found.0, found.1, subst (λ (w : List ℕ). Spells e 12 (W.Array field_type) (V.Array field_type found.0) w) (whole_text next bytes end) found.2),
+    λ gs h. h.1 ∙ sym (only h.0 (drop 12 bytes) [] h.2 (sym (append-nil (drop 12 bytes)))).0,
   )
 
   pub fields_short : next + 1 ≤ length bytes → IsReadFields e (drop 12 bytes) (Err (Bad 6))
-  fields_short left = (λ gs h. let p = only (V.Array field_type gs) (drop 12 bytes) [] h (sym (append-nil (drop 12 bytes))) in absurd (omega (arith, p.1, left, long, length-drop {A = ℕ} 12 bytes)), refl)
+  fields_short left = (λ gs h. let p = only h.0 (drop 12 bytes) [] h.2 (sym (append-nil (drop 12 bytes))) in absurd (omega (arith, p.1, left, long, length-drop {A = ℕ} 12 bytes)), refl)
 
-pub fields_bad : {Y : Type 0} (e : Endian) (bytes : List ℕ) (d : ReadError) (Q : Value → List ℕ → Y → Type 0)
-    → ((w : Value) (text rest : List ℕ) → Spells e 12 (W.Array field_type) w text → drop 12 bytes ≡ text ++ rest → IsRead {X = Y} (Err d) (Q w text)) → IsReadFields e (drop 12 bytes) (Err (error_of 6 d))
-fields_bad {Y = Y} e bytes d Q never = refused (λ (gs : List Value). Spells e 12 (W.Array field_type) (V.Array field_type gs) (drop 12 bytes)) (λ (y : Y). Unit {0}) 6 d (λ gs h. weak d _ (λ (y : Y). Unit {0}) (never (V.Array field_type gs) (drop 12 bytes) [] h (sym (append-nil (drop 12 bytes)))))
+-- the fields that the bytes spell, of which some are known
+abbrev AreKnown : Endian → List ℕ → List Value → Type 0
+AreKnown e bytes some = (fields : List Value) × (some ≡ known fields) × Spells e 12 (W.Array field_type) (V.Array field_type fields) bytes
+
+pub fields_bad : {Y : Type 0} (e : Endian) (bytes : List ℕ) (d : ReadError) (Q : List Value → List ℕ → Y → Type 0)
+    → ((all : List Value) (text rest : List ℕ) → Spells e 12 (W.Array field_type) (V.Array field_type all) text → drop 12 bytes ≡ text ++ rest → IsRead {X = Y} (Err d) (Q all text)) → IsReadFields e (drop 12 bytes) (Err (error_of 6 d))
+fields_bad {Y = Y} e bytes d Q never = refused (AreKnown e (drop 12 bytes)) (λ (y : Y). Unit {0}) 6 d (λ gs h. weak d _ (λ (y : Y). Unit {0}) (never h.0 (drop 12 bytes) [] h.2 (sym (append-nil (drop 12 bytes)))))

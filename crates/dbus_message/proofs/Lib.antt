@@ -12,3 +12,4 @@ pub mod WrittenHasSpelling
 pub mod WrittenAreMessages
 pub mod EmptyReturn
 pub mod ReadingsAreOne
+pub mod KnownFields

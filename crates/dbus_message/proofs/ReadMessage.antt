@@ -12,7 +12,7 @@ use Rattle.dbus_types.specs.declared.message.Message.{Message}
 use Rattle.dbus_message.specs.declared.error.MessageError.{MessageError}
 use Rattle.dbus_message.specs.declared.error.MessageError.TheVariants.{Bad, Memory}
 use Rattle.dbus_message.specs.Header.{endian_of, kind_of, fields_end, body_start, field_bytes, padding_bytes, body_bytes}
-use Rattle.dbus_message.specs.Fields.{AreFieldsOf, are_good, has_needed, text_of}
+use Rattle.dbus_message.specs.Fields.{AreFieldsOf, known, are_good, has_needed, text_of}
 use Rattle.dbus_message.specs.Content.{IsContent, IsSpelled, IsExplained}
 use Rattle.dbus_message.specs.Rules.{OfFields, HasEndian, HasKind, HasVersion, HasSerial, IsShort, Checked, IsFirstBroken, IsWhole}
 use Rattle.dbus_message.specs.Messages.{SaysHeader, SaysFields, IsMessage, IsReadAs, IsRefusedFor, IsReading}
@@ -94,7 +94,7 @@ module _ (bytes : List ℕ) (whole : IsWhole bytes) where
   after_header rule Later later = let h = whole.1 in inr (h.0, inr (h.1, inr (h.2, inr (h.3, inr (h.4, later)))))
 
   pub fields_failed : (r : MessageError) → IsReadFields (endian_of bytes) (field_bytes bytes) (Err r) → Answered bytes (Err r)
-  fields_failed (Bad rule) h = bad bytes rule (after_header rule _ (inl (h.1, λ f. h.0 f.0 f.1)))
+  fields_failed (Bad rule) h = bad bytes rule (after_header rule _ (inl (h.1, λ f. h.0 (known f.0) (f.0, refl, f.1))))
   fields_failed Memory h = no_memory bytes
 
   module _ (fs : List Value) (is : AreFieldsOf bytes fs) where

@@ -216,7 +216,7 @@ module _ (bytes : List ℕ) (fits : IsBytes bytes) (whole : IsWhole bytes) where
 
   on_fields : ((fs : List Value) × AreFieldsOf bytes fs) ⊎ HasNone bytes → Reading_of bytes
   on_fields (inl found) = on_good found.0 found.1 (are_good found.0) refl
-  on_fields (inr none) = inr (6, (fields_failed bytes whole (Bad 6) (none, refl)).reading)
+  on_fields (inr none) = inr (6, (fields_failed bytes whole (Bad 6) (λ gs h. none h.0 h.2, refl)).reading)
 
 pub found : (bytes : List ℕ) → All (λ b. b < 256) bytes → IsWhole bytes → ((m : Message) × IsMessage bytes m) ⊎ ((rule : ℕ) × IsFirstBroken bytes rule)
 found bytes all whole = let fits = bytes_all bytes all in on_fields bytes fits whole (fields bytes fits)

@@ -1,43 +1,28 @@
 -- Messages that are written.
-use Rattle.std.proofs.Common.{◌≡◌, ℕ, zero, suc, ◌+◌, ◌^◌, ◌<◌, true, List, [], ◌∷◌, ◌++◌, length, map, take, drop, replicate, refl, sym, ap, subst, ◌∙◌, append_assoc, append-nil, arith}
+use Rattle.std.proofs.Common.{◌≡◌, ℕ, zero, suc, ◌+◌, ◌-◌, ◌%◌, ◌^◌, ◌<◌, true, List, [], ◌∷◌, ◌++◌, length, map, take, drop, replicate, refl, sym, ap, ◌∙◌, append_assoc, arith}
 use Rattle.std.specs.Prelude.{◌==◌}
 use Rattle.std.specs.List.{list_all}
 use Rattle.std.specs.Int.{w32, from_le_bytes}
 use Rattle.std.proofs.lemmas.List.{take_at, drop_at, drop-drop, drop-take, length-append, length-replicate}
 use Rattle.std.proofs.lemmas.Nat.{from_le_bytes-to_le_bytes_4}
 use Rattle.dbus_types.specs.declared.types.Endian.TheVariants.{Little}
-use Rattle.dbus_types.specs.declared.types.WireType.{WireType}
 use Rattle.dbus_types.specs.declared.types.Value.{Value}
 use Rattle.dbus_types.specs.Values.{type_of}
-use Rattle.dbus_types.specs.Spells.{Spells, Members, number, gap}
+use Rattle.dbus_types.specs.Spells.{Members, number, gap}
+use Rattle.dbus_types.specs.Spelling.{spelling, spellings}
+use Rattle.dbus_types.proofs.OneSpelling.{spells_same}
 use Rattle.dbus_marshal.proofs.TakenFronts.{four, number_len}
 use Rattle.dbus_message.specs.Header.{number_at}
-use Rattle.dbus_message.specs.Content.{IsBody}
 use Rattle.dbus_message.specs.Written.{laid}
 use Rattle.dbus_message.proofs.Bodies.{Spelled}
 
--- What is to be written begins with these bytes, and the values that are left are spelled behind them.
-abbrev pub Left : List Value → List ℕ → List Value → Type 0
-Left body bytes left = (text : List ℕ) → IsBody Little (map type_of body) body text
-    → (rest : List ℕ) × (text ≡ bytes ++ rest) × Members (Spelled Little) (map type_of left) left (length bytes) rest
-
-pub left_start : (body : List Value) → Left body [] body
-left_start body text h = (text, refl, h)
-
-pub left_step : (body : List Value) (bytes new : List ℕ) (v : Value) (vs : List Value) → Left body bytes (v ∷ vs)
-    → ((kind : WireType) (text : List ℕ) → Spells Little (length bytes) kind v text → new ≡ bytes ++ text) → Left body new vs
-left_step body bytes new v vs a wrote text h =
-    let old = a text h in
-    let m = old.2 in
-    let is : new ≡ bytes ++ m.0 = wrote (type_of v) m.0 m.3 in
-    let len : length new ≡ length bytes + length m.0 = omega (arith, ap length is, length-append bytes m.0) in (
-      m.1,
-      old.1 ∙ (ap (λ (w : List ℕ). bytes ++ w) m.2 ∙ (sym (append_assoc bytes m.0 m.1) ∙ ap (λ (w : List ℕ). w ++ m.1) (sym is))),
-      subst (λ (k : ℕ). Members (Spelled Little) (map type_of vs) vs k m.1) (sym len) m.4,
-    )
-
-pub left_end : (body : List Value) (bytes : List ℕ) → Left body bytes [] → (text : List ℕ) → IsBody Little (map type_of body) body text → bytes ≡ text
-left_end body bytes a text h = let old = a text h in sym (old.1 ∙ (ap (λ (w : List ℕ). bytes ++ w) old.2 ∙ append-nil bytes))
+-- values spelled one after another are spelled so
+pub body_is : (vs : List Value) (at : ℕ) (text : List ℕ) → Members (Spelled Little) (map type_of vs) vs at text → text ≡ spellings Little at vs
+body_is [] at text h = h
+body_is (v ∷ vs) at text h =
+    let first : h.0 ≡ spelling Little at v = (spells_same 64 Little (type_of v) at v h.0 h.3).0 in
+    let rest : h.1 ≡ spellings Little (at + length h.0) vs = body_is vs (at + length h.0) h.1 h.4 in
+    h.2 ∙ (ap (λ (w : List ℕ). h.0 ++ w) rest ∙ ap (λ (w : List ℕ). w ++ spellings Little (at + length w) vs) first)
 
 pub all_zeros : (n : ℕ) → list_all (λ b. b == 0) (replicate n 0) ≡ true
 all_zeros zero = refl
@@ -109,27 +94,33 @@ whole_len k serial F B = omega (
   length-replicate {A = ℕ} (gap 8 (12 + length F)) 0,
 )
 
--- the parts of a message, put one behind another
+-- the four bytes that are put where the length of the body is to stand
+abbrev hole : List ℕ
+hole = 0 ∷ 0 ∷ 0 ∷ 0 ∷ []
+
+pub body_aligned : (d e : List ℕ) → e ≡ d ++ replicate (gap 8 (length d)) 0 → length e % 8 ≡ 0 % 8
+body_aligned d e t = omega (arith, ap length t, length-append d (replicate (gap 8 (length d)) 0), length-replicate {A = ℕ} (gap 8 (length d)) 0)
+
+-- the parts of a message, put one behind another, and then the length of the body
 module _ (k serial : ℕ) (T B : List ℕ) where
-  header_laid : (a b c : List ℕ) → a ≡ 108 ∷ k ∷ 1 ∷ 1 ∷ [] → b ≡ a ++ bits_of (length B) → c ≡ b ++ bits_of serial → c ≡ 108 ∷ k ∷ 1 ∷ 1 ∷ (bits_of (length B) ++ bits_of serial)
-  header_laid a b c p q r = r ∙ ap (λ (w : List ℕ). w ++ bits_of serial) (q ∙ ap (λ (w : List ℕ). w ++ bits_of (length B)) p)
+  header_laid : (a b c : List ℕ) → a ≡ 108 ∷ k ∷ 1 ∷ 1 ∷ [] → b ≡ a ++ hole → c ≡ b ++ bits_of serial → c ≡ 108 ∷ k ∷ 1 ∷ 1 ∷ 0 ∷ 0 ∷ 0 ∷ 0 ∷ bits_of serial
+  header_laid a b c p q r = r ∙ ap (λ (w : List ℕ). w ++ bits_of serial) (q ∙ ap (λ (w : List ℕ). w ++ hole) p)
 
-  pub header_len : (a b c : List ℕ) → a ≡ 108 ∷ k ∷ 1 ∷ 1 ∷ [] → b ≡ a ++ bits_of (length B) → c ≡ b ++ bits_of serial → length c ≡ 12
-  header_len a b c p q r = omega (
-    arith,
-    ap length (header_laid a b c p q r),
-    length-append (bits_of (length B)) (bits_of serial),
-    number_len Little four (length B),
-    number_len Little four serial,
-  )
+  pub header_len : (a b c : List ℕ) → a ≡ 108 ∷ k ∷ 1 ∷ 1 ∷ [] → b ≡ a ++ hole → c ≡ b ++ bits_of serial → length c ≡ 12
+  header_len a b c p q r = omega (arith, ap length (header_laid a b c p q r), number_len Little four serial)
 
-  regroup : (L S P : List ℕ) → (((L ++ S) ++ T) ++ P) ++ B ≡ L ++ (S ++ (T ++ (P ++ B)))
-  regroup L S P = simp append_assoc
+  regroup : (S P : List ℕ) → ((S ++ T) ++ P) ++ B ≡ S ++ (T ++ (P ++ B))
+  regroup S P = simp append_assoc
 
-  pub parts_laid : (a b c d e f : List ℕ) → a ≡ 108 ∷ k ∷ 1 ∷ 1 ∷ [] → b ≡ a ++ bits_of (length B) → c ≡ b ++ bits_of serial → d ≡ c ++ T → e ≡ d ++ replicate (gap 8 (length d)) 0 → f ≡ e ++ B → f ≡ laid k serial T B
-  parts_laid a b c d e f p q r s t u =
+  pub parts_laid : (a b c d e f g : List ℕ) (n : ℕ) → a ≡ 108 ∷ k ∷ 1 ∷ 1 ∷ [] → b ≡ a ++ hole → c ≡ b ++ bits_of serial → d ≡ c ++ T → e ≡ d ++ replicate (gap 8 (length d)) 0 → f ≡ e ++ B
+      → n ≡ length f - length e → g ≡ take 4 f ++ (bits_of n ++ drop 8 f) → g ≡ laid k serial T B
+  parts_laid a b c d e f g n p q r s t u size put =
       let len : length d ≡ 12 + length T = omega (arith, ap length s, length-append c T, header_len a b c p q r) in
-      let pads : e ≡ d ++ replicate (gap 8 (12 + length T)) 0 = t ∙ ap (λ (n : ℕ). d ++ replicate (gap 8 n) 0) len in
-      let head : d ≡ (108 ∷ k ∷ 1 ∷ 1 ∷ (bits_of (length B) ++ bits_of serial)) ++ T = s ∙ ap (λ (w : List ℕ). w ++ T) (header_laid a b c p q r) in
-      u ∙ (ap (λ (w : List ℕ). w ++ B) (pads ∙ ap (λ (w : List ℕ). w ++ replicate (gap 8 (12 + length T)) 0) head)
-      ∙ ap (λ (w : List ℕ). 108 ∷ k ∷ 1 ∷ 1 ∷ w) (regroup (bits_of (length B)) (bits_of serial) (replicate (gap 8 (12 + length T)) 0)))
+      let P : List ℕ = replicate (gap 8 (12 + length T)) 0 in
+      let pads : e ≡ d ++ P = t ∙ ap (λ (m : ℕ). d ++ replicate (gap 8 m) 0) len in
+      let head : d ≡ (108 ∷ k ∷ 1 ∷ 1 ∷ 0 ∷ 0 ∷ 0 ∷ 0 ∷ bits_of serial) ++ T = s ∙ ap (λ (w : List ℕ). w ++ T) (header_laid a b c p q r) in
+      let rest : List ℕ = bits_of serial ++ (T ++ (P ++ B)) in
+      let whole : f ≡ 108 ∷ k ∷ 1 ∷ 1 ∷ 0 ∷ 0 ∷ 0 ∷ 0 ∷ rest = u ∙ (ap (λ (w : List ℕ). w ++ B) (pads ∙ ap (λ (w : List ℕ). w ++ P) head)
+      ∙ ap (λ (w : List ℕ). 108 ∷ k ∷ 1 ∷ 1 ∷ 0 ∷ 0 ∷ 0 ∷ 0 ∷ w) (regroup (bits_of serial) P)) in
+      let count : n ≡ length B = omega (arith, size, ap length u, length-append e B) in
+      put ∙ (ap (λ (w : List ℕ). take 4 w ++ (bits_of n ++ drop 8 w)) whole ∙ ap (λ (m : ℕ). 108 ∷ k ∷ 1 ∷ 1 ∷ (bits_of m ++ rest)) count)

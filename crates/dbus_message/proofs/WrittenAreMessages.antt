@@ -114,14 +114,6 @@ can_spell out serial can = record {
 abbrev pub Gives : {E : Type 0} → OutMessage → ℕ → Result (List ℕ) E → Type 0
 Gives out serial r = (text : List ℕ) → IsWritten out serial text → IfOk r (λ bytes. bytes ≡ text)
 
--- the body of a message that may be written is short
-pub body_short : (out : OutMessage) (serial : ℕ) → CanWrite out serial → (body : List ℕ) → ((text : List ℕ) → IsBody Little (map type_of (body_out out)) (body_out out) text → body ≡ text) → length body < 2 ^ 32
-body_short out serial can body wrote =
-    let s = can_spell out serial can in
-    let w = s.written in
-    let same : body ≡ w.1 = wrote w.1 w.3 in
-    omega (arith, ap length same, ap length w.4, whole_len (kind_out out) serial w.0 w.1, s.short)
-
 pub parts_written : {E : Type 0} (r : Result (List ℕ) E) (out : OutMessage) (serial : ℕ) (body : List ℕ) → ((text : List ℕ) → IsBody Little (map type_of (body_out out)) (body_out out) text → body ≡ text)
     → ((text : List ℕ) → Spells Little 12 (W.Array field_type) (V.Array field_type (fields_out out)) text → IfOk r (λ bytes. bytes ≡ laid (kind_out out) serial text body)) → Gives out serial r
 parts_written (Ok bytes) out serial body wrote put text w = put w.0 w.2 ∙ (ap (λ (b : List ℕ). laid (kind_out out) serial w.0 b) (wrote w.1 w.3) ∙ sym w.4)

@@ -10,7 +10,7 @@ use Rattle.dbus_types.specs.Spells.{Spells}
 use Rattle.dbus_message.specs.declared.error.MessageError.{MessageError}
 use Rattle.dbus_message.specs.declared.error.MessageError.TheVariants.{Bad, Memory}
 use Rattle.dbus_message.specs.declared.content.Content.{Content}
-use Rattle.dbus_message.specs.Fields.{field_type}
+use Rattle.dbus_message.specs.Fields.{field_type, known}
 use Rattle.dbus_message.specs.Content.{IsBody, IsContent, IsSpelled, IsExplained}
 use Rattle.dbus_message.specs.Rules.{Checked}
 
@@ -21,10 +21,10 @@ FindsOne P Broken (Ok x) = P x × ((y : _) → P y → y ≡ x)
 FindsOne P Broken (Err (Bad rule)) = ((y : _) → P y → ⊥) × Broken rule
 FindsOne P Broken (Err Memory) = Unit {0}
 
--- the fields that the bytes from byte 12 on spell
+-- the fields with known codes among those that the bytes from byte 12 on spell
 abbrev pub IsReadFields : Endian → List ℕ → Result (List Value) MessageError → Type 0
-IsReadFields e bytes = FindsOne (λ fields.
-    Spells e 12 (W.Array field_type) (V.Array field_type fields) bytes) (λ rule. rule ≡ 6)
+IsReadFields e bytes = FindsOne (λ some. (fields : List Value) × (some ≡ known fields)
+    × Spells e 12 (W.Array field_type) (V.Array field_type fields) bytes) (λ rule. rule ≡ 6)
 
 -- the types of a signature
 abbrev pub IsReadTypes : List ℕ → Result (List WireType) MessageError → Type 0

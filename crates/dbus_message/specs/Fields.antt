@@ -8,8 +8,9 @@ use Rattle.dbus_types.specs.declared.types.Value.TheOpen.{Value-F}
 use Rattle.dbus_types.specs.Names.{is_interface_name, is_member_name}
 use Rattle.dbus_types.specs.Spells.{Spells}
 use Rattle.dbus_message.specs.Header.{endian_of, field_bytes}
+use Rattle.dbus_marshal.specs.Reads.{members_of, has_code_to}
 -- a field is `(yv)`: a byte that is its code, and its value in a variant
-pub use Rattle.dbus_marshal.specs.Reads.{field_type}
+pub use Rattle.dbus_marshal.specs.Reads.{field_type, field_code}
 
 -- ---- the codes of the table
 
@@ -45,29 +46,13 @@ abbrev pub AreFieldsOf : List ℕ → List Value → Type 0
 AreFieldsOf bytes fields = Spells (endian_of bytes) 12 (W.Array field_type)
     (V.Array field_type fields) (field_bytes bytes)
 
-abbrev pub members_of : Value-F Value → List Value
-members_of (Value-F.Struct vs) = vs
-members_of _ = []
-
-abbrev pub byte_of : Value-F Value → ℕ
-byte_of (Value-F.Byte n) = n
-byte_of _ = 0
-
 abbrev pub inner_of : Value-F Value → Option Value
 inner_of (Value-F.Variant v) = Some v
 inner_of _ = None
 
-abbrev pub first_of : List Value → ℕ
-first_of [] = 0
-first_of (v ∷ vs) = byte_of (out-Value v)
-
 abbrev pub second_of : List Value → Option Value
 second_of (v ∷ w ∷ []) = inner_of (out-Value w)
 second_of _ = None
-
--- the code of a field
-abbrev pub field_code : Value → ℕ
-field_code f = first_of (members_of (out-Value f))
 
 -- the value of a field
 abbrev pub field_value : Value → Option Value
@@ -126,6 +111,10 @@ is_once fields code = nat_le (length (filter (λ f. field_code f == code) fields
 abbrev pub known_codes : List ℕ
 known_codes = path_code ∷ interface_code ∷ member_code ∷ error_name_code ∷ reply_serial_code
     ∷ destination_code ∷ sender_code ∷ signature_code ∷ unix_fds_code ∷ []
+
+-- the fields whose codes aren't above those of the table
+abbrev pub known : List Value → List Value
+known fields = filter (has_code_to unix_fds_code) fields
 
 -- fields that the table allows, with no known code twice
 abbrev pub are_good : List Value → Bool

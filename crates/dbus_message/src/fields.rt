@@ -44,6 +44,10 @@ pub(crate) const SIGNATURE: u8 = 8;
 /// How many file descriptors come with the message.
 pub(crate) const UNIX_FDS: u8 = 9;
 
+/// The highest code of the table: fields of higher ones may hold any value, and
+/// nothing is read from them.
+pub(crate) const HIGHEST_CODE: u8 = UNIX_FDS;
+
 /// The code of a field.
 #[tactic(auto, using(crate::proofs::Tables::code_in_field))]
 pub(crate) fn field_code(field: &HeaderField) -> u8

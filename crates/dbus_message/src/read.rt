@@ -14,8 +14,8 @@ ghost use Rattle.dbus_message.specs.Messages.{SaysHeader, SaysFields, IsMessage,
 use crate::content::{Content, read_content};
 use crate::error::{MessageError, broken};
 use crate::fields::{
-    ERROR_NAME, INTERFACE, MEMBER, PATH, REPLY_SERIAL, SIGNATURE, UNIX_FDS, are_good, copy_of,
-    has_needed, number_of, text_of,
+    ERROR_NAME, HIGHEST_CODE, INTERFACE, MEMBER, PATH, REPLY_SERIAL, SIGNATURE, UNIX_FDS, are_good,
+    copy_of, has_needed, number_of, text_of,
 };
 use crate::header::{FIELDS_AT, SERIAL_AT, body_start, endian_of, fields_end, number_at};
 use crate::rule;
@@ -36,7 +36,8 @@ pub(crate) fn field_type(alloc: Global) -> Result<WireType, WantOfMemory>
     Ok(WireType::Struct(members))
 }
 
-/// The fields of a message, whose bytes are given up to the end of the fields.
+/// The fields of a message that have codes of the table, where its bytes are
+/// given up to the end of the fields. The values of others are only checked.
 fn read_fields(
     alloc: Global,
     endian: Endian,
@@ -45,7 +46,7 @@ fn read_fields(
     requires { 12 ≤ length bytes.now }
     ensures { IsReadFields endian (drop 12 bytes.now) result }
 {
-    match read_header(alloc, endian, bytes, FIELDS_AT) {
+    match read_header(alloc, endian, bytes, FIELDS_AT, HIGHEST_CODE) {
         Ok(read) => {
             if read.next < bytes.len() {
                 return Err(MessageError::Bad { rule: rule::FIELDS });

@@ -10,15 +10,15 @@ ghost use Rattle.dbus_types.specs.declared.types.Value.TheVariants as V;
 ghost use Rattle.dbus_types.specs.Types.{type_text, types_text};
 ghost use Rattle.dbus_types.specs.Values.{type_of as type_in};
 ghost use Rattle.dbus_types.specs.Spells.{Spells};
-ghost use Rattle.dbus_message.specs.Content.{IsBody};
+ghost use Rattle.dbus_types.specs.Spelling.{spellings};
 ghost use Rattle.dbus_message.specs.Fields.{field_type as type_of_field};
 ghost use Rattle.dbus_message.specs.Messages.{IsMessage};
 ghost use Rattle.dbus_message.specs.Written.{field as field_with, signature_field as signature_of, last_part as part_after, kind_out, body_out, return_fields as fields_of_return, fields_out, IsWritten, CanWrite, laid, stands_for};
 
 use crate::fields::{ERROR_NAME, INTERFACE, MEMBER, PATH, REPLY_SERIAL, SIGNATURE};
-use crate::header::{BODY_ALIGNMENT, LITTLE_ENDIAN, PROTOCOL_VERSION};
+use crate::header::{BODY_ALIGNMENT, BODY_LENGTH_AT, LITTLE_ENDIAN, PROTOCOL_VERSION};
 use crate::read::field_type;
-use dbus_marshal::write::{pad, write_value};
+use dbus_marshal::write::{overwrite_length, pad, write_all, write_value};
 use dbus_types::message::{ERROR, METHOD_RETURN, NO_REPLY_EXPECTED, OutMessage, SIGNAL};
 use dbus_types::shared::Shared;
 use dbus_types::types::Value;
@@ -107,18 +107,6 @@ fn fields_of(
     }
 }
 
-/// The spellings of values, one after another, from offset 0.
-fn body_bytes(alloc: Global, body: &[Value]) -> Result<ByteList, WantOfMemory>
-    ensures { (text : List ℕ) → IsBody Little (map type_in body.now) body.now text
-        → IfOk result (λ bytes. bytes ≡ text) }
-{
-    let mut bytes = List::new(alloc);
-    for value in body {
-        write_value(&mut bytes, value)?;
-    }
-    Ok(bytes)
-}
-
 fn kind_of(message: &OutMessage) -> u8
     ensures { result ≡ kind_out message.now }
 {
@@ -129,22 +117,22 @@ fn kind_of(message: &OutMessage) -> u8
     }
 }
 
-/// A message of these parts.
+/// A message of these parts. Its body is put behind its header, and then the
+/// body's length into the header.
 fn write_parts(
     alloc: Global,
     kind: u8,
     serial: u32,
     fields: List<Value>,
-    body: &[u8],
+    body: &[Value],
 ) -> Result<ByteList, WantOfMemory>
-    requires { length body.now < 2 ^ 32 }
     ensures { (text : List ℕ) → Spells Little 12 (W.Array type_of_field)
         (V.Array type_of_field fields) text
-        → IfOk result (λ bytes. bytes ≡ laid kind serial text body.now) }
+        → IfOk result (λ bytes. bytes ≡ laid kind serial text (spellings Little 0 body.now)) }
 {
     let mut bytes = List::new(alloc);
     bytes.extend_from_slice(&[LITTLE_ENDIAN, kind, NO_REPLY_EXPECTED, PROTOCOL_VERSION])?;
-    bytes.extend_from_slice(&(body.len() as u32).to_le_bytes())?;
+    bytes.extend_from_slice(&[0, 0, 0, 0])?;
     bytes.extend_from_slice(&serial.to_le_bytes())?;
     let fields = Value::Array {
         element: Shared::new(alloc, field_type(alloc)?)?,
@@ -152,7 +140,10 @@ fn write_parts(
     };
     write_value(&mut bytes, &fields)?;
     pad(&mut bytes, BODY_ALIGNMENT)?;
-    bytes.extend_from_slice(body)?;
+    let start = bytes.len();
+    write_all(&mut bytes, body)?;
+    let len = bytes.len() - start;
+    overwrite_length(&mut bytes, BODY_LENGTH_AT, len);
     Ok(bytes)
 }
 
@@ -163,14 +154,12 @@ fn write_with(
     body: &[Value],
     serial: u32,
 ) -> Result<ByteList, WantOfMemory>
-    requires body { body.now ≡ body_out message.now }
-    requires can { CanWrite message.now serial }
+    requires { body.now ≡ body_out message.now }
     ensures { (text : List ℕ) → IsWritten message.now serial text
         → IfOk result (λ bytes. bytes ≡ text) }
 {
     let fields = fields_of(alloc, message, body)?;
-    let body = body_bytes(alloc, body)?;
-    write_parts(alloc, kind_of(message), serial, fields, body.as_slice())
+    write_parts(alloc, kind_of(message), serial, fields, body)
 }
 
 /// Writes a message with a serial: with the lowest byte of each number first,

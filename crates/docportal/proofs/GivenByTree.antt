@@ -4,7 +4,6 @@ use Rattle.portal_model.specs.declared.entry.Entry.{Entry}
 use Rattle.portal_model.specs.declared.entry.Given.{Given}
 use Rattle.portal_model.specs.declared.request.Request.{Request}
 use Rattle.portal_model.specs.History.{EachLawful, run}
-use Rattle.portal_model.specs.Built.{Built}
 use Rattle.portal_model.specs.Lawful.{Lawful, LawfulGiven}
 use Rattle.portal_model.specs.State.{State, connection_of}
 use Rattle.portal_model.specs.Step.{after, mount_of}
@@ -15,7 +14,7 @@ use Rattle.script_form.specs.Outside.{Outside}
 use Rattle.session.specs.Asked.{asked_by, collect_requests, requests_of}
 use Rattle.session.specs.declared.act.Act.{Act}
 use Rattle.session.specs.declared.act.Act.TheVariants.{Nothing, Line, Call, Node, Local}
-use Rattle.session.proofs.ItemsBuilt.{AllBuilt}
+use Rattle.session.proofs.ItemsBuilt.{AllBuilt, IsAsked}
 use Rattle.docportal.specs.Entries.{entries_for, entry_for, outside_past}
 use Rattle.docportal.proofs.NodeGiven.{given_node, node_given}
 
@@ -50,12 +49,11 @@ pub acts_callers : (acts : List Act) → NameCallers (requests_of acts)
 acts_callers [] = tt
 acts_callers (act ∷ acts) = callers-append (asked_by act) (requests_of acts) (act_callers act) (acts_callers acts)
 
-entry_lawful : (s : State) (o : Outside) (seat : ℕ) (request : Request) → Built request → NamesCaller request → Lawful s (entry_for s o seat request)
-entry_lawful s o seat (Request.Enter who kind) b n = record { defined = refl; given = (n, refl) }
-entry_lawful s o seat Request.Leave b n = record { defined = refl; given = refl }
-entry_lawful s o seat Request.Collect b n = record { defined = refl; given = refl }
+entry_lawful : (s : State) (o : Outside) (seat : ℕ) (request : Request) → IsAsked request → NamesCaller request → Lawful s (entry_for s o seat request)
+entry_lawful s o seat (Request.Enter who kind) b n = record { given = (n, refl) }
+entry_lawful s o seat Request.Leave b n = record { given = refl }
+entry_lawful s o seat Request.Collect b n = record { given = refl }
 entry_lawful s o seat (Request.Node r) b n = record {
-  defined = refl;
   given = given_node s r o.tree (mount_of (connection_of s.connections seat)) b;
 }
 entry_lawful s o seat request b n = absurd b
@@ -71,7 +69,7 @@ abbrev entry : ℕ → Request → Given → Entry
 entry seat request given = record { seat = seat; request = request; given = given }
 
 -- what is lawful for a request that has a body is what the tree gives, where its calls are told
-lawful_given : (s : State) (o : Outside) (seat : ℕ) (request : Request) (g : Given) → Built request → s.told ≡ true → CallsAsTold (Some o.tree) g.looks g.fault → LawfulGiven s seat request g
+lawful_given : (s : State) (o : Outside) (seat : ℕ) (request : Request) (g : Given) → IsAsked request → s.told ≡ true → CallsAsTold (Some o.tree) g.looks g.fault → LawfulGiven s seat request g
     → g ≡ (entry_for s o seat request).given
 lawful_given s o seat (Request.Enter who kind) g b t c l = l.1
 lawful_given s o seat Request.Leave g b t c l = l
@@ -80,7 +78,7 @@ lawful_given s o seat (Request.Node r) g b t c l = node_given s r g (mount_of (c
 lawful_given s o seat request g b t c l = absurd b
 
 -- a lawful entry is the one that the tree gives
-pub lawful_is : (s : State) (o : Outside) (e : Entry) (seat : ℕ) (request : Request) → Built request → s.told ≡ true → e.seat ≡ seat → e.request ≡ request → CallsAsTold (Some o.tree) e.given.looks e.given.fault → Lawful s e
+pub lawful_is : (s : State) (o : Outside) (e : Entry) (seat : ℕ) (request : Request) → IsAsked request → s.told ≡ true → e.seat ≡ seat → e.request ≡ request → CallsAsTold (Some o.tree) e.given.looks e.given.fault → Lawful s e
     → e ≡ entry_for s o seat request
 lawful_is s o e seat request b t se re c l =
     let lawful : LawfulGiven s seat request e.given = subst (λ (n : ℕ). LawfulGiven s n request e.given) se (subst (λ (r : Request). LawfulGiven s e.seat r e.given) re l.given) in

@@ -38,7 +38,7 @@ none_denied : (n count : ℕ) → count ≡ 0 → count ≡ rises_by 0 n → n �
 none_denied n count c e = omega arith
 
 -- what was taken of a rest and a piece, at such a desk
-module _ (p q : ScriptPortal) (seat count : ℕ) (at now : Standing) (bytes : List ℕ) (sink sink' : SinkState) (empty : sink.pieces ≡ []) (same : state_first q.story ≡ state_first p.story) (own : Alone seat p q) (legal : Legal (state_first q.story) q.story.history) (none : count ≡ 0) (told : (state_first p.story).told ≡ true) where
+module _ (p q : ScriptPortal) (seat count : ℕ) (at now : Standing) (bytes : List ℕ) (sink sink' : SinkState) (empty : sink.pieces ≡ []) (same : state_first q.story ≡ state_first p.story) (own : Alone seat count p q) (legal : Legal (state_first q.story) q.story.history) (none : count ≡ 0) (told : (state_first p.story).told ≡ true) where
   cut_taken : (what : Stop) → (t : TakesUpTo what at (sunk (known_at p seat 0) sink) bytes now (sunk (known_at q seat count) sink')) → Items at.client at.stage.phase (at.rest ++ bytes) t.did.items t.did.acts now.rest what
   cut_taken what t = record {
     bytes = t.bytes ∙ ap (λ (z : List ℕ). z ++ now.rest) t.did.bytes_are;
@@ -53,7 +53,7 @@ module _ (p q : ScriptPortal) (seat count : ℕ) (at now : Standing) (bytes : Li
       let rs = requests_of d.acts in
       let mine : exchanges seat s q.story.history ≡ exchanges seat s p.story.history ++ kept d.outcomes = sym (ap (λ (z : State). exchanges seat z q.story.history) same) ∙ told_alike _ _ d.outcomes d.grows.desk told in
       let fewest : denied d.outcomes ≡ 0 = none_denied (denied d.outcomes) count none d.grows.desk.refusals in
-      let made = asked_alone p q seat (subst (λ (z : State). Legal z q.story.history) same legal) own rs d.outcomes (items_built d.items at.client at.stage.phase d.acts d.each) told mine fewest (answer_asked.items at.stage.serial now.stage.serial d.acts d.outcomes d.pieces d.answers) in
+      let made = asked_alone p q seat count (subst (λ (z : State). Legal z q.story.history) same legal) own none rs d.outcomes (items_built d.items at.client at.stage.phase d.acts d.each) told mine fewest (answer_asked.items at.stage.serial now.stage.serial d.acts d.outcomes d.pieces d.answers) in
       let pieces : sink'.pieces ≡ d.pieces = some_is _ _ d.grows.told ∙ ap (λ (z : List (List ℕ)). z ++ d.pieces) empty in
       let answers : Answers at.stage.serial d.acts (made_for (state_now p.story) (outside_at p) seat rs) sink'.pieces now.stage.serial =
       subst (λ (z : List (List ℕ)). Answers at.stage.serial d.acts (made_for (state_now p.story) (outside_at p) seat rs) z now.stage.serial) (sym pieces)

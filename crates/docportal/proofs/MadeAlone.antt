@@ -9,27 +9,28 @@ use Rattle.host_tree.specs.Devices.{tree_of}
 use Rattle.host_tree.specs.Trees.{TreeIs}
 use Rattle.portal_base.specs.Calls.{Calls, next_call}
 use Rattle.portal_base.specs.declared.files.Look.{Look}
-use Rattle.portal_core.specs.Answered.{Went}
-use Rattle.portal_core.specs.Chain.{Chain, answered}
+use Rattle.portal_core.specs.Answered.{Spends, Went}
+use Rattle.portal_core.specs.Chain.{Chain, answered, refused}
+use Rattle.portal_core.specs.Devices.{may_change_records, may_draw}
 use Rattle.portal_core.specs.Story.{state_first, state_now}
 use Rattle.portal_core.specs.TreeCalls.{after_fault, after_looks, after_one}
 use Rattle.portal_model.specs.declared.entry.Fault.{Fault}
 use Rattle.portal_model.specs.declared.entry.Fault.TheVariants as Fault
-use Rattle.record_keeper.specs.Devices.{KeeperState}
+use Rattle.record_keeper.specs.Devices.{KeeperState, keeper_of}
 use Rattle.script_form.specs.Outside.{Outside}
 use Rattle.docportal.specs.Scenes.{ScriptPortal, outside_at}
-use Rattle.docportal.specs.Seats.{Alone, Asked}
+use Rattle.docportal.specs.Seats.{Alone, Asked, words_of}
 use Rattle.portal_model.specs.declared.entry.Entry.{Entry}
 use Rattle.portal_model.specs.declared.request.Request.{Request}
 use Rattle.portal_model.specs.History.{EachLawful, Legal, run}
-use Rattle.portal_model.specs.Seated.{Exchange, exchange, exchanges}
+use Rattle.portal_model.specs.Seated.{Exchange, exchange, exchanges, rises_by}
 use Rattle.portal_model.specs.State.{State}
 use Rattle.portal_model.specs.Step.{after}
 use Rattle.portal_model.proofs.Histories.{Legal-rest}
 use Rattle.portal_model.proofs.SeatLaws.{exchanges-append}
 use Rattle.portal_model.proofs.StaysTold.{step_told}
 use Rattle.session.specs.Answers.{AreOf, Denied, IsOf, Made, Outcome, denied, kept}
-use Rattle.session.proofs.ItemsBuilt.{AllBuilt}
+use Rattle.session.proofs.ItemsBuilt.{AllBuilt, IsAsked}
 use Rattle.docportal.specs.Entries.{calls_past, entries_for, entry_for, made_for, outside_after, outside_past}
 use Rattle.docportal.proofs.GivenByTree.{lawful_is, run_told}
 
@@ -37,7 +38,7 @@ abbrev IsOwn : ℕ → Entry → Type 0
 IsOwn seat e = e.seat ≡ seat
 
 abbrev Goes : ScriptPortal → List (Option Entry) → ScriptPortal → Type 0
-Goes = Chain (Went tree_of) (λ (p q : ScriptPortal). q ≡ p)
+Goes = Chain (Went tree_of keeper_of words_of) (Spends keeper_of)
 
 -- ---- what the devices go through
 
@@ -53,14 +54,30 @@ some_is x y e = cc
 abbrev outside : List ℕ → ℕ → Calls → Calls → Outside
 outside words clock tree keeper = record { words = words; clock = clock; tree = tree; keeper = keeper }
 
-went_past : (a m : ScriptPortal) (e : Entry) → Went tree_of a e m → outside_at m ≡ outside_past (outside_at a) e
-went_past a m e w =
+-- what a session asks may change no record
+unkept : (request : Request) → IsAsked request → may_change_records request ≡ false
+unkept (Request.Enter who kind) h = refl
+unkept Request.Leave h = refl
+unkept Request.Collect h = refl
+unkept (Request.Node r) h = refl
+unkept request h = absurd h
+
+-- and draws no word
+undrawn : (request : Request) → IsAsked request → may_draw request ≡ false
+undrawn (Request.Enter who kind) h = refl
+undrawn Request.Leave h = refl
+undrawn Request.Collect h = refl
+undrawn (Request.Node r) h = refl
+undrawn request h = absurd h
+
+went_past : (a m : ScriptPortal) (e : Entry) → IsAsked e.request → Went tree_of keeper_of words_of a e m → outside_at m ≡ outside_past (outside_at a) e
+went_past a m e built w =
     let calls : m.tree.count.calls ≡ calls_past a.tree.count.calls e.given.looks e.given.fault =
     some_is _ _ (ap (λ (t : TreeIs). t.calls) w.tree.goes ∙ calls_go e.given.looks e.given.fault (tree_of a.tree) a.tree.count.calls refl) in
-    ap (λ (z : List ℕ). outside z m.clock m.tree.count.calls m.keeper.count.calls) w.words
+    ap (λ (z : List ℕ). outside z m.clock m.tree.count.calls m.keeper.count.calls) (w.undrawn (undrawn e.request built))
     ∙ (ap (λ (z : ℕ). outside a.words z m.tree.count.calls m.keeper.count.calls) w.clock
     ∙ (ap (λ (z : Calls). outside a.words a.clock z m.keeper.count.calls) calls
-    ∙ ap (λ (z : KeeperState). outside a.words a.clock (calls_past a.tree.count.calls e.given.looks e.given.fault) z.count.calls) w.keeper))
+    ∙ ap (λ (z : KeeperState). outside a.words a.clock (calls_past a.tree.count.calls e.given.looks e.given.fault) z.count.calls) (w.unkept (unkept e.request built)).1))
 
 -- ---- what was asked
 
@@ -97,23 +114,23 @@ record AreMade (s : State) (a b : ScriptPortal) (seat : ℕ) (rs : List Request)
   pub outcomes_are : outcomes ≡ made_for s (outside_at a) seat rs
   pub goes : outside_at b ≡ outside_after (outside_at a) (entries_for s (outside_at a) seat rs)
 
-made_are : (asked : List (Option Entry)) (rs : List Request) (outcomes : List Outcome) (s : State) (a b : ScriptPortal) (seat : ℕ) → AllBuilt rs → s.told ≡ true → All (IsOwn seat) (answered asked) → EachLawful s (answered asked)
+made_are : (asked : List (Option Entry)) (rs : List Request) (outcomes : List Outcome) (s : State) (a b : ScriptPortal) (seat : ℕ) → refused asked ≡ 0 → AllBuilt rs → s.told ≡ true → All (IsOwn seat) (answered asked) → EachLawful s (answered asked)
     → Goes a asked b → exchanges seat s (answered asked) ≡ kept outcomes → denied outcomes ≡ 0 → AreOf rs outcomes → AreMade s a b seat rs (answered asked) outcomes
-made_are [] [] outcomes s a b seat built told own lawful chain same none of = record { entries = refl; outcomes_are = of; goes = ap outside_at chain }
-made_are [] (r ∷ rs) outcomes s a b seat built told own lawful chain same none of =
+made_are [] [] outcomes s a b seat counted built told own lawful chain same none of = record { entries = refl; outcomes_are = of; goes = ap outside_at chain }
+made_are [] (r ∷ rs) outcomes s a b seat counted built told own lawful chain same none of =
     absurd (none_made of.0 of.1 (same ∙ ap kept of.2) (sym (ap denied of.2) ∙ none))
-made_are (None ∷ asked) rs outcomes s a b seat built told own lawful chain same none of =
-    made_are asked rs outcomes s a b seat built told own lawful (subst (λ (z : ScriptPortal). Goes z asked b) chain.1 chain.2) same none of
-made_are (Some e ∷ asked) [] outcomes s a b seat built told own lawful chain same none of =
+made_are (None ∷ asked) rs outcomes s a b seat counted built told own lawful chain same none of =
+    absurd (omega arith)
+made_are (Some e ∷ asked) [] outcomes s a b seat counted built told own lawful chain same none of =
     absurd (not_nothing (exchange s e) (exchanges seat (after s e) (answered asked)) (sym (own_first seat s e (answered asked) (own 0 e (omega arith))) ∙ (same ∙ ap kept of)))
-made_are (Some e ∷ asked) (r ∷ rs) outcomes s a b seat built told own lawful chain same none of =
+made_are (Some e ∷ asked) (r ∷ rs) outcomes s a b seat counted built told own lawful chain same none of =
     let o = outside_at a in
     let here = own 0 e (omega arith) in
     let one = first_made of.0 of.1 (exchange s e) (exchanges seat (after s e) (answered asked)) (sym (own_first seat s e (answered asked) here) ∙ (same ∙ ap kept of.2)) (sym (ap denied of.2) ∙ none) in
     let request : e.request ≡ r = subst (λ (x : Outcome). IsOf r x) one.0 of.3 in
     let is : e ≡ entry_for s o seat r = lawful_is s o e seat r built.0 told here request chain.1.tree.fails lawful.0 in
-    let past : outside_at chain.0 ≡ outside_past o e = went_past a chain.0 e chain.1 in
-    let rest = made_are asked rs of.1 (after s e) chain.0 b seat built.1 (step_told s e.seat e.request e.given ∙ told) (more_own seat e (answered asked) own) lawful.1 chain.2 one.1 one.2 of.4 in
+    let past : outside_at chain.0 ≡ outside_past o e = went_past a chain.0 e (subst IsAsked (sym request) built.0) chain.1 in
+    let rest = made_are asked rs of.1 (after s e) chain.0 b seat counted built.1 (step_told s e.seat e.request e.given ∙ told) (more_own seat e (answered asked) own) lawful.1 chain.2 one.1 one.2 of.4 in
     record {
       entries = ap (λ (l : List Entry). e ∷ l) (rest.entries ∙ ap (λ (z : Outside). entries_for (after s e) z seat rs) past)
           ∙ ap (λ (x : Entry). x ∷ entries_for (after s x) (outside_past o x) seat rs) is;
@@ -125,7 +142,10 @@ made_are (Some e ∷ asked) (r ∷ rs) outcomes s a b seat built told own lawful
     }
 
 -- what is new in the history of a portal that a seat has alone
-module _ (p q : ScriptPortal) (seat : ℕ) (legal : Legal (state_first p.story) q.story.history) (g : Alone seat p q) where
+none_refused : (n count : ℕ) → count ≡ 0 → count ≡ rises_by 0 n → n ≡ 0
+none_refused n count c e = omega arith
+
+module _ (p q : ScriptPortal) (seat count : ℕ) (legal : Legal (state_first p.story) q.story.history) (g : Alone seat count p q) where
   abbrev s : State
   s = state_first p.story
 
@@ -137,10 +157,10 @@ module _ (p q : ScriptPortal) (seat : ℕ) (legal : Legal (state_first p.story) 
   more_lawful = (Legal-rest p.story.history (answered g.asked) s (subst (Legal s) g.grows.grown legal)).lawful
 
   -- none was refused: the entries are those that the outside gives
-  pub asked_alone : (rs : List Request) (outcomes : List Outcome) → AllBuilt rs → (state_first p.story).told ≡ true → exchanges seat s q.story.history ≡ exchanges seat s p.story.history ++ kept outcomes → denied outcomes ≡ 0 → AreOf rs outcomes
+  pub asked_alone : count ≡ 0 → (rs : List Request) (outcomes : List Outcome) → AllBuilt rs → (state_first p.story).told ≡ true → exchanges seat s q.story.history ≡ exchanges seat s p.story.history ++ kept outcomes → denied outcomes ≡ 0 → AreOf rs outcomes
       → Asked p q seat rs × (outcomes ≡ made_for (state_now p.story) (outside_at p) seat rs)
-  asked_alone rs outcomes built told mine none of =
-      let made = made_are g.asked rs outcomes (run s p.story.history) p q seat built (run_told p.story.history s ∙ told) g.grows.own more_lawful g.chain (more_exchanges (kept outcomes) mine) none of in (
+  asked_alone zero_count rs outcomes built told mine none of =
+      let made = made_are g.asked rs outcomes (run s p.story.history) p q seat (none_refused (refused g.asked) count zero_count g.count) built (run_told p.story.history s ∙ told) g.grows.own more_lawful g.chain (more_exchanges (kept outcomes) mine) none of in (
         record {
           history = g.grows.grown ∙ ap (λ (l : List Entry). p.story.history ++ l) made.entries;
           outside = made.goes;

@@ -1,4 +1,4 @@
--- What a tree that tells its calls gives to a GETATTR of a document's file in the caller's own view.
+-- What a tree that tells its calls gives to a GETATTR.
 use Rattle.std.proofs.Common.{◌≡◌, ◌==◌, ◌&&◌, ℕ, List, [], ◌∷◌, Bool, true, false, cond, Option, Some, None, is_some, refl, sym, ap, subst, ◌∙◌}
 use Rattle.portal_base.specs.Calls.{Calls, is_to_fail, next_call}
 use Rattle.portal_base.specs.Content.{file_named, is_named}
@@ -10,34 +10,49 @@ use Rattle.portal_base.specs.declared.names.doc_id.DocId.{DocId}
 use Rattle.portal_model.specs.declared.entry.Fault.{Fault}
 use Rattle.portal_model.specs.declared.entry.Fault.TheVariants as Fault
 use Rattle.portal_model.specs.declared.entry.Given.{Given}
+use Rattle.portal_model.specs.declared.handle.Handle.{Handle}
 use Rattle.portal_model.specs.declared.request.NodeOp.{NodeOp}
 use Rattle.portal_model.specs.declared.request.NodeRequest.{NodeRequest}
 use Rattle.portal_model.specs.declared.state.Connection.{Connection}
+use Rattle.portal_model.specs.Attributes.{on_node}
 use Rattle.portal_model.specs.Built.{BuiltOp}
 use Rattle.portal_model.specs.Bus.{is_tree}
-use Rattle.portal_model.specs.GetAttr.{get_attr_by_place, tells_file}
+use Rattle.portal_model.specs.GetAttr.{get_attr_by_handle, get_attr_by_place, names_handle, tells_file}
 use Rattle.portal_model.specs.Lawful.{LawfulOnNode}
-use Rattle.portal_model.specs.Node.{facts_of, walk_on_node}
+use Rattle.portal_model.specs.Node.{facts_of, node_walk, walk_on_node}
 use Rattle.portal_model.specs.NodeVerdict.{NodeVerdict, if_file}
 use Rattle.portal_model.specs.Outside.{files_told}
 use Rattle.portal_model.specs.Place.{Sight, SightOfFile, SightOfFolder, place_of}
-use Rattle.portal_model.specs.State.{State}
+use Rattle.portal_model.specs.State.{State, handle_of}
 use Rattle.portal_model.specs.Step.{all_told, node_looks}
 use Rattle.portal_model.specs.Walk.{Walk, Answers, Looks, Ends, LastCall, Target, AtPath, Named, Gives, IsShown, MayShow, is_found, look_of_file, looks_shown, reads_clock, shown_at}
 use Rattle.portal_model.proofs.ListLookups.{found_passes, nat_is}
-use Rattle.portal_model.proofs.OwnFiles.{attr-clock, attr-walk}
+use Rattle.portal_model.proofs.OwnFiles.{attr-clock}
 use Rattle.portal_core.specs.TreeCalls.{CallsAsTold}
 use Rattle.docportal.specs.Entries.{fault_met, looks_ahead}
 
 -- ---- its walk
 
-walk_is : (t : State) (c : Connection) (r : NodeRequest) (op : NodeOp) → r.op ≡ op → BuiltOp r.node op → walk_on_node t c r ≡ get_attr_by_place r (place_of t c.who r.node)
-walk_is t c r (NodeOp.GetAttr flags fh) k b = attr-walk (facts_of t c r.node) r flags fh k b.0
-walk_is t c r op k b = absurd b
-
 -- it reads no clock
+handle_clock : (r : NodeRequest) (sight : Option Sight) (handle : Option Handle) (looks : List Look) → reads_clock (get_attr_by_handle r sight handle) looks ≡ false
+handle_clock r sight None looks = refl
+handle_clock r sight (Some (Handle.File name node read write)) [] = refl
+handle_clock r sight (Some (Handle.File name node read write)) (Look.File g n m ∷ looks) = refl
+handle_clock r sight (Some (Handle.File name node read write)) (Look.Folder ∷ looks) = refl
+handle_clock r sight (Some (Handle.File name node read write)) (Look.Missing ∷ looks) = refl
+handle_clock r sight (Some (Handle.Folder node names)) looks = attr-clock r sight looks
+
+attr_clock : (r : NodeRequest) (by_handle : Bool) (sight : Option Sight) (handle : Option Handle) (looks : List Look) → reads_clock (cond by_handle (get_attr_by_handle r sight handle) (get_attr_by_place r sight)) looks ≡ false
+attr_clock r true sight handle looks = handle_clock r sight handle looks
+attr_clock r false sight handle looks = attr-clock r sight looks
+
+clock_of : (t : State) (c : Connection) (r : NodeRequest) (op : NodeOp) (looks : List Look) → r.op ≡ op → BuiltOp r.node op → reads_clock (walk_on_node t c r) looks ≡ false
+clock_of t c r (NodeOp.GetAttr flags fh) looks k b =
+    ap (λ (op : NodeOp). reads_clock (node_walk (facts_of t c r.node) r op) looks) k ∙ attr_clock r (names_handle flags) (place_of t c.who r.node) (handle_of t.handles c.seat fh) looks
+clock_of t c r op looks k b = absurd b
+
 clock_by : (t : State) (c : Connection) (r : NodeRequest) (looks : List Look) → BuiltOp r.node r.op → reads_clock (walk_on_node t c r) looks ≡ false
-clock_by t c r looks b = ap (λ (w : Walk NodeVerdict). reads_clock w looks) (walk_is t c r r.op refl b) ∙ attr-clock r (place_of t c.who r.node) looks
+clock_by t c r looks b = clock_of t c r r.op looks refl b
 
 -- and ends with no call that needs or makes a file
 abbrev EndsNot : {X : Type 0} → Walk X → Type 0
@@ -50,10 +65,24 @@ file_ends_not r w (Look.File g n m) = tt
 file_ends_not r w Look.Folder = tt
 file_ends_not r w Look.Missing = tt
 
-attr_ends_not : (r : NodeRequest) (sight : Option Sight) → EndsNot (get_attr_by_place r sight)
-attr_ends_not r None = tt
-attr_ends_not r (Some (SightOfFile path w)) = λ look. file_ends_not r w look
-attr_ends_not r (Some (SightOfFolder folder)) = tt
+place_ends_not : (r : NodeRequest) (sight : Option Sight) → EndsNot (get_attr_by_place r sight)
+place_ends_not r None = tt
+place_ends_not r (Some (SightOfFile path w)) = λ look. file_ends_not r w look
+place_ends_not r (Some (SightOfFolder folder)) = tt
+
+handle_ends_not : (r : NodeRequest) (sight : Option Sight) (handle : Option Handle) → EndsNot (get_attr_by_handle r sight handle)
+handle_ends_not r sight None = tt
+handle_ends_not r sight (Some (Handle.File name node read write)) = λ look. file_ends_not (on_node r node) write look
+handle_ends_not r sight (Some (Handle.Folder node names)) = place_ends_not r sight
+
+attr_ends_not : (r : NodeRequest) (by_handle : Bool) (sight : Option Sight) (handle : Option Handle) → EndsNot (cond by_handle (get_attr_by_handle r sight handle) (get_attr_by_place r sight))
+attr_ends_not r true sight handle = handle_ends_not r sight handle
+attr_ends_not r false sight handle = place_ends_not r sight
+
+ends_not : (t : State) (c : Connection) (r : NodeRequest) (op : NodeOp) → r.op ≡ op → BuiltOp r.node op → EndsNot (walk_on_node t c r)
+ends_not t c r (NodeOp.GetAttr flags fh) k b =
+    subst (λ (op : NodeOp). EndsNot (node_walk (facts_of t c r.node) r op)) (sym k) (attr_ends_not r (names_handle flags) (place_of t c.who r.node) (handle_of t.handles c.seat fh))
+ends_not t c r op k b = absurd b
 
 -- ---- what a tree that tells shows, one that doesn't may show
 
@@ -188,7 +217,7 @@ node_given s r g None calls b t c l = l
 node_given s r g (Some d) calls b t c l =
     let at = all_told d.seat s in
     let w = walk_on_node at d r in
-    let ends : EndsNot w = subst EndsNot (sym (walk_is at d r r.op refl b)) (attr_ends_not r (place_of at d.who r.node)) in
+    let ends : EndsNot w = ends_not at d r r.op refl b in
     let told : files_told at ≡ Some s.files = ap (λ (x : Bool). cond x (Some s.files) None) t in
     let gives : Gives (Some s.files) w g.looks (is_tree g.fault) = subst (λ (files : Option (List File)). Gives files w g.looks (is_tree g.fault)) told l.looks in
     let ahead = are_ahead s.files w g.looks g.fault calls ends l.keeper gives c in

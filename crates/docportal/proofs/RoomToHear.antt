@@ -87,7 +87,7 @@ fed_costs fed.Memory s v piece t w (inr (inl k, holds), keeps, room) =
     did_costs s.client s.stage k.mid v w k.front (length (s.rest ++ piece)) (omega (arith, bytes, length-append k.front k.after)) k.did
 fed_costs fed.Memory s v piece t w (inr (inr k, holds), keeps, room) = broke_costs s.client s.stage v w (s.rest ++ piece) k.0
 
-pub unfilled_at : (p q : ScriptPortal) (seat refusals : ℕ) (at now : Standing) (bytes : List ℕ) (sink sink' : SinkState) (r : Fed) → Alone seat p q → at.fed ≡ fed.More
+pub unfilled_at : (p q : ScriptPortal) (seat refusals : ℕ) (at now : Standing) (bytes : List ℕ) (sink sink' : SinkState) (r : Fed) → Alone seat refusals p q → at.fed ≡ fed.More
     → cost p.story.history + 8 * length (at.rest ++ bytes) ≤ limit_of p.story → Feeds at.fed at (sunk (known_at p seat 0) sink) bytes r now (sunk (known_at q seat refusals) sink') → Unfilled p q seat at bytes now refusals
 unfilled_at p q seat refusals at now bytes sink sink' r own goes room feeds =
     let v = sunk (known_at p seat 0) sink in

@@ -4,14 +4,15 @@ use Rattle.std.specs.Prelude.{Option, Some}
 use Rattle.std.proofs.Common.{inl, inr}
 use Rattle.portal_base.specs.Devices.{SinkState}
 use Rattle.host_tree.specs.Devices.{tree_of}
-use Rattle.portal_core.specs.Answered.{Went}
-use Rattle.portal_core.specs.Chain.{Chain}
+use Rattle.portal_core.specs.Answered.{Spends, Went}
+use Rattle.portal_core.specs.Chain.{Chain, refused}
 use Rattle.portal_core.specs.Lending.{GrowsByOwn, seated_at}
 use Rattle.portal_core.specs.Story.{state_first, state_now}
 use Rattle.portal_model.specs.declared.entry.Entry.{Entry}
 use Rattle.portal_model.specs.declared.request.Request.{Request}
 use Rattle.portal_model.specs.History.{cost}
-use Rattle.portal_model.specs.Seated.{Seated}
+use Rattle.portal_model.specs.Seated.{Seated, rises_by}
+use Rattle.record_keeper.specs.Devices.{keeper_of}
 use Rattle.session.specs.declared.served.Fed.{Fed}
 use Rattle.session.specs.declared.served.Fed.TheVariants as fed
 use Rattle.session.specs.declared.served.Stop.{Stop}
@@ -37,12 +38,17 @@ known_at p seat refusals = seated_at (state_first p.story) p.story.history seat 
 abbrev pub sunk : Seated → SinkState → World
 sunk d sink = world d (Some sink.pieces) sink.faults
 
--- only this seat asked: its entries are new in the history, and of each of them, one after another,
--- the portal says what its devices went through
-pub record Alone (seat : ℕ) (old new : ScriptPortal) : Type 0 where
+-- the words to come
+abbrev pub words_of : List ℕ → Option (List ℕ)
+words_of words = Some words
+
+-- only this seat asked, and so many of its requests were refused: its entries are new in the
+-- history, and of each of them, one after another, the portal says what its devices went through
+pub record Alone (seat refusals : ℕ) (old new : ScriptPortal) : Type 0 where
   pub asked : List (Option Entry)
   pub grows : GrowsByOwn seat asked old.story.history new.story.history
-  pub chain : Chain (Went tree_of) (λ p q. q ≡ p) old asked new
+  pub count : refusals ≡ rises_by 0 (refused asked)
+  pub chain : Chain (Went tree_of keeper_of words_of) (Spends keeper_of) old asked new
 
 -- these requests of a seat, and no others, are new in the history, and the devices went through
 -- them

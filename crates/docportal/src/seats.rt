@@ -72,9 +72,9 @@ fn begin_at(
     requires seat { 1 ≤ seat }
     requires closed { is_open (state_now portal.old.story) seat ≡ false }
     ensures opening { state_first portal.new.story ≡ state_first portal.old.story }
-    ensures own { Alone seat portal.old portal.new }
     ensures legal { Legal (state_first portal.new.story) portal.new.story.history }
-    ensures opens { (count : ℕ) × Opens (client who.now kind settings.now)
+    ensures opens { (count : ℕ) × Alone seat count portal.old portal.new
+        × Opens (client who.now kind settings.now)
         (known_at portal.old seat 0) result (known_at portal.new seat count) }
 {
     let mut desk = LocalDesk::new(portal, seat);
@@ -105,7 +105,7 @@ fn feed(
     ensures opening { state_first portal.new.story ≡ state_first portal.old.story }
     ensures stays_open { bound (state_now portal.old.story) seat ≡ Some (binding session.old)
         → bound (state_now portal.new.story) seat ≡ Some (binding session.old) }
-    ensures own { Alone seat portal.old portal.new }
+    ensures own { Alone seat result.refusals portal.old portal.new }
     ensures legal { Legal (state_first portal.new.story) portal.new.story.history }
     ensures feeds { Feeds session.old.fed session.old
         (sunk (known_at portal.old seat 0) written.old) bytes.now result.fed session.new
@@ -201,10 +201,9 @@ fn end_at(alloc: Global, portal: &mut ScriptPortal, seat: u32, session: Session)
     requires seat { 1 ≤ seat }
     requires open { bound (state_now portal.old.story) seat ≡ Some (binding session) }
     ensures opening { state_first portal.new.story ≡ state_first portal.old.story }
-    ensures own { Alone seat portal.old portal.new }
     ensures legal { Legal (state_first portal.new.story) portal.new.story.history }
-    ensures closes { (count : ℕ) × Closes session (known_at portal.old seat 0) result
-        (known_at portal.new seat count) }
+    ensures closes { (count : ℕ) × Alone seat count portal.old portal.new
+        × Closes session (known_at portal.old seat 0) result (known_at portal.new seat count) }
 {
     let mut desk = LocalDesk::new(portal, seat);
     let served = session.end(alloc, &mut desk);

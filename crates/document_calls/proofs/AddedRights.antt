@@ -20,7 +20,7 @@ use Rattle.document_records.proofs.KeptDocuments.{kept_records}
 use Rattle.document_calls.proofs.KeptRights.{any-take, same-held}
 
 module _ (app : List ℕ) (id : DocId) (set : RightSet) (rights : List Triple) where
-  has-add : (a : List ℕ) (m : ℕ) (right : Right) → app_has (add_rights app id set rights) a m right ≡ (((id.number == m && is_same app a) && is_in set right) || app_has rights a m right)
+  pub has-add : (a : List ℕ) (m : ℕ) (right : Right) → app_has (add_rights app id set rights) a m right ≡ (((id.number == m && is_same app a) && is_in set right) || app_has rights a m right)
   has-add a m right =
       any-put_all triple_less same_triple triples (gives a m right) (triples_of app id set ++ rights)
       ∙ (list_any-append (gives a m right) (triples_of app id set) rights
@@ -29,7 +29,7 @@ module _ (app : List ℕ) (id : DocId) (set : RightSet) (rights : List Triple) w
   own-add : (right : Right) → app_has (add_rights app id set rights) app id.number right ≡ (app_has rights app id.number right || is_in set right)
   own-add right = has-add app id.number right ∙ grind (arith, nat-itself id.number, is_same-refl app)
 
-  held-add : held_of (add_rights app id set rights) app id.number ≡ union (held_of rights app id.number) set
+  pub held-add : held_of (add_rights app id set rights) app id.number ≡ union (held_of rights app id.number) set
   held-add = λ i. record { read = own-add Read i; write = own-add Write i; grant_permissions = own-add GrantPermissions i; delete = own-add Delete i }
 
 listed-is : (a : List ℕ) (m : ℕ) (app : List ℕ) (number : ℕ) (set : RightSet) (right : Right) (t : Triple) → gives a m right t ≡ true → is_listed app number set t ≡ (is_same a app && ((m == number) && is_in set right))
@@ -120,7 +120,7 @@ module _ (app : List ℕ) (id : DocId) (set : RightSet) (rights : List Triple) (
       ∙ held-already (is_same k.app app) (k.id.number == id.number) (is_in set k.right) (app_has rights k.app k.id.number k.right) (app_has rights app id.number k.right)
       (same-has rights app k.app id.number k.id.number k.right) (in-gained k.right h)))
 
-none-beyond : (a b : RightSet) → is_no_right (minus a (union b a)) ≡ true
+pub none-beyond : (a b : RightSet) → is_no_right (minus a (union b a)) ≡ true
 none-beyond a b = grind arith
 
 pub added-differs : (app : List ℕ) (id : DocId) (set : RightSet) (rights : List Triple) (documents : List Document) → is_kept documents id.number ≡ true → is_no_right (minus set (held_of rights app id.number)) ≡ false →

@@ -24,11 +24,11 @@ use Rattle.document_records.proofs.KeptDocuments.{kept_records}
 
 -- ---- the rights that records give
 
-abbrev bits_among : List ℕ → List GrantRecord → ℕ
+abbrev pub bits_among : List ℕ → List GrantRecord → ℕ
 bits_among app [] = 0
 bits_among app (g ∷ gs) = cond (is_same g.app app) g.rights (bits_among app gs)
 
-abbrev bits_in : ℕ → List ℕ → List DocRecord → ℕ
+abbrev pub bits_in : ℕ → List ℕ → List DocRecord → ℕ
 bits_in number app [] = 0
 bits_in number app (r ∷ rs) = cond (is_numbered number r) (bits_among app r.grants) (bits_in number app rs)
 
@@ -83,7 +83,7 @@ bits-among rights number app =
     ∙ (ap (λ (b : Bool). cond b (bits_of (held_of rights app number)) 0) (any-put_all bytes_less is_same names_order (λ x. is_same x app) (names_here number app rights) ∙ any-here number app rights)
     ∙ none-bits (app_has rights app number Read) (app_has rights app number Write) (app_has rights app number GrantPermissions) (app_has rights app number Delete))
 
-bits-kept : (number : ℕ) (app : List ℕ) (rights : List Triple) (documents : List Document) → is_kept documents number ≡ true → bits_in number app (kept_records rights documents) ≡ bits_of (held_of rights app number)
+pub bits-kept : (number : ℕ) (app : List ℕ) (rights : List Triple) (documents : List Document) → is_kept documents number ≡ true → bits_in number app (kept_records rights documents) ≡ bits_of (held_of rights app number)
 bits-kept number app rights [] h = cc
 bits-kept number app rights (d ∷ documents) h = step d.persistent (d.id.number == number) refl refl h (bits-kept number app rights documents)
   where
@@ -98,7 +98,7 @@ bits-kept number app rights (d ∷ documents) h = step d.persistent (d.id.number
     step false true e k f more = let no : true ≡ false = sym f ∙ e in cc
     step false false e k f more = more f
 
-set-again : (r w g d : Bool) → set_of_bits (bits_of (record { read = r; write = w; grant_permissions = g; delete = d })) ≡ record { read = r; write = w; grant_permissions = g; delete = d }
+pub set-again : (r w g d : Bool) → set_of_bits (bits_of (record { read = r; write = w; grant_permissions = g; delete = d })) ≡ record { read = r; write = w; grant_permissions = g; delete = d }
 set-again true true true true = refl
 set-again true true true false = refl
 set-again true true false true = refl

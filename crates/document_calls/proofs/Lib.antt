@@ -1,10 +1,10 @@
 mod PathArguments
-mod ServedSteps
+pub mod ServedSteps
 mod ReadAnswers
 mod ListedDocuments
 mod DeleteSteps
-mod QueueSteps
-mod KeptRights
+pub mod QueueSteps
+pub mod KeptRights
 mod RevokeSteps
-mod AddedRights
+pub mod AddedRights
 mod GrantSteps

@@ -62,7 +62,7 @@ abbrev pub Matches : State → Verdict → State → Option RecordChange → Typ
 Matches s v after None = ChangesRecords s (Some v) → ⊥
 Matches s v after (Some change) = ChangesRecords s (Some v) × (changed change (records_of s) ≡ records_of after)
 
-same-told : (told : Option Records) (r : Records) → IfSome told (λ records. records ≡ r) → told ≡ option_map (λ _. r) told
+pub same-told : (told : Option Records) (r : Records) → IfSome told (λ records. records ≡ r) → told ≡ option_map (λ _. r) told
 same-told None r h = refl
 same-told (Some x) r h = ap (λ (y : Records). Some y) h
 

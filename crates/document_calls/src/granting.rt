@@ -21,11 +21,9 @@ use portal_base::memory::WantOfMemory;
 use portal_base::who::Who;
 use portal_model::records::RecordChange;
 use portal_model::request::RightsCall;
+use portal_model::state::APPLICATIONS_LIMIT;
 use record_keeper::Keeper;
 use std::alloc::Global;
-
-/// The greatest number of applications that may be numbered.
-const APPLICATIONS_LIMIT: u32 = 16_777_216;
 
 /// Gives an application the listed rights in a document, and a number where it
 /// has none. The keeper is asked where the document outlives the run and one of

@@ -1,14 +1,13 @@
 //! List: the documents of an application, or all.
 
-ghost use Rattle.std.specs.Prelude.{◌≡◌, ◌++◌, nat_eq, IfOk, OnOk, option_copied};
-ghost use Rattle.std.specs.List.{IsDistinct, flat_map};
+ghost use Rattle.std.specs.Prelude.{◌≡◌, ◌++◌, IfOk, OnOk, option_copied};
+ghost use Rattle.std.specs.List.{flat_map};
 ghost use Rattle.std.specs.List.Sorted.{IsNonDecreasingBy, IsPermutation};
 ghost use Rattle.portal_base.specs.declared.who.Who.TheVariants as Who;
 ghost use Rattle.portal_model.specs.declared.reply.Answer.TheVariants as Answer;
 ghost use Rattle.portal_model.specs.declared.request.Request.TheVariants as Request;
 ghost use Rattle.portal_model.specs.declared.state.Connection.{Connection};
 ghost use Rattle.portal_model.specs.State.{State};
-ghost use Rattle.document_records.specs.DocumentIndex.{live_numbers};
 ghost use Rattle.document_calls.specs.Answers.{asked_for, is_asked_for, listed_if, listing, number_listed};
 ghost use Rattle.document_calls.specs.Serves.{Serves};
 
@@ -89,20 +88,10 @@ fn asked_for(
     ensures { IfOk result (λ answer. answer
         ≡ Answer.Listed (asked_for documents.now.live grants.now (option_copied app.entry))) }
 {
-    match chosen(alloc, live(documents), grants, app) {
+    match chosen(alloc, documents.live(), grants, app) {
         Ok(list) => Ok(Answer::Listed(by_number(list))),
         Err(error) => Err(error),
     }
-}
-
-/// The live documents, whose numbers differ.
-fn live(documents: &Documents) -> &[Document]
-    ensures value { result.now ≡ documents.now.live }
-    ensures differ { IsDistinct nat_eq (live_numbers documents.now.live) }
-{
-    // The room itself isn't needed: with it comes that the numbers differ.
-    let _ = documents.room();
-    documents.live()
 }
 
 /// The documents that are asked for, in the order in which they are given.

@@ -132,9 +132,10 @@ impl Documents {
         DocId { number }
     }
 
-    /// The live documents, in order of addition.
+    /// The live documents, in order of addition. Their numbers differ.
     pub fn live(&self) -> &[Document]
-        ensures { result.now ≡ self.now.live }
+        ensures value { result.now ≡ self.now.live }
+        ensures kept { AreKept self.now }
     {
         self.live.as_slice()
     }

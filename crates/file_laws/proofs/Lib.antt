@@ -7,6 +7,12 @@ pub mod ChangedPaths
 pub mod ChangedContents
 pub mod BytesTold
 pub mod RightsTouched
+pub mod AddedLive
 pub mod TouchLaws
 pub mod OpenExampleProofs
 pub mod TouchExampleProofs
+pub mod ReuseExampleProofs
+pub mod HandleLimitProofs
+pub mod HostExampleProofs
+pub mod DoneIsAllowed
+pub mod DoneOnBuses

@@ -25,18 +25,18 @@ apply = record {
   legal = record {
     opening = attributes.legal.opening;
     lawful = (
-      record { defined = refl; given = (editor_name, refl) },
+      record { given = (editor_name, refl) },
       (
-        record { defined = refl; given = (refl, refl) },
+        record { given = (refl, refl) },
         (
-          record { defined = refl; given = record { looks = (refl, (refl, refl)); clock = refl; words = refl; numbers = refl; full = refl; keeper = λ e. cc } },
+          record { given = record { looks = (refl, (refl, refl)); clock = refl; words = refl; numbers = refl; full = refl; keeper = λ e. cc } },
           (
-            record { defined = refl; given = record { looks = (refl, refl); clock = refl; words = refl; numbers = tt; full = refl; keeper = λ e. cc } },
+            record { given = record { looks = (refl, refl); clock = refl; words = refl; numbers = tt; full = refl; keeper = λ e. cc } },
             (
-              record { defined = refl; given = record { looks = refl; clock = refl; words = refl; numbers = refl; full = refl; keeper = λ e. cc } },
+              record { given = record { looks = refl; clock = refl; words = refl; numbers = refl; full = refl; keeper = λ e. cc } },
               (
-                record { defined = refl; given = record { looks = (refl, refl); clock = refl; words = refl; numbers = tt; full = refl; keeper = λ e. cc } },
-                (record { defined = refl; given = record { looks = (refl, (refl, refl)); clock = refl; words = refl; numbers = refl; full = refl; keeper = λ e. cc } }, tt),
+                record { given = record { looks = (refl, refl); clock = refl; words = refl; numbers = tt; full = refl; keeper = λ e. cc } },
+                (record { given = record { looks = (refl, (refl, refl)); clock = refl; words = refl; numbers = refl; full = refl; keeper = λ e. cc } }, tt),
               ),
             ),
           ),

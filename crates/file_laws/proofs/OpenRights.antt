@@ -2,9 +2,9 @@
 use Rattle.std.proofs.Common.{◌≡◌, ℕ, zero, suc, ◌==◌, List, [], ◌∷◌, ◌++◌, Bool, true, false, not, ◌&&◌, cond, Option, Some, None, refl, sym, ap, subst, ◌∙◌}
 use Rattle.portal_base.specs.declared.files.File.{File}
 use Rattle.portal_base.specs.declared.files.FileName.{FileName}
+use Rattle.portal_base.specs.declared.names.doc_id.DocId.{DocId}
 use Rattle.portal_base.specs.declared.who.Who.{Who}
 use Rattle.portal_model.specs.declared.entry.Given.{Given}
-use Rattle.portal_model.specs.declared.place.Item.{Item}
 use Rattle.portal_model.specs.declared.place.Place.{Place}
 use Rattle.portal_model.specs.declared.request.NodeOp.{NodeOp}
 use Rattle.portal_model.specs.declared.request.NodeRequest.{NodeRequest}
@@ -22,7 +22,7 @@ use Rattle.portal_model.specs.Node.{facts_of, node_given, node_walk, settled_on_
 use Rattle.portal_model.specs.NodeVerdict.{NodeDoing, NodeVerdict, Errs, FilesStay, Resizes, Room, Yields, by_place, errs_if}
 use Rattle.portal_model.specs.Open.{file_handle, has_no_mode, open_file, open_folder, open_name, open_node, opened_file, opens_to_write, truncates}
 use Rattle.portal_model.specs.Outside.{files_told}
-use Rattle.portal_model.specs.Place.{FolderOf, Sight, SightOfFile, SightOfFolder, place_named, place_of, sight_at, sight_in_view, sight_of_document, sight_of_folder, sight_of_item, subject_of}
+use Rattle.portal_model.specs.Place.{FolderOf, Sight, SightOfFile, SightOfFolder, place_named, place_of, seen_by, sight_at, sight_of_document, sight_of_folder, sight_of_place, sight_of_root, subject_of}
 use Rattle.portal_model.specs.State.{State, app_has, connection_of, document_of, is_app}
 use Rattle.portal_model.specs.Step.{after, all_told, mount_of, node_step, request_step}
 use Rattle.portal_model.specs.Walk.{Answers, Changes, Ends}
@@ -63,19 +63,27 @@ module _ (app : List ℕ) (s : State) (path : List ℕ) (writes : Bool) where
       by_right true h f = let same : app_has s.rights app d.id.number Write ≡ writes = cc in record { number = d.id.number; place = refl; may_read = h; may_write = same }
       by_right false h f = cc
 
-  of-item : (item : Item) → Seen (sight_of_item s (Who.App app) 0 (Who.App app) item) → FileSeen app s.rights (Some (record { view = 0; item = item })) writes
-  of-item Item.Root e = cc
-  of-item Item.ByApp e = cc
-  of-item (Item.DocumentFolder number) e = no-folder number (document_of s.documents number) e
-  of-item (Item.DocumentFile number) e = of-document number (document_of s.documents number) refl e
+  no-root : (view : ℕ) {X : Type 0} → Seen (seen_by (subject_of s.applications (Who.App app) view) (sight_of_root s (Who.App app) view)) → X
+  no-root zero e = cc
+  no-root (suc k) e = cc
 
-  in-view : (view : ℕ) (item : Item) → Seen (sight_in_view s (Who.App app) (record { view = view; item = item }) (subject_of s.applications (Who.App app) view)) → FileSeen app s.rights (Some (record { view = view; item = item })) writes
-  in-view zero item e = of-item item e
-  in-view (suc k) item e = cc
+  of-folder : (view : ℕ) (id : DocId) {X : Type 0} → Seen (seen_by (subject_of s.applications (Who.App app) view) (λ who. sight_of_folder view s.rights who (document_of s.documents id.number))) → X
+  of-folder zero id e = no-folder id.number (document_of s.documents id.number) e
+  of-folder (suc k) id e = cc
+
+  of-file : (view : ℕ) (id : DocId) → Seen (seen_by (subject_of s.applications (Who.App app) view) (λ who. sight_of_document s.rights who (document_of s.documents id.number))) → FileSeen app s.rights (Some (Place.File view id)) writes
+  of-file zero id e = of-document id.number (document_of s.documents id.number) refl e
+  of-file (suc k) id e = cc
+
+  of-place : (p : Place) → Seen (sight_of_place s (Who.App app) p) → FileSeen app s.rights (Some p) writes
+  of-place (Place.Root view) e = no-root view e
+  of-place Place.ByApp e = cc
+  of-place (Place.Folder view id) e = of-folder view id e
+  of-place (Place.File view id) e = of-file view id e
 
   at-place : (p : Option Place) → Seen (sight_at s (Who.App app) p) → FileSeen app s.rights p writes
   at-place None e = cc
-  at-place (Some p) e = in-view p.view p.item e
+  at-place (Some p) e = of-place p e
 
 -- ---- what an application opens
 

@@ -1,7 +1,9 @@
 -- A request that is none on a node tells of rights that it lists, and of documents that are held.
-use Rattle.std.proofs.Common.{◌≡◌, ℕ, ◌==◌, List, [], ◌∷◌, ◌++◌, Bool, true, false, not, ◌&&◌, ◌||◌, cond, Option, Some, None, is_some, refl, sym, ap, ◌∙◌, arith}
+use Rattle.std.proofs.Common.{◌≡◌, ℕ, ◌==◌, List, [], ◌∷◌, ◌++◌, Bool, true, false, not, ◌&&◌, ◌||◌, cond, Option, Some, None, is_some, refl, sym, ap, subst, ◌∙◌, arith}
+use Rattle.std.proofs.lemmas.List.{append_assoc}
+use Rattle.std.proofs.lemmas.List.Sums.{fold-append}
 use Rattle.portal_base.specs.Names.{hex_number, is_doc_id, is_same}
-use Rattle.rights_rule.specs.Rights.{RightSet, contains, holds_any, minus, rights_named}
+use Rattle.rights_rule.specs.Rights.{RightSet, contains, holds_any, minus, rights_named, union}
 use Rattle.portal_model.specs.declared.entry.Entry.{Entry}
 use Rattle.portal_model.specs.declared.entry.Given.{Given}
 use Rattle.portal_model.specs.declared.request.AddRequest.{AddRequest}
@@ -9,10 +11,11 @@ use Rattle.portal_model.specs.declared.request.Request.{Request}
 use Rattle.portal_model.specs.declared.request.RightsCall.{RightsCall}
 use Rattle.portal_model.specs.declared.state.Connection.{Connection}
 use Rattle.portal_model.specs.declared.state.Document.{Document}
+use Rattle.portal_model.specs.declared.state.Triple.{Triple}
 use Rattle.portal_base.specs.declared.files.File.{File}
 use Rattle.portal_base.specs.declared.names.doc_id.DocId.{DocId}
 use Rattle.portal_base.specs.declared.who.Who.{Who}
-use Rattle.portal_model.specs.Add.{Added, add_file, caller_rights, first_number, new_document, taken_from_queue, use_document, used_again, with_new_document, with_rights_of}
+use Rattle.portal_model.specs.Add.{Added, add_file, adding_rights, caller_rights, first_number, new_document, use_document, used_again, with_new_document, with_rights_of}
 use Rattle.portal_model.specs.AddArguments.{document_paths, is_left_out, names_nobody}
 use Rattle.portal_model.specs.Arguments.{document_named}
 use Rattle.portal_model.specs.Content.{content_at}
@@ -34,7 +37,8 @@ use Rattle.app_world.specs.View.{AppView, HeldDocument, found_document, seen, vi
 use Rattle.app_world.specs.World.{request_touch, touch}
 use Rattle.app_world.proofs.AddCallLaws.{taken-keeps}
 use Rattle.app_world.proofs.DocumentLaws.{documents-found}
-use Rattle.file_laws.specs.Touches.{EachEffect, IsOfDocument, is_on_node}
+use Rattle.app_world.proofs.HeldLaws.{held-add, same-rights}
+use Rattle.file_laws.specs.Touches.{EachEffect, IsAddedOn, IsOfDocument, added_ahead, is_on_node}
 
 -- ---- sets of rights
 
@@ -58,6 +62,59 @@ common-listed a b = all-four _ _ _ _ (both-left a.read b.read) (both-left a.writ
 
 common-held : (a b : RightSet) → contains b (common a b) ≡ true
 common-held a b = all-four _ _ _ _ (both-right a.read b.read) (both-right a.write b.write) (both-right a.grant_permissions b.grant_permissions) (both-right a.delete b.delete)
+
+contains-self : (a : RightSet) → contains a a ≡ true
+contains-self a = all-four _ _ _ _ (either-way a.read) (either-way a.write) (either-way a.grant_permissions) (either-way a.delete)
+  where
+    either-way : (x : Bool) → (not x || x) ≡ true
+    either-way true = refl
+    either-way false = refl
+
+first-of : (x y : Bool) → (x && y) ≡ true → x ≡ true
+first-of true y h = refl
+first-of false y h = cc
+
+second-of : (x y : Bool) → (x && y) ≡ true → y ≡ true
+second-of true y h = h
+second-of false y h = cc
+
+-- what a larger set lacks, the smaller one lacks
+minus-new : (a t w : RightSet) → contains t w ≡ true → minus (minus a t) w ≡ minus a t
+minus-new a t w h =
+    let read = first-of (not w.read || t.read) _ h in
+    let h1 = second-of (not w.read || t.read) _ h in
+    let write = first-of (not w.write || t.write) _ h1 in
+    let h2 = second-of (not w.write || t.write) _ h1 in
+    let give = first-of (not w.grant_permissions || t.grant_permissions) _ h2 in
+    let del = second-of (not w.grant_permissions || t.grant_permissions) _ h2 in
+    same-rights (minus (minus a t) w) (minus a t)
+    (once-more a.read t.read w.read read)
+    (once-more a.write t.write w.write write)
+    (once-more a.grant_permissions t.grant_permissions w.grant_permissions give)
+    (once-more a.delete t.delete w.delete del)
+  where
+    once-more : (x t w : Bool) → (not w || t) ≡ true → ((x && not t) && not w) ≡ (x && not t)
+    once-more true true w h = refl
+    once-more true false true h = cc
+    once-more true false false h = refl
+    once-more false t w h = refl
+
+-- rights that are added leave those that were there
+wider : (b : Bool) (m set w : RightSet) → contains m w ≡ true → contains (cond b (union m set) m) w ≡ true
+wider false m set w h = h
+wider true m set w h =
+    let h1 = second-of (not w.read || m.read) _ h in
+    let h2 = second-of (not w.write || m.write) _ h1 in
+    all-four _ _ _ _
+    (one-wider w.read m.read set.read (first-of (not w.read || m.read) _ h))
+    (one-wider w.write m.write set.write (first-of (not w.write || m.write) _ h1))
+    (one-wider w.grant_permissions m.grant_permissions set.grant_permissions (first-of (not w.grant_permissions || m.grant_permissions) _ h2))
+    (one-wider w.delete m.delete set.delete (second-of (not w.grant_permissions || m.grant_permissions) _ h2))
+  where
+    one-wider : (w m x : Bool) → (not w || m) ≡ true → (not w || (m || x)) ≡ true
+    one-wider true true x h = refl
+    one-wider true false x h = cc
+    one-wider false m x h = refl
 
 common-some : (a b : RightSet) → holds_any (common a b) ≡ true → holds_any b ≡ true
 common-some a b e = grind arith
@@ -110,12 +167,12 @@ file-keeps who a done path =
     let again = used_again done.state.documents a path in
     either-file (is_left_out a path) (record done { ids = done.ids ++ [] ∷ [] }) (use_document who a path done again) done refl (use-files who a path done again)
 
-module _ (app : List ℕ) (s : State) where
+module _ (app : List ℕ) (s : State) (seat : ℕ) (given : Given) where
   abbrev v : AppView
   v = view s app
 
   abbrev Of : Request → List Effect → Type 0
-  Of request effects = EachEffect (IsOfDocument app s request) effects
+  Of request effects = EachEffect (IsOfDocument app s seat request given) effects
 
   abbrev was : ℕ → RightSet
   was n = held_of s.rights app n
@@ -128,17 +185,27 @@ module _ (app : List ℕ) (s : State) where
 
   -- ---- a grant
 
-  granted-of : (call : RightsCall) (d : Document) (m : RightSet) (b : Bool) → holds_any (minus (rights_named call.names) m) ≡ b → (identifies call.doc d.id.number && is_same call.app app) ≡ true →
+  granted-of : (call : RightsCall) (d : Document) (m : RightSet) (b : Bool) → holds_any (minus (rights_named call.names) m) ≡ b → (identifies call.doc d.id.number && is_same call.app app) ≡ true → document_of s.documents d.id.number ≡ Some d → m ≡ was d.id.number →
       Of (Request.Grant call) (gained_if s d (minus (rights_named call.names) m))
-  granted-of call d m true e g = rw e (record { given = g; some = e; listed = new-listed (rights_named call.names) m; shows = refl }, tt)
-  granted-of call d m false e g = rw e tt
+  granted-of call d m true e g l k = rw e (
+    record {
+      named = g;
+      some = e;
+      listed = new-listed (rights_named call.names) m;
+      new = minus-new (rights_named call.names) m (was d.id.number) (subst (λ (x : RightSet). contains x (was d.id.number) ≡ true) (sym k) (contains-self (was d.id.number)));
+      whole = record { live = l; all = ap (minus (rights_named call.names)) k };
+      shows = refl;
+    },
+    tt,
+  )
+  granted-of call d m false e g l k = rw e tt
 
   grant-of : (call : RightsCall) → Of (Request.Grant call) (grant_touch app s call)
   grant-of call = by_app (is_same call.app app) refl
     where
       by_document : (o : Option Document) → document_named s.documents call.doc ≡ o → is_same call.app app ≡ true → Of (Request.Grant call) (granted_to app s call o)
       by_document None e f = tt
-      by_document (Some d) e f = granted-of call d (was d.id.number) (holds_any (minus (rights_named call.names) (was d.id.number))) refl (and-both (identifies call.doc d.id.number) (is_same call.app app) (named-identified s.documents call.doc d e) f)
+      by_document (Some d) e f = granted-of call d (was d.id.number) (holds_any (minus (rights_named call.names) (was d.id.number))) refl (and-both (identifies call.doc d.id.number) (is_same call.app app) (named-identified s.documents call.doc d e) f) (named-lives s.documents call.doc d e) refl
 
       by_app : (b : Bool) → is_same call.app app ≡ b → Of (Request.Grant call) (cond b (granted_to app s call (document_named s.documents call.doc)) [])
       by_app true e = by_document (document_named s.documents call.doc) refl e
@@ -156,6 +223,7 @@ module _ (app : List ℕ) (s : State) where
       some = e;
       listed = common-listed (rights_named call.names) (was d.id.number);
       had = common-held (rights_named call.names) (was d.id.number);
+      all = refl;
     },
     tt,
   )
@@ -188,28 +256,97 @@ module _ (app : List ℕ) (s : State) where
   joined request [] ys h k = k
   joined request (x ∷ xs) ys h k = (h.0, joined request xs ys h.1 k)
 
-  added-of : (a : AddRequest) (t : State) (d : Document) (m : RightSet) (b : Bool) → t.files ≡ s.files → holds_any (minus (rights_named a.names) m) ≡ b → names_app app a ≡ true →
+  -- the application has what it had
+  abbrev Keeps : State → Type 0
+  Keeps t = (n : ℕ) → contains (held_of t.rights app n) (was n) ≡ true
+
+  given-keeps : (named : List ℕ) (id : DocId) (set : RightSet) (t : State) → Keeps t → Keeps (given_rights named id set t)
+  given-keeps named id set t h = λ n.
+      subst (λ (k : RightSet). contains k (was n) ≡ true) (sym (held-add app n named id set t.rights))
+      (wider (id.number == n && is_same named app) (held_of t.rights app n) set (was n) (h n))
+
+  caller-keeps : (who : Who) (a : AddRequest) (id : DocId) (t : State) → Keeps t → Keeps (caller_rights who a id t)
+  caller-keeps Who.Host a id t h = h
+  caller-keeps (Who.App name) a id t h = given-keeps name id (adding_rights a) t h
+
+  listed-keeps : (b : Bool) (a : AddRequest) (id : DocId) (t : State) → Keeps t → Keeps (cond b t (given_rights a.app id (rights_named a.names) t))
+  listed-keeps true a id t h = h
+  listed-keeps false a id t h = given-keeps a.app id (rights_named a.names) t h
+
+  rights-keep : (who : Who) (a : AddRequest) (id : DocId) (t : State) → Keeps t → Keeps (with_rights_of who a id t)
+  rights-keep who a id t h = listed-keeps (names_nobody a) a id (caller_rights who a id t) (caller-keeps who a id t h)
+
+  use-keeps : (who : Who) (a : AddRequest) (path : List ℕ) (done : Added) (again : Option DocId) → Keeps done.state → Keeps (use_document who a path done again).state
+  use-keeps who a path done None h = rights-keep who a (first_number done.numbers) (with_new_document (new_document a (first_number done.numbers) path) done.state) h
+  use-keeps who a path done (Some id) h = rights-keep who a id done.state h
+
+  either-keeps : (b : Bool) (x y : Added) → Keeps x.state → Keeps y.state → Keeps (cond b x y).state
+  either-keeps true x y h k = h
+  either-keeps false x y h k = k
+
+  add-keeps : (who : Who) (a : AddRequest) (done : Added) (path : List ℕ) → Keeps done.state → Keeps (add_file who a done path).state
+  add-keeps who a done path h =
+      let again = used_again done.state.documents a path in
+      either-keeps (is_left_out a path) (record done { ids = done.ids ++ [] ∷ [] }) (use_document who a path done again) h (use-keeps who a path done again h)
+
+  abbrev bus : Option Connection
+  bus = bus_of (connection_of s.connections seat)
+
+  abbrev AddedHere : AddRequest → Document → RightSet → Type 0
+  AddedHere a d more = IsAddedOn app s a given bus d more
+
+  added-of : (a : AddRequest) (t : State) (d : Document) (m : RightSet) (b : Bool) → t.files ≡ s.files → holds_any (minus (rights_named a.names) m) ≡ b → names_app app a ≡ true → contains m (was d.id.number) ≡ true → AddedHere a d (minus (rights_named a.names) m) →
       Of (Request.Add a) (gained_if t d (minus (rights_named a.names) m))
-  added-of a t d m true h e g = rw e (record { given = g; some = e; listed = new-listed (rights_named a.names) m; shows = ap (λ (fs : List File). content_at fs d.path) h }, tt)
-  added-of a t d m false h e g = rw e tt
+  added-of a t d m true h e g k w = rw e (
+    record {
+      named = g;
+      some = e;
+      listed = new-listed (rights_named a.names) m;
+      new = minus-new (rights_named a.names) m (was d.id.number) k;
+      whole = w;
+      shows = ap (λ (fs : List File). content_at fs d.path) h;
+    },
+    tt,
+  )
+  added-of a t d m false h e g k w = rw e tt
 
-  used-of : (a : AddRequest) (t : State) (used : Document) (b c : Bool) → t.files ≡ s.files → names_app app a ≡ c → Of (Request.Add a) (cond b [] (cond c (gained_in app t (rights_named a.names) used) []))
-  used-of a t used true c h e = tt
-  used-of a t used false true h e = added-of a t used (held_of t.rights app used.id.number) (holds_any (minus (rights_named a.names) (held_of t.rights app used.id.number))) h refl e
-  used-of a t used false false h e = tt
+  used-of : (a : AddRequest) (t : State) (used : Document) (b c : Bool) → t.files ≡ s.files → Keeps t → names_app app a ≡ c → (b ≡ false → AddedHere a used (minus (rights_named a.names) (held_of t.rights app used.id.number))) →
+      Of (Request.Add a) (cond b [] (cond c (gained_in app t (rights_named a.names) used) []))
+  used-of a t used true c h k e w = tt
+  used-of a t used false true h k e w = added-of a t used (held_of t.rights app used.id.number) (holds_any (minus (rights_named a.names) (held_of t.rights app used.id.number))) h refl e (k used.id.number) (w refl)
+  used-of a t used false false h k e w = tt
 
-  file-of : (a : AddRequest) (done : Added) (path : List ℕ) → done.state.files ≡ s.files → Of (Request.Add a) (file_touch app a done path)
-  file-of a done path h = used-of a done.state (document_used a done.numbers path (used_again done.state.documents a path)) (is_left_out a path) (names_app app a) h refl
+  -- the files of an Add on this connection
+  module _ (a : AddRequest) (c : Connection) (on : bus ≡ Some c) where
+    abbrev by_then : List (List ℕ) → Added
+    by_then ahead = added_ahead s c a given.numbers ahead
 
-  files-of : (paths : List (List ℕ)) (who : Who) (a : AddRequest) (done : Added) → done.state.files ≡ s.files → Of (Request.Add a) (files_touch app who a done paths)
-  files-of [] who a done h = tt
-  files-of (path ∷ paths) who a done h =
-      joined (Request.Add a) (file_touch app a done path) (files_touch app who a (add_file who a done path) paths) (file-of a done path h)
-      (files-of paths who a (add_file who a done path) (file-keeps who a done path ∙ h))
+    file-of : (ahead behind : List (List ℕ)) (path : List ℕ) → document_paths c.queue a ≡ ahead ++ path ∷ behind → (by_then ahead).state.files ≡ s.files → Keeps (by_then ahead).state → Of (Request.Add a) (file_touch app a (by_then ahead) path)
+    file-of ahead behind path p h k =
+        let done : Added = by_then ahead in
+        used-of a done.state (document_used a done.numbers path (used_again done.state.documents a path)) (is_left_out a path) (names_app app a) h k refl (λ n.
+        subst (λ (o : Option Connection). IsAddedOn app s a given o (document_used a done.numbers path (used_again done.state.documents a path)) (minus (rights_named a.names) (held_of done.state.rights app (document_used a done.numbers path (used_again done.state.documents a path)).id.number)))
+        (sym on) (record { ahead = ahead; behind = behind; file = p; needed = n; used = refl; all = refl }))
 
-  add-of : (a : AddRequest) (given : Given) (o : Option Connection) → Of (Request.Add a) (add_touch_by app s a given o)
-  add-of a given None = tt
-  add-of a given (Some c) = files-of (document_paths c.queue a) c.who a (record { state = taken_from_queue c a s; numbers = given.numbers; ids = [] }) (taken-keeps (λ (t : State). t.files) c a s refl)
+    one-more : (ahead : List (List ℕ)) (path : List ℕ) → by_then (ahead ++ path ∷ []) ≡ add_file c.who a (by_then ahead) path
+    one-more ahead path = fold-append (add_file c.who a) (by_then []) ahead (path ∷ [])
+
+    files-of : (paths ahead : List (List ℕ)) (done : Added) → done ≡ by_then ahead → document_paths c.queue a ≡ ahead ++ paths → done.state.files ≡ s.files → Keeps done.state → Of (Request.Add a) (files_touch app c.who a done paths)
+    files-of [] ahead done e p h k = tt
+    files-of (path ∷ paths) ahead done e p h k =
+        joined (Request.Add a) (file_touch app a done path) (files_touch app c.who a (add_file c.who a done path) paths)
+        (subst (λ (x : Added). Of (Request.Add a) (file_touch app a x path)) (sym e)
+        (file-of ahead paths path p (subst (λ (x : Added). x.state.files ≡ s.files) e h) (subst (λ (x : Added). Keeps x.state) e k)))
+        (files-of paths (ahead ++ path ∷ []) (add_file c.who a done path) (ap (λ (x : Added). add_file c.who a x path) e ∙ sym (one-more ahead path)) (p ∙ sym (append_assoc ahead (path ∷ []) paths))
+        (file-keeps c.who a done path ∙ h) (add-keeps c.who a done path k))
+
+    call-of : Of (Request.Add a) (add_touch_by app s a given (Some c))
+    call-of = files-of (document_paths c.queue a) [] (by_then []) refl refl (taken-keeps (λ (t : State). t.files) c a s refl)
+        (λ n. subst (λ (rights : List Triple). contains (held_of rights app n) (was n) ≡ true) (sym (taken-keeps (λ (t : State). t.rights) c a s refl)) (contains-self (was n)))
+
+  add-of : (a : AddRequest) (o : Option Connection) → bus ≡ o → Of (Request.Add a) (add_touch_by app s a given o)
+  add-of a None e = tt
+  add-of a (Some c) e = call-of a c e
 
   -- ---- each request
 
@@ -217,22 +354,22 @@ module _ (app : List ℕ) (s : State) where
   if-done request true effects h = h
   if-done request false effects h = tt
 
-  each-of : (seat : ℕ) (request : Request) (given : Given) → is_on_node request ≡ false → Of request (request_touch app s seat request given)
-  each-of seat (Request.Enter who kind) given e = tt
-  each-of seat Request.Leave given e = tt
-  each-of seat Request.Collect given e = tt
-  each-of seat (Request.Node r) given e = cc
-  each-of seat (Request.Present path) given e = tt
-  each-of seat (Request.Add a) given e = add-of a given (bus_of (connection_of s.connections seat))
-  each-of seat (Request.Grant call) given e = grant-of call
-  each-of seat (Request.Revoke call) given e = revoke-of call
-  each-of seat (Request.DeleteDocument doc) given e = deleted-of doc (document_named s.documents doc) refl
-  each-of seat (Request.LookupDocument path) given e = tt
-  each-of seat (Request.Info doc) given e = tt
-  each-of seat (Request.ListDocuments name) given e = tt
+  each-of : (request : Request) → is_on_node request ≡ false → Of request (request_touch app s seat request given)
+  each-of (Request.Enter who kind) e = tt
+  each-of Request.Leave e = tt
+  each-of Request.Collect e = tt
+  each-of (Request.Node r) e = cc
+  each-of (Request.Present path) e = tt
+  each-of (Request.Add a) e = add-of a bus refl
+  each-of (Request.Grant call) e = grant-of call
+  each-of (Request.Revoke call) e = revoke-of call
+  each-of (Request.DeleteDocument doc) e = deleted-of doc (document_named s.documents doc) refl
+  each-of (Request.LookupDocument path) e = tt
+  each-of (Request.Info doc) e = tt
+  each-of (Request.ListDocuments name) e = tt
 
-  pub documents-told : (seat : ℕ) (request : Request) (given : Given) → is_on_node request ≡ false → Of request (touch app s (asks seat request given))
-  documents-told seat request given e = if-done request (is_done (reply_at s (asks seat request given)).answer) (request_touch app s seat request given) (each-of seat request given e)
+  pub documents-told : (request : Request) → is_on_node request ≡ false → Of request (touch app s (asks seat request given))
+  documents-told request e = if-done request (is_done (reply_at s (asks seat request given)).answer) (request_touch app s seat request given) (each-of request e)
 
 -- an entry that is not done tells nothing
 pub nothing-told : (app : List ℕ) (s : State) (e : Entry) → is_done (reply_at s e).answer ≡ false → touch app s e ≡ []

@@ -3,16 +3,16 @@ use lib.Utf8.{encode}
 use Rattle.std.proofs.Common.{◌≡◌, true, false, refl, arith}
 use Rattle.std.specs.List.{IsDistinct}
 use Rattle.std.specs.Str.{is_utf8, chars}
-use Rattle.portal_base.specs.Names.{doc_text, hex_number, is_app_name, is_doc_id, is_host_path}
+use Rattle.portal_base.specs.Names.{doc_text, hex_number, is_app_name, is_doc_id, is_host_path, parent_of}
 use Rattle.portal_model.specs.Opening.{opened}
 use Rattle.portal_model.specs.Valid.{Valid, IsValidEntry}
 use Rattle.std.proofs.lemmas.List.Elements.{All-nil}
 use Rattle.portal_model.proofs.ExampleProofs.{a_path, editor_name}
 use Rattle.portal_model.specs.DocumentExamples.{viewer}
 use Rattle.app_world.specs.Examples.{b_text}
-use Rattle.file_laws.specs.TouchExamples.{AreItemsTold, OtherPathIsNotTold, SharedFileIsTold, one_file, two_paths}
+use Rattle.file_laws.specs.TouchExamples.{AreItemsTold, IsToldOfAGrant, OtherPathIsNotTold, SharedFileIsTold, one_file, two_paths}
 
-viewer_name : is_app_name viewer ≡ true
+pub viewer_name : is_app_name viewer ≡ true
 unfolding is_app_name
 viewer_name = refl
 
@@ -85,16 +85,16 @@ shared_told = record {
   legal = record {
     opening = valid_one_file;
     lawful = (
-      record { defined = refl; given = (editor_name, refl) },
+      record { given = (editor_name, refl) },
       (
-        record { defined = refl; given = (viewer_name, refl) },
+        record { given = (viewer_name, refl) },
         (
-          record { defined = refl; given = record { looks = (refl, (refl, refl)); clock = refl; words = refl; numbers = refl; full = refl; keeper = λ e. cc } },
+          record { given = record { looks = (refl, (refl, refl)); clock = refl; words = refl; numbers = refl; full = refl; keeper = λ e. cc } },
           (
-            record { defined = refl; given = record { looks = (refl, (refl, refl)); clock = refl; words = refl; numbers = refl; full = refl; keeper = λ e. cc } },
+            record { given = record { looks = (refl, (refl, refl)); clock = refl; words = refl; numbers = refl; full = refl; keeper = λ e. cc } },
             (
-              record { defined = refl; given = record { looks = refl; clock = refl; words = refl; numbers = refl; full = refl; keeper = λ e. cc } },
-              (record { defined = refl; given = record { looks = refl; clock = refl; words = refl; numbers = refl; full = refl; keeper = λ e. cc } }, tt),
+              record { given = record { looks = refl; clock = refl; words = refl; numbers = refl; full = refl; keeper = λ e. cc } },
+              (record { given = record { looks = refl; clock = refl; words = refl; numbers = refl; full = refl; keeper = λ e. cc } }, tt),
             ),
           ),
         ),
@@ -111,16 +111,16 @@ apart_told = record {
   legal = record {
     opening = valid_two_paths;
     lawful = (
-      record { defined = refl; given = (editor_name, refl) },
+      record { given = (editor_name, refl) },
       (
-        record { defined = refl; given = (viewer_name, refl) },
+        record { given = (viewer_name, refl) },
         (
-          record { defined = refl; given = record { looks = (refl, (refl, refl)); clock = refl; words = refl; numbers = refl; full = refl; keeper = λ e. cc } },
+          record { given = record { looks = (refl, (refl, refl)); clock = refl; words = refl; numbers = refl; full = refl; keeper = λ e. cc } },
           (
-            record { defined = refl; given = record { looks = (refl, (refl, refl)); clock = refl; words = refl; numbers = refl; full = refl; keeper = λ e. cc } },
+            record { given = record { looks = (refl, (refl, refl)); clock = refl; words = refl; numbers = refl; full = refl; keeper = λ e. cc } },
             (
-              record { defined = refl; given = record { looks = refl; clock = refl; words = refl; numbers = refl; full = refl; keeper = λ e. cc } },
-              (record { defined = refl; given = record { looks = refl; clock = refl; words = refl; numbers = refl; full = refl; keeper = λ e. cc } }, tt),
+              record { given = record { looks = refl; clock = refl; words = refl; numbers = refl; full = refl; keeper = λ e. cc } },
+              (record { given = record { looks = refl; clock = refl; words = refl; numbers = refl; full = refl; keeper = λ e. cc } }, tt),
             ),
           ),
         ),
@@ -138,3 +138,7 @@ items_of_one = refl
 pub items_of_two : AreItemsTold false 3
 unfolding is_doc_id hex_number is_app_name doc_text
 items_of_two = refl
+
+pub told_of_a_grant : IsToldOfAGrant (record { read = false; write = true; grant_permissions = false; delete = true })
+unfolding is_host_path is_app_name is_utf8 chars encode is_doc_id hex_number doc_text parent_of
+told_of_a_grant = record { named = refl; some = refl; listed = refl; new = refl; whole = record { live = refl; all = refl }; shows = refl }

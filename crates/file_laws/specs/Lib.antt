@@ -3,3 +3,7 @@ pub mod Revocations
 pub mod Touches
 pub mod Examples
 pub mod TouchExamples
+pub mod ReuseExamples
+pub mod HandleLimits
+pub mod HostExamples
+pub mod OnlyAllowed

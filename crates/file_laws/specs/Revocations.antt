@@ -3,7 +3,6 @@
 -- given again.
 use Rattle.std.specs.Prelude.{◌≡◌, ℕ, List, ◌∷◌, ◌++◌, Bool, true, not, ◌&&◌, Some}
 use Rattle.portal_model.specs.declared.entry.Entry.{Entry}
-use Rattle.portal_model.specs.declared.place.Item.{Item}
 use Rattle.portal_model.specs.declared.place.Place.{Place}
 use Rattle.portal_model.specs.declared.request.NodeOp.{NodeOp}
 use Rattle.portal_model.specs.declared.request.NodeRequest.{NodeRequest}
@@ -28,7 +27,7 @@ pub record OpensFile (app : List ℕ) (r : NodeRequest) (flags : ℕ) (s : State
 
 -- the file of the document of a number, in the view of who asks
 abbrev pub file_in_own_view : ℕ → Place
-file_in_own_view number = record { view = 0; item = Item.DocumentFile number }
+file_in_own_view number = Place.File 0 (record { number = number })
 
 -- the application had the right before the entry, and hasn't it after
 abbrev pub loses_at : List ℕ → ℕ → Right → State → Entry → Bool

@@ -14,14 +14,19 @@ use Rattle.portal_model.specs.declared.reply.NodeAnswer.{NodeAnswer}
 use Rattle.portal_model.specs.declared.request.NodeOp.{NodeOp}
 use Rattle.portal_model.specs.declared.request.Request.{Request}
 use Rattle.portal_model.specs.Content.{OfFile}
-use Rattle.portal_model.specs.DocumentExamples.{viewer}
+use Rattle.portal_model.specs.DocumentExamples.{a_doc, n_text, rights_call, viewer}
 use Rattle.portal_model.specs.Examples.{a_node, a_text, document, editor, enters, file, grant, hello, opening, replied}
 use Rattle.portal_model.specs.FileExamples.{shown}
 use Rattle.portal_model.specs.History.{Legal}
+use Rattle.portal_model.specs.Lawful.{nothing_given}
 use Rattle.portal_model.specs.Opening.{opened}
+use Rattle.portal_model.specs.State.{State}
+use Rattle.rights_rule.specs.Rights.{RightSet}
+use Rattle.app_world.specs.DocumentExamples.{a_document, in_tree}
 use Rattle.app_world.specs.Examples.{at_path, b_text, both, held, old_file, viewing}
 use Rattle.app_world.specs.TraceItem.{TraceItem, Own, Bytes}
 use Rattle.app_world.specs.World.{Trace, app_run, trace}
+use Rattle.file_laws.specs.Touches.{IsGained}
 
 -- the file of document 0000000b in the caller's own view: 2 * 2^32 + 11
 abbrev pub b_node : ℕ
@@ -145,3 +150,20 @@ abbrev pub AreItemsTold : Bool → ℕ → Type 0
 AreItemsTold same count =
     length (trace viewer (opened (cond same one_file two_paths)) (sharing (cond same 5 0))).items
     ≡ count
+
+-- ---- what a grant may tell
+
+-- the viewer may read the file of document 0000000a, and the host gives it three rights
+abbrev pub viewer_reads_only : State
+viewer_reads_only = in_tree (document 10 n_text (grant viewer 1 ∷ []) ∷ [])
+
+abbrev pub three_rights : Request
+three_rights =
+    Request.Grant
+    (rights_call a_doc viewer (codes "read" ∷ codes "write" ∷ codes "delete" ∷ []))
+
+-- the viewer may be told of these rights in that document
+abbrev pub IsToldOfAGrant : RightSet → Type 0
+IsToldOfAGrant rights =
+    IsGained viewer viewer_reads_only 2 three_rights nothing_given a_document rights
+    (OfFile 0 [] 0)

@@ -2,31 +2,36 @@
 -- where a request changes them; and its rights in documents. Nothing else of what others ask is
 -- told. The requests that change a file are those of include/uapi/linux/fuse.h; those on documents
 -- are of the documentation of org.freedesktop.portal.Documents.
-use Rattle.std.specs.Prelude.{◌≡◌, ℕ, List, [], ◌∷◌, Bool, true, false, ◌&&◌, cond, Option, Some, None, is_some}
+use Rattle.std.specs.Prelude.{◌≡◌, ℕ, List, [], ◌∷◌, ◌++◌, Bool, true, false, ◌&&◌, cond, Option, Some, None, is_some}
 use Rattle.portal_base.specs.Names.{is_same}
 use Rattle.portal_base.specs.declared.files.File.{File}
 use Rattle.portal_base.specs.declared.names.doc_id.DocId.{DocId}
-use Rattle.rights_rule.specs.Rights.{RightSet, contains, holds_any, no_rights, rights_named}
+use Rattle.rights_rule.specs.Rights.{RightSet, contains, holds_any, minus, no_rights, rights_named}
 use Rattle.portal_model.specs.declared.entry.Entry.{Entry}
 use Rattle.portal_model.specs.declared.entry.Given.{Given}
 use Rattle.portal_model.specs.declared.handle.Handle.{Handle}
+use Rattle.portal_model.specs.declared.request.AddRequest.{AddRequest}
 use Rattle.portal_model.specs.declared.request.NodeOp.{NodeOp}
 use Rattle.portal_model.specs.declared.request.NodeRequest.{NodeRequest}
 use Rattle.portal_model.specs.declared.request.Request.{Request}
+use Rattle.portal_model.specs.declared.request.RightsCall.{RightsCall}
 use Rattle.portal_model.specs.declared.state.Connection.{Connection}
 use Rattle.portal_model.specs.declared.state.Document.{Document}
+use Rattle.portal_model.specs.Add.{Added, add_files, taken_from_queue, used_again}
+use Rattle.portal_model.specs.AddArguments.{document_paths, is_left_out}
 use Rattle.portal_model.specs.Content.{Content, OfFile, content_at}
 use Rattle.portal_model.specs.Lawful.{Lawful}
 use Rattle.portal_model.specs.Node.{NodeFacts, facts_of}
 use Rattle.portal_model.specs.Open.{truncates}
 use Rattle.portal_model.specs.Place.{Folder, RootOf, Views, FolderOf, Sight, SightOfFile, SightOfFolder}
 use Rattle.portal_model.specs.SetAttr.{sets_by_handle, sets_size}
-use Rattle.portal_model.specs.State.{State, connection_of}
-use Rattle.portal_model.specs.Step.{after, mount_of, reply_at}
+use Rattle.portal_model.specs.State.{State, connection_of, document_of, held_of}
+use Rattle.portal_model.specs.Step.{after, bus_of, mount_of, reply_at}
 use Rattle.portal_model.specs.Valid.{Valid}
-use Rattle.app_world.specs.Add.{names_app}
+use Rattle.app_world.specs.Add.{document_used, names_app}
 use Rattle.app_world.specs.Effect.{Effect, Gained, Lost, Gone, Bytes}
 use Rattle.app_world.specs.Laws.{asks}
+use Rattle.app_world.specs.Revoke.{common}
 use Rattle.app_world.specs.RightsTold.{identifies}
 use Rattle.app_world.specs.Touched.{is_done}
 use Rattle.app_world.specs.View.{AppView, HeldDocument, found_content, found_document, names, view}
@@ -135,16 +140,55 @@ abbrev pub deletes_document : ℕ → Request → Bool
 deletes_document number (Request.DeleteDocument doc) = identifies doc number
 deletes_document number request = false
 
--- some of the rights that a request lists for the application, in a document with the content that
--- these files have at its path
-pub record IsGained (app : List ℕ) (files : List File) (request : Request) (d : Document)
-    (more : RightSet) (content : Content) : Type 0 where
-  pub given : gives_to app d.id.number request ≡ true
+-- the live document that a Grant names, with all the rights that it lists and the application had
+-- not
+pub record IsGranted (app : List ℕ) (s : State) (call : RightsCall) (d : Document)
+    (more : RightSet) : Type 0 where
+  pub live : document_of s.documents d.id.number ≡ Some d
+  pub all : more ≡ minus (rights_named call.names) (held_of s.rights app d.id.number)
+
+-- what an Add on this connection has come to as these files of it are through
+abbrev pub added_ahead : State → Connection → AddRequest → List DocId → List (List ℕ) → Added
+added_ahead s c a numbers ahead = add_files c.who a (taken_from_queue c a s) numbers ahead
+
+-- The document that an Add uses for one of its files, the one that is there to be used again or a
+-- new one, with all the rights that it lists and the application had not ahead of this file
+pub record IsAdded (app : List ℕ) (s : State) (c : Connection) (a : AddRequest)
+    (numbers : List DocId) (d : Document) (more : RightSet) : Type 0 where
+  pub ahead : List (List ℕ)
+  pub behind : List (List ℕ)
+  pub file : document_paths c.queue a ≡ ahead ++ d.path ∷ behind
+  pub needed : is_left_out a d.path ≡ false
+  pub used :
+      let done = added_ahead s c a numbers ahead in
+      d ≡ document_used a done.numbers d.path (used_again done.state.documents a d.path)
+  pub all :
+      let done = added_ahead s c a numbers ahead in
+      more ≡ minus (rights_named a.names) (held_of done.state.rights app d.id.number)
+
+abbrev pub IsAddedOn : List ℕ → State → AddRequest → Given → Option Connection → Document →
+    RightSet → Type 0
+IsAddedOn app s a given None d more = ⊥
+IsAddedOn app s a given (Some c) d more = IsAdded app s c a given.numbers d more
+
+abbrev pub IsGivenBy : List ℕ → State → ℕ → Request → Given → Document → RightSet → Type 0
+IsGivenBy app s seat (Request.Add a) given d more =
+    IsAddedOn app s a given (bus_of (connection_of s.connections seat)) d more
+IsGivenBy app s seat (Request.Grant call) given d more = IsGranted app s call d more
+IsGivenBy app s seat request given d more = ⊥
+
+-- All the rights that a request lists for the application and that are new to it, and none that it
+-- had before the request, in a document with the content that the files have at its path
+pub record IsGained (app : List ℕ) (s : State) (seat : ℕ) (request : Request) (given : Given)
+    (d : Document) (more : RightSet) (content : Content) : Type 0 where
+  pub named : gives_to app d.id.number request ≡ true
   pub some : holds_any more ≡ true
   pub listed : contains (rights_listed request) more ≡ true
-  pub shows : content ≡ content_at files d.path
+  pub new : minus more (held_of s.rights app d.id.number) ≡ more
+  pub whole : IsGivenBy app s seat request given d more
+  pub shows : content ≡ content_at s.files d.path
 
--- some of the rights that a request lists, which the application has in a document that it holds
+-- all the rights that a request lists and that the application has in a document that it holds
 pub record IsLost (app : List ℕ) (v : AppView) (request : Request) (id : DocId)
     (less : RightSet) : Type 0 where
   pub held : HeldDocument
@@ -153,6 +197,7 @@ pub record IsLost (app : List ℕ) (v : AppView) (request : Request) (id : DocId
   pub some : holds_any less ≡ true
   pub listed : contains (rights_listed request) less ≡ true
   pub had : contains held.rights less ≡ true
+  pub all : less ≡ common (rights_listed request) held.rights
 
 -- a document that the application holds is deleted
 pub record IsGone (v : AppView) (request : Request) (id : DocId) : Type 0 where
@@ -160,11 +205,19 @@ pub record IsGone (v : AppView) (request : Request) (id : DocId) : Type 0 where
   pub deleted : deletes_document id.number request ≡ true
 
 -- of a request that is none on a node; bytes are not told by it
-abbrev pub IsOfDocument : List ℕ → State → Request → Effect → Type 0
-IsOfDocument app s request (Gained d more content) = IsGained app s.files request d more content
-IsOfDocument app s request (Lost id less) = IsLost app (view s app) request id less
-IsOfDocument app s request (Gone id) = IsGone (view s app) request id
-IsOfDocument app s request (Bytes path generation content) = ⊥
+abbrev pub IsOfDocument : List ℕ → State → ℕ → Request → Given → Effect → Type 0
+IsOfDocument app s seat request given (Gained d more content) =
+    IsGained app s seat request given d more content
+IsOfDocument app s seat request given (Lost id less) = IsLost app (view s app) request id less
+IsOfDocument app s seat request given (Gone id) = IsGone (view s app) request id
+IsOfDocument app s seat request given (Bytes path generation content) = ⊥
+
+-- rights in a live document are told, and nothing else
+abbrev pub IsLiveIn : List Document → Effect → Type 0
+IsLiveIn documents (Gained d more content) = document_of documents d.id.number ≡ Some d
+IsLiveIn documents (Lost id less) = ⊥
+IsLiveIn documents (Gone id) = ⊥
+IsLiveIn documents (Bytes path generation content) = ⊥
 
 abbrev pub EachEffect : (Effect → Type 0) → List Effect → Type 0
 EachEffect P [] = Unit {0}
@@ -178,7 +231,8 @@ is_on_node request = false
 
 -- An entry that is not done tells nothing. A lawful request on a node tells the bytes of the file
 -- that it changes, once, if the view names the path, and nothing else. Every other request tells
--- of rights that it lists, and of documents that the application holds.
+-- of all rights that it lists and that are new to the application, and of documents that it holds.
+-- A lawful Add tells of documents that are live after it.
 pub record TouchesAreOfWhatIsHeld : Type 0 where
   pub refused :
       (app : List ℕ) (s : State) (e : Entry) → is_done (reply_at s e).answer ≡ false →
@@ -191,4 +245,9 @@ pub record TouchesAreOfWhatIsHeld : Type 0 where
   pub documents :
       (app : List ℕ) (s : State) (seat : ℕ) (request : Request) (given : Given) →
       is_on_node request ≡ false →
-      EachEffect (IsOfDocument app s request) (touch app s (asks seat request given))
+      EachEffect (IsOfDocument app s seat request given) (touch app s (asks seat request given))
+  pub additions :
+      (app : List ℕ) (s : State) (seat : ℕ) (a : AddRequest) (given : Given) → Valid s →
+      Lawful s (asks seat (Request.Add a) given) →
+      EachEffect (IsLiveIn (after s (asks seat (Request.Add a) given)).documents)
+      (touch app s (asks seat (Request.Add a) given))

@@ -4,7 +4,7 @@
 //! The first functions do nothing; their contract is the example. What is
 //! expected is worked out by hand, so that a wrong definition does not meet it.
 //! The last ones give a part of an example by code: how many bytes are told, or
-//! the number of a handle, or else the number of an error.
+//! the number of a handle, or else the number of an error; and rights.
 
 ghost use Rattle.file_laws.specs.Examples.{
   BothLawsApply,
@@ -15,13 +15,18 @@ ghost use Rattle.file_laws.specs.Examples.{
   RightsGivenAgain,
   WhatEndsAHandle,
 };
+ghost use Rattle.file_laws.specs.HandleLimits.{HandlesAreLimited};
+ghost use Rattle.file_laws.specs.HostExamples.{HostSeesByRights};
+ghost use Rattle.file_laws.specs.ReuseExamples.{UsedAgainIsShared};
 ghost use Rattle.file_laws.specs.TouchExamples.{
   AreItemsTold,
+  IsToldOfAGrant,
   OtherPathIsNotTold,
   SharedFileIsTold,
 };
 
 use portal_model::errno::ENOENT;
+use rights_rule::Rights;
 
 /// Which entries take a right and give it again, and that a file is opened then.
 pub fn rights_given_again()
@@ -49,6 +54,24 @@ pub fn shared_file_is_told()
 /// Where their documents are of two files, the other is told nothing.
 pub fn other_path_is_not_told()
     ensures { OtherPathIsNotTold }
+{}
+
+/// A document that is used again is shared: who gains it is told what the other
+/// writes, and the other is told nothing of it.
+pub fn a_document_is_used_again()
+    ensures { UsedAgainIsShared }
+{}
+
+/// A connection opens up to its limit of handles, whatever that is, and each gets
+/// the next number.
+pub fn handles_up_to_their_limit()
+    ensures { HandlesAreLimited }
+{}
+
+/// The host sees the file of an application's view with the mode that its rights
+/// give.
+pub fn the_host_sees_by_rights()
+    ensures { HostSeesByRights }
 {}
 
 /// How many bytes an application reads by a handle after its rights were taken.
@@ -87,4 +110,12 @@ pub fn items_of_a_trace(same_path: bool) -> u32
     ensures { AreItemsTold same_path result }
 {
     if same_path { 4 } else { 3 }
+}
+
+/// The rights that an application which may read a document is told of, as it is
+/// given the rights to read, to write and to delete it.
+pub fn rights_told_of_a_grant() -> Rights
+    ensures { IsToldOfAGrant result }
+{
+    Rights::WRITE.union(Rights::DELETE)
 }

@@ -7,15 +7,16 @@
 //! the handle that was opened by that number, whatever was revoked or deleted since,
 //! until its own connection releases it or ends; and that of what others ask an
 //! application is told the files that change at paths which its view names, and its
-//! rights in documents, and nothing else.
+//! rights in documents, and nothing else. What is done was allowed.
 //!
 //! | Room | Holds |
 //! |---|---|
-//! | `laws` | the three laws, a function each |
+//! | `laws` | the four laws, a function each |
 //! | `examples` | worked cases, computed over the definitions; the last ones give a part by code |
 //! | `specs/Revocations` | an OPEN that is done, and a right that is taken and given again |
 //! | `specs/KeptHandles` | the entries that open, use and end a handle |
 //! | `specs/Touches` | the file that a request changes, and what is told of it and of rights |
+//! | `specs/OnlyAllowed` | that what is done was allowed |
 //!
 //! ```text
 //! // org.ed opens document 0000000a to read and write: handle 1. The host revokes both rights.

@@ -1,4 +1,5 @@
-//! Vectors of the counts of nodes and of open handles.
+//! Vectors of nodes: what their numbers name and who sees it, their counts, and
+//! open handles.
 //!
 //! Reads lines from standard input. A line names a call, and what the call is
 //! given; its answer is printed as a line. Empty lines and lines that begin with
@@ -9,6 +10,8 @@
 mod error;
 mod handles;
 mod inodes;
+mod places;
+mod records;
 
 use crate::error::VectorError;
 use std::alloc::Global;
@@ -47,6 +50,10 @@ fn answer(alloc: Global, line: &str) -> Result<String, VectorError> {
     match kind {
         "inodes" => inodes::inodes(alloc, rest),
         "handles" => handles::handles(alloc, rest),
+        "place" => places::place(alloc, rest),
+        "node" => places::node(alloc, rest),
+        "resolve" => places::resolved(alloc, rest),
+        "list" => places::list(alloc, rest),
         _ => Err(VectorError::Line(LineError::BadLine)),
     }
 }

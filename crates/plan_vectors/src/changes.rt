@@ -1,11 +1,10 @@
 //! Calls on rights, and deletions.
 
-use crate::error::VectorError;
-use crate::records::{bytes, documents, grants, texts, who};
 use crate::shown;
 use grant_revoke::{RightsKind, check, check_delete};
-use portal_model::request::RightsCall;
+use record_lines::{bytes, documents, grants, rights_call, who};
 use std::alloc::Global;
+use vector_lines::error::{VectorError, given};
 use vector_lines::notation::cut;
 
 /// `grant WHO RECORD.. doc=ID app=NAME names=NAME,..`: what a GrantPermissions
@@ -21,20 +20,15 @@ pub fn revoke(alloc: Global, rest: &str) -> Result<String, VectorError> {
 
 fn change(alloc: Global, kind: RightsKind, rest: &str) -> Result<String, VectorError> {
     let (caller, words) = cut(rest);
-    let call = RightsCall {
-        doc: bytes(alloc, words, "doc=")?,
-        app: bytes(alloc, words, "app=")?,
-        names: texts(alloc, words, "names=")?,
-    };
     let plan = check(
         alloc,
         &documents(alloc, words)?,
         &grants(alloc, words)?,
         &who(alloc, caller)?,
         kind,
-        &call,
-    )?;
-    shown::change(alloc, &plan)
+        &rights_call(alloc, words)?,
+    );
+    shown::change(alloc, &given(alloc, plan)?)
 }
 
 /// `delete WHO RECORD.. doc=ID`: the document that a Delete removes.
@@ -45,6 +39,6 @@ pub fn delete(alloc: Global, rest: &str) -> Result<String, VectorError> {
         &grants(alloc, words)?,
         &who(alloc, caller)?,
         bytes(alloc, words, "doc=")?.as_slice(),
-    )?;
-    shown::identifier(alloc, id)
+    );
+    shown::identifier(alloc, given(alloc, id)?)
 }

@@ -1,11 +1,11 @@
 //! How plans are printed.
 
-use crate::error::VectorError;
 use add_files::{AddPlan, PlanItem, PlanUse};
 use grant_revoke::RightsPlan;
 use portal_base::names::{AppId, DocId};
 use rights_rule::Rights;
 use std::alloc::Global;
+use vector_lines::error::VectorError;
 
 /// A plan of an addition: how many documents are new, the application and the
 /// rights that are listed for it, and the files.

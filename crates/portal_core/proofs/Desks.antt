@@ -1,5 +1,5 @@
 -- A desk that sees the whole history: what it answers is what a desk promises.
-use Rattle.std.proofs.Common.{◌≡◌, ℕ, List, [], ◌∷◌, ◌++◌, ◌≤◌, Some, None, Ok, refl, sym, ap, ◌∙◌, subst, arith}
+use Rattle.std.proofs.Common.{◌≡◌, ℕ, List, [], ◌∷◌, ◌++◌, Some, None, Ok, refl, sym, ap, ◌∙◌, subst, arith}
 use Rattle.std.proofs.lemmas.List.{append-nil}
 use Rattle.std.proofs.lemmas.List.Elements.{All-cons, All-nil}
 use Rattle.portal_model.specs.declared.entry.Entry.{Entry}
@@ -7,7 +7,7 @@ use Rattle.portal_model.specs.declared.reply.Reply.{Reply}
 use Rattle.portal_model.specs.declared.request.Request.{Request}
 use Rattle.portal_model.specs.Alike.{Alike}
 use Rattle.portal_model.specs.History.{run}
-use Rattle.portal_model.specs.Seated.{Asks, Made, exchange, exchanges}
+use Rattle.portal_model.specs.Seated.{Asks, Made, exchange, exchanges, rises_by}
 use Rattle.portal_model.specs.State.{State}
 use Rattle.portal_model.specs.Step.{reply_at}
 use Rattle.portal_model.proofs.SeatLaws.{exchanges-own}
@@ -48,18 +48,18 @@ pub goes_on : {S : Type 0} (says : S → Entry → S → Type 0) (spends : S →
     GoesOn says spends a (seated_at s old seat refusals) b (seated_at t new seat refusals)
 goes_on says spends a b s t old new seat refusals request reply e g = record {
   moved = record { opening = e; seat = refl; begins = (g.entry ∷ [], g.grown) };
-  count = omega arith;
   asked = Some g.entry ∷ [];
   grows = record { grown = g.grown; own = All-cons (λ (x : Entry). x.seat ≡ seat) g.entry [] g.seat_is (All-nil _) };
+  count = omega arith;
   chain = (b, g.said, refl);
 }
 
-pub goes_refused : {S : Type 0} (says : S → Entry → S → Type 0) (spends : S → S → Type 0) (a b : S) (s t : State) (old new : List Entry) (seat refusals more : ℕ) → t ≡ s → new ≡ old → refusals ≤ more → spends a b →
+pub goes_refused : {S : Type 0} (says : S → Entry → S → Type 0) (spends : S → S → Type 0) (a b : S) (s t : State) (old new : List Entry) (seat refusals more : ℕ) → t ≡ s → new ≡ old → more ≡ rises_by refusals 1 → spends a b →
     GoesOn says spends a (seated_at s old seat refusals) b (seated_at t new seat more)
 goes_refused says spends a b s t old new seat refusals more e n k spent = record {
   moved = record { opening = e; seat = refl; begins = ([], n ∙ sym (append-nil old)) };
-  count = k;
   asked = None ∷ [];
   grows = record { grown = n ∙ sym (append-nil old); own = All-nil _ };
+  count = k;
   chain = (b, spent, refl);
 }

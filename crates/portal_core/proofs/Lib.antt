@@ -7,7 +7,14 @@ pub mod KeptRights
 pub mod GoodRecords
 pub mod FreshItems
 pub mod Beginning
-pub mod OwnFileEntries
 pub mod Looks
 pub mod Steps
+pub mod SameRecords
+pub mod CallVerdicts
+pub mod SettledCalls
+pub mod CallSteps
+pub mod ServedLists
+pub mod WentDevices
+pub mod NodeFailures
+pub mod SeatQueues
 pub mod Desks

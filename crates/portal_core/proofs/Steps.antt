@@ -24,7 +24,7 @@ use Rattle.portal_model.specs.Bus.{is_tree}
 use Rattle.portal_model.specs.Errno.{eio}
 use Rattle.portal_model.specs.GetAttr.{get_attr_by_place, names_handle}
 use Rattle.portal_model.specs.History.{run, cost, cost_of}
-use Rattle.portal_model.specs.Lawful.{Lawful, LawfulOnNode, is_defined_op}
+use Rattle.portal_model.specs.Lawful.{Lawful, LawfulOnNode}
 use Rattle.portal_model.specs.Leave.{handles_left, left, of_others}
 use Rattle.portal_model.specs.Node.{facts_of, node_walk, settled_on_node, walk_on_node}
 use Rattle.portal_model.specs.NodeOutside.{LawfulNode}
@@ -44,7 +44,6 @@ use Rattle.portal_core.specs.Answered.{KeepsState}
 use Rattle.portal_core.specs.Held.{Stands, state_of}
 use Rattle.portal_core.specs.Served.{GetsAttr, LooksAt, NodeServed, OpServed, collect_answer, entry_of, fault_of, looked, sight_in, taken}
 use Rattle.portal_core.specs.TreeCalls.{Calling}
-use Rattle.portal_core.proofs.OwnFileEntries.{is_entry}
 use Rattle.portal_core.proofs.Looks.{attr_walk, calling_at, kept_at, not_kept, risen_at, walk_answers, walk_clock, walk_gives, walk_keeps}
 
 -- ---- a request on a node, in any state
@@ -53,7 +52,7 @@ mount_found : (o : Option Connection) (c : Connection) → mount_of o ≡ Some c
 mount_found None c e = cc
 mount_found (Some d) c e = elim (is_mount d.kind) as (λ b. cond b (Some d) None ≡ Some c → Some d ≡ Some c) [ true ↦ λ h. h | false ↦ λ h. cc ] e
 
-bus_found : (o : Option Connection) (c : Connection) → bus_of o ≡ Some c → o ≡ Some c
+pub bus_found : (o : Option Connection) (c : Connection) → bus_of o ≡ Some c → o ≡ Some c
 bus_found None c e = cc
 bus_found (Some d) c e = elim (is_mount d.kind) as (λ b. cond b None (Some d) ≡ Some c → Some d ≡ Some c) [ true ↦ λ h. cc | false ↦ λ h. h ] e
 
@@ -68,7 +67,6 @@ fewer_others seat (c ∷ cs) e = grind (arith, fewer_others seat cs, others_with
 
 -- what a request on a node comes to in a state: it is lawful, the step replies so and leaves the state, just these calls were made, and EIO tells of one that failed
 pub record Serves (s : State) (seat : ℕ) (r : NodeRequest) (old : TreeIs) (answer : Answer) (look : Option LookAnswer) (new : TreeIs) : Type 0 where
-  pub defined : is_defined_op r.node r.op ≡ true
   pub given : LawfulOnNode s r (looked (taken look) (fault_of look)) (mount_of (connection_of s.connections seat))
   pub answer_is : reply_with [] answer ≡ (node_step s r (looked (taken look) (fault_of look)) (mount_of (connection_of s.connections seat))).1
   pub stays : (node_step s r (looked (taken look) (fault_of look)) (mount_of (connection_of s.connections seat))).0 ≡ s
@@ -82,7 +80,6 @@ module _ (began : Option (List File)) (o : OpeningState) (ds : DocumentList) (rs
 
   serves_absent : (answer : Answer) (look : Option LookAnswer) (new : TreeIs) → BuiltOp r.node r.op → mount_of (connection_of cs seat) ≡ None → NodeServed ds.live rs None r old answer look new → Serves at seat r old answer look new
   serves_absent answer look new b e k = rw (k.0, k.1) (record {
-    defined = is_entry r.node r.op b;
     given = rw e refl;
     answer_is = rw e refl;
     stays = rw e refl;
@@ -135,7 +132,6 @@ module _ (began : Option (List File)) (o : OpeningState) (ds : DocumentList) (rs
       let walk = walk_is c flags fh k own in
       let step = node_step-silent at seat c r given (mount_found (connection_of cs seat) c here) silent in
       record {
-        defined = ap (is_defined_op r.node) k;
         given = rw here (subst (λ (s : State). LawfulNode s c r given) (sym (all_told-silent c.seat at silent)) (given_at c look new flags fh k own g.asked));
         answer_is = rw here (ap (reply_with []) (g.answer_is ∙ walk_answers at c r (names_handle flags) sight old look new g.asked
             ∙ ap (λ (w : Walk NodeVerdict). (settled_on_node at c (walked w 0 (taken look) (is_tree (fault_of look)))).1) (sym walk))
@@ -148,12 +144,9 @@ module _ (began : Option (List File)) (o : OpeningState) (ds : DocumentList) (rs
         kept = kept_at (cond (names_handle flags) None sight) old look new g.asked;
       }
 
-  asked_own : (flags fh : ℕ) → BuiltOp r.node (NodeOp.GetAttr flags fh) → (names_handle flags || is_own_file r.node) ≡ true
-  asked_own flags fh b = λ i. b.0 i || b.1 i
-
   serves_op : (answer : Answer) (look : Option LookAnswer) (new : TreeIs) (c : Connection) (op : NodeOp) → mount_of (connection_of cs seat) ≡ Some c → r.op ≡ op → BuiltOp r.node op →
       OpServed ds.live rs c.who r op old answer look new → Serves at seat r old answer look new
-  serves_op answer look new c (NodeOp.GetAttr flags fh) here k b g = serves_get_attr answer look new c flags fh here k (asked_own flags fh b) g
+  serves_op answer look new c (NodeOp.GetAttr flags fh) here k b g = serves_get_attr answer look new c flags fh here k b g
   serves_op answer look new c op here k b g = absurd b
 
   serves_mount : (answer : Answer) (look : Option LookAnswer) (new : TreeIs) (m : Option Connection) → BuiltOp r.node r.op → mount_of (connection_of cs seat) ≡ m → NodeServed ds.live rs m r old answer look new → Serves at seat r old answer look new
@@ -190,7 +183,7 @@ module _ (began : Option (List File)) (o : OpeningState) (h : List Entry) (limit
   -- an Enter
 
   enter_lawful : (seat : ℕ) (who : Who) (kind : Kind) → is_caller who ≡ true → Lawful (state_of began o ds rs apps cs) (entry_of seat (Request.Enter who kind) [] Fault.None)
-  enter_lawful seat who kind named = record { defined = refl; given = (named, refl) }
+  enter_lawful seat who kind named = record { given = (named, refl) }
 
   entered_there : (seat : ℕ) (who : Who) (kind : Kind) (c : Option Connection) → is_some c ≡ true → entered seat who kind cs c ≡ cs
   entered_there seat who kind None e = cc
@@ -213,7 +206,7 @@ module _ (began : Option (List File)) (o : OpeningState) (h : List Entry) (limit
   -- a Leave
 
   leave_lawful : (seat : ℕ) → Lawful (state_of began o ds rs apps cs) (entry_of seat Request.Leave [] Fault.None)
-  leave_lawful seat = record { defined = refl; given = refl }
+  leave_lawful seat = record { given = refl }
 
   -- none is open
   no_handles : (seat : ℕ) (c : Option Connection) → handles_left seat [] c ≡ []
@@ -242,7 +235,7 @@ module _ (began : Option (List File)) (o : OpeningState) (h : List Entry) (limit
 
   pub stands_collected : (seat : ℕ) → cost h + cost_of Request.Collect ≤ o.limits.history → Stands began o (h ++ entry_of seat Request.Collect [] Fault.None ∷ []) limit ds rs apps cs
   stands_collected seat room =
-      stands_more (entry_of seat Request.Collect [] Fault.None) cs (record { defined = refl; given = refl }) (collect_kept (bus_of (connection_of cs seat))) room
+      stands_more (entry_of seat Request.Collect [] Fault.None) cs (record { given = refl }) (collect_kept (bus_of (connection_of cs seat))) room
 
   collect_replied : (seat : ℕ) (c : Option Connection) (b : Option Connection) → connection_of cs seat ≡ c → bus_of c ≡ b → reply_with [] (collect_answer b) ≡ (collect_step (state_of began o ds rs apps cs) b).1
   collect_replied seat c None e k = refl
@@ -259,13 +252,13 @@ module _ (began : Option (List File)) (o : OpeningState) (h : List Entry) (limit
       Stands began o (h ++ entry_of seat (Request.Node r) (taken look) (fault_of look) ∷ []) limit ds rs apps cs
   stands_node seat r old answer look new k room =
       stands_more (entry_of seat (Request.Node r) (taken look) (fault_of look)) cs
-      (record { defined = k.defined; given = k.given })
+      (record { given = k.given })
       k.stays
       room
 
   node_lawful : (seat : ℕ) (r : NodeRequest) (old : TreeIs) (answer : Answer) (look : Option LookAnswer) (new : TreeIs) → Serves (state_of began o ds rs apps cs) seat r old answer look new →
       Lawful (state_of began o ds rs apps cs) (entry_of seat (Request.Node r) (taken look) (fault_of look))
-  node_lawful seat r old answer look new k = record { defined = k.defined; given = k.given }
+  node_lawful seat r old answer look new k = record { given = k.given }
 
   pub lawful_node : (seat : ℕ) (r : NodeRequest) (old : TreeIs) (answer : Answer) (look : Option LookAnswer) (new : TreeIs) → Serves (state_of began o ds rs apps cs) seat r old answer look new →
       Lawful (run (opened_over began o) h) (entry_of seat (Request.Node r) (taken look) (fault_of look))

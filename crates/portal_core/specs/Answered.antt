@@ -1,5 +1,5 @@
 -- What an answer does to a portal.
-use Rattle.std.specs.Prelude.{◌≡◌, ◌≢◌, ℕ, [], ◌∷◌, ◌++◌, Option, IfSome}
+use Rattle.std.specs.Prelude.{◌≡◌, ◌≢◌, ℕ, List, [], ◌∷◌, ◌++◌, false, Option, IfSome}
 use Rattle.portal_base.specs.Outside.{HasRisen}
 use Rattle.host_tree.specs.Trees.{TreeIs}
 use Rattle.portal_model.specs.declared.entry.Entry.{Entry}
@@ -14,21 +14,43 @@ use Rattle.portal_model.specs.Kept.{records_of}
 use Rattle.portal_model.specs.Lawful.{Lawful}
 use Rattle.portal_model.specs.State.{State}
 use Rattle.portal_model.specs.Step.{reply_at}
+use Rattle.record_keeper.specs.Keepers.{KeeperIs}
+use Rattle.document_calls.specs.KeeperCalls.{KeeperStays}
+use Rattle.portal_core.specs.Devices.{Drawn, Keeping, may_change_records, may_draw}
 use Rattle.portal_core.specs.Story.{PortalIs, state_now}
 use Rattle.portal_core.specs.TreeCalls.{Calling}
 
--- What the devices went through in an entry: just the calls of the tree that its step reaches were
--- made. No request that has a body asks the keeper, reads the clock or draws a word.
-pub record Went {T K C W : Type 0} (tree_is : T → TreeIs) (old : PortalIs T K C W) (e : Entry)
+-- The history grew by an entry, and this is what the devices went through in it: just the calls of the tree that its step reaches were
+-- made; the keeper was asked once where the faultless step changes the records, and else not at
+-- all; the words that were drawn are the first that were to come; the clock stayed. Where the
+-- request may not change the records the keeper is the same, and so are the words where it may draw
+-- none.
+pub record Went {T K C W : Type 0} (tree_is : T → TreeIs) (keeper_is : K
+    → KeeperIs) (words_told : W → Option (List ℕ)) (old : PortalIs T K C W) (e : Entry)
     (new : PortalIs T K C W) : Type 0 where
+  pub grown : new.story ≡ record old.story { history = old.story.history ++ e ∷ [] }
   pub tree : Calling (tree_is old.tree) e.given (tree_is new.tree)
-  pub kept : e.given.fault ≢ Fault.Keeper
-  pub keeper : new.keeper ≡ old.keeper
+  pub keeper : Keeping (state_now old.story) e (state_now new.story) (keeper_is old.keeper)
+      (keeper_is new.keeper)
+  pub clock : new.clock ≡ old.clock
+  pub words : Drawn (words_told old.words) e.given.words (words_told new.words)
+  pub unkept : may_change_records e.request ≡ false →
+      (e.given.fault ≢ Fault.Keeper) × (new.keeper ≡ old.keeper)
+  pub undrawn : may_draw e.request ≡ false → new.words ≡ old.words
+
+-- What a refusal does, which comes where memory is wanted: the keeper may have been asked once and
+-- have wanted memory too. All else is as before.
+pub record Spends {T K C W : Type 0} (keeper_is : K → KeeperIs) (old : PortalIs T K C W)
+    (new : PortalIs T K C W) : Type 0 where
+  pub tree : new.tree ≡ old.tree
+  pub keeper : KeeperStays (keeper_is old.keeper) (keeper_is new.keeper)
   pub clock : new.clock ≡ old.clock
   pub words : new.words ≡ old.words
+  pub story : new.story ≡ old.story
 
 -- the history grew by one lawful entry, of this seat and request, to which the step replies so
-pub record Answers {T K C W : Type 0} (tree_is : T → TreeIs) (old new : PortalIs T K C W)
+pub record Answers {T K C W : Type 0} (tree_is : T → TreeIs) (keeper_is : K
+    → KeeperIs) (words_told : W → Option (List ℕ)) (old new : PortalIs T K C W)
     (seat : ℕ) (request : Request) (reply : Reply) : Type 0 where
   pub entry : Entry
   pub grown : new.story.history ≡ old.story.history ++ entry ∷ []
@@ -36,7 +58,7 @@ pub record Answers {T K C W : Type 0} (tree_is : T → TreeIs) (old new : Portal
   pub request_is : entry.request ≡ request
   pub lawful : Lawful (state_now old.story) entry
   pub reply_is : reply ≡ reply_at (state_now old.story) entry
-  pub went : Went tree_is old entry new
+  pub went : Went tree_is keeper_is words_told old entry new
 
 -- a reply of EIO tells that a call of the tree failed: its count rose
 abbrev pub TellsFault : TreeIs → TreeIs → Reply → Type 0

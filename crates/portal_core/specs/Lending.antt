@@ -1,13 +1,13 @@
 -- The desk of one seat at a history that it borrows.
-use Rattle.std.specs.Prelude.{◌≡◌, ◌≤◌, ℕ, List, [], ◌∷◌, ◌++◌, Option, Some, None, refl}
+use Rattle.std.specs.Prelude.{◌≡◌, ◌+◌, ℕ, List, [], ◌∷◌, ◌++◌, Option, Some, None, refl}
 use Rattle.std.specs.List.{All}
 use Rattle.std.proofs.Common.{◌∙◌, sym, ap, subst, arith}
 use Rattle.std.proofs.lemmas.List.{append-nil, append_assoc}
 use Rattle.std.proofs.lemmas.List.Elements.{All-append, All-nil}
 use Rattle.portal_model.specs.declared.entry.Entry.{Entry}
-use Rattle.portal_model.specs.Seated.{Moved, Seated, exchanges}
+use Rattle.portal_model.specs.Seated.{Moved, Seated, exchanges, rises_by}
 use Rattle.portal_model.specs.State.{State}
-use Rattle.portal_core.specs.Chain.{Chain, answered}
+use Rattle.portal_core.specs.Chain.{Chain, answered, refused}
 
 -- what a seat knows that sees a whole history from a state
 abbrev pub seated_at : State → List Entry → ℕ → ℕ → Seated
@@ -24,15 +24,15 @@ pub record GrowsByOwn (seat : ℕ) (asked : List (Option Entry)) (old new : List
   pub grown : new ≡ old ++ answered asked
   pub own : All (λ e. e.seat ≡ seat) (answered asked)
 
--- The count of refusals doesn't fall, and the history grew by entries of this seat alone: a desk
--- alone borrows what keeps the history, so no other seat asks in between. Of each of them, and of
+-- The history grew by entries of this seat alone: a desk alone borrows what keeps the history, so no
+-- other seat asks in between. The refusals among what was asked are counted. Of each entry, and of
 -- each refusal, what keeps the history says what it says.
 pub record GoesOn {S : Type 0} (says : S → Entry → S → Type 0) (spends : S → S → Type 0)
     (keeper : S) (old : Seated) (keeper' : S) (new : Seated) : Type 0 where
   pub moved : Moved old new
-  pub count : old.refusals ≤ new.refusals
   pub asked : List (Option Entry)
   pub grows : GrowsByOwn old.seat asked old.seen new.seen
+  pub count : new.refusals ≡ rises_by old.refusals (refused asked)
   pub chain : Chain says spends keeper asked keeper'
 
 -- ---- its laws, which a desk that goes on so gives
@@ -59,6 +59,17 @@ own_further n p q h i j k l = record {
       (All-append (λ (e : Entry). e.seat ≡ n) (answered p) (answered q) k.own l.own);
 }
 
+refused-append : (p q : List (Option Entry)) → refused (p ++ q) ≡ refused p + refused q
+refused-append [] q = omega arith
+refused-append (None ∷ p) q = let more = refused-append p q in omega arith
+refused-append (Some e ∷ p) q = refused-append p q
+
+counted-further : (k m n : ℕ) (p q : List (Option Entry)) → m ≡ rises_by k (refused p)
+    → n ≡ rises_by m (refused q) → n ≡ rises_by k (refused (p ++ q))
+counted-further k m n p q a b =
+    let both = refused-append p q in
+    omega arith
+
 module _ {S : Type 0} (says : S → Entry → S → Type 0) (spends : S → S → Type 0) where
   pub Chain-append : (p q : List (Option Entry)) (a b c : S) → Chain says spends a p b
       → Chain says spends b q c → Chain says spends a (p ++ q) c
@@ -69,9 +80,9 @@ module _ {S : Type 0} (says : S → Entry → S → Type 0) (spends : S → S �
   pub goes_nowhere : (a : S) (d : Seated) → GoesOn says spends a d a d
   goes_nowhere a d = record {
     moved = record { opening = refl; seat = refl; begins = ([], sym (append-nil d.seen)) };
-    count = omega arith;
     asked = [];
     grows = record { grown = sym (append-nil d.seen); own = All-nil _ };
+    count = omega arith;
     chain = refl;
   }
 
@@ -88,9 +99,9 @@ module _ {S : Type 0} (says : S → Entry → S → Type 0) (spends : S → S �
             ∙ append_assoc d.seen p.moved.begins.0 q.moved.begins.0),
       );
     };
-    count = let m = p.count in let n = q.count in omega arith;
     asked = p.asked ++ q.asked;
     grows = own_further d.seat p.asked q.asked d.seen e.seen f.seen p.grows
         (own_of_same e.seat d.seat p.moved.seat q.asked e.seen f.seen q.grows);
+    count = counted-further d.refusals e.refusals f.refusals p.asked q.asked p.count q.count;
     chain = Chain-append p.asked q.asked a b c p.chain q.chain;
   }

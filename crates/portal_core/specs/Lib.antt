@@ -1,7 +1,9 @@
 pub mod Story
 pub mod TreeCalls
+pub mod Devices
 pub mod Answered
 pub mod Served
+pub mod Documents
 pub mod Started
 pub mod Held
 pub mod Growth

@@ -3,10 +3,12 @@
 //!
 //! **It promises** that an answer is that of one step of the sequential portal, at
 //! the end of one legal history which grows by this one entry; that just the calls
-//! of its devices were made that the step reaches; that a refusal changes nothing;
-//! and that the Leave of an open connection is never refused. It is asked nothing
-//! but what has a body: Enter, Leave, Collect and GETATTR. It starts exactly where
-//! the records are good, and else says what is wrong and hands the devices back.
+//! of its devices were made that the step reaches, and the keeper's records are
+//! those that stand for the state; that a refusal changes nothing but how often the
+//! keeper was asked; and that the Leave of an open connection is never refused. It
+//! is asked nothing but what has a body: Enter, Leave, Collect, GETATTR and the
+//! requests on documents but Add. It starts exactly where the records are good, and
+//! else says what is wrong and hands the devices back.
 //!
 //! | Room | Holds |
 //! |---|---|
@@ -17,6 +19,7 @@
 //! | `opening` | the lists that an opening state begins with |
 //! | `lists`, `place` | what is looked up among connections and documents |
 //! | `attributes` | GETATTR |
+//! | `documents` | the requests on documents but Add |
 //!
 //! ```text
 //! let mut portal = Portal::start(alloc, tree, keeper, clock, words, limits)?;
@@ -25,6 +28,7 @@
 #![tactic(auto)]
 
 mod attributes;
+mod documents;
 mod lists;
 pub mod local_desk;
 mod opening;

@@ -1,6 +1,6 @@
 //! The portal.
 
-ghost use Rattle.std.specs.Prelude.{◌≡◌, ◌<◌, ◌≤◌, ◌^◌, [], ◌∷◌, length, true, IfErr, IfOk, IsOk, OnErr, OnOk, Some, None, option_copied};
+ghost use Rattle.std.specs.Prelude.{◌≡◌, ◌<◌, ◌≤◌, ◌^◌, [], ◌∷◌, length, false, true, IfErr, IfOk, IsOk, OnErr, OnOk, Some, None, option_copied};
 ghost use Rattle.portal_model.specs.Built.{Built, BuiltOp};
 ghost use Rattle.portal_model.specs.History.{Legal, cost};
 ghost use Rattle.portal_model.specs.Enter.{new_connection};
@@ -8,15 +8,19 @@ ghost use Rattle.portal_model.specs.Seated.{is_open};
 ghost use Rattle.portal_model.specs.State.{connection_of as open_connection};
 ghost use Rattle.portal_model.specs.Step.{mount_of as open_mount, reply_with};
 ghost use Rattle.portal_model.specs.Valid.{Valid, is_caller};
-ghost use Rattle.portal_core.specs.Answered.{Answers, KeepsState, TellsFault};
+ghost use Rattle.portal_core.specs.Answered.{Answers, KeepsState, Spends, TellsFault};
+ghost use Rattle.portal_core.specs.Devices.{TellsFailure, may_change_records};
+ghost use Rattle.portal_core.specs.Documents.{is_document_call};
 ghost use Rattle.portal_core.specs.Held.{told_files};
 ghost use Rattle.portal_core.specs.Served.{NodeServed, collect_answer as answer_of_bus, entry_of, fault_of, taken};
 ghost use Rattle.portal_core.specs.Started.{HandsBack, Starts};
 ghost use Rattle.portal_core.specs.Story.{HasCause, cost_with, limit_of, state_first, state_now};
 
 use crate::attributes::{NodeDone, get_attr};
+use crate::documents;
 use crate::lists::{bus_of, connection_of, mount_of, of_others};
 use crate::start::{Lists, StartRefusal, load};
+use document_calls::ServedCall;
 use document_records::{Applications, Documents, Grants};
 use host_tree::{HostTree, LookAnswer};
 use portal_base::files::Look;
@@ -170,30 +174,39 @@ impl<T: HostTree, K: Keeper, C: Clock, W: Words> Portal<T, K, C, W> {
     }
 
     /// Answers a request of a seat, which is a number from 1. The request is
-    /// one of those that have a body: an Enter, a Leave, a Collect, or a GETATTR
-    /// of a document's file in the caller's own view, by its node.
+    /// one of those that have a body: an Enter, a Leave, a Collect, a request
+    /// on documents but Add, or a GETATTR by a handle, or of a document's file
+    /// in the caller's own view.
     ///
     /// The reply is that of one step of the sequential portal, from the state
     /// after the history, which grows by this request. Just the calls of the
-    /// tree that the step reaches are made; EIO comes only where one of them
-    /// failed. A refusal leaves the portal as it was. `Full` comes exactly
-    /// where the history with this request would cost more than its limit;
-    /// want of memory may come at any other request, but not at the Leave of
-    /// an open connection, which is never refused.
+    /// tree that the step reaches are made, and the keeper is asked once where
+    /// the step changes the records; EIO and Failed come only where such a call
+    /// failed. A refusal leaves the portal as it was; one of a request that may
+    /// change the records may have asked the keeper in vain. `Full` comes
+    /// exactly where the history with this request would cost more than its
+    /// limit; want of memory may come at any other request, but not at the
+    /// Leave of an open connection, which is never refused.
     pub fn ask(&mut self, alloc: Global, seat: u32, request: Request) -> Result<Reply, Refused>
         requires seat { 1 ≤ seat }
         requires built { Built request }
 
         ensures began { self.new.story.began ≡ self.old.story.began }
         ensures opening { self.new.story.opening ≡ self.old.story.opening }
-        ensures ok { IfOk result (Answers T.is self.old self.new seat request) }
+        ensures ok { IfOk result (Answers T.is K.is W.told self.old self.new seat request) }
         ensures fault { IfOk result (TellsFault (T.is self.old.tree) (T.is self.new.tree)) }
-        ensures err { OnErr result (self.new ≡ self.old) }
+        ensures failure { IfOk result (TellsFailure (T.is self.old.tree) (T.is self.new.tree)
+            (K.is self.old.keeper) (K.is self.new.keeper)) }
+        ensures err { OnErr result (Spends K.is self.old self.new) }
+        ensures unasked { may_change_records request ≡ false
+            → OnErr result (self.new ≡ self.old) }
 
-        // Both ways: it is full exactly where the cost would pass the limit.
+        // Both ways: it is full exactly where the cost would pass the limit. Nothing is asked then.
         ensures full { limit_of self.old.story < cost_with self.old.story request
             → result
             ≡ Err (Refused.Full (cost self.old.story.history) (limit_of self.old.story)) }
+        ensures nothing { limit_of self.old.story < cost_with self.old.story request
+            → self.new ≡ self.old }
         ensures cause { IfErr result (HasCause self.old.story request) }
 
         // Enter took the room for it.
@@ -217,12 +230,18 @@ impl<T: HostTree, K: Keeper, C: Clock, W: Words> Portal<T, K, C, W> {
         requires { Built request }
         ensures began { self.new.story.began ≡ self.old.story.began }
         ensures opening { self.new.story.opening ≡ self.old.story.opening }
-        ensures ok { IfOk result (Answers T.is self.old self.new seat request) }
+        ensures ok { IfOk result (Answers T.is K.is W.told self.old self.new seat request) }
         ensures fault { IfOk result (TellsFault (T.is self.old.tree) (T.is self.new.tree)) }
-        ensures err { OnErr result (self.new ≡ self.old) }
+        ensures failure { IfOk result (TellsFailure (T.is self.old.tree) (T.is self.new.tree)
+            (K.is self.old.keeper) (K.is self.new.keeper)) }
+        ensures err { OnErr result (Spends K.is self.old self.new) }
+        ensures unasked { may_change_records request ≡ false
+            → OnErr result (self.new ≡ self.old) }
         ensures full { limit_of self.old.story < cost_with self.old.story request
             → result
             ≡ Err (Refused.Full (cost self.old.story.history) (limit_of self.old.story)) }
+        ensures nothing { limit_of self.old.story < cost_with self.old.story request
+            → self.new ≡ self.old }
         ensures cause { IfErr result (HasCause self.old.story request) }
         ensures leave { request ≡ Request.Leave → is_open (state_now self.old.story) seat ≡ true
             → IsOk result }
@@ -233,14 +252,22 @@ impl<T: HostTree, K: Keeper, C: Clock, W: Words> Portal<T, K, C, W> {
             Request::Leave => Ok(self.leave(alloc, seat)?),
             Request::Collect => Ok(self.collect(alloc, seat)?),
             Request::Node(node) => Ok(self.node(alloc, seat, node)?),
-            Request::Present { path: _unasked } => unreachable!(),
             Request::Add(_unasked) => unreachable!(),
-            Request::Grant(_unasked) => unreachable!(),
-            Request::Revoke(_unasked) => unreachable!(),
-            Request::DeleteDocument { doc: _unasked } => unreachable!(),
-            Request::LookupDocument { path: _unasked } => unreachable!(),
-            Request::Info { doc: _unasked } => unreachable!(),
-            Request::ListDocuments { app: _unasked } => unreachable!(),
+            Request::Present { path } => {
+                Ok(self.document(alloc, seat, Request::Present { path })?)
+            }
+            Request::Grant(call) => Ok(self.document(alloc, seat, Request::Grant(call))?),
+            Request::Revoke(call) => Ok(self.document(alloc, seat, Request::Revoke(call))?),
+            Request::DeleteDocument { doc } => {
+                Ok(self.document(alloc, seat, Request::DeleteDocument { doc })?)
+            }
+            Request::LookupDocument { path } => {
+                Ok(self.document(alloc, seat, Request::LookupDocument { path })?)
+            }
+            Request::Info { doc } => Ok(self.document(alloc, seat, Request::Info { doc })?),
+            Request::ListDocuments { app } => {
+                Ok(self.document(alloc, seat, Request::ListDocuments { app })?)
+            }
         }
     }
 
@@ -271,8 +298,10 @@ impl<T: HostTree, K: Keeper, C: Clock, W: Words> Portal<T, K, C, W> {
         requires { cost_with self.old.story (Request.Enter who kind) ≤ limit_of self.old.story }
         ensures began { self.new.story.began ≡ self.old.story.began }
         ensures opening { self.new.story.opening ≡ self.old.story.opening }
-        ensures ok { IfOk result (Answers T.is self.old self.new seat (Request.Enter who kind)) }
+        ensures ok { IfOk result (Answers T.is K.is W.told self.old self.new seat (Request.Enter who kind)) }
         ensures fault { IfOk result (TellsFault (T.is self.old.tree) (T.is self.new.tree)) }
+        ensures failure { IfOk result (TellsFailure (T.is self.old.tree) (T.is self.new.tree)
+            (K.is self.old.keeper) (K.is self.new.keeper)) }
         ensures err { OnErr result (self.new ≡ self.old) }
     {
         check_caller(&who);
@@ -306,8 +335,10 @@ impl<T: HostTree, K: Keeper, C: Clock, W: Words> Portal<T, K, C, W> {
         requires built { BuiltOp request.node request.op }
         ensures began { self.new.story.began ≡ self.old.story.began }
         ensures opening { self.new.story.opening ≡ self.old.story.opening }
-        ensures ok { IfOk result (Answers T.is self.old self.new seat (Request.Node request)) }
+        ensures ok { IfOk result (Answers T.is K.is W.told self.old self.new seat (Request.Node request)) }
         ensures fault { IfOk result (TellsFault (T.is self.old.tree) (T.is self.new.tree)) }
+        ensures failure { IfOk result (TellsFailure (T.is self.old.tree) (T.is self.new.tree)
+            (K.is self.old.keeper) (K.is self.new.keeper)) }
         ensures err { OnErr result (self.new ≡ self.old) }
     {
         // All memory is taken before the tree is asked.
@@ -328,11 +359,59 @@ impl<T: HostTree, K: Keeper, C: Clock, W: Words> Portal<T, K, C, W> {
         Ok(silent_reply(alloc, answer))
     }
 
+    fn document(
+        &mut self,
+        alloc: Global,
+        seat: u32,
+        request: Request,
+    ) -> Result<Reply, WantOfMemory>
+        requires fits { cost_with self.old.story request ≤ limit_of self.old.story }
+        requires call { is_document_call request ≡ true }
+        ensures began { self.new.story.began ≡ self.old.story.began }
+        ensures opening { self.new.story.opening ≡ self.old.story.opening }
+        ensures ok { IfOk result (Answers T.is K.is W.told self.old self.new seat request) }
+        ensures fault { IfOk result (TellsFault (T.is self.old.tree) (T.is self.new.tree)) }
+        ensures failure { IfOk result (TellsFailure (T.is self.old.tree) (T.is self.new.tree)
+            (K.is self.old.keeper) (K.is self.new.keeper)) }
+        ensures err { OnErr result (Spends K.is self.old self.new) }
+        ensures unasked { may_change_records request ≡ false
+            → OnErr result (self.new ≡ self.old) }
+    {
+        self.history.reserve(self.connections.as_slice().len() + 1)?;
+        let served = documents::serve(
+            alloc,
+            &mut self.documents,
+            &mut self.rights,
+            &mut self.applications,
+            &mut self.connections,
+            &mut self.keeper,
+            self.opening.limits.queued,
+            seat,
+            &request,
+        );
+        match served {
+            Ok(ServedCall { given, answer }) => {
+                self.history.push(Entry {
+                    seat,
+                    request,
+                    given,
+                });
+                Ok(silent_reply(alloc, answer))
+            }
+            Err(error) => {
+                drop(request);
+                Err(error)
+            }
+        }
+    }
+
     fn leave(&mut self, alloc: Global, seat: u32) -> Result<Reply, WantOfMemory>
         ensures began { self.new.story.began ≡ self.old.story.began }
         ensures opening { self.new.story.opening ≡ self.old.story.opening }
-        ensures ok { IfOk result (Answers T.is self.old self.new seat Request.Leave) }
+        ensures ok { IfOk result (Answers T.is K.is W.told self.old self.new seat Request.Leave) }
         ensures fault { IfOk result (TellsFault (T.is self.old.tree) (T.is self.new.tree)) }
+        ensures failure { IfOk result (TellsFailure (T.is self.old.tree) (T.is self.new.tree)
+            (K.is self.old.keeper) (K.is self.new.keeper)) }
         ensures err { OnErr result (self.new ≡ self.old) }
         ensures here { is_open (state_now self.old.story) seat ≡ true → IsOk result }
     {
@@ -353,8 +432,10 @@ impl<T: HostTree, K: Keeper, C: Clock, W: Words> Portal<T, K, C, W> {
         requires { cost_with self.old.story Request.Collect ≤ limit_of self.old.story }
         ensures began { self.new.story.began ≡ self.old.story.began }
         ensures opening { self.new.story.opening ≡ self.old.story.opening }
-        ensures ok { IfOk result (Answers T.is self.old self.new seat Request.Collect) }
+        ensures ok { IfOk result (Answers T.is K.is W.told self.old self.new seat Request.Collect) }
         ensures fault { IfOk result (TellsFault (T.is self.old.tree) (T.is self.new.tree)) }
+        ensures failure { IfOk result (TellsFailure (T.is self.old.tree) (T.is self.new.tree)
+            (K.is self.old.keeper) (K.is self.new.keeper)) }
         ensures err { OnErr result (self.new ≡ self.old) }
     {
         let answer = collect_answer(bus_of(self.connections.as_slice(), seat));

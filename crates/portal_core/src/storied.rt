@@ -84,18 +84,18 @@ pub trait Storied {
 
 impl<T: HostTree, K: Keeper, C: Clock, W: Words> Storied for Portal<T, K, C, W> {
     ghost use Rattle.std.specs.Prelude.{◌≡◌};
-    ghost use Rattle.portal_core.specs.Answered.{Went};
+    ghost use Rattle.portal_core.specs.Answered.{Spends, Went};
     ghost use Rattle.portal_core.specs.Story.{state_first};
 
     ghost opening = { λ p. state_first p.story };
 
     ghost entries = { λ p. p.story.history };
 
-    // Just the calls of the tree that the step reaches were made.
-    ghost says = { Went T.is };
+    // Just the calls of the tree that the step reaches were made, and the one of the keeper.
+    ghost says = { Went T.is K.is W.told };
 
-    // No request that has a body draws words.
-    ghost spends = { λ p q. q ≡ p };
+    // The keeper may have been asked, and have wanted memory.
+    ghost spends = { Spends K.is };
 
     fn ask(&mut self, alloc: Global, seat: u32, request: Request) -> Result<Reply, Refused> {
         Portal::ask(self, alloc, seat, request)

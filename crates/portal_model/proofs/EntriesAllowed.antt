@@ -5,6 +5,7 @@ use Rattle.portal_base.specs.declared.who.Who.{Who}
 use Rattle.portal_model.specs.declared.entry.Fault.{Fault}
 use Rattle.portal_model.specs.declared.entry.Given.{Given}
 use Rattle.portal_model.specs.declared.request.AddRequest.{AddRequest}
+use Rattle.portal_model.specs.declared.request.NodeOp.{NodeOp}
 use Rattle.portal_model.specs.declared.request.NodeRequest.{NodeRequest}
 use Rattle.portal_model.specs.declared.request.Request.{Request}
 use Rattle.portal_model.specs.declared.request.RightsCall.{RightsCall}
@@ -20,6 +21,7 @@ use Rattle.portal_model.specs.Enter.{enter_answer}
 use Rattle.portal_model.specs.Grant.{are_rights_arguments}
 use Rattle.portal_model.specs.Lawful.{LawfulGiven, LawfulOnBus, LawfulOnNode}
 use Rattle.portal_model.specs.Leave.{leave_answer}
+use Rattle.portal_model.specs.NodeLaws.{ToldForNode}
 use Rattle.portal_model.specs.State.{State, connection_of}
 use Rattle.portal_model.specs.Step.{all_told, bus_of, bus_step, collect_step, mount_of, node_step, request_step}
 use Rattle.portal_model.proofs.AllowedLaws.{bus-done}
@@ -53,7 +55,7 @@ may_add-told seat s c a =
     ap (λ (b : Bool). are_presented c.queue a && (are_add_arguments c.queue a && ((names_nobody a || b) && are_of_kind a (map (look_at s.files) (paths_shown c.queue a)))))
     (may_list_all-told seat s c.who a (document_paths c.queue a))
 
-allowed-told : (seat : ℕ) (s : State) (c : Connection) (request : Request) → is_allowed (all_told seat s) c request ≡ is_allowed s c request
+pub allowed-told : (seat : ℕ) (s : State) (c : Connection) (request : Request) → is_allowed (all_told seat s) c request ≡ is_allowed s c request
 allowed-told seat s c (Request.Add a) = may_add-told seat s c a
 allowed-told seat s c (Request.Grant call) = ap (λ (b : Bool). are_rights_arguments call && b) (may_grant-told seat s c.who call (document_named s.documents call.doc))
 allowed-told seat s c (Request.Revoke call) = ap (λ (b : Bool). are_rights_arguments call && b) (may_revoke-told seat s c.who call (document_named s.documents call.doc))
@@ -63,9 +65,13 @@ allowed-told seat s c request = refl
 place-told : (seat : ℕ) (s : State) (c : Connection) (request : Request) → has_place (all_told seat s) c request ≡ has_place s c request
 place-told seat s c request = refl
 
+node-told-for : (seat : ℕ) (s : State) (op : NodeOp) → ToldForNode s op → ToldForNode (all_told seat s) op
+node-told-for seat s (NodeOp.Create name flags) t = t
+node-told-for seat s op t = t
+
 told-for : (seat : ℕ) (s : State) (request : Request) → ToldFor s request → ToldFor (all_told seat s) request
 told-for seat s (Request.Add a) t = t
-told-for seat s (Request.Node r) t = t
+told-for seat s (Request.Node r) t = node-told-for seat s r.op t
 told-for seat s request t = tt
 
 on-bus : (s : State) (request : Request) (given : Given) (o : Option Connection) → ToldFor s request → allowed_on_bus s request o ≡ true → place_on s request o ≡ true → LawfulOnBus s request given o → given.fault ≡ Fault.None → given.full ≡ false →
@@ -76,9 +82,9 @@ on-bus s request given (Some c) t h k l e f =
 
 -- ---- a request on a node
 
-on-mount : (s : State) (r : NodeRequest) (given : Given) (o : Option Connection) → s.told ≡ true → allowed_on_mount s r o ≡ true → node_within s r.op o ≡ true → LawfulOnNode s r given o → given.fault ≡ Fault.None → is_refusal (node_step s r given o).1.answer ≡ false
+on-mount : (s : State) (r : NodeRequest) (given : Given) (o : Option Connection) → ToldForNode s r.op → allowed_on_mount s r o ≡ true → node_within s r.op o ≡ true → LawfulOnNode s r given o → given.fault ≡ Fault.None → is_refusal (node_step s r given o).1.answer ≡ false
 on-mount s r given None t h k l e = cc
-on-mount s r given (Some c) t h k l e = node-done (all_told c.seat s) c r given t h k l e
+on-mount s r given (Some c) t h k l e = node-done (all_told c.seat s) c r given (node-told-for c.seat s r.op t) h k l e
 
 -- ---- connections that open and close
 

@@ -119,15 +119,15 @@ costs = record { enter = refl; attributes = refl; leave = refl; collect = refl; 
 
 pub attributes : AttributesOfGrantedFile
 attributes = record {
-  legal = record { opening = valid_read_write; lawful = (record { defined = refl; given = (editor_name, refl) }, (record { defined = refl; given = record { clock = refl; words = refl; numbers = refl; full = refl; keeper = λ e. cc; looks = (refl, (refl, refl)) } }, tt)) };
+  legal = record { opening = valid_read_write; lawful = (record { given = (editor_name, refl) }, (record { given = record { clock = refl; words = refl; numbers = refl; full = refl; keeper = λ e. cc; looks = (refl, (refl, refl)) } }, tt)) };
   replies_are = refl;
 }
 
 pub foreign : ForeignIsAsMissing
 foreign = record {
-  legal_foreign = record { opening = valid_of_other; lawful = (record { defined = refl; given = (editor_name, refl) }, (record { defined = refl; given = record { clock = refl; words = refl; numbers = refl; full = refl; keeper = λ e. cc; looks = (refl, refl) } }, tt)) };
+  legal_foreign = record { opening = valid_of_other; lawful = (record { given = (editor_name, refl) }, (record { given = record { clock = refl; words = refl; numbers = refl; full = refl; keeper = λ e. cc; looks = (refl, refl) } }, tt)) };
   foreign = refl;
-  legal_missing = record { opening = valid_of_nobody; lawful = (record { defined = refl; given = (editor_name, refl) }, (record { defined = refl; given = record { clock = refl; words = refl; numbers = refl; full = refl; keeper = λ e. cc; looks = (refl, refl) } }, tt)) };
+  legal_missing = record { opening = valid_of_nobody; lawful = (record { given = (editor_name, refl) }, (record { given = record { clock = refl; words = refl; numbers = refl; full = refl; keeper = λ e. cc; looks = (refl, refl) } }, tt)) };
   missing = refl;
 }
 
@@ -151,11 +151,11 @@ endings = record {
   nothing_waits = refl;
   tells = refl;
   tells_once = refl;
-  lawful = record { defined = refl; given = refl };
+  lawful = record { given = refl };
 }
 
 pub failed : FailedLook
 failed = record {
   reply = refl;
-  lawful = record { defined = refl; given = record { clock = refl; words = refl; numbers = refl; full = refl; keeper = λ e. cc; looks = refl } };
+  lawful = record { given = record { clock = refl; words = refl; numbers = refl; full = refl; keeper = λ e. cc; looks = refl } };
 }

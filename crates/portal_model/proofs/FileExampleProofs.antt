@@ -1,5 +1,5 @@
 -- The worked examples of requests on nodes, by computation.
-use Rattle.std.proofs.Common.{◌≡◌, refl}
+use Rattle.std.proofs.Common.{refl}
 use Rattle.portal_base.specs.Names.{doc_text, hex_number, is_app_name, is_doc_id, name_of, parent_of}
 use Rattle.portal_model.specs.FileExamples.{Creating, HandlesOutlive, HostView, Listing, NumbersOfHandles, OlderHandles, Writing}
 

@@ -1,9 +1,9 @@
 -- Files that change or are made: the files of a tree stay sound.
-use Rattle.std.proofs.Common.{◌≡◌, ℕ, List, [], ◌∷◌, map, Bool, true, false, not, ◌&&◌, ◌||◌, cond, Option, Some, None, is_some, refl, sym, ap, subst, ◌∙◌, arith}
-use Rattle.std.specs.List.{find, list_all, list_any, IsDistinct, AllByRecursion}
+use Rattle.std.proofs.Common.{◌≡◌, ℕ, List, [], ◌∷◌, Bool, true, false, not, ◌&&◌, ◌||◌, cond, Option, Some, None, refl, sym, ap, ◌∙◌, arith}
+use Rattle.std.specs.List.{list_all, list_any, IsDistinct, AllByRecursion}
 use Rattle.std.specs.Ordering.{is_lt}
 use Rattle.portal_base.specs.Content.{file_at, is_above, is_folder, is_named, has_room, look_at, paths_of}
-use Rattle.portal_base.specs.FileChanges.{change_named, new_file, put_file, resized, written}
+use Rattle.portal_base.specs.FileChanges.{change_named, put_file, written}
 use Rattle.portal_base.specs.Names.{is_same, is_host_path, parent_of, root}
 use Rattle.portal_base.specs.PathOrder.{path_order}
 use Rattle.portal_base.specs.declared.files.File.{File}

@@ -1,5 +1,5 @@
--- What may be asked of a node is done, over a tree that tells its files.
-use Rattle.std.proofs.Common.{◌≡◌, ℕ, ◌+◌, nat_lt, length, List, [], ◌∷◌, Bool, true, false, not, ◌&&◌, ◌||◌, cond, Option, Some, None, is_some, refl, sym, ap, subst, ◌∙◌}
+-- What may be asked of a node is done: a CREATE over a tree that tells its files, all else over any.
+use Rattle.std.proofs.Common.{◌≡◌, ℕ, ◌+◌, nat_lt, length, List, [], ◌∷◌, Bool, true, false, not, ◌&&◌, ◌||◌, cond, Option, Some, None, is_some, refl, sym, ap, subst, ◌∙◌, inl, inr, ◌⊎◌}
 use Rattle.std.proofs.Common.{arith}
 use Rattle.std.proofs.lemmas.Bool.Decides.{nat_tests}
 use Rattle.portal_base.specs.Content.{content_of, file_at, file_named, has_room, is_folder, look_at, look_of}
@@ -24,11 +24,13 @@ use Rattle.portal_model.specs.Errno.{eacces, ebadf, efbig, einval, eisdir, emfil
 use Rattle.portal_model.specs.Fsync.{fsync, fsync_open}
 use Rattle.portal_model.specs.GetAttr.{get_attr_by_handle, get_attr_by_place, names_handle, tells_file, tells_folder}
 use Rattle.portal_model.specs.Lookup.{entry_of_file, found_folder, lookup_in, named_in_root, named_in_views}
-use Rattle.portal_model.specs.Node.{NodeFacts, facts_of, node_answer, node_given, node_walk, room_of, settled_on_node, walk_on_node}
+use Rattle.portal_model.specs.Node.{NodeFacts, facts_of, node_answer, node_given, node_walk, settled_on_node, walk_on_node}
+use Rattle.portal_model.specs.NodeLaws.{ToldForNode}
 use Rattle.portal_model.specs.NodeOutside.{LawfulNode}
-use Rattle.portal_model.specs.NodeVerdict.{NodeDoing, NodeVerdict, FilesStay, Resizes, Errs, Yields, OnFile, OnHandle, at_file, at_name, by_file_handle, by_place, errs, errs_if, if_file, is_too_long, no_file, told}
+use Rattle.portal_model.specs.NodeVerdict.{NodeVerdict, FilesStay, Resizes, Errs, Yields, OnFile, OnHandle, at_file, at_name, by_file_handle, by_place, errs, errs_if, if_file, is_too_long, no_file, told}
 use Rattle.portal_model.specs.Open.{file_handle, has_no_mode, opened_file, open_file, open_folder, open_name, open_node, opens_to_write, truncates}
 use Rattle.portal_model.specs.OpenDir.{open_dir, open_dir_in, open_found}
+use Rattle.portal_model.specs.Outside.{files_told}
 use Rattle.portal_model.specs.Place.{Folder, RootOf, Views, FolderOf, Sight, SightOfFile, SightOfFolder, file_node, place_of}
 use Rattle.portal_model.specs.Read.{read, read_limit, read_open}
 use Rattle.portal_model.specs.ReadDir.{read_names}
@@ -36,12 +38,12 @@ use Rattle.portal_model.specs.ReleaseDir.{release_dir}
 use Rattle.portal_model.specs.SetAttr.{SetsAttr, resize, set_attr, set_attr_at, set_attr_of, set_attr_of_folder, set_attr_open, sets_by_handle, sets_owner_or_mode, sets_size}
 use Rattle.portal_model.specs.State.{State, handle_of}
 use Rattle.portal_model.specs.Valid.{is_none}
-use Rattle.portal_model.specs.Walk.{Walk, Answers, Looks, Ends, AtPath, Changes, Makes, Named, is_found, look_of_file, looks_shown, shown_at, walked}
+use Rattle.portal_model.specs.Walk.{Walk, Answers, Looks, Ends, AtPath, Changes, Gives, is_found, look_of_file, looks_shown, shown_at, walked}
 use Rattle.portal_model.specs.Write.{write, write_content, write_limit, write_open}
 use Rattle.portal_model.proofs.LooksTaken.{walk_taken}
 
 -- what a walk comes to over a tree of these files, where nothing fails
-abbrev met : {X : Type 0} → List File → ℕ → Walk X → X
+abbrev pub met : {X : Type 0} → List File → ℕ → Walk X → X
 met files now (Answers x) = x
 met files now (Looks target next) = met files now (next (shown_at files target))
 met files now (Ends call done missing) = cond (is_found files call) (done now) missing
@@ -50,12 +52,12 @@ last_met : {X : Type 0} (b : Bool) (now : ℕ) (call : _) (done : ℕ → X) (mi
 last_met true now call done missing = refl
 last_met false now call done missing = refl
 
-walked_met : {X : Type 0} (files : List File) (now : ℕ) (w : Walk X) → walked w now (looks_shown files w) false ≡ Some (met files now w)
+pub walked_met : {X : Type 0} (files : List File) (now : ℕ) (w : Walk X) → walked w now (looks_shown files w) false ≡ Some (met files now w)
 walked_met files now (Answers x) = refl
 walked_met files now (Looks target next) = walked_met files now (next (shown_at files target))
 walked_met files now (Ends call done missing) = last_met (is_found files call) now call done missing
 
-abbrev is_done : NodeVerdict → Bool
+abbrev pub is_done : NodeVerdict → Bool
 is_done (Errs errno) = false
 is_done (Yields d) = true
 
@@ -85,9 +87,48 @@ named_there files path generation size moment h = by_file (file_at files path) r
     by_file None e true k = cc
     by_file None e false k = cc
 
-module _ (s : State) (now : ℕ) where
+-- where there are no files, no look shows one
+shows_none : (path : List ℕ) → is_file (look_at [] path) ≡ true → ⊥
+shows_none path h = by_folder (is_folder [] path) h
+  where
+    by_folder : (b : Bool) → is_file (look_of (content_of None b (has_room [] path))) ≡ true → ⊥
+    by_folder true k = cc
+    by_folder false k = cc
+
+names_none : (name : FileName) → is_some (file_named [] name) ≡ true → ⊥
+names_none name h = cc
+
+not_both_told : (b : Bool) {X : Type 0} → b ≡ true → b ≡ false → X
+not_both_told true t u = cc
+not_both_told false t u = cc
+
+-- the walk asks no more, and ends well
+abbrev EndsWell : Walk NodeVerdict → Type 0
+EndsWell (Answers x) = is_done x ≡ true
+EndsWell (Looks target next) = ⊥
+EndsWell (Ends call done missing) = ⊥
+
+module _ (s : State) (none : s.told ≡ false → s.files ≡ []) (now : ℕ) where
+  -- the walk ends well over these files; and where the tree doesn't tell, whatever it shows
   abbrev D : Walk NodeVerdict → Type 0
-  D w = is_done (met s.files now w) ≡ true
+  D (Answers x) = is_done x ≡ true
+  D (Looks target next) = ((s.told ≡ true) ⊎ ((look : Look) → EndsWell (next look))) × D (next (shown_at s.files target))
+  D (Ends call done missing) = (s.told ≡ true) × (is_done (cond (is_found s.files call) (done now) missing) ≡ true)
+
+  -- a file that is there is one of a tree that tells
+  file_told : (path : List ℕ) → has_file s path ≡ true → s.told ≡ true
+  file_told path h = by_told s.told refl
+    where
+      by_told : (b : Bool) → s.told ≡ b → b ≡ true
+      by_told true e = refl
+      by_told false e = absurd (shows_none path (subst (λ (files : List File). is_file (look_at files path) ≡ true) (none e) h))
+
+  named_told : (name : FileName) → has_named s name ≡ true → s.told ≡ true
+  named_told name h = by_told s.told refl
+    where
+      by_told : (b : Bool) → s.told ≡ b → b ≡ true
+      by_told true e = refl
+      by_told false e = absurd (names_none name (subst (λ (files : List File). is_some (file_named files name) ≡ true) (none e) h))
 
   checked : (b : Bool) (errno : ℕ) (w : Walk NodeVerdict) → not b ≡ true → D w → D (errs_if b errno w)
   checked true errno w e h = cc
@@ -101,14 +142,14 @@ module _ (s : State) (now : ℕ) where
 
   -- the file that is looked at is there by its name too
   file_done : (path : List ℕ) (next : OnFile) → has_file s path ≡ true → ((generation size moment : ℕ) → has_named s (record { path = path; generation = generation }) ≡ true → D (next generation size moment)) → D (at_file path next)
-  file_done path next e h = looked path next (look_at s.files path) refl e h
+  file_done path next e h = (inl (file_told path e), looked path next (look_at s.files path) refl e h)
 
   named_look : (next : OnFile) (o : Option File) → is_some o ≡ true → ((generation size moment : ℕ) → D (next generation size moment)) → D (if_file next (look_of_file o))
   named_look next None e h = cc
   named_look next (Some f) e h = h f.generation (length f.bytes) f.moment
 
   name_done : (name : FileName) (next : OnFile) → has_named s name ≡ true → ((generation size moment : ℕ) → D (next generation size moment)) → D (at_name name next)
-  name_done name next e h = named_look next (file_named s.files name) e h
+  name_done name next e h = (inl (named_told name e), named_look next (file_named s.files name) e h)
 
   place_done : (sight : Option Sight) (may_file : Bool → Bool) (may_folder : Folder → Bool) (file : List ℕ → Bool → OnFile) (folder : Folder → Walk NodeVerdict) → at_sight s may_file may_folder sight ≡ true →
       ((path : List ℕ) (may_write : Bool) → may_file may_write ≡ true → (generation size moment : ℕ) → has_named s (record { path = path; generation = generation }) ≡ true → D (file path may_write generation size moment)) →
@@ -175,7 +216,7 @@ module _ (s : State) (now : ℕ) where
         D (cond b (errs_if (not may_write) errno (errs_if (nat_lt a.limit a.size) efbig (resize q a name may_write))) (told (NodeAnswer.Attr (attr_of_file q may_write size moment))))) [
           | true ↦ λ w l.
               checked (not may_write) errno (errs_if (nat_lt a.limit a.size) efbig (resize q a name may_write)) (twice may_write w)
-              (checked (nat_lt a.limit a.size) efbig (resize q a name may_write) l (ended (has_named s name) _ _ n refl))
+              (checked (nat_lt a.limit a.size) efbig (resize q a name may_write) l (named_told name n, ended (has_named s name) _ _ n refl))
           | false ↦ λ w l. refl
         ] w l
       where
@@ -201,7 +242,7 @@ module _ (s : State) (now : ℕ) where
 
     open_name_done : (flags : ℕ) (name : FileName) → has_named s name ≡ true → D (open_name r flags f.room name)
     open_name_done flags name there = elim (truncates flags) as (λ b. D (cond b (Ends (Changes name) (λ now. opened_file f.room (file_handle name r.node flags) (Resizes name 0 now)) (Errs enoent)) (Answers (opened_file f.room (file_handle name r.node flags) FilesStay)))) [
-      | true ↦ ended (has_named s name) _ _ there refl
+      | true ↦ (named_told name there, ended (has_named s name) _ _ there refl)
       | false ↦ refl
     ]
 
@@ -216,40 +257,40 @@ module _ (s : State) (now : ℕ) where
         (checked f.room.full emfile (open_name r flags f.room name) room (open_name_done flags name there)))
         (λ folder k. cc))
 
-    there_done : (flags : ℕ) (path : List ℕ) (node : ℕ) (look : Look) → is_missing look ≡ true → has_room s.files path ≡ true → D (create_there r flags f.room path node look)
-    there_done flags path node (Look.File g n m) e k = cc
-    there_done flags path node Look.Folder e k = cc
-    there_done flags path node Look.Missing e k = ended (has_room s.files path) _ _ k refl
+    there_done : (flags : ℕ) (path : List ℕ) (node : ℕ) (look : Look) → s.told ≡ true → is_missing look ≡ true → has_room s.files path ≡ true → D (create_there r flags f.room path node look)
+    there_done flags path node (Look.File g n m) t e k = cc
+    there_done flags path node Look.Folder t e k = cc
+    there_done flags path node Look.Missing t e k = (t, ended (has_room s.files path) _ _ k refl)
 
     twice_not : (b : Bool) → b ≡ true → not (not b) ≡ true
     twice_not true e = refl
     twice_not false e = cc
 
-    create_in_done : (name : List ℕ) (flags : ℕ) (folder : Folder) → may_create_in s name folder ≡ true → not f.room.full ≡ true → D (create_in r name flags f.room folder)
-    create_in_done name flags (RootOf view numbers has_views) e room = cc
-    create_in_done name flags (Views applications) e room = cc
-    create_in_done name flags (FolderOf view number path may_write) e room =
+    create_in_done : (name : List ℕ) (flags : ℕ) (folder : Folder) → s.told ≡ true → may_create_in s name folder ≡ true → not f.room.full ≡ true → D (create_in r name flags f.room folder)
+    create_in_done name flags (RootOf view numbers has_views) t e room = cc
+    create_in_done name flags (Views applications) t e room = cc
+    create_in_done name flags (FolderOf view number path may_write) t e room =
         let first = both_of (is_same name (name_of path)) (may_write && is_free s path) e in
         let second = both_of may_write (is_free s path) first.1 in
         let free = both_of (is_missing (look_at s.files path)) (has_room s.files path) second.1 in
         let there = Looks (AtPath path) (create_there r flags f.room path (file_node view number)) in
         checked (not (is_same name (name_of path))) eacces (errs_if (not may_write) eacces (errs_if f.room.full emfile there)) (twice_not (is_same name (name_of path)) first.0)
         (checked (not may_write) eacces (errs_if f.room.full emfile there) (twice_not may_write second.0)
-        (checked f.room.full emfile there room (there_done flags path (file_node view number) (look_at s.files path) free.0 free.1)))
+        (checked f.room.full emfile there room (inl t, there_done flags path (file_node view number) (look_at s.files path) t free.0 free.1)))
 
-    create_done : (name : List ℕ) (flags : ℕ) (sight : Option Sight) → (not (has_no_mode flags) && (not (is_too_long name) && at_sight s never (may_create_in s name) sight)) ≡ true → not f.room.full ≡ true → D (create r name flags sight f.room)
-    create_done name flags sight e room =
+    create_done : (name : List ℕ) (flags : ℕ) (sight : Option Sight) → s.told ≡ true → (not (has_no_mode flags) && (not (is_too_long name) && at_sight s never (may_create_in s name) sight)) ≡ true → not f.room.full ≡ true → D (create r name flags sight f.room)
+    create_done name flags sight t e room =
         let first = both_of (not (has_no_mode flags)) (not (is_too_long name) && at_sight s never (may_create_in s name) sight) e in
         let second = both_of (not (is_too_long name)) (at_sight s never (may_create_in s name) sight) first.1 in
         let place = by_place sight (no_file enotdir) (create_in r name flags f.room) in
         checked (has_no_mode flags) einval (errs_if (is_too_long name) enametoolong place) first.0
         (checked (is_too_long name) enametoolong place second.0
-        (place_done sight never (may_create_in s name) (no_file enotdir) (create_in r name flags f.room) second.1 (λ path w k g n m there. cc) (λ folder k. create_in_done name flags folder k room)))
+        (place_done sight never (may_create_in s name) (no_file enotdir) (create_in r name flags f.room) second.1 (λ path w k g n m there. cc) (λ folder k. create_in_done name flags folder t k room)))
 
     found_dir_done : (folder : Folder) → D (open_found r f.room folder)
     found_dir_done (RootOf view numbers has_views) = refl
     found_dir_done (Views applications) = refl
-    found_dir_done (FolderOf view number path may_write) = refl
+    found_dir_done (FolderOf view number path may_write) = (inr (λ look. refl), refl)
 
     open_dir_done : (sight : Option Sight) → at_sight s never always sight ≡ true → not f.room.full ≡ true → D (open_dir r sight f.room)
     open_dir_done sight e room = place_done sight never always (no_file enotdir) (open_dir_in r f.room) e (λ path w k g n m there. cc)
@@ -260,11 +301,11 @@ module _ (s : State) (now : ℕ) where
         let parts = both_of (not (nat_lt read_limit size)) (on_handle s (λ may_read may_write. may_read) handle) e in
         checked (nat_lt read_limit size) einval (by_file_handle handle (read_open f.bytes offset size)) parts.0
         (handle_done handle (λ may_read may_write. may_read) (read_open f.bytes offset size) parts.1 (λ name node may_read may_write w there.
-        checked (not may_read) ebadf _ (twice_not may_read w) (ended (has_named s name) _ _ there refl)))
+        checked (not may_read) ebadf _ (twice_not may_read w) (named_told name there, ended (has_named s name) _ _ there refl)))
 
     content_done : (name : FileName) (offset : ℕ) (content : List ℕ) → (is_none content || has_named s name) ≡ true → (is_none content || not (nat_lt f.file_limit (offset + length content))) ≡ true → D (write_content f.file_limit name offset content)
     content_done name offset [] e l = refl
-    content_done name offset (b ∷ bs) e l = checked (nat_lt f.file_limit (offset + length (b ∷ bs))) efbig _ l (ended (has_named s name) _ _ e refl)
+    content_done name offset (b ∷ bs) e l = checked (nat_lt f.file_limit (offset + length (b ∷ bs))) efbig _ l (named_told name e, ended (has_named s name) _ _ e refl)
 
     write_to_done : (offset : ℕ) (content : List ℕ) (handle : Option Handle) → may_write_to s content handle ≡ true → (is_none content || not (nat_lt f.file_limit (offset + length content))) ≡ true → D (by_file_handle handle (write_open f.file_limit offset content))
     write_to_done offset content None e l = cc
@@ -305,41 +346,83 @@ module _ (s : State) (now : ℕ) where
         (λ f w. checked (writes_to mask) eacces (told NodeAnswer.Empty) w refl))
 
     fsync_done : (handle : Option Handle) → on_handle s (λ may_read may_write. true) handle ≡ true → D (fsync handle)
-    fsync_done handle e = handle_done handle (λ may_read may_write. true) fsync_open e (λ name node may_read may_write w there. ended (has_named s name) _ _ there refl)
+    fsync_done handle e = handle_done handle (λ may_read may_write. true) fsync_open e (λ name node may_read may_write w there. (named_told name there, ended (has_named s name) _ _ there refl))
 
   -- each request
-  walk_done : (c : Connection) (r : NodeRequest) (op : NodeOp) → may_ask_at s op (place_of s c.who r.node) (handle_of s.handles c.seat) ≡ true → within s c op ≡ true → D (node_walk (facts_of s c r.node) r op)
-  walk_done c r (NodeOp.Lookup name) h k =
+  walk_done : (c : Connection) (r : NodeRequest) (op : NodeOp) → ToldForNode s op → may_ask_at s op (place_of s c.who r.node) (handle_of s.handles c.seat) ≡ true → within s c op ≡ true → D (node_walk (facts_of s c r.node) r op)
+  walk_done c r (NodeOp.Lookup name) t h k =
       let sight = place_of s c.who r.node in
       let parts = both_of (not (is_too_long name)) (at_sight s never (has_child s name) sight) h in
       checked (is_too_long name) enametoolong (by_place sight (no_file enotdir) (lookup_in r name)) parts.0
       (place_done sight never (has_child s name) (no_file enotdir) (lookup_in r name) parts.1 (λ path w k g n m there. cc) (λ folder k. lookup_done (facts_of s c r.node) r name folder k))
-  walk_done c r (NodeOp.Forget count) h k = refl
-  walk_done c r (NodeOp.BatchForget nodes) h k = refl
-  walk_done c r (NodeOp.GetAttr flags fh) h k = get_attr_done (facts_of s c r.node) r (names_handle flags) (place_of s c.who r.node) (handle_of s.handles c.seat fh) h
-  walk_done c r (NodeOp.SetAttr valid fh size) h k = set_attr_done (facts_of s c r.node) r (record { valid = valid; size = size; limit = s.limits.file_bytes }) (place_of s c.who r.node) (handle_of s.handles c.seat fh) h k
-  walk_done c r (NodeOp.Open flags) h k = open_done (facts_of s c r.node) r flags (place_of s c.who r.node) h k
-  walk_done c r (NodeOp.Create name flags) h k = create_done (facts_of s c r.node) r name flags (place_of s c.who r.node) h k
-  walk_done c r (NodeOp.Read fh offset size) h k = read_done (facts_of s c r.node) r offset size (handle_of s.handles c.seat fh) h
-  walk_done c r (NodeOp.Write fh offset content) h k = write_done (facts_of s c r.node) r offset content (handle_of s.handles c.seat fh) h k
-  walk_done c r (NodeOp.Flush fh) h k = any_handle_done (handle_of s.handles c.seat fh) _ h (λ name node may_read may_write. refl)
-  walk_done c r (NodeOp.Fsync fh) h k = fsync_done (facts_of s c r.node) r (handle_of s.handles c.seat fh) h
-  walk_done c r (NodeOp.Release fh) h k = any_handle_done (handle_of s.handles c.seat fh) _ h (λ name node may_read may_write. refl)
-  walk_done c r NodeOp.OpenDir h k = open_dir_done (facts_of s c r.node) r (place_of s c.who r.node) h k
-  walk_done c r (NodeOp.ReadDir fh offset size) h k =
+  walk_done c r (NodeOp.Forget count) t h k = refl
+  walk_done c r (NodeOp.BatchForget nodes) t h k = refl
+  walk_done c r (NodeOp.GetAttr flags fh) t h k = get_attr_done (facts_of s c r.node) r (names_handle flags) (place_of s c.who r.node) (handle_of s.handles c.seat fh) h
+  walk_done c r (NodeOp.SetAttr valid fh size) t h k = set_attr_done (facts_of s c r.node) r (record { valid = valid; size = size; limit = s.limits.file_bytes }) (place_of s c.who r.node) (handle_of s.handles c.seat fh) h k
+  walk_done c r (NodeOp.Open flags) t h k = open_done (facts_of s c r.node) r flags (place_of s c.who r.node) h k
+  walk_done c r (NodeOp.Create name flags) t h k = create_done (facts_of s c r.node) r name flags (place_of s c.who r.node) t h k
+  walk_done c r (NodeOp.Read fh offset size) t h k = read_done (facts_of s c r.node) r offset size (handle_of s.handles c.seat fh) h
+  walk_done c r (NodeOp.Write fh offset content) t h k = write_done (facts_of s c r.node) r offset content (handle_of s.handles c.seat fh) h k
+  walk_done c r (NodeOp.Flush fh) t h k = any_handle_done (handle_of s.handles c.seat fh) _ h (λ name node may_read may_write. refl)
+  walk_done c r (NodeOp.Fsync fh) t h k = fsync_done (facts_of s c r.node) r (handle_of s.handles c.seat fh) h
+  walk_done c r (NodeOp.Release fh) t h k = any_handle_done (handle_of s.handles c.seat fh) _ h (λ name node may_read may_write. refl)
+  walk_done c r NodeOp.OpenDir t h k = open_dir_done (facts_of s c r.node) r (place_of s c.who r.node) h k
+  walk_done c r (NodeOp.ReadDir fh offset size) t h k =
       let parts = both_of (not (nat_lt read_limit size)) (is_folder_handle (handle_of s.handles c.seat fh)) h in
       checked (nat_lt read_limit size) einval (read_names offset size (handle_of s.handles c.seat fh)) parts.0 (names_done (facts_of s c r.node) r offset size (handle_of s.handles c.seat fh) parts.1)
-  walk_done c r (NodeOp.ReleaseDir fh) h k = release_dir_done (facts_of s c r.node) r fh (handle_of s.handles c.seat fh) h
-  walk_done c r (NodeOp.Access mask) h k = access_done (facts_of s c r.node) r mask (place_of s c.who r.node) h
+  walk_done c r (NodeOp.ReleaseDir fh) t h k = release_dir_done (facts_of s c r.node) r fh (handle_of s.handles c.seat fh) h
+  walk_done c r (NodeOp.Access mask) t h k = access_done (facts_of s c r.node) r mask (place_of s c.who r.node) h
 
-settled_done : (s : State) (c : Connection) (v : NodeVerdict) → is_done v ≡ true → is_refusal (settled_on_node s c (Some v)).1 ≡ false
-settled_done s c (Errs errno) h = cc
-settled_done s c (Yields d) h = refl
+abbrev DoneGiven : Option NodeVerdict → Type 0
+DoneGiven None = ⊥
+DoneGiven (Some v) = is_done v ≡ true
 
-pub node-done : (s : State) (c : Connection) (r : NodeRequest) (given : Given) → s.told ≡ true → may_ask_node s c r ≡ true → within s c r.op ≡ true → LawfulNode s c r given → given.fault ≡ Fault.None → is_refusal (node_answer s c r given).1 ≡ false
-node-done s c r given t h k l e =
+settled_done : (s : State) (c : Connection) (v : Option NodeVerdict) → DoneGiven v → is_refusal (settled_on_node s c v).1 ≡ false
+settled_done s c None h = absurd h
+settled_done s c (Some (Errs errno)) h = cc
+settled_done s c (Some (Yields d)) h = refl
+
+-- over a tree that tells
+told_met : (s : State) (none : s.told ≡ false → s.files ≡ []) (now : ℕ) (w : Walk NodeVerdict) → D s none now w → is_done (met s.files now w) ≡ true
+told_met s none now (Answers x) d = d
+told_met s none now (Looks target next) d = told_met s none now (next (shown_at s.files target)) d.1
+told_met s none now (Ends call done missing) d = d.1
+
+-- over one that doesn't
+answered_well : (w : Walk NodeVerdict) (now : ℕ) (looks : List Look) → EndsWell w → DoneGiven (walked w now looks false)
+answered_well (Answers x) now looks h = h
+answered_well (Looks target next) now looks h = absurd h
+answered_well (Ends call done missing) now looks h = absurd h
+
+untold_met : (s : State) (none : s.told ≡ false → s.files ≡ []) (now : ℕ) (w : Walk NodeVerdict) (looks : List Look) → s.told ≡ false → D s none now w → Gives None w looks false → DoneGiven (walked w now looks false)
+untold_met s none now (Answers x) looks u d g = d
+untold_met s none now (Looks target next) [] u d g = cc
+untold_met s none now (Looks target next) (look ∷ looks) u (inl t, d) g = not_both_told s.told t u
+untold_met s none now (Looks target next) (look ∷ looks) u (inr any, d) g = answered_well (next look) now looks (any look)
+untold_met s none now (Ends call done missing) looks u d g = not_both_told s.told d.0 u
+
+none-untold : (s : State) (op : NodeOp) → ToldForNode s op → s.told ≡ false → s.files ≡ []
+none-untold s (NodeOp.Create name flags) t u = not_both_told s.told t u
+none-untold s op t u = t u
+
+verdict-done : (s : State) (c : Connection) (r : NodeRequest) (given : Given) (none : s.told ≡ false → s.files ≡ []) → D s none (moment_given given.now) (walk_on_node s c r) → LawfulNode s c r given → given.fault ≡ Fault.None → (b : Bool) → s.told ≡ b →
+    DoneGiven (node_given (walk_on_node s c r) given)
+verdict-done s c r given none d l e true t =
     let w = walk_on_node s c r in
     let now = moment_given given.now in
     let looks : given.looks ≡ looks_shown s.files w = walk_taken s w given t e l.looks in
     let verdict : node_given w given ≡ Some (met s.files now w) = (λ i. walked w now (looks i) (is_tree (e i))) ∙ walked_met s.files now w in
-    ap (λ (v : Option NodeVerdict). is_refusal (settled_on_node s c v).1) verdict ∙ settled_done s c (met s.files now w) (walk_done s now c r r.op h k)
+    subst DoneGiven (sym verdict) (told_met s none now w d)
+verdict-done s c r given none d l e false u =
+    let w = walk_on_node s c r in
+    let now = moment_given given.now in
+    let calm : is_tree given.fault ≡ false = ap is_tree e in
+    let untold : files_told s ≡ None = ap (λ (b : Bool). cond b (Some s.files) None) u in
+    let gives : Gives None w given.looks false = subst (λ (failed : Bool). Gives None w given.looks failed) calm (subst (λ (files : Option (List File)). Gives files w given.looks (is_tree given.fault)) untold l.looks) in
+    subst (λ (failed : Bool). DoneGiven (walked w now given.looks failed)) (sym calm) (untold_met s none now w given.looks u d gives)
+
+pub node-done : (s : State) (c : Connection) (r : NodeRequest) (given : Given) → ToldForNode s r.op → may_ask_node s c r ≡ true → within s c r.op ≡ true → LawfulNode s c r given → given.fault ≡ Fault.None → is_refusal (node_answer s c r given).1 ≡ false
+node-done s c r given t h k l e =
+    let none = none-untold s r.op t in
+    let d = walk_done s none (moment_given given.now) c r r.op t h k in
+    settled_done s c (node_given (walk_on_node s c r) given) (verdict-done s c r given none d l e s.told refl)

@@ -1,8 +1,5 @@
 -- The laws of requests on nodes.
-use Rattle.std.proofs.Common.{◌≡◌, true, Option, Some, refl}
-use Rattle.portal_model.specs.declared.entry.Given.{Given}
-use Rattle.portal_model.specs.declared.request.Request.{Request}
-use Rattle.portal_model.specs.declared.state.Connection.{Connection}
+use Rattle.std.proofs.Common.{◌≡◌, refl}
 use Rattle.portal_model.specs.Node.{node_given, walk_on_node}
 use Rattle.portal_model.specs.NodeLaws.{AllowedOnNodesIsDone, HandlesStayOnBuses, NodeRefusalsKeep, NodesStayValid}
 use Rattle.portal_model.specs.State.{State}

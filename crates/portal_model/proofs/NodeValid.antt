@@ -11,7 +11,6 @@ use Rattle.portal_base.specs.declared.who.Who.{Who}
 use Rattle.portal_model.specs.declared.entry.Given.{Given}
 use Rattle.portal_model.specs.declared.handle.Handle.{Handle}
 use Rattle.portal_model.specs.declared.handle.OpenHandle.{OpenHandle}
-use Rattle.portal_model.specs.declared.place.Item.{Item}
 use Rattle.portal_model.specs.declared.place.Place.{Place}
 use Rattle.portal_model.specs.declared.request.NodeOp.{NodeOp}
 use Rattle.portal_model.specs.declared.request.NodeRequest.{NodeRequest}
@@ -33,7 +32,7 @@ use Rattle.portal_model.specs.NodeVerdict.{NodeDoing, NodeVerdict, FileChange, F
 use Rattle.portal_model.specs.Open.{file_handle, has_no_mode, open_file, open_folder, open_name, open_node, opened_file, opens_to_write, truncates}
 use Rattle.portal_model.specs.OpenDir.{open_dir, open_dir_in, open_found}
 use Rattle.portal_model.specs.Outside.{files_told}
-use Rattle.portal_model.specs.Place.{Folder, RootOf, Views, FolderOf, file_node, Sight, SightOfFile, SightOfFolder, place_named, place_of, sight_at, sight_in_view, sight_of_item, sight_of_document, sight_of_folder, subject_of}
+use Rattle.portal_model.specs.Place.{Folder, RootOf, Views, FolderOf, file_node, Sight, SightOfFile, SightOfFolder, place_named, place_of, seen_by, sight_at, sight_of_document, sight_of_folder, sight_of_place, sight_of_root, subject_of}
 use Rattle.portal_model.specs.Read.{read, read_limit, read_open}
 use Rattle.portal_model.specs.ReadDir.{read_names}
 use Rattle.portal_model.specs.ReleaseDir.{release_dir}
@@ -248,19 +247,21 @@ module _ (s : State) (v : Valid s) where
     | false ↦ tt
   ]
 
-  item_host : (caller : Who) (view : ℕ) (who : Who) (item : Item) → IsHostSight (sight_of_item s caller view who item)
-  item_host caller view who Item.Root = tt
-  item_host caller view who Item.ByApp = elim (is_host caller) as (λ b. IsHostSight (cond b (Some (SightOfFolder (Views s.applications))) None)) [ true ↦ tt | false ↦ tt ]
-  item_host caller view who (Item.DocumentFolder number) = folder_host view who number (document_of s.documents number) refl
-  item_host caller view who (Item.DocumentFile number) = file_host who number (document_of s.documents number) refl
+  view_host : (o : Option Who) (sight : Who → Option Sight) → ((who : Who) → IsHostSight (sight who)) → IsHostSight (seen_by o sight)
+  view_host None sight h = tt
+  view_host (Some who) sight h = h who
 
-  view_host : (caller : Who) (p : Place) (o : Option Who) → IsHostSight (sight_in_view s caller p o)
-  view_host caller p None = tt
-  view_host caller p (Some who) = item_host caller p.view who p.item
+  there_host : (caller : Who) (p : Place) → IsHostSight (sight_of_place s caller p)
+  there_host caller (Place.Root view) = view_host (subject_of s.applications caller view) (sight_of_root s caller view) (λ who. tt)
+  there_host caller Place.ByApp = elim (is_host caller) as (λ b. IsHostSight (cond b (Some (SightOfFolder (Views s.applications))) None)) [ true ↦ tt | false ↦ tt ]
+  there_host caller (Place.Folder view id) =
+      view_host (subject_of s.applications caller view) (λ who. sight_of_folder view s.rights who (document_of s.documents id.number)) (λ who. folder_host view who id.number (document_of s.documents id.number) refl)
+  there_host caller (Place.File view id) =
+      view_host (subject_of s.applications caller view) (λ who. sight_of_document s.rights who (document_of s.documents id.number)) (λ who. file_host who id.number (document_of s.documents id.number) refl)
 
   at_host : (caller : Who) (p : Option Place) → IsHostSight (sight_at s caller p)
   at_host caller None = tt
-  at_host caller (Some p) = view_host caller p (subject_of s.applications caller p.view)
+  at_host caller (Some p) = there_host caller p
 
   pub place-host : (caller : Who) (node : ℕ) → IsHostSight (place_of s caller node)
   place-host caller node = at_host caller (place_named node)

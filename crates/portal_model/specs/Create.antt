@@ -1,5 +1,5 @@
 -- FUSE_CREATE (include/uapi/linux/fuse.h): the file of a document is made, and opened.
-use Rattle.std.specs.Prelude.{ℕ, List, Bool, true, not, Option}
+use Rattle.std.specs.Prelude.{ℕ, List, true, not, Option}
 use Rattle.portal_base.specs.Names.{is_same, name_of}
 use Rattle.portal_base.specs.declared.files.Look.{Look}
 use Rattle.portal_model.specs.declared.reply.NodeAnswer.TheVariants as NodeAnswer

@@ -11,6 +11,7 @@ use Rattle.portal_model.specs.declared.state.Connection.{Connection}
 use Rattle.portal_model.specs.Allowed.{allowed, has_place, is_allowed, is_refusal, place_left}
 use Rattle.portal_model.specs.Bus.{bus_answer, refused_state}
 use Rattle.portal_model.specs.Lawful.{Lawful}
+use Rattle.portal_model.specs.NodeLaws.{ToldForNode}
 use Rattle.portal_model.specs.Outside.{LawfulBus}
 use Rattle.portal_model.specs.State.{State}
 use Rattle.portal_model.specs.Step.{after, looks_taken, reply_at}
@@ -48,11 +49,11 @@ abbrev pub LooksAreTaken : Type 0
 LooksAreTaken = (s : State) (e : Entry) → s.told ≡ true → Lawful s e →
     e.given.fault ≡ Fault.None → e.given.looks ≡ looks_taken s e.seat e.request
 
--- The conditions of an Add and of a request on a node speak of what the tree has, so they need a
--- tree that tells.
+-- The conditions of an Add speak of what the tree has, so they need a tree that tells. Of requests
+-- on nodes this is so of a CREATE.
 abbrev pub ToldFor : State → Request → Type 0
 ToldFor s (Request.Add a) = s.told ≡ true
-ToldFor s (Request.Node r) = s.told ≡ true
+ToldFor s (Request.Node r) = ToldForNode s r.op
 ToldFor s (Request.Present path) = Unit {0}
 ToldFor s (Request.Grant call) = Unit {0}
 ToldFor s (Request.Revoke call) = Unit {0}
@@ -65,8 +66,9 @@ ToldFor s Request.Leave = Unit {0}
 ToldFor s Request.Collect = Unit {0}
 
 -- What is allowed is done, where no device fails, no limit of documents, applications, open handles
--- or a file's length is met, and the queue has a place: an Add and a request on a node over a tree that tells, all else over any
--- tree. It is so of each lawful entry, and of a request on documents of any connection.
+-- or a file's length is met, and the queue has a place: an Add and a CREATE over a tree that tells,
+-- all else over any tree. It is so of each lawful entry, and of a request on documents of any
+-- connection.
 pub record AllowedIsDone : Type 0 where
   pub entry :
       (s : State) (e : Entry) → ToldFor s e.request →

@@ -1,6 +1,6 @@
 -- Worked examples of requests on nodes, over the file /home/a.txt that holds "hello". What is
 -- expected is worked out by hand from the rules and from include/uapi/linux/fuse.h.
-use Rattle.std.specs.Prelude.{◌≡◌, ℕ, ◌+◌, ◌/◌, List, [], ◌∷◌, codes, true, false, Option, Some, None}
+use Rattle.std.specs.Prelude.{◌≡◌, ℕ, ◌+◌, ◌/◌, List, [], ◌∷◌, codes, true, false, cond, Option, Some, None}
 use Rattle.portal_base.specs.declared.files.Look.{Look}
 use Rattle.portal_base.specs.declared.who.Kind.TheVariants as Kind
 use Rattle.portal_base.specs.declared.who.Who.{Who}
@@ -13,12 +13,16 @@ use Rattle.portal_model.specs.declared.reply.Code.TheVariants as Code
 use Rattle.portal_model.specs.declared.reply.DirName.{DirName}
 use Rattle.portal_model.specs.declared.reply.NodeAnswer.{NodeAnswer}
 use Rattle.portal_model.specs.declared.request.NodeOp.{NodeOp}
+use Rattle.portal_model.specs.declared.request.NodeRequest.{NodeRequest}
 use Rattle.portal_model.specs.declared.request.Request.{Request}
+use Rattle.portal_model.specs.declared.state.Connection.{Connection}
 use Rattle.portal_model.specs.Examples.{a_text, document, editor, enters, grant, hello, opening}
 use Rattle.portal_model.specs.History.{run}
+use Rattle.portal_model.specs.Node.{walk_on_node}
 use Rattle.portal_model.specs.Opening.{opened}
-use Rattle.portal_model.specs.State.{State}
-use Rattle.portal_model.specs.Step.{after, looks_taken, reply_at}
+use Rattle.portal_model.specs.State.{State, connection_of}
+use Rattle.portal_model.specs.Step.{after, all_told, looks_taken, mount_of, reply_at}
+use Rattle.portal_model.specs.Walk.{reads_clock}
 
 -- ---- requests over a tree that tells, at the moment 7
 
@@ -32,11 +36,28 @@ shown looks now = record {
   fault = Fault.None;
 }
 
+abbrev pub request_on : ℕ → NodeOp → NodeRequest
+request_on node op = record { node = node; uid = 1000; gid = 1000; op = op }
+
+-- the moment, where the request changes or makes a file
+abbrev pub moment_for : State → NodeRequest → List Look → Option Connection → Option ℕ
+moment_for s r looks None = None
+moment_for s r looks (Some c) =
+    cond (reads_clock (walk_on_node (all_told c.seat s) c r) looks) (Some 7) None
+
+abbrev pub given_on : State → ℕ → NodeRequest → List Look → Given
+given_on s seat r looks =
+    shown looks (moment_for s r looks (mount_of (connection_of s.connections seat)))
+
 -- a request on a node, with the looks that the tree shows
 abbrev pub asks_node : State → ℕ → ℕ → NodeOp → Entry
-asks_node s seat node op =
-    let request = Request.Node (record { node = node; uid = 1000; gid = 1000; op = op }) in
-    record { seat = seat; request = request; given = shown (looks_taken s seat request) (Some 7) }
+asks_node s seat node op = record {
+  seat = seat;
+  request = Request.Node (request_on node op);
+  given =
+      given_on s seat (request_on node op)
+      (looks_taken s seat (Request.Node (request_on node op)));
+}
 
 abbrev pub answer_to : State → ℕ → ℕ → NodeOp → Answer
 answer_to s seat node op = (reply_at s (asks_node s seat node op)).answer
@@ -192,7 +213,8 @@ abbrev pub limited_to : ℕ → State → State
 limited_to count s = record s { limits = record s.limits { handles = count } }
 
 abbrev pub opened_twice : State
-opened_twice = then (then (limited_to 2 (with_rights 3)) 1 a_node (NodeOp.Open 0)) 1 a_node (NodeOp.Open 0)
+opened_twice =
+    then (then (limited_to 2 (with_rights 3)) 1 a_node (NodeOp.Open 0)) 1 a_node (NodeOp.Open 0)
 
 -- each connection counts its own; a number isn't given again
 pub record NumbersOfHandles : Type 0 where

@@ -1,6 +1,5 @@
 -- FUSE_GETATTR (include/uapi/linux/fuse.h).
-use Rattle.std.specs.Prelude.{ℕ, ◌%◌, ◌==◌, List, Bool, Option, Some, None, cond}
-use Rattle.portal_base.specs.declared.files.FileName.{FileName}
+use Rattle.std.specs.Prelude.{ℕ, ◌%◌, ◌==◌, Bool, Option, Some, None, cond}
 use Rattle.portal_model.specs.declared.handle.Handle.{Handle}
 use Rattle.portal_model.specs.declared.reply.NodeAnswer.TheVariants as NodeAnswer
 use Rattle.portal_model.specs.declared.request.NodeRequest.{NodeRequest}

@@ -1,10 +1,9 @@
 -- What the outside may have given to an entry, by the kind of its request.
-use Rattle.std.specs.Prelude.{◌≡◌, ℕ, [], Bool, true, false, Option, Some, None}
+use Rattle.std.specs.Prelude.{◌≡◌, ℕ, [], true, false, Option, Some, None}
 use Rattle.portal_base.specs.declared.who.Who.{Who}
 use Rattle.portal_model.specs.declared.entry.Entry.{Entry}
 use Rattle.portal_model.specs.declared.entry.Fault.{Fault}
 use Rattle.portal_model.specs.declared.entry.Given.{Given}
-use Rattle.portal_model.specs.declared.request.NodeOp.{NodeOp}
 use Rattle.portal_model.specs.declared.request.NodeRequest.{NodeRequest}
 use Rattle.portal_model.specs.declared.request.Request.{Request}
 use Rattle.portal_model.specs.declared.state.Connection.{Connection}
@@ -13,26 +12,6 @@ use Rattle.portal_model.specs.Outside.{LawfulBus}
 use Rattle.portal_model.specs.State.{State, connection_of}
 use Rattle.portal_model.specs.Step.{all_told, bus_of, mount_of}
 use Rattle.portal_model.specs.Valid.{is_caller}
-
--- ---- the requests that may be entries
-
--- each request on a node: an application learns nothing of others by it
-abbrev pub is_defined_op : ℕ → NodeOp → Bool
-is_defined_op node op = true
-
-abbrev pub is_defined : Request → Bool
-is_defined (Request.Enter who kind) = true
-is_defined Request.Leave = true
-is_defined Request.Collect = true
-is_defined (Request.Present path) = true
-is_defined (Request.Add a) = true
-is_defined (Request.Grant call) = true
-is_defined (Request.Revoke call) = true
-is_defined (Request.DeleteDocument doc) = true
-is_defined (Request.LookupDocument path) = true
-is_defined (Request.Info doc) = true
-is_defined (Request.ListDocuments app) = true
-is_defined (Request.Node r) = is_defined_op r.node r.op
 
 -- ---- what is given where nothing is looked at
 
@@ -95,5 +74,4 @@ LawfulGiven s seat (Request.ListDocuments app) given =
     LawfulOnBus s (Request.ListDocuments app) given (bus_of (connection_of s.connections seat))
 
 pub record Lawful (s : State) (e : Entry) : Type 0 where
-  pub defined : is_defined e.request ≡ true
   pub given : LawfulGiven s e.seat e.request e.given

@@ -1,5 +1,5 @@
 -- What a request on a node comes to, and what then becomes of the state.
-use Rattle.std.specs.Prelude.{ℕ, ◌+◌, ◌==◌, nat_lt, List, [], ◌∷◌, ◌++◌, length, map, Bool, false, not, Option, Some, None, cond}
+use Rattle.std.specs.Prelude.{ℕ, ◌+◌, ◌==◌, nat_lt, List, [], ◌∷◌, ◌++◌, length, map, Bool, not, Option, Some, None, cond}
 use Rattle.std.specs.List.{filter}
 use Rattle.portal_base.specs.Content.{file_named}
 use Rattle.portal_base.specs.FileChanges.{change_named, new_file, put_file, resized, written}

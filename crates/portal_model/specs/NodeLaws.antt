@@ -1,9 +1,10 @@
 -- Laws of requests on nodes, which the public functions of src/node_laws.rt state.
-use Rattle.std.specs.Prelude.{◌≡◌, true, false, Option, Some}
+use Rattle.std.specs.Prelude.{◌≡◌, [], true, false, Option, Some}
 use Rattle.portal_model.specs.declared.entry.Fault.{Fault}
 use Rattle.portal_model.specs.declared.entry.Given.{Given}
 use Rattle.portal_model.specs.declared.reply.Answer.{Answer}
 use Rattle.portal_model.specs.declared.reply.Code.{Code}
+use Rattle.portal_model.specs.declared.request.NodeOp.{NodeOp}
 use Rattle.portal_model.specs.declared.request.NodeRequest.{NodeRequest}
 use Rattle.portal_model.specs.declared.request.Request.{Request}
 use Rattle.portal_model.specs.declared.state.Connection.{Connection}
@@ -25,11 +26,16 @@ NodesStayValid = (s : State) (c : Connection) (r : NodeRequest) (given : Given) 
     connection_of s.connections c.seat ≡ Some c → is_mount c.kind ≡ true → Valid s →
     LawfulNode s c r given → Valid (node_answer s c r given).0
 
--- what may be asked of a node is done, over a tree that tells, where no device fails and no limit
--- is met
+-- A CREATE makes what isn't there, which only a tree that tells shows ahead. Each other request
+-- may be over any tree: of one that doesn't tell, the state has no files.
+abbrev pub ToldForNode : State → NodeOp → Type 0
+ToldForNode s (NodeOp.Create name flags) = s.told ≡ true
+ToldForNode s op = s.told ≡ false → s.files ≡ []
+
+-- what may be asked of a node is done, where no device fails and no limit is met
 abbrev pub AllowedOnNodesIsDone : Type 0
 AllowedOnNodesIsDone = (s : State) (c : Connection) (r : NodeRequest) (given : Given) →
-    s.told ≡ true → may_ask_node s c r ≡ true → within s c r.op ≡ true →
+    ToldForNode s r.op → may_ask_node s c r ≡ true → within s c r.op ≡ true →
     LawfulNode s c r given → given.fault ≡ Fault.None →
     is_refusal (node_answer s c r given).1 ≡ false
 

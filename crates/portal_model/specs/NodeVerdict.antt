@@ -1,7 +1,7 @@
 -- What a request on a node comes to, told by what it depends on alone: what the caller sees at the
 -- node, the seat's open handle, the content of a path, and how many handles the seat opened. Each
 -- kind of request is a walk over these, so whoever knows them answers it, without the state.
-use Rattle.std.specs.Prelude.{ℕ, ◌+◌, nat_lt, List, [], length, Bool, true, false, not, Option, Some, None, cond}
+use Rattle.std.specs.Prelude.{ℕ, ◌+◌, nat_lt, List, length, Bool, Option, Some, None, cond}
 use Rattle.portal_base.specs.declared.files.FileName.{FileName}
 use Rattle.portal_base.specs.declared.files.Look.{Look}
 use Rattle.portal_model.specs.declared.handle.Handle.{Handle}

@@ -1,11 +1,9 @@
 -- The nodes of the file view: the arithmetic of their numbers, and what a caller finds at them.
 -- A number is view * 2^36 + kind * 2^32 + id. The view 0 is the caller's own, the view k that of
 -- application k, for the host alone.
-use Rattle.std.specs.Prelude.{ℕ, zero, suc, ◌+◌, ◌*◌, ◌==◌, ◌/◌, ◌%◌, ◌^◌, ◌&&◌, List, map, Bool, true, false, Option, Some, None, cond, option_map}
+use Rattle.std.specs.Prelude.{ℕ, zero, suc, ◌+◌, ◌*◌, ◌==◌, ◌/◌, ◌%◌, ◌^◌, ◌&&◌, List, map, Bool, Option, Some, None, cond, option_map}
 use Rattle.std.specs.List.{filter}
 use Rattle.portal_base.specs.declared.who.Who.{Who}
-use Rattle.portal_model.specs.declared.place.Item.{Item}
-use Rattle.portal_model.specs.declared.place.Item.TheVariants.{Root, ByApp, DocumentFolder, DocumentFile}
 use Rattle.portal_model.specs.declared.place.Place.{Place}
 use Rattle.portal_model.specs.declared.rights.Right.TheVariants.{Read, Write}
 use Rattle.portal_model.specs.declared.state.Document.{Document}
@@ -30,22 +28,21 @@ abbrev pub node_number : ℕ → ℕ → ℕ → ℕ
 node_number view kind id = view * 2 ^ 36 + (kind * 2 ^ 32 + id)
 
 -- kind 0: the root of a view has the identifier 1, and in view 0 the folder of all views has 2
-abbrev pub item_of_kind_0 : ℕ → ℕ → Option Item
-item_of_kind_0 view id =
-    cond (id == 1) (Some Root) (cond (id == 2 && view == 0) (Some ByApp) None)
+abbrev pub place_of_kind_0 : ℕ → ℕ → Option Place
+place_of_kind_0 view id =
+    cond (id == 1) (Some (Place.Root view))
+    (cond (id == 2 && view == 0) (Some Place.ByApp) None)
 
 -- kind 1 is a document's folder, kind 2 a document's file
-abbrev pub item_named : ℕ → ℕ → ℕ → Option Item
-item_named view kind id =
-    cond (kind == 0) (item_of_kind_0 view id)
-    (cond (kind == 1) (Some (DocumentFolder id))
-    (cond (kind == 2) (Some (DocumentFile id)) None))
+abbrev pub place_of_parts : ℕ → ℕ → ℕ → Option Place
+place_of_parts view kind id =
+    cond (kind == 0) (place_of_kind_0 view id)
+    (cond (kind == 1) (Some (Place.Folder view (record { number = id })))
+    (cond (kind == 2) (Some (Place.File view (record { number = id }))) None))
 
 -- what a number names, whoever asks
 abbrev pub place_named : ℕ → Option Place
-place_named node =
-    option_map (λ item. record { view = view_of_node node; item = item })
-    (item_named (view_of_node node) (kind_of_node node) (id_of_node node))
+place_named node = place_of_parts (view_of_node node) (kind_of_node node) (id_of_node node)
 
 abbrev pub root_node : ℕ → ℕ
 root_node view = node_number view 0 1
@@ -60,14 +57,11 @@ abbrev pub file_node : ℕ → ℕ → ℕ
 file_node view number = node_number view 2 number
 
 -- the number of a place
-abbrev pub node_in : ℕ → Item → ℕ
-node_in view Root = root_node view
-node_in view ByApp = by_app_node
-node_in view (DocumentFolder number) = folder_node view number
-node_in view (DocumentFile number) = file_node view number
-
 abbrev pub node_of : Place → ℕ
-node_of p = node_in p.view p.item
+node_of (Place.Root view) = root_node view
+node_of Place.ByApp = by_app_node
+node_of (Place.Folder view id) = folder_node view id.number
+node_of (Place.File view id) = file_node view id.number
 
 -- the file of a document, in the caller's own view
 abbrev pub is_own_file : ℕ → Bool
@@ -119,18 +113,6 @@ numbers_seen rights who documents =
 abbrev pub has_views : Who → ℕ → Bool
 has_views caller view = is_host caller && view == 0
 
--- what the caller sees in a view of this subject
-abbrev pub sight_of_item : State → Who → ℕ → Who → Item → Option Sight
-sight_of_item s caller view who Root =
-    Some (SightOfFolder (RootOf view (numbers_seen s.rights who s.documents)
-    (has_views caller view)))
-sight_of_item s caller view who ByApp =
-    cond (is_host caller) (Some (SightOfFolder (Views s.applications))) None
-sight_of_item s caller view who (DocumentFolder number) =
-    sight_of_folder view s.rights who (document_of s.documents number)
-sight_of_item s caller view who (DocumentFile number) =
-    sight_of_document s.rights who (document_of s.documents number)
-
 -- The subject of a view: the caller of view 0, and application k of view k, which is there for the
 -- host alone.
 abbrev pub subject_of : List (List ℕ) → Who → ℕ → Option Who
@@ -139,13 +121,34 @@ subject_of applications Who.Host (suc k) =
     option_map Who.App (name_of_number applications (suc k))
 subject_of applications (Who.App app) (suc k) = None
 
-abbrev pub sight_in_view : State → Who → Place → Option Who → Option Sight
-sight_in_view s caller p None = None
-sight_in_view s caller p (Some who) = sight_of_item s caller p.view who p.item
+-- what is seen in a view, by its subject, and nothing where the view isn't there
+abbrev pub seen_by : Option Who → (Who → Option Sight) → Option Sight
+seen_by None sight = None
+seen_by (Some who) sight = sight who
+
+abbrev pub sight_of_root : State → Who → ℕ → Who → Option Sight
+sight_of_root s caller view who =
+    Some (SightOfFolder (RootOf view (numbers_seen s.rights who s.documents)
+    (has_views caller view)))
+
+abbrev pub sight_of_views : State → Who → Option Sight
+sight_of_views s caller = cond (is_host caller) (Some (SightOfFolder (Views s.applications))) None
+
+-- what a caller sees at a place
+abbrev pub sight_of_place : State → Who → Place → Option Sight
+sight_of_place s caller (Place.Root view) =
+    seen_by (subject_of s.applications caller view) (sight_of_root s caller view)
+sight_of_place s caller Place.ByApp = sight_of_views s caller
+sight_of_place s caller (Place.Folder view id) =
+    seen_by (subject_of s.applications caller view)
+    (λ who. sight_of_folder view s.rights who (document_of s.documents id.number))
+sight_of_place s caller (Place.File view id) =
+    seen_by (subject_of s.applications caller view)
+    (λ who. sight_of_document s.rights who (document_of s.documents id.number))
 
 abbrev pub sight_at : State → Who → Option Place → Option Sight
 sight_at s caller None = None
-sight_at s caller (Some p) = sight_in_view s caller p (subject_of s.applications caller p.view)
+sight_at s caller (Some p) = sight_of_place s caller p
 
 -- what a caller sees at a node
 abbrev pub place_of : State → Who → ℕ → Option Sight

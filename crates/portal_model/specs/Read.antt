@@ -1,6 +1,6 @@
 -- FUSE_READ (include/uapi/linux/fuse.h): by the handle alone, whatever its document and the rights
 -- in it have become.
-use Rattle.std.specs.Prelude.{ℕ, nat_lt, List, Bool, not, Option}
+use Rattle.std.specs.Prelude.{ℕ, nat_lt, List, not, Option}
 use Rattle.portal_base.specs.FileChanges.{bytes_from}
 use Rattle.portal_base.specs.declared.files.FileName.{FileName}
 use Rattle.portal_model.specs.declared.handle.Handle.{Handle}

@@ -1,8 +1,6 @@
 -- One step of the sequential portal: a request of a seat, with what the outside gave it.
-use Rattle.std.specs.Prelude.{ℕ, ◌==◌, List, [], Bool, true, false, Option, Some, None, cond, map}
+use Rattle.std.specs.Prelude.{ℕ, ◌==◌, List, [], Option, Some, None, cond, map}
 use Rattle.portal_base.specs.declared.files.Look.{Look}
-use Rattle.portal_base.specs.declared.who.Kind.{Kind}
-use Rattle.portal_base.specs.declared.who.Who.{Who}
 use Rattle.portal_model.specs.declared.entry.Entry.{Entry}
 use Rattle.portal_model.specs.declared.entry.Given.{Given}
 use Rattle.portal_model.specs.declared.reply.Answer.{Answer}

@@ -29,8 +29,8 @@ pub fn looks_are_those_taken()
 {}
 
 /// A lawful entry that asks what its seat may ask is done, where no device
-/// fails and no limit is met: an Add and a request on a node over a tree that
-/// tells its files, all else over any tree.
+/// fails and no limit is met: an Add and a CREATE over a tree that tells its
+/// files, all else over any tree.
 pub fn what_is_allowed_is_done()
     ensures { AllowedIsDone }
 {}

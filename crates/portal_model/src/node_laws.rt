@@ -20,8 +20,8 @@ pub fn states_stay_valid_on_nodes()
     ensures { NodesStayValid }
 {}
 
-/// What may be asked of a node is done, over a tree that tells its files, where
-/// no device fails and no limit is met.
+/// What may be asked of a node is done, where no device fails and no limit is
+/// met: a CREATE over a tree that tells its files, all else over any tree.
 pub fn what_is_allowed_on_nodes_is_done()
     ensures { AllowedOnNodesIsDone }
 {}

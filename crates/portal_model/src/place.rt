@@ -3,6 +3,8 @@
 ghost use Rattle.std.specs.Prelude.{◌≡◌, MatchOption, true, false};
 ghost use Rattle.portal_model.specs.Place.{id_of_node, is_own_file};
 
+use portal_base::names::doc_id::DocId;
+
 /// Where the view stands in a node's number, which is
 /// `view * 2^36 + kind * 2^32 + id`.
 const VIEW_SHIFT: u32 = 36;
@@ -18,26 +20,31 @@ const OWN_VIEW: u64 = 0;
 /// The kind of a document's file.
 const DOCUMENT_FILE: u64 = 2;
 
-/// What stands in a view.
+/// A place of the file view, which a node's number names. The view is 0 for the
+/// caller's own, and k for that of application k.
 #[derive(Clone, Copy, Debug, PartialEq, Eq)]
-pub enum Item {
-    /// The root of the view.
-    Root,
+pub enum Place {
+    /// The root of a view.
+    Root {
+        /// The view.
+        view: u32,
+    },
     /// The folder with the views of all applications.
     ByApp,
-    /// The folder of the document of this number.
-    DocumentFolder(u32),
-    /// The file of the document of this number.
-    DocumentFile(u32),
-}
-
-/// A place of the file view, which a node's number names.
-#[derive(Clone, Copy, Debug, PartialEq, Eq)]
-pub struct Place {
-    /// The view: 0 for the caller's own, k for that of application k.
-    pub view: u32,
-    /// What stands there.
-    pub item: Item,
+    /// The folder of a document.
+    Folder {
+        /// The view.
+        view: u32,
+        /// The document's identifier.
+        id: DocId,
+    },
+    /// The file of a document.
+    File {
+        /// The view.
+        view: u32,
+        /// The document's identifier.
+        id: DocId,
+    },
 }
 
 /// The number of the document whose file a node is, in the caller's own view.

@@ -11,6 +11,9 @@ use portal_base::names::host_path::HostPath;
 use portal_base::who::{Kind, Who};
 use std::alloc::Global;
 
+/// The greatest number of applications that may be numbered.
+pub const APPLICATIONS_LIMIT: u32 = 16_777_216;
+
 /// A live document.
 #[derive(Debug, Drop)]
 pub struct Document {

@@ -10,7 +10,9 @@ mod drip;
 mod error;
 mod opened;
 mod portal;
+mod requests;
 mod served;
+mod start;
 mod waiting;
 
 use crate::error::VectorError;
@@ -50,6 +52,7 @@ fn answer(alloc: Global, line: &str) -> Result<String, VectorError> {
     match kind {
         "portal" => portal::portal(alloc, rest),
         "history" => portal::history(alloc),
+        "start" => start::start(alloc, rest),
         "serve" => served::serve(alloc, rest),
         "waits" => served::waits(alloc, rest),
         "feeds" => served::feeds(alloc, rest),

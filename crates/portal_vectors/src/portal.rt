@@ -1,30 +1,28 @@
 //! Requests of the portal, one after another.
 
-ghost use Rattle.std.specs.Prelude.{IfOk};
-ghost use Rattle.portal_model.specs.Built.{Built};
-
 use crate::error::VectorError;
-use crate::opened::{LONGEST, ScriptPortal, kind, opened_by, who};
+use crate::opened::{LONGEST, ScriptPortal, opened_by};
+use crate::requests::{request_of, shown};
 use portal_base::limits::Limits;
 use portal_base::list::List;
 use portal_core::local_desk::LocalDesk;
 use portal_history::History;
 use portal_model::desk::Desk;
 use portal_model::entry::{Entry, Fault, Given};
-use portal_model::place::file_number;
-use portal_model::reply::{Refused, Reply};
-use portal_model::request::{NodeOp, NodeRequest, Request, names_handle};
+use portal_model::request::Request;
 use std::alloc::Global;
 use vector_lines::error::LineError;
-use vector_lines::notation::{self, cut, debug, number, small_number};
+use vector_lines::notation::{self, cut, number, small_number};
 
 /// `portal LIMIT SCRIPT | REQUEST | REQUEST ..`: what each request is answered by
 /// a portal that the script opens and whose history may cost LIMIT; and then how
 /// many entries the history has, and their cost. A request is `SEAT enter WHO
-/// KIND`, `SEAT leave`, `SEAT collect` or `SEAT getattr NODE FLAGS FH`, the last
-/// by user and group 1000, of a document's file in the own view and without a
-/// handle; `desk SEAT REQUEST, REQUEST ..` asks them of one desk
-/// of the seat.
+/// KIND`, `SEAT leave`, `SEAT collect`, `SEAT getattr NODE FLAGS FH`, the last
+/// by user and group 1000, of a document's file in the own view or by a handle;
+/// `SEAT present PATH`, `SEAT grant DOCUMENT APPLICATION RIGHT,RIGHT ..`,
+/// `SEAT revoke ..`, `SEAT delete DOCUMENT`, `SEAT lookup PATH`, `SEAT info
+/// DOCUMENT` or `SEAT list APPLICATION`. `desk SEAT REQUEST, REQUEST ..` asks
+/// them of one desk of the seat.
 pub fn portal(alloc: Global, rest: &str) -> Result<String, VectorError> {
     let (limit, rest) = cut(rest);
     let mut portal = opened_in(alloc, rest, number(limit)?)?;
@@ -119,54 +117,6 @@ fn asked_once(
 
 fn seat_of(word: &str) -> Result<u32, LineError> {
     small_number(word)
-}
-
-fn shown(alloc: Global, reply: Result<Reply, Refused>) -> Result<String, VectorError> {
-    match reply {
-        Ok(reply) => {
-            let answer = reply.answer;
-            Ok(debug(alloc, &answer)?)
-        }
-        Err(refused) => Ok(debug(alloc, &refused)?),
-    }
-}
-
-fn request_of(alloc: Global, words: &str) -> Result<Request, VectorError>
-    ensures { IfOk result Built }
-{
-    let (word, rest) = cut(words);
-    match word {
-        "enter" => {
-            let (name, speaks) = cut(rest);
-            Ok(Request::Enter {
-                who: who(alloc, name)?,
-                kind: kind(speaks)?,
-            })
-        }
-        "leave" => Ok(Request::Leave),
-        "collect" => Ok(Request::Collect),
-        "getattr" => getattr(rest),
-        _ => Err(VectorError::Line(LineError::BadLine)),
-    }
-}
-
-fn getattr(rest: &str) -> Result<Request, VectorError>
-    ensures { IfOk result Built }
-{
-    let (node, rest) = cut(rest);
-    let (flags, fh) = cut(rest);
-    let node = number(node)?;
-    let flags = small_number(flags)?;
-    let fh = number(fh)?;
-    if names_handle(flags) || file_number(node).is_none() {
-        return Err(VectorError::Line(LineError::BadLine));
-    }
-    Ok(Request::Node(NodeRequest {
-        node,
-        uid: 1000,
-        gid: 1000,
-        op: NodeOp::GetAttr { flags, fh },
-    }))
 }
 
 /// Limits under which one Collect fills the history.

@@ -17,11 +17,9 @@ use portal_base::limits::Limits;
 use portal_base::list::List;
 use portal_base::memory::WantOfMemory;
 use portal_model::records::{DocRecord, EntryRecord};
+use portal_model::state::APPLICATIONS_LIMIT;
 use std::alloc::Global;
 use std::collections::BTreeSet;
-
-/// How many applications may be numbered.
-const APPLICATIONS: usize = 16_777_216;
 
 /// What is kept of the documents before one.
 #[derive(Drop)]
@@ -66,7 +64,7 @@ impl EarlierDocuments {
             return Ok(false);
         }
         self.put(alloc, document)?;
-        Ok(self.applications.len() <= APPLICATIONS)
+        Ok(self.applications.len() <= APPLICATIONS_LIMIT as usize)
     }
 
     /// Keeps a sound document.

@@ -3,12 +3,10 @@
 use crate::error::VectorError;
 use document_records::Applications;
 use portal_base::names::AppId;
+use portal_model::state::APPLICATIONS_LIMIT;
 use std::alloc::Global;
 use vector_lines::error::LineError;
 use vector_lines::notation::{cut, debug, small_number};
-
-/// As many applications as may be numbered.
-const LIMIT: u32 = 16_777_216;
 
 /// `applications STEP, STEP ..`: what each step answers, over none at first.
 pub fn applications(alloc: Global, rest: &str) -> Result<String, VectorError> {
@@ -46,7 +44,7 @@ fn numbered(
     rest: &str,
 ) -> Result<String, VectorError> {
     let app = AppId::read(alloc, rest.as_bytes())?;
-    if applications.len() >= LIMIT {
+    if applications.len() >= APPLICATIONS_LIMIT {
         return Err(VectorError::Line(LineError::BadLine));
     }
     let number = applications.number(&app)?;

@@ -1,5 +1,5 @@
 -- What items ask has a body.
-use Rattle.std.proofs.Common.{◌≡◌, ℕ, List, [], ◌∷◌, ◌++◌, Bool, true, false, not, ◌&&◌, Ok, sym, subst, refl}
+use Rattle.std.proofs.Common.{◌≡◌, ℕ, List, [], ◌∷◌, ◌++◌, Bool, true, false, Ok, sym, subst, refl}
 use Rattle.dbus_auth.specs.declared.handshake.AuthAnswer.{AuthAnswer}
 use Rattle.dbus_auth.specs.declared.handshake.AuthAnswer.TheVariants.{Say, Begin, Early}
 use Rattle.dbus_auth.specs.Handshake.{step}
@@ -11,13 +11,11 @@ use Rattle.fuse_wire.specs.Asks.{ask_of as frame_ask_of}
 use Rattle.fuse_wire.specs.Frames.{header_of}
 use Rattle.fuse_wire.specs.declared.request.FuseAsk.{FuseAsk}
 use Rattle.fuse_wire.specs.declared.request.FuseAsk.TheVariants as fuse
-use Rattle.portal_model.specs.Built.{Built, BuiltOp}
+use Rattle.portal_model.specs.Built.{BuiltOp}
 use Rattle.portal_model.specs.declared.request.NodeOp.{NodeOp}
 use Rattle.portal_model.specs.declared.request.NodeOp.TheVariants.{GetAttr}
 use Rattle.portal_model.specs.declared.request.NodeRequest.{NodeRequest}
 use Rattle.portal_model.specs.declared.request.Request.{Request}
-use Rattle.portal_model.specs.GetAttr.{names_handle}
-use Rattle.portal_model.specs.Place.{is_own_file}
 use Rattle.session.specs.Asked.{act_of_ask, act_of_frame, asked_by, collect_requests, is_built, is_built_op, is_host, line_act, node_act, reply_to, requests_of}
 use Rattle.session.specs.Cuts.{line_of, next_phase}
 use Rattle.session.specs.Items.{AreItems, IsItem}
@@ -28,9 +26,17 @@ use Rattle.session.specs.declared.phase.Phase.{Phase}
 use Rattle.session.specs.declared.phase.Phase.TheVariants as due
 use Rattle.session.proofs.ItemsFit.{read_as}
 
+-- what a session asks so far, its Enter and its Leave among it: nothing on documents
+abbrev pub IsAsked : Request → Type 0
+IsAsked (Request.Enter who kind) = Unit {0}
+IsAsked Request.Leave = Unit {0}
+IsAsked Request.Collect = Unit {0}
+IsAsked (Request.Node r) = BuiltOp r.node r.op
+IsAsked request = ⊥
+
 abbrev pub AllBuilt : List Request → Type 0
 AllBuilt [] = Unit {0}
-AllBuilt (r ∷ rs) = Built r × AllBuilt rs
+AllBuilt (r ∷ rs) = IsAsked r × AllBuilt rs
 
 pub built-append : (rs qs : List Request) → AllBuilt rs → AllBuilt qs → AllBuilt (rs ++ qs)
 built-append [] qs a b = b
@@ -51,14 +57,11 @@ line_built Early act e = absurd (cc)
 call_built : (c : Client) (m : Message) (a : Ask) (act : Act) → Ok act ≡ act_of_ask c m a → AllBuilt (asked_by act)
 call_built c m (ask.Local answer) act e = by_act act (Call (reply_to m answer) (is_host c.who)) e (collects_built (is_host c.who))
 call_built c m ask.Ignore act e = by_act act Nothing e tt
+call_built c m (ask.Portal request) act e = absurd (cc)
 call_built c m ask.Unbuilt act e = absurd (cc)
 
 op_built : (node : ℕ) (op : NodeOp) → is_built_op node op ≡ true → BuiltOp node op
-op_built node (GetAttr flags fh) h = by_parts (names_handle flags) (is_own_file node) h
-  where
-    by_parts : (a b : Bool) → (not a && b) ≡ true → (a ≡ false) × (b ≡ true)
-    by_parts true b k = absurd (cc)
-    by_parts false b k = (refl, k)
+op_built node (GetAttr flags fh) h = h
 op_built node op h = absurd (cc)
 
 node_built : (unique : ℕ) (r : NodeRequest) (b : Bool) (act : Act) → is_built r ≡ b → Ok act ≡ node_act unique r b → AllBuilt (asked_by act)

@@ -65,6 +65,7 @@ same_costs act other e h = let is : act ≡ other = cc in subst (λ (a : Act). c
 call_cost : (c : Client) (m : Message) (a : Ask) (act : Act) → Ok act ≡ act_of_ask c m a → costs (asked_by act) ≤ 128
 call_cost c m (ask.Local answer) act e = same_costs act (Call (reply_to m answer) (is_host c.who)) e (collect_cost (is_host c.who))
 call_cost c m ask.Ignore act e = same_costs act Nothing e (omega arith)
+call_cost c m (ask.Portal request) act e = absurd (cc)
 call_cost c m ask.Unbuilt act e = absurd (cc)
 
 built_cost : (unique : ℕ) (r : NodeRequest) (b : Bool) (act : Act) → is_built r ≡ b → Ok act ≡ node_act unique r b → costs (asked_by act) ≤ 128

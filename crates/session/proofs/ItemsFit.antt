@@ -112,6 +112,7 @@ line_fits Early act e = absurd (cc)
 call_fits : (c : Client) (m : Message) (a : Ask) (act : Act) → Ok act ≡ act_of_ask c m a → AllFit Kind.Bus (asked_by act)
 call_fits c m (ask.Local answer) act e = subst (λ (a : Act). AllFit Kind.Bus (asked_by a)) (sym (same_act act (Call (reply_to m answer) (is_host c.who)) e)) (collects_fit (is_host c.who))
 call_fits c m ask.Ignore act e = nothing_fits Kind.Bus act e
+call_fits c m (ask.Portal request) act e = absurd (cc)
 call_fits c m ask.Unbuilt act e = absurd (cc)
 
 node_fits : (unique : ℕ) (request : NodeRequest) (b : Bool) (act : Act) → Ok act ≡ node_act unique request b → AllFit Kind.Mount (asked_by act)

@@ -15,6 +15,7 @@ use Rattle.session.specs.Asked.{MessageMeans, OrMemory, act_of_ask, act_of_messa
 asks_no_rule : (c : Client) (m : Message) (a : Ask) (rule : ℕ) → Err (Breaks rule) ≡ act_of_ask c m a → ⊥
 asks_no_rule c m (ask.Local answer) rule h = absurd cc
 asks_no_rule c m ask.Ignore rule h = absurd cc
+asks_no_rule c m (ask.Portal request) rule h = absurd cc
 asks_no_rule c m ask.Unbuilt rule h = absurd cc
 
 pub message_means : (c : Client) (item : List ℕ) (m : Message) (found : Result Act ItemError) → IsMessage item m → OrMemory found (act_of_message c m) → MessageMeans c item found

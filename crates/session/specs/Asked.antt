@@ -1,7 +1,7 @@
 -- What an item asks: a line by the table of the handshake, a message as it is dispatched, a frame
 -- by its opcode.
-use Rattle.std.specs.Prelude.{◌≡◌, ◌≢◌, ℕ, ◌<◌, ◌^◌, List, [], ◌∷◌, ◌++◌, Bool, true, false, not}
-use Rattle.std.specs.Prelude.{◌&&◌, if◌then◌else◌, Option, Some, None, is_some, IfSome, Result, Ok}
+use Rattle.std.specs.Prelude.{◌≡◌, ◌≢◌, ℕ, ◌<◌, ◌^◌, List, [], ◌∷◌, ◌++◌, Bool, true, false}
+use Rattle.std.specs.Prelude.{◌||◌, if◌then◌else◌, Option, Some, None, is_some, IfSome, Result, Ok}
 use Rattle.std.specs.Prelude.{Err}
 use Rattle.std.specs.List.{flat_map}
 use Rattle.portal_base.specs.declared.who.Who.{Who}
@@ -57,18 +57,20 @@ reply_to call answer = if expects_reply call then Some answer else None
 
 -- A call that dispatch answers itself asks nothing of the portal; a host's asks for what it was not
 -- told yet, also where no reply is expected. What is no call is passed over.
+-- What asks the portal isn't asked here yet.
 abbrev pub act_of_ask : Client → Message → Ask → Result Act ItemError
 act_of_ask c message (ask.Local answer) = Ok (Call (reply_to message answer) (is_host c.who))
 act_of_ask c message ask.Ignore = Ok Nothing
+act_of_ask c message (ask.Portal request) = Err Unbuilt
 act_of_ask c message ask.Unbuilt = Err Unbuilt
 
 abbrev pub act_of_message : Client → Message → Result Act ItemError
 act_of_message c message = act_of_ask c message (ask_of c.settings message)
 
--- of requests on nodes the one that is asked is FUSE_GETATTR of a file in the caller's own view, by
--- its node
+-- of requests on nodes the one that is asked is FUSE_GETATTR by a handle, or of a file in the
+-- caller's own view
 abbrev pub is_built_op : ℕ → NodeOp → Bool
-is_built_op node (NodeOp.GetAttr flags fh) = not (names_handle flags) && is_own_file node
+is_built_op node (NodeOp.GetAttr flags fh) = names_handle flags || is_own_file node
 is_built_op node op = false
 
 abbrev pub is_built : NodeRequest → Bool

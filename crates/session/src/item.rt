@@ -96,7 +96,7 @@ fn call_act(alloc: Global, client: &Client, message: &Message) -> Result<Act, It
             collects: is_host(&client.who),
         }),
         Ask::Ignore => Ok(Act::Nothing),
-        Ask::Unbuilt => Err(ItemError::Unbuilt),
+        Ask::Portal(_) | Ask::Unbuilt => Err(ItemError::Unbuilt),
     }
 }
 
@@ -155,7 +155,7 @@ fn is_built(request: &NodeRequest) -> bool
 {
     match &request.op {
         NodeOp::GetAttr { flags, .. } => {
-            !names_handle(*flags) && file_number(request.node).is_some()
+            names_handle(*flags) || file_number(request.node).is_some()
         }
         _ => false,
     }

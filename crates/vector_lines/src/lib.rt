@@ -10,7 +10,8 @@
 //! |---|---|
 //! | `notation` | words of a line, and numbers, texts and bytes in them |
 //! | `values` | values of D-Bus as texts |
-//! | `error` | why a line is not understood |
+//! | `error` | why a line is not understood, and why it has no other answer |
+//! | `program` | what a program does: lines are read, and their answers printed |
 //!
 //! ```text
 //! let (call, rest) = cut("split 6c01 \"a\\r\\n\"");    // "split", and two words
@@ -20,4 +21,5 @@
 
 pub mod error;
 pub mod notation;
+pub mod program;
 pub mod values;

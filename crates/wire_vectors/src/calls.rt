@@ -1,12 +1,13 @@
 //! Calls, and what they are answered without the portal.
 
+use crate::asks;
 use dbus_dispatch::ask::{Ask, expects_reply, request_of};
 use dbus_dispatch::error_name::ErrorName;
 use dbus_dispatch::refused::refused_message;
 use dbus_message::write::write_message;
 use dbus_types::message::{Message, OutMessage};
 use dbus_types::signature::read_signature;
-use dbus_types::types::{Endian, Value};
+use dbus_types::types::{Endian, Value, WireType};
 use portal_base::limits::{Limits, Settings};
 use portal_base::list::List;
 use portal_base::names::host_path::HostPath;
@@ -19,10 +20,15 @@ use vector_lines::values;
 
 /// `call PATH INTERFACE MEMBER SIGNATURE ARGUMENT ..`: what the call is
 /// answered. `-` stands for no interface and for no arguments' types; each
-/// argument is a text.
+/// argument is a text. `*` is for each type its first value.
 pub fn call(alloc: Global, rest: &str) -> Result<String, LineError> {
     let call = call_of(alloc, rest)?;
-    let ask = request_of(alloc, &call, &settings(alloc)?)?;
+    asked(alloc, &call)
+}
+
+/// What a message asks.
+fn asked(alloc: Global, message: &Message) -> Result<String, LineError> {
+    let ask = request_of(alloc, message, &settings(alloc)?)?;
     shown_ask(alloc, &ask)
 }
 
@@ -48,12 +54,18 @@ pub fn reply(alloc: Global, rest: &str) -> Result<String, LineError> {
 /// that names Ping on `/`, and whether the answer is written.
 pub fn ping(alloc: Global, rest: &str) -> Result<String, LineError> {
     let (kind, flags) = cut(rest);
+    let kind = byte(kind)?;
+    let flags = byte(flags)?;
     let mut message = call_of(alloc, "/ org.freedesktop.DBus.Peer Ping -")?;
-    message.kind = byte(kind)?;
-    message.flags = byte(flags)?;
-    let ask = request_of(alloc, &message, &settings(alloc)?)?;
-    let shown = shown_ask(alloc, &ask)?;
-    let written = expects_reply(&message);
+    message.kind = kind;
+    message.flags = flags;
+    asked_and_written(alloc, &message)
+}
+
+/// What a message asks, and whether its answer is written.
+fn asked_and_written(alloc: Global, message: &Message) -> Result<String, LineError> {
+    let shown = asked(alloc, message)?;
+    let written = expects_reply(message);
     Ok(format!(in alloc; "{shown} {written}")?)
 }
 
@@ -96,7 +108,7 @@ fn byte(word: &str) -> Result<u8, LineError> {
     word.parse::<u8>().map_err(|_| LineError::BadLine)
 }
 
-fn settings(alloc: Global) -> Result<Settings, LineError> {
+pub(crate) fn settings(alloc: Global) -> Result<Settings, LineError> {
     Ok(Settings {
         limits: Limits {
             documents: 1,
@@ -112,7 +124,7 @@ fn settings(alloc: Global) -> Result<Settings, LineError> {
 }
 
 /// The call with serial 7 that a line's words name.
-fn call_of(alloc: Global, words: &str) -> Result<Message, LineError> {
+pub(crate) fn call_of(alloc: Global, words: &str) -> Result<Message, LineError> {
     let (path, rest) = cut(words);
     let (interface, rest) = cut(rest);
     let (member, rest) = cut(rest);
@@ -130,12 +142,12 @@ fn call_of(alloc: Global, words: &str) -> Result<Message, LineError> {
         reply_serial: None,
         signature: read_signature(alloc, signature.as_bytes())?,
         fds: 0,
-        body: texts(alloc, arguments)?,
+        body: values_of(alloc, &signature, arguments)?,
     })
 }
 
 /// A text, or nothing for `-`.
-fn field(alloc: Global, word: &str) -> Result<Option<Text>, LineError> {
+pub(crate) fn field(alloc: Global, word: &str) -> Result<Option<Text>, LineError> {
     match word {
         "-" => Ok(None),
         _ => Ok(Some(Text::copied(alloc, word)?)),
@@ -152,16 +164,49 @@ fn texts(alloc: Global, words: &str) -> Result<List<Value>, LineError> {
     Ok(values)
 }
 
-fn shown_ask(alloc: Global, ask: &Ask) -> Result<String, LineError> {
+/// The values that a line's last words are, for types with this text.
+fn values_of(alloc: Global, signature: &Text, words: &str) -> Result<List<Value>, LineError> {
+    if words != "*" {
+        return texts(alloc, words);
+    }
+    let kinds = read_signature(alloc, signature.as_bytes())?;
+    blanks(alloc, kinds.as_slice())
+}
+
+/// For each type its first value: an empty text or array, 0 or false.
+fn blanks(alloc: Global, kinds: &[WireType]) -> Result<List<Value>, LineError> {
+    let mut values = List::new(alloc);
+    for kind in kinds {
+        values.push(blank(alloc, kind)?)?;
+    }
+    Ok(values)
+}
+
+fn blank(alloc: Global, kind: &WireType) -> Result<Value, LineError> {
+    match kind {
+        WireType::Bool => Ok(Value::Bool(false)),
+        WireType::U32 => Ok(Value::U32(0)),
+        WireType::Handle => Ok(Value::Handle(0)),
+        WireType::Str => Ok(Value::Str(Text::new(alloc))),
+        WireType::Array(element) => Ok(Value::Array {
+            element: element.share()?,
+            items: List::new(alloc),
+        }),
+        _ => Ok(Value::Byte(0)),
+    }
+}
+
+pub(crate) fn shown_ask(alloc: Global, ask: &Ask) -> Result<String, LineError> {
     match ask {
         Ask::Local(message) => shown_message(alloc, message),
         Ask::Ignore => Ok(String::from_str(alloc, "ignored")?),
+        Ask::Portal(request) => asks::shown_request(alloc, request),
         Ask::Unbuilt => Ok(String::from_str(alloc, "not built")?),
     }
 }
 
 /// A return with its values, or an error by its name, to the call of serial 7.
-fn shown_message(alloc: Global, message: &OutMessage) -> Result<String, LineError> {
+pub(crate) fn shown_message(alloc: Global, message: &OutMessage) -> Result<String, LineError> {
     match message {
         OutMessage::Return { to: 7, body } => {
             let body = values::values(alloc, body.as_slice())?;

@@ -6,6 +6,8 @@
 //! numbers of those of the input. The modules say which lines there are.
 #![tactic(auto)]
 
+mod answers;
+mod asks;
 mod calls;
 mod frames;
 mod handshake;
@@ -48,6 +50,9 @@ fn answer(alloc: Global, line: &str) -> Result<String, LineError> {
         "talk" => handshake::talk(alloc, rest),
         "call" => calls::call(alloc, rest),
         "reply" => calls::reply(alloc, rest),
+        "asks" => asks::asks(alloc, rest),
+        "told" => answers::told(alloc, rest),
+        "long" => answers::long(alloc, rest),
         "ping" => calls::ping(alloc, rest),
         "error" => calls::error(alloc, rest),
         "refused" => calls::refused(alloc, rest),

@@ -8,4 +8,4 @@ use Rattle.document_calls.proofs.listing.asked_for.Goals as goal
 pub returns-in-Ok : goal.returns-in-Ok
 returns-in-Ok c =
     ap (λ (ds : List ListedDocument). Answer.Listed ds)
-    (sorted-asked_for c.args.grants.now (option_copied c.args.app) c.args.documents.now.live c.live.result.now c.in-Ok.list c.by_number.result c.live.ensures.value c.live.ensures.differ c.in-Ok.ensures c.by_number.ensures.same c.by_number.ensures.order)
+    (sorted-asked_for c.args.grants.now (option_copied c.args.app) c.args.documents.now.live c.live.result.now c.in-Ok.list c.by_number.result c.live.ensures.value c.live.ensures.kept.live_differ c.in-Ok.ensures c.by_number.ensures.same c.by_number.ensures.order)

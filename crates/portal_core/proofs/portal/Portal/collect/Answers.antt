@@ -6,6 +6,7 @@ use Rattle.portal_model.specs.Step.{bus_of, reply_at, reply_with}
 use Rattle.portal_core.specs.Served.{collect_answer, entry_of}
 use Rattle.portal_core.specs.Story.{state_now}
 use Rattle.portal_core.proofs.Steps.{collect_answered, stands_collected}
+use Rattle.portal_core.proofs.WentDevices.{went-plain}
 use Rattle.portal_core.proofs.portal.Portal.collect.Goals as goal
 
 pub invariant_of-self-2 : goal.invariant_of-self-2
@@ -31,6 +32,6 @@ returns-clause-ok g c =
       seat_is = search rules;
       request_is = search rules;
       lawful = search rules;
-      went = search rules;
+      went = went-plain _ _ _ _ _ _ (search rules) (search rules) (search rules) (search rules) (search rules) (search rules) (search rules) (search rules) (search rules) (search rules);
       reply_is = c.silent_reply.ensures ∙ ap (reply_with []) answered ∙ rw (c.entry_made-entry.ensures) replied;
     }

@@ -1,6 +1,7 @@
 use Rattle.std.proofs.Common.{[], ◌∷◌, arith, length-append, rules}
 use Rattle.portal_model.specs.Enter.{new_connection}
 use Rattle.portal_core.proofs.Steps.{stands_new, stands_there}
+use Rattle.portal_core.proofs.WentDevices.{went-plain}
 use Rattle.portal_core.proofs.portal.Portal.enter.Goals as goal
 
 pub invariant_of-self-then-is_here : goal.invariant_of-self-then-is_here
@@ -24,3 +25,27 @@ invariant_of-self-2 g c =
       c.self.invariant.2,
       c.self.invariant.3,
     )
+
+pub returns-then-is_here-clause-ok : goal.returns-then-is_here-clause-ok
+returns-then-is_here-clause-ok g c =
+    record {
+      entry = c.entry_made-entry.result;
+      grown = search rules;
+      seat_is = search rules;
+      request_is = search rules;
+      lawful = search rules;
+      reply_is = search rules;
+      went = went-plain _ _ _ _ _ _ (search rules) (search rules) (search rules) (search rules) (search rules) (search rules) (search rules) (search rules) (search rules) (search rules);
+    }
+
+pub returns-clause-ok : goal.returns-clause-ok
+returns-clause-ok g c =
+    record {
+      entry = c.entry_made-entry.result;
+      grown = search rules;
+      seat_is = search rules;
+      request_is = search rules;
+      lawful = search rules;
+      reply_is = search rules;
+      went = went-plain _ _ _ _ _ _ (search rules) (search rules) (search rules) (search rules) (search rules) (search rules) (search rules) (search rules) (search rules) (search rules);
+    }

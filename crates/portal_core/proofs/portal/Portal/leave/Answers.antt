@@ -2,6 +2,7 @@ use Rattle.std.proofs.Common.{◌≡◌, ◌<◌, length, is_some, arith, rules,
 use Rattle.portal_model.specs.Leave.{of_others}
 use Rattle.portal_model.specs.State.{connection_of}
 use Rattle.portal_core.proofs.Steps.{fewer_others, stands_absent, stands_left}
+use Rattle.portal_core.proofs.WentDevices.{went-plain}
 use Rattle.portal_core.proofs.portal.Portal.leave.Goals as goal
 
 pub invariant_of-self-then-not-is_here : goal.invariant_of-self-then-not-is_here
@@ -25,3 +26,27 @@ invariant_of-self-2 g c =
       c.self.invariant.2,
       c.self.invariant.3,
     )
+
+pub returns-then-not-is_here-clause-ok : goal.returns-then-not-is_here-clause-ok
+returns-then-not-is_here-clause-ok g c =
+    record {
+      entry = c.entry_made-entry.result;
+      grown = search rules;
+      seat_is = search rules;
+      request_is = search rules;
+      lawful = search rules;
+      reply_is = search rules;
+      went = went-plain _ _ _ _ _ _ (search rules) (search rules) (search rules) (search rules) (search rules) (search rules) (search rules) (search rules) (search rules) (search rules);
+    }
+
+pub returns-clause-ok : goal.returns-clause-ok
+returns-clause-ok g c =
+    record {
+      entry = c.entry_made-entry.result;
+      grown = search rules;
+      seat_is = search rules;
+      request_is = search rules;
+      lawful = search rules;
+      reply_is = search rules;
+      went = went-plain _ _ _ _ _ _ (search rules) (search rules) (search rules) (search rules) (search rules) (search rules) (search rules) (search rules) (search rules) (search rules);
+    }

@@ -9,6 +9,7 @@ use Rattle.portal_core.specs.Story.{state_now}
 use Rattle.portal_core.specs.TreeCalls.{Calling}
 use Rattle.portal_core.proofs.Looks.{not_kept}
 use Rattle.portal_core.proofs.Steps.{is_silent_now, lawful_node, replied_node, serves, stands_again, stands_node}
+use Rattle.portal_core.proofs.WentDevices.{went-plain}
 use Rattle.portal_core.proofs.portal.Portal.node.Goals as goal
 
 pub invariant_of-self-2 : goal.invariant_of-self-2
@@ -63,5 +64,5 @@ returns-clause-ok g c =
       request_is = search rules;
       lawful = rw entry_is lawful;
       reply_is = c.silent_reply.ensures ∙ rw entry_is replied;
-      went = record { tree = rw entry_is calling; kept = rw entry_is kept; keeper = search rules; clock = search rules; words = search rules };
+      went = went-plain _ _ _ _ _ _ (rw (← c.self.view_is) s.kept.0) (search rules) (search rules) (search rules) (rw entry_is calling) (rw entry_is kept) (search rules) (search rules) (search rules) (search rules);
     }

@@ -1,0 +1,6 @@
+mod Given
+mod Regranted
+mod Stirred
+mod RecordSteps
+mod AddSteps
+mod PlaceSteps

@@ -1,0 +1,3 @@
+pub mod SortedNumbers
+pub mod SortedNames
+pub mod SeenFolders

@@ -1,0 +1,34 @@
+-- Places as they are told to a caller.
+use Rattle.std.specs.Prelude.{ℕ, Bool, true, false, Option, Some, None}
+use Rattle.portal_base.specs.declared.who.Who.{Who}
+use Rattle.portal_model.specs.declared.place.Place.{Place}
+use Rattle.portal_model.specs.Place.{Sight, SightOfFile, SightOfFolder, place_named, sight_at}
+use Rattle.portal_model.specs.State.{State}
+
+-- the view that a place stands in
+abbrev pub view_in : Place → ℕ
+view_in (Place.Root view) = view
+view_in Place.ByApp = 0
+view_in (Place.Folder view id) = view
+view_in (Place.File view id) = view
+
+abbrev pub where_seen : Option Sight → Option Place → Option Place
+where_seen None place = None
+where_seen (Some sight) place = place
+
+-- the place that a node's number names, where the caller sees something there
+abbrev pub place_seen : State → Who → ℕ → Option Place
+place_seen s caller node = where_seen (sight_at s caller (place_named node)) (place_named node)
+
+-- a folder is seen
+abbrev pub IsFolder : Option Sight → Type 0
+IsFolder None = ⊥
+IsFolder (Some (SightOfFile path may_write)) = ⊥
+IsFolder (Some (SightOfFolder folder)) = Unit {0}
+
+-- the place is a folder, whoever sees it
+abbrev pub is_folder_place : Place → Bool
+is_folder_place (Place.Root view) = true
+is_folder_place Place.ByApp = true
+is_folder_place (Place.Folder view id) = true
+is_folder_place (Place.File view id) = false

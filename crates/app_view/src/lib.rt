@@ -1,0 +1,37 @@
+//! The file view as each caller sees it: which place a node's number names, who
+//! sees it, and which entries a folder has.
+//!
+//! **It promises** that [`place_of`] and [`node_of`] are the arithmetic of node
+//! numbers, each the way back of the other; that [`resolve`] answers a place
+//! exactly where the caller sees it, and takes no memory; and that [`listing`]
+//! gives the entries with which FUSE_OPENDIR opens a folder, for which one look at
+//! the tree is enough. None of them changes anything.
+//!
+//! | Room | Holds |
+//! |---|---|
+//! | `nodes` | [`place_of`] and [`node_of`]: numbers to places, and back |
+//! | `book` | [`ViewBook`]: the lists that all is answered from; [`Subject`]: whose rights count in a view |
+//! | `sight` | [`resolve`] and [`seen_document`]: what a caller sees |
+//! | `entries` | [`listing`]: the entries of a folder |
+//! | `order` | what is listed, in its order |
+//!
+//! ```text
+//! let book = ViewBook { documents: &documents, grants: &grants, applications: &applications };
+//! let place = resolve(&book, &who, request.node)?;
+//! let names = listing(alloc, &book, &who, place, look)?;
+//! ```
+//!
+//! Source: `include/uapi/linux/fuse.h`, where requests name nodes by numbers that
+//! the file system chooses.
+#![tactic(auto)]
+
+mod book;
+mod entries;
+mod nodes;
+mod order;
+mod sight;
+
+pub use book::{Subject, ViewBook, may_read, may_write, subject_of};
+pub use entries::listing;
+pub use nodes::{node_of, place_of};
+pub use sight::{SeenDocument, is_folder, resolve, seen_document};

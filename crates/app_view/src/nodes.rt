@@ -1,0 +1,118 @@
+//! The numbers of nodes, `view * 2^36 + kind * 2^32 + id`, and the places that
+//! they name.
+
+ghost use Rattle.std.specs.Prelude.{◌≡◌, ◌<◌, ◌^◌, IfSome, Some};
+ghost use Rattle.portal_model.specs.Place.{place_named, place_of_kind_0, node_of, node_number, root_node, by_app_node, folder_node, file_node};
+ghost use Rattle.app_view.specs.Places.{view_in};
+
+use crate::book::OWN_VIEW;
+use portal_base::names::DocId;
+use portal_model::place::Place;
+
+/// Where the view stands in a number.
+const VIEW_SHIFT: u32 = 36;
+/// Where the kind stands.
+const KIND_SHIFT: u32 = 32;
+/// The bits of a kind.
+const KIND_MASK: u64 = 15;
+/// The bits of an identifier.
+const ID_MASK: u64 = 0xffff_ffff;
+
+/// The kind of the root of a view, and of the folder of all views.
+const TOP: u64 = 0;
+/// The kind of a document's folder.
+const DOCUMENT_FOLDER: u64 = 1;
+/// The kind of a document's file.
+const DOCUMENT_FILE: u64 = 2;
+
+/// The identifier of the root of a view.
+const ROOT: u32 = 1;
+/// The identifier of the folder of all views.
+const BY_APP: u32 = 2;
+
+/// The place that a number names, whoever asks; `None` exactly for a number of
+/// no place.
+pub fn place_of(node: u64) -> Option<Place>
+    ensures place { result ≡ place_named node }
+    ensures back { IfSome result (λ place. node_of place ≡ node) }
+{
+    let view = (node >> VIEW_SHIFT) as u32;
+    let id = (node & ID_MASK) as u32;
+    match (node >> KIND_SHIFT) & KIND_MASK {
+        TOP => top_place(view, id),
+        DOCUMENT_FOLDER => Some(Place::Folder {
+            view,
+            id: DocId { number: id },
+        }),
+        DOCUMENT_FILE => Some(Place::File {
+            view,
+            id: DocId { number: id },
+        }),
+        _ => None,
+    }
+}
+
+/// The root of a view, or the folder of all views.
+fn top_place(view: u32, id: u32) -> Option<Place>
+    ensures { result ≡ place_of_kind_0 view id }
+{
+    match id {
+        ROOT => Some(Place::Root { view }),
+        BY_APP if view == OWN_VIEW => Some(Place::ByApp),
+        _ => None,
+    }
+}
+
+/// The number of a place, whose view is below 2^28.
+pub fn node_of(place: Place) -> u64
+    requires { view_in place < 2 ^ 28 }
+    ensures node { result ≡ node_of place }
+    ensures back { place_named result ≡ Some place }
+{
+    match place {
+        Place::Root { view } => root_node(view),
+        Place::ByApp => by_app_node(),
+        Place::Folder { view, id } => folder_node(view, id),
+        Place::File { view, id } => file_node(view, id),
+    }
+}
+
+/// The number of the root of a view.
+pub(crate) fn root_node(view: u32) -> u64
+    requires { view < 2 ^ 28 }
+    ensures { result ≡ root_node view }
+{
+    number(view, TOP, ROOT)
+}
+
+/// The number of the folder of all views.
+pub(crate) fn by_app_node() -> u64
+    ensures { result ≡ by_app_node }
+{
+    number(OWN_VIEW, TOP, BY_APP)
+}
+
+/// The number of a document's folder.
+pub(crate) fn folder_node(view: u32, id: DocId) -> u64
+    requires { view < 2 ^ 28 }
+    ensures { result ≡ folder_node view id.number }
+{
+    number(view, DOCUMENT_FOLDER, id.number)
+}
+
+/// The number of a document's file.
+pub(crate) fn file_node(view: u32, id: DocId) -> u64
+    requires { view < 2 ^ 28 }
+    ensures { result ≡ file_node view id.number }
+{
+    number(view, DOCUMENT_FILE, id.number)
+}
+
+/// The number of a node.
+fn number(view: u32, kind: u64, id: u32) -> u64
+    requires view { view < 2 ^ 28 }
+    requires kind { kind < 16 }
+    ensures { result ≡ node_number view kind id }
+{
+    (u64::from(view) << VIEW_SHIFT) + ((kind << KIND_SHIFT) + u64::from(id))
+}

@@ -1,0 +1,123 @@
+//! What a folder lists, in its order: documents by identifier, which is the order
+//! of their numbers, and applications by name.
+
+ghost use Rattle.std.specs.Prelude.{◌≡◌, ◌<◌, ◌^◌, ◌++◌, IfOk, OnOk};
+ghost use Rattle.std.specs.Cmp.Lexicographic.{slice_cmp};
+ghost use Rattle.std.specs.List.Sorted.{IsPermutation, IsSortedBy};
+ghost use Rattle.std.specs.Ordering.{nat_cmp};
+ghost use Rattle.portal_model.specs.Applications.{name_of_number};
+ghost use Rattle.portal_model.specs.OpenDir.{folder_entry, names_of_views, views_from};
+ghost use Rattle.portal_model.specs.Place.{numbers_seen};
+ghost use Rattle.app_view.specs.Books.{who_is};
+ghost use Rattle.app_view.specs.Entries.{entry_less, numbers_readable, view_of};
+ghost use Rattle.document_records.specs.Applications.{AreNumbered};
+
+use crate::book::{Subject, ViewBook, may_read};
+use crate::nodes::root_node;
+use document_records::{Applications, Document, Grants};
+use portal_base::list::List;
+use portal_base::memory::WantOfMemory;
+use portal_model::reply::DirName;
+use std::alloc::Global;
+use std::cmp::Ordering;
+
+/// The numbers of the documents that a subject sees, in rising order.
+pub(crate) fn numbers_seen(
+    alloc: Global,
+    book: &ViewBook,
+    subject: Subject,
+) -> Result<Vec<u32>, WantOfMemory>
+    ensures { IfOk result (λ numbers. numbers.items ≡ numbers_seen
+        book.now.grants.now (who_is subject.entry) book.now.documents.now.live) }
+{
+    let mut numbers = numbers_readable(alloc, book.documents.live(), book.grants, subject)?;
+    numbers.sort_unstable();
+    Ok(numbers)
+}
+
+/// The numbers of the documents that a subject sees, in order of addition.
+fn numbers_readable(
+    alloc: Global,
+    documents: &[Document],
+    grants: &Grants,
+    subject: Subject,
+) -> Result<Vec<u32>, WantOfMemory>
+    ensures { IfOk result (λ numbers. numbers.items
+        ≡ numbers_readable grants.now (who_is subject.entry) documents.now) }
+{
+    let mut numbers = Vec::new(alloc);
+    for document in documents {
+        if may_read(grants, subject, document.id) {
+            numbers.push(document.id.number)?;
+        }
+    }
+    Ok(numbers)
+}
+
+/// The views of all applications, in byte order of their names.
+pub(crate) fn names_of_views(
+    alloc: Global,
+    applications: &Applications,
+) -> Result<List<DirName>, WantOfMemory>
+    ensures { IfOk result (λ names. names ≡ names_of_views applications.now) }
+{
+    let views = views(alloc, applications)?;
+    Ok(by_name(views))
+}
+
+/// The views of all applications, in order of their numbers.
+fn views(alloc: Global, applications: &Applications) -> Result<List<DirName>, WantOfMemory>
+    ensures views { IfOk result (λ views. views ≡ views_from 1 applications.now) }
+    ensures known { AreNumbered applications.now }
+{
+    let mut views = List::new(alloc);
+    for index in 0..applications.len() {
+        push_view(alloc, &mut views, applications, index + 1)?;
+    }
+    Ok(views)
+}
+
+/// Adds the view of the application of a number.
+fn push_view(
+    alloc: Global,
+    views: &mut List<DirName>,
+    applications: &Applications,
+    view: u32,
+) -> Result<(), WantOfMemory>
+    requires { view < 2 ^ 28 }
+    ensures { OnOk result (views.new
+        ≡ views.old ++ view_of view (name_of_number applications.now view)) }
+{
+    match applications.name(view) {
+        Some(app) => views.push(folder_entry(alloc, root_node(view), app.as_bytes())?),
+        None => Ok(()),
+    }
+}
+
+/// A folder that stands in another.
+pub(crate) fn folder_entry(alloc: Global, node: u64, name: &[u8]) -> Result<DirName, WantOfMemory>
+    ensures { IfOk result (λ entry. entry ≡ folder_entry node name.now) }
+{
+    Ok(DirName {
+        node,
+        name: List::copied(alloc, name)?,
+        folder: true,
+    })
+}
+
+/// Entries in byte order of their names.
+fn by_name(entries: List<DirName>) -> List<DirName>
+    ensures same { IsPermutation entries result }
+    ensures order { IsSortedBy entry_less result }
+{
+    let mut entries = entries.into_vec();
+    entries.sort_unstable_by(|first, second| name_order(first, second));
+    List::from_vec(entries)
+}
+
+/// Which of two entries has its place first.
+fn name_order(first: &DirName, second: &DirName) -> Ordering
+    ensures { result ≡ slice_cmp nat_cmp first.now.name second.now.name }
+{
+    first.name.as_slice().cmp(second.name.as_slice())
+}

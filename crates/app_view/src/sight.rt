@@ -1,0 +1,103 @@
+//! What a caller sees.
+
+ghost use Rattle.std.specs.Prelude.{◌≡◌, ℕ, ◌<◌, ◌^◌, IfSome, OnSome, is_some, option_map, true};
+ghost use Rattle.portal_model.specs.declared.place.Place.TheVariants as Place;
+ghost use Rattle.portal_model.specs.Place.{sight_of_document, sight_of_folder, sight_of_place};
+ghost use Rattle.portal_model.specs.State.{State, document_of};
+ghost use Rattle.app_view.specs.Books.{Lends, who_is};
+ghost use Rattle.app_view.specs.Places.{IsFolder, is_folder_place, place_seen};
+ghost use Rattle.app_view.specs.Sights.{file_sight, folder_sight};
+
+use crate::book::{Subject, ViewBook, may_write, readable, subject_of};
+use crate::nodes::place_of;
+use document_records::Document;
+use portal_base::names::DocId;
+use portal_base::who::Who;
+use portal_model::place::Place;
+
+/// The place that a node's number names; `None` exactly where the caller
+/// doesn't see it. Of n documents it takes about n steps.
+///
+/// The caller sees the root of its own view, and the folder and the file of each
+/// document in which the view's subject has the right to read; the host sees the
+/// folder of all views, and that of each numbered application, too. Whether the
+/// tree has a file there is not looked at.
+pub fn resolve(book: &ViewBook, who: &Who, node: u64) -> Option<Place>
+    ensures seen { (s : State) → Lends book.now s → result ≡ place_seen s who.now node }
+    ensures folder { IfSome result (λ place. is_folder_place place ≡ true →
+        (s : State) → Lends book.now s → IsFolder (sight_of_place s who.now place)) }
+{
+    let place = place_of(node)?;
+    if is_seen(book, who, place) {
+        Some(place)
+    } else {
+        None
+    }
+}
+
+/// Says whether a place is a folder, whoever sees it.
+pub fn is_folder(place: Place) -> bool
+    ensures { result ≡ is_folder_place place }
+{
+    match place {
+        Place::Root { .. } | Place::ByApp | Place::Folder { .. } => true,
+        Place::File { .. } => false,
+    }
+}
+
+/// Says whether a caller sees a place.
+fn is_seen(book: &ViewBook, who: &Who, place: Place) -> bool
+    ensures { (s : State) → Lends book.now s
+        → result ≡ is_some (sight_of_place s who.now place) }
+{
+    match place {
+        Place::Root { view } => subject_of(book, who, view).is_some(),
+        Place::ByApp => *who == Who::Host,
+        Place::Folder { view, id } => seen_document(book, who, view, id).is_some(),
+        Place::File { view, id } => seen_document(book, who, view, id).is_some(),
+    }
+}
+
+/// A document that a caller sees.
+#[derive(Clone, Copy)]
+pub struct SeenDocument<'a> {
+    /// The document.
+    pub document: &'a Document,
+    /// Whether the view's subject may write its file.
+    pub may_write: bool,
+}
+
+/// What a caller sees at the folder and at the file of a document, in a view;
+/// `None` exactly where it sees nothing there.
+pub fn seen_document<'a>(
+    book: &ViewBook<'a>,
+    who: &Who,
+    view: u32,
+    id: DocId,
+) -> Option<SeenDocument<'a>>
+    ensures folder { (s : State) → Lends book.now s →
+        sight_of_place s who.now (Place.Folder view id) ≡ option_map (folder_sight view) result }
+    ensures file { (s : State) → Lends book.now s →
+        sight_of_place s who.now (Place.File view id) ≡ option_map file_sight result }
+    ensures number { IfSome result (λ seen. seen.document.now.id.number ≡ id.number) }
+    ensures small { OnSome result (view < 2 ^ 28) }
+{
+    seen_by(book, subject_of(book, who, view)?, id)
+}
+
+/// What the subject of a view sees of a document.
+fn seen_by<'a>(book: &ViewBook<'a>, subject: Subject, id: DocId) -> Option<SeenDocument<'a>>
+    ensures folder { (view : ℕ) → option_map (folder_sight view) result
+        ≡ sight_of_folder view book.now.grants.now (who_is subject.entry)
+        (document_of book.now.documents.now.live id.number) }
+    ensures file { option_map file_sight result
+        ≡ sight_of_document book.now.grants.now (who_is subject.entry)
+        (document_of book.now.documents.now.live id.number) }
+    ensures number { IfSome result (λ seen. seen.document.now.id.number ≡ id.number) }
+{
+    let document = readable(book, subject, id)?;
+    Some(SeenDocument {
+        document,
+        may_write: may_write(book.grants, subject, document.id),
+    })
+}

@@ -1,0 +1,40 @@
+-- What the portal answers to calls (XDG Desktop Portal documentation,
+-- "org.freedesktop.portal.Documents").
+use Rattle.std.specs.Prelude.{◌≡◌, ℕ, ◌*◌, ◌≤◌, List, length}
+use Rattle.portal_base.specs.declared.limits.Settings.{Settings}
+use Rattle.dbus_types.specs.declared.message.Message.{Message}
+use Rattle.dbus_message.specs.Messages.{IsMessage}
+use Rattle.portal_model.specs.declared.entry.Entry.{Entry}
+use Rattle.portal_model.specs.declared.request.Request.{Request}
+use Rattle.portal_model.specs.History.{cost_of}
+use Rattle.portal_model.specs.State.{State}
+use Rattle.portal_model.specs.Step.{reply_at}
+use Rattle.portal_model.specs.Valid.{Valid}
+use Rattle.dbus_dispatch.specs.declared.ask.Ask.TheVariants.{Portal}
+use Rattle.dbus_dispatch.specs.Asks.{ask_of}
+use Rattle.dbus_dispatch.specs.Writable.{IsToldTo}
+
+-- Whatever the outside gave, and whether or not the seat has an open bus: the answer to an entry
+-- whose request is what a call asks can be told to that call.
+abbrev pub AnswersAreTold : Type 0
+AnswersAreTold = (settings : Settings) (call : Message) (s : State) (e : Entry) → Valid s →
+    ask_of settings call ≡ Portal e.request → IsToldTo call (reply_at s e).answer
+
+-- a request of a bus on documents
+abbrev pub IsOnDocuments : Request → Type 0
+IsOnDocuments (Request.Enter who kind) = ⊥
+IsOnDocuments Request.Leave = ⊥
+IsOnDocuments Request.Collect = ⊥
+IsOnDocuments (Request.Node r) = ⊥
+IsOnDocuments request = Unit {0}
+
+-- what a call asks is a request of a bus on documents
+abbrev pub CallsAskOnDocuments : Type 0
+CallsAskOnDocuments = (settings : Settings) (call : Message) (request : Request) →
+    ask_of settings call ≡ Portal request → IsOnDocuments request
+
+-- what a call asks costs the history at most eight times the bytes of its message
+abbrev pub CallsCostLittle : Type 0
+CallsCostLittle = (settings : Settings) (bytes : List ℕ) (call : Message) (request : Request) →
+    IsMessage bytes call → ask_of settings call ≡ Portal request →
+    cost_of request ≤ 8 * length bytes

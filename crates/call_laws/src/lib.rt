@@ -1,0 +1,12 @@
+//! Laws of the calls that ask the portal, over the steps of the portal.
+//!
+//! **It promises** that what the portal answers a call can be told to its
+//! caller, that a call asks a request on documents, and that this costs the
+//! history little for the length of the call.
+//!
+//! | Room | Holds |
+//! |---|---|
+//! | `answers` | laws of what calls ask, and of the answers |
+#![tactic(auto)]
+
+pub mod answers;

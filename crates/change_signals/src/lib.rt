@@ -1,0 +1,28 @@
+//! The signals that were not sent yet, for each open connection of a host to the
+//! bus.
+//!
+//! **It promises** that every connection's signals are the list of its definition
+//! after every call, and that a call for one connection touches no other. A change
+//! that is posted stands last on all connections, or on none where there was no
+//! memory; taking the last post back leaves all as they were before it, and takes
+//! no memory.
+//!
+//! | Room | Holds |
+//! |---|---|
+//! | `outboxes` | [`Outboxes`]: the unsent signals by seat |
+//! | `copies` | a change is copied for each connection |
+//!
+//! ```text
+//! outboxes.enter(seat)?;
+//! outboxes.post(change)?;
+//! let signals = outboxes.take(seat)?;
+//! ```
+//!
+//! Source: XDG Desktop Portal documentation,
+//! `org.freedesktop.impl.portal.PermissionStore`, signal `Changed`.
+#![tactic(auto)]
+
+mod copies;
+pub mod outboxes;
+
+pub use outboxes::Outboxes;

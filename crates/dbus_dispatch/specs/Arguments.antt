@@ -1,0 +1,195 @@
+-- The arguments of the calls that ask the portal, and the requests that these are (XDG Desktop
+-- Portal documentation, "org.freedesktop.portal.Documents"; "local.docportal.Files1" is our own).
+-- Arguments of other types, which no call with its method's signature has, are none of a request.
+use Rattle.std.specs.Prelude.{ℕ, List, [], ◌∷◌, flat_map, Bool, true, false, Option, Some, None}
+use Rattle.std.specs.Option.{option_map, option_to_list}
+use Rattle.dbus_types.specs.declared.message.Message.{Message}
+use Rattle.dbus_types.specs.declared.types.Value.{Value, out-Value}
+use Rattle.dbus_types.specs.declared.types.Value.TheOpen.{Value-F}
+use Rattle.portal_model.specs.declared.request.AddRequest.{AddRequest}
+use Rattle.portal_model.specs.declared.request.Request.{Request}
+use Rattle.portal_model.specs.declared.request.RightsCall.{RightsCall}
+use Rattle.dbus_dispatch.specs.declared.method.Method.{Method}
+use Rattle.dbus_dispatch.specs.declared.method.Method.TheVariants as M
+
+-- ---- what an argument is, by its type (D-Bus Specification, "Type System")
+
+abbrev pub text_of : Value-F Value → Option (List ℕ)
+text_of (Value-F.Str text) = Some text
+text_of _ = None
+
+abbrev pub flag_of : Value-F Value → Option Bool
+flag_of (Value-F.Bool flag) = Some flag
+flag_of _ = None
+
+abbrev pub number_of : Value-F Value → Option ℕ
+number_of (Value-F.U32 number) = Some number
+number_of _ = None
+
+-- the index of a handle among those that come with the message
+abbrev pub handle_of : Value-F Value → Option ℕ
+handle_of (Value-F.Handle index) = Some index
+handle_of _ = None
+
+abbrev pub byte_of : Value-F Value → Option ℕ
+byte_of (Value-F.Byte byte) = Some byte
+byte_of _ = None
+
+-- the items of an array
+abbrev pub items_of : Value-F Value → Option (List Value)
+items_of (Value-F.Array element items) = Some items
+items_of _ = None
+
+-- Of the items of an array those of one type; an array of that type has no others.
+
+abbrev pub bytes_in : List Value → List ℕ
+bytes_in items = flat_map (λ item. option_to_list (byte_of (out-Value item))) items
+
+abbrev pub handles_in : List Value → List ℕ
+handles_in items = flat_map (λ item. option_to_list (handle_of (out-Value item))) items
+
+abbrev pub texts_in : List Value → List (List ℕ)
+texts_in items = flat_map (λ item. option_to_list (text_of (out-Value item))) items
+
+-- ---- calls with one argument
+
+abbrev pub text_alone : List Value → Option (List ℕ)
+text_alone (argument ∷ []) = text_of (out-Value argument)
+text_alone _ = None
+
+abbrev pub items_alone : List Value → Option (List Value)
+items_alone (argument ∷ []) = items_of (out-Value argument)
+items_alone _ = None
+
+-- ---- GrantPermissions and RevokePermissions
+
+abbrev pub rights_of :
+    Option (List ℕ) → Option (List ℕ) → Option (List Value) → Option RightsCall
+rights_of (Some doc) (Some app) (Some names) =
+    Some (record { doc = doc; app = app; names = texts_in names })
+rights_of _ _ _ = None
+
+-- doc_id (s), app_id (s), permissions (as)
+abbrev pub rights_call : List Value → Option RightsCall
+rights_call (doc ∷ app ∷ names ∷ []) =
+    rights_of (text_of (out-Value doc)) (text_of (out-Value app)) (items_of (out-Value names))
+rights_call _ = None
+
+-- ---- Add and AddNamed
+
+-- AddFull's flags: 1 for reuse_existing, 2 for persistent
+abbrev pub flags_of : Bool → Bool → ℕ
+flags_of false false = 0
+flags_of true false = 1
+flags_of false true = 2
+flags_of true true = 3
+
+-- one file, for no application
+abbrev pub adds_one : ℕ → Bool → ℕ → List Value → ℕ → AddRequest
+adds_one fds named file name flags = record {
+  named = named;
+  full = false;
+  handles = file ∷ [];
+  fds = fds;
+  name = bytes_in name;
+  flags = flags;
+  app = [];
+  names = [];
+}
+
+abbrev pub add_of : ℕ → Option ℕ → Option Bool → Option Bool → Option AddRequest
+add_of fds (Some file) (Some reuse) (Some persistent) =
+    Some (adds_one fds false file [] (flags_of reuse persistent))
+add_of fds _ _ _ = None
+
+-- o_path_fd (h), reuse_existing (b), persistent (b)
+abbrev pub add_call : ℕ → List Value → Option AddRequest
+add_call fds (file ∷ reuse ∷ persistent ∷ []) =
+    add_of fds (handle_of (out-Value file)) (flag_of (out-Value reuse))
+    (flag_of (out-Value persistent))
+add_call fds _ = None
+
+abbrev pub add_named_of :
+    ℕ → Option ℕ → Option (List Value) → Option Bool → Option Bool → Option AddRequest
+add_named_of fds (Some file) (Some name) (Some reuse) (Some persistent) =
+    Some (adds_one fds true file name (flags_of reuse persistent))
+add_named_of fds _ _ _ _ = None
+
+-- o_path_parent_fd (h), filename (ay), reuse_existing (b), persistent (b)
+abbrev pub add_named_call : ℕ → List Value → Option AddRequest
+add_named_call fds (file ∷ name ∷ reuse ∷ persistent ∷ []) =
+    add_named_of fds (handle_of (out-Value file)) (items_of (out-Value name))
+    (flag_of (out-Value reuse)) (flag_of (out-Value persistent))
+add_named_call fds _ = None
+
+-- ---- AddFull and AddNamedFull
+
+abbrev pub adds_full : ℕ → List Value → ℕ → List ℕ → List Value → AddRequest
+adds_full fds files flags app names = record {
+  named = false;
+  full = true;
+  handles = handles_in files;
+  fds = fds;
+  name = [];
+  flags = flags;
+  app = app;
+  names = texts_in names;
+}
+
+abbrev pub add_full_of : ℕ → Option (List Value) → Option ℕ → Option (List ℕ)
+    → Option (List Value) → Option AddRequest
+add_full_of fds (Some files) (Some flags) (Some app) (Some names) =
+    Some (adds_full fds files flags app names)
+add_full_of fds _ _ _ _ = None
+
+-- o_path_fds (ah), flags (u), app_id (s), permissions (as)
+abbrev pub add_full_call : ℕ → List Value → Option AddRequest
+add_full_call fds (files ∷ flags ∷ app ∷ names ∷ []) =
+    add_full_of fds (items_of (out-Value files)) (number_of (out-Value flags))
+    (text_of (out-Value app)) (items_of (out-Value names))
+add_full_call fds _ = None
+
+abbrev pub adds_named : ℕ → ℕ → List Value → ℕ → List ℕ → List Value → AddRequest
+adds_named fds file name flags app names = record {
+  named = true;
+  full = true;
+  handles = file ∷ [];
+  fds = fds;
+  name = bytes_in name;
+  flags = flags;
+  app = app;
+  names = texts_in names;
+}
+
+abbrev pub add_named_full_of : ℕ → Option ℕ → Option (List Value) → Option ℕ → Option (List ℕ)
+    → Option (List Value) → Option AddRequest
+add_named_full_of fds (Some file) (Some name) (Some flags) (Some app) (Some names) =
+    Some (adds_named fds file name flags app names)
+add_named_full_of fds _ _ _ _ _ = None
+
+-- o_path_fd (h), filename (ay), flags (u), app_id (s), permissions (as)
+abbrev pub add_named_full_call : ℕ → List Value → Option AddRequest
+add_named_full_call fds (file ∷ name ∷ flags ∷ app ∷ names ∷ []) =
+    add_named_full_of fds (handle_of (out-Value file)) (items_of (out-Value name))
+    (number_of (out-Value flags)) (text_of (out-Value app)) (items_of (out-Value names))
+add_named_full_call fds _ = None
+
+-- ---- requests
+
+-- what a call of a method asks the portal, by its arguments and, of an addition, by how many files
+-- come with it
+abbrev pub request_in : Message → Method → Option Request
+request_in call M.Present =
+    option_map (λ path. Request.Present (bytes_in path)) (items_alone call.body)
+request_in call M.Add = option_map Request.Add (add_call call.fds call.body)
+request_in call M.AddNamed = option_map Request.Add (add_named_call call.fds call.body)
+request_in call M.AddFull = option_map Request.Add (add_full_call call.fds call.body)
+request_in call M.AddNamedFull = option_map Request.Add (add_named_full_call call.fds call.body)
+request_in call M.GrantPermissions = option_map Request.Grant (rights_call call.body)
+request_in call M.RevokePermissions = option_map Request.Revoke (rights_call call.body)
+request_in call M.DeleteDocument = option_map Request.DeleteDocument (text_alone call.body)
+request_in call M.LookupDocument =
+    option_map (λ path. Request.LookupDocument (bytes_in path)) (items_alone call.body)
+request_in call M.Info = option_map Request.Info (text_alone call.body)
+request_in call M.ListDocuments = option_map Request.ListDocuments (text_alone call.body)
+request_in call _ = None

@@ -1,0 +1,132 @@
+//! What the arguments of calls are, by their types.
+//!
+//! Source: D-Bus Specification, "Type System".
+
+ghost use Rattle.std.specs.Prelude.{◌≡◌, IfOk};
+ghost use Rattle.std.specs.Option.{option_copied};
+ghost use Rattle.dbus_types.specs.declared.types.Value.{out-Value};
+ghost use Rattle.dbus_dispatch.specs.Arguments.{text_of, flag_of, number_of, handle_of, byte_of, items_of, bytes_in, handles_in, texts_in, text_alone, items_alone};
+
+use dbus_types::types::Value;
+use portal_base::list::{ByteList, List};
+use portal_base::memory::{Replica, WantOfMemory};
+use portal_base::text::Text;
+use std::alloc::Global;
+
+/// The text that a value is.
+pub(crate) fn text_of(value: &Value) -> Option<&Text>
+    ensures { option_copied result ≡ text_of (out-Value value.now) }
+{
+    match value {
+        Value::Str(text) => Some(text),
+        _ => None,
+    }
+}
+
+/// The boolean that a value is.
+pub(crate) fn flag_of(value: &Value) -> Option<bool>
+    ensures { result ≡ flag_of (out-Value value.now) }
+{
+    match value {
+        Value::Bool(flag) => Some(*flag),
+        _ => None,
+    }
+}
+
+/// The number that a value of type `u` is.
+pub(crate) fn number_of(value: &Value) -> Option<u32>
+    ensures { result ≡ number_of (out-Value value.now) }
+{
+    match value {
+        Value::U32(number) => Some(*number),
+        _ => None,
+    }
+}
+
+/// The index of the handle that a value is.
+pub(crate) fn handle_of(value: &Value) -> Option<u32>
+    ensures { result ≡ handle_of (out-Value value.now) }
+{
+    match value {
+        Value::Handle(index) => Some(*index),
+        _ => None,
+    }
+}
+
+fn byte_of(value: &Value) -> Option<u8>
+    ensures { result ≡ byte_of (out-Value value.now) }
+{
+    match value {
+        Value::Byte(byte) => Some(*byte),
+        _ => None,
+    }
+}
+
+/// The items of the array that a value is.
+pub(crate) fn items_of(value: &Value) -> Option<&List<Value>>
+    ensures { option_copied result ≡ items_of (out-Value value.now) }
+{
+    match value {
+        Value::Array { items, .. } => Some(items),
+        _ => None,
+    }
+}
+
+/// The bytes among the items of an array.
+pub(crate) fn bytes_in(alloc: Global, items: &[Value]) -> Result<ByteList, WantOfMemory>
+    ensures { IfOk result (λ bytes. bytes ≡ bytes_in items.now) }
+{
+    let mut bytes = List::new(alloc);
+    for item in items {
+        if let Some(byte) = byte_of(item) {
+            bytes.push(byte)?;
+        }
+    }
+    Ok(bytes)
+}
+
+/// The handles among the items of an array.
+pub(crate) fn handles_in(alloc: Global, items: &[Value]) -> Result<List<u32>, WantOfMemory>
+    ensures { IfOk result (λ handles. handles ≡ handles_in items.now) }
+{
+    let mut handles = List::new(alloc);
+    for item in items {
+        if let Some(handle) = handle_of(item) {
+            handles.push(handle)?;
+        }
+    }
+    Ok(handles)
+}
+
+/// The texts among the items of an array.
+pub(crate) fn texts_in(alloc: Global, items: &[Value]) -> Result<List<Text>, WantOfMemory>
+    ensures { IfOk result (λ texts. texts ≡ texts_in items.now) }
+{
+    let mut texts = List::new(alloc);
+    for item in items {
+        if let Some(text) = text_of(item) {
+            texts.push(text.replica(alloc)?)?;
+        }
+    }
+    Ok(texts)
+}
+
+/// The text that is the only argument.
+pub(crate) fn text_alone(arguments: &[Value]) -> Option<&Text>
+    ensures { option_copied result ≡ text_alone arguments.now }
+{
+    match arguments {
+        [argument] => text_of(argument),
+        _ => None,
+    }
+}
+
+/// The items of the array that is the only argument.
+pub(crate) fn items_alone(arguments: &[Value]) -> Option<&List<Value>>
+    ensures { option_copied result ≡ items_alone arguments.now }
+{
+    match arguments {
+        [argument] => items_of(argument),
+        _ => None,
+    }
+}

@@ -1,0 +1,212 @@
+//! The values that calls return.
+//!
+//! Source: XDG Desktop Portal documentation,
+//! "org.freedesktop.portal.Documents".
+
+ghost use Rattle.std.specs.Prelude.{◌≡◌, [], ◌∷◌, ◌++◌, IfOk};
+ghost use Rattle.portal_model.specs.Changed.{rows_value as value_of_rows, row_value as value_of_row, texts_value as value_of_texts};
+ghost use Rattle.portal_base.specs.Names.{doc_text};
+ghost use Rattle.dbus_dispatch.specs.Asks.{closed_bytes};
+ghost use Rattle.dbus_dispatch.specs.Replies.{extra, listed_value, documents_value, each_text, identifiers, body_of};
+
+use crate::method::Method;
+use dbus_types::shared::Shared;
+use dbus_types::types::{Value, WireType};
+use portal_base::boxed::Boxed;
+use portal_base::list::List;
+use portal_base::memory::{Replica, WantOfMemory};
+use portal_base::text::Text;
+use portal_model::records::Row;
+use portal_model::reply::{Answer, ListedDocument};
+use std::alloc::Global;
+
+/// The values that a call of a method returns with this answer. None where it
+/// is an error.
+pub(crate) fn body_of(
+    alloc: Global,
+    method: Method,
+    mountpoint: &[u8],
+    answer: &Answer,
+) -> Result<List<Value>, WantOfMemory>
+    ensures { IfOk result (λ body. body ≡ body_of method mountpoint.now answer.now) }
+{
+    match answer {
+        Answer::Place(place) => only(alloc, Value::U32(*place)),
+        Answer::Ids(ids) => identifiers(alloc, method, mountpoint, ids.as_slice()),
+        Answer::Info { path, rights } => pair(
+            alloc,
+            closed_bytes(alloc, path.as_slice())?,
+            rows_value(alloc, rights.as_slice())?,
+        ),
+        Answer::Listed(documents) => { only(alloc, documents_value(alloc, documents.as_slice())?) }
+        Answer::Done | Answer::Refused(_) | Answer::Node(_) => Ok(List::new(alloc)),
+    }
+}
+
+/// Identifiers, with the mount point for a full call.
+fn identifiers(
+    alloc: Global,
+    method: Method,
+    mountpoint: &[u8],
+    ids: &[Text],
+) -> Result<List<Value>, WantOfMemory>
+    ensures { IfOk result (λ body. body ≡ identifiers method mountpoint.now ids.now) }
+{
+    match method {
+        Method::AddFull => pair(alloc, texts_value(alloc, ids)?, extra(alloc, mountpoint)?),
+        Method::AddNamedFull => with_extra(each_text(alloc, ids)?, extra(alloc, mountpoint)?),
+        _ => each_text(alloc, ids),
+    }
+}
+
+/// Values with one more behind them.
+fn with_extra(mut values: List<Value>, extra: Value) -> Result<List<Value>, WantOfMemory>
+    ensures { IfOk result (λ list. list ≡ values ++ extra ∷ []) }
+{
+    values.push(extra)?;
+    Ok(values)
+}
+
+/// A list of one value.
+pub(crate) fn only(alloc: Global, value: Value) -> Result<List<Value>, WantOfMemory>
+    ensures { IfOk result (λ list. list ≡ value ∷ []) }
+{
+    let mut list = List::new(alloc);
+    list.push(value)?;
+    Ok(list)
+}
+
+/// A list of two values.
+fn pair(alloc: Global, first: Value, second: Value) -> Result<List<Value>, WantOfMemory>
+    ensures { IfOk result (λ list. list ≡ first ∷ second ∷ []) }
+{
+    let mut list = List::new(alloc);
+    list.push(first)?;
+    list.push(second)?;
+    Ok(list)
+}
+
+/// Bytes as `ay`, with a zero byte behind them.
+pub(crate) fn closed_bytes(alloc: Global, bytes: &[u8]) -> Result<Value, WantOfMemory>
+    ensures { IfOk result (λ value. value ≡ closed_bytes bytes.now) }
+{
+    let mut items = List::new(alloc);
+    for byte in bytes {
+        items.push(Value::Byte(*byte))?;
+    }
+    items.push(Value::Byte(0))?;
+    Ok(Value::Array {
+        element: Shared::new(alloc, WireType::Byte)?,
+        items,
+    })
+}
+
+/// Texts, each as a value.
+fn each_text(alloc: Global, texts: &[Text]) -> Result<List<Value>, WantOfMemory>
+    ensures { IfOk result (λ values. values ≡ each_text texts.now) }
+{
+    let mut values = List::new(alloc);
+    for text in texts {
+        values.push(Value::Str(text.replica(alloc)?))?;
+    }
+    Ok(values)
+}
+
+/// Texts as `as`.
+fn texts_value(alloc: Global, texts: &[Text]) -> Result<Value, WantOfMemory>
+    ensures { IfOk result (λ value. value ≡ value_of_texts texts.now) }
+{
+    Ok(Value::Array {
+        element: Shared::new(alloc, WireType::Str)?,
+        items: each_text(alloc, texts)?,
+    })
+}
+
+/// The mount point under its key, as `a{sv}`.
+fn extra(alloc: Global, mountpoint: &[u8]) -> Result<Value, WantOfMemory>
+    ensures { IfOk result (λ value. value ≡ extra mountpoint.now) }
+{
+    let key = Value::Str(Text::copied(alloc, "mountpoint")?);
+    let value = Value::Variant(Boxed::new(alloc, closed_bytes(alloc, mountpoint)?)?);
+    let entry = Value::DictEntry {
+        key: Boxed::new(alloc, key)?,
+        value: Boxed::new(alloc, value)?,
+    };
+    let element = WireType::DictEntry {
+        key: Boxed::new(alloc, WireType::Str)?,
+        value: Boxed::new(alloc, WireType::Variant)?,
+    };
+    Ok(Value::Array {
+        element: Shared::new(alloc, element)?,
+        items: only(alloc, entry)?,
+    })
+}
+
+/// Rows as `a{sas}`.
+fn rows_value(alloc: Global, rows: &[Row]) -> Result<Value, WantOfMemory>
+    ensures { IfOk result (λ value. value ≡ value_of_rows rows.now) }
+{
+    let mut items = List::new(alloc);
+    for row in rows {
+        items.push(row_value(alloc, row)?)?;
+    }
+    let names = WireType::Array(Shared::new(alloc, WireType::Str)?);
+    let element = WireType::DictEntry {
+        key: Boxed::new(alloc, WireType::Str)?,
+        value: Boxed::new(alloc, names)?,
+    };
+    Ok(Value::Array {
+        element: Shared::new(alloc, element)?,
+        items,
+    })
+}
+
+fn row_value(alloc: Global, row: &Row) -> Result<Value, WantOfMemory>
+    ensures { IfOk result (λ value. value ≡ value_of_row row.now) }
+{
+    let key = Value::Str(row.app.replica(alloc)?);
+    let value = texts_value(alloc, row.names.as_slice())?;
+    Ok(Value::DictEntry {
+        key: Boxed::new(alloc, key)?,
+        value: Boxed::new(alloc, value)?,
+    })
+}
+
+/// Documents with their paths, as `a{say}`.
+fn documents_value(alloc: Global, documents: &[ListedDocument]) -> Result<Value, WantOfMemory>
+    ensures { IfOk result (λ value. value ≡ documents_value documents.now) }
+{
+    let mut items = List::new(alloc);
+    for document in documents {
+        items.push(listed_value(alloc, document)?)?;
+    }
+    let path = WireType::Array(Shared::new(alloc, WireType::Byte)?);
+    let element = WireType::DictEntry {
+        key: Boxed::new(alloc, WireType::Str)?,
+        value: Boxed::new(alloc, path)?,
+    };
+    Ok(Value::Array {
+        element: Shared::new(alloc, element)?,
+        items,
+    })
+}
+
+fn listed_value(alloc: Global, document: &ListedDocument) -> Result<Value, WantOfMemory>
+    ensures { IfOk result (λ value. value ≡ listed_value document.now) }
+{
+    let key = Value::Str(identifier(alloc, document)?);
+    let value = closed_bytes(alloc, document.path.as_slice())?;
+    Ok(Value::DictEntry {
+        key: Boxed::new(alloc, key)?,
+        value: Boxed::new(alloc, value)?,
+    })
+}
+
+/// The eight digits of a document's identifier.
+fn identifier(alloc: Global, document: &ListedDocument) -> Result<Text, WantOfMemory>
+    ensures { IfOk result (λ text. text ≡ doc_text document.now.id.number) }
+{
+    // Digits are ASCII, of which nothing is replaced.
+    let text = String::from_utf8_lossy(alloc, &document.id.text())?;
+    Ok(Text::from_string(text))
+}

@@ -1,0 +1,3 @@
+mod NumberedNames
+mod SeenNumbers
+mod Follow

@@ -1,0 +1,5 @@
+pub mod Served
+pub mod Sights
+pub mod TreeCalls
+pub mod Walks
+pub mod Names

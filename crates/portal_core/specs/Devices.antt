@@ -1,0 +1,73 @@
+-- The keeper and the words beside the tree: what an entry asked of them.
+use Rattle.std.specs.Prelude.{◌≡◌, ◌⊎◌, ℕ, List, [], ◌∷◌, Bool, true, false, Option, Some, None}
+use Rattle.portal_base.specs.Outside.{Draws, HasRisen}
+use Rattle.host_tree.specs.Trees.{TreeIs}
+use Rattle.portal_model.specs.declared.entry.Entry.{Entry}
+use Rattle.portal_model.specs.declared.reply.Answer.{Answer}
+use Rattle.portal_model.specs.declared.reply.Code.TheVariants as Code
+use Rattle.portal_model.specs.declared.reply.Reply.{Reply}
+use Rattle.portal_model.specs.declared.request.Request.{Request}
+use Rattle.portal_model.specs.declared.state.Connection.{Connection}
+use Rattle.portal_model.specs.State.{State, connection_of}
+use Rattle.portal_model.specs.Step.{all_told, bus_of}
+use Rattle.record_keeper.specs.Keepers.{KeeperIs}
+use Rattle.document_calls.specs.KeeperCalls.{KeeperWent}
+
+-- ---- the keeper
+
+-- the requests that may change the records that outlive a run: no other asks the keeper
+abbrev pub may_change_records : Request → Bool
+may_change_records (Request.Add a) = true
+may_change_records (Request.Grant call) = true
+may_change_records (Request.Revoke call) = true
+may_change_records (Request.DeleteDocument doc) = true
+may_change_records (Request.Enter who kind) = false
+may_change_records Request.Leave = false
+may_change_records Request.Collect = false
+may_change_records (Request.Node r) = false
+may_change_records (Request.Present path) = false
+may_change_records (Request.LookupDocument path) = false
+may_change_records (Request.Info doc) = false
+may_change_records (Request.ListDocuments app) = false
+
+-- One call came exactly where the faultless step changes the records, and else none; on a seat
+-- without an open bus no step does.
+abbrev pub KeeperWentOn : State → Entry → State → KeeperIs → KeeperIs → Option Connection → Type 0
+KeeperWentOn s e after old new None = new ≡ old
+KeeperWentOn s e after old new (Some c) =
+    KeeperWent (all_told c.seat s) c e.request e.given after old new
+
+abbrev pub Keeping : State → Entry → State → KeeperIs → KeeperIs → Type 0
+Keeping s e after old new =
+    KeeperWentOn s e after old new (bus_of (connection_of s.connections e.seat))
+
+-- ---- the words
+
+-- the requests that may draw a word: each new document gets a number by one
+abbrev pub may_draw : Request → Bool
+may_draw (Request.Add a) = true
+may_draw (Request.Enter who kind) = false
+may_draw Request.Leave = false
+may_draw Request.Collect = false
+may_draw (Request.Node r) = false
+may_draw (Request.Present path) = false
+may_draw (Request.Grant call) = false
+may_draw (Request.Revoke call) = false
+may_draw (Request.DeleteDocument doc) = false
+may_draw (Request.LookupDocument path) = false
+may_draw (Request.Info doc) = false
+may_draw (Request.ListDocuments app) = false
+
+-- these words, in their order, are the first that were to come
+abbrev pub Drawn : Option (List ℕ) → List ℕ → Option (List ℕ) → Type 0
+Drawn old [] new = new ≡ old
+Drawn old (word ∷ words) new =
+    (between : Option (List ℕ)) × Draws old word between × Drawn between words new
+
+-- ---- faults
+
+-- a reply of Failed tells that a call of the tree or of the keeper failed: its count rose
+abbrev pub TellsFailure : TreeIs → TreeIs → KeeperIs → KeeperIs → Reply → Type 0
+TellsFailure tree tree_after keeper keeper_after reply =
+    reply.answer ≡ Answer.Refused Code.Failed →
+    HasRisen tree.faults tree_after.faults ⊎ HasRisen keeper.faults keeper_after.faults

@@ -1,0 +1,55 @@
+-- What the code makes of a request on documents, over the portal's lists and the keeper.
+use Rattle.std.specs.Prelude.{◌≡◌, ℕ, List, Bool, true, false, Option, Some, None}
+use Rattle.document_records.specs.Documents.{DocumentList}
+use Rattle.portal_model.specs.declared.entry.Given.{Given}
+use Rattle.portal_model.specs.declared.reply.Answer.{Answer}
+use Rattle.portal_model.specs.declared.reply.Code.TheVariants as Code
+use Rattle.portal_model.specs.declared.request.Request.{Request}
+use Rattle.portal_model.specs.declared.state.Connection.{Connection}
+use Rattle.portal_model.specs.declared.state.Triple.{Triple}
+use Rattle.portal_model.specs.Lawful.{nothing_given}
+use Rattle.portal_model.specs.State.{State}
+use Rattle.record_keeper.specs.Keepers.{KeeperIs}
+use Rattle.document_calls.specs.Books.{IsBook}
+use Rattle.document_calls.specs.KeeperCalls.{ServesKept}
+
+-- a request on documents, but for an Add, which alone asks the tree
+abbrev pub is_document_call : Request → Bool
+is_document_call (Request.Present path) = true
+is_document_call (Request.Grant call) = true
+is_document_call (Request.Revoke call) = true
+is_document_call (Request.DeleteDocument doc) = true
+is_document_call (Request.LookupDocument path) = true
+is_document_call (Request.Info doc) = true
+is_document_call (Request.ListDocuments app) = true
+is_document_call (Request.Enter who kind) = false
+is_document_call Request.Leave = false
+is_document_call Request.Collect = false
+is_document_call (Request.Add a) = false
+is_document_call (Request.Node r) = false
+
+-- the state has these documents and their limits, these rights, applications and connections, and
+-- anything else
+pub record HasLists (s : State) (documents : DocumentList) (rights : List Triple)
+    (applications : List (List ℕ)) (connections : List Connection) : Type 0 where
+  pub book : IsBook s documents rights applications
+  pub connected : s.connections ≡ connections
+
+-- the state with these in their place
+abbrev pub with_lists : State → DocumentList → List Triple → List (List ℕ) → List Connection → State
+with_lists s documents rights applications connections =
+    record s {
+      documents = documents.live;
+      made = documents.made;
+      rights = rights;
+      applications = applications;
+      connections = connections;
+    }
+
+-- what a request on a bus comes to, or of a seat that has none
+abbrev pub ServedOn : State → Request → Given → State → Answer → KeeperIs → KeeperIs
+    → Option Connection → Type 0
+ServedOn s request given after answer old new None =
+    (given ≡ nothing_given) × (answer ≡ Answer.Refused Code.NotHere) × (after ≡ s) × (new ≡ old)
+ServedOn s request given after answer old new (Some c) =
+    ServesKept s c request given after answer old new

@@ -1,0 +1,169 @@
+//! Requests as lines name them, and how their answers are printed.
+
+ghost use Rattle.std.specs.Prelude.{IfOk};
+ghost use Rattle.portal_model.specs.Built.{Built};
+
+use crate::error::VectorError;
+use crate::opened::{kind, who};
+use portal_base::list::List;
+use portal_base::names::DocId;
+use portal_base::text::Text;
+use portal_model::place::file_number;
+use portal_model::records::Row;
+use portal_model::reply::{Answer, ListedDocument, Refused, Reply};
+use portal_model::request::{NodeOp, NodeRequest, Request, RightsCall, names_handle};
+use std::alloc::Global;
+use vector_lines::error::LineError;
+use vector_lines::notation::{cut, debug, number, small_number, text};
+
+/// The request of a line's words.
+pub fn request_of(alloc: Global, words: &str) -> Result<Request, VectorError>
+    ensures { IfOk result Built }
+{
+    let (word, rest) = cut(words);
+    match word {
+        "enter" => {
+            let (name, speaks) = cut(rest);
+            Ok(Request::Enter {
+                who: who(alloc, name)?,
+                kind: kind(speaks)?,
+            })
+        }
+        "leave" => Ok(Request::Leave),
+        "collect" => Ok(Request::Collect),
+        "getattr" => getattr(rest),
+        _ => document_request(alloc, word, rest),
+    }
+}
+
+fn getattr(rest: &str) -> Result<Request, VectorError>
+    ensures { IfOk result Built }
+{
+    let (node, rest) = cut(rest);
+    let (flags, fh) = cut(rest);
+    let node = number(node)?;
+    let flags = small_number(flags)?;
+    let fh = number(fh)?;
+    if !names_handle(flags) && file_number(node).is_none() {
+        return Err(VectorError::Line(LineError::BadLine));
+    }
+    Ok(Request::Node(NodeRequest {
+        node,
+        uid: 1000,
+        gid: 1000,
+        op: NodeOp::GetAttr { flags, fh },
+    }))
+}
+
+/// A request on documents.
+fn document_request(alloc: Global, word: &str, rest: &str) -> Result<Request, VectorError>
+    ensures { IfOk result Built }
+{
+    match word {
+        "present" => Ok(Request::Present {
+            path: text(alloc, rest)?,
+        }),
+        "grant" => Ok(Request::Grant(rights_call(alloc, rest)?)),
+        "revoke" => Ok(Request::Revoke(rights_call(alloc, rest)?)),
+        "delete" => Ok(Request::DeleteDocument {
+            doc: text(alloc, rest)?,
+        }),
+        "lookup" => Ok(Request::LookupDocument {
+            path: text(alloc, rest)?,
+        }),
+        "info" => Ok(Request::Info {
+            doc: text(alloc, rest)?,
+        }),
+        "list" => Ok(Request::ListDocuments {
+            app: text(alloc, rest)?,
+        }),
+        _ => Err(VectorError::Line(LineError::BadLine)),
+    }
+}
+
+/// A document, an application and rights between commas.
+fn rights_call(alloc: Global, rest: &str) -> Result<RightsCall, VectorError> {
+    let (doc, rest) = cut(rest);
+    let (app, names) = cut(rest);
+    let mut listed = List::new(alloc);
+    for name in names.split(',') {
+        listed.push(Text::copied(alloc, name)?)?;
+    }
+    Ok(RightsCall {
+        doc: text(alloc, doc)?,
+        app: text(alloc, app)?,
+        names: listed,
+    })
+}
+
+/// What a request is answered.
+pub fn shown(alloc: Global, reply: Result<Reply, Refused>) -> Result<String, VectorError> {
+    match reply {
+        Ok(reply) => answer(alloc, &reply.answer),
+        Err(refused) => Ok(debug(alloc, &refused)?),
+    }
+}
+
+fn answer(alloc: Global, answer: &Answer) -> Result<String, VectorError> {
+    match answer {
+        Answer::Ids(ids) => identifiers(alloc, ids.as_slice()),
+        Answer::Info { path, rights } => {
+            let mut out = format!(in alloc; "Info ")?;
+            put_bytes(alloc, &mut out, path.as_slice())?;
+            put_rows(&mut out, rights.as_slice())?;
+            Ok(out)
+        }
+        Answer::Listed(documents) => listed(alloc, documents.as_slice()),
+        _ => Ok(debug(alloc, answer)?),
+    }
+}
+
+fn identifiers(alloc: Global, ids: &[Text]) -> Result<String, VectorError> {
+    let mut out = format!(in alloc; "Ids")?;
+    for id in ids {
+        out.push_str(if id.as_str().is_empty() { " -" } else { " " })?;
+        out.push_str(id.as_str())?;
+    }
+    Ok(out)
+}
+
+fn listed(alloc: Global, documents: &[ListedDocument]) -> Result<String, VectorError> {
+    let mut out = format!(in alloc; "Listed")?;
+    for document in documents {
+        out.push_str(" ")?;
+        put_id(alloc, &mut out, document.id)?;
+        out.push_str(" ")?;
+        put_bytes(alloc, &mut out, document.path.as_slice())?;
+    }
+    Ok(out)
+}
+
+fn put_rows(out: &mut String, rows: &[Row]) -> Result<(), VectorError> {
+    for row in rows {
+        out.push_str(" ")?;
+        out.push_str(row.app.as_str())?;
+        out.push_str("=")?;
+        put_names(out, row.names.as_slice())?;
+    }
+    Ok(())
+}
+
+fn put_names(out: &mut String, names: &[Text]) -> Result<(), VectorError> {
+    for (index, name) in names.iter().enumerate() {
+        if index > 0 {
+            out.push_str(",")?;
+        }
+        out.push_str(name.as_str())?;
+    }
+    Ok(())
+}
+
+fn put_id(alloc: Global, out: &mut String, id: DocId) -> Result<(), VectorError> {
+    out.push_str(String::from_utf8_lossy(alloc, id.text().as_slice())?.as_str())?;
+    Ok(())
+}
+
+fn put_bytes(alloc: Global, out: &mut String, bytes: &[u8]) -> Result<(), VectorError> {
+    out.push_str(String::from_utf8_lossy(alloc, bytes)?.as_str())?;
+    Ok(())
+}
