@@ -2,6 +2,6 @@ mod Texts
 mod Verdicts
 mod Records
 mod Requests
-mod Calls
+pub mod Calls
 mod Sizes
-mod Costs
+pub mod Costs

@@ -6,46 +6,24 @@
 //! numbers of those of the input. The modules say which lines there are.
 #![tactic(auto)]
 
-mod error;
 mod messages;
 mod names;
 mod rules;
 mod values;
 
-use crate::error::VectorError;
 use std::alloc::Global;
 use std::io;
-use std::io::{BufRead, BufReader};
-use vector_lines::error::LineError;
-use vector_lines::notation::{cut, is_comment, repeated};
+use vector_lines::error::{VectorError, bad};
+use vector_lines::notation::cut;
+use vector_lines::program::run;
 
 fn main(rt: HostRuntime) -> io::Result<()> {
-    let input = BufReader::new(rt.alloc(), rt.reader())?;
-    for line in input.lines(rt.alloc()) {
-        let line = line?;
-        let text = line.as_str();
-        if is_comment(text) {
-            println!(rt; "{text}")?;
-        } else {
-            let answer = told(rt.alloc(), text)?;
-            println!(rt; "{answer}")?;
-        }
-    }
-    Ok(())
-}
-
-/// What is printed for a line: its answer, or the error that it comes to.
-fn told(alloc: Global, line: &str) -> io::Result<String> {
-    match answer(alloc, line) {
-        Ok(text) => Ok(text),
-        Err(error) => Ok(error.told(alloc)?),
-    }
+    run(&rt, answer)
 }
 
 /// The answer of a line.
 fn answer(alloc: Global, line: &str) -> Result<String, VectorError> {
-    let line = repeated(alloc, line)?;
-    let (kind, rest) = cut(line.as_str());
+    let (kind, rest) = cut(line);
     match kind {
         "name" => names::name(alloc, rest),
         "signature" => names::signature(alloc, rest),
@@ -56,6 +34,6 @@ fn answer(alloc: Global, line: &str) -> Result<String, VectorError> {
         "value" => values::value(alloc, rest),
         "split" => messages::split_bytes(alloc, rest),
         "message" => messages::message(alloc, rest),
-        _ => Err(VectorError::Line(LineError::BadLine)),
+        _ => bad(),
     }
 }

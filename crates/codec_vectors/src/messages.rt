@@ -1,6 +1,5 @@
 //! Messages, cut from a stream and read.
 
-use crate::error::VectorError;
 use dbus_message::error::MessageError;
 use dbus_message::read::read_message;
 use dbus_message::split::split;
@@ -10,6 +9,7 @@ use dbus_types::write::write_signature;
 use portal_base::split::Split;
 use portal_base::text::Text;
 use std::alloc::Global;
+use vector_lines::error::{VectorError, given};
 use vector_lines::notation::{self, debug};
 use vector_lines::values;
 
@@ -25,9 +25,11 @@ pub fn message(alloc: Global, rest: &str) -> Result<String, VectorError> {
     let bytes = notation::bytes(alloc, rest)?;
     match split(bytes.as_slice()) {
         Split::Whole { len } if len == bytes.len() => {
-            shown_message(alloc, &read_message(alloc, bytes.as_slice())?)
+            shown_message(alloc, &given(alloc, read_message(alloc, bytes.as_slice()))?)
         }
-        Split::Bad { rule } => Err(VectorError::Message(MessageError::Bad { rule })),
+        Split::Bad { rule } => {
+            Err(VectorError::Refused(debug(alloc, &MessageError::Bad { rule })?))
+        },
         split => Ok(debug(alloc, &split)?),
     }
 }

@@ -1,10 +1,10 @@
 //! Names and signatures.
 
-use crate::error::VectorError;
 use dbus_types::names::{is_interface, is_member, is_object_path};
 use dbus_types::signature::{check_signature, read_signature};
 use dbus_types::write::write_signature;
 use std::alloc::Global;
+use vector_lines::error::{VectorError, given};
 use vector_lines::notation;
 
 /// `name TEXT`: of what the text is a name, each of which is told.
@@ -30,8 +30,8 @@ pub fn name(alloc: Global, rest: &str) -> Result<String, VectorError> {
 /// `signature TEXT`: how many types it has, and their text; or where it breaks.
 pub fn signature(alloc: Global, rest: &str) -> Result<String, VectorError> {
     let text = notation::text(alloc, rest)?;
-    check_signature(text.as_slice())?;
-    let kinds = read_signature(alloc, text.as_slice())?;
+    given(alloc, check_signature(text.as_slice()))?;
+    let kinds = given(alloc, read_signature(alloc, text.as_slice()))?;
     let again = write_signature(alloc, kinds.as_slice())?;
     let again = String::from_utf8_lossy(alloc, again.as_slice())?;
     let count = kinds.len();

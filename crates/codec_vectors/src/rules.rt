@@ -1,6 +1,5 @@
 //! The rules of types and of values.
 
-use crate::error::VectorError;
 use crate::values::kind_of;
 use dbus_types::equal::same_type;
 use dbus_types::keeping::keeps_rules;
@@ -15,7 +14,7 @@ use portal_base::list::List;
 use portal_base::memory::Replica;
 use portal_base::text::Text;
 use std::alloc::Global;
-use vector_lines::error::LineError;
+use vector_lines::error::{LineError, VectorError, bad};
 use vector_lines::notation::{self, cut, number, small_number};
 
 /// `type TYPE ARRAYS BRACKETS`: where the type may stand and its alignment; and
@@ -112,7 +111,7 @@ fn array(alloc: Global, made: &mut List<Value>, words: &str) -> Result<Value, Ve
     let items = last(alloc, made, count)?;
     match kind_of(alloc, kind)? {
         WireType::Array(element) => Ok(Value::Array { element, items }),
-        _ => Err(VectorError::Line(LineError::BadLine)),
+        _ => bad(),
     }
 }
 
@@ -139,7 +138,7 @@ fn leaf(alloc: Global, kind: &str, rest: &str) -> Result<Value, VectorError> {
         "text" => Ok(Value::Str(text(alloc, rest)?)),
         "path" => Ok(Value::ObjectPath(text(alloc, rest)?)),
         "signature" => Ok(Value::Signature(text(alloc, rest)?)),
-        _ => Err(VectorError::Line(LineError::BadLine)),
+        _ => bad(),
     }
 }
 

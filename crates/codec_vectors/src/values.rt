@@ -1,13 +1,12 @@
 //! Values, read and written.
 
-use crate::error::VectorError;
 use dbus_marshal::read::read_value;
 use dbus_marshal::write::write_value;
 use dbus_types::signature::read_signature;
 use dbus_types::types::{Endian, Value, WireType};
 use portal_base::list::List;
 use std::alloc::Global;
-use vector_lines::error::LineError;
+use vector_lines::error::{LineError, VectorError, bad, given};
 use vector_lines::notation::{bytes, cut, digits};
 use vector_lines::values;
 
@@ -23,9 +22,12 @@ pub fn value(alloc: Global, rest: &str) -> Result<String, VectorError> {
     let at = place(at)?;
     let bytes = bytes(alloc, rest)?;
     if at > bytes.len() {
-        return Err(VectorError::Line(LineError::BadLine));
+        return bad();
     }
-    let found = read_value(alloc, endian(order)?, bytes.as_slice(), at, &kind)?;
+    let found = given(
+        alloc,
+        read_value(alloc, endian(order)?, bytes.as_slice(), at, &kind),
+    )?;
     let shown = values::value(alloc, &found.value)?;
     let written = written(alloc, at, &found.value)?;
     let next = found.next;
@@ -34,7 +36,7 @@ pub fn value(alloc: Global, rest: &str) -> Result<String, VectorError> {
 
 /// The one type of a signature.
 pub fn kind_of(alloc: Global, text: &str) -> Result<WireType, VectorError> {
-    let mut kinds = read_signature(alloc, text.as_bytes())?;
+    let mut kinds = given(alloc, read_signature(alloc, text.as_bytes()))?;
     kinds.pop().ok_or(VectorError::Line(LineError::BadLine))
 }
 

@@ -255,3 +255,8 @@ module _ (mountpoint : List ℕ) (call : Message) (path : is_host_path mountpoin
 -- what a message is answered can be written
 pub can_be_answered : (settings : Settings) (message : Message) → is_host_path settings.mountpoint ≡ true → message.serial < 2 ^ 32 → CanBeAnswered (ask_of settings message)
 can_be_answered settings message path fits = message_can settings.mountpoint message path fits (is_call message)
+
+-- an error that answers a call can be written
+pub error_can : {E : Type 0} (r : Result OutMessage E) (call : Message) (e : ErrorName) → call.serial < 2 ^ 32 → IfOk r (λ reply. reply ≡ error_to call e) → IfOk r IsWritable
+error_can (Ok reply) call e fits is = subst IsWritable (sym is) (λ serial some small. can_error call.serial (error_name e) serial fits (short_name e) some)
+error_can (Err x) call e fits is = tt

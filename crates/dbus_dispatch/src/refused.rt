@@ -2,21 +2,26 @@
 
 ghost use Rattle.std.specs.Prelude.{◌≡◌, IfOk};
 ghost use Rattle.dbus_dispatch.specs.Errors.{error_to, refusal_of};
+ghost use Rattle.dbus_dispatch.specs.Writable.{IsWritable};
 
+use crate::ask::fits;
 use crate::error_name::ErrorName;
 use dbus_types::message::{Message, OutMessage};
 use portal_base::memory::WantOfMemory;
 use portal_model::reply::Refused;
 use std::alloc::Global;
 
-/// The error that answers a call whose request was refused.
+/// The error that answers a call whose request was refused. It can be written,
+/// with each serial that isn't 0.
 pub fn refused_message(
     alloc: Global,
     refused: &Refused,
     call: &Message,
 ) -> Result<OutMessage, WantOfMemory>
-    ensures { IfOk result (λ reply. reply ≡ error_to call.now (refusal_of refused.now)) }
+    ensures refuses { IfOk result (λ reply. reply ≡ error_to call.now (refusal_of refused.now)) }
+    ensures writable { IfOk result IsWritable }
 {
+    fits(call.serial);
     let error = match refused {
         Refused::Memory => ErrorName::NoMemory,
         Refused::Full { .. } => ErrorName::LimitsExceeded,

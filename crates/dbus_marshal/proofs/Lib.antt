@@ -13,6 +13,7 @@ pub mod KeptFields
 pub mod Bytes
 pub mod BytesSet
 pub mod PiecesJoined
+pub mod WrittenFields
 pub mod SpellingsMove
 pub mod SpelledKeepsRules
 pub mod AsciiNames

@@ -10,6 +10,7 @@
 //! |---|---|
 //! | `read` | [`read::read_value`]: the value of a type at an offset |
 //! | `header` | [`header::read_header`]: the fields of a message's header |
+//! | `header_field` | the fields of a header that is written |
 //! | `write` | [`write::write_value`]: the spelling of a value behind others, and of several |
 //! | `error` | [`error::ReadError`]: where and why a spelling breaks |
 //! | `check` | values of which only the place after them is asked |
@@ -29,6 +30,7 @@ pub mod error;
 mod fields;
 mod flat;
 pub mod header;
+pub mod header_field;
 pub mod laws;
 mod put;
 pub mod read;

@@ -10,6 +10,7 @@ pub mod Tables
 pub mod Ascii
 pub mod WrittenHasSpelling
 pub mod WrittenAreMessages
+pub mod WrittenHeader
 pub mod EmptyReturn
 pub mod ReadingsAreOne
 pub mod KnownFields

@@ -94,31 +94,20 @@ whole_len k serial F B = omega (
   length-replicate {A = ℕ} (gap 8 (12 + length F)) 0,
 )
 
--- the four bytes that are put where the length of the body is to stand
-abbrev hole : List ℕ
-hole = 0 ∷ 0 ∷ 0 ∷ 0 ∷ []
-
 pub body_aligned : (d e : List ℕ) → e ≡ d ++ replicate (gap 8 (length d)) 0 → length e % 8 ≡ 0 % 8
 body_aligned d e t = omega (arith, ap length t, length-append d (replicate (gap 8 (length d)) 0), length-replicate {A = ℕ} (gap 8 (length d)) 0)
 
 -- the parts of a message, put one behind another, and then the length of the body
 module _ (k serial : ℕ) (T B : List ℕ) where
-  header_laid : (a b c : List ℕ) → a ≡ 108 ∷ k ∷ 1 ∷ 1 ∷ [] → b ≡ a ++ hole → c ≡ b ++ bits_of serial → c ≡ 108 ∷ k ∷ 1 ∷ 1 ∷ 0 ∷ 0 ∷ 0 ∷ 0 ∷ bits_of serial
-  header_laid a b c p q r = r ∙ ap (λ (w : List ℕ). w ++ bits_of serial) (q ∙ ap (λ (w : List ℕ). w ++ hole) p)
-
-  pub header_len : (a b c : List ℕ) → a ≡ 108 ∷ k ∷ 1 ∷ 1 ∷ [] → b ≡ a ++ hole → c ≡ b ++ bits_of serial → length c ≡ 12
-  header_len a b c p q r = omega (arith, ap length (header_laid a b c p q r), number_len Little four serial)
-
   regroup : (S P : List ℕ) → ((S ++ T) ++ P) ++ B ≡ S ++ (T ++ (P ++ B))
   regroup S P = simp append_assoc
 
-  pub parts_laid : (a b c d e f g : List ℕ) (n : ℕ) → a ≡ 108 ∷ k ∷ 1 ∷ 1 ∷ [] → b ≡ a ++ hole → c ≡ b ++ bits_of serial → d ≡ c ++ T → e ≡ d ++ replicate (gap 8 (length d)) 0 → f ≡ e ++ B
+  pub parts_laid : (d e f g : List ℕ) (n : ℕ) → d ≡ (108 ∷ k ∷ 1 ∷ 1 ∷ 0 ∷ 0 ∷ 0 ∷ 0 ∷ bits_of serial) ++ T → e ≡ d ++ replicate (gap 8 (length d)) 0 → f ≡ e ++ B
       → n ≡ length f - length e → g ≡ take 4 f ++ (bits_of n ++ drop 8 f) → g ≡ laid k serial T B
-  parts_laid a b c d e f g n p q r s t u size put =
-      let len : length d ≡ 12 + length T = omega (arith, ap length s, length-append c T, header_len a b c p q r) in
+  parts_laid d e f g n head t u size put =
+      let len : length d ≡ 12 + length T = omega (arith, ap length head, length-append (bits_of serial) T, number_len Little four serial) in
       let P : List ℕ = replicate (gap 8 (12 + length T)) 0 in
       let pads : e ≡ d ++ P = t ∙ ap (λ (m : ℕ). d ++ replicate (gap 8 m) 0) len in
-      let head : d ≡ (108 ∷ k ∷ 1 ∷ 1 ∷ 0 ∷ 0 ∷ 0 ∷ 0 ∷ bits_of serial) ++ T = s ∙ ap (λ (w : List ℕ). w ++ T) (header_laid a b c p q r) in
       let rest : List ℕ = bits_of serial ++ (T ++ (P ++ B)) in
       let whole : f ≡ 108 ∷ k ∷ 1 ∷ 1 ∷ 0 ∷ 0 ∷ 0 ∷ 0 ∷ rest = u ∙ (ap (λ (w : List ℕ). w ++ B) (pads ∙ ap (λ (w : List ℕ). w ++ P) head)
       ∙ ap (λ (w : List ℕ). 108 ∷ k ∷ 1 ∷ 1 ∷ 0 ∷ 0 ∷ 0 ∷ 0 ∷ w) (regroup (bits_of serial) P)) in

@@ -114,11 +114,6 @@ can_spell out serial can = record {
 abbrev pub Gives : {E : Type 0} → OutMessage → ℕ → Result (List ℕ) E → Type 0
 Gives out serial r = (text : List ℕ) → IsWritten out serial text → IfOk r (λ bytes. bytes ≡ text)
 
-pub parts_written : {E : Type 0} (r : Result (List ℕ) E) (out : OutMessage) (serial : ℕ) (body : List ℕ) → ((text : List ℕ) → IsBody Little (map type_of (body_out out)) (body_out out) text → body ≡ text)
-    → ((text : List ℕ) → Spells Little 12 (W.Array field_type) (V.Array field_type (fields_out out)) text → IfOk r (λ bytes. bytes ≡ laid (kind_out out) serial text body)) → Gives out serial r
-parts_written (Ok bytes) out serial body wrote put text w = put w.0 w.2 ∙ (ap (λ (b : List ℕ). laid (kind_out out) serial w.0 b) (wrote w.1 w.3) ∙ sym w.4)
-parts_written (Err x) out serial body wrote put text w = tt
-
 pub is_written : {E : Type 0} (r : Result (List ℕ) E) (out : OutMessage) (serial : ℕ) → CanWrite out serial → Gives out serial r → IfOk r (λ bytes. IsWritten out serial bytes)
 is_written (Ok bytes) out serial can gives = let s = can_spell out serial can in subst (λ (x : List ℕ). IsWritten out serial x) (sym (gives s.text s.written)) s.written
 is_written (Err x) out serial can gives = tt
@@ -128,15 +123,3 @@ is_message (Ok bytes) out serial fits can gives =
     let s = can_spell out serial can in
     subst (λ (x : List ℕ). IsMessage x (stands_for out serial)) (sym (gives s.text s.written)) (message_written out serial s.text s.some fits s.names s.signature s.written s.short)
 is_message (Err x) out serial fits can gives = tt
-
--- what the parts are written as, where they are those of the message
-pub parts_of : {E : Type 0} (r : Result (List ℕ) E) (out : OutMessage) (serial kind : ℕ) (fs : List Value) (b body : List ℕ) → kind ≡ kind_out out → fs ≡ fields_out out → b ≡ body
-    → ((text : List ℕ) → Spells Little 12 (W.Array field_type) (V.Array field_type fs) text → IfOk r (λ bytes. bytes ≡ laid kind serial text b))
-    → (text : List ℕ) → Spells Little 12 (W.Array field_type) (V.Array field_type (fields_out out)) text → IfOk r (λ bytes. bytes ≡ laid (kind_out out) serial text body)
-parts_of r out serial kind fs b body p q s h text spelled =
-    subst (λ (k : ℕ). IfOk r (λ bytes. bytes ≡ laid k serial text body)) p
-    (subst (λ (x : List ℕ). IfOk r (λ bytes. bytes ≡ laid kind serial text x)) s (h text (subst (λ (l : List Value). Spells Little 12 (W.Array field_type) (V.Array field_type l) text) (sym q) spelled)))
-
--- the array of the fields, whose type is one that is equal, at an offset that is equal
-pub spelled_at : (n : ℕ) (t : WireType) (fs : List Value) (text : List ℕ) → n ≡ 12 → t ≡ field_type → Spells Little 12 (W.Array field_type) (V.Array field_type fs) text → Spells Little n (W.Array field_type) (V.Array t fs) text
-spelled_at n t fs text p q h = subst (λ (m : ℕ). Spells Little m (W.Array field_type) (V.Array t fs) text) (sym p) (subst (λ (u : WireType). Spells Little 12 (W.Array field_type) (V.Array u fs) text) (sym q) h)

@@ -4,7 +4,6 @@
 
 ghost use Rattle.std.specs.Prelude.{◌≡◌, ◌≤◌, ◌==◌, ℕ, length, drop, IfOk};
 ghost use Rattle.std.specs.List.{list_all};
-ghost use Rattle.dbus_message.specs.Fields.{field_type as type_of_field};
 ghost use Rattle.dbus_types.specs.declared.message.Message.{Message as TheMessage};
 ghost use Rattle.dbus_message.specs.Header.{endian_of as endian_in};
 ghost use Rattle.dbus_message.specs.Rules.{IsWhole, IsFirstBroken};
@@ -21,20 +20,10 @@ use crate::header::{FIELDS_AT, SERIAL_AT, body_start, endian_of, fields_end, num
 use crate::rule;
 use dbus_marshal::header::{HeaderField, read_header};
 use dbus_types::message::Message;
-use dbus_types::types::{Endian, WireType};
+use dbus_types::types::Endian;
 use portal_base::list::List;
 use portal_base::memory::WantOfMemory;
 use std::alloc::Global;
-
-/// The type `(yv)`.
-pub(crate) fn field_type(alloc: Global) -> Result<WireType, WantOfMemory>
-    ensures { IfOk result (λ kind. kind ≡ type_of_field) }
-{
-    let mut members = List::new(alloc);
-    members.push(WireType::Byte)?;
-    members.push(WireType::Variant)?;
-    Ok(WireType::Struct(members))
-}
 
 /// The fields of a message that have codes of the table, where its bytes are
 /// given up to the end of the fields. The values of others are only checked.

@@ -2,50 +2,30 @@
 //!
 //! Source: D-Bus Specification, "Message Format" and "Header Fields".
 
-ghost use Rattle.std.specs.Prelude.{◌≡◌, ◌+◌, ◌<◌, ◌^◌, ◌≢◌, ◌++◌, ◌==◌, [], ◌∷◌, length, map, IfOk, List, ℕ};
+ghost use Rattle.std.specs.Prelude.{◌≡◌, ◌≢◌, ◌++◌, ◌==◌, [], ◌∷◌, length, IfOk, OnOk, List, ℕ};
 ghost use Rattle.std.specs.Int.{w32};
 ghost use Rattle.dbus_types.specs.declared.types.Endian.TheVariants.{Little};
-ghost use Rattle.dbus_types.specs.declared.types.WireType.TheVariants as W;
 ghost use Rattle.dbus_types.specs.declared.types.Value.TheVariants as V;
-ghost use Rattle.dbus_types.specs.Types.{type_text, types_text};
-ghost use Rattle.dbus_types.specs.Values.{type_of as type_in};
-ghost use Rattle.dbus_types.specs.Spells.{Spells};
-ghost use Rattle.dbus_types.specs.Spelling.{spellings};
-ghost use Rattle.dbus_message.specs.Fields.{field_type as type_of_field};
+ghost use Rattle.dbus_types.specs.Spells.{number};
+ghost use Rattle.dbus_types.specs.Spelling.{spelling, spellings};
+ghost use Rattle.dbus_message.specs.Fields.{field_type};
 ghost use Rattle.dbus_message.specs.Messages.{IsMessage};
-ghost use Rattle.dbus_message.specs.Written.{field as field_with, signature_field as signature_of, last_part as part_after, kind_out, body_out, return_fields as fields_of_return, fields_out, IsWritten, CanWrite, laid, stands_for};
+ghost use Rattle.dbus_message.specs.Written.{last_part as part_after, kind_out, body_out, return_fields, fields_out, IsWritten, CanWrite, stands_for};
 
 use crate::fields::{ERROR_NAME, INTERFACE, MEMBER, PATH, REPLY_SERIAL, SIGNATURE};
-use crate::header::{BODY_ALIGNMENT, BODY_LENGTH_AT, LITTLE_ENDIAN, PROTOCOL_VERSION};
-use crate::read::field_type;
-use dbus_marshal::write::{overwrite_length, pad, write_all, write_value};
+use crate::header::{
+    BODY_ALIGNMENT, BODY_LENGTH_AT, FIELDS_AT, FIXED_LEN, LITTLE_ENDIAN, PROTOCOL_VERSION,
+};
+use dbus_marshal::header_field::{
+    write_number_field, write_path_field, write_signature_field, write_text_field,
+};
+use dbus_marshal::write::{overwrite_length, pad, write_all};
 use dbus_types::message::{ERROR, METHOD_RETURN, NO_REPLY_EXPECTED, OutMessage, SIGNAL};
-use dbus_types::shared::Shared;
 use dbus_types::types::Value;
-use dbus_types::write::signature_text;
-use portal_base::boxed::Boxed;
 use portal_base::list::{ByteList, List};
-use portal_base::memory::{Replica, WantOfMemory};
+use portal_base::memory::WantOfMemory;
 use portal_base::text::Text;
 use std::alloc::Global;
-
-/// A field with its code.
-fn field(alloc: Global, code: u8, value: Value) -> Result<Value, WantOfMemory>
-    ensures { IfOk result (λ f. f ≡ field_with code value) }
-{
-    let mut members = List::new(alloc);
-    members.push(Value::Byte(code))?;
-    members.push(Value::Variant(Boxed::new(alloc, value)?))?;
-    Ok(Value::Struct(members))
-}
-
-/// The field SIGNATURE of a body.
-fn signature_field(alloc: Global, body: &[Value]) -> Result<Value, WantOfMemory>
-    ensures { IfOk result (λ f. f ≡ signature_of body.now) }
-{
-    let text = signature_text(alloc, body)?;
-    field(alloc, SIGNATURE, Value::Signature(text))
-}
 
 /// The part of a name after its last `.`.
 fn last_part(name: &str) -> &str
@@ -57,36 +37,30 @@ fn last_part(name: &str) -> &str
     }
 }
 
-/// The fields of a return.
-fn return_fields(alloc: Global, to: u32, body: &[Value]) -> Result<List<Value>, WantOfMemory>
-    ensures { IfOk result (λ fs. fs ≡ fields_of_return to body.now) }
+/// Puts the fields of a return.
+fn put_return_fields(out: &mut ByteList, to: u32, body: &[Value]) -> Result<(), WantOfMemory>
+    ensures { OnOk result (out.new ≡ out.old
+        ++ spellings Little (length out.old) (return_fields to body.now)) }
 {
-    let mut fields = List::new(alloc);
-    fields.push(field(alloc, REPLY_SERIAL, Value::U32(to))?)?;
-    if !body.is_empty() {
-        fields.push(signature_field(alloc, body)?)?;
+    write_number_field(out, REPLY_SERIAL, to)?;
+    if body.is_empty() {
+        return Ok(());
     }
-    Ok(fields)
+    write_signature_field(out, SIGNATURE, body)
 }
 
-/// The fields of a message, in rising order of their codes.
-fn fields_of(
-    alloc: Global,
-    message: &OutMessage,
-    body: &[Value],
-) -> Result<List<Value>, WantOfMemory>
+/// Puts the fields of a message, in rising order of their codes.
+fn put_fields(out: &mut ByteList, message: &OutMessage, body: &[Value]) -> Result<(), WantOfMemory>
     requires { body.now ≡ body_out message.now }
-    ensures { IfOk result (λ fs. fs ≡ fields_out message.now) }
+    ensures { OnOk result (out.new ≡ out.old
+        ++ spellings Little (length out.old) (fields_out message.now)) }
 {
     match message {
-        OutMessage::Return { to, .. } => return_fields(alloc, *to, body),
+        OutMessage::Return { to, .. } => put_return_fields(out, *to, body),
         OutMessage::Error { to, name } => {
-            let mut fields = List::new(alloc);
-            let name = Value::Str(name.replica(alloc)?);
-            fields.push(field(alloc, ERROR_NAME, name)?)?;
-            fields.push(field(alloc, REPLY_SERIAL, Value::U32(*to))?)?;
-            fields.push(signature_field(alloc, body)?)?;
-            Ok(fields)
+            write_text_field(out, ERROR_NAME, name.as_bytes())?;
+            write_number_field(out, REPLY_SERIAL, *to)?;
+            write_signature_field(out, SIGNATURE, body)
         }
         OutMessage::Signal {
             path,
@@ -94,15 +68,10 @@ fn fields_of(
             member,
             ..
         } => {
-            let mut fields = List::new(alloc);
-            let path = Value::ObjectPath(path.replica(alloc)?);
-            fields.push(field(alloc, PATH, path)?)?;
-            let interface = Value::Str(interface.replica(alloc)?);
-            fields.push(field(alloc, INTERFACE, interface)?)?;
-            let member = Value::Str(member.replica(alloc)?);
-            fields.push(field(alloc, MEMBER, member)?)?;
-            fields.push(signature_field(alloc, body)?)?;
-            Ok(fields)
+            write_path_field(out, PATH, path.as_bytes())?;
+            write_text_field(out, INTERFACE, interface.as_bytes())?;
+            write_text_field(out, MEMBER, member.as_bytes())?;
+            write_signature_field(out, SIGNATURE, body)
         }
     }
 }
@@ -117,37 +86,33 @@ fn kind_of(message: &OutMessage) -> u8
     }
 }
 
-/// A message of these parts. Its body is put behind its header, and then the
-/// body's length into the header.
-fn write_parts(
+/// The header of a message up to its last field. Its body's length is still to
+/// be put into it; that of the fields is put behind them.
+fn header(
     alloc: Global,
-    kind: u8,
-    serial: u32,
-    fields: List<Value>,
+    message: &OutMessage,
     body: &[Value],
+    serial: u32,
 ) -> Result<ByteList, WantOfMemory>
-    ensures { (text : List ℕ) → Spells Little 12 (W.Array type_of_field)
-        (V.Array type_of_field fields) text
-        → IfOk result (λ bytes. bytes ≡ laid kind serial text (spellings Little 0 body.now)) }
+    requires { body.now ≡ body_out message.now }
+    ensures { IfOk result (λ bytes. bytes ≡ (108 ∷ kind_out message.now ∷ 1 ∷ 1 ∷ 0 ∷ 0 ∷ 0 ∷ 0
+        ∷ number Little w32 serial)
+        ++ spelling Little 12 (V.Array field_type (fields_out message.now))) }
 {
     let mut bytes = List::new(alloc);
+    let kind = kind_of(message);
     bytes.extend_from_slice(&[LITTLE_ENDIAN, kind, NO_REPLY_EXPECTED, PROTOCOL_VERSION])?;
     bytes.extend_from_slice(&[0, 0, 0, 0])?;
     bytes.extend_from_slice(&serial.to_le_bytes())?;
-    let fields = Value::Array {
-        element: Shared::new(alloc, field_type(alloc)?)?,
-        items: fields,
-    };
-    write_value(&mut bytes, &fields)?;
-    pad(&mut bytes, BODY_ALIGNMENT)?;
-    let start = bytes.len();
-    write_all(&mut bytes, body)?;
-    let len = bytes.len() - start;
-    overwrite_length(&mut bytes, BODY_LENGTH_AT, len);
+    bytes.extend_from_slice(&[0, 0, 0, 0])?;
+    put_fields(&mut bytes, message, body)?;
+    let len = bytes.len() - FIXED_LEN;
+    overwrite_length(&mut bytes, FIELDS_AT, len);
     Ok(bytes)
 }
 
-/// The bytes of a message with a body.
+/// The bytes of a message with a body. It is put behind the header, and then
+/// its length into the header.
 fn write_with(
     alloc: Global,
     message: &OutMessage,
@@ -158,8 +123,13 @@ fn write_with(
     ensures { (text : List ℕ) → IsWritten message.now serial text
         → IfOk result (λ bytes. bytes ≡ text) }
 {
-    let fields = fields_of(alloc, message, body)?;
-    write_parts(alloc, kind_of(message), serial, fields, body)
+    let mut bytes = header(alloc, message, body, serial)?;
+    pad(&mut bytes, BODY_ALIGNMENT)?;
+    let start = bytes.len();
+    write_all(&mut bytes, body)?;
+    let len = bytes.len() - start;
+    overwrite_length(&mut bytes, BODY_LENGTH_AT, len);
+    Ok(bytes)
 }
 
 /// Writes a message with a serial: with the lowest byte of each number first,

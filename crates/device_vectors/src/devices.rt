@@ -1,6 +1,5 @@
 //! The devices: over std's readers and writers, and in memory.
 
-use crate::error::VectorError;
 use crate::scripted::{Act, Acts, Reader, Writer};
 use portal_base::list::List;
 use portal_base::outside::{
@@ -8,7 +7,7 @@ use portal_base::outside::{
     StdSource, Words,
 };
 use std::alloc::Global;
-use vector_lines::error::LineError;
+use vector_lines::error::{LineError, VectorError};
 use vector_lines::notation::{bytes, cut, debug, number, small_number};
 
 /// `source ACT ACT ..`: what reads answer over a reader that does so: `N` gives N

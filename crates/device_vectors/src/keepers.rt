@@ -1,12 +1,11 @@
 //! Keepers of records in memory.
 
-use crate::error::VectorError;
 use portal_base::list::List;
 use portal_base::text::Text;
 use portal_model::records::{DocRecord, EntryRecord, GrantRecord, RecordChange, Records};
 use record_keeper::{Keeper, KeeperLoad, MemoryKeeper};
 use std::alloc::Global;
-use vector_lines::error::LineError;
+use vector_lines::error::{LineError, VectorError, bad};
 use vector_lines::notation::{bytes, cut, debug, digits, numbers, small_number};
 
 /// `keeper FAILS | STEP | STEP ..`: what each step answers over a keeper whose
@@ -126,6 +125,6 @@ fn entry_change(
             rows: List::new(alloc),
         })),
         "unset" => Ok(RecordChange::RemoveEntry { table, id }),
-        _ => Err(VectorError::Line(LineError::BadLine)),
+        _ => bad(),
     }
 }

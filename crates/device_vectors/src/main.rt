@@ -7,46 +7,24 @@
 #![tactic(auto)]
 
 mod devices;
-mod error;
 mod keepers;
 mod records;
 mod scripted;
 mod trees;
 
-use crate::error::VectorError;
 use std::alloc::Global;
 use std::io;
-use std::io::{BufRead, BufReader};
-use vector_lines::error::LineError;
-use vector_lines::notation::{cut, is_comment, repeated};
+use vector_lines::error::{VectorError, bad};
+use vector_lines::notation::cut;
+use vector_lines::program::run;
 
 fn main(rt: HostRuntime) -> io::Result<()> {
-    let input = BufReader::new(rt.alloc(), rt.reader())?;
-    for line in input.lines(rt.alloc()) {
-        let line = line?;
-        let text = line.as_str();
-        if is_comment(text) {
-            println!(rt; "{text}")?;
-        } else {
-            let answer = told(rt.alloc(), text)?;
-            println!(rt; "{answer}")?;
-        }
-    }
-    Ok(())
-}
-
-/// What is printed for a line: its answer, or the error that it comes to.
-fn told(alloc: Global, line: &str) -> io::Result<String> {
-    match answer(alloc, line) {
-        Ok(text) => Ok(text),
-        Err(error) => Ok(error.told(alloc)?),
-    }
+    run(&rt, answer)
 }
 
 /// The answer of a line.
 fn answer(alloc: Global, line: &str) -> Result<String, VectorError> {
-    let line = repeated(alloc, line)?;
-    let (kind, rest) = cut(line.as_str());
+    let (kind, rest) = cut(line);
     match kind {
         "source" => devices::source(alloc, rest),
         "sink" => devices::sink(alloc, rest),
@@ -58,6 +36,6 @@ fn answer(alloc: Global, line: &str) -> Result<String, VectorError> {
         "quiet" => trees::quiet(alloc, rest),
         "keeper" => keepers::keeper(alloc, rest),
         "records" => records::records(alloc, rest),
-        _ => Err(VectorError::Line(LineError::BadLine)),
+        _ => bad(),
     }
 }

@@ -1,13 +1,12 @@
 //! Kept records, and what is wrong with them.
 
-use crate::error::VectorError;
 use portal_base::limits::Limits;
 use portal_base::list::List;
 use portal_base::text::Text;
 use portal_model::records::{DocRecord, EntryRecord, GrantRecord, Records, Row};
 use record_keeper::records_fault;
 use std::alloc::Global;
-use vector_lines::error::LineError;
+use vector_lines::error::{LineError, VectorError, bad};
 use vector_lines::notation::{bytes, cut, debug, number, small_number, text};
 
 /// `records LIVE MADE | RECORD | RECORD ..`: what is wrong with the records under
@@ -48,7 +47,7 @@ fn put(alloc: Global, records: &mut Records, part: &str) -> Result<(), VectorErr
         "version" => records.version = small_number(rest)?,
         "doc" => records.documents.push(document(alloc, rest)?)?,
         "entry" => records.entries.push(entry(alloc, rest)?)?,
-        _ => return Err(VectorError::Line(LineError::BadLine)),
+        _ => return bad(),
     }
     Ok(())
 }

@@ -3,12 +3,11 @@
 ghost use Rattle.std.specs.Prelude.{◌≡◌, ◌≢◌};
 ghost use Rattle.portal_base.specs.Names.{root};
 
-use crate::error::VectorError;
 use host_tree::{HostTree, MemoryTree, QuietTree, TreeRead};
 use portal_base::files::FileName;
 use portal_base::names::HostPath;
 use std::alloc::Global;
-use vector_lines::error::LineError;
+use vector_lines::error::{VectorError, bad, given};
 use vector_lines::notation::{bytes, cut, debug, digits, number, numbers, small_number};
 
 /// `tree FAILS | FILE | STEP, STEP ..`: what each step answers over a tree whose
@@ -22,7 +21,7 @@ pub fn tree(alloc: Global, rest: &str) -> Result<String, VectorError> {
     if !file.is_empty() {
         let (path, rest) = cut(file);
         let (moment, content) = cut(rest);
-        let path = HostPath::read(alloc, path.as_bytes())?;
+        let path = given(alloc, HostPath::read(alloc, path.as_bytes()))?;
         if path.as_bytes() != b"/".as_slice() {
             tree.add_file(path, bytes(alloc, content)?, number(moment)?)?;
         }
@@ -43,7 +42,7 @@ fn answers<T: HostTree>(alloc: Global, tree: &mut T, steps: &str) -> Result<Stri
     for step in steps.split(',') {
         let (kind, rest) = cut(step.trim());
         let (path, rest) = cut(rest);
-        let path = HostPath::read(alloc, path.as_bytes())?;
+        let path = given(alloc, HostPath::read(alloc, path.as_bytes()))?;
         out.push_str(answer(alloc, tree, kind, path, rest)?.as_str())?;
         out.push_str("; ")?;
     }
@@ -117,7 +116,7 @@ fn change<T: HostTree>(
         ),
         "len" => tree.set_len(file, number(first)?, number(second)?),
         "sync" => tree.sync(file),
-        _ => return Err(VectorError::Line(LineError::BadLine)),
+        _ => return bad(),
     };
     Ok(debug(alloc, &answer)?)
 }

@@ -16,7 +16,6 @@ use Rattle.session.specs.declared.served.Served.{Served}
 use Rattle.session.specs.Answers.{Made}
 use Rattle.session.specs.Sessions.{Closes, Opens}
 use Rattle.session.specs.Standings.{Standing, client, fresh}
-use Rattle.session.proofs.ItemsBuilt.{IsAsked}
 use Rattle.docportal.specs.Scenes.{ScriptPortal}
 use Rattle.docportal.specs.Seats.{Alone, Asked, known_at}
 use Rattle.docportal.proofs.MadeAlone.{asked_alone, nothing_alone}
@@ -29,11 +28,11 @@ module _ (p q : ScriptPortal) (seat count : ℕ) (same : state_first q.story ≡
   exchanges_there = sym (ap (λ (z : State). exchanges seat z q.story.history) same)
 
   -- one request was asked
-  asked_one : (request : Request) (reply : Reply) → IsAsked request → (state_first p.story).told ≡ true → Asks (known_at p seat 0) request (Ok reply) (known_at q seat count) → Asked p q seat (request ∷ [])
-  asked_one request reply built told h =
+  asked_one : (request : Request) (reply : Reply) → Asks (known_at p seat 0) request (Ok reply) (known_at q seat count) → Asked p q seat (request ∷ [])
+  asked_one request reply h =
       let made = h.answered in
       let x : Exchange = exchange (run (state_first p.story) (p.story.history ++ made.others)) made.entry in
-      (asked_alone p q seat count legal_there own made.refusals (request ∷ []) (Made x ∷ []) (built, tt) told (exchanges_there ∙ made.mine) refl (Made x, [], refl, made.request_is, refl)).0
+      (asked_alone p q seat count legal_there own made.refusals (request ∷ []) (Made x ∷ []) (exchanges_there ∙ made.mine) refl (Made x, [], refl, made.request_is, refl)).0
 
   -- one was refused: the history is as before
   refused_one : (request : Request) (why : Refused) → Asks (known_at p seat 0) request (Err why) (known_at q seat count) → q.story.history ≡ p.story.history
@@ -66,8 +65,8 @@ pub entered : (p q : ScriptPortal) (seat count : ℕ) (who : Who) (kind : Kind) 
     → (state_first p.story).told ≡ true → r ≡ Ok session → Opens (client who kind settings) (known_at p seat 0) r (known_at q seat count) → (session ≡ fresh (client who kind settings)) × Asked p q seat (Request.Enter who kind ∷ [])
 entered p q seat count who kind settings r session same own legal told is h =
     let opens = subst (λ (z : Result Standing Refused). Opens (client who kind settings) (known_at p seat 0) z (known_at q seat count)) is h in
-    (opens.1, asked_one p q seat count same own legal (Request.Enter who kind) opens.0.0 tt told opens.0.1)
+    (opens.1, asked_one p q seat count same own legal (Request.Enter who kind) opens.0.0 opens.0.1)
 
 pub left : (p q : ScriptPortal) (seat count : ℕ) (session : Standing) (served : Served) → state_first q.story ≡ state_first p.story → Alone seat count p q → Legal (state_first q.story) q.story.history
     → (state_first p.story).told ≡ true → Closes session (known_at p seat 0) served (known_at q seat count) → Asked p q seat (Request.Leave ∷ [])
-left p q seat count session served same own legal told h = asked_one p q seat count same own legal Request.Leave h.1.0 tt told h.1.1
+left p q seat count session served same own legal told h = asked_one p q seat count same own legal Request.Leave h.1.0 h.1.1

@@ -9,6 +9,7 @@ use Rattle.portal_base.specs.declared.who.Kind.{Kind}
 use Rattle.portal_base.specs.declared.who.Kind.TheVariants.{Bus, Mount}
 use Rattle.portal_base.specs.declared.who.Who.{Who}
 use Rattle.portal_base.specs.declared.who.Who.TheVariants.{Host, App}
+use Rattle.portal_model.specs.declared.entry.Entry.{Entry}
 use Rattle.portal_model.specs.declared.request.Request.{Request}
 use Rattle.portal_model.specs.declared.request.Request.TheVariants as request
 use Rattle.portal_model.specs.History.{cost, cost_of}
@@ -20,13 +21,14 @@ use Rattle.script_form.specs.declared.script.ScriptLine.TheVariants.{Open, Data}
 use Rattle.script_form.specs.Lines.{hex_text, line_text, text_of}
 use Rattle.script_form.specs.Outside.{Outside}
 use Rattle.session.proofs.ItemsCostLittle.{costs, costs-append}
-use Rattle.docportal.specs.Entries.{entries_for, entry_for, outside_past}
+use Rattle.docportal.specs.Entries.{AreGiven}
 
-pub entries_cost : (rs : List Request) (s : State) (o : Outside) (seat : ℕ) → cost (entries_for s o seat rs) ≡ costs rs
-entries_cost [] s o seat = refl
-entries_cost (r ∷ rs) s o seat =
-    let e = entry_for s o seat r in
-    cost-append (e ∷ []) (entries_for (after s e) (outside_past o e) seat rs) ∙ (ap (λ (n : ℕ). cost (e ∷ []) + n) (entries_cost rs (after s e) (outside_past o e) seat) ∙ sym (costs-append (r ∷ []) rs))
+pub entries_cost : (rs : List Request) (es : List Entry) (s : State) (o : Outside) (seat : ℕ) (left : Outside) → AreGiven s o seat rs es left → cost es ≡ costs rs
+entries_cost [] [] s o seat left h = refl
+entries_cost [] (e ∷ es) s o seat left h = absurd h
+entries_cost (r ∷ rs) [] s o seat left h = absurd h
+entries_cost (r ∷ rs) (e ∷ es) s o seat left h =
+    cost-append (e ∷ []) es ∙ (ap (λ (n : ℕ). cost (e ∷ []) + n) (entries_cost rs es (after s e) h.2 seat left h.4) ∙ (ap (λ (q : Request). costs (q ∷ []) + costs rs) h.1 ∙ sym (costs-append (r ∷ []) rs)))
 
 -- ---- the length of a line
 

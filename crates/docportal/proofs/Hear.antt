@@ -24,8 +24,7 @@ use Rattle.session.proofs.Grew.{told_alike}
 use Rattle.docportal.specs.declared.error.LineError.{LineError}
 use Rattle.docportal.specs.declared.error.LineError.TheVariants as not_run
 use Rattle.docportal.specs.declared.seats.Heard.{Heard}
-use Rattle.session.proofs.ItemsBuilt.{items_built}
-use Rattle.docportal.specs.Entries.{made_for}
+use Rattle.docportal.specs.Entries.{made_of}
 use Rattle.docportal.specs.Lines.{DataIsUnbuilt, IsUnbuiltStop}
 use Rattle.docportal.specs.Scenes.{ScriptPortal, outside_at}
 use Rattle.docportal.specs.Seats.{Alone, HeardAs, HearsAt, HearsNot, IsMet, WantsMemory, is_last, known_at, sunk}
@@ -53,17 +52,20 @@ module _ (p q : ScriptPortal) (seat count : ℕ) (at now : Standing) (bytes : Li
       let rs = requests_of d.acts in
       let mine : exchanges seat s q.story.history ≡ exchanges seat s p.story.history ++ kept d.outcomes = sym (ap (λ (z : State). exchanges seat z q.story.history) same) ∙ told_alike _ _ d.outcomes d.grows.desk told in
       let fewest : denied d.outcomes ≡ 0 = none_denied (denied d.outcomes) count none d.grows.desk.refusals in
-      let made = asked_alone p q seat count (subst (λ (z : State). Legal z q.story.history) same legal) own none rs d.outcomes (items_built d.items at.client at.stage.phase d.acts d.each) told mine fewest (answer_asked.items at.stage.serial now.stage.serial d.acts d.outcomes d.pieces d.answers) in
+      let made = asked_alone p q seat count (subst (λ (z : State). Legal z q.story.history) same legal) own none rs d.outcomes mine fewest (answer_asked.items at.client at.stage.serial now.stage.serial d.acts d.outcomes d.pieces d.answers) in
       let pieces : sink'.pieces ≡ d.pieces = some_is _ _ d.grows.told ∙ ap (λ (z : List (List ℕ)). z ++ d.pieces) empty in
-      let answers : Answers at.stage.serial d.acts (made_for (state_now p.story) (outside_at p) seat rs) sink'.pieces now.stage.serial =
-      subst (λ (z : List (List ℕ)). Answers at.stage.serial d.acts (made_for (state_now p.story) (outside_at p) seat rs) z now.stage.serial) (sym pieces)
-      (subst (λ (z : List Outcome). Answers at.stage.serial d.acts z d.pieces now.stage.serial) made.1 d.answers) in (
+      let answers : Answers at.client at.stage.serial d.acts (made_of (state_now p.story) made.0.entries) sink'.pieces now.stage.serial =
+      subst (λ (z : List (List ℕ)). Answers at.client at.stage.serial d.acts (made_of (state_now p.story) made.0.entries) z now.stage.serial) (sym pieces)
+      (subst (λ (z : List Outcome). Answers at.client at.stage.serial d.acts z d.pieces now.stage.serial) made.1 d.answers) in (
         rs,
         record {
           items = d.items;
           acts = d.acts;
           cut = cut_taken what t;
           asked = refl;
+          entries = made.0.entries;
+          left = outside_at q;
+          given = made.0.given;
           answers = answers;
           client = t.client;
           phase = d.phase;
@@ -71,6 +73,7 @@ module _ (p q : ScriptPortal) (seat count : ℕ) (at now : Standing) (bytes : Li
           fed = fed_is;
         },
         made.0,
+        refl,
       )
 
   takes_unbuilt : (what : Stop) → TakesUpTo what at (sunk (known_at p seat 0) sink) bytes now (sunk (known_at q seat count) sink') → IsUnbuiltStop what now.rest → DataIsUnbuilt bytes (Some at)

@@ -1,6 +1,9 @@
 pub mod BytesAhead
-pub mod NodeGiven
-pub mod GivenByTree
+pub mod WalksAlike
+pub mod AddAlike
+pub mod AttrWalks
+pub mod OneEntry
+pub mod GivenEntries
 pub mod MadeAlone
 pub mod Hear
 pub mod RoomToHear

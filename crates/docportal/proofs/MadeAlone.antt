@@ -1,6 +1,6 @@
--- What became of a seat's requests at a portal that it has alone: where none was refused, each is the entry
--- that the tree gives.
-use Rattle.std.proofs.Common.{◌≡◌, ℕ, suc, ◌==◌, List, [], ◌∷◌, ◌++◌, Option, Some, None, Bool, true, false, cond, refl, sym, ap, ◌∙◌, subst, arith}
+-- What became of a seat's requests at a portal that it has alone: where none was refused, each is an entry that
+-- the outside of the script gives.
+use Rattle.std.proofs.Common.{◌≡◌, ℕ, suc, ◌==◌, List, [], ◌∷◌, ◌++◌, Option, Some, None, Result, Ok, Err, Bool, true, false, cond, refl, sym, ap, ◌∙◌, subst, arith}
 use Rattle.std.specs.List.{All}
 use Rattle.std.specs.Option.{option_map}
 use Rattle.std.proofs.lemmas.Bool.Decides.{nat_tests}
@@ -11,34 +11,33 @@ use Rattle.portal_base.specs.Calls.{Calls, next_call}
 use Rattle.portal_base.specs.declared.files.Look.{Look}
 use Rattle.portal_core.specs.Answered.{Spends, Went}
 use Rattle.portal_core.specs.Chain.{Chain, answered, refused}
-use Rattle.portal_core.specs.Devices.{may_change_records, may_draw}
+use Rattle.portal_core.specs.Devices.{KeeperWentOn}
 use Rattle.portal_core.specs.Story.{state_first, state_now}
 use Rattle.portal_core.specs.TreeCalls.{after_fault, after_looks, after_one}
 use Rattle.portal_model.specs.declared.entry.Fault.{Fault}
 use Rattle.portal_model.specs.declared.entry.Fault.TheVariants as Fault
+use Rattle.portal_model.specs.declared.state.Connection.{Connection}
 use Rattle.record_keeper.specs.Devices.{KeeperState, keeper_of}
-use Rattle.script_form.specs.Outside.{Outside}
+use Rattle.record_keeper.specs.Keepers.{KeeperIs}
 use Rattle.docportal.specs.Scenes.{ScriptPortal, outside_at}
 use Rattle.docportal.specs.Seats.{Alone, Asked, words_of}
 use Rattle.portal_model.specs.declared.entry.Entry.{Entry}
 use Rattle.portal_model.specs.declared.request.Request.{Request}
 use Rattle.portal_model.specs.History.{EachLawful, Legal, run}
 use Rattle.portal_model.specs.Seated.{Exchange, exchange, exchanges, rises_by}
-use Rattle.portal_model.specs.State.{State}
-use Rattle.portal_model.specs.Step.{after}
-use Rattle.portal_model.proofs.Histories.{Legal-rest}
+use Rattle.portal_model.specs.Lawful.{Lawful}
+use Rattle.portal_model.specs.State.{State, connection_of}
+use Rattle.portal_model.specs.Step.{after, bus_of}
+use Rattle.portal_model.proofs.Histories.{Legal-rest, run-append}
 use Rattle.portal_model.proofs.SeatLaws.{exchanges-append}
-use Rattle.portal_model.proofs.StaysTold.{step_told}
 use Rattle.session.specs.Answers.{AreOf, Denied, IsOf, Made, Outcome, denied, kept}
-use Rattle.session.proofs.ItemsBuilt.{AllBuilt, IsAsked}
-use Rattle.docportal.specs.Entries.{calls_past, entries_for, entry_for, made_for, outside_after, outside_past}
-use Rattle.docportal.proofs.GivenByTree.{lawful_is, run_told}
+use Rattle.docportal.specs.Entries.{Applied, AreGiven, ChangesOn, IsGiven, calls_past, made_of}
 
 abbrev IsOwn : ℕ → Entry → Type 0
 IsOwn seat e = e.seat ≡ seat
 
-abbrev Goes : ScriptPortal → List (Option Entry) → ScriptPortal → Type 0
-Goes = Chain (Went tree_of keeper_of words_of) (Spends keeper_of)
+abbrev Goes : ScriptPortal → List (Result Entry Request) → ScriptPortal → Type 0
+Goes = Chain (Went tree_of keeper_of words_of) (Spends tree_of keeper_of words_of)
 
 -- ---- what the devices go through
 
@@ -51,33 +50,32 @@ calls_go (l ∷ ls) fault t c e = calls_go ls fault (after_one t false) (next_ca
 some_is : (x y : Calls) → Some x ≡ Some y → x ≡ y
 some_is x y e = cc
 
-abbrev outside : List ℕ → ℕ → Calls → Calls → Outside
-outside words clock tree keeper = record { words = words; clock = clock; tree = tree; keeper = keeper }
+-- the keeper was called as the outside says
+keeper_went : (s : State) (e : Entry) (then : State) (x y : KeeperState) (c : Option Connection) → KeeperWentOn s e then (keeper_of x) (keeper_of y) c
+    → (ChangesOn s e c → Applied x.count.calls e.given.fault y.count.calls) × ((ChangesOn s e c → ⊥) → y.count.calls ≡ x.count.calls)
+keeper_went s e then x y None k = (λ changes. absurd changes, λ _. some_is _ _ (ap (λ (z : KeeperIs). z.calls) k))
+keeper_went s e then x y (Some c) k = (
+  λ changes. record { goes = some_is _ _ (ap (λ (z : KeeperIs). z.calls) (k.called changes).goes); fails = (k.called changes).fails },
+  λ unchanged. some_is _ _ (ap (λ (z : KeeperIs). z.calls) (k.uncalled unchanged)),
+)
 
--- what a session asks may change no record
-unkept : (request : Request) → IsAsked request → may_change_records request ≡ false
-unkept (Request.Enter who kind) h = refl
-unkept Request.Leave h = refl
-unkept Request.Collect h = refl
-unkept (Request.Node r) h = refl
-unkept request h = absurd h
+went_given : (a m : ScriptPortal) (e : Entry) → Lawful (state_now a.story) e → Went tree_of keeper_of words_of a e m → IsGiven (state_now a.story) (outside_at a) e (outside_at m)
+went_given a m e lawful w =
+    let s = state_now a.story in
+    let keeper = keeper_went s e (state_now m.story) a.keeper m.keeper (bus_of (connection_of s.connections e.seat)) w.keeper in
+    record {
+      lawful = lawful;
+      tree = w.tree.fails;
+      tree_left = some_is _ _ (ap (λ (t : TreeIs). t.calls) w.tree.goes ∙ calls_go e.given.looks e.given.fault (tree_of a.tree) a.tree.count.calls refl);
+      applied = keeper.0;
+      unapplied = keeper.1;
+      words = w.words;
+      clock = w.clock;
+    }
 
--- and draws no word
-undrawn : (request : Request) → IsAsked request → may_draw request ≡ false
-undrawn (Request.Enter who kind) h = refl
-undrawn Request.Leave h = refl
-undrawn Request.Collect h = refl
-undrawn (Request.Node r) h = refl
-undrawn request h = absurd h
-
-went_past : (a m : ScriptPortal) (e : Entry) → IsAsked e.request → Went tree_of keeper_of words_of a e m → outside_at m ≡ outside_past (outside_at a) e
-went_past a m e built w =
-    let calls : m.tree.count.calls ≡ calls_past a.tree.count.calls e.given.looks e.given.fault =
-    some_is _ _ (ap (λ (t : TreeIs). t.calls) w.tree.goes ∙ calls_go e.given.looks e.given.fault (tree_of a.tree) a.tree.count.calls refl) in
-    ap (λ (z : List ℕ). outside z m.clock m.tree.count.calls m.keeper.count.calls) (w.undrawn (undrawn e.request built))
-    ∙ (ap (λ (z : ℕ). outside a.words z m.tree.count.calls m.keeper.count.calls) w.clock
-    ∙ (ap (λ (z : Calls). outside a.words a.clock z m.keeper.count.calls) calls
-    ∙ ap (λ (z : KeeperState). outside a.words a.clock (calls_past a.tree.count.calls e.given.looks e.given.fault) z.count.calls) (w.unkept (unkept e.request built)).1))
+-- and the portal is in the state after the entry
+went_on : (a m : ScriptPortal) (e : Entry) → Went tree_of keeper_of words_of a e m → state_now m.story ≡ after (state_now a.story) e
+went_on a m e w = ap state_now w.grown ∙ run-append a.story.history (e ∷ []) (state_first a.story)
 
 -- ---- what was asked
 
@@ -109,36 +107,34 @@ nothing_more (e ∷ es) s seat own none = absurd (not_nothing (exchange s e) (ex
 
 -- entries of a seat that has the portal alone, and what became of its requests: they are those that
 -- the outside gives, and the outside goes on behind them
-record AreMade (s : State) (a b : ScriptPortal) (seat : ℕ) (rs : List Request) (more : List Entry) (outcomes : List Outcome) : Type 0 where
-  pub entries : more ≡ entries_for s (outside_at a) seat rs
-  pub outcomes_are : outcomes ≡ made_for s (outside_at a) seat rs
-  pub goes : outside_at b ≡ outside_after (outside_at a) (entries_for s (outside_at a) seat rs)
+record AreMade (a b : ScriptPortal) (seat : ℕ) (rs : List Request) (more : List Entry) (outcomes : List Outcome) : Type 0 where
+  pub given : AreGiven (state_now a.story) (outside_at a) seat rs more (outside_at b)
+  pub outcomes_are : outcomes ≡ made_of (state_now a.story) more
 
-made_are : (asked : List (Option Entry)) (rs : List Request) (outcomes : List Outcome) (s : State) (a b : ScriptPortal) (seat : ℕ) → refused asked ≡ 0 → AllBuilt rs → s.told ≡ true → All (IsOwn seat) (answered asked) → EachLawful s (answered asked)
-    → Goes a asked b → exchanges seat s (answered asked) ≡ kept outcomes → denied outcomes ≡ 0 → AreOf rs outcomes → AreMade s a b seat rs (answered asked) outcomes
-made_are [] [] outcomes s a b seat counted built told own lawful chain same none of = record { entries = refl; outcomes_are = of; goes = ap outside_at chain }
-made_are [] (r ∷ rs) outcomes s a b seat counted built told own lawful chain same none of =
+made_are : (asked : List (Result Entry Request)) (rs : List Request) (outcomes : List Outcome) (a b : ScriptPortal) (seat : ℕ) → refused asked ≡ 0 → All (IsOwn seat) (answered asked) → EachLawful (state_now a.story) (answered asked)
+    → Goes a asked b → exchanges seat (state_now a.story) (answered asked) ≡ kept outcomes → denied outcomes ≡ 0 → AreOf rs outcomes → AreMade a b seat rs (answered asked) outcomes
+made_are [] [] outcomes a b seat counted own lawful chain same none of = record { given = ap outside_at chain; outcomes_are = of }
+made_are [] (r ∷ rs) outcomes a b seat counted own lawful chain same none of =
     absurd (none_made of.0 of.1 (same ∙ ap kept of.2) (sym (ap denied of.2) ∙ none))
-made_are (None ∷ asked) rs outcomes s a b seat counted built told own lawful chain same none of =
+made_are (Err request ∷ asked) rs outcomes a b seat counted own lawful chain same none of =
     absurd (omega arith)
-made_are (Some e ∷ asked) [] outcomes s a b seat counted built told own lawful chain same none of =
+made_are (Ok e ∷ asked) [] outcomes a b seat counted own lawful chain same none of =
+    let s = state_now a.story in
     absurd (not_nothing (exchange s e) (exchanges seat (after s e) (answered asked)) (sym (own_first seat s e (answered asked) (own 0 e (omega arith))) ∙ (same ∙ ap kept of)))
-made_are (Some e ∷ asked) (r ∷ rs) outcomes s a b seat counted built told own lawful chain same none of =
-    let o = outside_at a in
+made_are (Ok e ∷ asked) (r ∷ rs) outcomes a b seat counted own lawful chain same none of =
+    let s = state_now a.story in
+    let m = chain.0 in
     let here = own 0 e (omega arith) in
     let one = first_made of.0 of.1 (exchange s e) (exchanges seat (after s e) (answered asked)) (sym (own_first seat s e (answered asked) here) ∙ (same ∙ ap kept of.2)) (sym (ap denied of.2) ∙ none) in
     let request : e.request ≡ r = subst (λ (x : Outcome). IsOf r x) one.0 of.3 in
-    let is : e ≡ entry_for s o seat r = lawful_is s o e seat r built.0 told here request chain.1.tree.fails lawful.0 in
-    let past : outside_at chain.0 ≡ outside_past o e = went_past a chain.0 e (subst IsAsked (sym request) built.0) chain.1 in
-    let rest = made_are asked rs of.1 (after s e) chain.0 b seat counted built.1 (step_told s e.seat e.request e.given ∙ told) (more_own seat e (answered asked) own) lawful.1 chain.2 one.1 one.2 of.4 in
+    let on : state_now m.story ≡ after s e = went_on a m e chain.1 in
+    let rest_lawful : EachLawful (state_now m.story) (answered asked) = subst (λ (z : State). EachLawful z (answered asked)) (sym on) lawful.1 in
+    let rest_same : exchanges seat (state_now m.story) (answered asked) ≡ kept of.1 = ap (λ (z : State). exchanges seat z (answered asked)) on ∙ one.1 in
+    let rest = made_are asked rs of.1 m b seat counted (more_own seat e (answered asked) own) rest_lawful chain.2 rest_same one.2 of.4 in
     record {
-      entries = ap (λ (l : List Entry). e ∷ l) (rest.entries ∙ ap (λ (z : Outside). entries_for (after s e) z seat rs) past)
-          ∙ ap (λ (x : Entry). x ∷ entries_for (after s x) (outside_past o x) seat rs) is;
+      given = (here, request, outside_at m, went_given a m e lawful.0 chain.1, subst (λ (z : State). AreGiven z (outside_at m) seat rs (answered asked) (outside_at b)) on rest.given);
       outcomes_are = of.2 ∙ (ap (λ (x : Outcome). x ∷ of.1) one.0
-          ∙ (ap (λ (l : List Outcome). Made (exchange s e) ∷ l) (rest.outcomes_are ∙ ap (λ (z : Outside). made_for (after s e) z seat rs) past)
-          ∙ ap (λ (x : Entry). Made (exchange s x) ∷ made_for (after s x) (outside_past o x) seat rs) is));
-      goes = rest.goes ∙ (ap (λ (z : Outside). outside_after z (entries_for (after s e) z seat rs)) past
-          ∙ ap (λ (x : Entry). outside_after (outside_past o x) (entries_for (after s x) (outside_past o x) seat rs)) is);
+          ∙ ap (λ (l : List Outcome). Made (exchange s e) ∷ l) (rest.outcomes_are ∙ ap (λ (z : State). made_of z (answered asked)) on));
     }
 
 -- what is new in the history of a portal that a seat has alone
@@ -157,16 +153,11 @@ module _ (p q : ScriptPortal) (seat count : ℕ) (legal : Legal (state_first p.s
   more_lawful = (Legal-rest p.story.history (answered g.asked) s (subst (Legal s) g.grows.grown legal)).lawful
 
   -- none was refused: the entries are those that the outside gives
-  pub asked_alone : count ≡ 0 → (rs : List Request) (outcomes : List Outcome) → AllBuilt rs → (state_first p.story).told ≡ true → exchanges seat s q.story.history ≡ exchanges seat s p.story.history ++ kept outcomes → denied outcomes ≡ 0 → AreOf rs outcomes
-      → Asked p q seat rs × (outcomes ≡ made_for (state_now p.story) (outside_at p) seat rs)
-  asked_alone zero_count rs outcomes built told mine none of =
-      let made = made_are g.asked rs outcomes (run s p.story.history) p q seat (none_refused (refused g.asked) count zero_count g.count) built (run_told p.story.history s ∙ told) g.grows.own more_lawful g.chain (more_exchanges (kept outcomes) mine) none of in (
-        record {
-          history = g.grows.grown ∙ ap (λ (l : List Entry). p.story.history ++ l) made.entries;
-          outside = made.goes;
-        },
-        made.outcomes_are,
-      )
+  pub asked_alone : count ≡ 0 → (rs : List Request) (outcomes : List Outcome) → exchanges seat s q.story.history ≡ exchanges seat s p.story.history ++ kept outcomes → denied outcomes ≡ 0 → AreOf rs outcomes
+      → (k : Asked p q seat rs) × (outcomes ≡ made_of (state_now p.story) k.entries)
+  asked_alone zero_count rs outcomes mine none of =
+      let made = made_are g.asked rs outcomes p q seat (none_refused (refused g.asked) count zero_count g.count) g.grows.own more_lawful g.chain (more_exchanges (kept outcomes) mine) none of in
+      (record { entries = answered g.asked; given = made.given; history = g.grows.grown }, made.outcomes_are)
 
   -- no exchange is new: the history is as before
   pub nothing_alone : exchanges seat s q.story.history ≡ exchanges seat s p.story.history ++ [] → q.story.history ≡ p.story.history ++ []

@@ -27,8 +27,8 @@ use Rattle.session.specs.Asked.{asked_by, requests_of}
 use Rattle.session.specs.Items.{joined}
 use Rattle.session.specs.Sessions.{fed_of}
 use Rattle.session.specs.Standings.{Standing, client, fresh, longest}
-use Rattle.session.proofs.ConnectionStaysOpen.{ArePlain, act_plain, bound_stays}
-use Rattle.docportal.specs.Entries.{entries_for, entry_for, outside_after, outside_past}
+use Rattle.session.proofs.ConnectionStaysOpen.{ArePlain, bound_stays, items_plain}
+use Rattle.docportal.specs.Entries.{AreGiven}
 use Rattle.docportal.specs.Lines.{Comes, CloseDoes, DataDoes, Does, Goes, Hears, Passes}
 use Rattle.docportal.specs.Scenes.{Scene, placed, run_settings}
 use Rattle.docportal.specs.Steps.{Agrees, HaveRoom, IsIdle, IsNew, binding}
@@ -41,43 +41,40 @@ use Rattle.docportal.proofs.Costs.{data_long, enter_cost, entries_cost}
 abbrev seat_test : ℕ → Entry → Bool
 seat_test n e = e.seat == n
 
-own_entries : (rs : List Request) (s : State) (o : Outside) (seat : ℕ) → of_seat seat (entries_for s o seat rs) ≡ entries_for s o seat rs
-own_entries [] s o seat = refl
-own_entries (r ∷ rs) s o seat =
-    let e = entry_for s o seat r in
-    let here : (seat == seat) ≡ true = grind (arith, nat_tests) in
-    let more = own_entries rs (after s e) (outside_past o e) seat in
-    ap (λ (b : Bool). cond b (e ∷ of_seat seat (entries_for (after s e) (outside_past o e) seat rs)) (of_seat seat (entries_for (after s e) (outside_past o e) seat rs))) here ∙ ap (λ (l : List Entry). e ∷ l) more
+own_entries : (rs : List Request) (es : List Entry) (s : State) (o : Outside) (seat : ℕ) (left : Outside) → AreGiven s o seat rs es left → of_seat seat es ≡ es
+own_entries [] [] s o seat left h = refl
+own_entries [] (e ∷ es) s o seat left h = absurd h
+own_entries (r ∷ rs) [] s o seat left h = absurd h
+own_entries (r ∷ rs) (e ∷ es) s o seat left h =
+    let own : e.seat ≡ seat = h.0 in
+    let here : (e.seat == seat) ≡ true = grind (arith, nat_tests) in
+    ap (λ (b : Bool). cond b (e ∷ of_seat seat es) (of_seat seat es)) here ∙ ap (λ (l : List Entry). e ∷ l) (own_entries rs es (after s e) h.2 seat left h.4)
 
-no_entries : (rs : List Request) (s : State) (o : Outside) (seat n : ℕ) → (n == seat) ≡ false → of_seat n (entries_for s o seat rs) ≡ []
-no_entries [] s o seat n h = refl
-no_entries (r ∷ rs) s o seat n h =
-    let e = entry_for s o seat r in
-    let there : (seat == n) ≡ false = grind (arith, nat_tests) in
-    ap (λ (b : Bool). cond b (e ∷ of_seat n (entries_for (after s e) (outside_past o e) seat rs)) (of_seat n (entries_for (after s e) (outside_past o e) seat rs))) there ∙ no_entries rs (after s e) (outside_past o e) seat n h
+no_entries : (rs : List Request) (es : List Entry) (s : State) (o : Outside) (seat n : ℕ) (left : Outside) → (n == seat) ≡ false → AreGiven s o seat rs es left → of_seat n es ≡ []
+no_entries [] [] s o seat n left d h = refl
+no_entries [] (e ∷ es) s o seat n left d h = absurd h
+no_entries (r ∷ rs) [] s o seat n left d h = absurd h
+no_entries (r ∷ rs) (e ∷ es) s o seat n left d h =
+    let own : e.seat ≡ seat = h.0 in
+    let there : (e.seat == n) ≡ false = grind (arith, nat_tests) in
+    ap (λ (b : Bool). cond b (e ∷ of_seat n es) (of_seat n es)) there ∙ no_entries rs es (after s e) h.2 seat n left d h.4
 
 -- what requests make of a seat's connection
 abbrev bound_past : Option Binding → List Request → Option Binding
 bound_past o [] = o
 bound_past o (r ∷ rs) = bound_past (bound_after o r) rs
 
-bound_entries : (rs : List Request) (s : State) (o : Outside) (seat : ℕ) (b : Option Binding) → bound_by b (entries_for s o seat rs) ≡ bound_past b rs
-bound_entries [] s o seat b = refl
-bound_entries (r ∷ rs) s o seat b = bound_entries rs (after s (entry_for s o seat r)) (outside_past o (entry_for s o seat r)) seat (bound_after b r)
+bound_entries : (rs : List Request) (es : List Entry) (s : State) (o : Outside) (seat : ℕ) (left : Outside) (b : Option Binding) → AreGiven s o seat rs es left → bound_by b es ≡ bound_past b rs
+bound_entries [] [] s o seat left b h = refl
+bound_entries [] (e ∷ es) s o seat left b h = absurd h
+bound_entries (r ∷ rs) [] s o seat left b h = absurd h
+bound_entries (r ∷ rs) (e ∷ es) s o seat left b h = bound_entries rs es (after s e) h.2 seat left (bound_after b e.request) h.4 ∙ ap (λ (q : Request). bound_past (bound_after b q) rs) h.1
 
-bound_here : (rs : List Request) (s : State) (o : Outside) (seat : ℕ) → bound (run s (entries_for s o seat rs)) seat ≡ bound_past (bound s seat) rs
-bound_here rs s o seat = run-bound seat (entries_for s o seat rs) s ∙ (ap (bound_by (bound s seat)) (own_entries rs s o seat) ∙ bound_entries rs s o seat (bound s seat))
+bound_here : (rs : List Request) (es : List Entry) (s : State) (o : Outside) (seat : ℕ) (left : Outside) → AreGiven s o seat rs es left → bound (run s es) seat ≡ bound_past (bound s seat) rs
+bound_here rs es s o seat left h = run-bound seat es s ∙ (ap (bound_by (bound s seat)) (own_entries rs es s o seat left h) ∙ bound_entries rs es s o seat left (bound s seat) h)
 
-bound_there : (rs : List Request) (s : State) (o : Outside) (seat n : ℕ) → (n == seat) ≡ false → bound (run s (entries_for s o seat rs)) n ≡ bound s n
-bound_there rs s o seat n h = run-bound n (entries_for s o seat rs) s ∙ ap (bound_by (bound s n)) (no_entries rs s o seat n h)
-
-plain-append : (rs qs : List Request) → ArePlain rs → ArePlain qs → ArePlain (rs ++ qs)
-plain-append [] qs a b = b
-plain-append (r ∷ rs) qs a b = (a.0, plain-append rs qs a.1 b)
-
-acts_plain : (acts : List Act) → ArePlain (requests_of acts)
-acts_plain [] = tt
-acts_plain (act ∷ acts) = plain-append (asked_by act) (requests_of acts) (act_plain act) (acts_plain acts)
+bound_there : (rs : List Request) (es : List Entry) (s : State) (o : Outside) (seat n : ℕ) (left : Outside) → (n == seat) ≡ false → AreGiven s o seat rs es left → bound (run s es) n ≡ bound s n
+bound_there rs es s o seat n left d h = run-bound n es s ∙ ap (bound_by (bound s n)) (no_entries rs es s o seat n left d h)
 
 past_plain : (rs qs : List Request) (o : Option Binding) → ArePlain rs → bound_past o (rs ++ qs) ≡ bound_past o qs
 past_plain [] qs o plain = refl
@@ -100,26 +97,23 @@ abbrev choose : Bool → Option Standing → Option Standing → Option Standing
 choose b x y = if b then x else y
 
 -- what a seat's requests make of the portal and of the sessions
-module _ (a : Scene) (seat : ℕ) (rs : List Request) (now : Option Standing) (agrees : Agrees a) (idle : IfSome now IsIdle) (is : bound_past (bound a.portal seat) rs ≡ maybe_binding now) where
+module _ (a : Scene) (seat : ℕ) (rs : List Request) (es : List Entry) (left : Outside) (given : AreGiven a.portal a.outside seat rs es left) (now : Option Standing) (agrees : Agrees a) (idle : IfSome now IsIdle) (is : bound_past (bound a.portal seat) rs ≡ maybe_binding now) where
   placed_idle : (b : Bool) (n : ℕ) → IfSome (choose b now (a.sessions n)) IsIdle
   placed_idle true n = idle
   placed_idle false n = agrees.idle n
 
-  placed_bound : (b : Bool) (n : ℕ) → (n == seat) ≡ b → bound (run a.portal (entries_for a.portal a.outside seat rs)) n ≡ maybe_binding (choose b now (a.sessions n))
+  placed_bound : (b : Bool) (n : ℕ) → (n == seat) ≡ b → bound (run a.portal es) n ≡ maybe_binding (choose b now (a.sessions n))
   placed_bound true n h =
       let same : n ≡ seat = grind (arith, nat_tests) in
-      ap (bound (run a.portal (entries_for a.portal a.outside seat rs))) same ∙ (bound_here rs a.portal a.outside seat ∙ is)
-  placed_bound false n h = bound_there rs a.portal a.outside seat n h ∙ agrees.bound_alike n
+      ap (bound (run a.portal es)) same ∙ (bound_here rs es a.portal a.outside seat left given ∙ is)
+  placed_bound false n h = bound_there rs es a.portal a.outside seat n left h given ∙ agrees.bound_alike n
 
-  comes_scene : Agrees (record { portal = run a.portal (entries_for a.portal a.outside seat rs); outside = outside_after a.outside (entries_for a.portal a.outside seat rs); sessions = placed a.sessions seat now })
+  comes_scene : Agrees (record { portal = run a.portal es; outside = left; sessions = placed a.sessions seat now })
   comes_scene = record { idle = λ n. placed_idle (n == seat) n; bound_alike = λ n. placed_bound (n == seat) n refl }
 
 comes_agree : (a b : Scene) (seat : ℕ) (rs : List Request) (lines : List (List ℕ)) (now : Option Standing) (es : List Entry) (out : List (List ℕ))
     → Agrees a → IfSome now IsIdle → bound_past (bound a.portal seat) rs ≡ maybe_binding now → Comes a seat rs lines now es out b → Agrees b
-comes_agree a b seat rs lines now es out agrees idle is h =
-    let at : record { portal = run a.portal es; outside = outside_after a.outside es; sessions = placed a.sessions seat now } ≡ record { portal = run a.portal (entries_for a.portal a.outside seat rs); outside = outside_after a.outside (entries_for a.portal a.outside seat rs); sessions = placed a.sessions seat now } =
-    ap (λ (z : List Entry). record { portal = run a.portal z; outside = outside_after a.outside z; sessions = placed a.sessions seat now }) h.entries_are in
-    subst Agrees (sym (h.scene ∙ at)) (comes_scene a seat rs now agrees idle is)
+comes_agree a b seat rs lines now es out agrees idle is h = subst Agrees (sym h.scene) (comes_scene a seat rs es h.left h.given now agrees idle is)
 
 passes_agree : (a b : Scene) (es : List Entry) (out : List (List ℕ)) → Agrees a → Passes a es out b → Agrees b
 passes_agree a b es out agrees h = subst Agrees (sym h.2) agrees
@@ -130,7 +124,7 @@ module _ (a b : Scene) (seat : ℕ) (at now : Standing) (bytes : List ℕ) (what
   open_bound = agrees.bound_alike seat ∙ ap maybe_binding open_at
 
   plain : ArePlain rs
-  plain = subst ArePlain (sym x.asked) (acts_plain x.acts)
+  plain = subst ArePlain (sym x.asked) (items_plain x.items at.client at.stage.phase x.acts x.cut.each)
 
   goes_on_agree : what ≡ stop.More → now.rest ≡ [] → Comes a seat rs (map (out_line seat) ps) (Some now) es out b → Agrees b
   goes_on_agree more left h =
@@ -188,7 +182,7 @@ heard_cost s o seat at now bytes what rs ps none x =
     omega arith
 
 comes_cost : (a b : Scene) (seat : ℕ) (rs : List Request) (lines : List (List ℕ)) (now : Option Standing) (es : List Entry) (out : List (List ℕ)) → Comes a seat rs lines now es out b → cost es ≡ costs rs
-comes_cost a b seat rs lines now es out h = ap cost h.entries_are ∙ entries_cost rs a.portal a.outside seat
+comes_cost a b seat rs lines now es out h = entries_cost rs es a.portal a.outside seat h.left h.given
 
 passes_cost : (a b : Scene) (es : List Entry) (out : List (List ℕ)) → Passes a es out b → cost es ≡ 0
 passes_cost a b es out h = ap cost h.0

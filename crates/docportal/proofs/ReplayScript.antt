@@ -46,8 +46,8 @@ is_replay : (text : List ℕ) (lines front later : List ScriptLine) (history : L
     → Plays (first_scene lines) front history out last → IsReplay lines front history out last
 is_replay text lines front later history out last short script ahead valid plays = record {
   plays = plays;
-  only = λ h o b p. plays_one front (first_scene lines) b last h history o out p plays;
-  sound = sound lines front later history out last script.good ahead valid plays;
+  only = λ h o b p. plays_one front (first_scene lines) b last h history o out refl p plays;
+  sound = sound lines front history out last valid plays;
   room = λ later e. front_room text lines front later history out last short script plays e;
 }
 

@@ -36,7 +36,7 @@ did_costs : (c : Client) (s t : Stage) (v w : World) (b : List ℕ) (n : ℕ) �
 did_costs c s t v w b n within d =
     let most = items_cost d.items c s.phase d.acts d.each in
     let bytes = ap length d.bytes_are in
-    record { requests = requests_of d.acts; are = asked_go d.acts s.serial t.serial d.outcomes d.pieces d.answers; grew = d.grows.desk; little = omega arith }
+    record { requests = requests_of d.acts; are = asked_go d.acts c s.serial t.serial d.outcomes d.pieces d.answers; grew = d.grows.desk; little = omega arith }
 
 broke_costs : (c : Client) (s : Stage) (v w : World) (b : List ℕ) → (k : Broke c s v b w) → Costs v.seated w.seated (length b) (k.did.outcomes ++ k.halted.outcomes)
 broke_costs c s v w b k =
@@ -51,7 +51,7 @@ broke_costs c s v w b k =
     let both = costs-append (requests_of d.acts) (asked_by k.act) in
     record {
       requests = requests_of d.acts ++ asked_by k.act;
-      are = of-append (requests_of d.acts) (asked_by k.act) d.outcomes h.outcomes (asked_go d.acts s.serial k.mid.serial d.outcomes d.pieces d.answers) h.gives.asked;
+      are = of-append (requests_of d.acts) (asked_by k.act) d.outcomes h.outcomes (asked_go d.acts c s.serial k.mid.serial d.outcomes d.pieces d.answers) h.gives.asked;
       grew = grew_on v.seated k.then.seated w.seated d.outcomes h.outcomes d.grows.desk h.grows.desk;
       little = omega arith;
     }

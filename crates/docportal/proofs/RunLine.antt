@@ -17,7 +17,6 @@ use Rattle.portal_model.specs.declared.state.Connection.{Connection}
 use Rattle.portal_model.specs.History.{cost, run}
 use Rattle.portal_model.specs.Seated.{binding_of, bound, is_open}
 use Rattle.portal_model.specs.State.{State, connection_of}
-use Rattle.portal_model.specs.Step.{after}
 use Rattle.portal_model.proofs.Histories.{run-append}
 use Rattle.script_form.specs.declared.script.ScriptLine.{ScriptLine}
 use Rattle.script_form.specs.declared.script.ScriptLine.TheVariants.{Open, Data, Close}
@@ -32,60 +31,45 @@ use Rattle.session.specs.Sessions.{ending, ending_at}
 use Rattle.session.specs.Standings.{Standing, client, fresh, longest}
 use Rattle.docportal.specs.declared.error.LineError.{LineError}
 use Rattle.docportal.specs.declared.error.LineError.TheVariants as not_run
-use Rattle.docportal.specs.Entries.{entries_for, entry_for, outside_after, outside_past}
+use Rattle.docportal.specs.Entries.{AreGiven}
 use Rattle.docportal.specs.Lines.{CloseDoes, DataDoes, DataIsUnbuilt, Does, Hears}
 use Rattle.docportal.specs.Scenes.{Scene, ScriptPortal, outside_at, placed, run_settings, sessions_of}
 use Rattle.docportal.specs.Seats.{Asked, HeardAs, HearsNot, IsEnd}
 use Rattle.docportal.specs.Steps.{Agrees, AreFirst, Breaks, IsIdle, MayRun, Opens, Runs, WritesPart, WritesShort, binding, scene}
 use Rattle.docportal.specs.Texts.{end_line, out_line}
 use Rattle.docportal.proofs.Costs.{data_long, enter_cost}
+use Rattle.docportal.proofs.GivenEntries.{given-append, leave_entry, leave_given}
 use Rattle.docportal.proofs.RunLines.{IsFront, first_front, onto_more, onto_none, short_front}
 
 -- ---- scenes
 
-entries-append : (rs qs : List Request) (s : State) (o : Outside) (seat : ℕ) → entries_for s o seat (rs ++ qs) ≡ entries_for s o seat rs ++ entries_for (run s (entries_for s o seat rs)) (outside_after o (entries_for s o seat rs)) seat qs
-entries-append [] qs s o seat = refl
-entries-append (r ∷ rs) qs s o seat =
-    ap (λ (l : List Entry). entry_for s o seat r ∷ l) (entries-append rs qs (after s (entry_for s o seat r)) (outside_past o (entry_for s o seat r)) seat)
-
-outside-append : (es fs : List Entry) (o : Outside) → outside_after o (es ++ fs) ≡ outside_after (outside_after o es) fs
-outside-append [] fs o = refl
-outside-append (e ∷ es) fs o = outside-append es fs (outside_past o e)
-
 state_on : (p q : ScriptPortal) (es : List Entry) → state_first q.story ≡ state_first p.story → q.story.history ≡ p.story.history ++ es → state_now q.story ≡ run (state_now p.story) es
 state_on p q es same h = ap (λ (z : State). run z q.story.history) same ∙ (ap (run (state_first p.story)) h ∙ run-append p.story.history es (state_first p.story))
 
--- where these entries and this session lead
-abbrev moved : ScriptPortal → List (Option Standing) → ℕ → List Entry → Option Standing → Scene
-moved p table seat es now = record {
+-- where these entries, what is left of the outside and this session lead
+abbrev moved : ScriptPortal → List (Option Standing) → ℕ → List Entry → Outside → Option Standing → Scene
+moved p table seat es left now = record {
   portal = run (state_now p.story) es;
-  outside = outside_after (outside_at p) es;
+  outside = left;
   sessions = placed (sessions_of table) seat now;
 }
 
--- the entries that a seat's requests come to
-abbrev asked_for : ScriptPortal → ℕ → List Request → List Entry
-asked_for p seat rs = entries_for (state_now p.story) (outside_at p) seat rs
-
-scene_on : (p q : ScriptPortal) (table table' : List (Option Standing)) (seat : ℕ) (rs : List Request) (now : Option Standing) → state_first q.story ≡ state_first p.story → Asked p q seat rs → sessions_of table' ≡ placed (sessions_of table) seat now
-    → scene q table' ≡ moved p table seat (asked_for p seat rs) now
-scene_on p q table table' seat rs now same asked put =
-    ap (λ (z : State). record { portal = z; outside = outside_at q; sessions = sessions_of table' }) (state_on p q (asked_for p seat rs) same asked.history)
-    ∙ (ap (λ (z : Outside). record { portal = run (state_now p.story) (asked_for p seat rs); outside = z; sessions = sessions_of table' }) asked.outside
-    ∙ ap (λ (z : ℕ → Option Standing). record { portal = run (state_now p.story) (asked_for p seat rs); outside = outside_after (outside_at p) (asked_for p seat rs); sessions = z }) put)
+scene_on : (p q : ScriptPortal) (table table' : List (Option Standing)) (seat : ℕ) (es : List Entry) (now : Option Standing) → state_first q.story ≡ state_first p.story → q.story.history ≡ p.story.history ++ es → sessions_of table' ≡ placed (sessions_of table) seat now
+    → scene q table' ≡ moved p table seat es (outside_at q) now
+scene_on p q table table' seat es now same grown put =
+    let state = state_on p q es same grown in
+    λ i. record { portal = state i; outside = outside_at q; sessions = put i }
 
 -- one asks, and then again
 asked_on : (p q r : ScriptPortal) (seat : ℕ) (rs qs : List Request) → state_first q.story ≡ state_first p.story → Asked p q seat rs → Asked q r seat qs → Asked p r seat (rs ++ qs)
 asked_on p q r seat rs qs same first more =
-    let es = asked_for p seat rs in
+    let es = first.entries in
     let state : state_now q.story ≡ run (state_now p.story) es = state_on p q es same first.history in
-    let later : asked_for q seat qs ≡ entries_for (run (state_now p.story) es) (outside_after (outside_at p) es) seat qs =
-    ap (λ (z : State). entries_for z (outside_at q) seat qs) state ∙ ap (λ (z : Outside). entries_for (run (state_now p.story) es) z seat qs) first.outside in
-    let all : es ++ asked_for q seat qs ≡ asked_for p seat (rs ++ qs) = ap (λ (z : List Entry). es ++ z) later ∙ sym (entries-append rs qs (state_now p.story) (outside_at p) seat) in
+    let behind : AreGiven (run (state_now p.story) es) (outside_at q) seat qs more.entries (outside_at r) = subst (λ (z : State). AreGiven z (outside_at q) seat qs more.entries (outside_at r)) state more.given in
     record {
-      history = more.history ∙ (ap (λ (z : List Entry). z ++ asked_for q seat qs) first.history ∙ (append_assoc p.story.history es (asked_for q seat qs) ∙ ap (λ (z : List Entry). p.story.history ++ z) all));
-      outside = more.outside ∙ (ap (λ (z : Outside). outside_after z (asked_for q seat qs)) first.outside
-          ∙ (sym (outside-append es (asked_for q seat qs) (outside_at p)) ∙ ap (outside_after (outside_at p)) all));
+      entries = es ++ more.entries;
+      given = given-append rs qs es more.entries (state_now p.story) (outside_at p) seat (outside_at q) (outside_at r) first.given behind;
+      history = more.history ∙ (ap (λ (z : List Entry). z ++ more.entries) first.history ∙ append_assoc p.story.history es more.entries);
     }
 
 same_number : (n m : ℕ) → (n == m) ≡ true → n ≡ m
@@ -131,12 +115,17 @@ open_room p table seat kind who m =
 pub open_opens : (p q : ScriptPortal) (table table' : List (Option Standing)) (seat : ℕ) (kind : Kind) (who : Who) (settings : Settings) (session : Standing) → settings ≡ run_settings → state_first q.story ≡ state_first p.story
     → (session ≡ fresh (client who kind settings)) × Asked p q seat (Request.Enter who kind ∷ []) → sessions_of table' ≡ placed (sessions_of table) seat (Some session) → Opens p table q table' (Open seat kind who)
 open_opens p q table table' seat kind who settings session set same begun put =
-    let es = entries_for (state_now p.story) (outside_at p) seat (Request.Enter who kind ∷ []) in
+    let asked = begun.1 in
     let fresh_is : session ≡ fresh (client who kind run_settings) = begun.0 ∙ ap (λ (z : Settings). fresh (client who kind z)) set in
     record {
-      entries = es;
-      does = record { entries_are = refl; out_is = refl; scene = scene_on p q table table' seat (Request.Enter who kind ∷ []) _ same begun.1 (put ∙ ap (λ (z : Standing). placed (sessions_of table) seat (Some z)) fresh_is) };
-      history = begun.1.history;
+      entries = asked.entries;
+      does = record {
+        left = outside_at q;
+        given = asked.given;
+        out_is = refl;
+        scene = scene_on p q table table' seat asked.entries _ same asked.history (put ∙ ap (λ (z : Standing). placed (sessions_of table) seat (Some z)) fresh_is);
+      };
+      history = asked.history;
     }
 
 pub opens_run : (p q : ScriptPortal) (table table' : List (Option Standing)) (line : ScriptLine) (told : Option (List (List ℕ))) → Opens p table q table' line → Runs p table q table' line told told
@@ -195,57 +184,66 @@ module _ (p q : ScriptPortal) (table : List (Option Standing)) (seat : ℕ) (at 
   abbrev lines : List (List ℕ)
   lines = map (out_line seat) pieces
 
-  more_does : (h : HeardAs false p q seat at bytes pieces now) → Does (scene p table) (Data seat bytes) (entries_for (state_now p.story) (outside_at p) seat h.0.0) lines (moved p table seat (entries_for (state_now p.story) (outside_at p) seat h.0.0) (Some now))
+  more_does : (h : HeardAs false p q seat at bytes pieces now) → Does (scene p table) (Data seat bytes) h.0.2.entries lines (moved p table seat h.0.2.entries (outside_at q) (Some now))
   more_does h =
-      let es = entries_for (state_now p.story) (outside_at p) seat h.0.0 in
-      subst (λ (o : Option Standing). DataDoes (scene p table) seat bytes o es lines (moved p table seat es (Some now))) here
-      (stop.More, h.0.0, pieces, now, h.0.1, (h.1, record { entries_are = refl; out_is = refl; scene = refl }))
+      let asked = h.0.2 in
+      subst (λ (o : Option Standing). DataDoes (scene p table) seat bytes o asked.entries lines (moved p table seat asked.entries (outside_at q) (Some now))) here
+      (stop.More, h.0.0, pieces, now, h.0.1, (h.1, record { left = outside_at q; given = asked.given; out_is = refl; scene = refl }), [], h.0.3 ∙ sym (append-nil h.0.1.entries))
 
   -- with the last line of a connection that ends by itself
   abbrev last : List (List ℕ)
   last = end_line seat (ending now.fed now.rest) ∷ []
 
-  abbrev left_for : List Request → List Entry
-  left_for rs = entries_for (state_now p.story) (outside_at p) seat (rs ++ Request.Leave ∷ [])
-
-  ends_so : (what : Stop) (rs : List Request) → IsEnd what → Hears (state_now p.story) (outside_at p) seat at bytes what rs pieces now → Does (scene p table) (Data seat bytes) (left_for rs) (lines ++ last) (moved p table seat (left_for rs) None)
-  ends_so stop.More rs end x = absurd end
-  ends_so (stop.Bad rule) rs end x =
+  ends_so : (what : Stop) (rs : List Request) (es : List Entry) (left : Outside) → IsEnd what → (x : Hears (state_now p.story) (outside_at p) seat at bytes what rs pieces now) → AreGiven (state_now p.story) (outside_at p) seat (rs ++ Request.Leave ∷ []) es left
+      → (later : List Entry) → es ≡ x.entries ++ later → Does (scene p table) (Data seat bytes) es (lines ++ last) (moved p table seat es left None)
+  ends_so stop.More rs es left end x given later begins = absurd end
+  ends_so (stop.Bad rule) rs es left end x given later begins =
       let said : lines ++ last ≡ lines ++ end_line seat (Malformed now.before rule) ∷ [] = ap (λ (f : Fed). lines ++ end_line seat (ending f now.rest) ∷ []) x.fed in
-      subst (λ (o : Option Standing). DataDoes (scene p table) seat bytes o (left_for rs) (lines ++ last) (moved p table seat (left_for rs) None)) here
-      (stop.Bad rule, rs, pieces, now, x, record { entries_are = refl; out_is = said; scene = refl })
-  ends_so stop.TooLong rs end x =
+      subst (λ (o : Option Standing). DataDoes (scene p table) seat bytes o es (lines ++ last) (moved p table seat es left None)) here
+      (stop.Bad rule, rs, pieces, now, x, record { left = left; given = given; out_is = said; scene = refl }, later, begins)
+  ends_so stop.TooLong rs es left end x given later begins =
       let said : lines ++ last ≡ lines ++ end_line seat (LineTooLong now.before) ∷ [] = ap (λ (f : Fed). lines ++ end_line seat (ending f now.rest) ∷ []) x.fed in
-      subst (λ (o : Option Standing). DataDoes (scene p table) seat bytes o (left_for rs) (lines ++ last) (moved p table seat (left_for rs) None)) here
-      (stop.TooLong, rs, pieces, now, x, record { entries_are = refl; out_is = said; scene = refl })
-  ends_so stop.Unbuilt rs end x = absurd end
+      subst (λ (o : Option Standing). DataDoes (scene p table) seat bytes o es (lines ++ last) (moved p table seat es left None)) here
+      (stop.TooLong, rs, pieces, now, x, record { left = left; given = given; out_is = said; scene = refl }, later, begins)
+  ends_so stop.Unbuilt rs es left end x given later begins = absurd end
 
-  end_does : (h : HeardAs true p q seat at bytes pieces now) → Does (scene p table) (Data seat bytes) (left_for h.2.0) (lines ++ last) (moved p table seat (left_for h.2.0) None)
-  end_does h = ends_so h.0 h.2.0 h.1 h.2.1
+  -- what the whole line comes to, also before the connection has left
+  abbrev entries_over : HeardAs true p q seat at bytes pieces now → List Entry
+  entries_over h = h.2.2.entries ++ leave_entry seat ∷ []
+
+  end_does : (h : HeardAs true p q seat at bytes pieces now) → Does (scene p table) (Data seat bytes) (entries_over h) (lines ++ last) (moved p table seat (entries_over h) (outside_at q) None)
+  end_does h =
+      let asked = h.2.2 in
+      let leaves = leave_given (run (state_now p.story) asked.entries) (outside_at q) seat in
+      ends_so h.0 h.2.0 (entries_over h) (outside_at q) h.1 h.2.1
+      (given-append h.2.0 (Request.Leave ∷ []) asked.entries (leave_entry seat ∷ []) (state_now p.story) (outside_at p) seat (outside_at q) (outside_at q) asked.given leaves)
+      (leave_entry seat ∷ []) (ap (λ (es : List Entry). es ++ leave_entry seat ∷ []) h.2.3)
 
   -- the session goes on
   pub more_runs : (table' : List (Option Standing)) (told told' : Option (List (List ℕ))) → HeardAs false p q seat at bytes pieces now → state_first q.story ≡ state_first p.story → sessions_of table' ≡ placed (sessions_of table) seat (Some now)
       → told' ≡ onto told lines → Runs p table q table' (Data seat bytes) told told'
   more_runs table' told told' h same put wrote =
-      let es = entries_for (state_now p.story) (outside_at p) seat h.0.0 in
+      let asked = h.0.2 in
       record {
-        entries = es;
+        entries = asked.entries;
         out = lines;
-        does = subst (λ (b : Scene). Does (scene p table) (Data seat bytes) es lines b) (sym (scene_on p q table table' seat h.0.0 (Some now) same h.0.2 put)) (more_does h);
-        history = h.0.2.history;
+        does = subst (λ (b : Scene). Does (scene p table) (Data seat bytes) asked.entries lines b) (sym (scene_on p q table table' seat asked.entries (Some now) same asked.history put)) (more_does h);
+        history = asked.history;
         output = wrote;
       }
 
   -- it ends, and leaves
   pub end_runs : (r : ScriptPortal) (table' : List (Option Standing)) (told mid told' : Option (List (List ℕ))) → HeardAs true p q seat at bytes pieces now → state_first q.story ≡ state_first p.story → state_first r.story ≡ state_first q.story
       → Asked q r seat (Request.Leave ∷ []) → sessions_of table' ≡ placed (sessions_of table) seat None → mid ≡ onto told lines → told' ≡ onto mid last → Runs p table r table' (Data seat bytes) told told'
+  unfolding asked_on
   end_runs r table' told mid told' h same also left took wrote ended =
       let rs = h.2.0 in
       let all : Asked p r seat (rs ++ Request.Leave ∷ []) = asked_on p q r seat rs (Request.Leave ∷ []) same h.2.2 left in
       record {
-        entries = left_for rs;
+        entries = all.entries;
         out = lines ++ last;
-        does = subst (λ (b : Scene). Does (scene p table) (Data seat bytes) (left_for rs) (lines ++ last) b) (sym (scene_on p r table table' seat (rs ++ Request.Leave ∷ []) None (also ∙ same) all took)) (end_does h);
+        does = subst (λ (b : Scene). Does (scene p table) (Data seat bytes) all.entries (lines ++ last) b) (sym (scene_on p r table table' seat all.entries None (also ∙ same) all.history took))
+            (ends_so h.0 rs all.entries (outside_at r) h.1 h.2.1 all.given left.entries (ap (λ (es : List Entry). es ++ left.entries) h.2.3));
         history = all.history;
         output = ended ∙ (ap (λ (z : Option (List (List ℕ))). onto z last) wrote ∙ onto_more told lines last);
       }
@@ -265,27 +263,26 @@ module _ (p q : ScriptPortal) (table : List (Option Standing)) (seat : ℕ) (at 
   abbrev closing : List (List ℕ)
   closing = end_line seat (ending at.fed at.rest) ∷ []
 
-  abbrev leaving : List Entry
-  leaving = entries_for (state_now p.story) (outside_at p) seat (Request.Leave ∷ [])
-
-  close_does : Does (scene p table) (Close seat) leaving closing (moved p table seat leaving None)
-  close_does =
+  close_does : (es : List Entry) (left : Outside) → AreGiven (state_now p.story) (outside_at p) seat (Request.Leave ∷ []) es left → Does (scene p table) (Close seat) es closing (moved p table seat es left None)
+  close_does es left given =
       let idle = stands_idle (scene p table) seat at agrees here in
       let said : closing ≡ end_line seat (ending_at at.rest) ∷ [] = ap (λ (f : Fed). end_line seat (ending f at.rest) ∷ []) idle.goes_on in
-      subst (λ (o : Option Standing). CloseDoes (scene p table) seat o leaving closing (moved p table seat leaving None)) here (record { entries_are = refl; out_is = said; scene = refl })
+      subst (λ (o : Option Standing). CloseDoes (scene p table) seat o es closing (moved p table seat es left None)) here (record { left = left; given = given; out_is = said; scene = refl })
 
   pub close_runs : (table' : List (Option Standing)) (told told' : Option (List (List ℕ))) → state_first q.story ≡ state_first p.story → Asked p q seat (Request.Leave ∷ []) → sessions_of table' ≡ placed (sessions_of table) seat None → told' ≡ onto told closing
       → Runs p table q table' (Close seat) told told'
   close_runs table' told told' same left took wrote = record {
-    entries = leaving;
+    entries = left.entries;
     out = closing;
-    does = subst (λ (b : Scene). Does (scene p table) (Close seat) leaving closing b) (sym (scene_on p q table table' seat (Request.Leave ∷ []) None same left took)) close_does;
+    does = subst (λ (b : Scene). Does (scene p table) (Close seat) left.entries closing b) (sym (scene_on p q table table' seat left.entries None same left.history took)) (close_does left.entries (outside_at q) left.given);
     history = left.history;
     output = wrote;
   }
 
   pub close_part : (IsPart : List (List ℕ) → List (List ℕ) → Type 0) → IsFront IsPart → (told told' : Option (List (List ℕ))) (ws : List (List ℕ)) → IsPart ws closing → told' ≡ onto told ws → WritesPart IsPart (scene p table) (Close seat) told told'
-  close_part IsPart front told told' ws short wrote = (leaving, closing, moved p table seat leaving None, ws, close_does, short, wrote)
+  close_part IsPart front told told' ws short wrote =
+      let leaves = leave_entry seat ∷ [] in
+      (leaves, closing, moved p table seat leaves (outside_at p) None, ws, close_does leaves (outside_at p) (leave_given (state_now p.story) (outside_at p) seat), short, wrote)
 
 -- ---- why a line was not run
 
@@ -313,6 +310,10 @@ on_ok (Err e) P Q f h = tt
 pub if_err : {T E : Type 0} (r : Result T E) (P Q : E → Type 0) → ((e : E) → P e → Q e) → IfErr r P → IfErr r Q
 if_err (Ok x) P Q f h = tt
 if_err (Err e) P Q f h = f e h
+
+-- there was no memory, and nothing of these lines is written
+pub none_written : (said : List (List ℕ)) (told : Option (List (List ℕ))) (faults : ℕ) → WritesShort said told faults told faults not_run.Memory
+none_written said told faults = (refl, ([], (0, refl), onto_none told))
 
 module _ (seat : ℕ) (xs : List (List ℕ)) (i : ℕ) where
   abbrev written : List (List ℕ)

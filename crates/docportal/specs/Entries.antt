@@ -1,43 +1,25 @@
--- The entries of requests to which the tree shows what it has, until a call of it fails.
-use Rattle.std.specs.Prelude.{ℕ, false, List, [], ◌∷◌, None, cond}
-use Rattle.portal_base.specs.Calls.{Calls, is_to_fail, next_call}
+-- The entries that the outside of a script gives to requests: its tree shows the files of the
+-- state, its words come in their order, and those calls fail that are to fail.
+use Rattle.std.specs.Prelude.{◌≡◌, ℕ, List, [], ◌∷◌, Option, Some, None}
+use Rattle.document_calls.specs.KeeperCalls.{is_keeper}
+use Rattle.portal_base.specs.Calls.{Calls, FailsAsTold, next_call}
 use Rattle.portal_base.specs.declared.files.Look.{Look}
+use Rattle.portal_core.specs.Devices.{Drawn}
+use Rattle.portal_core.specs.TreeCalls.{CallsAsTold}
 use Rattle.portal_model.specs.declared.entry.Entry.{Entry}
 use Rattle.portal_model.specs.declared.entry.Fault.{Fault}
 use Rattle.portal_model.specs.declared.entry.Fault.TheVariants as Fault
 use Rattle.portal_model.specs.declared.request.Request.{Request}
+use Rattle.portal_model.specs.declared.state.Connection.{Connection}
+use Rattle.portal_model.specs.Lawful.{Lawful}
+use Rattle.portal_model.specs.Outside.{ChangesRecords, verdict_of}
 use Rattle.portal_model.specs.Seated.{exchange}
-use Rattle.portal_model.specs.State.{State}
-use Rattle.portal_model.specs.Step.{after, looks_taken}
+use Rattle.portal_model.specs.State.{State, connection_of}
+use Rattle.portal_model.specs.Step.{after, all_told, bus_of}
 use Rattle.script_form.specs.Outside.{Outside}
 use Rattle.session.specs.Answers.{Outcome, Made}
 
--- of the looks that a request takes, those ahead of the first call that is to fail
-abbrev pub looks_ahead : Calls → List Look → List Look
-looks_ahead calls [] = []
-looks_ahead calls (look ∷ looks) =
-    cond (is_to_fail (next_call calls)) [] (look ∷ looks_ahead (next_call calls) looks)
-
--- and whether one of them fails
-abbrev pub fault_met : Calls → List Look → Fault
-fault_met calls [] = Fault.None
-fault_met calls (look ∷ looks) =
-    cond (is_to_fail (next_call calls)) Fault.Tree (fault_met (next_call calls) looks)
-
--- the entry of a request of a seat
-abbrev pub entry_for : State → Outside → ℕ → Request → Entry
-entry_for s o seat request = record {
-  seat = seat;
-  request = request;
-  given = record {
-    now = None;
-    words = [];
-    numbers = [];
-    looks = looks_ahead o.tree (looks_taken s seat request);
-    full = false;
-    fault = fault_met o.tree (looks_taken s seat request);
-  };
-}
+-- ---- the calls of an entry
 
 -- the tree was called for each look that it showed, and once more where it failed
 abbrev pub calls_past : Calls → List Look → Fault → Calls
@@ -46,22 +28,49 @@ calls_past calls [] Fault.Tree = next_call calls
 calls_past calls [] Fault.Keeper = calls
 calls_past calls (look ∷ looks) fault = calls_past (next_call calls) looks fault
 
--- what is left of the outside after an entry, and after entries
-abbrev pub outside_past : Outside → Entry → Outside
-outside_past o e = record o { tree = calls_past o.tree e.given.looks e.given.fault }
+-- the step of the entry changes the records, where the keeper doesn't fail; on a seat without an
+-- open bus no step does
+abbrev pub ChangesOn : State → Entry → Option Connection → Type 0
+ChangesOn s e None = ⊥
+ChangesOn s e (Some c) =
+    ChangesRecords (all_told c.seat s) (verdict_of (all_told c.seat s) c e.request e.given)
 
-abbrev pub outside_after : Outside → List Entry → Outside
-outside_after o [] = o
-outside_after o (e ∷ es) = outside_after (outside_past o e) es
+abbrev pub Changes : State → Entry → Type 0
+Changes s e = ChangesOn s e (bus_of (connection_of s.connections e.seat))
 
--- the entries of requests of a seat, one after another
-abbrev pub entries_for : State → Outside → ℕ → List Request → List Entry
-entries_for s o seat [] = []
-entries_for s o seat (r ∷ rs) = entry_for s o seat r
-    ∷ entries_for (after s (entry_for s o seat r)) (outside_past o (entry_for s o seat r)) seat rs
+-- the keeper's next call was made, and the fault is the keeper's exactly where it is to fail
+pub record Applied (old : Calls) (fault : Fault) (new : Calls) : Type 0 where
+  pub goes : new ≡ next_call old
+  pub fails : FailsAsTold (Some old) (is_keeper fault)
 
--- what became of these requests: each is an entry with its reply
-abbrev pub made_for : State → Outside → ℕ → List Request → List Outcome
-made_for s o seat [] = []
-made_for s o seat (r ∷ rs) = Made (exchange s (entry_for s o seat r))
-    ∷ made_for (after s (entry_for s o seat r)) (outside_past o (entry_for s o seat r)) seat rs
+-- ---- one entry
+
+-- The outside gives this to an entry, and so much is left of it. It is lawful, so the tree shows
+-- the files of the state, which a script's state tells; no request that is built reads the clock.
+pub record IsGiven (s : State) (o : Outside) (e : Entry) (left : Outside) : Type 0 where
+  pub lawful : Lawful s e
+  -- of the calls of the tree those fail that are to fail
+  pub tree : CallsAsTold (Some o.tree) e.given.looks e.given.fault
+  pub tree_left : left.tree ≡ calls_past o.tree e.given.looks e.given.fault
+  -- the keeper is called once where the records change, and else not at all
+  pub applied : Changes s e → Applied o.keeper e.given.fault left.keeper
+  pub unapplied : (Changes s e → ⊥) → left.keeper ≡ o.keeper
+  -- the words that are drawn are the first that are left, and behind the last of them 0
+  pub words : Drawn (Some o.words) e.given.words (Some left.words)
+  pub clock : left.clock ≡ o.clock
+
+-- ---- entries, one after another
+
+-- these are entries of a seat, one for each of these requests
+abbrev pub AreGiven : State → Outside → ℕ → List Request → List Entry → Outside → Type 0
+AreGiven s o seat [] [] left = left ≡ o
+AreGiven s o seat [] (e ∷ es) left = ⊥
+AreGiven s o seat (r ∷ rs) [] left = ⊥
+AreGiven s o seat (r ∷ rs) (e ∷ es) left =
+    (e.seat ≡ seat) × (e.request ≡ r)
+    × (between : Outside) × IsGiven s o e between × AreGiven (after s e) between seat rs es left
+
+-- what became of them: each is an entry with its reply
+abbrev pub made_of : State → List Entry → List Outcome
+made_of s [] = []
+made_of s (e ∷ es) = Made (exchange s e) ∷ made_of (after s e) es

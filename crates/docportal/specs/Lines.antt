@@ -19,21 +19,25 @@ use Rattle.session.specs.Asked.{requests_of}
 use Rattle.session.specs.Items.{Items, joined, phase_after}
 use Rattle.session.specs.Sessions.{ending_at, fed_of}
 use Rattle.session.specs.Standings.{Standing, client, fresh}
-use Rattle.docportal.specs.Entries.{entries_for, made_for, outside_after}
+use Rattle.docportal.specs.Entries.{AreGiven, made_of}
 use Rattle.docportal.specs.Scenes.{Scene, placed, run_settings}
 use Rattle.docportal.specs.Texts.{out_line, end_line}
 
 -- ---- bytes on a connection
 
--- Bytes come behind the rest of a connection: the items that are whole now ask these requests and
--- are answered by these pieces, this stands behind them, and the session goes on so.
+-- Bytes come behind the rest of a connection: the items that are whole now ask these requests, what
+-- is given to these answers them by these pieces, this stands behind them, and the session goes on
+-- so.
 pub record Hears (s : State) (o : Outside) (seat : ℕ) (at : Standing) (bytes : List ℕ) (what : Stop)
     (requests : List Request) (pieces : List (List ℕ)) (now : Standing) : Type 0 where
   pub items : List (List ℕ)
   pub acts : List Act
   pub cut : Items at.client at.stage.phase (at.rest ++ bytes) items acts now.rest what
   pub asked : requests ≡ requests_of acts
-  pub answers : Answers at.stage.serial acts (made_for s o seat requests) pieces now.stage.serial
+  pub entries : List Entry
+  pub left : Outside
+  pub given : AreGiven s o seat requests entries left
+  pub answers : Answers at.client at.stage.serial acts (made_of s entries) pieces now.stage.serial
   pub client : now.client ≡ at.client
   pub phase : now.stage.phase ≡ phase_after at.client at.stage.phase items
   pub before : now.before ≡ at.before + length (joined items)
@@ -49,11 +53,12 @@ Passes a entries out b = (entries ≡ []) × (out ≡ []) × (b ≡ a)
 -- its number.
 pub record Comes (a : Scene) (seat : ℕ) (requests : List Request) (lines : List (List ℕ))
     (now : Option Standing) (entries : List Entry) (out : List (List ℕ)) (b : Scene) : Type 0 where
-  pub entries_are : entries ≡ entries_for a.portal a.outside seat requests
+  pub left : Outside
+  pub given : AreGiven a.portal a.outside seat requests entries left
   pub out_is : out ≡ lines
   pub scene : b ≡ record {
     portal = run a.portal entries;
-    outside = outside_after a.outside entries;
+    outside = left;
     sessions = placed a.sessions seat now;
   }
 
@@ -74,14 +79,16 @@ Goes a seat stop.TooLong requests pieces now entries out b =
     entries out b
 Goes a seat stop.Unbuilt requests pieces now entries out b = ⊥
 
--- Data for a connection that ended by itself is passed over.
+-- Data for a connection that ended by itself is passed over. Of any other the entries are those that
+-- the answers are made of, and the Leave's where the connection ends by itself.
 abbrev pub DataDoes : Scene → ℕ → List ℕ → Option Standing → List Entry → List (List ℕ) → Scene
     → Type 0
 DataDoes a seat bytes None entries out b = Passes a entries out b
 DataDoes a seat bytes (Some at) entries out b =
     (what : Stop) × (requests : List Request) × (pieces : List (List ℕ)) × (now : Standing)
-    × Hears a.portal a.outside seat at bytes what requests pieces now
+    × (heard : Hears a.portal a.outside seat at bytes what requests pieces now)
     × Goes a seat what requests pieces now entries out b
+    × (later : List Entry) × (entries ≡ heard.entries ++ later)
 
 -- So is the close of one.
 abbrev pub CloseDoes : Scene → ℕ → Option Standing → List Entry → List (List ℕ) → Scene → Type 0
@@ -90,8 +97,8 @@ CloseDoes a seat (Some at) entries out b =
     Comes a seat (Request.Leave ∷ []) (end_line seat (ending_at at.rest) ∷ []) None entries out b
 
 -- A line is run: from one scene to another, with these entries and this output. Files, documents,
--- entries and times are in the state that the script opens with, calls that fail and words in its
--- outside: no request that is built reads the clock.
+-- entries and times are in the state that the script opens with; words, wherever they stand, and
+-- calls that fail are in its outside. No request that is built reads the clock.
 abbrev pub Does : Scene → ScriptLine → List Entry → List (List ℕ) → Scene → Type 0
 Does a (File path content) entries out b = Passes a entries out b
 Does a (line.Entry entry) entries out b = Passes a entries out b

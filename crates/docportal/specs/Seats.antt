@@ -1,6 +1,6 @@
 -- What the sessions of a script ask of its portal.
 use Rattle.std.specs.Prelude.{◌≡◌, ℕ, ◌+◌, ◌*◌, ◌≤◌, Bool, true, false, List, [], ◌++◌, length}
-use Rattle.std.specs.Prelude.{Option, Some}
+use Rattle.std.specs.Prelude.{Option, Some, Result}
 use Rattle.std.proofs.Common.{inl, inr}
 use Rattle.portal_base.specs.Devices.{SinkState}
 use Rattle.host_tree.specs.Devices.{tree_of}
@@ -26,7 +26,7 @@ use Rattle.session.specs.Sessions.{Feeds, FeedsOver}
 use Rattle.session.specs.Standings.{Standing}
 use Rattle.docportal.specs.declared.error.LineError.{LineError}
 use Rattle.docportal.specs.declared.error.LineError.TheVariants as not_run
-use Rattle.docportal.specs.Entries.{entries_for, outside_after}
+use Rattle.docportal.specs.Entries.{AreGiven}
 use Rattle.docportal.specs.Lines.{Hears, DataIsUnbuilt}
 use Rattle.docportal.specs.Scenes.{ScriptPortal, outside_at}
 
@@ -45,26 +45,27 @@ words_of words = Some words
 -- only this seat asked, and so many of its requests were refused: its entries are new in the
 -- history, and of each of them, one after another, the portal says what its devices went through
 pub record Alone (seat refusals : ℕ) (old new : ScriptPortal) : Type 0 where
-  pub asked : List (Option Entry)
+  pub asked : List (Result Entry Request)
   pub grows : GrowsByOwn seat asked old.story.history new.story.history
   pub count : refusals ≡ rises_by 0 (refused asked)
-  pub chain : Chain (Went tree_of keeper_of words_of) (Spends keeper_of) old asked new
+  pub chain : Chain (Went tree_of keeper_of words_of) (Spends tree_of keeper_of words_of) old asked
+      new
 
 -- these requests of a seat, and no others, are new in the history, and the devices went through
 -- them
 pub record Asked (old new : ScriptPortal) (seat : ℕ) (requests : List Request) : Type 0 where
-  pub history : new.story.history
-      ≡ old.story.history ++ entries_for (state_now old.story) (outside_at old) seat requests
-  pub outside : outside_at new ≡ outside_after (outside_at old)
-      (entries_for (state_now old.story) (outside_at old) seat requests)
+  pub entries : List Entry
+  pub given : AreGiven (state_now old.story) (outside_at old) seat requests entries (outside_at new)
+  pub history : new.story.history ≡ old.story.history ++ entries
 
--- bytes were heard on a connection, and what they ask was asked
+-- bytes were heard on a connection, and what they ask was asked: its entries are those that the
+-- answers are made of
 abbrev pub HearsAt : ScriptPortal → ScriptPortal → ℕ → Standing → List ℕ → Stop
     → List (List ℕ) → Standing → Type 0
 HearsAt old new seat at bytes what pieces now =
     (requests : List Request)
-    × Hears (state_now old.story) (outside_at old) seat at bytes what requests pieces now
-    × Asked old new seat requests
+    × (heard : Hears (state_now old.story) (outside_at old) seat at bytes what requests pieces now)
+    × (asked : Asked old new seat requests) × (asked.entries ≡ heard.entries)
 
 -- what became of what was asked by a piece that ends a connection
 abbrev pub outcomes_over : (met : Served) (s : Standing) (v : World) (piece : List ℕ) (t : Standing)

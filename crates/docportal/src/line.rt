@@ -160,7 +160,9 @@ fn leave<K: Sink>(
         (K.faults sink.old) (K.told sink.new) (K.faults sink.new)) }
 {
     let served = end(alloc, portal, seat, session);
-    let line = end_line(alloc, seat, served)?;
+    let Ok(line) = end_line(alloc, seat, served) else {
+        return Err(LineError::Memory);
+    };
     write(sink, line.as_slice())
 }
 

@@ -1,6 +1,5 @@
 //! Open handles.
 
-use crate::error::VectorError;
 use open_handles::{Handle, Handles};
 use portal_base::files::FileName;
 use portal_base::limits::Limits;
@@ -8,7 +7,7 @@ use portal_base::list::{ByteList, List};
 use portal_base::names::HostPath;
 use portal_model::reply::DirName;
 use std::alloc::Global;
-use vector_lines::error::LineError;
+use vector_lines::error::{VectorError, bad, given};
 use vector_lines::notation::{cut, debug, number, small_number};
 
 /// `handles LIMIT STEP, STEP ..`: what each step answers where each connection may
@@ -51,16 +50,16 @@ fn answer(
         "add" => add(alloc, handles, seat, rest),
         "get" => shown(alloc, handles.get(seat, number(rest)?)),
         "release" => release(alloc, handles, seat, rest),
-        _ => Err(VectorError::Line(LineError::BadLine)),
+        _ => bad(),
     }
 }
 
 /// `enter SEAT`: a connection begins, of a seat that has none.
 fn enter(alloc: Global, handles: &mut Handles, seat: u32) -> Result<String, VectorError> {
     if handles.is_entered(seat) {
-        return Err(VectorError::Line(LineError::BadLine));
+        return bad();
     }
-    handles.enter(seat)?;
+    given(alloc, handles.enter(seat))?;
     Ok(String::new(alloc))
 }
 
@@ -73,7 +72,7 @@ fn leave(alloc: Global, handles: &mut Handles, seat: u32) -> Result<String, Vect
 /// `reserve SEAT`: room for the next handle.
 fn reserve(alloc: Global, handles: &mut Handles, seat: u32) -> Result<String, VectorError> {
     if !handles.is_entered(seat) {
-        return Err(VectorError::Line(LineError::BadLine));
+        return bad();
     }
     Ok(debug(alloc, &handles.reserve(seat))?)
 }
@@ -83,7 +82,7 @@ fn reserve(alloc: Global, handles: &mut Handles, seat: u32) -> Result<String, Ve
 /// with one entry.
 fn add(alloc: Global, handles: &mut Handles, seat: u32, rest: &str) -> Result<String, VectorError> {
     if !handles.is_entered(seat) {
-        return Err(VectorError::Line(LineError::BadLine));
+        return bad();
     }
     let handle = handle_of(alloc, rest)?;
     Ok(debug(alloc, &handles.add(seat, handle))?)
@@ -97,7 +96,7 @@ fn handle_of(alloc: Global, rest: &str) -> Result<Handle, VectorError> {
     match kind {
         "file" => Ok(Handle::File {
             name: FileName {
-                path: HostPath::read(alloc, path.as_bytes())?,
+                path: given(alloc, HostPath::read(alloc, path.as_bytes()))?,
                 generation: 0,
             },
             node,
@@ -108,7 +107,7 @@ fn handle_of(alloc: Global, rest: &str) -> Result<Handle, VectorError> {
             node,
             names: names(alloc, node, path)?,
         }),
-        _ => Err(VectorError::Line(LineError::BadLine)),
+        _ => bad(),
     }
 }
 

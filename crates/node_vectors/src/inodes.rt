@@ -1,9 +1,8 @@
 //! Counts of nodes.
 
-use crate::error::VectorError;
 use inode_table::InodeTable;
 use std::alloc::Global;
-use vector_lines::error::LineError;
+use vector_lines::error::{VectorError, bad};
 use vector_lines::notation::{cut, number, small_number};
 
 /// `inodes STEP, STEP ..`: what each step that looks answers, over no counts at
@@ -35,7 +34,7 @@ fn answer(
         "leave" => inodes.leave(small_number(first)?),
         "get" => return told(alloc, inodes.get(small_number(first)?, number(second)?)),
         "len" => return told(alloc, inodes.len() as u64),
-        _ => return Err(VectorError::Line(LineError::BadLine)),
+        _ => return bad(),
     }
     Ok(String::new(alloc))
 }

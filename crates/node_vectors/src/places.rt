@@ -1,7 +1,6 @@
 //! The numbers of nodes, who sees what they name, and the entries of folders.
 
-use crate::error::VectorError;
-use crate::records::{applications, bad, documents, grants, identifier, who};
+use crate::records::{applications, documents, grants, identifier, who};
 use app_view::{ViewBook, is_folder, listing, node_of, place_of, resolve};
 use document_records::{Applications, Documents, Grants};
 use portal_base::files::Look;
@@ -11,6 +10,7 @@ use portal_base::who::Who;
 use portal_model::place::Place;
 use portal_model::reply::DirName;
 use std::alloc::Global;
+use vector_lines::error::{VectorError, bad};
 use vector_lines::notation::{cut, number, small_number};
 
 /// More than any view.

@@ -4,7 +4,6 @@
 //! letters `r`, `w`, `g` and `d`; `app:NAME` is an application that gets the next
 //! number.
 
-use crate::error::VectorError;
 use document_records::{Applications, Document, Documents, Grants};
 use portal_base::limits::Limits;
 use portal_base::names::{AppId, DocId, HostPath};
@@ -12,7 +11,7 @@ use portal_base::who::Who;
 use portal_model::state::APPLICATIONS_LIMIT;
 use rights_rule::Rights;
 use std::alloc::Global;
-use vector_lines::error::LineError;
+use vector_lines::error::{VectorError, bad, given};
 
 /// More than lines make.
 const LIMITS: Limits = Limits {
@@ -40,7 +39,7 @@ fn put_document(alloc: Global, documents: &mut Documents, word: &str) -> Result<
     let id = documents.unused_from(identifier(id)?.number);
     let document = Document {
         id,
-        path: HostPath::read(alloc, path.as_bytes())?,
+        path: given(alloc, HostPath::read(alloc, path.as_bytes()))?,
         persistent: false,
         reusable: true,
     };
@@ -64,7 +63,7 @@ pub fn grants(alloc: Global, words: &str) -> Result<Grants, VectorError> {
 fn put_right(alloc: Global, grants: &mut Grants, word: &str) -> Result<(), VectorError> {
     let (app, rest) = parted(word);
     let (id, letters) = parted(rest);
-    let app = AppId::read(alloc, app.as_bytes())?;
+    let app = given(alloc, AppId::read(alloc, app.as_bytes()))?;
     grants.add(&app, identifier(id)?, rights(letters))?;
     Ok(())
 }
@@ -101,7 +100,7 @@ fn put_application(
     applications: &mut Applications,
     name: &str,
 ) -> Result<(), VectorError> {
-    let app = AppId::read(alloc, name.as_bytes())?;
+    let app = given(alloc, AppId::read(alloc, name.as_bytes()))?;
     if applications.len() >= APPLICATIONS_LIMIT {
         return bad();
     }
@@ -113,7 +112,7 @@ fn put_application(
 pub fn who(alloc: Global, word: &str) -> Result<Who, VectorError> {
     match word {
         "host" => Ok(Who::Host),
-        _ => Ok(Who::App(AppId::read(alloc, word.as_bytes())?)),
+        _ => Ok(Who::App(given(alloc, AppId::read(alloc, word.as_bytes()))?)),
     }
 }
 
@@ -128,9 +127,4 @@ pub fn identifier(word: &str) -> Result<DocId, VectorError> {
 /// What stands ahead of the first colon, and behind it.
 fn parted(word: &str) -> (&str, &str) {
     word.split_once(':').unwrap_or((word, ""))
-}
-
-/// A line that isn't understood.
-pub fn bad<T>() -> Result<T, VectorError> {
-    Err(VectorError::Line(LineError::BadLine))
 }

@@ -1,41 +1,50 @@
--- A request on documents at a portal: it is one step of the state that the portal's lists are.
-use Rattle.std.proofs.Common.{◌≡◌, ◌≢◌, ◌+◌, ◌<◌, ◌≤◌, ◌^◌, ℕ, List, [], ◌∷◌, ◌++◌, length, Bool, true, false, cond, Option, Some, None, refl, sym, ap, subst, ◌∙◌, arith}
+-- A request on documents at a portal, an Add among them: it is one step of the state that the portal's lists are.
+use Rattle.std.proofs.Common.{◌≡◌, ◌≢◌, ◌+◌, ◌<◌, ◌≤◌, ◌^◌, ℕ, List, [], ◌∷◌, ◌++◌, length, Bool, true, false, cond, Option, Some, None, inl, inr, ◌⊎◌, refl, sym, ap, subst, ◌∙◌, arith}
 use Rattle.document_records.specs.Documents.{DocumentList}
+use Rattle.portal_base.specs.Outside.{HasRisen}
 use Rattle.portal_base.specs.declared.files.File.{File}
 use Rattle.portal_model.specs.declared.entry.Entry.{Entry}
 use Rattle.portal_model.specs.declared.entry.Fault.{Fault}
 use Rattle.portal_model.specs.declared.entry.Given.{Given}
 use Rattle.portal_model.specs.declared.opening.OpeningState.{OpeningState}
+use Rattle.portal_model.specs.declared.records.Records.{Records}
 use Rattle.portal_model.specs.declared.reply.Answer.{Answer}
 use Rattle.portal_model.specs.declared.reply.Code.{Code}
 use Rattle.portal_model.specs.declared.reply.Reply.{Reply}
+use Rattle.portal_model.specs.declared.request.AddRequest.{AddRequest}
 use Rattle.portal_model.specs.declared.request.Request.{Request}
 use Rattle.portal_model.specs.declared.state.Connection.{Connection}
 use Rattle.portal_model.specs.declared.state.Triple.{Triple}
-use Rattle.portal_model.specs.Bus.{bus_answer, is_tree, moment_given, settled}
+use Rattle.portal_model.specs.Add.{add}
+use Rattle.portal_model.specs.Bus.{bus_answer, is_tree, moment_given, refused_state}
 use Rattle.portal_model.specs.Errno.{eio}
 use Rattle.portal_model.specs.History.{run, cost, cost_of}
 use Rattle.portal_model.specs.Lawful.{Lawful, LawfulOnBus}
 use Rattle.portal_model.specs.Opening.{opened_over}
-use Rattle.portal_model.specs.Outside.{ChangesRecords, LawfulBus, files_told, meets_limit, verdict_of, words_drawn}
+use Rattle.portal_model.specs.Kept.{records_of}
+use Rattle.portal_model.specs.Outside.{ChangesRecords, LawfulBus, files_told, verdict_of, words_drawn}
 use Rattle.portal_model.specs.State.{State, connection_of}
 use Rattle.portal_model.specs.Step.{after, all_told, bus_of, bus_step, reply_at, reply_with, with_signals}
 use Rattle.portal_model.specs.Valid.{Valid, is_silent}
-use Rattle.portal_model.specs.Verdict.{Doing, Verdict, Refuses, Does}
+use Rattle.portal_model.specs.Verdict.{Verdict, Refuses, Does}
 use Rattle.portal_model.specs.Walk.{Walk, Gives, walked}
 use Rattle.portal_model.proofs.Histories.{run-append, Legal-append, cost-append}
 use Rattle.portal_model.proofs.NoChangeWaits.{all_told-silent, unsent-silent}
 use Rattle.portal_model.proofs.ValidLaws.{run-Valid}
 use Rattle.record_keeper.specs.Keepers.{KeeperIs}
+use Rattle.host_tree.specs.Trees.{TreeIs}
+use Rattle.add_calls.specs.Shown.{Asked}
 use Rattle.document_calls.specs.Changes.{SameLimits}
-use Rattle.document_calls.specs.KeeperCalls.{KeeperWent, ServesKept}
+use Rattle.document_calls.specs.KeeperCalls.{KeeperStays, KeeperWent, ServesKept}
 use Rattle.portal_core.specs.Answered.{KeepsState}
 use Rattle.portal_core.specs.Devices.{Keeping, KeeperWentOn, may_change_records}
 use Rattle.portal_core.specs.Documents.{HasLists, ServedOn, is_document_call, with_lists}
 use Rattle.portal_core.specs.Held.{Stands, state_of}
-use Rattle.portal_core.proofs.CallVerdicts.{TellsNone, call-changes-none, lawful-on-bus, refused-stays, step-on-bus, tells-none, verdict_on, walk-is}
-use Rattle.portal_core.proofs.SettledCalls.{Comes_to, Settles, settles}
-use Rattle.portal_core.proofs.Steps.{bus_found, is_silent_now}
+use Rattle.portal_core.proofs.AddVerdicts.{TellsNoFaultIf, add-tells, gives-none, queue-records}
+use Rattle.portal_core.proofs.AskedCalls.{asked-risen}
+use Rattle.portal_core.proofs.CallVerdicts.{TellsNone, TellsOf, call-changes-none, call-on-bus, is_on_bus, lawful-on-bus, refused-stays, step-on-bus, tells-none, verdict_on, walk-is}
+use Rattle.portal_core.proofs.SettledCalls.{Settles, settles}
+use Rattle.portal_core.proofs.Steps.{bus_found, is_silent_now, told_by}
 
 abbrev pub entry_with : ℕ → Request → Given → Entry
 entry_with seat request given = record { seat = seat; request = request; given = given }
@@ -44,56 +53,37 @@ no-words : (words : List ℕ) → length words ≡ 0 → words ≡ []
 no-words [] h = refl
 no-words (w ∷ ws) h = absurd (omega arith)
 
--- no document is made
-none-drawn : (v : Verdict) → TellsNone v → words_drawn (Some v) ≡ 0
-none-drawn (Refuses code) h = refl
-none-drawn (Does d) h = by_limit d.exceeds h.1
-  where
-    by_limit : (b : Bool) → d.makes ≡ 0 → cond b 0 d.makes ≡ 0
-    by_limit true e = refl
-    by_limit false e = e
-
--- what a request on documents comes to in a state
+-- What a request on documents comes to in a state.
 pub record Comes (s : State) (seat : ℕ) (request : Request) (given : Given) (next : State) (answer : Answer) (old new : KeeperIs) : Type 0 where
   pub lawful : Lawful s (entry_with seat request given)
   pub after_is : after s (entry_with seat request given) ≡ next
   pub reply_is : reply_with [] answer ≡ reply_at s (entry_with seat request given)
+  pub keeping : Keeping s (entry_with seat request given) next old new
+  pub settles : Settles next given.fault answer old new
+
+-- what was given to one for which neither the tree is asked nor a word drawn
+pub record IsUntreed (request : Request) (given : Given) : Type 0 where
   pub looks : given.looks ≡ []
   pub untreed : is_tree given.fault ≡ false
   pub words : given.words ≡ []
-  pub keeping : Keeping s (entry_with seat request given) next old new
-  pub settles : Settles next answer old new
   pub unkept : may_change_records request ≡ false → given.fault ≢ Fault.Keeper
 
-module _ (s : State) (seat : ℕ) (request : Request) (given : Given) (next : State) (answer : Answer) (old new : KeeperIs) (call : is_document_call request ≡ true) (silent : is_silent s.connections ≡ true) (same : next.entries ≡ s.entries) (keeps : KeepsState old.told s) where
+module _ (s : State) (seat : ℕ) (request : Request) (given : Given) (next : State) (answer : Answer) (old new : KeeperIs) (on : is_on_bus request ≡ true) (silent : is_silent s.connections ≡ true) (same : next.entries ≡ s.entries) (keeps : KeepsState old.told s) where
   -- of a seat without an open bus
   comes-nowhere : bus_of (connection_of s.connections seat) ≡ None → ServedOn s request given next answer old new None → Comes s seat request given next answer old new
   comes-nowhere e k = record {
-    lawful = record { given = lawful-on-bus s seat request given call (subst (LawfulOnBus s request given) (sym e) k.0) };
-    after_is = ap (λ (x : State × Reply). x.0) (step-on-bus s seat request given call ∙ ap (bus_step s request given) e) ∙ sym k.2;
-    reply_is = ap (reply_with []) k.1 ∙ sym (ap (λ (x : State × Reply). x.1) (step-on-bus s seat request given call ∙ ap (bus_step s request given) e));
-    looks = ap (λ (g : Given). g.looks) k.0;
-    untreed = ap (λ (g : Given). is_tree g.fault) k.0;
-    words = ap (λ (g : Given). g.words) k.0;
+    lawful = record { given = lawful-on-bus s seat request given on (subst (LawfulOnBus s request given) (sym e) k.0) };
+    after_is = ap (λ (x : State × Reply). x.0) (step-on-bus s seat request given on ∙ ap (bus_step s request given) e) ∙ sym k.2;
+    reply_is = ap (reply_with []) k.1 ∙ sym (ap (λ (x : State × Reply). x.1) (step-on-bus s seat request given on ∙ ap (bus_step s request given) e));
     keeping = subst (KeeperWentOn s (entry_with seat request given) next old new) (sym e) k.3;
     settles = record {
       kept = subst (λ (x : KeeperIs). KeepsState x.told next) (sym k.3) (subst (KeepsState old.told) (sym k.2) keeps);
       no_errno = λ h. let no : Answer.Refused (Code.Errno eio) ≡ Answer.Refused Code.NotHere = sym h ∙ k.1 in cc;
-      failed = λ h. let no : Answer.Refused Code.Failed ≡ Answer.Refused Code.NotHere = sym h ∙ k.1 in absurd (cc);
+      failed = λ u h. let no : Answer.Refused Code.Failed ≡ Answer.Refused Code.NotHere = sym h ∙ k.1 in absurd (cc);
     };
-    unkept = λ h f. let no : Fault.Keeper ≡ Fault.None = sym f ∙ ap (λ (g : Given). g.fault) k.0 in cc;
   }
 
-  module _ (c : Connection) (here : bus_of (connection_of s.connections seat) ≡ Some c) (k : ServesKept s c request given next answer old new) where
-    abbrev v : Verdict
-    v = verdict_on s c request
-
-    verdict-is : verdict_of s c request given ≡ Some v
-    verdict-is = ap (λ (w : Walk Verdict). walked w (moment_given given.now) given.looks (is_tree given.fault)) (walk-is s c request given.numbers call)
-
-    given-none : (given.looks ≡ []) × (is_tree given.fault ≡ false)
-    given-none = subst (λ (w : Walk Verdict). Gives (files_told s) w given.looks (is_tree given.fault)) (walk-is s c request given.numbers call) k.serves.lawful.looks
-
+  module _ (c : Connection) (here : bus_of (connection_of s.connections seat) ≡ Some c) (k : ServesKept s c request given next answer old new) (tells : TellsOf given.fault (verdict_of s c request given)) (records : records_of (refused_state s c request) ≡ records_of s) where
     told-is : all_told c.seat s ≡ s
     told-is = all_told-silent c.seat s silent
 
@@ -109,35 +99,77 @@ module _ (s : State) (seat : ℕ) (request : Request) (given : Given) (next : St
     whole-step : bus_step s request given (bus_of (connection_of s.connections seat)) ≡ made_so
     whole-step = ap (bus_step s request given) here ∙ step-is
 
-    settled-is : Comes_to (settled s s given (Some v)) next answer
-    settled-is = sym (λ i. settled s (refused-stays s c request call i) given (verdict-is i)) ∙ k.serves.step
-
-    full-is : (d : Doing) → v ≡ Does d → given.full ≡ d.exceeds
-    full-is d e = k.serves.lawful.full ∙ (ap meets_limit verdict-is ∙ ap (λ (x : Verdict). meets_limit (Some x)) e)
-
-    drawn-is : length given.words ≡ words_drawn (Some v)
-    drawn-is = k.serves.lawful.words ∙ ap words_drawn verdict-is
-
     comes-here : Comes s seat request given next answer old new
     comes-here = record {
       lawful = record {
-        given = lawful-on-bus s seat request given call
+        given = lawful-on-bus s seat request given on
             (subst (LawfulOnBus s request given) (sym here) (subst (λ (t : State). LawfulBus t c request given) (sym told-is) k.serves.lawful));
       };
-      after_is = ap (λ (x : State × Reply). x.0) (step-on-bus s seat request given call ∙ whole-step);
-      reply_is = sym (ap (λ (x : State × Reply). x.1) (step-on-bus s seat request given call ∙ whole-step));
-      looks = given-none.0;
-      untreed = given-none.1;
-      words = no-words given.words (drawn-is ∙ none-drawn v (tells-none s c request));
+      after_is = ap (λ (x : State × Reply). x.0) (step-on-bus s seat request given on ∙ whole-step);
+      reply_is = sym (ap (λ (x : State × Reply). x.1) (step-on-bus s seat request given on ∙ whole-step));
       keeping = subst (KeeperWentOn s (entry_with seat request given) next old new) (sym here)
           (subst (λ (t : State). KeeperWent t c request given next old new) (sym told-is) (k.keeper keeps));
-      settles = settles s c request given next answer old new same keeps (k.keeper keeps) v verdict-is (tells-none s c request) given-none.1 k.serves.lawful.keeper full-is settled-is;
-      unkept = λ h f. call-changes-none s c request h (subst (ChangesRecords s) verdict-is (k.serves.lawful.keeper f));
+      settles = settles s c request given next answer old new same keeps (k.keeper keeps) (refused_state s c request) records (verdict_of s c request given) refl tells k.serves.lawful.keeper k.serves.lawful.full k.serves.step;
     }
 
-  comes-on : (o : Option Connection) → bus_of (connection_of s.connections seat) ≡ o → ServedOn s request given next answer old new o → Comes s seat request given next answer old new
-  comes-on None e k = comes-nowhere e k
-  comes-on (Some c) e k = comes-here c e k
+  comes-on : (o : Option Connection) → bus_of (connection_of s.connections seat) ≡ o → ((c : Connection) → LawfulBus s c request given → TellsOf given.fault (verdict_of s c request given)) →
+      ((c : Connection) → records_of (refused_state s c request) ≡ records_of s) → ServedOn s request given next answer old new o → Comes s seat request given next answer old new
+  comes-on None e tells records k = comes-nowhere e k
+  comes-on (Some c) e tells records k = comes-here c e k (tells c k.serves.lawful) (records c)
+
+-- ---- all but Add
+
+-- no document is made
+none-drawn : (v : Verdict) → TellsNone v → words_drawn (Some v) ≡ 0
+none-drawn (Refuses code) h = refl
+none-drawn (Does d) h = by_limit d.exceeds h.1
+  where
+    by_limit : (b : Bool) → d.makes ≡ 0 → cond b 0 d.makes ≡ 0
+    by_limit true e = refl
+    by_limit false e = e
+
+tells-so : (fault : Fault) (v : Verdict) → TellsNone v → TellsOf fault (Some v)
+tells-so fault (Refuses code) h = h
+tells-so fault (Does d) h = h.0
+
+module _ (s : State) (c : Connection) (request : Request) (given : Given) (call : is_document_call request ≡ true) where
+  verdict-is : verdict_of s c request given ≡ Some (verdict_on s c request)
+  verdict-is = ap (λ (w : Walk Verdict). walked w (moment_given given.now) given.looks (is_tree given.fault)) (walk-is s c request given.numbers call)
+
+  tells-of-call : TellsOf given.fault (verdict_of s c request given)
+  tells-of-call = subst (TellsOf given.fault) (sym verdict-is) (tells-so given.fault (verdict_on s c request) (tells-none s c request))
+
+  untreed-here : LawfulBus s c request given → IsUntreed request given
+  untreed-here lawful =
+      let given_none : (given.looks ≡ []) × (is_tree given.fault ≡ false) = subst (λ (w : Walk Verdict). Gives (files_told s) w given.looks (is_tree given.fault)) (walk-is s c request given.numbers call) lawful.looks in
+      record {
+        looks = given_none.0;
+        untreed = given_none.1;
+        words = no-words given.words ((lawful.words ∙ ap words_drawn verdict-is) ∙ none-drawn (verdict_on s c request) (tells-none s c request));
+        unkept = λ h f. call-changes-none s c request h (subst (ChangesRecords s) verdict-is (lawful.keeper f));
+      }
+
+untreed-on : (s : State) (request : Request) (given : Given) (next : State) (answer : Answer) (old new : KeeperIs) (o : Option Connection) → is_document_call request ≡ true → ServedOn s request given next answer old new o → IsUntreed request given
+untreed-on s request given next answer old new None call k = record {
+  looks = ap (λ (g : Given). g.looks) k.0;
+  untreed = ap (λ (g : Given). is_tree g.fault) k.0;
+  words = ap (λ (g : Given). g.words) k.0;
+  unkept = λ h f. let no : Fault.Keeper ≡ Fault.None = sym f ∙ ap (λ (g : Given). g.fault) k.0 in cc;
+}
+untreed-on s request given next answer old new (Some c) call k = untreed-here s c request given call k.serves.lawful
+
+-- ---- Add
+
+tells-added : (fault : Fault) (v : Option Verdict) → (v ≡ None → is_tree fault ≡ true) → TellsNoFaultIf v → TellsOf fault v
+tells-added fault None none h = none refl
+tells-added fault (Some (Refuses code)) none h = h
+tells-added fault (Some (Does d)) none h = h
+
+tells-of-add : (s : State) (c : Connection) (a : AddRequest) (given : Given) → LawfulBus s c (Request.Add a) given → TellsOf given.fault (verdict_of s c (Request.Add a) given)
+tells-of-add s c a given lawful =
+    tells-added given.fault (verdict_of s c (Request.Add a) given)
+    (gives-none (files_told s) (moment_given given.now) (is_tree given.fault) given.looks (add s c a given.numbers) lawful.looks)
+    (add-tells s c a given.numbers (moment_given given.now) given.looks (is_tree given.fault))
 
 -- ---- the portal's lists
 
@@ -157,10 +189,26 @@ module _ (began : Option (List File)) (o : OpeningState) (h : List Entry) (limit
     connected = refl;
   }
 
-  module _ (ds' : DocumentList) (rs' : List Triple) (apps' : List (List ℕ)) (cs' : List Connection) (seat : ℕ) (request : Request) (given : Given) (answer : Answer) (old new : KeeperIs) (call : is_document_call request ≡ true) where
-    pub comes : KeepsState old.told at → ((s : State) → Valid s → HasLists s ds rs apps cs → s.limits.queued ≡ o.limits.queued → ServedOn s request given (with_lists s ds' rs' apps' cs') answer old new (bus_of (connection_of cs seat))) →
+  module _ (ds' : DocumentList) (rs' : List Triple) (apps' : List (List ℕ)) (cs' : List Connection) (seat : ℕ) (request : Request) (given : Given) (answer : Answer) (old new : KeeperIs) where
+    abbrev pub CallServed : Type 0
+    CallServed = (s : State) → Valid s → HasLists s ds rs apps cs → s.limits.queued ≡ o.limits.queued → ServedOn s request given (with_lists s ds' rs' apps' cs') answer old new (bus_of (connection_of cs seat))
+
+    pub comes : is_document_call request ≡ true → KeepsState old.told at → CallServed → Comes at seat request given (state_of began o ds' rs' apps' cs') answer old new
+    comes call keeps k =
+        comes-on at seat request given (state_of began o ds' rs' apps' cs') answer old new (call-on-bus request call) (is_silent_now began o h limit ds rs apps cs p) refl keeps (bus_of (connection_of cs seat)) refl
+        (λ c lawful. tells-of-call at c request given call) (λ c. ap records_of (refused-stays at c request call)) (k at valid_at lists_at refl)
+
+    pub untreed : is_document_call request ≡ true → CallServed → IsUntreed request given
+    untreed call k = untreed-on at request given (state_of began o ds' rs' apps' cs') answer old new (bus_of (connection_of cs seat)) call (k at valid_at lists_at refl)
+
+    -- of an Add
+    pub comes_added : (a : AddRequest) → request ≡ Request.Add a → (told : Option (List File)) → told ≡ began → KeepsState old.told at →
+        ((s : State) → Valid s → HasLists s ds rs apps cs → files_told s ≡ told → ServedOn s (Request.Add a) given (with_lists s ds' rs' apps' cs') answer old new (bus_of (connection_of cs seat))) →
         Comes at seat request given (state_of began o ds' rs' apps' cs') answer old new
-    comes keeps k = comes-on at seat request given (state_of began o ds' rs' apps' cs') answer old new call (is_silent_now began o h limit ds rs apps cs p) refl keeps (bus_of (connection_of cs seat)) refl (k at valid_at lists_at refl)
+    comes_added a e told t keeps k =
+        subst (λ (r : Request). Comes at seat r given (state_of began o ds' rs' apps' cs') answer old new) (sym e)
+        (comes-on at seat (Request.Add a) given (state_of began o ds' rs' apps' cs') answer old new refl (is_silent_now began o h limit ds rs apps cs p) refl keeps (bus_of (connection_of cs seat)) refl
+        (λ c lawful. tells-of-add at c a given lawful) (λ c. queue-records at c a) (k at valid_at lists_at (told_by began ∙ sym t)))
 
     pub stands_served : Comes at seat request given (state_of began o ds' rs' apps' cs') answer old new → SameLimits ds ds' → cost h + cost_of request ≤ o.limits.history →
         Stands began o (h ++ entry_with seat request given ∷ []) limit ds' rs' apps' cs'
@@ -186,3 +234,27 @@ module _ (began : Option (List File)) (o : OpeningState) (h : List Entry) (limit
         Keeping (run (opened_over began o) h) (entry_with seat request given) (run (opened_over began o) (h ++ entry_with seat request given ∷ [])) old new
     keeping_run k s = subst (λ (t : State). Keeping (run (opened_over began o) h) (entry_with seat request given) t old new) (sym s.state_is)
         (subst (λ (t : State). Keeping t (entry_with seat request given) (state_of began o ds' rs' apps' cs') old new) (sym p.state_is) k.keeping)
+
+-- ---- a tree that began so goes by another name
+
+pub stands_over : (began began' : Option (List File)) (o : OpeningState) (h : List Entry) (limit : ℕ) (ds : DocumentList) (rs : List Triple) (apps : List (List ℕ)) (cs : List Connection) (told : Option Records) → began' ≡ began → Stands began o h limit ds rs apps cs → KeepsState told (state_of began o ds rs apps cs) →
+    Stands began' o h limit ds rs apps cs × KeepsState told (state_of began' o ds rs apps cs)
+stands_over began began' o h limit ds rs apps cs told e s k = (
+  subst (λ (b : Option (List File)). Stands b o h limit ds rs apps cs) (sym e) s,
+  subst (λ (b : Option (List File)). KeepsState told (state_of b o ds rs apps cs)) (sym e) k,
+)
+
+pub keeping_over : (began began' : Option (List File)) (o : OpeningState) (h : List Entry) (s : State) (e : Entry) (old new : KeeperIs) → began' ≡ began → Keeping s e (run (opened_over began o) h) old new → Keeping s e (run (opened_over began' o) h) old new
+keeping_over began began' o h s e old new b k = subst (λ (x : Option (List File)). Keeping s e (run (opened_over x o) h) old new) (sym b) k
+
+-- Failed tells of the device that failed
+pub failed_device : (tree tree_after : TreeIs) (n : ℕ) (fault : Fault) (next : State) (answer : Answer) (old new : KeeperIs) → Asked tree n (is_tree fault) tree_after → Settles next fault answer old new → answer ≡ Answer.Refused Code.Failed →
+    HasRisen tree.faults tree_after.faults ⊎ HasRisen old.faults new.faults
+failed_device tree tree_after n Fault.None next answer old new asked s h = inr (s.failed refl h)
+failed_device tree tree_after n Fault.Tree next answer old new asked s h = inl (asked-risen n true tree tree_after asked refl)
+failed_device tree tree_after n Fault.Keeper next answer old new asked s h = inr (s.failed refl h)
+
+-- want of memory leaves the keeper's records
+pub stays_told : (old new : KeeperIs) → KeeperStays old new → new.told ≡ old.told
+stays_told old new (inl e) = ap (λ (k : KeeperIs). k.told) e
+stays_told old new (inr e) = ap (λ (k : KeeperIs). k.told) e.0

@@ -3,6 +3,7 @@ use Rattle.std.proofs.Common.{◌≡◌, ℕ, List, [], ◌∷◌, ◌++◌, len
 use Rattle.portal_base.specs.Names.{is_app_name, is_same}
 use Rattle.portal_base.specs.declared.names.doc_id.DocId.{DocId}
 use Rattle.portal_base.specs.declared.who.Who.{Who}
+use Rattle.portal_model.specs.declared.entry.Fault.{Fault}
 use Rattle.portal_model.specs.declared.entry.Given.{Given}
 use Rattle.portal_model.specs.declared.reply.Answer.{Answer}
 use Rattle.portal_model.specs.declared.reply.Code.{Code}
@@ -12,7 +13,7 @@ use Rattle.portal_model.specs.declared.state.Connection.{Connection}
 use Rattle.portal_model.specs.declared.state.Document.{Document}
 use Rattle.portal_model.specs.Allowed.{is_refusal}
 use Rattle.portal_model.specs.Arguments.{ahead_of_end, document_named, is_ended_path, reached}
-use Rattle.portal_model.specs.Bus.{bus_walk, refused_state}
+use Rattle.portal_model.specs.Bus.{bus_walk, is_tree, refused_state}
 use Rattle.portal_model.specs.DeleteDocument.{delete_document, delete_reached, deleted}
 use Rattle.portal_model.specs.Documents.{first_of}
 use Rattle.portal_model.specs.Grant.{are_rights_arguments, grant, grant_reached, granted, may_grant}
@@ -57,14 +58,39 @@ pub refused-stays : (s : State) (c : Connection) (request : Request) → is_docu
 refused-stays s c (Request.Add a) h = absurd (cc)
 refused-stays s c request h = refl
 
-pub step-on-bus : (s : State) (seat : ℕ) (request : Request) (given : Given) → is_document_call request ≡ true → request_step s seat request given ≡ bus_step s request given (bus_of (connection_of s.connections seat))
+-- a request on documents, of which an Add is one too
+abbrev pub is_on_bus : Request → Bool
+is_on_bus (Request.Add a) = true
+is_on_bus (Request.Present path) = true
+is_on_bus (Request.Grant call) = true
+is_on_bus (Request.Revoke call) = true
+is_on_bus (Request.DeleteDocument doc) = true
+is_on_bus (Request.LookupDocument path) = true
+is_on_bus (Request.Info doc) = true
+is_on_bus (Request.ListDocuments app) = true
+is_on_bus (Request.Enter who kind) = false
+is_on_bus Request.Leave = false
+is_on_bus Request.Collect = false
+is_on_bus (Request.Node r) = false
+
+pub call-on-bus : (request : Request) → is_document_call request ≡ true → is_on_bus request ≡ true
+call-on-bus (Request.Present path) h = refl
+call-on-bus (Request.Grant call) h = refl
+call-on-bus (Request.Revoke call) h = refl
+call-on-bus (Request.DeleteDocument doc) h = refl
+call-on-bus (Request.LookupDocument path) h = refl
+call-on-bus (Request.Info doc) h = refl
+call-on-bus (Request.ListDocuments app) h = refl
+call-on-bus request h = absurd (cc)
+
+pub step-on-bus : (s : State) (seat : ℕ) (request : Request) (given : Given) → is_on_bus request ≡ true → request_step s seat request given ≡ bus_step s request given (bus_of (connection_of s.connections seat))
 step-on-bus s seat (Request.Enter who kind) given h = absurd (cc)
 step-on-bus s seat Request.Leave given h = absurd (cc)
 step-on-bus s seat Request.Collect given h = absurd (cc)
 step-on-bus s seat (Request.Node r) given h = absurd (cc)
 step-on-bus s seat request given h = refl
 
-pub lawful-on-bus : (s : State) (seat : ℕ) (request : Request) (given : Given) → is_document_call request ≡ true → LawfulOnBus s request given (bus_of (connection_of s.connections seat)) → LawfulGiven s seat request given
+pub lawful-on-bus : (s : State) (seat : ℕ) (request : Request) (given : Given) → is_on_bus request ≡ true → LawfulOnBus s request given (bus_of (connection_of s.connections seat)) → LawfulGiven s seat request given
 lawful-on-bus s seat (Request.Enter who kind) given h k = absurd (cc)
 lawful-on-bus s seat Request.Leave given h k = absurd (cc)
 lawful-on-bus s seat Request.Collect given h k = absurd (cc)
@@ -81,6 +107,12 @@ is_fault_code code = false
 abbrev pub TellsNone : Verdict → Type 0
 TellsNone (Refuses code) = is_fault_code code ≡ false
 TellsNone (Does d) = (is_refusal d.answer ≡ false) × (d.makes ≡ 0)
+
+-- what is told by what any of them comes to, where this fault was given
+abbrev pub TellsOf : Fault → Option Verdict → Type 0
+TellsOf fault None = is_tree fault ≡ true
+TellsOf fault (Some (Refuses code)) = is_fault_code code ≡ false
+TellsOf fault (Some (Does d)) = is_refusal d.answer ≡ false
 
 unless-none : (wrong : Bool) (code : Code) (v : Verdict) → is_fault_code code ≡ false → TellsNone v → TellsNone (unless wrong code v)
 unless-none true code v h k = h

@@ -1,5 +1,5 @@
 -- A desk that sees the whole history: what it answers is what a desk promises.
-use Rattle.std.proofs.Common.{◌≡◌, ℕ, List, [], ◌∷◌, ◌++◌, Some, None, Ok, refl, sym, ap, ◌∙◌, subst, arith}
+use Rattle.std.proofs.Common.{◌≡◌, ℕ, List, [], ◌∷◌, ◌++◌, Ok, Err, refl, sym, ap, ◌∙◌, subst, arith}
 use Rattle.std.proofs.lemmas.List.{append-nil}
 use Rattle.std.proofs.lemmas.List.Elements.{All-cons, All-nil}
 use Rattle.portal_model.specs.declared.entry.Entry.{Entry}
@@ -44,21 +44,21 @@ asked says s t old new seat refusals request reply e g =
 
 -- ---- how such a desk goes on
 
-pub goes_on : {S : Type 0} (says : S → Entry → S → Type 0) (spends : S → S → Type 0) (a b : S) (s t : State) (old new : List Entry) (seat refusals : ℕ) (request : Request) (reply : Reply) → t ≡ s → GrowsBy (λ e. says a e b) s old new seat request reply →
+pub goes_on : {S : Type 0} (says : S → Entry → S → Type 0) (spends : S → Request → S → Type 0) (a b : S) (s t : State) (old new : List Entry) (seat refusals : ℕ) (request : Request) (reply : Reply) → t ≡ s → GrowsBy (λ e. says a e b) s old new seat request reply →
     GoesOn says spends a (seated_at s old seat refusals) b (seated_at t new seat refusals)
 goes_on says spends a b s t old new seat refusals request reply e g = record {
   moved = record { opening = e; seat = refl; begins = (g.entry ∷ [], g.grown) };
-  asked = Some g.entry ∷ [];
+  asked = Ok g.entry ∷ [];
   grows = record { grown = g.grown; own = All-cons (λ (x : Entry). x.seat ≡ seat) g.entry [] g.seat_is (All-nil _) };
   count = omega arith;
   chain = (b, g.said, refl);
 }
 
-pub goes_refused : {S : Type 0} (says : S → Entry → S → Type 0) (spends : S → S → Type 0) (a b : S) (s t : State) (old new : List Entry) (seat refusals more : ℕ) → t ≡ s → new ≡ old → more ≡ rises_by refusals 1 → spends a b →
+pub goes_refused : {S : Type 0} (says : S → Entry → S → Type 0) (spends : S → Request → S → Type 0) (a b : S) (s t : State) (old new : List Entry) (seat refusals more : ℕ) (request : Request) → t ≡ s → new ≡ old → more ≡ rises_by refusals 1 → spends a request b →
     GoesOn says spends a (seated_at s old seat refusals) b (seated_at t new seat more)
-goes_refused says spends a b s t old new seat refusals more e n k spent = record {
+goes_refused says spends a b s t old new seat refusals more request e n k spent = record {
   moved = record { opening = e; seat = refl; begins = ([], n ∙ sym (append-nil old)) };
-  asked = None ∷ [];
+  asked = Err request ∷ [];
   grows = record { grown = n ∙ sym (append-nil old); own = All-nil _ };
   count = k;
   chain = (b, spent, refl);

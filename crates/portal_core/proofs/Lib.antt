@@ -11,10 +11,14 @@ pub mod Looks
 pub mod Steps
 pub mod SameRecords
 pub mod CallVerdicts
+pub mod AskedCalls
+pub mod DrawnWords
+pub mod AddVerdicts
 pub mod SettledCalls
 pub mod CallSteps
 pub mod ServedLists
 pub mod WentDevices
 pub mod NodeFailures
 pub mod SeatQueues
+pub mod AddedFiles
 pub mod Desks

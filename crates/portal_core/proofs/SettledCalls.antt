@@ -12,19 +12,20 @@ use Rattle.portal_model.specs.Allowed.{is_refusal}
 use Rattle.portal_model.specs.Bus.{is_tree, kept, settled}
 use Rattle.portal_model.specs.Errno.{eio}
 use Rattle.portal_model.specs.Kept.{records_of}
-use Rattle.portal_model.specs.Outside.{ChangesRecords, verdict_of}
+use Rattle.portal_model.specs.Outside.{ChangesRecords, meets_limit, verdict_of}
 use Rattle.portal_model.specs.State.{State}
 use Rattle.portal_model.specs.Verdict.{Doing, Verdict, Refuses, Does}
 use Rattle.record_keeper.specs.Keepers.{KeeperIs, after_call}
 use Rattle.document_calls.specs.KeeperCalls.{KeeperCalled, KeeperWent, is_keeper}
 use Rattle.portal_core.specs.Answered.{KeepsState}
-use Rattle.portal_core.proofs.CallVerdicts.{TellsNone, is_fault_code}
+use Rattle.portal_core.proofs.CallVerdicts.{TellsOf, is_fault_code}
 use Rattle.portal_core.proofs.SameRecords.{same_records, same_records-eq, same_records-not}
 
-pub record Settles (after : State) (answer : Answer) (old new : KeeperIs) : Type 0 where
+-- Failed is told where the fault is the tree's, or where the keeper's count rose.
+pub record Settles (after : State) (fault : Fault) (answer : Answer) (old new : KeeperIs) : Type 0 where
   pub kept : KeepsState new.told after
   pub no_errno : answer ≡ Answer.Refused (Code.Errno eio) → ⊥
-  pub failed : answer ≡ Answer.Refused Code.Failed → HasRisen old.faults new.faults
+  pub failed : is_tree fault ≡ false → answer ≡ Answer.Refused Code.Failed → HasRisen old.faults new.faults
 
 abbrev pub Comes_to : State × Answer → State → Answer → Type 0
 Comes_to made after answer = made ≡ (after, answer)
@@ -44,10 +45,10 @@ uncalled-keeps s after old new e r k = subst (λ (x : KeeperIs). KeepsState x.to
     by_told (Some x) h = h ∙ sym r
 
 module _ (s : State) (c : Connection) (request : Request) (given : Given) (after : State) (answer : Answer) (old new : KeeperIs) (same : after.entries ≡ s.entries) (keeps : KeepsState old.told s) (went : KeeperWent s c request given after old new) where
-  -- nothing is changed
-  stays-so : (v : Verdict) → verdict_of s c request given ≡ Some v → (ChangesRecords s (Some v) → ⊥) → after ≡ s → KeepsState new.told after
+  -- the records are those of before
+  stays-so : (v : Option Verdict) → verdict_of s c request given ≡ v → (ChangesRecords s v → ⊥) → records_of after ≡ records_of s → KeepsState new.told after
   stays-so v is none e =
-      uncalled-keeps s after old new (went.uncalled (λ changes. none (subst (ChangesRecords s) is changes))) (ap records_of e) keeps
+      uncalled-keeps s after old new (went.uncalled (λ changes. none (subst (ChangesRecords s) is changes))) e keeps
 
   no-fault-code : (code : Code) → is_fault_code code ≡ false → Code.Failed ≡ code → ⊥
   no-fault-code code h e = let no : true ≡ false = ap is_fault_code e ∙ h in cc
@@ -58,22 +59,16 @@ module _ (s : State) (c : Connection) (request : Request) (given : Given) (after
   code-is : (a b : Code) → Answer.Refused a ≡ Answer.Refused b → a ≡ b
   code-is a b e = cc
 
-  refused-settles : (code : Code) → verdict_of s c request given ≡ Some (Refuses code) → is_fault_code code ≡ false → Comes_to (s, Answer.Refused code) after answer → Settles after answer old new
-  refused-settles code is none e = record {
-    kept = stays-so (Refuses code) is (λ changes. changes) (sym (ap (λ (x : State × Answer). x.0) e));
-    no_errno = λ h. no-errno-code code none (code-is (Code.Errno eio) code (sym h ∙ sym (ap (λ (x : State × Answer). x.1) e)));
-    failed = λ h. absurd (no-fault-code code none (code-is Code.Failed code (sym h ∙ sym (ap (λ (x : State × Answer). x.1) e))));
-  }
-
-  full-settles : (d : Doing) → verdict_of s c request given ≡ Some (Does d) → d.exceeds ≡ true → Comes_to (s, Answer.Refused Code.LimitsExceeded) after answer → Settles after answer old new
-  full-settles d is met e = record {
-    kept = stays-so (Does d) is (λ changes. let no : true ≡ false = sym met ∙ changes.0 in cc) (sym (ap (λ (x : State × Answer). x.0) e));
-    no_errno = λ h. let no : Answer.Refused (Code.Errno eio) ≡ Answer.Refused Code.LimitsExceeded = sym h ∙ sym (ap (λ (x : State × Answer). x.1) e) in cc;
-    failed = λ h. let no : Answer.Refused Code.Failed ≡ Answer.Refused Code.LimitsExceeded = sym h ∙ sym (ap (λ (x : State × Answer). x.1) e) in absurd (cc);
-  }
-
   not-refused : (code : Code) (given_answer : Answer) → is_refusal given_answer ≡ false → Answer.Refused code ≡ given_answer → ⊥
   not-refused code given_answer h e = let no : true ≡ false = ap is_refusal e ∙ h in cc
+
+  -- a call of the tree failed
+  unseen-settles : verdict_of s c request given ≡ None → is_tree given.fault ≡ true → Comes_to (s, Answer.Refused Code.Failed) after answer → Settles after given.fault answer old new
+  unseen-settles is failed e = record {
+    kept = stays-so None is (λ changes. changes) (ap records_of (sym (ap (λ (x : State × Answer). x.0) e)));
+    no_errno = λ h. let no : Answer.Refused (Code.Errno eio) ≡ Answer.Refused Code.Failed = sym h ∙ sym (ap (λ (x : State × Answer). x.1) e) in cc;
+    failed = λ u h. let no : true ≡ false = sym failed ∙ u in absurd (cc);
+  }
 
   -- it is done
   done-keeps : (d : Doing) → verdict_of s c request given ≡ Some (Does d) → d.exceeds ≡ false → d.state ≡ after → (b : Bool) → same_records (records_of d.state).documents (records_of s).documents ≡ b → KeepsState new.told after
@@ -86,15 +81,15 @@ module _ (s : State) (c : Connection) (request : Request) (given : Given) (after
       let changes : ChangesRecords s (Some (Does d)) = (within, λ r. same_records-not (records_of d.state).documents (records_of s).documents h (ap (λ (x : Records). x.documents) r)) in
       called-keeps after given.fault old new (went.called (subst (ChangesRecords s) (sym is) changes))
 
-  done-settles : (d : Doing) → verdict_of s c request given ≡ Some (Does d) → d.exceeds ≡ false → is_refusal d.answer ≡ false → Comes_to (d.state, d.answer) after answer → Settles after answer old new
+  done-settles : (d : Doing) → verdict_of s c request given ≡ Some (Does d) → d.exceeds ≡ false → is_refusal d.answer ≡ false → Comes_to (d.state, d.answer) after answer → Settles after given.fault answer old new
   done-settles d is within told e = record {
     kept = done-keeps d is within (ap (λ (x : State × Answer). x.0) e) (same_records (records_of d.state).documents (records_of s).documents) refl;
     no_errno = λ h. not-refused (Code.Errno eio) d.answer told (sym h ∙ sym (ap (λ (x : State × Answer). x.1) e));
-    failed = λ h. absurd (not-refused Code.Failed d.answer told (sym h ∙ sym (ap (λ (x : State × Answer). x.1) e)));
+    failed = λ u h. absurd (not-refused Code.Failed d.answer told (sym h ∙ sym (ap (λ (x : State × Answer). x.1) e)));
   }
 
   -- the keeper failed
-  failed-settles : given.fault ≡ Fault.Keeper → ChangesRecords s (verdict_of s c request given) → Comes_to (s, Answer.Refused Code.Failed) after answer → Settles after answer old new
+  failed-settles : given.fault ≡ Fault.Keeper → ChangesRecords s (verdict_of s c request given) → Comes_to (s, Answer.Refused Code.Failed) after answer → Settles after given.fault answer old new
   failed-settles f changes e =
       let called = went.called changes in
       let faults : new.faults ≡ (after_call old (is_keeper Fault.Keeper) (option_map (λ _. records_of after) old.told)).faults =
@@ -102,21 +97,37 @@ module _ (s : State) (c : Connection) (request : Request) (given : Given) (after
       record {
         kept = called-keeps after given.fault old new called;
         no_errno = λ h. let no : Answer.Refused (Code.Errno eio) ≡ Answer.Refused Code.Failed = sym h ∙ sym (ap (λ (x : State × Answer). x.1) e) in cc;
-        failed = λ h. rw faults (omega arith);
+        failed = λ u h. rw faults (omega arith);
       }
 
-  by-fault : (d : Doing) (fault : Fault) → given.fault ≡ fault → is_tree given.fault ≡ false → (given.fault ≡ Fault.Keeper → ChangesRecords s (verdict_of s c request given)) → verdict_of s c request given ≡ Some (Does d) →
-      d.exceeds ≡ false → is_refusal d.answer ≡ false → Comes_to (kept s fault d) after answer → Settles after answer old new
-  by-fault d Fault.None f t k is within told e = done-settles d is within told e
-  by-fault d Fault.Tree f t k is within told e = let no : true ≡ false = sym (ap is_tree f) ∙ t in absurd (cc)
-  by-fault d Fault.Keeper f t k is within told e = failed-settles f (k f) e
+  by-fault : (d : Doing) (fault : Fault) → given.fault ≡ fault → (given.fault ≡ Fault.Keeper → ChangesRecords s (verdict_of s c request given)) → verdict_of s c request given ≡ Some (Does d) →
+      d.exceeds ≡ false → is_refusal d.answer ≡ false → Comes_to (kept s fault d) after answer → Settles after given.fault answer old new
+  by-fault d Fault.None f k is within told e = done-settles d is within told e
+  by-fault d Fault.Tree f k is within told e = done-settles d is within told e
+  by-fault d Fault.Keeper f k is within told e = failed-settles f (k f) e
 
-  by-limit : (d : Doing) (full : Bool) → full ≡ d.exceeds → is_tree given.fault ≡ false → (given.fault ≡ Fault.Keeper → ChangesRecords s (verdict_of s c request given)) → verdict_of s c request given ≡ Some (Does d) →
-      is_refusal d.answer ≡ false → Comes_to (cond full (s, Answer.Refused Code.LimitsExceeded) (kept s given.fault d)) after answer → Settles after answer old new
-  by-limit d true f t k is told e = full-settles d is (sym f) e
-  by-limit d false f t k is told e = by-fault d given.fault refl t k is (sym f) told e
+  module _ (refused : State) (records : records_of refused ≡ records_of s) where
+    refused-settles : (code : Code) → verdict_of s c request given ≡ Some (Refuses code) → is_fault_code code ≡ false → Comes_to (refused, Answer.Refused code) after answer → Settles after given.fault answer old new
+    refused-settles code is none e = record {
+      kept = stays-so (Some (Refuses code)) is (λ changes. changes) (ap records_of (sym (ap (λ (x : State × Answer). x.0) e)) ∙ records);
+      no_errno = λ h. no-errno-code code none (code-is (Code.Errno eio) code (sym h ∙ sym (ap (λ (x : State × Answer). x.1) e)));
+      failed = λ u h. absurd (no-fault-code code none (code-is Code.Failed code (sym h ∙ sym (ap (λ (x : State × Answer). x.1) e))));
+    }
 
-  pub settles : (v : Verdict) → verdict_of s c request given ≡ Some v → TellsNone v → is_tree given.fault ≡ false → (given.fault ≡ Fault.Keeper → ChangesRecords s (verdict_of s c request given)) →
-      ((d : Doing) → v ≡ Does d → given.full ≡ d.exceeds) → Comes_to (settled s s given (Some v)) after answer → Settles after answer old new
-  settles (Refuses code) is none t k f e = refused-settles code is none e
-  settles (Does d) is none t k f e = by-limit d given.full (f d refl) t k is none.0 e
+    full-settles : (d : Doing) → verdict_of s c request given ≡ Some (Does d) → d.exceeds ≡ true → Comes_to (refused, Answer.Refused Code.LimitsExceeded) after answer → Settles after given.fault answer old new
+    full-settles d is met e = record {
+      kept = stays-so (Some (Does d)) is (λ changes. let no : true ≡ false = sym met ∙ changes.0 in cc) (ap records_of (sym (ap (λ (x : State × Answer). x.0) e)) ∙ records);
+      no_errno = λ h. let no : Answer.Refused (Code.Errno eio) ≡ Answer.Refused Code.LimitsExceeded = sym h ∙ sym (ap (λ (x : State × Answer). x.1) e) in cc;
+      failed = λ u h. let no : Answer.Refused Code.Failed ≡ Answer.Refused Code.LimitsExceeded = sym h ∙ sym (ap (λ (x : State × Answer). x.1) e) in absurd (cc);
+    }
+
+    by-limit : (d : Doing) (full : Bool) → full ≡ d.exceeds → (given.fault ≡ Fault.Keeper → ChangesRecords s (verdict_of s c request given)) → verdict_of s c request given ≡ Some (Does d) →
+        is_refusal d.answer ≡ false → Comes_to (cond full (refused, Answer.Refused Code.LimitsExceeded) (kept s given.fault d)) after answer → Settles after given.fault answer old new
+    by-limit d true f k is told e = full-settles d is (sym f) e
+    by-limit d false f k is told e = by-fault d given.fault refl k is (sym f) told e
+
+    pub settles : (v : Option Verdict) → verdict_of s c request given ≡ v → TellsOf given.fault v → (given.fault ≡ Fault.Keeper → ChangesRecords s (verdict_of s c request given)) → given.full ≡ meets_limit v →
+        Comes_to (settled s refused given v) after answer → Settles after given.fault answer old new
+    settles None is tells k f e = unseen-settles is tells e
+    settles (Some (Refuses code)) is tells k f e = refused-settles code is tells e
+    settles (Some (Does d)) is tells k f e = by-limit d given.full f k is tells e

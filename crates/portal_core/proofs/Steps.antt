@@ -46,6 +46,11 @@ use Rattle.portal_core.specs.Served.{GetsAttr, LooksAt, NodeServed, OpServed, co
 use Rattle.portal_core.specs.TreeCalls.{Calling}
 use Rattle.portal_core.proofs.Looks.{attr_walk, calling_at, kept_at, not_kept, risen_at, walk_answers, walk_clock, walk_gives, walk_keeps}
 
+-- the files that a state tells that began so
+pub told_by : (began : Option (List File)) → cond (is_told began) (Some (files_of began)) None ≡ began
+told_by None = refl
+told_by (Some files) = refl
+
 -- ---- a request on a node, in any state
 
 mount_found : (o : Option Connection) (c : Connection) → mount_of o ≡ Some c → o ≡ Some c
@@ -103,10 +108,6 @@ module _ (began : Option (List File)) (o : OpeningState) (ds : DocumentList) (rs
 
   told_is : files_told at ≡ began
   told_is = told_by began
-    where
-      told_by : (b : Option (List File)) → cond (is_told b) (Some (files_of b)) None ≡ b
-      told_by None = refl
-      told_by (Some files) = refl
 
   given_at : (c : Connection) (look : Option LookAnswer) (new : TreeIs) (flags fh : ℕ) → r.op ≡ NodeOp.GetAttr flags fh → (names_handle flags || is_own_file r.node) ≡ true →
       LooksAt (cond (names_handle flags) None (sight_in ds.live rs c.who r.node)) old look new → LawfulNode at c r (looked (taken look) (fault_of look))

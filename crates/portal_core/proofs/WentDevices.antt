@@ -1,5 +1,5 @@
 -- What the devices of a portal went through in an entry.
-use Rattle.std.proofs.Common.{◌≡◌, ◌≢◌, ℕ, List, [], ◌∷◌, ◌++◌, Bool, true, false, Option, Some, None, refl, sym, ap, subst, ◌∙◌, inl}
+use Rattle.std.proofs.Common.{◌≡◌, ◌≢◌, ℕ, List, [], ◌∷◌, ◌++◌, length, Bool, true, false, Option, Some, None, refl, sym, ap, subst, ◌∙◌, inl}
 use Rattle.host_tree.specs.Trees.{TreeIs}
 use Rattle.portal_base.specs.declared.files.Look.{Look}
 use Rattle.portal_model.specs.declared.entry.Entry.{Entry}
@@ -12,8 +12,14 @@ use Rattle.portal_model.specs.Outside.{ChangesRecords, verdict_of}
 use Rattle.portal_model.specs.State.{State, connection_of}
 use Rattle.portal_model.specs.Step.{all_told, bus_of}
 use Rattle.record_keeper.specs.Keepers.{KeeperIs}
+use Rattle.document_calls.specs.KeeperCalls.{KeeperStays}
 use Rattle.portal_core.specs.Answered.{Spends, Went}
-use Rattle.portal_core.specs.Devices.{Drawn, Keeping, KeeperWentOn, may_change_records}
+use Rattle.add_calls.specs.Placing.{Drew, HasDrawn}
+use Rattle.add_calls.specs.Shown.{Asked}
+use Rattle.add_serving.specs.Adds.{WasAsked}
+use Rattle.portal_core.specs.Devices.{Drawn, Keeping, KeeperWentOn, may_change_records, may_draw}
+use Rattle.portal_core.proofs.AskedCalls.{calling-asked}
+use Rattle.portal_core.proofs.DrawnWords.{drawn-drew}
 use Rattle.portal_core.specs.Story.{PortalIs, state_now}
 use Rattle.portal_core.specs.TreeCalls.{Calling, CallsAsTold, after_fault, after_looks}
 
@@ -92,12 +98,50 @@ module _ {T K C W : Type 0} (tree_is : T → TreeIs) (keeper_is : K → KeeperIs
     undrawn = λ _. w;
   }
 
+  -- an Add
+  pub went-add : new.story.began ≡ old.story.began → new.story.opening ≡ old.story.opening → new.story.history ≡ old.story.history ++ e ∷ [] → may_draw e.request ≡ true → may_change_records e.request ≡ true → Asked (tree_is old.tree) (length e.given.looks) (is_tree e.given.fault) (tree_is new.tree) →
+      Keeping (state_now old.story) e (state_now new.story) (keeper_is old.keeper) (keeper_is new.keeper) → new.clock ≡ old.clock → Drew (words_told old.words) e.given.words (words_told new.words) → Went tree_is keeper_is words_told old e new
+  went-add b o h draws changes asked keeping c drew = record {
+    grown = story-grown b o h;
+    tree = calling-asked (tree_is old.tree) e.given (tree_is new.tree) asked;
+    keeper = keeping;
+    clock = c;
+    words = drawn-drew e.given.words (words_told old.words) (words_told new.words) drew;
+    unkept = λ f. let no : true ≡ false = sym changes ∙ f in absurd (cc);
+    undrawn = λ f. let no : true ≡ false = sym draws ∙ f in absurd (cc);
+  }
+
 -- a refusal that changes nothing
-pub spends-nothing : {T K C W : Type 0} (keeper_is : K → KeeperIs) (old new : PortalIs T K C W) → new ≡ old → Spends keeper_is old new
-spends-nothing {T = T} {K = K} {C = C} {W = W} keeper_is old new e = record {
-  tree = ap (λ (p : PortalIs T K C W). p.tree) e;
+pub spends-nothing : {T K C W : Type 0} (tree_is : T → TreeIs) (keeper_is : K → KeeperIs) (words_told : W → Option (List ℕ)) (old : PortalIs T K C W) (request : Request) (new : PortalIs T K C W) → new ≡ old → Spends tree_is keeper_is words_told old request new
+spends-nothing {T = T} {K = K} {C = C} {W = W} tree_is keeper_is words_told old request new e = record {
+  tree = (0, ap (λ (p : PortalIs T K C W). tree_is p.tree) e);
   keeper = inl (ap (λ (p : PortalIs T K C W). keeper_is p.keeper) e);
   clock = ap (λ (p : PortalIs T K C W). p.clock) e;
-  words = ap (λ (p : PortalIs T K C W). p.words) e;
+  words = ([], ap (λ (p : PortalIs T K C W). words_told p.words) e);
   story = ap (λ (p : PortalIs T K C W). p.story) e;
+  unspent = λ _. (ap (λ (p : PortalIs T K C W). p.tree) e, ap (λ (p : PortalIs T K C W). p.words) e);
+}
+
+-- nor is anything but the keeper asked
+pub spends-keeper : {T K C W : Type 0} (tree_is : T → TreeIs) (keeper_is : K → KeeperIs) (words_told : W → Option (List ℕ)) (old : PortalIs T K C W) (request : Request) (new : PortalIs T K C W) → new.tree ≡ old.tree → KeeperStays (keeper_is old.keeper) (keeper_is new.keeper) → new.clock ≡ old.clock → new.words ≡ old.words → new.story ≡ old.story →
+    Spends tree_is keeper_is words_told old request new
+spends-keeper {T = T} {W = W} tree_is keeper_is words_told old request new t k c w s = record {
+  tree = (0, ap tree_is t);
+  keeper = k;
+  clock = c;
+  words = ([], ap words_told w);
+  story = s;
+  unspent = λ _. (t, w);
+}
+
+-- or that of an Add, which may have asked each device
+pub spends-add : {T K C W : Type 0} (tree_is : T → TreeIs) (keeper_is : K → KeeperIs) (words_told : W → Option (List ℕ)) (old : PortalIs T K C W) (request : Request) (new : PortalIs T K C W) → may_draw request ≡ true → WasAsked (tree_is old.tree) (tree_is new.tree) → KeeperStays (keeper_is old.keeper) (keeper_is new.keeper) → new.clock ≡ old.clock →
+    HasDrawn (words_told old.words) (words_told new.words) → new.story.began ≡ old.story.began → new.story.opening ≡ old.story.opening → new.story.history ≡ old.story.history → Spends tree_is keeper_is words_told old request new
+spends-add tree_is keeper_is words_told old request new draws t k c w b o h = record {
+  tree = t;
+  keeper = k;
+  clock = c;
+  words = w;
+  story = λ i. record { began = b i; opening = o i; history = h i };
+  unspent = λ f. let no : true ≡ false = sym draws ∙ f in absurd (cc);
 }

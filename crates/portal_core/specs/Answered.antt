@@ -15,16 +15,18 @@ use Rattle.portal_model.specs.Lawful.{Lawful}
 use Rattle.portal_model.specs.State.{State}
 use Rattle.portal_model.specs.Step.{reply_at}
 use Rattle.record_keeper.specs.Keepers.{KeeperIs}
+use Rattle.add_calls.specs.Placing.{HasDrawn}
+use Rattle.add_serving.specs.Adds.{WasAsked}
 use Rattle.document_calls.specs.KeeperCalls.{KeeperStays}
 use Rattle.portal_core.specs.Devices.{Drawn, Keeping, may_change_records, may_draw}
 use Rattle.portal_core.specs.Story.{PortalIs, state_now}
 use Rattle.portal_core.specs.TreeCalls.{Calling}
 
--- The history grew by an entry, and this is what the devices went through in it: just the calls of the tree that its step reaches were
--- made; the keeper was asked once where the faultless step changes the records, and else not at
--- all; the words that were drawn are the first that were to come; the clock stayed. Where the
--- request may not change the records the keeper is the same, and so are the words where it may draw
--- none.
+-- The history grew by an entry, and this is what the devices went through in it: just the calls of
+-- the tree that its step reaches were made; the keeper was asked once where the faultless step
+-- changes the records, and else not at all; the words that were drawn are the first that were to
+-- come; the clock stayed. Where the request may not change the records the keeper is the same, and
+-- so are the words where it may draw none.
 pub record Went {T K C W : Type 0} (tree_is : T → TreeIs) (keeper_is : K
     → KeeperIs) (words_told : W → Option (List ℕ)) (old : PortalIs T K C W) (e : Entry)
     (new : PortalIs T K C W) : Type 0 where
@@ -39,14 +41,17 @@ pub record Went {T K C W : Type 0} (tree_is : T → TreeIs) (keeper_is : K
   pub undrawn : may_draw e.request ≡ false → new.words ≡ old.words
 
 -- What a refusal does, which comes where memory is wanted: the keeper may have been asked once and
--- have wanted memory too. All else is as before.
-pub record Spends {T K C W : Type 0} (keeper_is : K → KeeperIs) (old : PortalIs T K C W)
+-- have wanted memory too. Where the request may draw words, some may have been drawn, and the tree
+-- may have been asked, of which no call failed. All else is as before.
+pub record Spends {T K C W : Type 0} (tree_is : T → TreeIs) (keeper_is : K
+    → KeeperIs) (words_told : W → Option (List ℕ)) (old : PortalIs T K C W) (request : Request)
     (new : PortalIs T K C W) : Type 0 where
-  pub tree : new.tree ≡ old.tree
+  pub tree : WasAsked (tree_is old.tree) (tree_is new.tree)
   pub keeper : KeeperStays (keeper_is old.keeper) (keeper_is new.keeper)
   pub clock : new.clock ≡ old.clock
-  pub words : new.words ≡ old.words
+  pub words : HasDrawn (words_told old.words) (words_told new.words)
   pub story : new.story ≡ old.story
+  pub unspent : may_draw request ≡ false → (new.tree ≡ old.tree) × (new.words ≡ old.words)
 
 -- the history grew by one lawful entry, of this seat and request, to which the step replies so
 pub record Answers {T K C W : Type 0} (tree_is : T → TreeIs) (keeper_is : K

@@ -1,10 +1,11 @@
 -- The desk of one seat at a history that it borrows.
-use Rattle.std.specs.Prelude.{◌≡◌, ◌+◌, ℕ, List, [], ◌∷◌, ◌++◌, Option, Some, None, refl}
+use Rattle.std.specs.Prelude.{◌≡◌, ◌+◌, ℕ, List, [], ◌∷◌, ◌++◌, Result, Ok, Err, refl}
 use Rattle.std.specs.List.{All}
 use Rattle.std.proofs.Common.{◌∙◌, sym, ap, subst, arith}
 use Rattle.std.proofs.lemmas.List.{append-nil, append_assoc}
 use Rattle.std.proofs.lemmas.List.Elements.{All-append, All-nil}
 use Rattle.portal_model.specs.declared.entry.Entry.{Entry}
+use Rattle.portal_model.specs.declared.request.Request.{Request}
 use Rattle.portal_model.specs.Seated.{Moved, Seated, exchanges, rises_by}
 use Rattle.portal_model.specs.State.{State}
 use Rattle.portal_core.specs.Chain.{Chain, answered, refused}
@@ -20,17 +21,18 @@ seated_at s h seat refusals = record {
 }
 
 -- the history grew by what was answered of this, which is of the seat alone
-pub record GrowsByOwn (seat : ℕ) (asked : List (Option Entry)) (old new : List Entry) : Type 0 where
+pub record GrowsByOwn (seat : ℕ) (asked : List (Result Entry Request)) (old new : List Entry) : Type 0 where
   pub grown : new ≡ old ++ answered asked
   pub own : All (λ e. e.seat ≡ seat) (answered asked)
 
 -- The history grew by entries of this seat alone: a desk alone borrows what keeps the history, so no
 -- other seat asks in between. The refusals among what was asked are counted. Of each entry, and of
 -- each refusal, what keeps the history says what it says.
-pub record GoesOn {S : Type 0} (says : S → Entry → S → Type 0) (spends : S → S → Type 0)
-    (keeper : S) (old : Seated) (keeper' : S) (new : Seated) : Type 0 where
+pub record GoesOn {S : Type 0} (says : S → Entry → S → Type 0)
+    (spends : S → Request → S → Type 0) (keeper : S) (old : Seated) (keeper' : S) (new : Seated)
+    : Type 0 where
   pub moved : Moved old new
-  pub asked : List (Option Entry)
+  pub asked : List (Result Entry Request)
   pub grows : GrowsByOwn old.seat asked old.seen new.seen
   pub count : new.refusals ≡ rises_by old.refusals (refused asked)
   pub chain : Chain says spends keeper asked keeper'
@@ -38,17 +40,17 @@ pub record GoesOn {S : Type 0} (says : S → Entry → S → Type 0) (spends : S
 -- ---- its laws, which a desk that goes on so gives
 
 -- the entries among two lists joined
-pub answered-append : (p q : List (Option Entry)) → answered (p ++ q) ≡ answered p ++ answered q
+pub answered-append : (p q : List (Result Entry Request)) → answered (p ++ q) ≡ answered p ++ answered q
 answered-append [] q = refl
-answered-append (None ∷ p) q = answered-append p q
-answered-append (Some e ∷ p) q = ap (λ (x : List Entry). e ∷ x) (answered-append p q)
+answered-append (Err request ∷ p) q = answered-append p q
+answered-append (Ok e ∷ p) q = ap (λ (x : List Entry). e ∷ x) (answered-append p q)
 
 -- the entries of a seat are those of an equal one
-own_of_same : (n m : ℕ) → n ≡ m → (asked : List (Option Entry)) (h i : List Entry)
+own_of_same : (n m : ℕ) → n ≡ m → (asked : List (Result Entry Request)) (h i : List Entry)
     → GrowsByOwn n asked h i → GrowsByOwn m asked h i
 own_of_same n m e asked h i g = subst (λ (k : ℕ). GrowsByOwn k asked h i) e g
 
-own_further : (n : ℕ) (p q : List (Option Entry)) (h i j : List Entry) → GrowsByOwn n p h i
+own_further : (n : ℕ) (p q : List (Result Entry Request)) (h i j : List Entry) → GrowsByOwn n p h i
     → GrowsByOwn n q i j → GrowsByOwn n (p ++ q) h j
 own_further n p q h i j k l = record {
   grown = l.grown
@@ -59,23 +61,24 @@ own_further n p q h i j k l = record {
       (All-append (λ (e : Entry). e.seat ≡ n) (answered p) (answered q) k.own l.own);
 }
 
-refused-append : (p q : List (Option Entry)) → refused (p ++ q) ≡ refused p + refused q
+refused-append : (p q : List (Result Entry Request)) → refused (p ++ q) ≡ refused p + refused q
 refused-append [] q = omega arith
-refused-append (None ∷ p) q = let more = refused-append p q in omega arith
-refused-append (Some e ∷ p) q = refused-append p q
+refused-append (Err request ∷ p) q = let more = refused-append p q in omega arith
+refused-append (Ok e ∷ p) q = refused-append p q
 
-counted-further : (k m n : ℕ) (p q : List (Option Entry)) → m ≡ rises_by k (refused p)
+counted-further : (k m n : ℕ) (p q : List (Result Entry Request)) → m ≡ rises_by k (refused p)
     → n ≡ rises_by m (refused q) → n ≡ rises_by k (refused (p ++ q))
 counted-further k m n p q a b =
     let both = refused-append p q in
     omega arith
 
-module _ {S : Type 0} (says : S → Entry → S → Type 0) (spends : S → S → Type 0) where
-  pub Chain-append : (p q : List (Option Entry)) (a b c : S) → Chain says spends a p b
+module _ {S : Type 0} (says : S → Entry → S → Type 0) (spends : S → Request → S → Type 0) where
+  pub Chain-append : (p q : List (Result Entry Request)) (a b c : S) → Chain says spends a p b
       → Chain says spends b q c → Chain says spends a (p ++ q) c
   Chain-append [] q a b c h k = subst (λ (x : S). Chain says spends x q c) h k
-  Chain-append (None ∷ p) q a b c h k = (h.0, h.1, Chain-append p q h.0 b c h.2 k)
-  Chain-append (Some e ∷ p) q a b c h k = (h.0, h.1, Chain-append p q h.0 b c h.2 k)
+  Chain-append (Err request ∷ p) q a b c h k =
+      (h.0, h.1, Chain-append p q h.0 b c h.2 k)
+  Chain-append (Ok e ∷ p) q a b c h k = (h.0, h.1, Chain-append p q h.0 b c h.2 k)
 
   pub goes_nowhere : (a : S) (d : Seated) → GoesOn says spends a d a d
   goes_nowhere a d = record {

@@ -1,7 +1,7 @@
-//! The requests on documents but Add, over the portal's lists and its keeper.
+//! The requests on documents that neither ask the tree nor draw a word: all but
+//! Add.
 
-ghost use Rattle.std.specs.Prelude.{◌≡◌, ◌==◌, ◌<◌, ◌^◌, length, false, true, Some, IfOk, OnErr};
-ghost use Rattle.std.specs.List.{position};
+ghost use Rattle.std.specs.Prelude.{◌≡◌, ◌<◌, ◌^◌, length, false, true, Some, IfOk, OnErr};
 ghost use Rattle.document_calls.specs.Changes.{SameLimits};
 ghost use Rattle.document_calls.specs.KeeperCalls.{KeeperStays};
 ghost use Rattle.document_calls.specs.Serves.{Serves};
@@ -13,7 +13,7 @@ ghost use Rattle.portal_model.specs.Valid.{Valid};
 ghost use Rattle.portal_core.specs.Devices.{may_change_records};
 ghost use Rattle.portal_core.specs.Documents.{HasLists, ServedOn, is_document_call, with_lists};
 
-use crate::lists::bus_of;
+use crate::lists::{bus_of, place_of};
 use document_calls::{
     ServedCall, answered, delete_document, grant, info, list_documents, lookup_document, present,
     revoke,
@@ -31,8 +31,8 @@ use std::mem;
 /// Serves a request of a seat on documents, which is no Add. `queued` is the
 /// limit of the presented files that wait on a connection.
 ///
-/// A seat without an open bus is not here. Want of memory leaves the lists as
-/// they were.
+/// A seat without an open bus is answered `NotHere`. Want of memory leaves the
+/// lists as they were.
 pub fn serve<K: Keeper>(
     alloc: Global,
     documents: &mut Documents,
@@ -111,13 +111,4 @@ fn present_on(
     let served = present(alloc, &mut connection.queue, queued, &connection.who, path);
     *connections = List::from_vec(all);
     served
-}
-
-/// Where the open connection of a seat stands.
-fn place_of(connections: &[Connection], seat: u32) -> Option<usize>
-    ensures { result ≡ position (λ c. c.seat == seat) connections.now }
-{
-    connections
-        .iter()
-        .position(|connection| connection.seat == seat)
 }

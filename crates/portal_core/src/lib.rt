@@ -5,10 +5,11 @@
 //! the end of one legal history which grows by this one entry; that just the calls
 //! of its devices were made that the step reaches, and the keeper's records are
 //! those that stand for the state; that a refusal changes nothing but how often the
-//! keeper was asked; and that the Leave of an open connection is never refused. It
-//! is asked nothing but what has a body: Enter, Leave, Collect, GETATTR and the
-//! requests on documents but Add. It starts exactly where the records are good, and
-//! else says what is wrong and hands the devices back.
+//! tree and the keeper were asked and which words come next; and that the Leave of
+//! an open connection is never refused. It is asked nothing but what has a body:
+//! Enter, Leave, Collect, GETATTR and the requests on documents. It starts exactly
+//! where the records are good, and else says what is wrong and hands the devices
+//! back.
 //!
 //! | Room | Holds |
 //! |---|---|
@@ -19,7 +20,8 @@
 //! | `opening` | the lists that an opening state begins with |
 //! | `lists`, `place` | what is looked up among connections and documents |
 //! | `attributes` | GETATTR |
-//! | `documents` | the requests on documents but Add |
+//! | `documents` | the requests on documents that neither ask the tree nor draw a word |
+//! | `additions` | Add |
 //!
 //! ```text
 //! let mut portal = Portal::start(alloc, tree, keeper, clock, words, limits)?;
@@ -27,6 +29,7 @@
 //! ```
 #![tactic(auto)]
 
+mod additions;
 mod attributes;
 mod documents;
 mod lists;

@@ -1,6 +1,7 @@
 //! What stands in the portal's lists.
 
-ghost use Rattle.std.specs.Prelude.{◌≡◌, option_copied};
+ghost use Rattle.std.specs.Prelude.{◌≡◌, ◌==◌, option_copied};
+ghost use Rattle.std.specs.List.{position};
 ghost use Rattle.portal_model.specs.Rights.{held_by};
 ghost use Rattle.portal_model.specs.State.{connection_of as open_connection};
 ghost use Rattle.portal_model.specs.Leave.{of_others as connections_of_others};
@@ -61,4 +62,13 @@ pub fn of_others(connections: List<Connection>, seat: u32) -> List<Connection>
     let mut kept = connections.into_vec();
     kept.retain(|connection| connection.seat != seat);
     List::from_vec(kept)
+}
+
+/// Where the open connection of a seat stands.
+pub fn place_of(connections: &[Connection], seat: u32) -> Option<usize>
+    ensures { result ≡ position (λ c. c.seat == seat) connections.now }
+{
+    connections
+        .iter()
+        .position(|connection| connection.seat == seat)
 }

@@ -16,6 +16,7 @@ ghost use Rattle.portal_core.specs.Served.{NodeServed, collect_answer as answer_
 ghost use Rattle.portal_core.specs.Started.{HandsBack, Starts};
 ghost use Rattle.portal_core.specs.Story.{HasCause, cost_with, limit_of, state_first, state_now};
 
+use crate::additions::serve_add;
 use crate::attributes::{NodeDone, get_attr};
 use crate::documents;
 use crate::lists::{bus_of, connection_of, mount_of, of_others};
@@ -33,7 +34,7 @@ use portal_history::{History, cost_of};
 use portal_model::entry::{Entry, Fault, Given};
 use portal_model::opening::OpeningState;
 use portal_model::reply::{Answer, Code, Refused, Reply};
-use portal_model::request::{NodeOp, NodeRequest, Request};
+use portal_model::request::{AddRequest, NodeOp, NodeRequest, Request};
 use portal_model::state::Connection;
 use record_keeper::Keeper;
 use std::alloc::Global;
@@ -175,18 +176,20 @@ impl<T: HostTree, K: Keeper, C: Clock, W: Words> Portal<T, K, C, W> {
 
     /// Answers a request of a seat, which is a number from 1. The request is
     /// one of those that have a body: an Enter, a Leave, a Collect, a request
-    /// on documents but Add, or a GETATTR by a handle, or of a document's file
-    /// in the caller's own view.
+    /// on documents, or a GETATTR by a handle, or of a document's file in the
+    /// caller's own view.
     ///
     /// The reply is that of one step of the sequential portal, from the state
     /// after the history, which grows by this request. Just the calls of the
-    /// tree that the step reaches are made, and the keeper is asked once where
-    /// the step changes the records; EIO and Failed come only where such a call
-    /// failed. A refusal leaves the portal as it was; one of a request that may
-    /// change the records may have asked the keeper in vain. `Full` comes
-    /// exactly where the history with this request would cost more than its
-    /// limit; want of memory may come at any other request, but not at the
-    /// Leave of an open connection, which is never refused.
+    /// tree that the step reaches are made, words are drawn just for new
+    /// documents, and the keeper is asked once where the step changes the
+    /// records; EIO and Failed come only where such a call failed. A refusal
+    /// leaves the portal as it was; one of a request that may change the
+    /// records may have asked the keeper in vain, and one of an Add may have
+    /// asked the tree too, and drawn words. `Full` comes exactly where the
+    /// history with this request would cost more than its limit; want of memory
+    /// may come at any other request, but not at the Leave of an open
+    /// connection, which is never refused.
     pub fn ask(&mut self, alloc: Global, seat: u32, request: Request) -> Result<Reply, Refused>
         requires seat { 1 ≤ seat }
         requires built { Built request }
@@ -197,7 +200,7 @@ impl<T: HostTree, K: Keeper, C: Clock, W: Words> Portal<T, K, C, W> {
         ensures fault { IfOk result (TellsFault (T.is self.old.tree) (T.is self.new.tree)) }
         ensures failure { IfOk result (TellsFailure (T.is self.old.tree) (T.is self.new.tree)
             (K.is self.old.keeper) (K.is self.new.keeper)) }
-        ensures err { OnErr result (Spends K.is self.old self.new) }
+        ensures err { OnErr result (Spends T.is K.is W.told self.old request self.new) }
         ensures unasked { may_change_records request ≡ false
             → OnErr result (self.new ≡ self.old) }
 
@@ -234,7 +237,7 @@ impl<T: HostTree, K: Keeper, C: Clock, W: Words> Portal<T, K, C, W> {
         ensures fault { IfOk result (TellsFault (T.is self.old.tree) (T.is self.new.tree)) }
         ensures failure { IfOk result (TellsFailure (T.is self.old.tree) (T.is self.new.tree)
             (K.is self.old.keeper) (K.is self.new.keeper)) }
-        ensures err { OnErr result (Spends K.is self.old self.new) }
+        ensures err { OnErr result (Spends T.is K.is W.told self.old request self.new) }
         ensures unasked { may_change_records request ≡ false
             → OnErr result (self.new ≡ self.old) }
         ensures full { limit_of self.old.story < cost_with self.old.story request
@@ -252,7 +255,7 @@ impl<T: HostTree, K: Keeper, C: Clock, W: Words> Portal<T, K, C, W> {
             Request::Leave => Ok(self.leave(alloc, seat)?),
             Request::Collect => Ok(self.collect(alloc, seat)?),
             Request::Node(node) => Ok(self.node(alloc, seat, node)?),
-            Request::Add(_unasked) => unreachable!(),
+            Request::Add(add) => Ok(self.add(alloc, seat, add)?),
             Request::Present { path } => {
                 Ok(self.document(alloc, seat, Request::Present { path })?)
             }
@@ -298,7 +301,8 @@ impl<T: HostTree, K: Keeper, C: Clock, W: Words> Portal<T, K, C, W> {
         requires { cost_with self.old.story (Request.Enter who kind) ≤ limit_of self.old.story }
         ensures began { self.new.story.began ≡ self.old.story.began }
         ensures opening { self.new.story.opening ≡ self.old.story.opening }
-        ensures ok { IfOk result (Answers T.is K.is W.told self.old self.new seat (Request.Enter who kind)) }
+        ensures ok { IfOk result
+            (Answers T.is K.is W.told self.old self.new seat (Request.Enter who kind)) }
         ensures fault { IfOk result (TellsFault (T.is self.old.tree) (T.is self.new.tree)) }
         ensures failure { IfOk result (TellsFailure (T.is self.old.tree) (T.is self.new.tree)
             (K.is self.old.keeper) (K.is self.new.keeper)) }
@@ -335,7 +339,8 @@ impl<T: HostTree, K: Keeper, C: Clock, W: Words> Portal<T, K, C, W> {
         requires built { BuiltOp request.node request.op }
         ensures began { self.new.story.began ≡ self.old.story.began }
         ensures opening { self.new.story.opening ≡ self.old.story.opening }
-        ensures ok { IfOk result (Answers T.is K.is W.told self.old self.new seat (Request.Node request)) }
+        ensures ok { IfOk result
+            (Answers T.is K.is W.told self.old self.new seat (Request.Node request)) }
         ensures fault { IfOk result (TellsFault (T.is self.old.tree) (T.is self.new.tree)) }
         ensures failure { IfOk result (TellsFailure (T.is self.old.tree) (T.is self.new.tree)
             (K.is self.old.keeper) (K.is self.new.keeper)) }
@@ -373,7 +378,7 @@ impl<T: HostTree, K: Keeper, C: Clock, W: Words> Portal<T, K, C, W> {
         ensures fault { IfOk result (TellsFault (T.is self.old.tree) (T.is self.new.tree)) }
         ensures failure { IfOk result (TellsFailure (T.is self.old.tree) (T.is self.new.tree)
             (K.is self.old.keeper) (K.is self.new.keeper)) }
-        ensures err { OnErr result (Spends K.is self.old self.new) }
+        ensures err { OnErr result (Spends T.is K.is W.told self.old request self.new) }
         ensures unasked { may_change_records request ≡ false
             → OnErr result (self.new ≡ self.old) }
     {
@@ -400,6 +405,47 @@ impl<T: HostTree, K: Keeper, C: Clock, W: Words> Portal<T, K, C, W> {
             }
             Err(error) => {
                 drop(request);
+                Err(error)
+            }
+        }
+    }
+
+    fn add(&mut self, alloc: Global, seat: u32, add: AddRequest) -> Result<Reply, WantOfMemory>
+        requires { cost_with self.old.story (Request.Add add) ≤ limit_of self.old.story }
+        ensures began { self.new.story.began ≡ self.old.story.began }
+        ensures opening { self.new.story.opening ≡ self.old.story.opening }
+        ensures ok { IfOk result
+            (Answers T.is K.is W.told self.old self.new seat (Request.Add add)) }
+        ensures fault { IfOk result (TellsFault (T.is self.old.tree) (T.is self.new.tree)) }
+        ensures failure { IfOk result (TellsFailure (T.is self.old.tree) (T.is self.new.tree)
+            (K.is self.old.keeper) (K.is self.new.keeper)) }
+        ensures err { OnErr result
+            (Spends T.is K.is W.told self.old (Request.Add add) self.new) }
+    {
+        self.history.reserve(self.connections.as_slice().len() + 1)?;
+        let served = serve_add(
+            alloc,
+            &mut self.documents,
+            &mut self.rights,
+            &mut self.applications,
+            &mut self.connections,
+            &mut self.tree,
+            &mut self.keeper,
+            &mut self.words,
+            seat,
+            &add,
+        );
+        match served {
+            Ok(ServedCall { given, answer }) => {
+                self.history.push(Entry {
+                    seat,
+                    request: Request::Add(add),
+                    given,
+                });
+                Ok(silent_reply(alloc, answer))
+            }
+            Err(error) => {
+                drop(add);
                 Err(error)
             }
         }

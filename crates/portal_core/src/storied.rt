@@ -21,6 +21,7 @@ pub trait Storied {
     ghost use Rattle.std.specs.Prelude.{List};
     ghost use Rattle.portal_model.specs.State.{State};
     ghost use Rattle.portal_model.specs.declared.entry.Entry.{Entry};
+    ghost use Rattle.portal_model.specs.declared.request.Request.{Request};
 
     /// The state that the history began in.
     ghost opening: { Self → State };
@@ -32,8 +33,9 @@ pub trait Storied {
     /// after.
     ghost says: { Self → Entry → Self → Type 0 };
 
-    /// What a refusal may do.
-    ghost spends: { Self → Self → Type 0 };
+    /// What a refusal may do, of the value before, the request that is
+    /// refused and the value after.
+    ghost spends: { Self → Request → Self → Type 0 };
 
     /// Answers a request of a seat, which is a number from 1. The request is
     /// one that has a body.
@@ -42,8 +44,8 @@ pub trait Storied {
     /// after the history, which grows by this request; over a tree that
     /// doesn't tell its files it is alike to the step's. A refusal leaves the
     /// history as it was. `Full` comes exactly where the history with this
-    /// request would cost more than its limit, and whatever is answered, the
-    /// history costs no more than that. The Leave of an open connection is
+    /// request would cost more than its limit, and then nothing changes at all;
+    /// whatever is answered, the history costs no more than that. The Leave of an open connection is
     /// never refused.
     fn ask(&mut self, alloc: Global, seat: u32, request: Request) -> Result<Reply, Refused>
         requires seat { 1 ≤ seat }
@@ -54,12 +56,14 @@ pub trait Storied {
             (GrowsBy (λ e. says self.old e self.new) (opening self.old) (entries self.old)
             (entries self.new) seat request) }
         ensures refused { OnErr result (entries self.new ≡ entries self.old) }
-        ensures spent { OnErr result (spends self.old self.new) }
+        ensures spent { OnErr result (spends self.old request self.new) }
 
         // Both ways: it is full exactly where the cost would pass the limit.
         ensures full { (opening self.old).limits.history < cost_after (entries self.old) request
             → result ≡ Err (Refused.Full (cost (entries self.old))
             (opening self.old).limits.history) }
+        ensures nothing { (opening self.old).limits.history < cost_after (entries self.old) request
+            → self.new ≡ self.old }
         ensures cause { IfErr result (RefusedFor (opening self.old) (entries self.old) request) }
 
         ensures leave { request ≡ Request.Leave
@@ -94,8 +98,8 @@ impl<T: HostTree, K: Keeper, C: Clock, W: Words> Storied for Portal<T, K, C, W> 
     // Just the calls of the tree that the step reaches were made, and the one of the keeper.
     ghost says = { Went T.is K.is W.told };
 
-    // The keeper may have been asked, and have wanted memory.
-    ghost spends = { Spends K.is };
+    // The tree, the keeper and the words may have been asked, and then memory was wanted.
+    ghost spends = { Spends T.is K.is W.told };
 
     fn ask(&mut self, alloc: Global, seat: u32, request: Request) -> Result<Reply, Refused> {
         Portal::ask(self, alloc, seat, request)

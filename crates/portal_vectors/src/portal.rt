@@ -1,31 +1,34 @@
 //! Requests of the portal, one after another.
 
-use crate::error::VectorError;
-use crate::opened::{LONGEST, ScriptPortal, opened_by};
+ghost use Rattle.std.specs.Prelude.{◌<◌, ◌^◌, IfOk};
+
 use crate::requests::{request_of, shown};
 use portal_base::limits::Limits;
 use portal_base::list::List;
 use portal_core::local_desk::LocalDesk;
 use portal_history::History;
+use portal_lines::{DOCUMENTS, LONGEST, ScriptPortal, limits, opened_by};
 use portal_model::desk::Desk;
 use portal_model::entry::{Entry, Fault, Given};
 use portal_model::request::Request;
 use std::alloc::Global;
-use vector_lines::error::LineError;
+use vector_lines::error::{LineError, VectorError, bad};
 use vector_lines::notation::{self, cut, number, small_number};
 
 /// `portal LIMIT SCRIPT | REQUEST | REQUEST ..`: what each request is answered by
-/// a portal that the script opens and whose history may cost LIMIT; and then how
+/// a portal that the script opens and whose history may cost LIMIT, or, for
+/// `LIMIT,DOCUMENTS`, which may besides have so many live documents; and then how
 /// many entries the history has, and their cost. A request is `SEAT enter WHO
 /// KIND`, `SEAT leave`, `SEAT collect`, `SEAT getattr NODE FLAGS FH`, the last
 /// by user and group 1000, of a document's file in the own view or by a handle;
-/// `SEAT present PATH`, `SEAT grant DOCUMENT APPLICATION RIGHT,RIGHT ..`,
-/// `SEAT revoke ..`, `SEAT delete DOCUMENT`, `SEAT lookup PATH`, `SEAT info
-/// DOCUMENT` or `SEAT list APPLICATION`. `desk SEAT REQUEST, REQUEST ..` asks
-/// them of one desk of the seat.
+/// `SEAT present PATH`, `SEAT add ARGUMENT ..` and `SEAT addfull ARGUMENT ..`,
+/// whose arguments `record_lines` reads, with `fds=N` for more files than one;
+/// `SEAT grant DOCUMENT APPLICATION RIGHT,RIGHT ..`, `SEAT revoke ..`,
+/// `SEAT delete DOCUMENT`, `SEAT lookup PATH`, `SEAT info DOCUMENT` or `SEAT list
+/// APPLICATION`. `desk SEAT REQUEST, REQUEST ..` asks them of one desk of the seat.
 pub fn portal(alloc: Global, rest: &str) -> Result<String, VectorError> {
-    let (limit, rest) = cut(rest);
-    let mut portal = opened_in(alloc, rest, number(limit)?)?;
+    let (words, rest) = cut(rest);
+    let mut portal = opened_in(alloc, rest, limits_of(words)?)?;
     answered(alloc, &mut portal, rest)
 }
 
@@ -36,13 +39,27 @@ fn answered(alloc: Global, portal: &mut ScriptPortal, rest: &str) -> Result<Stri
     Ok(format!(in alloc; "{replies}{history}")?)
 }
 
+/// The cost that a history may have, and how many documents may be live.
+fn limits_of(words: &str) -> Result<Limits, LineError>
+    ensures made { IfOk result (λ limits. limits.made < 2 ^ 32) }
+    ensures queued { IfOk result (λ limits. limits.queued < 2 ^ 32) }
+{
+    match words.split_once(',') {
+        Some((history, documents)) => Ok(limits(number(documents)?, number(history)?)),
+        None => Ok(limits(DOCUMENTS, number(words)?)),
+    }
+}
+
 /// A portal that the script ahead of the requests opens.
-fn opened_in(alloc: Global, rest: &str, limit: u64) -> Result<ScriptPortal, VectorError> {
+fn opened_in(alloc: Global, rest: &str, limits: Limits) -> Result<ScriptPortal, VectorError>
+    requires made { limits.made < 2 ^ 32 }
+    requires queued { limits.queued < 2 ^ 32 }
+{
     let script = notation::text(alloc, rest.split(" | ").next().unwrap_or(""))?;
     if script.len() > LONGEST {
-        return Err(VectorError::Line(LineError::BadLine));
+        return bad();
     }
-    opened_by(alloc, script.as_slice(), limit)
+    opened_by(alloc, script.as_slice(), limits)
 }
 
 /// How many entries the history has, and their cost.
@@ -75,7 +92,7 @@ fn asked(alloc: Global, portal: &mut ScriptPortal, part: &str) -> Result<String,
     let (seat, words) = cut(part);
     let seat = seat_of(seat)?;
     if seat == 0 {
-        return Err(VectorError::Line(LineError::BadLine));
+        return bad();
     }
     let request = request_of(alloc, words)?;
     shown(alloc, portal.ask(alloc, seat, request))
@@ -90,7 +107,7 @@ fn asked_at_desk(
     let (seat, requests) = cut(part);
     let seat = seat_of(seat)?;
     if seat == 0 {
-        return Err(VectorError::Line(LineError::BadLine));
+        return bad();
     }
     let mut desk = LocalDesk::new(portal, seat);
     let mut out = String::new(alloc);

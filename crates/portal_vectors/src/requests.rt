@@ -3,17 +3,17 @@
 ghost use Rattle.std.specs.Prelude.{IfOk};
 ghost use Rattle.portal_model.specs.Built.{Built};
 
-use crate::error::VectorError;
-use crate::opened::{kind, who};
 use portal_base::list::List;
 use portal_base::names::DocId;
 use portal_base::text::Text;
+use portal_lines::{kind, who};
 use portal_model::place::file_number;
 use portal_model::records::Row;
 use portal_model::reply::{Answer, ListedDocument, Refused, Reply};
-use portal_model::request::{NodeOp, NodeRequest, Request, RightsCall, names_handle};
+use portal_model::request::{AddRequest, NodeOp, NodeRequest, Request, RightsCall, names_handle};
+use record_lines::{addition, number_or};
 use std::alloc::Global;
-use vector_lines::error::LineError;
+use vector_lines::error::{LineError, VectorError};
 use vector_lines::notation::{cut, debug, number, small_number, text};
 
 /// The request of a line's words.
@@ -63,6 +63,8 @@ fn document_request(alloc: Global, word: &str, rest: &str) -> Result<Request, Ve
         "present" => Ok(Request::Present {
             path: text(alloc, rest)?,
         }),
+        "add" => Ok(Request::Add(add(alloc, rest, false)?)),
+        "addfull" => Ok(Request::Add(add(alloc, rest, true)?)),
         "grant" => Ok(Request::Grant(rights_call(alloc, rest)?)),
         "revoke" => Ok(Request::Revoke(rights_call(alloc, rest)?)),
         "delete" => Ok(Request::DeleteDocument {
@@ -79,6 +81,13 @@ fn document_request(alloc: Global, word: &str, rest: &str) -> Result<Request, Ve
         }),
         _ => Err(VectorError::Line(LineError::BadLine)),
     }
+}
+
+/// `fds=N ARGUMENT ..`: an addition of so many presented files, or of the first.
+fn add(alloc: Global, words: &str, full: bool) -> Result<AddRequest, VectorError> {
+    let files = number_or(words, "fds=", 1)?;
+    let add = addition(alloc, words, files as usize)?;
+    Ok(AddRequest { full, ..add })
 }
 
 /// A document, an application and rights between commas.

@@ -1,18 +1,17 @@
 //! Starts of a portal.
 
-use crate::error::VectorError;
-use crate::opened::{PLENTY, ScriptPortal, limits};
 use host_tree::MemoryTree;
 use portal_base::list::List;
 use portal_base::names::DocId;
 use portal_base::outside::{Clock, ListWords, SetClock, Words};
 use portal_core::portal::Portal;
 use portal_core::start::StartRefusal;
+use portal_lines::{DOCUMENTS, PLENTY, ScriptPortal, limits};
 use portal_model::opening::OpeningState;
 use portal_model::records::{DocRecord, GrantRecord, Records};
 use record_keeper::{Keeper, KeeperLoad, MemoryKeeper};
 use std::alloc::Global;
-use vector_lines::error::LineError;
+use vector_lines::error::{LineError, VectorError};
 use vector_lines::notation::{cut, debug, numbers, small_number};
 
 /// The devices of a portal that lines start.
@@ -45,7 +44,7 @@ fn started(alloc: Global, keeper: MemoryKeeper) -> Result<String, VectorError> {
     let words = ListWords::new(List::copied(alloc, [7].as_slice())?);
     let tree = MemoryTree::new(alloc, List::new(alloc));
     let clock = SetClock::new(5);
-    match Portal::start(alloc, tree, keeper, clock, words, limits(PLENTY)) {
+    match Portal::start(alloc, tree, keeper, clock, words, limits(DOCUMENTS, PLENTY)) {
         Ok(portal) => opened(alloc, portal),
         Err(refusal) => handed_back(alloc, refusal),
     }

@@ -1,11 +1,10 @@
 //! Applications that get numbers.
 
-use crate::error::VectorError;
 use document_records::Applications;
 use portal_base::names::AppId;
 use portal_model::state::APPLICATIONS_LIMIT;
 use std::alloc::Global;
-use vector_lines::error::LineError;
+use vector_lines::error::{VectorError, bad, given};
 use vector_lines::notation::{cut, debug, small_number};
 
 /// `applications STEP, STEP ..`: what each step answers, over none at first.
@@ -33,7 +32,7 @@ fn answer(
         "of" => of(alloc, applications, rest),
         "name" => name(alloc, applications, rest),
         "back" => back(alloc, applications),
-        _ => Err(VectorError::Line(LineError::BadLine)),
+        _ => bad(),
     }
 }
 
@@ -43,9 +42,9 @@ fn numbered(
     applications: &mut Applications,
     rest: &str,
 ) -> Result<String, VectorError> {
-    let app = AppId::read(alloc, rest.as_bytes())?;
+    let app = given(alloc, AppId::read(alloc, rest.as_bytes()))?;
     if applications.len() >= APPLICATIONS_LIMIT {
-        return Err(VectorError::Line(LineError::BadLine));
+        return bad();
     }
     let number = applications.number(&app)?;
     Ok(format!(in alloc; "{number}")?)
@@ -53,7 +52,7 @@ fn numbered(
 
 /// `of APP`: the number of the application.
 fn of(alloc: Global, applications: &Applications, rest: &str) -> Result<String, VectorError> {
-    let app = AppId::read(alloc, rest.as_bytes())?;
+    let app = given(alloc, AppId::read(alloc, rest.as_bytes()))?;
     let number = applications.of(&app);
     Ok(debug(alloc, &number)?)
 }
@@ -69,7 +68,7 @@ fn name(alloc: Global, applications: &Applications, rest: &str) -> Result<String
 /// `back`: the last number is taken back.
 fn back(alloc: Global, applications: &mut Applications) -> Result<String, VectorError> {
     if applications.len() == 0 {
-        return Err(VectorError::Line(LineError::BadLine));
+        return bad();
     }
     applications.take_back();
     Ok(String::from_str(alloc, "back")?)

@@ -1,6 +1,5 @@
 //! Copies: a copy is its original by its contract; lines show that it is made.
 
-use crate::error::VectorError;
 use portal_base::boxed::Boxed;
 use portal_base::files::{File, FileName, Look};
 use portal_base::limits::{Limits, Settings};
@@ -15,7 +14,7 @@ use portal_model::request::{NodeOp, NodeRequest, Request};
 use portal_model::rights::Right;
 use portal_model::state::{Document, Triple};
 use std::alloc::Global;
-use vector_lines::error::LineError;
+use vector_lines::error::{VectorError, bad, given};
 
 /// `copy KIND`: `copied`, once a value of each type of the kind was.
 pub fn copy(alloc: Global, kind: &str) -> Result<String, VectorError> {
@@ -31,7 +30,7 @@ pub fn copy(alloc: Global, kind: &str) -> Result<String, VectorError> {
         "entries" => entries(alloc)?,
         "documents" => documents(alloc)?,
         "requests" => requests(alloc)?,
-        _ => return Err(VectorError::Line(LineError::BadLine)),
+        _ => return bad(),
     }
     Ok(String::from_str(alloc, "copied")?)
 }
@@ -64,24 +63,24 @@ fn owners(alloc: Global) -> Result<(), VectorError> {
     if again == one && again.into_inner() == 4 {
         Ok(())
     } else {
-        Err(VectorError::Line(LineError::BadLine))
+        bad()
     }
 }
 
 fn names(alloc: Global) -> Result<(), VectorError> {
-    copied(alloc, &AppId::read(alloc, b"org.a")?)?;
-    copied(alloc, &HostPath::read(alloc, b"/home/a.txt")?)?;
+    copied(alloc, &given(alloc, AppId::read(alloc, b"org.a"))?)?;
+    copied(alloc, &given(alloc, HostPath::read(alloc, b"/home/a.txt"))?)?;
     copied(alloc, &DocId { number: 10 })
 }
 
 fn callers(alloc: Global) -> Result<(), VectorError> {
     copied(alloc, &Kind::Bus)?;
     copied(alloc, &Who::Host)?;
-    copied(alloc, &Who::App(AppId::read(alloc, b"a")?))
+    copied(alloc, &Who::App(given(alloc, AppId::read(alloc, b"a"))?))
 }
 
 fn files(alloc: Global) -> Result<(), VectorError> {
-    let path = HostPath::read(alloc, b"/a")?;
+    let path = given(alloc, HostPath::read(alloc, b"/a"))?;
     copied(alloc, &Look::Folder)?;
     copied(
         alloc,
@@ -90,7 +89,7 @@ fn files(alloc: Global) -> Result<(), VectorError> {
             generation: 1,
         },
     )?;
-    let path = HostPath::read(alloc, b"/home/a.txt")?;
+    let path = given(alloc, HostPath::read(alloc, b"/home/a.txt"))?;
     let bytes = List::copied(alloc, b"hello")?;
     copied(
         alloc,
@@ -113,7 +112,7 @@ fn settings(alloc: Global) -> Result<(), VectorError> {
             queued: 5,
             file_bytes: 6,
         },
-        mountpoint: HostPath::read(alloc, b"/run/doc")?,
+        mountpoint: given(alloc, HostPath::read(alloc, b"/run/doc"))?,
         guid: [9; 16],
     };
     copied(alloc, &settings)
@@ -167,7 +166,7 @@ fn entries(alloc: Global) -> Result<(), VectorError> {
 
 fn documents(alloc: Global) -> Result<(), VectorError> {
     let id = DocId { number: 10 };
-    let path = HostPath::read(alloc, b"/home/a.txt")?;
+    let path = given(alloc, HostPath::read(alloc, b"/home/a.txt"))?;
     copied(
         alloc,
         &Document {
@@ -177,13 +176,13 @@ fn documents(alloc: Global) -> Result<(), VectorError> {
             reusable: false,
         },
     )?;
-    let app = AppId::read(alloc, b"org.ed")?;
+    let app = given(alloc, AppId::read(alloc, b"org.ed"))?;
     let right = Right::Write;
     copied(alloc, &Triple { app, id, right })
 }
 
 fn requests(alloc: Global) -> Result<(), VectorError> {
-    let who = Who::App(AppId::read(alloc, b"org.ed")?);
+    let who = Who::App(given(alloc, AppId::read(alloc, b"org.ed"))?);
     let kind = Kind::Mount;
     copied(alloc, &Request::Enter { who, kind })?;
     copied(alloc, &Request::Leave)?;

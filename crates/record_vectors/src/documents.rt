@@ -1,13 +1,12 @@
 //! Documents that are added, looked up, removed and taken back.
 
-use crate::error::VectorError;
 use crate::rights::{document_id, shown_found, shown_id};
 use document_records::{Document, Documents};
 use portal_base::limits::Limits;
 use portal_base::list::List;
 use portal_base::names::{DocId, HostPath};
 use std::alloc::Global;
-use vector_lines::error::LineError;
+use vector_lines::error::{VectorError, bad, given};
 use vector_lines::notation::{cut, debug, small_number};
 
 /// `documents LIVE MADE STEP, STEP ..`: what each step answers over records with
@@ -57,7 +56,7 @@ fn answer(
         "reusable" => reusable(alloc, documents, rest),
         "first" => first(alloc, documents, rest),
         "room" => room(alloc, documents),
-        _ => Err(VectorError::Line(LineError::BadLine)),
+        _ => bad(),
     }
 }
 
@@ -82,7 +81,7 @@ fn add_and_take_back(
     let (word, rest) = cut(rest);
     let id = documents.unused_from(document_id(word)?.number);
     let document = document_of(alloc, id, rest)?;
-    documents.add(document)?;
+    given(alloc, documents.add(document))?;
     documents.take_back(id);
     shown_id(alloc, id)
 }
@@ -91,7 +90,7 @@ fn document_of(alloc: Global, id: DocId, rest: &str) -> Result<Document, VectorE
     ensures { IfOk result (λ document. document.id ≡ id) }
 {
     let (flags, path) = cut(rest);
-    let path = HostPath::read(alloc, path.as_bytes())?;
+    let path = given(alloc, HostPath::read(alloc, path.as_bytes()))?;
     Ok(Document {
         id,
         path,
@@ -125,13 +124,13 @@ fn path_of(alloc: Global, document: &Document) -> Result<String, VectorError> {
 /// `reusable FLAGS PATH`: the document that may stand for a new one.
 fn reusable(alloc: Global, documents: &Documents, rest: &str) -> Result<String, VectorError> {
     let (flags, path) = cut(rest);
-    let path = HostPath::read(alloc, path.as_bytes())?;
+    let path = given(alloc, HostPath::read(alloc, path.as_bytes()))?;
     shown_found(alloc, documents.reusable(&path, flags.contains('p')))
 }
 
 /// `first PATH`: the first document of the path.
 fn first(alloc: Global, documents: &Documents, rest: &str) -> Result<String, VectorError> {
-    let path = HostPath::read(alloc, rest.as_bytes())?;
+    let path = given(alloc, HostPath::read(alloc, rest.as_bytes()))?;
     shown_found(alloc, documents.first_of(&path))
 }
 

@@ -1,11 +1,10 @@
 //! Rights that are added, taken away and forgotten.
 
-use crate::error::VectorError;
 use crate::rights::{document_id, rights, shown_rights};
 use document_records::Grants;
 use portal_base::names::AppId;
 use std::alloc::Global;
-use vector_lines::error::LineError;
+use vector_lines::error::{VectorError, bad, given};
 use vector_lines::notation::cut;
 
 /// `grants STEP, STEP ..`: what each step that looks answers, over no rights at
@@ -33,7 +32,7 @@ fn answer(
         grants.forget(document_id(first)?);
         return Ok(String::new(alloc));
     }
-    let app = AppId::read(alloc, first.as_bytes())?;
+    let app = given(alloc, AppId::read(alloc, first.as_bytes()))?;
     let (id, names) = cut(rest);
     let id = document_id(id)?;
     match word {
@@ -43,7 +42,7 @@ fn answer(
             let held = shown_rights(alloc, grants.rights(&app, id))?;
             return Ok(format!(in alloc; "[{held} ]")?);
         }
-        _ => return Err(VectorError::Line(LineError::BadLine)),
+        _ => return bad(),
     }
     Ok(String::new(alloc))
 }

@@ -1,10 +1,9 @@
 //! Lists of numbers, and texts.
 
-use crate::error::VectorError;
 use portal_base::list::List;
 use portal_base::text::Text;
 use std::alloc::Global;
-use vector_lines::error::LineError;
+use vector_lines::error::{LineError, VectorError, bad};
 use vector_lines::notation::{cut, debug, number, numbers};
 
 /// `list STEP, STEP ..`: the list that the steps make of an empty one, and what
@@ -83,7 +82,7 @@ fn changed(
             let last = list.pop();
             return Ok(debug(alloc, &last)?);
         }
-        _ => return Err(VectorError::Line(LineError::BadLine)),
+        _ => return bad(),
     }
     Ok(String::new(alloc))
 }
@@ -92,7 +91,7 @@ fn set(list: &mut List<u64>, rest: &str) -> Result<(), VectorError> {
     let (at, item) = cut(rest);
     let at = place(at)?;
     if at >= list.len() {
-        return Err(VectorError::Line(LineError::BadLine));
+        return bad();
     }
     list.set(at, number(item)?);
     Ok(())
@@ -103,7 +102,7 @@ fn overwrite(alloc: Global, list: &mut List<u64>, rest: &str) -> Result<(), Vect
     let at = place(at)?;
     let items = numbers(alloc, items)?;
     if items.len() > list.len() || at > list.len() - items.len() {
-        return Err(VectorError::Line(LineError::BadLine));
+        return bad();
     }
     list.overwrite(at, items.as_slice());
     Ok(())
@@ -112,7 +111,7 @@ fn overwrite(alloc: Global, list: &mut List<u64>, rest: &str) -> Result<(), Vect
 fn remove(alloc: Global, list: &mut List<u64>, rest: &str) -> Result<String, VectorError> {
     let at = place(rest)?;
     if at >= list.len() {
-        return Err(VectorError::Line(LineError::BadLine));
+        return bad();
     }
     let item = list.remove(at);
     Ok(format!(in alloc; "{item}")?)

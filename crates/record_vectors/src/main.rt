@@ -9,47 +9,25 @@
 mod applications;
 mod copies;
 mod documents;
-mod error;
 mod grants;
 mod lists;
 mod names;
 mod rights;
 
-use crate::error::VectorError;
 use rights_rule::Rights;
 use std::alloc::Global;
 use std::io;
-use std::io::{BufRead, BufReader};
-use vector_lines::error::LineError;
-use vector_lines::notation::{cut, is_comment, repeated};
+use vector_lines::error::{VectorError, bad};
+use vector_lines::notation::cut;
+use vector_lines::program::run;
 
 fn main(rt: HostRuntime) -> io::Result<()> {
-    let input = BufReader::new(rt.alloc(), rt.reader())?;
-    for line in input.lines(rt.alloc()) {
-        let line = line?;
-        let text = line.as_str();
-        if is_comment(text) {
-            println!(rt; "{text}")?;
-        } else {
-            let answer = told(rt.alloc(), text)?;
-            println!(rt; "{answer}")?;
-        }
-    }
-    Ok(())
-}
-
-/// What is printed for a line: its answer, or the error that it comes to.
-fn told(alloc: Global, line: &str) -> io::Result<String> {
-    match answer(alloc, line) {
-        Ok(text) => Ok(text),
-        Err(error) => Ok(error.told(alloc)?),
-    }
+    run(&rt, answer)
 }
 
 /// The answer of a line.
 fn answer(alloc: Global, line: &str) -> Result<String, VectorError> {
-    let line = repeated(alloc, line)?;
-    let (kind, rest) = cut(line.as_str());
+    let (kind, rest) = cut(line);
     match kind {
         "application" => names::application(alloc, rest),
         "path" => names::path(alloc, rest),
@@ -67,6 +45,6 @@ fn answer(alloc: Global, line: &str) -> Result<String, VectorError> {
         "documents" => documents::documents(alloc, rest),
         "grants" => grants::grants(alloc, rest),
         "applications" => applications::applications(alloc, rest),
-        _ => Err(VectorError::Line(LineError::BadLine)),
+        _ => bad(),
     }
 }

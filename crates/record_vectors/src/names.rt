@@ -1,8 +1,8 @@
 //! The names of applications, of documents and of files on the host.
 
-use crate::error::VectorError;
 use portal_base::names::{AppId, DocId, HostPath};
 use std::alloc::Global;
+use vector_lines::error::{VectorError, given};
 use vector_lines::notation::{self, cut};
 
 /// Bytes that stand for a text.
@@ -13,14 +13,14 @@ fn shown(alloc: Global, bytes: &[u8]) -> Result<String, VectorError> {
 /// `application TEXT`: the name of an application, or where it breaks.
 pub fn application(alloc: Global, rest: &str) -> Result<String, VectorError> {
     let text = notation::text(alloc, rest)?;
-    let app = AppId::read(alloc, text.as_slice())?;
+    let app = given(alloc, AppId::read(alloc, text.as_slice()))?;
     shown(alloc, app.as_bytes())
 }
 
 /// `path TEXT`: the path of a file, or where it breaks.
 pub fn path(alloc: Global, rest: &str) -> Result<String, VectorError> {
     let text = notation::text(alloc, rest)?;
-    let path = HostPath::read(alloc, text.as_slice())?;
+    let path = given(alloc, HostPath::read(alloc, text.as_slice()))?;
     shown(alloc, path.as_bytes())
 }
 
@@ -40,21 +40,21 @@ pub fn document(alloc: Global, rest: &str) -> Result<String, VectorError> {
 /// `child PATH NAME`: the path with the name behind it, or where that breaks.
 pub fn child(alloc: Global, rest: &str) -> Result<String, VectorError> {
     let (path, name) = cut(rest);
-    let path = HostPath::read(alloc, path.as_bytes())?;
-    let child = path.child(alloc, name.as_bytes())?;
+    let path = given(alloc, HostPath::read(alloc, path.as_bytes()))?;
+    let child = given(alloc, path.child(alloc, name.as_bytes()))?;
     shown(alloc, child.as_bytes())
 }
 
 /// `parent PATH`: the path without its last part.
 pub fn parent(alloc: Global, rest: &str) -> Result<String, VectorError> {
-    let path = HostPath::read(alloc, rest.as_bytes())?;
+    let path = given(alloc, HostPath::read(alloc, rest.as_bytes()))?;
     let parent = path.parent(alloc)?;
     shown(alloc, parent.as_bytes())
 }
 
 /// `last PATH`: the last part of the path, between quotes.
 pub fn last(alloc: Global, rest: &str) -> Result<String, VectorError> {
-    let path = HostPath::read(alloc, rest.as_bytes())?;
+    let path = given(alloc, HostPath::read(alloc, rest.as_bytes()))?;
     let name = shown(alloc, path.name())?;
     Ok(format!(in alloc; "\"{name}\"")?)
 }
@@ -63,8 +63,8 @@ pub fn last(alloc: Global, rest: &str) -> Result<String, VectorError> {
 /// below it.
 pub fn own(alloc: Global, rest: &str) -> Result<String, VectorError> {
     let (app, path) = cut(rest);
-    let app = AppId::read(alloc, app.as_bytes())?;
-    let path = HostPath::read(alloc, path.as_bytes())?;
+    let app = given(alloc, AppId::read(alloc, app.as_bytes()))?;
+    let path = given(alloc, HostPath::read(alloc, path.as_bytes()))?;
     let own = path.in_folder_of(&app);
     Ok(format!(in alloc; "{own}")?)
 }

@@ -1,12 +1,11 @@
 //! Sets of rights; and how lines write identifiers and names of rights.
 
-use crate::error::VectorError;
 use portal_base::list::List;
 use portal_base::names::DocId;
 use portal_base::text::Text;
 use rights_rule::{Rights, read_names};
 use std::alloc::Global;
-use vector_lines::error::LineError;
+use vector_lines::error::{LineError, VectorError, given};
 
 /// `rights NAME ..`: the names of the rights that are named, in their order.
 pub fn rights_named(alloc: Global, rest: &str) -> Result<String, VectorError> {
@@ -30,7 +29,7 @@ pub fn rights(alloc: Global, words: &str) -> Result<Rights, VectorError> {
     for word in words.split_whitespace() {
         names.push(Text::copied(alloc, word)?)?;
     }
-    Ok(read_names(&names)?)
+    given(alloc, read_names(&names))
 }
 
 /// The names of rights, each behind a space.

@@ -2,7 +2,6 @@
 
 ghost use Rattle.script_form.specs.Opening.{HoldsScripts};
 
-use crate::error::VectorError;
 use portal_base::limits::Limits;
 use portal_base::names::AppId;
 use portal_base::who::{Kind, Who};
@@ -14,7 +13,7 @@ use script_form::reader::read_script;
 use script_form::script::{Device, Script, ScriptLine};
 use script_form::writer::write_script;
 use std::alloc::Global;
-use vector_lines::error::LineError;
+use vector_lines::error::{VectorError, bad, given};
 use vector_lines::notation::{self, debug, digits};
 
 /// The most bytes that a script may have.
@@ -38,9 +37,9 @@ fn limits() -> Limits
 fn read(alloc: Global, rest: &str) -> Result<Script, VectorError> {
     let text = notation::text(alloc, rest)?;
     if text.len() > LONGEST {
-        return Err(VectorError::Line(LineError::BadLine));
+        return bad();
     }
-    Ok(read_script(alloc, text.as_slice())?)
+    given(alloc, read_script(alloc, text.as_slice()))
 }
 
 /// `script TEXT`: how many lines the script has, or the number of the first
@@ -67,9 +66,9 @@ pub fn line(alloc: Global, rest: &str) -> Result<String, VectorError> {
 pub fn written(alloc: Global, rest: &str) -> Result<String, VectorError> {
     let text = notation::text(alloc, rest)?;
     if text.len() > LONGEST {
-        return Err(VectorError::Line(LineError::BadLine));
+        return bad();
     }
-    let script = read_script(alloc, text.as_slice())?;
+    let script = given(alloc, read_script(alloc, text.as_slice()))?;
     let text = write_script(alloc, &script)?;
     let text = String::from_utf8_lossy(alloc, text.as_slice())?;
     Ok(debug(alloc, &text)?)
@@ -182,9 +181,9 @@ fn shown_grants(alloc: Global, grants: &[GrantRecord]) -> Result<String, VectorE
 pub fn opening(alloc: Global, rest: &str) -> Result<String, VectorError> {
     let text = notation::text(alloc, rest)?;
     if text.len() > LONGEST {
-        return Err(VectorError::Line(LineError::BadLine));
+        return bad();
     }
-    let script = read_script(alloc, text.as_slice())?;
+    let script = given(alloc, read_script(alloc, text.as_slice()))?;
     let opening = opening_of(alloc, &script, limits())?;
     let mut out = String::new(alloc);
     put_applications(alloc, &mut out, opening.applications.as_slice())?;

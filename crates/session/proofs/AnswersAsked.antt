@@ -1,18 +1,24 @@
 -- The laws of answers.
 use Rattle.std.proofs.Common.{◌≡◌, inl, inr, ℕ, List, [], ◌∷◌, ◌++◌, map, take, drop, Result, Ok, Err, refl, sym, ap, ◌∙◌, subst, arith}
+use Rattle.std.specs.Prelude.{option_to_list}
 use Rattle.std.specs.List.{flat_map}
 use Rattle.std.proofs.lemmas.List.{append-nil, append_assoc, take-append-drop}
 use Rattle.portal_base.specs.declared.split.Split.TheVariants as split
 use Rattle.portal_model.specs.declared.reply.Refused.{Refused}
 use Rattle.portal_model.specs.declared.reply.Reply.{Reply}
 use Rattle.portal_model.specs.declared.request.Request.{Request}
+use Rattle.dbus_types.specs.declared.message.Message.{Message}
+use Rattle.dbus_types.specs.declared.message.OutMessage.{OutMessage}
+use Rattle.dbus_dispatch.specs.Errors.{error_to, refusal_of}
+use Rattle.dbus_dispatch.specs.Replies.{reply_of}
 use Rattle.session.specs.declared.act.Act.{Act}
-use Rattle.session.specs.declared.act.Act.TheVariants.{Nothing, Line, Call, Node, Local}
+use Rattle.session.specs.declared.act.Act.TheVariants.{Nothing, Line, Call, Portal, Node, Local}
+use Rattle.session.specs.declared.act.Client.{Client}
 use Rattle.session.specs.declared.phase.Phase.{Phase}
 use Rattle.session.specs.declared.phase.Phase.TheVariants as due
 use Rattle.session.specs.declared.served.Stop.TheVariants as stop
-use Rattle.session.specs.Answers.{Answers, AreOf, Denied, Made, Outcome, frames_for, pieces_of, told_as}
-use Rattle.session.specs.Asked.{asked_by, requests_of}
+use Rattle.session.specs.Answers.{Answers, AreOf, Denied, Made, Outcome, frames_for, last_spoken, messages_of, pieces_of, reply_for, spoken, told_as}
+use Rattle.session.specs.Asked.{asked_by, reply_to, requests_of}
 use Rattle.session.specs.Cuts.{Cuts, no_item}
 use Rattle.session.specs.Frames.{answer_frames, refusal_frames}
 use Rattle.session.specs.Items.{joined}
@@ -24,20 +30,20 @@ pub of-append : (rs ss : List Request) (os us : List Outcome) → AreOf rs os �
 of-append [] ss os us a b = subst (λ (z : List Outcome). AreOf ss (z ++ us)) (sym a) b
 of-append (r ∷ rs) ss os us (o, more, e, is, are) b = (o, more ++ us, ap (λ (z : List Outcome). z ++ us) e, is, of-append rs ss more us are b)
 
-pub asked_go : (acts : List Act) (serial last : ℕ) (os : List Outcome) (ps : List (List ℕ)) → Answers serial acts os ps last → AreOf (requests_of acts) os
-asked_go [] serial last os ps a = a.0
-asked_go (x ∷ xs) serial last os ps (o1, o2, p1, p2, mid, oe, pe, gives, more) =
-    subst (λ (z : List Outcome). AreOf (asked_by x ++ requests_of xs) z) (sym oe) (of-append (asked_by x) (requests_of xs) o1 o2 gives.asked (asked_go xs mid last o2 p2 more))
+pub asked_go : (acts : List Act) (c : Client) (serial last : ℕ) (os : List Outcome) (ps : List (List ℕ)) → Answers c serial acts os ps last → AreOf (requests_of acts) os
+asked_go [] c serial last os ps a = a.0
+asked_go (x ∷ xs) c serial last os ps (o1, o2, p1, p2, mid, oe, pe, gives, more) =
+    subst (λ (z : List Outcome). AreOf (asked_by x ++ requests_of xs) z) (sym oe) (of-append (asked_by x) (requests_of xs) o1 o2 gives.asked (asked_go xs c mid last o2 p2 more))
 
 pub answer_asked : AnswerAsked
 answer_asked = record {
-  items = λ serial last acts os ps a. asked_go acts serial last os ps a;
+  items = λ c serial last acts os ps a. asked_go acts c serial last os ps a;
   connection = λ c entered leaving last acts os ps e a. (
     Made entered,
     os ++ Made leaving ∷ [],
     refl,
     e.0,
-    of-append (requests_of acts) (Request.Leave ∷ []) os (Made leaving ∷ []) (asked_go acts 0 last os ps a) (Made leaving, [], refl, e.1, refl),
+    of-append (requests_of acts) (Request.Leave ∷ []) os (Made leaving ∷ []) (asked_go acts c 0 last os ps a) (Made leaving, [], refl, e.1, refl),
   );
 }
 
@@ -85,21 +91,39 @@ told_frames unique [] = refl
 told_frames unique (Made x ∷ os) = ap (λ (z : List (List ℕ)). answer_frames unique x.reply.answer ++ z) (told_frames unique os)
 told_frames unique (Denied request why ∷ os) = ap (λ (z : List (List ℕ)). refusal_frames unique why ++ z) (told_frames unique os)
 
-pieces_alike : (act : Act) (s : ℕ) (os us : List Outcome) → map told_as os ≡ map told_as us → pieces_of act s os ≡ pieces_of act s us
-pieces_alike Nothing s os us e = refl
-pieces_alike (Line reply) s os us e = refl
-pieces_alike (Call reply collects) s os us e = refl
-pieces_alike (Local unique told) s os us e = refl
-pieces_alike (Node unique request) s os us e = told_frames unique os ∙ (ap (flat_map (frames_told unique)) e ∙ sym (told_frames unique us))
+abbrev replies_told : Client → Message → Result Reply Refused → List OutMessage
+replies_told c call (Ok reply) = option_to_list (reply_to call (reply_of c.settings.mountpoint call reply.answer))
+replies_told c call (Err why) = option_to_list (reply_to call (error_to call (refusal_of why)))
 
-alike : (acts : List Act) (s m n : ℕ) (os us : List Outcome) (ps qs : List (List ℕ)) → map told_as os ≡ map told_as us → Answers s acts os ps m → Answers s acts us qs n → (ps ≡ qs) × (m ≡ n)
-alike [] s m n os us ps qs e a b = (a.1 ∙ sym b.1, a.2 ∙ sym b.2)
-alike (x ∷ xs) s m n os us ps qs e (o1, o2, p1, p2, i, oe, pe, ga, ra) (u1, u2, q1, q2, j, ue, qe, gb, rb) =
+told_replies : (c : Client) (call : Message) (os : List Outcome) → flat_map (reply_for c call) os ≡ flat_map (replies_told c call) (map told_as os)
+told_replies c call [] = refl
+told_replies c call (Made x ∷ os) = ap (λ (z : List OutMessage). reply_for c call (Made x) ++ z) (told_replies c call os)
+told_replies c call (Denied request why ∷ os) = ap (λ (z : List OutMessage). reply_for c call (Denied request why) ++ z) (told_replies c call os)
+
+messages_alike : (c : Client) (act : Act) (os us : List Outcome) → map told_as os ≡ map told_as us → messages_of c act os ≡ messages_of c act us
+messages_alike c Nothing os us e = refl
+messages_alike c (Line reply) os us e = refl
+messages_alike c (Call reply collects) os us e = refl
+messages_alike c (Portal call request) os us e = told_replies c call os ∙ (ap (flat_map (replies_told c call)) e ∙ sym (told_replies c call us))
+messages_alike c (Local unique told) os us e = refl
+messages_alike c (Node unique request) os us e = refl
+
+pieces_alike : (c : Client) (act : Act) (s : ℕ) (os us : List Outcome) → map told_as os ≡ map told_as us → pieces_of c act s os ≡ pieces_of c act s us
+pieces_alike c Nothing s os us e = refl
+pieces_alike c (Line reply) s os us e = refl
+pieces_alike c (Call reply collects) s os us e = refl
+pieces_alike c (Portal call request) s os us e = ap (spoken s) (messages_alike c (Portal call request) os us e)
+pieces_alike c (Local unique told) s os us e = refl
+pieces_alike c (Node unique request) s os us e = told_frames unique os ∙ (ap (flat_map (frames_told unique)) e ∙ sym (told_frames unique us))
+
+alike : (acts : List Act) (c : Client) (s m n : ℕ) (os us : List Outcome) (ps qs : List (List ℕ)) → map told_as os ≡ map told_as us → Answers c s acts os ps m → Answers c s acts us qs n → (ps ≡ qs) × (m ≡ n)
+alike [] c s m n os us ps qs e a b = (a.1 ∙ sym b.1, a.2 ∙ sym b.2)
+alike (x ∷ xs) c s m n os us ps qs e (o1, o2, p1, p2, i, oe, pe, ga, ra) (u1, u2, q1, q2, j, ue, qe, gb, rb) =
     let k = of_same (asked_by x) o1 o2 u1 u2 ga.asked gb.asked (ap (map told_as) (sym oe) ∙ (e ∙ ap (map told_as) ue)) in
-    let first : p1 ≡ q1 = ga.said ∙ (pieces_alike x s o1 u1 k.0 ∙ sym gb.said) in
-    let mid : i ≡ j = ga.serial_is ∙ sym gb.serial_is in
-    let r = alike xs i m n o2 u2 p2 q2 k.1 ra (subst (λ (z : ℕ). Answers z xs u2 q2 n) (sym mid) rb) in
+    let first : p1 ≡ q1 = ga.said ∙ (pieces_alike c x s o1 u1 k.0 ∙ sym gb.said) in
+    let mid : i ≡ j = ga.serial_is ∙ (ap (last_spoken s) (messages_alike c x o1 u1 k.0) ∙ sym gb.serial_is) in
+    let r = alike xs c i m n o2 u2 p2 q2 k.1 ra (subst (λ (z : ℕ). Answers c z xs u2 q2 n) (sym mid) rb) in
     (pe ∙ (ap (λ (z : List (List ℕ)). z ++ p2) first ∙ (ap (λ (z : List (List ℕ)). q1 ++ z) r.0 ∙ sym qe)), r.1)
 
 pub say_alike : SayAlike
-say_alike serial m n acts os us ps qs e a b = alike acts serial m n os us ps qs e a b
+say_alike c serial m n acts os us ps qs e a b = alike acts c serial m n os us ps qs e a b

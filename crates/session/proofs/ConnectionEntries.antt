@@ -46,8 +46,8 @@ between_enclosed : (c : Client) (e l : Exchange) (os : List Outcome) → Enclose
 between_enclosed c e l os h fit = inr (e.entry, entries_of (kept os), l.entry, between_entries e l os, h.0, fit, h.1)
 
 -- the outcomes of items fit the connection
-answers_fit : (c : Client) (items : List (List ℕ)) (acts : List Act) (n : ℕ) (os : List Outcome) (ps : List (List ℕ)) → AreItems c (first_phase c.kind) items acts → Answers 0 acts os ps n → MakesFit c.kind os
-answers_fit c items acts n os ps each a = are_fit (requests_of acts) c.kind os (items_fit items c.kind c (first_phase c.kind) acts (first_speaks c.kind) each) (answer_asked.items 0 n acts os ps a)
+answers_fit : (c : Client) (items : List (List ℕ)) (acts : List Act) (n : ℕ) (os : List Outcome) (ps : List (List ℕ)) → AreItems c (first_phase c.kind) items acts → Answers c 0 acts os ps n → MakesFit c.kind os
+answers_fit c items acts n os ps each a = are_fit (requests_of acts) c.kind os (items_fit items c.kind c (first_phase c.kind) acts (first_speaks c.kind) each) (answer_asked.items c 0 n acts os ps a)
 
 -- from one desk to another there came outcomes whose entries are those of one connection
 abbrev pub Connects : Client → Seated → Seated → Type 0

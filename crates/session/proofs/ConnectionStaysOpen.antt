@@ -11,9 +11,12 @@ use Rattle.portal_model.specs.declared.state.Connection.{Connection}
 use Rattle.portal_model.specs.Seated.{Binding, Exchange, Known, Seated, binding_of, bound, bound_after, bound_by, is_open, state_seen}
 use Rattle.portal_model.specs.State.{State, connection_of}
 use Rattle.portal_model.proofs.SeatLaws.{exchanges-entries, run-bound}
+use Rattle.call_laws.specs.Answers.{IsOnDocuments}
+use Rattle.call_laws.proofs.Calls.{calls_on_documents}
 use Rattle.session.specs.declared.act.Act.{Act}
-use Rattle.session.specs.declared.act.Act.TheVariants.{Nothing, Line, Call, Node, Local}
+use Rattle.session.specs.declared.act.Act.TheVariants.{Nothing, Line, Call, Portal, Node, Local}
 use Rattle.session.specs.declared.act.Client.{Client}
+use Rattle.session.specs.declared.phase.Phase.{Phase}
 use Rattle.session.specs.declared.served.Fed.{Fed}
 use Rattle.session.specs.declared.served.Fed.TheVariants as fed
 use Rattle.session.specs.declared.serve.Stage.{Stage}
@@ -21,12 +24,16 @@ use Rattle.session.specs.declared.served.Stop.{Stop}
 use Rattle.session.specs.declared.served.Stop.TheVariants as stop
 use Rattle.session.specs.declared.served.Served.{Served}
 use Rattle.session.specs.declared.served.Served.TheVariants as served
-use Rattle.session.specs.Answers.{Answers, AreOf, Denied, Gives, IsOf, Made, Outcome, kept}
-use Rattle.session.specs.Asked.{asked_by, collect_requests}
+use Rattle.session.specs.Answers.{AreOf, Denied, IsOf, Made, Outcome, kept}
+use Rattle.session.specs.Asked.{asked_by, collect_requests, requests_of}
+use Rattle.session.specs.Cuts.{next_phase}
+use Rattle.session.specs.Items.{AreItems, IsItem}
 use Rattle.session.specs.Ledger.{Began, Broke, Did, Grew, World}
 use Rattle.session.specs.Sessions.{FeedsOpen, FeedsOver, IsBound, IsOpen, TakesUpTo}
 use Rattle.session.specs.Standings.{Standing}
+use Rattle.session.proofs.AnswersAsked.{asked_go}
 use Rattle.session.proofs.Grew.{alike-entries, grew_none, grew_on, kept-append}
+use Rattle.session.proofs.ReadActs.{AsksAsRead, read_asks}
 
 abbrev pub entries_of : List Exchange → List Entry
 entries_of xs = map (λ (x : Exchange). x.entry) xs
@@ -47,12 +54,40 @@ collects_plain : (b : Bool) → ArePlain (collect_requests b)
 collects_plain true = (tt, tt)
 collects_plain false = tt
 
-pub act_plain : (act : Act) → ArePlain (asked_by act)
-act_plain Nothing = tt
-act_plain (Line reply) = tt
-act_plain (Call reply collects) = collects_plain collects
-act_plain (Node unique request) = (tt, tt)
-act_plain (Local unique told) = tt
+-- what calls ask leaves it
+documents_plain : (r : Request) → IsOnDocuments r → IsPlain r
+documents_plain (Request.Enter who kind) h = absurd h
+documents_plain Request.Leave h = absurd h
+documents_plain Request.Collect h = tt
+documents_plain (Request.Node r) h = tt
+documents_plain (Request.Present path) h = tt
+documents_plain (Request.Add a) h = tt
+documents_plain (Request.Grant call) h = tt
+documents_plain (Request.Revoke call) h = tt
+documents_plain (Request.DeleteDocument doc) h = tt
+documents_plain (Request.LookupDocument path) h = tt
+documents_plain (Request.Info doc) h = tt
+documents_plain (Request.ListDocuments app) h = tt
+
+act_plain : (c : Client) (act : Act) → AsksAsRead c act → ArePlain (asked_by act)
+act_plain c Nothing h = tt
+act_plain c (Line reply) h = tt
+act_plain c (Call reply collects) h = collects_plain collects
+act_plain c (Portal call request) h = (documents_plain request (calls_on_documents c.settings call request h), tt)
+act_plain c (Node unique request) h = (tt, tt)
+act_plain c (Local unique told) h = tt
+
+pub item_plain : (c : Client) (p : Phase) (item : List ℕ) (act : Act) → IsItem c p item act → ArePlain (asked_by act)
+item_plain c p item act h = act_plain c act (read_asks c p item act h.1)
+
+plain-append : (rs qs : List Request) → ArePlain rs → ArePlain qs → ArePlain (rs ++ qs)
+plain-append [] qs a b = b
+plain-append (r ∷ rs) qs a b = (a.0, plain-append rs qs a.1 b)
+
+pub items_plain : (is : List (List ℕ)) (c : Client) (p : Phase) (acts : List Act) → AreItems c p is acts → ArePlain (requests_of acts)
+items_plain [] c p acts h = subst (λ (z : List Act). ArePlain (requests_of z)) (sym h) tt
+items_plain (i ∷ is) c p acts (act, later, e, item, more) =
+    subst (λ (z : List Act). ArePlain (requests_of z)) (sym e) (plain-append (asked_by act) (requests_of later) (item_plain c p i act item) (items_plain is c (next_phase c p i) later more))
 
 -- ---- outcomes that leave the connection
 
@@ -85,28 +120,25 @@ are_leave : (rs : List Request) (os : List Outcome) → ArePlain rs → AreOf rs
 are_leave [] os plain h = subst Leaves (sym h) leaves_none
 are_leave (r ∷ rs) os plain (x, us, e, is, more) = subst Leaves (sym e) (leaves_on (x ∷ []) us (leaves_one r x plain.0 is) (are_leave rs us plain.1 more))
 
-pub gives_leave : (act : Act) (s n : ℕ) (os : List Outcome) (ps : List (List ℕ)) → Gives act s os ps n → Leaves os
-gives_leave act s n os ps h = are_leave (asked_by act) os (act_plain act) h.asked
-
-pub answers_leave : (xs : List Act) (s n : ℕ) (os : List Outcome) (ps : List (List ℕ)) → Answers s xs os ps n → Leaves os
-answers_leave [] s n os ps h = subst Leaves (sym h.0) leaves_none
-answers_leave (x ∷ xs) s n os ps (o1, o2, p1, p2, mid, oe, pe, gives, more) = subst Leaves (sym oe) (leaves_on o1 o2 (gives_leave x s mid o1 p1 gives) (answers_leave xs mid n o2 p2 more))
-
 -- ---- the desk after the pieces
 
 -- from one desk to another there came outcomes that leave the connection
 abbrev pub Lets : Seated → Seated → Type 0
 Lets v w = (os : List Outcome) × Grew v os w × Leaves os
 
+did_leaves : (c : Client) (s t : Stage) (v w : World) (b : List ℕ) → (d : Did c s v b t w) → Leaves d.outcomes
+did_leaves c s t v w b d =
+    are_leave (requests_of d.acts) d.outcomes (items_plain d.items c s.phase d.acts d.each) (asked_go d.acts c s.serial t.serial d.outcomes d.pieces d.answers)
+
 did_lets : (c : Client) (s t : Stage) (v w : World) (b : List ℕ) → Did c s v b t w → Lets v.seated w.seated
-did_lets c s t v w b d = (d.outcomes, d.grows.desk, answers_leave d.acts s.serial t.serial d.outcomes d.pieces d.answers)
+did_lets c s t v w b d = (d.outcomes, d.grows.desk, did_leaves c s t v w b d)
 
 broke_lets : (c : Client) (s : Stage) (v w : World) (b : List ℕ) → Broke c s v b w → Lets v.seated w.seated
 broke_lets c s v w b k =
     let h = k.halted in (
       k.did.outcomes ++ h.outcomes,
       grew_on v.seated k.then.seated w.seated k.did.outcomes h.outcomes k.did.grows.desk h.grows.desk,
-      leaves_on k.did.outcomes h.outcomes (answers_leave k.did.acts s.serial k.mid.serial k.did.outcomes k.did.pieces k.did.answers) (gives_leave k.act k.mid.serial h.last h.outcomes h.pieces h.gives),
+      leaves_on k.did.outcomes h.outcomes (did_leaves c s k.mid v k.then k.front k.did) (are_leave (asked_by k.act) h.outcomes (item_plain c k.mid.phase k.item k.act k.is_item) h.gives.asked),
     )
 
 began_lets : (c : Client) (s : Stage) (v w : World) (b : List ℕ) → Began c s v b w → Lets v.seated w.seated

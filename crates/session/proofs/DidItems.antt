@@ -30,9 +30,9 @@ items-append [] js c p xs ys a b = subst (λ (z : List Act). AreItems c p js (z 
 items-append (i ∷ is) js c p xs ys (act, later, e, item, more) b =
     (act, later ++ ys, ap (λ (z : List Act). z ++ ys) e, item, items-append is js c (next_phase c p i) later ys more b)
 
-pub answers-append : (xs ys : List Act) (s m n : ℕ) (os us : List Outcome) (ps qs : List (List ℕ)) → Answers s xs os ps m → Answers m ys us qs n → Answers s (xs ++ ys) (os ++ us) (ps ++ qs) n
-answers-append [] ys s m n os us ps qs a b = rw (a.0, a.1) (subst (λ (z : ℕ). Answers z ys us qs n) a.2 b)
-answers-append (x ∷ xs) ys s m n os us ps qs (o1, o2, p1, p2, mid, oe, pe, gives, more) b = (
+pub answers-append : (xs ys : List Act) (c : Client) (s m n : ℕ) (os us : List Outcome) (ps qs : List (List ℕ)) → Answers c s xs os ps m → Answers c m ys us qs n → Answers c s (xs ++ ys) (os ++ us) (ps ++ qs) n
+answers-append [] ys c s m n os us ps qs a b = rw (a.0, a.1) (subst (λ (z : ℕ). Answers c z ys us qs n) a.2 b)
+answers-append (x ∷ xs) ys c s m n os us ps qs (o1, o2, p1, p2, mid, oe, pe, gives, more) b = (
   o1,
   o2 ++ us,
   p1,
@@ -41,7 +41,7 @@ answers-append (x ∷ xs) ys s m n os us ps qs (o1, o2, p1, p2, mid, oe, pe, giv
   ap (λ (z : List Outcome). z ++ us) oe ∙ append_assoc o1 o2 us,
   ap (λ (z : List (List ℕ)). z ++ qs) pe ∙ append_assoc p1 p2 qs,
   gives,
-  answers-append xs ys mid m n o2 us p2 qs more b,
+  answers-append xs ys c mid m n o2 us p2 qs more b,
 )
 
 -- ---- done
@@ -58,13 +58,13 @@ did_on c s t x u v w b1 b2 a b = record {
   bytes_are = ap (λ (z : List ℕ). z ++ b2) a.bytes_are ∙ (ap (λ (z : List ℕ). joined a.items ++ z) b.bytes_are ∙ sym (joined-append a.items b.items));
   each = items-append a.items b.items c s.phase a.acts b.acts a.each (subst (λ (p : Phase). AreItems c p b.items b.acts) a.phase b.each);
   phase = b.phase ∙ (ap (λ (p : Phase). phase_after c p b.items) a.phase ∙ sym (phase-append a.items b.items c s.phase));
-  answers = answers-append a.acts b.acts s.serial t.serial x.serial a.outcomes b.outcomes a.pieces b.pieces a.answers b.answers;
+  answers = answers-append a.acts b.acts c s.serial t.serial x.serial a.outcomes b.outcomes a.pieces b.pieces a.answers b.answers;
   grows = grows_on u v w a.outcomes b.outcomes a.pieces b.pieces a.grows b.grows;
   sound = b.sound ∙ a.sound;
 }
 
 pub did_one : (c : Client) (s t : Stage) (v w : World) (item : List ℕ) (act : Act) (os : List Outcome) (ps : List (List ℕ)) → IsItem c s.phase item act → t.phase ≡ next_phase c s.phase item
-    → Gives act s.serial os ps t.serial → Grows v os ps w → w.faults ≡ v.faults → Did c s v item t w
+    → Gives c act s.serial os ps t.serial → Grows v os ps w → w.faults ≡ v.faults → Did c s v item t w
 did_one c s t v w item act os ps is phase gives grows sound = record {
   items = item ∷ [];
   acts = act ∷ [];
@@ -80,20 +80,20 @@ did_one c s t v w item act os ps is phase gives grows sound = record {
 
 -- ---- ends of one act
 
-module _ (act : Act) (serial : ℕ) (os : List Outcome) (v w : Seated) (grew : Grew v os w) (o n : Option (List (List ℕ))) (a b : ℕ) where
-  pub act_sent : (ps : List (List ℕ)) (last : ℕ) → Gives act serial os ps last → Sends {X = ℕ} ps (Ok last) o a n b → ActEnds (Ok last) act serial (world v o a) (world w n b)
+module _ (c : Client) (act : Act) (serial : ℕ) (os : List Outcome) (v w : Seated) (grew : Grew v os w) (o n : Option (List (List ℕ))) (a b : ℕ) where
+  pub act_sent : (ps : List (List ℕ)) (last : ℕ) → Gives c act serial os ps last → Sends {X = ℕ} ps (Ok last) o a n b → ActEnds c (Ok last) act serial (world v o a) (world w n b)
   act_sent ps last gives h = (os, ps, gives, record { desk = grew; told = h.0; faults = let same = h.1 in omega arith }, h.1)
 
-  pub act_halted : (halt : Fed) (ps : List (List ℕ)) (last : ℕ) → Gives act serial os ps last → SendsPart ps halt o a n b → ActEnds (Err halt) act serial (world v o a) (world w n b)
+  pub act_halted : (halt : Fed) (ps : List (List ℕ)) (last : ℕ) → Gives c act serial os ps last → SendsPart ps halt o a n b → ActEnds c (Err halt) act serial (world v o a) (world w n b)
   act_halted WriteFault ps last gives h = (record { outcomes = os; pieces = ps; written = h.0; last = last; gives = gives; grows = record { desk = grew; told = h.2; faults = h.3 }; short = h.1 }, h.4)
   act_halted Memory ps last gives h = (record { outcomes = os; pieces = ps; written = []; last = last; gives = gives; grows = record { desk = grew; told = h.0 ∙ onto_none o; faults = let same = h.1 in omega arith }; short = tt }, refl, h.1)
   act_halted More ps last gives h = absurd h
   act_halted (Over ending) ps last gives h = absurd h
 
   -- how pieces that are told ended, and the last serial
-  pub act_ends : (r : Result ℕ Fed) (ps : List (List ℕ)) → AreOf (asked_by act) os → ps ≡ pieces_of act serial os → Sends ps r o a n b → IfOk r (λ last. last ≡ serial_past act serial) → ActEnds r act serial (world v o a) (world w n b)
+  pub act_ends : (r : Result ℕ Fed) (ps : List (List ℕ)) → AreOf (asked_by act) os → ps ≡ pieces_of c act serial os → Sends ps r o a n b → IfOk r (λ last. last ≡ serial_past c act serial os) → ActEnds c r act serial (world v o a) (world w n b)
   act_ends (Ok last) ps asked said h is = act_sent ps last (record { asked = asked; said = said; serial_is = is }) h
-  act_ends (Err halt) ps asked said h is = act_halted halt ps (serial_past act serial) (record { asked = asked; said = said; serial_is = refl }) h
+  act_ends (Err halt) ps asked said h is = act_halted halt ps (serial_past c act serial os) (record { asked = asked; said = said; serial_is = refl }) h
 
 -- ---- fronts
 

@@ -1,15 +1,11 @@
 -- What the requests of an open connection meet.
-use Rattle.std.proofs.Common.{◌≡◌, inl, inr, ℕ, List, [], ◌∷◌, Bool, true, false, cond, Option, Some, None, refl, sym, ap, ◌∙◌, subst}
+use Rattle.std.proofs.Common.{◌≡◌, inl, inr, ℕ, true, false, cond, Option, Some, None, refl, sym, ap, ◌∙◌, subst}
 use Rattle.std.specs.Option.{option_map}
-use Rattle.portal_base.specs.declared.files.Look.{Look}
-use Rattle.portal_base.specs.declared.files.Look.TheVariants as look
 use Rattle.portal_base.specs.declared.who.Kind.{Kind}
-use Rattle.portal_base.specs.declared.who.Who.{Who}
 use Rattle.portal_model.specs.declared.entry.Entry.{Entry}
 use Rattle.portal_model.specs.declared.entry.Given.{Given}
 use Rattle.portal_model.specs.declared.reply.Answer.{Answer}
 use Rattle.portal_model.specs.declared.reply.Answer.TheVariants as answer
-use Rattle.portal_model.specs.declared.reply.Code.TheVariants as code
 use Rattle.portal_model.specs.declared.reply.NodeAnswer.{NodeAnswer}
 use Rattle.portal_model.specs.declared.reply.NodeAnswer.TheVariants as node
 use Rattle.portal_model.specs.declared.reply.Reply.{Reply}
@@ -25,11 +21,12 @@ use Rattle.portal_model.specs.Node.{node_given as verdict_given, settled_on_node
 use Rattle.portal_model.specs.NodeVerdict.{NodeVerdict, Errs, Yields}
 use Rattle.portal_model.specs.Seated.{Binding, binding_of, bound}
 use Rattle.portal_model.specs.State.{State, connection_of}
-use Rattle.portal_model.specs.Step.{all_told, bus_of, collect_step, is_mount, mount_of, node_step, reply_at, request_step}
+use Rattle.portal_model.specs.Step.{all_told, bus_of, bus_step, collect_step, is_mount, mount_of, node_step, reply_at, request_step}
 use Rattle.session.specs.declared.act.Client.{Client}
 use Rattle.session.specs.Frames.{told_of}
 use Rattle.session.specs.Hearing.{Meets}
 use Rattle.session.specs.Laws.{MeetsAlike}
+use Rattle.session.proofs.CallsAreHeard.{IsHere, answer_heard}
 use Rattle.session.proofs.ItemsFit.{Fits}
 use Rattle.session.proofs.ServedTraces.{IsAskedAt}
 
@@ -67,6 +64,11 @@ node_told s r given None b h k = absurd (cc)
 node_told s r given (Some c) b h k =
     subst (λ (z : Kind). Tells (node_step s r given (cond (is_mount z) (Some c) None)).1.answer) (sym (kind_is c b h ∙ k)) (settled_tells (all_told c.seat s) c (verdict_given (walk_on_node (all_told c.seat s) c r) given))
 
+bus_heard : (s : State) (r : Request) (given : Given) (o : Option Connection) (b : Binding) → option_map binding_of o ≡ Some b → b.kind ≡ Kind.Bus → IsHere (bus_step s r given (bus_of o)).1.answer
+bus_heard s r given None b h k = absurd (cc)
+bus_heard s r given (Some c) b h k =
+    subst (λ (z : Kind). IsHere (bus_step s r given (cond (is_mount z) None (Some c))).1.answer) (sym (kind_is c b h ∙ k)) (answer_heard (all_told c.seat s) c r given)
+
 -- ---- the step
 
 fits_met : (s : State) (seat : ℕ) (kind : Kind) (request : Request) (given : Given) (b : Binding) → bound s seat ≡ Some b → b.kind ≡ kind → Fits kind request → Meets request (request_step s seat request given).1.answer
@@ -79,7 +81,14 @@ fits_met s seat Kind.Bus (Request.Enter who k) given b h is f = absurd f
 fits_met s seat Kind.Bus Request.Leave given b h is f = absurd f
 fits_met s seat Kind.Bus Request.Collect given b h is f = collect_done s (connection_of s.connections seat) b h is
 fits_met s seat Kind.Bus (Request.Node r) given b h is f = absurd f
-fits_met s seat Kind.Bus request given b h is f = absurd f
+fits_met s seat Kind.Bus (Request.Present path) given b h is f = bus_heard s (Request.Present path) given (connection_of s.connections seat) b h is
+fits_met s seat Kind.Bus (Request.Add a) given b h is f = bus_heard s (Request.Add a) given (connection_of s.connections seat) b h is
+fits_met s seat Kind.Bus (Request.Grant call) given b h is f = bus_heard s (Request.Grant call) given (connection_of s.connections seat) b h is
+fits_met s seat Kind.Bus (Request.Revoke call) given b h is f = bus_heard s (Request.Revoke call) given (connection_of s.connections seat) b h is
+fits_met s seat Kind.Bus (Request.DeleteDocument doc) given b h is f = bus_heard s (Request.DeleteDocument doc) given (connection_of s.connections seat) b h is
+fits_met s seat Kind.Bus (Request.LookupDocument path) given b h is f = bus_heard s (Request.LookupDocument path) given (connection_of s.connections seat) b h is
+fits_met s seat Kind.Bus (Request.Info doc) given b h is f = bus_heard s (Request.Info doc) given (connection_of s.connections seat) b h is
+fits_met s seat Kind.Bus (Request.ListDocuments app) given b h is f = bus_heard s (Request.ListDocuments app) given (connection_of s.connections seat) b h is
 
 met_by : (c : Client) (s : State) (seat : ℕ) (request : Request) (given : Given) (o : Option Binding) → bound s seat ≡ o → IsAskedAt c o request → Meets request (request_step s seat request given).1.answer
 met_by c s seat request given None h a = subst (λ (r : Request). Meets r (request_step s seat r given).1.answer) (sym a) (enter_done (connection_of s.connections seat) h)

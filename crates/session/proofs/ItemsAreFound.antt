@@ -21,7 +21,7 @@ use Rattle.fuse_wire.specs.declared.request.FuseAsk.TheVariants as fuse
 use Rattle.fuse_wire.specs.Asks.{ask_of as frame_ask_of}
 use Rattle.fuse_wire.specs.Frames.{header_of, split_of}
 use Rattle.session.specs.declared.act.Act.{Act}
-use Rattle.session.specs.declared.act.Act.TheVariants.{Nothing, Line, Call, Node, Local}
+use Rattle.session.specs.declared.act.Act.TheVariants.{Nothing, Line, Call, Portal, Node, Local}
 use Rattle.session.specs.declared.act.Client.{Client}
 use Rattle.session.specs.declared.act.ItemError.TheVariants.{Breaks, Unbuilt}
 use Rattle.session.specs.declared.phase.Phase.{Phase}
@@ -58,7 +58,7 @@ line_means c a item Early e = inr (inl (13, sym (ap line_act e)))
 message_means : (c : Client) (item : List ℕ) (m : Message) (x : Ask) → IsMessage item m → ask_of c.settings m ≡ x → HasMeaning c due.Messages item
 message_means c item m (ask.Local answer) is e = inl (Call (reply_to m answer) (is_host c.who), (m, is, sym (ap (act_of_ask c m) e)))
 message_means c item m ask.Ignore is e = inl (Nothing, (m, is, sym (ap (act_of_ask c m) e)))
-message_means c item m (ask.Portal request) is e = inr (inr (m, is, sym (ap (act_of_ask c m) e)))
+message_means c item m (ask.Portal request) is e = inl (Portal m request, (m, is, sym (ap (act_of_ask c m) e)))
 message_means c item m ask.Unbuilt is e = inr (inr (m, is, sym (ap (act_of_ask c m) e)))
 
 read_means : (c : Client) (item : List ℕ) → ((m : Message) × IsMessage item m) ⊎ ((rule : ℕ) × IsFirstBroken item rule) → HasMeaning c due.Messages item

@@ -11,7 +11,7 @@ use Rattle.fuse_wire.specs.Asks.{ask_of as frame_ask_of}
 use Rattle.fuse_wire.specs.Frames.{header_of}
 use Rattle.fuse_wire.specs.declared.request.FuseAsk.{FuseAsk}
 use Rattle.fuse_wire.specs.declared.request.FuseAsk.TheVariants as fuse
-use Rattle.portal_model.specs.Built.{BuiltOp}
+use Rattle.portal_model.specs.Built.{Built, BuiltOp}
 use Rattle.portal_model.specs.declared.request.NodeOp.{NodeOp}
 use Rattle.portal_model.specs.declared.request.NodeOp.TheVariants.{GetAttr}
 use Rattle.portal_model.specs.declared.request.NodeRequest.{NodeRequest}
@@ -20,23 +20,16 @@ use Rattle.session.specs.Asked.{act_of_ask, act_of_frame, asked_by, collect_requ
 use Rattle.session.specs.Cuts.{line_of, next_phase}
 use Rattle.session.specs.Items.{AreItems, IsItem}
 use Rattle.session.specs.declared.act.Act.{Act}
-use Rattle.session.specs.declared.act.Act.TheVariants.{Nothing, Line, Call, Node, Local}
+use Rattle.session.specs.declared.act.Act.TheVariants.{Nothing, Line, Call, Portal, Node, Local}
 use Rattle.session.specs.declared.act.Client.{Client}
 use Rattle.session.specs.declared.phase.Phase.{Phase}
 use Rattle.session.specs.declared.phase.Phase.TheVariants as due
-use Rattle.session.proofs.ItemsFit.{read_as}
-
--- what a session asks so far, its Enter and its Leave among it: nothing on documents
-abbrev pub IsAsked : Request → Type 0
-IsAsked (Request.Enter who kind) = Unit {0}
-IsAsked Request.Leave = Unit {0}
-IsAsked Request.Collect = Unit {0}
-IsAsked (Request.Node r) = BuiltOp r.node r.op
-IsAsked request = ⊥
+use Rattle.session.proofs.ReadActs.{read_as}
+use Rattle.session.proofs.ServeCall.{call_built}
 
 abbrev pub AllBuilt : List Request → Type 0
 AllBuilt [] = Unit {0}
-AllBuilt (r ∷ rs) = IsAsked r × AllBuilt rs
+AllBuilt (r ∷ rs) = Built r × AllBuilt rs
 
 pub built-append : (rs qs : List Request) → AllBuilt rs → AllBuilt qs → AllBuilt (rs ++ qs)
 built-append [] qs a b = b
@@ -54,11 +47,11 @@ line_built (Say reply) act e = by_act act (Line reply) e tt
 line_built Begin act e = by_act act Nothing e tt
 line_built Early act e = absurd (cc)
 
-call_built : (c : Client) (m : Message) (a : Ask) (act : Act) → Ok act ≡ act_of_ask c m a → AllBuilt (asked_by act)
-call_built c m (ask.Local answer) act e = by_act act (Call (reply_to m answer) (is_host c.who)) e (collects_built (is_host c.who))
-call_built c m ask.Ignore act e = by_act act Nothing e tt
-call_built c m (ask.Portal request) act e = absurd (cc)
-call_built c m ask.Unbuilt act e = absurd (cc)
+asks_built : (c : Client) (m : Message) (a : Ask) (act : Act) → ask_of c.settings m ≡ a → Ok act ≡ act_of_ask c m a → AllBuilt (asked_by act)
+asks_built c m (ask.Local answer) act is e = by_act act (Call (reply_to m answer) (is_host c.who)) e (collects_built (is_host c.who))
+asks_built c m ask.Ignore act is e = by_act act Nothing e tt
+asks_built c m (ask.Portal request) act is e = by_act act (Portal m request) e (call_built c m request is, tt)
+asks_built c m ask.Unbuilt act is e = absurd (cc)
 
 op_built : (node : ℕ) (op : NodeOp) → is_built_op node op ≡ true → BuiltOp node op
 op_built node (GetAttr flags fh) h = h
@@ -76,7 +69,7 @@ frame_built unique fuse.Ignore act e = by_act act Nothing e tt
 item_built : (p : Phase) (c : Client) (i : List ℕ) (act : Act) → IsItem c p i act → AllBuilt (asked_by act)
 item_built due.ZeroByte c i act h = by_act act Nothing h.1 tt
 item_built (due.Handshake a) c i act h = line_built (step a (line_of i)).0 act h.1
-item_built due.Messages c i act h = call_built c h.1.0 (ask_of c.settings h.1.0) act h.1.2
+item_built due.Messages c i act h = asks_built c h.1.0 (ask_of c.settings h.1.0) act refl h.1.2
 item_built due.Frames c i act h = frame_built (header_of i).unique (frame_ask_of i) act h.1
 
 pub items_built : (is : List (List ℕ)) (c : Client) (p : Phase) (acts : List Act) → AreItems c p is acts → AllBuilt (requests_of acts)

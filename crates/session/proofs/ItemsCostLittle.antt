@@ -3,11 +3,12 @@ use Rattle.std.proofs.Common.{◌≡◌, ℕ, ◌+◌, ◌*◌, ◌-◌, ◌^◌
 use Rattle.std.specs.Prelude.{nat_lt, if◌then◌else◌}
 use Rattle.std.specs.List.{sum_by}
 use Rattle.std.proofs.lemmas.Bool.Decides.{nat_tests}
-use Rattle.std.proofs.lemmas.List.Sums.{sum_by-append}
+use Rattle.std.proofs.lemmas.List.Sums.{sum_by-append, sum_by-cons}
 use Rattle.dbus_auth.specs.declared.handshake.AuthAnswer.{AuthAnswer}
 use Rattle.dbus_auth.specs.declared.handshake.AuthAnswer.TheVariants.{Say, Begin, Early}
 use Rattle.dbus_auth.specs.Handshake.{step}
-use Rattle.dbus_message.specs.Messages.{IsSplit}
+use Rattle.call_laws.proofs.Costs.{call_costs}
+use Rattle.dbus_message.specs.Messages.{IsMessage, IsSplit}
 use Rattle.dbus_dispatch.specs.Asks.{ask_of}
 use Rattle.dbus_dispatch.specs.declared.ask.Ask.{Ask}
 use Rattle.dbus_dispatch.specs.declared.ask.Ask.TheVariants as ask
@@ -25,13 +26,13 @@ use Rattle.portal_model.specs.declared.request.Request.{Request}
 use Rattle.portal_model.specs.declared.request.Request.TheVariants as request
 use Rattle.portal_model.specs.History.{cost_of, node_bytes}
 use Rattle.session.specs.declared.act.Act.{Act}
-use Rattle.session.specs.declared.act.Act.TheVariants.{Nothing, Line, Call, Node, Local}
+use Rattle.session.specs.declared.act.Act.TheVariants.{Nothing, Line, Call, Portal, Node, Local}
 use Rattle.session.specs.declared.act.Client.{Client}
 use Rattle.session.specs.declared.act.ItemError.{ItemError}
 use Rattle.session.specs.declared.phase.Phase.{Phase}
 use Rattle.session.specs.declared.phase.Phase.TheVariants as due
 use Rattle.session.specs.Asked.{act_of_ask, act_of_frame, asked_by, collect_requests, is_built, is_built_op, is_host, line_act, node_act, reply_to, requests_of}
-use Rattle.session.proofs.ItemsFit.{read_as}
+use Rattle.session.proofs.ReadActs.{read_as, same_act}
 use Rattle.session.specs.Cuts.{cut_of, line_of, next_phase, whole_item}
 use Rattle.session.specs.Items.{AreItems, IsItem, joined}
 use Rattle.session.specs.Laws.{CostLittle}
@@ -62,11 +63,15 @@ collect_cost false = omega arith
 same_costs : (act other : Act) → read_as act ≡ read_as other → costs (asked_by other) ≤ 128 → costs (asked_by act) ≤ 128
 same_costs act other e h = let is : act ≡ other = cc in subst (λ (a : Act). costs (asked_by a) ≤ 128) (sym is) h
 
-call_cost : (c : Client) (m : Message) (a : Ask) (act : Act) → Ok act ≡ act_of_ask c m a → costs (asked_by act) ≤ 128
-call_cost c m (ask.Local answer) act e = same_costs act (Call (reply_to m answer) (is_host c.who)) e (collect_cost (is_host c.who))
-call_cost c m ask.Ignore act e = same_costs act Nothing e (omega arith)
-call_cost c m (ask.Portal request) act e = absurd (cc)
-call_cost c m ask.Unbuilt act e = absurd (cc)
+one_cost : (r : Request) (n : ℕ) → cost_of r ≤ n → costs (r ∷ []) ≤ n
+one_cost r n h = let sum = sum_by-cons cost_of r [] in omega arith
+
+call_cost : (c : Client) (i : List ℕ) (m : Message) (a : Ask) (act : Act) → IsMessage i m → 16 ≤ length i → ask_of c.settings m ≡ a → Ok act ≡ act_of_ask c m a → costs (asked_by act) ≤ 8 * length i
+call_cost c i m (ask.Local answer) act read long is e = let most = same_costs act (Call (reply_to m answer) (is_host c.who)) e (collect_cost (is_host c.who)) in omega arith
+call_cost c i m ask.Ignore act read long is e = let most = same_costs act Nothing e (omega arith) in omega arith
+call_cost c i m (ask.Portal r) act read long is e =
+    subst (λ (a : Act). costs (asked_by a) ≤ 8 * length i) (sym (same_act act (Portal m r) e)) (one_cost r (8 * length i) (call_costs c.settings i m r read is))
+call_cost c i m ask.Unbuilt act read long is e = absurd (cc)
 
 built_cost : (unique : ℕ) (r : NodeRequest) (b : Bool) (act : Act) → is_built r ≡ b → Ok act ≡ node_act unique r b → costs (asked_by act) ≤ 128
 built_cost unique r true act h e = let least = node_cost r h in same_costs act (Node unique r) e (omega arith)
@@ -109,7 +114,7 @@ free rs n h = let none = ap costs h in omega arith
 pub item_cost : (p : Phase) (c : Client) (i : List ℕ) (act : Act) → IsItem c p i act → costs (asked_by act) ≤ 8 * length i
 item_cost due.ZeroByte c i act h = free (asked_by act) (8 * length i) (zero_asks act (Ok act) refl h.1)
 item_cost (due.Handshake a) c i act h = free (asked_by act) (8 * length i) (line_asks (step a (line_of i)).0 act h.1)
-item_cost due.Messages c i act h = let long = whole_message h.0.0 i (length i) h.0.1 h.0.2 in let most = call_cost c h.1.0 (ask_of c.settings h.1.0) act h.1.2 in omega arith
+item_cost due.Messages c i act h = call_cost c i h.1.0 (ask_of c.settings h.1.0) act h.1.1 (whole_message h.0.0 i (length i) h.0.1 h.0.2) refl h.1.2
 item_cost due.Frames c i act h = let long = whole_frame (nat_lt (length i) 40) i (length i) refl h.0 in let most = frame_cost (header_of i).unique (frame_ask_of i) act h.1 in omega arith
 
 pub items_cost : (is : List (List ℕ)) (c : Client) (p : Phase) (acts : List Act) → AreItems c p is acts → costs (requests_of acts) ≤ 8 * length (joined is)

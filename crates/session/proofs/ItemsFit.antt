@@ -1,5 +1,5 @@
 -- A connection asks what its kind may ask.
-use Rattle.std.proofs.Common.{◌≡◌, ℕ, List, [], ◌∷◌, ◌++◌, Bool, true, false, Result, Ok, sym, subst}
+use Rattle.std.proofs.Common.{◌≡◌, ℕ, List, [], ◌∷◌, ◌++◌, Bool, true, false, Ok, refl, sym, subst}
 use Rattle.std.proofs.lemmas.List.{map-append}
 use Rattle.portal_base.specs.declared.who.Kind.{Kind}
 use Rattle.portal_model.specs.declared.entry.Entry.{Entry}
@@ -17,10 +17,11 @@ use Rattle.fuse_wire.specs.declared.request.FuseAsk.{FuseAsk}
 use Rattle.fuse_wire.specs.declared.request.FuseAsk.TheVariants as fuse
 use Rattle.fuse_wire.specs.Asks.{ask_of as frame_ask_of}
 use Rattle.fuse_wire.specs.Frames.{header_of}
+use Rattle.call_laws.specs.Answers.{IsOnDocuments}
+use Rattle.call_laws.proofs.Calls.{calls_on_documents}
 use Rattle.session.specs.declared.act.Act.{Act}
-use Rattle.session.specs.declared.act.Act.TheVariants.{Nothing, Line, Call, Node, Local}
+use Rattle.session.specs.declared.act.Act.TheVariants.{Nothing, Line, Call, Portal, Node, Local}
 use Rattle.session.specs.declared.act.Client.{Client}
-use Rattle.session.specs.declared.act.ItemError.{ItemError}
 use Rattle.session.specs.declared.phase.Phase.{Phase}
 use Rattle.session.specs.declared.phase.Phase.TheVariants as due
 use Rattle.session.specs.Answers.{AreOf, Denied, IsOf, Made, Outcome, kept}
@@ -29,14 +30,16 @@ use Rattle.session.specs.Cuts.{first_phase, line_of, next_phase, phase_behind}
 use Rattle.session.specs.Items.{AreItems, phase_after}
 use Rattle.session.proofs.Grew.{kept-append}
 use Rattle.session.proofs.ConnectionStaysOpen.{IsPlain, entries_of}
+use Rattle.session.proofs.ReadActs.{read_as, same_act}
 
 -- ---- requests
 
--- on a mount nodes are asked, and on a bus what was not told yet
+-- on a mount nodes are asked, and on a bus documents and what was not told yet
 abbrev pub Fits : Kind → Request → Type 0
 Fits Kind.Mount (Request.Node r) = Unit {0}
+Fits Kind.Mount request = ⊥
 Fits Kind.Bus Request.Collect = Unit {0}
-Fits kind request = ⊥
+Fits Kind.Bus request = IsOnDocuments request
 
 abbrev pub AllFit : Kind → List Request → Type 0
 AllFit kind [] = Unit {0}
@@ -56,7 +59,7 @@ fits_plain Kind.Bus (Request.Enter who k) h = absurd h
 fits_plain Kind.Bus Request.Leave h = absurd h
 fits_plain Kind.Bus Request.Collect h = tt
 fits_plain Kind.Bus (Request.Node r) h = absurd h
-fits_plain Kind.Bus request h = absurd h
+fits_plain Kind.Bus request h = tt
 
 -- ---- items
 
@@ -91,12 +94,6 @@ pub after_speaks : (is : List (List ℕ)) (kind : Kind) (c : Client) (p : Phase)
 after_speaks [] kind c p s = s
 after_speaks (i ∷ is) kind c p s = after_speaks is kind c (next_phase c p i) (next_speaks kind c p i s)
 
-abbrev pub read_as : Act → Result Act ItemError
-read_as act = Ok act
-
-same_act : (a b : Act) → read_as a ≡ read_as b → a ≡ b
-same_act a b e = cc
-
 nothing_fits : (kind : Kind) (act : Act) → read_as act ≡ read_as Nothing → AllFit kind (asked_by act)
 nothing_fits kind act e = subst (λ (a : Act). AllFit kind (asked_by a)) (sym (same_act act Nothing e)) tt
 
@@ -109,11 +106,27 @@ line_fits (Say reply) act e = subst (λ (a : Act). AllFit Kind.Bus (asked_by a))
 line_fits Begin act e = nothing_fits Kind.Bus act e
 line_fits Early act e = absurd (cc)
 
-call_fits : (c : Client) (m : Message) (a : Ask) (act : Act) → Ok act ≡ act_of_ask c m a → AllFit Kind.Bus (asked_by act)
-call_fits c m (ask.Local answer) act e = subst (λ (a : Act). AllFit Kind.Bus (asked_by a)) (sym (same_act act (Call (reply_to m answer) (is_host c.who)) e)) (collects_fit (is_host c.who))
-call_fits c m ask.Ignore act e = nothing_fits Kind.Bus act e
-call_fits c m (ask.Portal request) act e = absurd (cc)
-call_fits c m ask.Unbuilt act e = absurd (cc)
+-- what a call asks fits a bus
+documents_fit : (r : Request) → IsOnDocuments r → Fits Kind.Bus r
+documents_fit Request.Collect h = tt
+documents_fit (Request.Enter who kind) h = h
+documents_fit Request.Leave h = h
+documents_fit (Request.Node r) h = h
+documents_fit (Request.Present path) h = tt
+documents_fit (Request.Add a) h = tt
+documents_fit (Request.Grant call) h = tt
+documents_fit (Request.Revoke call) h = tt
+documents_fit (Request.DeleteDocument doc) h = tt
+documents_fit (Request.LookupDocument path) h = tt
+documents_fit (Request.Info doc) h = tt
+documents_fit (Request.ListDocuments app) h = tt
+
+call_fits : (c : Client) (m : Message) (a : Ask) (act : Act) → ask_of c.settings m ≡ a → Ok act ≡ act_of_ask c m a → AllFit Kind.Bus (asked_by act)
+call_fits c m (ask.Local answer) act is e = subst (λ (a : Act). AllFit Kind.Bus (asked_by a)) (sym (same_act act (Call (reply_to m answer) (is_host c.who)) e)) (collects_fit (is_host c.who))
+call_fits c m ask.Ignore act is e = nothing_fits Kind.Bus act e
+call_fits c m (ask.Portal request) act is e =
+    subst (λ (a : Act). AllFit Kind.Bus (asked_by a)) (sym (same_act act (Portal m request) e)) (documents_fit request (calls_on_documents c.settings m request is), tt)
+call_fits c m ask.Unbuilt act is e = absurd (cc)
 
 node_fits : (unique : ℕ) (request : NodeRequest) (b : Bool) (act : Act) → Ok act ≡ node_act unique request b → AllFit Kind.Mount (asked_by act)
 node_fits unique request true act e = subst (λ (a : Act). AllFit Kind.Mount (asked_by a)) (sym (same_act act (Node unique request) e)) (tt, tt)
@@ -131,7 +144,7 @@ act_fits Kind.Mount c due.Messages item act s h = absurd s
 act_fits Kind.Mount c due.Frames item act s h = frame_fits (header_of item).unique (frame_ask_of item) act h
 act_fits Kind.Bus c due.ZeroByte item act s h = nothing_fits Kind.Bus act h
 act_fits Kind.Bus c (due.Handshake a) item act s h = line_fits (step a (line_of item)).0 act h
-act_fits Kind.Bus c due.Messages item act s h = call_fits c h.0 (ask_of c.settings h.0) act h.2
+act_fits Kind.Bus c due.Messages item act s h = call_fits c h.0 (ask_of c.settings h.0) act refl h.2
 act_fits Kind.Bus c due.Frames item act s h = absurd s
 
 pub items_fit : (is : List (List ℕ)) (kind : Kind) (c : Client) (p : Phase) (acts : List Act) → Speaks kind p → AreItems c p is acts → AllFit kind (requests_of acts)

@@ -1,6 +1,8 @@
 pub mod Grew
+pub mod ReadActs
 pub mod DidItems
 pub mod ServeItem
+pub mod ServeCall
 pub mod NextCut
 pub mod ServeItems
 pub mod Feed
@@ -17,6 +19,7 @@ pub mod ToldFrame
 pub mod ServeConnection
 pub mod ReadCall
 pub mod ConnectionEntries
+pub mod CallsAreHeard
 pub mod HeardReplies
 pub mod WholeInputsEnd
 pub mod ItemsBuilt

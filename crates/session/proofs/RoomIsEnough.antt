@@ -107,7 +107,7 @@ did_costs : (c : Client) (s t : Stage) (v w : World) (b : List ℕ) (n : ℕ) �
 did_costs c s t v w b n within d =
     let most = items_cost d.items c s.phase d.acts d.each in
     let bytes = ap length d.bytes_are in
-    (requests_of d.acts, d.outcomes, asked_go d.acts s.serial t.serial d.outcomes d.pieces d.answers, d.grows.desk, omega arith)
+    (requests_of d.acts, d.outcomes, asked_go d.acts c s.serial t.serial d.outcomes d.pieces d.answers, d.grows.desk, omega arith)
 
 broke_costs : (c : Client) (s : Stage) (v w : World) (b : List ℕ) → Broke c s v b w → Costs v.seated w.seated (length b)
 broke_costs c s v w b k =
@@ -122,7 +122,7 @@ broke_costs c s v w b k =
     let both = costs-append (requests_of d.acts) (asked_by k.act) in (
       requests_of d.acts ++ asked_by k.act,
       d.outcomes ++ h.outcomes,
-      of-append (requests_of d.acts) (asked_by k.act) d.outcomes h.outcomes (asked_go d.acts s.serial k.mid.serial d.outcomes d.pieces d.answers) h.gives.asked,
+      of-append (requests_of d.acts) (asked_by k.act) d.outcomes h.outcomes (asked_go d.acts c s.serial k.mid.serial d.outcomes d.pieces d.answers) h.gives.asked,
       grew_on v.seated k.then.seated w.seated d.outcomes h.outcomes d.grows.desk h.grows.desk,
       omega arith,
     )

@@ -71,7 +71,7 @@ item_size p bytes used n k is size within =
     (l, omega (arith, w.0, l), omega (arith, length-drop used bytes, w.1, l))
 
 -- an item that was read, and whose answer halts
-pub item_halts : (c : Client) (s x : Stage) (v w : World) (item : List ℕ) (act : Act) (halt : Fed) → Means c s.phase item (Ok act) → ActEnds (Err halt) act s.serial v w → ItemEnds c (Err halt) s v item x w
+pub item_halts : (c : Client) (s x : Stage) (v w : World) (item : List ℕ) (act : Act) (halt : Fed) → Means c s.phase item (Ok act) → ActEnds c (Err halt) act s.serial v w → ItemEnds c (Err halt) s v item x w
 item_halts c s x v w item act WriteFault means ends = (act, means, ends)
 item_halts c s x v w item act Memory means ends = inr (act, means, ends)
 item_halts c s x v w item act More means ends = absurd ends

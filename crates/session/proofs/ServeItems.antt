@@ -74,7 +74,7 @@ module _ (c : Client) (s t : Stage) (v m w : World) (bytes : List ℕ) (used n :
   cut_bytes = sym (ap (λ (z : List ℕ). take used bytes ++ z) (take-append-drop n (drop used bytes)) ∙ take-append-drop used bytes)
 
   -- an item in part
-  pub broke : (act : Act) → Means c t.phase (take n (drop used bytes)) (Ok act) → Halted act t.serial m w → Broke c s v bytes w
+  pub broke : (act : Act) → Means c t.phase (take n (drop used bytes)) (Ok act) → Halted c act t.serial m w → Broke c s v bytes w
   broke act means halted = record {
     front = take used bytes;
     item = take n (drop used bytes);
@@ -88,7 +88,7 @@ module _ (c : Client) (s t : Stage) (v m w : World) (bytes : List ℕ) (used n :
     halted = halted;
   }
 
-  pub broke_unsaid : (act : Act) → Means c t.phase (take n (drop used bytes)) (Ok act) → Unsaid act t.serial m w → BrokeUnsaid c s v bytes w
+  pub broke_unsaid : (act : Act) → Means c t.phase (take n (drop used bytes)) (Ok act) → Unsaid c act t.serial m w → BrokeUnsaid c s v bytes w
   unfolding broke
   broke_unsaid act means h = (broke act means h.0, h.1, h.2 ∙ did.sound)
 

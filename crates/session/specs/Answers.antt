@@ -1,5 +1,5 @@
 -- What items are answered. A call that dispatch answers itself is answered so, whatever the portal
--- was asked; what a host wasn't told yet is nothing until the permission store is built.
+-- was asked; a call that asks the portal is told the reply to its entry, or the refusal.
 use Rattle.std.specs.Prelude.{◌≡◌, ℕ, ◌+◌, ◌==◌, List, [], ◌∷◌, ◌++◌, if◌then◌else◌, option_to_list}
 use Rattle.std.specs.Prelude.{Result, Ok, Err}
 use Rattle.std.specs.List.{flat_map}
@@ -7,11 +7,15 @@ use Rattle.portal_model.specs.declared.reply.Refused.{Refused}
 use Rattle.portal_model.specs.declared.reply.Reply.{Reply}
 use Rattle.portal_model.specs.declared.request.Request.{Request}
 use Rattle.portal_model.specs.Seated.{Exchange}
+use Rattle.dbus_types.specs.declared.message.Message.{Message}
 use Rattle.dbus_types.specs.declared.message.OutMessage.{OutMessage}
+use Rattle.dbus_dispatch.specs.Errors.{error_to, refusal_of}
+use Rattle.dbus_dispatch.specs.Replies.{reply_of}
 use Rattle.dbus_message.specs.Written.{message_bytes}
 use Rattle.session.specs.declared.act.Act.{Act}
-use Rattle.session.specs.declared.act.Act.TheVariants.{Nothing, Line, Call, Node, Local}
-use Rattle.session.specs.Asked.{asked_by}
+use Rattle.session.specs.declared.act.Act.TheVariants.{Nothing, Line, Call, Portal, Node, Local}
+use Rattle.session.specs.declared.act.Client.{Client}
+use Rattle.session.specs.Asked.{asked_by, reply_to}
 use Rattle.session.specs.Frames.{answer_frames, frames_of, refusal_frames}
 
 -- ---- what became of requests
@@ -68,6 +72,25 @@ abbrev pub last_spoken : ℕ → List OutMessage → ℕ
 last_spoken serial [] = serial
 last_spoken serial (m ∷ ms) = last_spoken (serial_after serial) ms
 
+-- what a call is answered whose request has this outcome
+abbrev pub answer_for : Client → Message → Outcome → OutMessage
+answer_for c call (Made x) = reply_of c.settings.mountpoint call x.reply.answer
+answer_for c call (Denied request why) = error_to call (refusal_of why)
+
+-- the same, where the call expects a reply
+abbrev pub reply_for : Client → Message → Outcome → List OutMessage
+reply_for c call outcome = option_to_list (reply_to call (answer_for c call outcome))
+
+-- The messages that an item is answered with, where what it asks has these outcomes. What a host
+-- wasn't told yet, the signals of its replies, is nothing until the permission store is built.
+abbrev pub messages_of : Client → Act → List Outcome → List OutMessage
+messages_of c Nothing outcomes = []
+messages_of c (Line reply) outcomes = []
+messages_of c (Call reply collects) outcomes = option_to_list reply
+messages_of c (Portal call request) outcomes = flat_map (reply_for c call) outcomes
+messages_of c (Node unique request) outcomes = []
+messages_of c (Local unique told) outcomes = []
+
 -- ---- answers
 
 -- the frame of the reply or of the refusal
@@ -76,33 +99,33 @@ frames_for unique (Made x) = answer_frames unique x.reply.answer
 frames_for unique (Denied request why) = refusal_frames unique why
 
 -- the pieces that are written of what an item asks, behind a serial, with these outcomes
-abbrev pub pieces_of : Act → ℕ → List Outcome → List (List ℕ)
-pieces_of Nothing serial outcomes = []
-pieces_of (Line reply) serial outcomes = reply ∷ []
-pieces_of (Call reply collects) serial outcomes = spoken serial (option_to_list reply)
-pieces_of (Node unique request) serial outcomes = flat_map (frames_for unique) outcomes
-pieces_of (Local unique told) serial outcomes = frames_of unique told
+abbrev pub pieces_of : Client → Act → ℕ → List Outcome → List (List ℕ)
+pieces_of c Nothing serial outcomes = []
+pieces_of c (Line reply) serial outcomes = reply ∷ []
+pieces_of c (Call reply collects) serial outcomes =
+    spoken serial (messages_of c (Call reply collects) outcomes)
+pieces_of c (Portal call request) serial outcomes =
+    spoken serial (messages_of c (Portal call request) outcomes)
+pieces_of c (Node unique request) serial outcomes = flat_map (frames_for unique) outcomes
+pieces_of c (Local unique told) serial outcomes = frames_of unique told
 
 -- and the last serial
-abbrev pub serial_past : Act → ℕ → ℕ
-serial_past Nothing serial = serial
-serial_past (Line reply) serial = serial
-serial_past (Call reply collects) serial = last_spoken serial (option_to_list reply)
-serial_past (Node unique request) serial = serial
-serial_past (Local unique told) serial = serial
+abbrev pub serial_past : Client → Act → ℕ → List Outcome → ℕ
+serial_past c act serial outcomes = last_spoken serial (messages_of c act outcomes)
 
 -- What an item asks is asked and answered, with these outcomes: the pieces, and the last serial.
-pub record Gives (act : Act) (serial : ℕ) (outcomes : List Outcome) (pieces : List (List ℕ))
-    (last : ℕ) : Type 0 where
+pub record Gives (c : Client) (act : Act) (serial : ℕ) (outcomes : List Outcome)
+    (pieces : List (List ℕ)) (last : ℕ) : Type 0 where
   pub asked : AreOf (asked_by act) outcomes
-  pub said : pieces ≡ pieces_of act serial outcomes
-  pub serial_is : last ≡ serial_past act serial
+  pub said : pieces ≡ pieces_of c act serial outcomes
+  pub serial_is : last ≡ serial_past c act serial outcomes
 
 -- The same of items, one after another.
-abbrev pub Answers : ℕ → List Act → List Outcome → List (List ℕ) → ℕ → Type 0
-Answers serial [] outcomes pieces last = (outcomes ≡ []) × (pieces ≡ []) × (last ≡ serial)
-Answers serial (act ∷ acts) outcomes pieces last =
+abbrev pub Answers :
+    Client → ℕ → List Act → List Outcome → List (List ℕ) → ℕ → Type 0
+Answers c serial [] outcomes pieces last = (outcomes ≡ []) × (pieces ≡ []) × (last ≡ serial)
+Answers c serial (act ∷ acts) outcomes pieces last =
     (os : List Outcome) × (us : List Outcome) × (ps : List (List ℕ)) × (qs : List (List ℕ))
     × (mid : ℕ)
     × (outcomes ≡ os ++ us) × (pieces ≡ ps ++ qs)
-    × Gives act serial os ps mid × Answers mid acts us qs last
+    × Gives c act serial os ps mid × Answers c mid acts us qs last

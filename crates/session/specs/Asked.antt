@@ -1,7 +1,7 @@
 -- What an item asks: a line by the table of the handshake, a message as it is dispatched, a frame
 -- by its opcode.
-use Rattle.std.specs.Prelude.{◌≡◌, ◌≢◌, ℕ, ◌<◌, ◌^◌, List, [], ◌∷◌, ◌++◌, Bool, true, false}
-use Rattle.std.specs.Prelude.{◌||◌, if◌then◌else◌, Option, Some, None, is_some, IfSome, Result, Ok}
+use Rattle.std.specs.Prelude.{◌≡◌, ℕ, List, [], ◌∷◌, ◌++◌, Bool, true, false}
+use Rattle.std.specs.Prelude.{◌||◌, if◌then◌else◌, Option, Some, None, IfSome, Result, Ok}
 use Rattle.std.specs.Prelude.{Err}
 use Rattle.std.specs.List.{flat_map}
 use Rattle.portal_base.specs.declared.who.Who.{Who}
@@ -18,16 +18,16 @@ use Rattle.dbus_types.specs.declared.message.Message.{Message}
 use Rattle.dbus_types.specs.declared.message.OutMessage.{OutMessage}
 use Rattle.dbus_message.specs.Messages.{IsMessage}
 use Rattle.dbus_message.specs.Rules.{IsFirstBroken}
-use Rattle.dbus_message.specs.Written.{CanWrite}
 use Rattle.dbus_dispatch.specs.declared.ask.Ask.{Ask}
 use Rattle.dbus_dispatch.specs.declared.ask.Ask.TheVariants as ask
 use Rattle.dbus_dispatch.specs.Asks.{ask_of, expects_reply}
+use Rattle.dbus_dispatch.specs.Writable.{IsWritable}
 use Rattle.fuse_wire.specs.declared.request.FuseAsk.{FuseAsk}
 use Rattle.fuse_wire.specs.declared.request.FuseAsk.TheVariants as fuse
 use Rattle.fuse_wire.specs.Asks.{ask_of as frame_ask_of}
 use Rattle.fuse_wire.specs.Frames.{header_of}
 use Rattle.session.specs.declared.act.Act.{Act}
-use Rattle.session.specs.declared.act.Act.TheVariants.{Nothing, Line, Call, Node, Local}
+use Rattle.session.specs.declared.act.Act.TheVariants.{Nothing, Line, Call, Portal, Node, Local}
 use Rattle.session.specs.declared.act.Client.{Client}
 use Rattle.session.specs.declared.act.ItemError.{ItemError}
 use Rattle.session.specs.declared.act.ItemError.TheVariants.{Breaks, Unbuilt, Memory}
@@ -57,11 +57,10 @@ reply_to call answer = if expects_reply call then Some answer else None
 
 -- A call that dispatch answers itself asks nothing of the portal; a host's asks for what it was not
 -- told yet, also where no reply is expected. What is no call is passed over.
--- What asks the portal isn't asked here yet.
 abbrev pub act_of_ask : Client → Message → Ask → Result Act ItemError
 act_of_ask c message (ask.Local answer) = Ok (Call (reply_to message answer) (is_host c.who))
 act_of_ask c message ask.Ignore = Ok Nothing
-act_of_ask c message (ask.Portal request) = Err Unbuilt
+act_of_ask c message (ask.Portal request) = Ok (Portal message request)
 act_of_ask c message ask.Unbuilt = Err Unbuilt
 
 abbrev pub act_of_message : Client → Message → Result Act ItemError
@@ -121,6 +120,7 @@ abbrev pub asked_by : Act → List Request
 asked_by Nothing = []
 asked_by (Line reply) = []
 asked_by (Call reply collects) = collect_requests collects
+asked_by (Portal call request) = request ∷ []
 asked_by (Node unique request) = Request.Node request ∷ []
 asked_by (Local unique told) = []
 
@@ -132,14 +132,12 @@ requests_of acts = flat_map asked_by acts
 abbrev pub asked : Client → List Act → List Request
 asked c acts = Request.Enter c.who c.kind ∷ (requests_of acts ++ Request.Leave ∷ [])
 
--- a message that can be written with any serial
-abbrev pub IsWritable : OutMessage → Type 0
-IsWritable message = (serial : ℕ) → serial ≢ 0 → serial < 2 ^ 32 → CanWrite message serial
-
--- what an item asks on a node has a body, and what answers the item can be written
-abbrev pub MayAnswer : Act → Type 0
-MayAnswer Nothing = Unit {0}
-MayAnswer (Line reply) = Unit {0}
-MayAnswer (Call reply collects) = IfSome reply IsWritable
-MayAnswer (Node unique request) = Built (Request.Node request)
-MayAnswer (Local unique told) = Unit {0}
+-- what an item asks the portal has a body and is what its call asks, and a local answer can be
+-- written
+abbrev pub MayAnswer : Client → Act → Type 0
+MayAnswer c Nothing = Unit {0}
+MayAnswer c (Line reply) = Unit {0}
+MayAnswer c (Call reply collects) = IfSome reply IsWritable
+MayAnswer c (Portal call request) = Built request × (ask_of c.settings call ≡ ask.Portal request)
+MayAnswer c (Node unique request) = Built (Request.Node request)
+MayAnswer c (Local unique told) = Unit {0}

@@ -45,7 +45,7 @@ pub record Answered (c : Client) : Type 0 where
   pub pieces : List (List ℕ)
   pub last : ℕ
   pub each : AreItems c (first_phase c.kind) items acts
-  pub answers : Answers 0 acts outcomes pieces last
+  pub answers : Answers c 0 acts outcomes pieces last
 
 -- Between Enter and Leave all whole items of what was read, no more bytes than a connection may
 -- have, are asked and answered, and behind them stands the rest, which is this. No write failed.
@@ -75,7 +75,7 @@ pub record InPart (c : Client) (p : Phase) (serial : ℕ) : Type 0 where
   pub written : List (List ℕ)
   pub last : ℕ
   pub is_item : IsItem c p item act
-  pub gives : Gives act serial outcomes pieces last
+  pub gives : Gives c act serial outcomes pieces last
   pub short : Short written pieces
 
 -- Between Enter and Leave some items of what was read are asked and answered, and then one more is

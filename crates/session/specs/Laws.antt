@@ -100,19 +100,19 @@ pub record AreCutAlike : Type 0 where
 -- The outcomes of answers are those of what the items ask, each once, in order. With Enter ahead of
 -- them and Leave behind they are those of what the connection asks.
 pub record AnswerAsked : Type 0 where
-  pub items : (serial last : ℕ) (acts : List Act) (os : List Outcome) (ps : List (List ℕ))
-      → Answers serial acts os ps last → AreOf (requests_of acts) os
+  pub items : (c : Client) (serial last : ℕ) (acts : List Act) (os : List Outcome)
+      (ps : List (List ℕ)) → Answers c serial acts os ps last → AreOf (requests_of acts) os
   pub connection : (c : Client) (entered leaving : Exchange) (last : ℕ) (acts : List Act)
       (os : List Outcome) (ps : List (List ℕ)) → Encloses c entered leaving
-      → Answers 0 acts os ps last
+      → Answers c 0 acts os ps last
       → AreOf (asked c acts) (between entered os leaving)
 
--- the pieces are a function of what the items ask, of the replies, and of which requests were
--- refused, and how
+-- the pieces are a function of the client, of what the items ask, of the replies, and of which
+-- requests were refused, and how
 abbrev pub SayAlike : Type 0
-SayAlike = (serial m n : ℕ) (acts : List Act) (os us : List Outcome) (ps qs : List (List ℕ))
-    → map told_as os ≡ map told_as us → Answers serial acts os ps m → Answers serial acts us qs n
-    → (ps ≡ qs) × (m ≡ n)
+SayAlike = (c : Client) (serial m n : ℕ) (acts : List Act) (os us : List Outcome)
+    (ps qs : List (List ℕ)) → map told_as os ≡ map told_as us → Answers c serial acts os ps m
+    → Answers c serial acts us qs n → (ps ≡ qs) × (m ≡ n)
 
 -- Over a tree that tells its files the entries that were made, with the replies that were given,
 -- are the seat's own new exchanges, whose replies are those of the steps.

@@ -99,28 +99,28 @@ Collected requests v w = (outcomes : List Outcome) × AreOf requests outcomes ×
 -- ---- one item
 
 -- What an item asks was asked, and its answer is written in part.
-pub record Halted (act : Act) (serial : ℕ) (v w : World) : Type 0 where
+pub record Halted (c : Client) (act : Act) (serial : ℕ) (v w : World) : Type 0 where
   pub outcomes : List Outcome
   pub pieces : List (List ℕ)
   pub written : List (List ℕ)
   pub last : ℕ
-  pub gives : Gives act serial outcomes pieces last
+  pub gives : Gives c act serial outcomes pieces last
   pub grows : Grows v outcomes written w
   pub short : Short written pieces
 
 -- The same, where there was no memory for the answer: nothing of it is written, and no write
 -- failed.
-abbrev pub Unsaid : Act → ℕ → World → World → Type 0
-Unsaid act serial v w = (h : Halted act serial v w) × (h.written ≡ []) × (w.faults ≡ v.faults)
+abbrev pub Unsaid : Client → Act → ℕ → World → World → Type 0
+Unsaid c act serial v w = (h : Halted c act serial v w) × (h.written ≡ []) × (w.faults ≡ v.faults)
 
 -- how asking and answering ended
-abbrev pub ActEnds : Result ℕ Fed → Act → ℕ → World → World → Type 0
-ActEnds (Ok last) act serial v w = (outcomes : List Outcome) × (pieces : List (List ℕ))
-    × Gives act serial outcomes pieces last × Grows v outcomes pieces w × (w.faults ≡ v.faults)
-ActEnds (Err WriteFault) act serial v w = Halted act serial v w × HasRisen v.faults w.faults
-ActEnds (Err Memory) act serial v w = Unsaid act serial v w
-ActEnds (Err More) act serial v w = ⊥
-ActEnds (Err (Over ending)) act serial v w = ⊥
+abbrev pub ActEnds : Client → Result ℕ Fed → Act → ℕ → World → World → Type 0
+ActEnds c (Ok last) act serial v w = (outcomes : List Outcome) × (pieces : List (List ℕ))
+    × Gives c act serial outcomes pieces last × Grows v outcomes pieces w × (w.faults ≡ v.faults)
+ActEnds c (Err WriteFault) act serial v w = Halted c act serial v w × HasRisen v.faults w.faults
+ActEnds c (Err Memory) act serial v w = Unsaid c act serial v w
+ActEnds c (Err More) act serial v w = ⊥
+ActEnds c (Err (Over ending)) act serial v w = ⊥
 
 -- what a whole item that asks nothing is
 abbrev pub Declines : Client → Phase → List ℕ → Stop → Type 0
@@ -132,13 +132,13 @@ Declines c p item stop.Unbuilt = Means c p item (Err Unbuilt)
 -- an item was read, and then asking and answering it ended so
 abbrev pub HaltsAt : Client → Fed → Stage → World → List ℕ → World → Type 0
 HaltsAt c halt s v item w =
-    (act : Act) × Means c s.phase item (Ok act) × ActEnds (Err halt) act s.serial v w
+    (act : Act) × Means c s.phase item (Ok act) × ActEnds c (Err halt) act s.serial v w
 
 -- how one whole item ended
 abbrev pub ItemEnds : Client → Result (Option Stop) Fed → Stage → World → List ℕ → Stage → World
     → Type 0
 ItemEnds c (Ok None) s v item t w = (act : Act) × Means c s.phase item (Ok act)
-    × (t.phase ≡ next_phase c s.phase item) × ActEnds (Ok t.serial) act s.serial v w
+    × (t.phase ≡ next_phase c s.phase item) × ActEnds c (Ok t.serial) act s.serial v w
 ItemEnds c (Ok (Some what)) s v item t w = Declines c s.phase item what × (t ≡ s) × (w ≡ v)
 ItemEnds c (Err WriteFault) s v item t w = HaltsAt c WriteFault s v item w
 ItemEnds c (Err Memory) s v item t w = (w ≡ v) ⊎ HaltsAt c Memory s v item w
@@ -157,7 +157,7 @@ pub record Did (c : Client) (s : Stage) (v : World) (bytes : List ℕ) (t : Stag
   pub bytes_are : bytes ≡ joined items
   pub each : AreItems c s.phase items acts
   pub phase : t.phase ≡ phase_after c s.phase items
-  pub answers : Answers s.serial acts outcomes pieces t.serial
+  pub answers : Answers c s.serial acts outcomes pieces t.serial
   pub grows : Grows v outcomes pieces w
   pub sound : w.faults ≡ v.faults
 
@@ -173,7 +173,7 @@ pub record Broke (c : Client) (s : Stage) (v : World) (bytes : List ℕ) (w : Wo
   pub bytes_are : bytes ≡ front ++ (item ++ after)
   pub did : Did c s v front mid then
   pub is_item : IsItem c mid.phase item act
-  pub halted : Halted act mid.serial then w
+  pub halted : Halted c act mid.serial then w
 
 -- The same, and nothing of the last answer is written, and no write failed.
 abbrev pub BrokeUnsaid : Client → Stage → World → List ℕ → World → Type 0

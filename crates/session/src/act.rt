@@ -1,12 +1,12 @@
 //! What an item asks.
 
-use dbus_types::message::OutMessage;
+use dbus_types::message::{Message, OutMessage};
 use portal_base::limits::Settings;
 use portal_base::list::ByteList;
 use portal_base::memory::WantOfMemory;
 use portal_base::who::{Kind, Who};
 use portal_model::reply::NodeAnswer;
-use portal_model::request::NodeRequest;
+use portal_model::request::{NodeRequest, Request};
 use thiserror::Error;
 
 /// The client of a connection, and what the portal that it meets is set to.
@@ -36,6 +36,13 @@ pub enum Act {
         reply: Option<OutMessage>,
         /// Whether what the host wasn't told yet is asked for too.
         collects: bool,
+    },
+    /// A call that asks the portal.
+    Portal {
+        /// The call.
+        call: Message,
+        /// What is asked.
+        request: Request,
     },
     /// A request on a node.
     Node {

@@ -69,7 +69,7 @@ fn pump<D: Desk, S: Source, K: Sink>(
 ///
 /// Every item is asked and answered as soon as it is whole: an answer is
 /// written before the next piece is read, as the line `waits` of
-/// `portal_vectors` shows. The desk's seat has no open connection.
+/// `connection_vectors` shows. The desk's seat has no open connection.
 pub fn serve_connection<D: Desk, S: Source, K: Sink>(
     alloc: Global,
     desk: &mut D,
@@ -90,8 +90,9 @@ pub fn serve_connection<D: Desk, S: Source, K: Sink>(
     ensures closed_now { is_open (state_seen (D.seated desk.new)) (D.seated desk.new).seat ≡ false }
     // The history that the desk sees is legal, and the seat's entries in it are its own.
     ensures known { Known (D.seated desk.new) }
-    // None of the connection's requests meets a seat that isn't there: each is
-    // done, or a frame tells its answer.
+    // None of the connection's requests meets a seat that isn't there: one on a
+    // node has an answer that a frame tells, one on documents isn't answered
+    // `NotHere`, and any other is done.
     ensures heard { IsHeard (D.seated desk.old) (D.seated desk.new) }
     // What an application is replied is a function of its trace, over a tree
     // that tells its files.

@@ -10,6 +10,7 @@ ghost use Rattle.dbus_auth.specs.Handshake.{step};
 ghost use Rattle.dbus_message.specs.Rules.{IsWhole};
 ghost use Rattle.fuse_wire.specs.Frames.{split_of};
 ghost use Rattle.portal_base.specs.declared.split.Split.TheVariants as split;
+ghost use Rattle.session.specs.declared.act.Client.{Client as AClient};
 
 use crate::act::{Act, Client, ItemError};
 use crate::phase::{CR_LF, Phase};
@@ -42,7 +43,7 @@ pub fn read_item(
     ensures means { Means client.now phase.old item.now result }
     ensures moves { OnOk result (phase.new ≡ next_phase client.now phase.old item.now) }
     ensures stays { OnErr result (phase.new ≡ phase.old) }
-    ensures may_answer { IfOk result MayAnswer }
+    ensures may_answer { IfOk result (MayAnswer client.now) }
 {
     match phase {
         Phase::ZeroByte => {
@@ -75,33 +76,40 @@ fn step(alloc: Global, auth: &mut Auth, item: &[u8]) -> Result<AuthAnswer, WantO
 fn read_call(alloc: Global, client: &Client, item: &[u8]) -> Result<Act, ItemError>
     requires { IsWhole item.now }
     ensures means { MessageMeans client.now item.now result }
-    ensures may_answer { IfOk result MayAnswer }
+    ensures may_answer { IfOk result (MayAnswer client.now) }
 {
     let message = match read_message(alloc, item) {
         Ok(message) => message,
         Err(MessageError::Bad { rule }) => return Err(ItemError::Breaks { rule }),
         Err(MessageError::Memory) => return Err(ItemError::Memory),
     };
-    call_act(alloc, client, &message)
+    call_act(alloc, client, message)
 }
 
 /// Says what a message that was read asks.
-fn call_act(alloc: Global, client: &Client, message: &Message) -> Result<Act, ItemError>
-    ensures asks { OrMemory result (act_of_message client.now message.now) }
-    ensures may_answer { IfOk result MayAnswer }
+fn call_act(alloc: Global, client: &Client, message: Message) -> Result<Act, ItemError>
+    ensures asks { OrMemory result (act_of_message client.now message) }
+    ensures may_answer { IfOk result (MayAnswer client.now) }
 {
-    match request_of(alloc, message, &client.settings)? {
+    let Ok(asked) = request_of(alloc, &message, &client.settings) else {
+        return Err(ItemError::Memory);
+    };
+    match asked {
         Ask::Local(answer) => Ok(Act::Call {
-            reply: reply_to(message, answer),
+            reply: reply_to(&message, answer),
             collects: is_host(&client.who),
         }),
         Ask::Ignore => Ok(Act::Nothing),
-        Ask::Portal(_) | Ask::Unbuilt => Err(ItemError::Unbuilt),
+        Ask::Portal(request) => Ok(Act::Portal {
+            call: message,
+            request,
+        }),
+        Ask::Unbuilt => Err(ItemError::Unbuilt),
     }
 }
 
 /// The answer, where the call expects one.
-fn reply_to(call: &Message, answer: OutMessage) -> Option<OutMessage>
+pub(crate) fn reply_to(call: &Message, answer: OutMessage) -> Option<OutMessage>
     ensures { result ≡ reply_to call.now answer }
 {
     if expects_reply(call) {
@@ -124,7 +132,7 @@ fn is_host(who: &Who) -> bool
 fn read_frame(alloc: Global, item: &[u8]) -> Result<Act, ItemError>
     requires { split_of item.now ≡ split.Whole (length item.now) }
     ensures asks { OrMemory result (frame_act item.now) }
-    ensures may_answer { IfOk result MayAnswer }
+    ensures may_answer { (c : AClient) → IfOk result (MayAnswer c) }
 {
     let unique = unique_of(item);
     frame_act(unique, read_request(alloc, item)?)
@@ -133,7 +141,7 @@ fn read_frame(alloc: Global, item: &[u8]) -> Result<Act, ItemError>
 /// Says what is asked with a frame of this number.
 fn frame_act(unique: u64, asked: FuseAsk) -> Result<Act, ItemError>
     ensures asks { result ≡ act_of_frame unique asked }
-    ensures may_answer { IfOk result MayAnswer }
+    ensures may_answer { (c : AClient) → IfOk result (MayAnswer c) }
 {
     match asked {
         FuseAsk::Portal(request) => {

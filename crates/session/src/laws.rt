@@ -52,8 +52,9 @@ pub fn answers_are_of_what_is_asked()
     ensures { AnswerAsked }
 {}
 
-/// What is written is a function of what the items ask, of the replies, and of
-/// which requests were refused, and how. What else an entry holds doesn't show.
+/// What is written is a function of the client, of what its items ask, of the
+/// replies, and of which requests were refused, and how. What else an entry
+/// holds doesn't show.
 pub fn outcomes_say_alike()
     ensures { SayAlike }
 {}

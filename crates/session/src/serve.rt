@@ -5,19 +5,24 @@
 
 ghost use Rattle.std.specs.Prelude.{◌≡◌, ℕ, List, ◌≤◌, ◌∷◌, [], length, take, drop, option_to_list};
 ghost use Rattle.std.specs.Prelude.{IfOk, IfSome};
+ghost use Rattle.dbus_dispatch.specs.Writable.{IsWritable};
+ghost use Rattle.dbus_types.specs.declared.message.OutMessage.{OutMessage as AnOutMessage};
 ghost use Rattle.portal_model.specs.Built.{Built};
-ghost use Rattle.session.specs.Asked.{collect_requests, IsWritable, MayAnswer};
+ghost use Rattle.session.specs.declared.act.Client.{Client as AClient};
+ghost use Rattle.session.specs.Asked.{collect_requests, reply_to as message_to, MayAnswer};
 ghost use Rattle.session.specs.Answers.{last_spoken, serial_after, spoken};
 ghost use Rattle.session.specs.Cuts.{Cuts, whole_item};
 ghost use Rattle.session.specs.Ledger.{world, Sends, ActEnds, Collected, ItemEnds, Stops};
 
 use crate::act::{Act, Client, ItemError};
 use crate::frame::{answer_frame, refusal_frame, told_frame};
-use crate::item::read_item;
+use crate::item::{read_item, reply_to};
 use crate::phase::{Phase, next_cut};
 use crate::served::{Fed, Stop};
+use dbus_dispatch::refused::refused_message;
+use dbus_dispatch::reply::reply_message;
 use dbus_message::write::write_message;
-use dbus_types::message::OutMessage;
+use dbus_types::message::{Message, OutMessage};
 use portal_base::list::ByteList;
 use portal_base::memory::WantOfMemory;
 use portal_base::outside::{Sink, WriteAnswer};
@@ -107,6 +112,29 @@ fn send_message<K: Sink>(
     send(sink, bytes.as_slice(), next)
 }
 
+/// Writes the answer to a call with the next serial as one piece, where the call
+/// expects one, and answers the last serial.
+fn send_answer<K: Sink>(
+    alloc: Global,
+    serial: u32,
+    call: &Message,
+    answer: Result<OutMessage, WantOfMemory>,
+    sink: &mut K,
+) -> Result<u32, Fed>
+    requires { IfOk answer IsWritable }
+    ensures sends { (message : AnOutMessage) → IfOk answer (λ a. a ≡ message)
+        → Sends (spoken serial (option_to_list (message_to call.now message))) result
+        (K.told sink.old) (K.faults sink.old) (K.told sink.new) (K.faults sink.new) }
+    ensures last { (message : AnOutMessage) → IfOk answer (λ a. a ≡ message)
+        → IfOk result (λ last.
+        last ≡ last_spoken serial (option_to_list (message_to call.now message))) }
+{
+    match answer {
+        Ok(message) => send_message(alloc, serial, &reply_to(call, message), sink),
+        Err(_) => Err(Fed::Memory),
+    }
+}
+
 /// Asks for what the host was not told yet. A refusal leaves it untold.
 fn collect<D: Desk>(alloc: Global, collects: bool, desk: &mut D)
     ensures asked { Collected (collect_requests collects) (D.seated desk.old) (D.seated desk.new) }
@@ -114,6 +142,35 @@ fn collect<D: Desk>(alloc: Global, collects: bool, desk: &mut D)
 {
     if collects {
         let _ = desk.ask(alloc, Request::Collect);
+    }
+}
+
+/// Asks what a call asks, and answers the call where it expects a reply.
+fn serve_call<D: Desk, K: Sink>(
+    alloc: Global,
+    client: &Client,
+    call: &Message,
+    request: Request,
+    serial: u32,
+    desk: &mut D,
+    sink: &mut K,
+) -> Result<u32, Fed>
+    requires { MayAnswer client.now (Act.Portal call.now request) }
+    ensures ends { ActEnds client.now result (Act.Portal call.now request) serial
+        (world (D.seated desk.old) (K.told sink.old) (K.faults sink.old))
+        (world (D.seated desk.new) (K.told sink.new) (K.faults sink.new)) }
+    ensures goes { D.goes desk.old desk.new }
+{
+    match desk.ask(alloc, request) {
+        Ok(reply) => {
+            desk.known();
+            let answer = reply_message(alloc, &reply.answer, call, &client.settings);
+            send_answer(alloc, serial, call, answer, sink)
+        }
+        Err(refused) => {
+            let answer = refused_message(alloc, &refused, call);
+            send_answer(alloc, serial, call, answer, sink)
+        }
     }
 }
 
@@ -127,7 +184,7 @@ fn serve_node<D: Desk, K: Sink>(
     sink: &mut K,
 ) -> Result<u32, Fed>
     requires { Built (Request.Node request) }
-    ensures ends { ActEnds result (Act.Node unique request) serial
+    ensures ends { (c : AClient) → ActEnds c result (Act.Node unique request) serial
         (world (D.seated desk.old) (K.told sink.old) (K.faults sink.old))
         (world (D.seated desk.new) (K.told sink.new) (K.faults sink.new)) }
     ensures goes { D.goes desk.old desk.new }
@@ -142,13 +199,14 @@ fn serve_node<D: Desk, K: Sink>(
 /// serial.
 pub fn serve_act<D: Desk, K: Sink>(
     alloc: Global,
+    client: &Client,
     act: Act,
     serial: u32,
     desk: &mut D,
     sink: &mut K,
 ) -> Result<u32, Fed>
-    requires { MayAnswer act }
-    ensures ends { ActEnds result act serial
+    requires { MayAnswer client.now act }
+    ensures ends { ActEnds client.now result act serial
         (world (D.seated desk.old) (K.told sink.old) (K.faults sink.old))
         (world (D.seated desk.new) (K.told sink.new) (K.faults sink.new)) }
     ensures goes { D.goes desk.old desk.new }
@@ -159,6 +217,9 @@ pub fn serve_act<D: Desk, K: Sink>(
         Act::Call { reply, collects } => {
             collect(alloc, collects, desk);
             send_message(alloc, serial, &reply, sink)
+        }
+        Act::Portal { call, request } => {
+            serve_call(alloc, client, &call, request, serial, desk, sink)
         }
         Act::Node { unique, request } => serve_node(alloc, unique, request, serial, desk, sink),
         Act::Local { unique, answer } => {
@@ -200,7 +261,7 @@ fn serve_item<D: Desk, K: Sink>(
     ensures goes { D.goes desk.old desk.new }
 {
     match read_item(alloc, client, &mut stage.phase, item) {
-        Ok(act) => match serve_act(alloc, act, stage.serial, desk, sink) {
+        Ok(act) => match serve_act(alloc, client, act, stage.serial, desk, sink) {
             Ok(serial) => {
                 stage.serial = serial;
                 Ok(None)

@@ -14,37 +14,22 @@ mod handshake;
 
 use std::alloc::Global;
 use std::io;
-use std::io::{BufRead, BufReader};
-use vector_lines::error::LineError;
-use vector_lines::notation::{cut, debug, is_comment, repeated};
+use vector_lines::error::{LineError, VectorError};
+use vector_lines::notation::cut;
+use vector_lines::program::run;
 
 fn main(rt: HostRuntime) -> io::Result<()> {
-    let input = BufReader::new(rt.alloc(), rt.reader())?;
-    for line in input.lines(rt.alloc()) {
-        let line = line?;
-        let text = line.as_str();
-        if is_comment(text) {
-            println!(rt; "{text}")?;
-        } else {
-            let answer = told(rt.alloc(), text)?;
-            println!(rt; "{answer}")?;
-        }
-    }
-    Ok(())
-}
-
-/// What is printed for a line: its answer, or the error that it comes to.
-fn told(alloc: Global, line: &str) -> io::Result<String> {
-    match answer(alloc, line) {
-        Ok(text) => Ok(text),
-        Err(error) => Ok(debug(alloc, &error)?),
-    }
+    run(&rt, answer)
 }
 
 /// The answer of a line.
-fn answer(alloc: Global, line: &str) -> Result<String, LineError> {
-    let line = repeated(alloc, line)?;
-    let (kind, rest) = cut(line.as_str());
+fn answer(alloc: Global, line: &str) -> Result<String, VectorError> {
+    Ok(answer_of_kind(alloc, line)?)
+}
+
+/// The same: its kind is its first word.
+fn answer_of_kind(alloc: Global, line: &str) -> Result<String, LineError> {
+    let (kind, rest) = cut(line);
     match kind {
         "cell" => handshake::cell(alloc, rest),
         "talk" => handshake::talk(alloc, rest),

@@ -15,3 +15,6 @@ read_call-requires c =
 pub read_frame-requires : goal.read_frame-requires
 read_frame-requires c =
     frame_whole c.args.item.now (subst (λ (p : Phase). Cuts p c.args.item.now (whole_item (length c.args.item.now))) c.in-Frames.is c.requires)
+
+pub returns-in-Frames-clause-may_answer : goal.returns-in-Frames-clause-may_answer
+returns-in-Frames-clause-may_answer c = c.read_frame.ensures.may_answer c.args.client.now

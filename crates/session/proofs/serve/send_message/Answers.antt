@@ -1,7 +1,7 @@
 use Rattle.std.proofs.Common.{◌≡◌, sym, ◌∙◌}
 use Rattle.dbus_message.specs.Written.{message_bytes}
 use Rattle.dbus_message.proofs.WrittenHasSpelling.{is_spelled}
-use Rattle.session.specs.Asked.{IsWritable}
+use Rattle.dbus_dispatch.specs.Writable.{IsWritable}
 use Rattle.session.proofs.ServeItem.{serial_good, spoken_last, spoken_one}
 use Rattle.session.proofs.serve.send_message.Goals as goal
 

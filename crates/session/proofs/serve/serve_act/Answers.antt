@@ -14,7 +14,7 @@ returns-in-Nothing-clause-ends g c =
     let v = g.D.Desk.seated c.args.desk.now in
     let o = g.K.Sink.told c.args.sink.now in
     let f = g.K.Sink.faults c.args.sink.now in
-    rw c.in-Nothing.is (act_ends Nothing n [] v v (grew_none v) o o f f (Ok n) [] refl refl (sends_all n o f) refl)
+    rw c.in-Nothing.is (act_ends c.args.client.now Nothing n [] v v (grew_none v) o o f f (Ok n) [] refl refl (sends_all n o f) refl)
 
 pub returns-in-Call-clause-ends : goal.returns-in-Call-clause-ends
 returns-in-Call-clause-ends g c =
@@ -22,10 +22,13 @@ returns-in-Call-clause-ends g c =
     let reply = c.in-Call.reply in
     let k = c.collect.ensures.asked in
     let f = c.send_message in
-    rw c.in-Call.is (act_ends (Call reply c.in-Call.collects) n k.0 _ _ k.2 _ _ _ _ f.result (spoken n (option_to_list reply)) k.1 refl f.ensures.sends f.ensures.last)
+    rw c.in-Call.is (act_ends c.args.client.now (Call reply c.in-Call.collects) n k.0 _ _ k.2 _ _ _ _ f.result (spoken n (option_to_list reply)) k.1 refl f.ensures.sends f.ensures.last)
 
 pub returns-in-Node-clause-ends : goal.returns-in-Node-clause-ends
-returns-in-Node-clause-ends g c = rw c.in-Node.is c.serve_node.ensures.ends
+returns-in-Node-clause-ends g c = rw c.in-Node.is (c.serve_node.ensures.ends c.args.client.now)
+
+pub returns-in-Portal-clause-ends : goal.returns-in-Portal-clause-ends
+returns-in-Portal-clause-ends g c = rw c.in-Portal.is c.serve_call.ensures.ends
 
 pub returns-in-Line-clause-ends : goal.returns-in-Line-clause-ends
 returns-in-Line-clause-ends g c =
@@ -33,7 +36,7 @@ returns-in-Line-clause-ends g c =
     let v = g.D.Desk.seated c.args.desk.now in
     let reply = c.in-Line.reply in
     let f = c.send in
-    rw c.in-Line.is (act_ends (Line reply) n [] v v (grew_none v) (g.K.Sink.told c.args.sink.now) (g.K.Sink.told f.new.sink) (g.K.Sink.faults c.args.sink.now) (g.K.Sink.faults f.new.sink) f.result (c.as_slice.result.now ∷ []) refl (ap (λ (z : List ℕ). z ∷ []) c.as_slice.ensures) f.ensures.sends f.ensures.last)
+    rw c.in-Line.is (act_ends c.args.client.now (Line reply) n [] v v (grew_none v) (g.K.Sink.told c.args.sink.now) (g.K.Sink.told f.new.sink) (g.K.Sink.faults c.args.sink.now) (g.K.Sink.faults f.new.sink) f.result (c.as_slice.result.now ∷ []) refl (ap (λ (z : List ℕ). z ∷ []) c.as_slice.ensures) f.ensures.sends f.ensures.last)
 
 pub returns-in-Local-clause-ends : goal.returns-in-Local-clause-ends
 returns-in-Local-clause-ends g c =
@@ -42,4 +45,4 @@ returns-in-Local-clause-ends g c =
     let u = c.in-Local.unique in
     let told = c.in-Local.answer in
     let f = c.send_frame in
-    rw c.in-Local.is (act_ends (Local u told) n [] v v (grew_none v) (g.K.Sink.told c.args.sink.now) (g.K.Sink.told f.new.sink) (g.K.Sink.faults c.args.sink.now) (g.K.Sink.faults f.new.sink) f.result (frames_of u told) refl refl (f.ensures.sends _ c.told_frame.ensures) f.ensures.last)
+    rw c.in-Local.is (act_ends c.args.client.now (Local u told) n [] v v (grew_none v) (g.K.Sink.told c.args.sink.now) (g.K.Sink.told f.new.sink) (g.K.Sink.faults c.args.sink.now) (g.K.Sink.faults f.new.sink) f.result (frames_of u told) refl refl (f.ensures.sends _ c.told_frame.ensures) f.ensures.last)

@@ -3,6 +3,7 @@ use Rattle.std.proofs.lemmas.List.{append-nil}
 use Rattle.portal_model.specs.declared.reply.Reply.{Reply}
 use Rattle.portal_model.specs.declared.request.Request.{Request}
 use Rattle.session.specs.declared.act.Act.TheVariants.{Node}
+use Rattle.session.specs.declared.act.Client.{Client}
 use Rattle.session.specs.Answers.{Made, Denied}
 use Rattle.session.specs.Frames.{answer_frames, refusal_frames}
 use Rattle.session.proofs.Grew.{asked_ok, asked_err}
@@ -18,7 +19,7 @@ returns-in-Ok-clause-ends g c =
     let r = c.in-Ok.reply in
     let k = asked_ok v w (Request.Node q) r c.in-Ok.ensures.asks in
     let f = c.send_frame in
-    act_ends (Node u q) c.args.serial (Made k.0 ∷ []) v w k.3 (g.K.Sink.told c.args.sink.now) (g.K.Sink.told f.new.sink) (g.K.Sink.faults c.args.sink.now) (g.K.Sink.faults f.new.sink) f.result (answer_frames u r.answer)
+    λ (x : Client). act_ends x (Node u q) c.args.serial (Made k.0 ∷ []) v w k.3 (g.K.Sink.told c.args.sink.now) (g.K.Sink.told f.new.sink) (g.K.Sink.faults c.args.sink.now) (g.K.Sink.faults f.new.sink) f.result (answer_frames u r.answer)
     (Made k.0, [], refl, k.1, refl) (ap (λ (z : Reply). answer_frames u z.answer) (sym k.2) ∙ sym (append-nil _)) (f.ensures.sends _ c.answer_frame.ensures) f.ensures.last
 
 pub returns-in-Err-clause-ends : goal.returns-in-Err-clause-ends
@@ -29,5 +30,5 @@ returns-in-Err-clause-ends g c =
     let w = g.D.Desk.seated c.ask.new.self in
     let why = c.in-Err.refused in
     let f = c.send_frame-in-Err in
-    act_ends (Node u q) c.args.serial (Denied (Request.Node q) why ∷ []) v w (asked_err v w (Request.Node q) why c.in-Err.ensures.asks) (g.K.Sink.told c.args.sink.now) (g.K.Sink.told f.new.sink) (g.K.Sink.faults c.args.sink.now) (g.K.Sink.faults f.new.sink) f.result (refusal_frames u why)
+    λ (x : Client). act_ends x (Node u q) c.args.serial (Denied (Request.Node q) why ∷ []) v w (asked_err v w (Request.Node q) why c.in-Err.ensures.asks) (g.K.Sink.told c.args.sink.now) (g.K.Sink.told f.new.sink) (g.K.Sink.faults c.args.sink.now) (g.K.Sink.faults f.new.sink) f.result (refusal_frames u why)
     (Denied (Request.Node q) why, [], refl, refl, refl) (sym (append-nil _)) (f.ensures.sends _ c.refusal_frame.ensures) f.ensures.last

@@ -18,4 +18,4 @@ pub returns-in-Err-clause-goes : goal.returns-in-Err-clause-goes
 returns-in-Err-clause-goes g c =
     let d = c.args.self.now in
     let t = g.S.Storied in
-    (search rules, goes_refused t.says t.spends d.portal.now c.ask.new.self (t.opening d.portal.now) (t.opening c.ask.new.self) (t.entries d.portal.now) (t.entries c.ask.new.self) d.seat d.refusals _ c.in-Err.ensures.opening c.in-Err.ensures.refused (search rules) c.in-Err.ensures.spent)
+    (search rules, goes_refused t.says t.spends d.portal.now c.ask.new.self (t.opening d.portal.now) (t.opening c.ask.new.self) (t.entries d.portal.now) (t.entries c.ask.new.self) d.seat d.refusals _ c.args.request c.in-Err.ensures.opening c.in-Err.ensures.refused (search rules) c.in-Err.ensures.spent)

@@ -6,7 +6,7 @@ use Rattle.portal_model.specs.Opening.{opened_over}
 use Rattle.portal_model.specs.Step.{reply_at, reply_with}
 use Rattle.portal_core.specs.Devices.{Keeping}
 use Rattle.portal_core.specs.Story.{state_now}
-use Rattle.portal_core.proofs.CallSteps.{comes, entry_with, keeping_run, lawful_run, replied_run, stands_served}
+use Rattle.portal_core.proofs.CallSteps.{comes, entry_with, keeping_run, lawful_run, replied_run, stands_served, untreed}
 use Rattle.portal_core.proofs.WentDevices.{went-call}
 use Rattle.portal_core.proofs.portal.Portal.document.Goals as goal
 
@@ -21,7 +21,7 @@ invariant_of-self-in-Ok g c =
     let came = comes began k.opening k.history.entries k.history.limit k.documents k.rights k.applications k.connections c.self.invariant.0 served.documents served.rights served.applications served.connections c.args.seat c.args.request c.in-Ok.field-0.given c.in-Ok.field-0.answer
     (g.K.Keeper.is k.keeper) (g.K.Keeper.is served.keeper) c.requires.call c.self.invariant.3 c.in-Ok.ensures.ok in
     let stands = stands_served began k.opening k.history.entries k.history.limit k.documents k.rights k.applications k.connections c.self.invariant.0 served.documents served.rights served.applications served.connections c.args.seat c.args.request c.in-Ok.field-0.given c.in-Ok.field-0.answer
-    (g.K.Keeper.is k.keeper) (g.K.Keeper.is served.keeper) c.requires.call came c.serve-served.ensures.limits fits in
+    (g.K.Keeper.is k.keeper) (g.K.Keeper.is served.keeper) came c.serve-served.ensures.limits fits in
     rw (c.push.ensures, c.in_ok-reserve.ensures.entries, c.in_ok-reserve.ensures.limit) (
       stands,
       omega (arith, room, count),
@@ -39,16 +39,18 @@ returns-in-Ok-clause-ok g c =
     let came = comes began k.opening k.history.entries k.history.limit k.documents k.rights k.applications k.connections c.self.invariant.0 served.documents served.rights served.applications served.connections c.args.seat c.args.request c.in-Ok.field-0.given c.in-Ok.field-0.answer
     (g.K.Keeper.is k.keeper) (g.K.Keeper.is served.keeper) c.requires.call c.self.invariant.3 c.in-Ok.ensures.ok in
     let stands = stands_served began k.opening k.history.entries k.history.limit k.documents k.rights k.applications k.connections c.self.invariant.0 served.documents served.rights served.applications served.connections c.args.seat c.args.request c.in-Ok.field-0.given c.in-Ok.field-0.answer
-    (g.K.Keeper.is k.keeper) (g.K.Keeper.is served.keeper) c.requires.call came c.serve-served.ensures.limits fits in
+    (g.K.Keeper.is k.keeper) (g.K.Keeper.is served.keeper) came c.serve-served.ensures.limits fits in
+    let plain = untreed began k.opening k.history.entries k.history.limit k.documents k.rights k.applications k.connections c.self.invariant.0 served.documents served.rights served.applications served.connections c.args.seat c.args.request c.in-Ok.field-0.given c.in-Ok.field-0.answer
+    (g.K.Keeper.is k.keeper) (g.K.Keeper.is served.keeper) c.requires.call c.in-Ok.ensures.ok in
     let lawful : Lawful (state_now c.args.self.now.story) entry =
     rw (← c.self.view_is) (lawful_run began k.opening k.history.entries k.history.limit k.documents k.rights k.applications k.connections c.self.invariant.0 served.documents served.rights served.applications served.connections c.args.seat c.args.request c.in-Ok.field-0.given c.in-Ok.field-0.answer
-    (g.K.Keeper.is k.keeper) (g.K.Keeper.is served.keeper) c.requires.call came) in
+    (g.K.Keeper.is k.keeper) (g.K.Keeper.is served.keeper) came) in
     let replied : reply_with [] c.in-Ok.field-0.answer ≡ reply_at (state_now c.args.self.now.story) entry =
     rw (← c.self.view_is) (replied_run began k.opening k.history.entries k.history.limit k.documents k.rights k.applications k.connections c.self.invariant.0 served.documents served.rights served.applications served.connections c.args.seat c.args.request c.in-Ok.field-0.given c.in-Ok.field-0.answer
-    (g.K.Keeper.is k.keeper) (g.K.Keeper.is served.keeper) c.requires.call came) in
+    (g.K.Keeper.is k.keeper) (g.K.Keeper.is served.keeper) came) in
     let keeping : Keeping (state_now c.args.self.now.story) entry (run (opened_over began k.opening) (k.history.entries ++ entry ∷ [])) (g.K.Keeper.is c.args.self.now.keeper) (g.K.Keeper.is served.keeper) =
     rw (← c.self.view_is) (keeping_run began k.opening k.history.entries k.history.limit k.documents k.rights k.applications k.connections c.self.invariant.0 served.documents served.rights served.applications served.connections c.args.seat c.args.request c.in-Ok.field-0.given c.in-Ok.field-0.answer
-    (g.K.Keeper.is k.keeper) (g.K.Keeper.is served.keeper) c.requires.call came stands) in
+    (g.K.Keeper.is k.keeper) (g.K.Keeper.is served.keeper) came stands) in
     record {
       entry = entry;
       grown = search rules;
@@ -56,8 +58,8 @@ returns-in-Ok-clause-ok g c =
       request_is = refl;
       lawful = lawful;
       reply_is = c.silent_reply.ensures ∙ replied;
-      went = went-call _ _ _ _ _ _ (search rules) (search rules) (search rules) (search rules) came.looks came.untreed (rw (c.push.ensures, c.in_ok-reserve.ensures.entries) keeping) (search rules) came.words (search rules)
-          (λ h. (came.unkept h, rw (← c.self.view_is) (c.serve-served.ensures.unasked h)));
+      went = went-call _ _ _ _ _ _ (search rules) (search rules) (search rules) (search rules) plain.looks plain.untreed (rw (c.push.ensures, c.in_ok-reserve.ensures.entries) keeping) (search rules) plain.words (search rules)
+          (λ h. (plain.unkept h, rw (← c.self.view_is) (c.serve-served.ensures.unasked h)));
     }
 
 pub returns-in-Ok-clause-fault : goal.returns-in-Ok-clause-fault
@@ -74,4 +76,6 @@ returns-in-Ok-clause-failure g c =
     let served = c.serve-served.new in
     let came = comes (g.T.HostTree.is k.tree).began k.opening k.history.entries k.history.limit k.documents k.rights k.applications k.connections c.self.invariant.0 served.documents served.rights served.applications served.connections c.args.seat c.args.request c.in-Ok.field-0.given c.in-Ok.field-0.answer
     (g.K.Keeper.is k.keeper) (g.K.Keeper.is served.keeper) c.requires.call c.self.invariant.3 c.in-Ok.ensures.ok in
-    λ h. inr (rw (← c.self.view_is) (came.settles.failed (sym (ap (λ (r : Reply). r.answer) c.silent_reply.ensures) ∙ h)))
+    let plain = untreed (g.T.HostTree.is k.tree).began k.opening k.history.entries k.history.limit k.documents k.rights k.applications k.connections c.self.invariant.0 served.documents served.rights served.applications served.connections c.args.seat c.args.request c.in-Ok.field-0.given c.in-Ok.field-0.answer
+    (g.K.Keeper.is k.keeper) (g.K.Keeper.is served.keeper) c.requires.call c.in-Ok.ensures.ok in
+    λ h. inr (rw (← c.self.view_is) (came.settles.failed plain.untreed (sym (ap (λ (r : Reply). r.answer) c.silent_reply.ensures) ∙ h)))

@@ -1,0 +1,42 @@
+use Rattle.std.proofs.Common.{refl, ap}
+use Rattle.portal_model.specs.declared.reply.Reply.{Reply}
+use Rattle.dbus_dispatch.specs.Errors.{error_to, refusal_of}
+use Rattle.dbus_dispatch.specs.Replies.{reply_of}
+use Rattle.session.specs.Answers.{Denied, Made}
+use Rattle.session.proofs.Grew.{asked_err, asked_ok}
+use Rattle.session.proofs.ServeCall.{call_ends, reply_told}
+use Rattle.session.proofs.serve.serve_call.Goals as goal
+
+pub ask-requires : goal.ask-requires
+ask-requires g c = c.requires.0
+
+pub send_answer-requires : goal.send_answer-requires
+send_answer-requires g c =
+    let v = g.D.Desk.seated c.args.desk.now in
+    let w = g.D.Desk.seated c.ask.new.self in
+    c.reply_message-answer.ensures.writable (reply_told c.args.client.now c.args.call.now c.args.request v w c.in-Ok.reply c.requires.1 c.in-Ok.ensures.asks c.known.ensures)
+
+pub returns-in-Ok-clause-ends : goal.returns-in-Ok-clause-ends
+returns-in-Ok-clause-ends g c =
+    let client = c.args.client.now in
+    let call = c.args.call.now in
+    let v = g.D.Desk.seated c.args.desk.now in
+    let w = g.D.Desk.seated c.ask.new.self in
+    let r = c.in-Ok.reply in
+    let k = asked_ok v w c.args.request r c.in-Ok.ensures.asks in
+    let f = c.send_answer in
+    let message = reply_of client.settings.mountpoint call r.answer in
+    call_ends client call c.args.request c.args.serial (Made k.0) v w (g.K.Sink.told c.args.sink.now) (g.K.Sink.told f.new.sink) (g.K.Sink.faults c.args.sink.now) (g.K.Sink.faults f.new.sink) f.result message k.1 k.3
+    (ap (λ (z : Reply). reply_of client.settings.mountpoint call z.answer) k.2) (f.ensures.sends message c.reply_message-answer.ensures.replies) (f.ensures.last message c.reply_message-answer.ensures.replies)
+
+pub returns-in-Err-clause-ends : goal.returns-in-Err-clause-ends
+returns-in-Err-clause-ends g c =
+    let client = c.args.client.now in
+    let call = c.args.call.now in
+    let v = g.D.Desk.seated c.args.desk.now in
+    let w = g.D.Desk.seated c.ask.new.self in
+    let why = c.in-Err.refused in
+    let f = c.send_answer-in-Err in
+    let message = error_to call (refusal_of why) in
+    call_ends client call c.args.request c.args.serial (Denied c.args.request why) v w (g.K.Sink.told c.args.sink.now) (g.K.Sink.told f.new.sink) (g.K.Sink.faults c.args.sink.now) (g.K.Sink.faults f.new.sink) f.result message refl (asked_err v w c.args.request why c.in-Err.ensures.asks)
+    refl (f.ensures.sends message c.refused_message-answer.ensures.refuses) (f.ensures.last message c.refused_message-answer.ensures.refuses)
