@@ -1,5 +1,5 @@
--- The files of a plan placed one after another: what becomes of the portal's own lists, of the words
--- and of what is told of both.
+-- The files of a plan placed one after another: what becomes of the portal's own lists, of the
+-- words and of what is told of both.
 use Rattle.std.specs.Prelude.{◌≡◌, ◌<◌, ◌^◌, ℕ, List, [], ◌∷◌, ◌++◌, fold, Option, Some, None, is_some}
 use Rattle.portal_base.specs.Outside.{Draws}
 use Rattle.portal_base.specs.declared.names.doc_id.DocId.{DocId}

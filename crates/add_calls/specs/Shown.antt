@@ -1,4 +1,5 @@
--- What a tree shows at paths that it is asked for one after another, and what its calls leave of it.
+-- What a tree shows at paths that it is asked for one after another, and what its calls leave of
+-- it.
 use Rattle.std.specs.Prelude.{◌≡◌, ℕ, zero, suc, List, [], ◌∷◌, Bool, true, false, Option, cond, Some, None}
 use Rattle.portal_base.specs.Calls.{FailsAsTold}
 use Rattle.portal_base.specs.declared.files.File.{File}

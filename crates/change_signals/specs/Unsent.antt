@@ -1,6 +1,6 @@
--- Signals that aren't sent yet. Each open connection of a host to the bus has its own, in the order
--- in which they came: a change of the permission store is told to all of them (the signal Changed of
--- org.freedesktop.impl.portal.PermissionStore, XDG Desktop Portal documentation).
+-- Signals that aren't sent yet. Each open connection of a host to the bus has its own, in the
+-- order in which they came: a change of the permission store is told to all of them (the signal
+-- Changed of org.freedesktop.impl.portal.PermissionStore, XDG Desktop Portal documentation).
 use Rattle.std.specs.Prelude.{◌≡◌, ℕ, ◌==◌, ◌-◌, List, [], ◌∷◌, ◌++◌, Option, Some, None, cond, map, take, drop, length, option_map}
 use Rattle.std.specs.Map.{lookup}
 use Rattle.portal_model.specs.declared.reply.Change.{Change}

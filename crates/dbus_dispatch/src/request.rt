@@ -48,8 +48,8 @@ pub(crate) fn request_in(
 }
 
 fn present(alloc: Global, arguments: &[Value]) -> Result<Option<Request>, WantOfMemory>
-    ensures { IfOk result (λ request. request ≡ option_map (λ path. ARequest.Present (bytes_in path))
-        (items_alone arguments.now)) }
+    ensures { IfOk result (λ request. request
+        ≡ option_map (λ path. ARequest.Present (bytes_in path)) (items_alone arguments.now)) }
 {
     match items_alone(arguments) {
         Some(path) => Ok(Some(Request::Present {

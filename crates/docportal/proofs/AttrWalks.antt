@@ -6,7 +6,7 @@ use Rattle.portal_model.specs.declared.request.NodeOp.{NodeOp}
 use Rattle.portal_model.specs.declared.request.NodeRequest.{NodeRequest}
 use Rattle.portal_model.specs.declared.state.Connection.{Connection}
 use Rattle.portal_model.specs.Attributes.{on_node}
-use Rattle.portal_model.specs.Built.{BuiltOp}
+use Rattle.portal_desk.specs.Built.{BuiltOp}
 use Rattle.portal_model.specs.GetAttr.{get_attr_by_handle, get_attr_by_place, names_handle, tells_file}
 use Rattle.portal_model.specs.Node.{facts_of, node_walk, walk_on_node}
 use Rattle.portal_model.specs.NodeVerdict.{NodeVerdict, if_file}

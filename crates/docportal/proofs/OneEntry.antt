@@ -17,7 +17,7 @@ use Rattle.portal_model.specs.declared.entry.Given.{Given}
 use Rattle.portal_model.specs.declared.request.NodeRequest.{NodeRequest}
 use Rattle.portal_model.specs.declared.request.Request.{Request}
 use Rattle.portal_model.specs.declared.state.Connection.{Connection}
-use Rattle.portal_model.specs.Built.{Built}
+use Rattle.portal_desk.specs.Built.{Built}
 use Rattle.portal_model.specs.Bus.{bus_walk, is_tree, moment_given}
 use Rattle.portal_model.specs.Documents.{IsUnused, above}
 use Rattle.portal_model.specs.Lawful.{LawfulGiven, LawfulOnBus, LawfulOnNode}

@@ -79,8 +79,8 @@ Goes a seat stop.TooLong requests pieces now entries out b =
     entries out b
 Goes a seat stop.Unbuilt requests pieces now entries out b = ⊥
 
--- Data for a connection that ended by itself is passed over. Of any other the entries are those that
--- the answers are made of, and the Leave's where the connection ends by itself.
+-- Data for a connection that ended by itself is passed over. Of any other the entries are those
+-- that the answers are made of, and the Leave's where the connection ends by itself.
 abbrev pub DataDoes : Scene → ℕ → List ℕ → Option Standing → List Entry → List (List ℕ) → Scene
     → Type 0
 DataDoes a seat bytes None entries out b = Passes a entries out b

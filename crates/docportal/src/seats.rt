@@ -20,7 +20,7 @@ use portal_base::memory::WantOfMemory;
 use portal_base::outside::MemorySink;
 use portal_base::who::{Kind, Who};
 use portal_core::local_desk::LocalDesk;
-use portal_model::desk::Desk;
+use portal_desk::Desk;
 use portal_model::reply::Refused;
 use session::served::{Fed, Served};
 use session::session::Session;

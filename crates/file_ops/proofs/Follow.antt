@@ -1,5 +1,5 @@
 -- How the answer to a request follows its walk, and serves the request.
-use Rattle.std.proofs.Common.{◌≡◌, ℕ, List, [], ◌∷◌, length, Bool, true, false, cond, nat_lt, Option, Some, None, is_some, refl, sym, ap, subst, ◌∙◌, arith}
+use Rattle.std.proofs.Common.{◌≡◌, ℕ, List, [], ◌∷◌, length, Bool, true, false, cond, Option, Some, None, refl, sym, ap, subst, ◌∙◌, arith}
 use Rattle.std.specs.List.{list_all, slice_set}
 use Rattle.std.specs.Option.{option_map}
 use Rattle.portal_base.specs.declared.files.Look.{Look}
@@ -8,7 +8,6 @@ use Rattle.host_tree.specs.Trees.{TreeIs}
 use Rattle.host_tree.specs.declared.tree.LookAnswer.{LookAnswer}
 use Rattle.host_tree.specs.declared.tree.LookAnswer.TheVariants as look
 use Rattle.portal_model.specs.declared.entry.Fault.{Fault}
-use Rattle.portal_model.specs.declared.entry.Given.{Given}
 use Rattle.portal_model.specs.declared.reply.Attr.{Attr}
 use Rattle.portal_model.specs.declared.reply.NodeAnswer.TheVariants as NodeAnswer
 use Rattle.portal_model.specs.declared.request.NodeOp.{NodeOp}
@@ -28,8 +27,9 @@ use Rattle.portal_model.specs.Valid.{has_identifier}
 use Rattle.portal_model.specs.Walk.{Gives, Walk, reads_clock, walked}
 use Rattle.app_view.specs.Books.{Lends}
 use Rattle.app_view.specs.declared.book.ViewBook.{ViewBook}
-use Rattle.file_ops.specs.Served.{IsAsked, Serves, Tells, Told, given_to}
+use Rattle.file_ops.specs.Served.{Tells, Told}
 use Rattle.file_ops.specs.Sights.{sight_of}
+use Rattle.file_ops.specs.TreeCalls.{Calling, calls_of}
 use Rattle.file_ops.specs.Walks.{Follows, fault_of, taken}
 use Rattle.file_ops.specs.declared.asked.Asked.{Asked}
 use Rattle.file_ops.specs.declared.served.NodeDone.{NodeDone}
@@ -85,7 +85,7 @@ same-folder r n m asked e f t = subst (λ (x : Option ℕ). Follows (found_folde
 
 -- ---- the request
 
-not-kept : (answer : Option LookAnswer) → fault_of answer ≡ Fault.Keeper → ⊥
+pub not-kept : (answer : Option LookAnswer) → fault_of answer ≡ Fault.Keeper → ⊥
 not-kept None e = cc
 not-kept (Some (look.Is shown)) e = cc
 not-kept (Some look.Failed) e = cc
@@ -93,7 +93,7 @@ not-kept (Some look.Failed) e = cc
 abbrev pub done_with : Asked → NodeDone
 done_with asked = record { answer = asked.answer; looks = taken asked.look; now = None; fault = fault_of asked.look }
 
-follows-serves : (s : State) (c : Connection) (r : NodeRequest) (w : Walk NodeVerdict) (old : TreeIs) (asked : Asked) (new : TreeIs) → walk_on_node s c r ≡ w → files_told s ≡ old.told → Follows w old asked new →
+pub follows-serves : (s : State) (c : Connection) (r : NodeRequest) (w : Walk NodeVerdict) (old : TreeIs) (asked : Asked) (new : TreeIs) → walk_on_node s c r ≡ w → files_told s ≡ old.told → Follows w old asked new →
     Told s c r old (done_with asked) new
 follows-serves s c r w old asked new e t f = record {
   serves = record {
@@ -108,7 +108,7 @@ follows-serves s c r w old asked new e t f = record {
     };
     step = ap (λ (x : Walk NodeVerdict). settled_on_node s c (walked x 0 (taken asked.look) (is_tree (fault_of asked.look)))) e ∙ f.settles s c;
   };
-  calls = f.calls;
+  calls = subst (λ (x : Walk NodeVerdict). Calling old (calls_of x (taken asked.look) (is_tree (fault_of asked.look))) old.told new) (sym e) f.calls;
 }
 
 walk-is : (s : State) (c : Connection) (r : NodeRequest) (op : NodeOp) → r.op ≡ op → walk_on_node s c r ≡ node_walk (facts_of s c r.node) r op

@@ -1,5 +1,5 @@
 -- A name in the root of a view: which of the documents that are seen there it identifies.
-use Rattle.std.proofs.Common.{◌≡◌, ◌<◌, ◌^◌, ℕ, ◌==◌, ◌&&◌, ◌||◌, nat_lt, List, [], ◌∷◌, map, Bool, true, false, cond, Option, Some, None, is_some, refl, sym, ap, subst, ◌∙◌, arith}
+use Rattle.std.proofs.Common.{◌≡◌, ◌<◌, ◌^◌, ℕ, ◌==◌, ◌&&◌, ◌||◌, List, [], ◌∷◌, map, Bool, true, false, cond, Option, Some, None, is_some, refl, sym, ap, ◌∙◌, arith}
 use Rattle.std.specs.List.{filter, find, list_all}
 use Rattle.std.specs.Option.{option_map}
 use Rattle.std.proofs.lemmas.Bool.Decides.{nat_tests}
@@ -8,7 +8,7 @@ use Rattle.portal_base.specs.Names.{doc_text, is_same}
 use Rattle.portal_base.specs.declared.names.doc_id.DocId.{DocId}
 use Rattle.portal_base.specs.declared.who.Who.{Who}
 use Rattle.portal_base.proofs.DocIdDigits.{digits_again, doc_text-digits}
-use Rattle.portal_base.proofs.OwnFolders.{is_same_as, same_is}
+use Rattle.portal_base.proofs.OwnFolders.{same_is}
 use Rattle.portal_base.proofs.RefusedNames.{no_true}
 use Rattle.portal_model.specs.declared.rights.Right.TheVariants.{Read}
 use Rattle.portal_model.specs.declared.state.Document.{Document}

@@ -3,3 +3,11 @@ pub mod Sights
 pub mod TreeCalls
 pub mod Walks
 pub mod Names
+pub mod ReadFiles
+pub mod OpenHandles
+pub mod Done
+pub mod OpenedFolders
+pub mod Opened
+pub mod Sets
+pub mod Tries
+pub mod Creates

@@ -7,14 +7,15 @@ use Rattle.portal_model.specs.declared.entry.Given.{Given}
 use Rattle.portal_model.specs.declared.reply.Answer.{Answer}
 use Rattle.portal_model.specs.declared.request.NodeRequest.{NodeRequest}
 use Rattle.portal_model.specs.declared.state.Connection.{Connection}
-use Rattle.portal_model.specs.Node.{node_answer}
+use Rattle.portal_model.specs.Bus.{is_tree}
+use Rattle.portal_model.specs.Node.{node_answer, walk_on_node}
 use Rattle.portal_model.specs.NodeOutside.{LawfulNode}
 use Rattle.portal_model.specs.Outside.{files_told}
 use Rattle.portal_model.specs.State.{State}
 use Rattle.portal_model.specs.Valid.{Valid}
 use Rattle.app_view.specs.Books.{Lends}
 use Rattle.app_view.specs.declared.book.ViewBook.{ViewBook}
-use Rattle.file_ops.specs.TreeCalls.{Calling}
+use Rattle.file_ops.specs.TreeCalls.{Calling, calls_of}
 use Rattle.file_ops.specs.declared.served.NodeDone.{NodeDone}
 
 -- ---- the state that a request is served in
@@ -47,11 +48,12 @@ pub record Serves (s : State) (c : Connection) (r : NodeRequest) (given : Given)
   pub lawful : LawfulNode s c r given
   pub step : node_answer s c r given ≡ (after, answer)
 
--- It is served so, changes nothing, and the tree was called just for what was given.
+-- It is served so, changes nothing, and the tree got just the calls of the request.
 pub record Told (s : State) (c : Connection) (r : NodeRequest) (old : TreeIs) (done : NodeDone)
     (new : TreeIs) : Type 0 where
   pub serves : Serves s c r (given_to done) s done.answer
-  pub calls : Calling old done.looks done.fault new
+  pub calls :
+      Calling old (calls_of (walk_on_node s c r) done.looks (is_tree done.fault)) old.told new
 
 -- a request that changes nothing, in every state in which it may be asked
 abbrev pub Tells : ViewBook → Who → NodeRequest → TreeIs → NodeDone → TreeIs → Type 0

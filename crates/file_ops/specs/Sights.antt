@@ -5,7 +5,7 @@ use Rattle.portal_model.specs.declared.rights.Right.TheVariants.{Read}
 use Rattle.portal_model.specs.declared.state.Document.{Document}
 use Rattle.portal_model.specs.declared.state.Triple.{Triple}
 use Rattle.portal_model.specs.State.{document_of, who_has}
-use Rattle.portal_model.specs.Place.{RootOf, Sight, SightOfFile, SightOfFolder, Views, has_views, numbers_seen}
+use Rattle.portal_model.specs.Place.{RootOf, Sight, SightOfFolder, Views, has_views, numbers_seen}
 use Rattle.app_view.specs.Books.{who_is}
 use Rattle.app_view.specs.Sights.{file_sight, folder_sight}
 use Rattle.app_view.specs.declared.book.ViewBook.{ViewBook}

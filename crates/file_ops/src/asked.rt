@@ -1,15 +1,18 @@
 //! Requests for which the tree is asked once at most.
 
 ghost use Rattle.std.specs.Prelude.{◌≡◌, IfOk, length, Some, None};
+ghost use Rattle.portal_base.specs.declared.files.Look.TheVariants as Look;
 ghost use Rattle.host_tree.specs.Trees.{TreeIs};
+ghost use Rattle.host_tree.specs.declared.tree.LookAnswer.TheVariants as look;
 ghost use Rattle.portal_model.specs.declared.reply.Answer.TheVariants as Answer;
 ghost use Rattle.portal_model.specs.declared.reply.Code.TheVariants as Code;
+ghost use Rattle.portal_model.specs.Errno.{eio, enoent};
 ghost use Rattle.portal_model.specs.NodeVerdict.{errs, errs_on_file, told};
-ghost use Rattle.file_ops.specs.Walks.{ComesToBehind, Follows, fault_of, taken};
+ghost use Rattle.file_ops.specs.Walks.{ComesToBehind, Follows, fault_of, look_of_attr, taken};
 
 use crate::served::NodeDone;
-use host_tree::LookAnswer;
-use portal_base::files::Look;
+use host_tree::{AttrAnswer, LookAnswer};
+use portal_base::files::{FileName, Look};
 use portal_base::list::List;
 use portal_base::memory::WantOfMemory;
 use portal_model::entry::Fault;
@@ -52,6 +55,33 @@ pub(crate) fn refusal(errno: u32) -> Answer
     Answer::Refused(Code::Errno(errno))
 }
 
+/// The refusal of a request on an open file that the tree no longer has, which the
+/// call for it showed.
+pub(crate) fn no_such_file() -> Asked
+    ensures { result ≡ record {
+      answer = Answer.Refused (Code.Errno enoent);
+      look = Some (look.Is Look.Missing);
+    } }
+{
+    Asked {
+        answer: refusal(ENOENT),
+        look: Some(LookAnswer::Is(Look::Missing)),
+    }
+}
+
+/// The refusal of a request for which a call of the tree failed.
+pub(crate) fn tree_failed() -> Asked
+    ensures { result ≡ record {
+      answer = Answer.Refused (Code.Errno eio);
+      look = Some look.Failed;
+    } }
+{
+    Asked {
+        answer: refusal(EIO),
+        look: Some(LookAnswer::Failed),
+    }
+}
+
 /// The refusal of each request on a file, where there is one.
 pub(crate) fn refusal_on_file(look: LookAnswer, errno: u32) -> Answer
     ensures { ComesToBehind (errs_on_file errno) look result }
@@ -88,6 +118,21 @@ pub(crate) fn done(room: List<Look>, asked: Asked) -> NodeDone
         looks: looks_in(room, look),
         now: None,
         fault: fault_of(look),
+    }
+}
+
+/// What an open file's attributes show at its name.
+pub(crate) fn look_of_attr(name: &FileName, answer: AttrAnswer) -> LookAnswer
+    ensures { result ≡ look_of_attr name.now answer }
+{
+    match answer {
+        AttrAnswer::Is { size, moment } => LookAnswer::Is(Look::File {
+            generation: name.generation,
+            size,
+            moment,
+        }),
+        AttrAnswer::NotFile => LookAnswer::Is(Look::Missing),
+        AttrAnswer::Failed => LookAnswer::Failed,
     }
 }
 

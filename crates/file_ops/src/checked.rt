@@ -1,6 +1,6 @@
 //! FUSE_ACCESS: what the caller may do at a node, with the mask of access(2).
 
-ghost use Rattle.std.specs.Prelude.{◌≡◌, ◌&&◌, ◌||◌, IfOk, OnErr, Some, nat_lt, not};
+ghost use Rattle.std.specs.Prelude.{◌≡◌, ◌&&◌, ◌||◌, IfOk, OnErr, Some, nat_lt, not, None};
 ghost use Rattle.portal_model.specs.declared.request.NodeOp.TheVariants as NodeOp;
 ghost use Rattle.portal_model.specs.Access.{access, access_file, access_folder, executes, writes_to};
 ghost use Rattle.portal_model.specs.NodeVerdict.{at_file, by_place};
@@ -44,7 +44,8 @@ pub fn access<T: HostTree>(
 ) -> Result<NodeDone, WantOfMemory>
     ensures ok { request.now.op ≡ NodeOp.Access mask → IfOk result (λ done.
         Tells book.now who.now request.now (T.is tree.old) done (T.is tree.new)) }
-    ensures err { OnErr result (T.is tree.new ≡ T.is tree.old) }
+    ensures unclocked { IfOk result (λ done. done.now ≡ None) }
+    ensures err { OnErr result (tree.new ≡ tree.old) }
 {
     let room = room_for_look(alloc)?;
     let asked = checked(book, tree, who, request, mask);

@@ -1,6 +1,6 @@
 //! FUSE_LOOKUP: a name in a folder.
 
-ghost use Rattle.std.specs.Prelude.{◌≡◌, ◌<◌, ◌^◌, ◌&&◌, IfOk, OnErr, Some, true, option_map};
+ghost use Rattle.std.specs.Prelude.{◌≡◌, ◌<◌, ◌^◌, ◌&&◌, IfOk, OnErr, Some, true, option_map, None};
 ghost use Rattle.std.specs.List.{list_all};
 ghost use Rattle.host_tree.specs.Trees.{TreeIs};
 ghost use Rattle.portal_base.specs.Names.{is_same, name_of};
@@ -57,7 +57,8 @@ pub fn lookup<T: HostTree>(
 ) -> Result<NodeDone, WantOfMemory>
     ensures ok { request.now.op ≡ NodeOp.Lookup name.now → IfOk result (λ done.
         Tells book.now who.now request.now (T.is tree.old) done (T.is tree.new)) }
-    ensures err { OnErr result (T.is tree.new ≡ T.is tree.old) }
+    ensures unclocked { IfOk result (λ done. done.now ≡ None) }
+    ensures err { OnErr result (tree.new ≡ tree.old) }
 {
     let room = room_for_look(alloc)?;
     let asked = found(book, tree, who, request, name);
@@ -86,7 +87,7 @@ fn found<T: HostTree>(
 }
 
 /// Says whether a name is longer than any.
-fn is_too_long(name: &[u8]) -> bool
+pub(crate) fn is_too_long(name: &[u8]) -> bool
     ensures { result ≡ is_too_long name.now }
 {
     name.len() > NAME_LIMIT
@@ -156,7 +157,7 @@ fn in_folder<T: HostTree>(
 }
 
 /// Says whether a name is that of the file of a path.
-fn is_name_of(path: &HostPath, name: &[u8]) -> bool
+pub(crate) fn is_name_of(path: &HostPath, name: &[u8]) -> bool
     ensures { result ≡ is_same name.now (name_of path.now) }
 {
     name == path.name()

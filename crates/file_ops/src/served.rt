@@ -1,9 +1,32 @@
 //! What a request on a node was given, and what it is answered.
 
+use app_view::ViewBook;
 use portal_base::files::Look;
 use portal_base::list::List;
+use portal_base::who::Who;
 use portal_model::entry::Fault;
 use portal_model::reply::Answer;
+use portal_model::request::NodeRequest;
+
+/// What the portal lends to requests on nodes.
+#[derive(Clone, Copy)]
+pub struct FileBook<'a> {
+    /// The lists that the file view is answered from.
+    pub view: ViewBook<'a>,
+    /// The greatest length of a file, in bytes.
+    pub file_limit: u64,
+}
+
+/// A request on a node, and who asks it.
+#[derive(Clone, Copy)]
+pub struct NodeCall<'a> {
+    /// The seat of the connection.
+    pub seat: u32,
+    /// Whom it is bound to.
+    pub who: &'a Who,
+    /// The request.
+    pub request: &'a NodeRequest,
+}
 
 /// A request on a node that was served.
 #[derive(Debug, Drop)]

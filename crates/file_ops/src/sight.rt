@@ -48,7 +48,7 @@ pub(crate) fn seen_place<'a>(book: &ViewBook<'a>, who: &'a Who, node: u64) -> Op
 }
 
 /// What a caller sees at a place.
-fn seen_at<'a>(book: &ViewBook<'a>, who: &'a Who, place: Place) -> Option<SeenPlace<'a>>
+pub(crate) fn seen_at<'a>(book: &ViewBook<'a>, who: &'a Who, place: Place) -> Option<SeenPlace<'a>>
     ensures sight { (s : State) → Lends book.now s →
         sight_of_place s who.now place ≡ option_map (sight_of book.now who.now) result }
     ensures small { IfSome result (λ seen. view_of seen < 2 ^ 28) }

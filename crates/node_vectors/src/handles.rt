@@ -24,7 +24,7 @@ pub fn handles(alloc: Global, rest: &str) -> Result<String, VectorError> {
 }
 
 /// Limits of which that of handles counts here.
-fn limits(handles: u64) -> Limits {
+pub fn limits(handles: u64) -> Limits {
     Limits {
         documents: 0,
         made: 0,
@@ -88,7 +88,8 @@ fn add(alloc: Global, handles: &mut Handles, seat: u32, rest: &str) -> Result<St
     Ok(debug(alloc, &handles.add(seat, handle))?)
 }
 
-fn handle_of(alloc: Global, rest: &str) -> Result<Handle, VectorError> {
+/// A handle: `file NODE FLAGS PATH` or `folder NODE`.
+pub fn handle_of(alloc: Global, rest: &str) -> Result<Handle, VectorError> {
     let (kind, rest) = cut(rest);
     let (node, rest) = cut(rest);
     let (flags, path) = cut(rest);
@@ -135,7 +136,7 @@ fn release(
 
 /// A handle as the line that adds it has it, with the number of a folder's
 /// entries.
-fn shown(alloc: Global, handle: Option<&Handle>) -> Result<String, VectorError> {
+pub fn shown(alloc: Global, handle: Option<&Handle>) -> Result<String, VectorError> {
     match handle {
         Some(
             Handle::File {

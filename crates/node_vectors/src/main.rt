@@ -1,5 +1,5 @@
-//! Vectors of nodes: what their numbers name and who sees it, their counts, and
-//! open handles.
+//! Vectors of nodes: what their numbers name and who sees it, their counts, open
+//! handles, and requests on them.
 //!
 //! Reads lines from standard input. A line names a call, and what the call is
 //! given; its answer is printed as a line. Empty lines and lines that begin with
@@ -9,8 +9,11 @@
 
 mod handles;
 mod inodes;
+mod openings;
 mod places;
+mod readings;
 mod records;
+mod requests;
 
 use std::alloc::Global;
 use std::io;
@@ -32,6 +35,7 @@ fn answer(alloc: Global, line: &str) -> Result<String, VectorError> {
         "node" => places::node(alloc, rest),
         "resolve" => places::resolved(alloc, rest),
         "list" => places::list(alloc, rest),
+        "serve" => requests::serve(alloc, rest),
         _ => bad(),
     }
 }

@@ -16,7 +16,7 @@
 #![tactic(auto)]
 
 ghost use Rattle.std.specs.Prelude.{IfOk};
-ghost use Rattle.portal_model.specs.Built.{Built};
+ghost use Rattle.portal_desk.specs.Built.{Built};
 
 use portal_base::list::{ByteList, List};
 use portal_base::who::{Kind, Who};

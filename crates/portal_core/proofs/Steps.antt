@@ -19,7 +19,7 @@ use Rattle.portal_model.specs.declared.records.Records.{Records}
 use Rattle.portal_model.specs.declared.state.Connection.{Connection}
 use Rattle.portal_model.specs.declared.state.Triple.{Triple}
 use Rattle.portal_model.specs.Enter.{entered, new_connection}
-use Rattle.portal_model.specs.Built.{BuiltOp}
+use Rattle.portal_desk.specs.Built.{BuiltOp}
 use Rattle.portal_model.specs.Bus.{is_tree}
 use Rattle.portal_model.specs.Errno.{eio}
 use Rattle.portal_model.specs.GetAttr.{get_attr_by_place, names_handle}

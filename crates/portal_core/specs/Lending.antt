@@ -21,13 +21,14 @@ seated_at s h seat refusals = record {
 }
 
 -- the history grew by what was answered of this, which is of the seat alone
-pub record GrowsByOwn (seat : ℕ) (asked : List (Result Entry Request)) (old new : List Entry) : Type 0 where
+pub record GrowsByOwn (seat : ℕ) (asked : List (Result Entry Request)) (old new : List Entry)
+    : Type 0 where
   pub grown : new ≡ old ++ answered asked
   pub own : All (λ e. e.seat ≡ seat) (answered asked)
 
--- The history grew by entries of this seat alone: a desk alone borrows what keeps the history, so no
--- other seat asks in between. The refusals among what was asked are counted. Of each entry, and of
--- each refusal, what keeps the history says what it says.
+-- The history grew by entries of this seat alone: a desk alone borrows what keeps the history, so
+-- no other seat asks in between. The refusals among what was asked are counted. Of each entry, and
+-- of each refusal, what keeps the history says what it says.
 pub record GoesOn {S : Type 0} (says : S → Entry → S → Type 0)
     (spends : S → Request → S → Type 0) (keeper : S) (old : Seated) (keeper' : S) (new : Seated)
     : Type 0 where
@@ -40,7 +41,8 @@ pub record GoesOn {S : Type 0} (says : S → Entry → S → Type 0)
 -- ---- its laws, which a desk that goes on so gives
 
 -- the entries among two lists joined
-pub answered-append : (p q : List (Result Entry Request)) → answered (p ++ q) ≡ answered p ++ answered q
+pub answered-append : (p q : List (Result Entry Request)) →
+    answered (p ++ q) ≡ answered p ++ answered q
 answered-append [] q = refl
 answered-append (Err request ∷ p) q = answered-append p q
 answered-append (Ok e ∷ p) q = ap (λ (x : List Entry). e ∷ x) (answered-append p q)

@@ -3,7 +3,7 @@
 ghost use Rattle.std.specs.Prelude.{◌≡◌, ◌≤◌};
 
 use crate::storied::Storied;
-use portal_model::desk::Desk;
+use portal_desk::Desk;
 use portal_model::reply::{Refused, Reply};
 use portal_model::request::Request;
 use std::alloc::Global;

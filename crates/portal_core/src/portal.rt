@@ -1,7 +1,7 @@
 //! The portal.
 
 ghost use Rattle.std.specs.Prelude.{◌≡◌, ◌<◌, ◌≤◌, ◌^◌, [], ◌∷◌, length, false, true, IfErr, IfOk, IsOk, OnErr, OnOk, Some, None, option_copied};
-ghost use Rattle.portal_model.specs.Built.{Built, BuiltOp};
+ghost use Rattle.portal_desk.specs.Built.{Built, BuiltOp};
 ghost use Rattle.portal_model.specs.History.{Legal, cost};
 ghost use Rattle.portal_model.specs.Enter.{new_connection};
 ghost use Rattle.portal_model.specs.Seated.{is_open};

@@ -2,7 +2,7 @@
 
 ghost use Rattle.std.specs.Prelude.{◌≡◌, ◌<◌, ◌≤◌, ◌^◌, length, true, IfErr, IfOk, IsOk, OnErr};
 ghost use Rattle.portal_core.specs.Growth.{GrowsBy, RefusedFor, cost_after};
-ghost use Rattle.portal_model.specs.Built.{Built};
+ghost use Rattle.portal_desk.specs.Built.{Built};
 ghost use Rattle.portal_model.specs.History.{Legal, cost, run};
 ghost use Rattle.portal_model.specs.Seated.{is_open};
 
@@ -45,8 +45,8 @@ pub trait Storied {
     /// doesn't tell its files it is alike to the step's. A refusal leaves the
     /// history as it was. `Full` comes exactly where the history with this
     /// request would cost more than its limit, and then nothing changes at all;
-    /// whatever is answered, the history costs no more than that. The Leave of an open connection is
-    /// never refused.
+    /// whatever is answered, the history costs no more than that. The Leave of
+    /// an open connection is never refused.
     fn ask(&mut self, alloc: Global, seat: u32, request: Request) -> Result<Reply, Refused>
         requires seat { 1 ≤ seat }
         requires built { Built request }

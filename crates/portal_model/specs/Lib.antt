@@ -47,11 +47,12 @@ pub mod Allowed
 pub mod Step
 pub mod Alike
 pub mod Lawful
-pub mod Built
 pub mod Changed
 pub mod Valid
 pub mod Opening
 pub mod RecordChanges
+pub mod Rows
+pub mod Store
 pub mod History
 pub mod Seated
 pub mod Laws

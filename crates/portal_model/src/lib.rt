@@ -12,20 +12,21 @@
 //! | `request`, `reply`, `entry` | what is asked, what is answered, and one request with what the outside gave it |
 //! | `state`, `rights`, `handle`, `place` | the items of the portal's lists, the four rights, open handles, the numbers of nodes |
 //! | `opening`, `records` | what a run begins with, and the records that outlive it |
+//! | `store`, `datum` | the calls of the permission store, its entries and their data |
 //! | `errno` | the numbers of errors on nodes |
-//! | `desk` | [`desk::Desk`], where a seat asks |
 //! | `laws`, `document_laws`, `node_laws` | laws of histories, of requests on documents, and of requests on nodes |
 //! | `examples`, `document_examples`, `file_examples` | cases that are worked out by hand, computed over the definitions |
 //!
 //! ```text
-//! let reply = desk.ask(alloc, Request::Enter { who: Who::Host, kind: Kind::Bus })?;
+//! let asked = Request::Enter { who: Who::Host, kind: Kind::Bus };
+//! let kept = asked.replica(alloc)?;
 //! ```
 //!
 //! Source: XDG Desktop Portal documentation,
 //! `org.freedesktop.portal.Documents`; `include/uapi/linux/fuse.h`.
 #![tactic(auto)]
 
-pub mod desk;
+pub mod datum;
 pub mod document_examples;
 pub mod document_laws;
 pub mod entry;
@@ -42,3 +43,4 @@ pub mod reply;
 pub mod request;
 pub mod rights;
 pub mod state;
+pub mod store;

@@ -1,7 +1,7 @@
 //! Requests as lines name them, and how their answers are printed.
 
 ghost use Rattle.std.specs.Prelude.{IfOk};
-ghost use Rattle.portal_model.specs.Built.{Built};
+ghost use Rattle.portal_desk.specs.Built.{Built};
 
 use portal_base::list::List;
 use portal_base::names::DocId;

@@ -11,7 +11,7 @@ use Rattle.fuse_wire.specs.Asks.{ask_of as frame_ask_of}
 use Rattle.fuse_wire.specs.Frames.{header_of}
 use Rattle.fuse_wire.specs.declared.request.FuseAsk.{FuseAsk}
 use Rattle.fuse_wire.specs.declared.request.FuseAsk.TheVariants as fuse
-use Rattle.portal_model.specs.Built.{Built, BuiltOp}
+use Rattle.portal_desk.specs.Built.{Built, BuiltOp}
 use Rattle.portal_model.specs.declared.request.NodeOp.{NodeOp}
 use Rattle.portal_model.specs.declared.request.NodeOp.TheVariants.{GetAttr}
 use Rattle.portal_model.specs.declared.request.NodeRequest.{NodeRequest}

@@ -14,7 +14,7 @@ use Rattle.portal_model.specs.declared.reply.Answer.{Answer}
 use Rattle.portal_model.specs.declared.reply.Reply.{Reply}
 use Rattle.portal_model.specs.declared.request.Request.{Request}
 use Rattle.portal_model.specs.Alike.{Alike, AnswersAlike}
-use Rattle.portal_model.specs.Built.{Built}
+use Rattle.portal_desk.specs.Built.{Built}
 use Rattle.portal_model.specs.History.{Legal, run}
 use Rattle.portal_model.specs.Seated.{Asks, Known, Seated}
 use Rattle.portal_model.specs.State.{State}

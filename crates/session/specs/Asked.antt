@@ -8,7 +8,7 @@ use Rattle.portal_base.specs.declared.who.Who.{Who}
 use Rattle.portal_model.specs.declared.request.NodeOp.{NodeOp}
 use Rattle.portal_model.specs.declared.request.NodeRequest.{NodeRequest}
 use Rattle.portal_model.specs.declared.request.Request.{Request}
-use Rattle.portal_model.specs.Built.{Built}
+use Rattle.portal_desk.specs.Built.{Built}
 use Rattle.portal_model.specs.GetAttr.{names_handle}
 use Rattle.portal_model.specs.Place.{is_own_file}
 use Rattle.dbus_auth.specs.declared.handshake.AuthAnswer.{AuthAnswer}

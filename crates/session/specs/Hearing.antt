@@ -11,8 +11,8 @@ use Rattle.portal_model.specs.Seated.{Seated}
 use Rattle.portal_model.specs.Step.{reply_at}
 use Rattle.session.specs.Frames.{told_of}
 
--- Of a request on a node a frame tells the answer; one on documents isn't answered that the seat has
--- no open connection. Any other is done.
+-- Of a request on a node a frame tells the answer; one on documents isn't answered that the seat
+-- has no open connection. Any other is done.
 abbrev pub Meets : Request → Answer → Type 0
 Meets (Request.Enter who kind) met = met ≡ answer.Done
 Meets Request.Leave met = met ≡ answer.Done

@@ -16,7 +16,7 @@ use crate::session::Session;
 use portal_base::limits::Settings;
 use portal_base::outside::{ReadAnswer, Sink, Source};
 use portal_base::who::{Kind, Who};
-use portal_model::desk::Desk;
+use portal_desk::Desk;
 use portal_model::reply::Refused;
 use std::alloc::Global;
 

@@ -1,7 +1,7 @@
 //! Reading items.
 
 ghost use Rattle.std.specs.Prelude.{◌≡◌, ◌≤◌, length, true, IfOk, OnOk, OnErr};
-ghost use Rattle.portal_model.specs.Built.{BuiltOp};
+ghost use Rattle.portal_desk.specs.Built.{BuiltOp};
 ghost use Rattle.session.specs.Cuts.{Cuts, next_phase, line_of, whole_item};
 ghost use Rattle.session.specs.Asked.{Means, MessageMeans, MayAnswer, OrMemory, act_of_frame};
 ghost use Rattle.session.specs.Asked.{act_of_message, frame_act, is_built, is_host, reply_to};

@@ -7,7 +7,7 @@ ghost use Rattle.std.specs.Prelude.{◌≡◌, ℕ, List, ◌≤◌, ◌∷◌, 
 ghost use Rattle.std.specs.Prelude.{IfOk, IfSome};
 ghost use Rattle.dbus_dispatch.specs.Writable.{IsWritable};
 ghost use Rattle.dbus_types.specs.declared.message.OutMessage.{OutMessage as AnOutMessage};
-ghost use Rattle.portal_model.specs.Built.{Built};
+ghost use Rattle.portal_desk.specs.Built.{Built};
 ghost use Rattle.session.specs.declared.act.Client.{Client as AClient};
 ghost use Rattle.session.specs.Asked.{collect_requests, reply_to as message_to, MayAnswer};
 ghost use Rattle.session.specs.Answers.{last_spoken, serial_after, spoken};
@@ -26,7 +26,7 @@ use dbus_types::message::{Message, OutMessage};
 use portal_base::list::ByteList;
 use portal_base::memory::WantOfMemory;
 use portal_base::outside::{Sink, WriteAnswer};
-use portal_model::desk::Desk;
+use portal_desk::Desk;
 use portal_model::request::{NodeRequest, Request};
 use std::alloc::Global;
 

@@ -16,7 +16,7 @@ use portal_base::limits::Settings;
 use portal_base::memory::{Replica, WantOfMemory};
 use portal_base::outside::Sink;
 use portal_base::who::{Kind, Who};
-use portal_model::desk::Desk;
+use portal_desk::Desk;
 use portal_model::reply::{Refused, Reply};
 use portal_model::request::Request;
 use std::alloc::Global;

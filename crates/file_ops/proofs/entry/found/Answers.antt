@@ -1,4 +1,4 @@
-use Rattle.std.proofs.Common.{◌∙◌, ap, sym, List, Bool, true, subst}
+use Rattle.std.proofs.Common.{◌∙◌, ap, sym, List}
 use Rattle.std.specs.List.{list_all}
 use Rattle.portal_model.specs.declared.state.Document.{Document}
 use Rattle.portal_model.specs.Valid.{has_identifier}

@@ -1,10 +1,10 @@
 //! Where a seat asks.
 
-ghost use Rattle.portal_model.specs.Built.{Built};
+ghost use Rattle.portal_desk.specs.Built.{Built};
 ghost use Rattle.portal_model.specs.Seated.{Asks, Known};
 
-use crate::reply::{Refused, Reply};
-use crate::request::Request;
+use portal_model::reply::{Refused, Reply};
+use portal_model::request::Request;
 use std::alloc::Global;
 
 /// The place of one seat at a portal.

@@ -1,0 +1,162 @@
+-- How a CREATE follows its walk, and what it leaves of the open handles.
+use Rattle.std.proofs.Common.{◌≡◌, ℕ, List, Bool, true, false, not, ◌&&◌, Option, Some, None, is_some, refl, sym, ap, subst, ◌∙◌, IfSome}
+use Rattle.portal_base.specs.Content.{content_of, file_at, has_room, is_folder, look_at, look_of}
+use Rattle.portal_base.specs.declared.files.File.{File}
+use Rattle.portal_base.specs.declared.files.Look.{Look}
+use Rattle.portal_base.specs.declared.who.Who.{Who}
+use Rattle.host_tree.specs.Trees.{Asks, Changes, Does as DoesFiles, Looks as Shows, TreeIs, is_look_fault, may_create}
+use Rattle.host_tree.specs.declared.tree.LookAnswer.{LookAnswer}
+use Rattle.host_tree.specs.declared.tree.LookAnswer.TheVariants as look
+use Rattle.host_tree.specs.declared.tree.TreeDone.{TreeDone}
+use Rattle.host_tree.specs.declared.tree.TreeDone.TheVariants as done
+use Rattle.open_handles.specs.Opened.{HandleTable}
+use Rattle.portal_model.specs.declared.reply.NodeAnswer.{NodeAnswer}
+use Rattle.portal_model.specs.declared.reply.Attr.{Attr}
+use Rattle.portal_model.specs.declared.handle.Handle.{Handle}
+use Rattle.portal_model.specs.declared.request.NodeOp.{NodeOp}
+use Rattle.portal_model.specs.declared.request.NodeRequest.{NodeRequest}
+use Rattle.portal_model.specs.Attributes.{attr_of_file, on_node}
+use Rattle.portal_model.specs.Create.{create, create_there, created}
+use Rattle.portal_model.specs.Errno.{emfile, enoent}
+use Rattle.portal_model.specs.Node.{files_after, room_of}
+use Rattle.portal_model.specs.NodeVerdict.{NodeVerdict, Creates, Errs, HandlesStay, Opens, Room, Yields, errs_if, next_handle}
+use Rattle.portal_model.specs.Open.{file_handle}
+use Rattle.portal_model.specs.Place.{place_of}
+use Rattle.portal_model.specs.State.{State}
+use Rattle.portal_model.specs.Walk.{AtPath, Ends, Looks, Makes, Walk, is_found}
+use Rattle.app_view.specs.Books.{Lends}
+use Rattle.file_ops.specs.Creates.{Opening, OpeningBehind, made_walk, target_walk}
+use Rattle.file_ops.specs.Done.{Does, room_in}
+use Rattle.file_ops.specs.OpenHandles.{Handled}
+use Rattle.file_ops.specs.Tries.{Goes, done_behind, done_of_ended, ended_by, refuses}
+use Rattle.file_ops.specs.declared.created.Target.{Target as NewTarget}
+use Rattle.file_ops.specs.declared.served.FileBook.{FileBook}
+use Rattle.file_ops.specs.declared.served.NodeCall.{NodeCall}
+use Rattle.file_ops.specs.declared.served.NodeDone.{NodeDone}
+use Rattle.file_ops.specs.declared.tried.Came.TheVariants as came
+use Rattle.file_ops.specs.declared.tried.Ended.{Ended}
+use Rattle.file_ops.proofs.DoneLemmas.{IsExact, done-in, handled-after, handles-stay, room-is, room-stays, walk-is}
+use Rattle.file_ops.proofs.Tries.{behind-goes, ends-done, ends-failed, ends-missing, goes-done, refuses-goes, shows-path}
+
+-- ---- a file that isn't there
+
+room-by : (o : Option File) (folder room : Bool) → Look.Missing ≡ look_of (content_of o folder room) → (not (is_some o) && (not folder && room)) ≡ room
+room-by (Some f) folder room e = cc
+room-by None true room e = cc
+room-by None false room e = refl
+
+-- where nothing stands at a path, a file may be made there exactly where there is room for one
+makes-by : (path : List ℕ) (change : List File → List File) (told : Option (List File)) (d : TreeDone) (new : Option (List File)) → IfSome told (λ files. Look.Missing ≡ look_at files path) →
+    DoesFiles (λ files. may_create files path) change told d new → DoesFiles (λ files. is_found files (Makes path)) change told d new
+makes-by path change None done.Done new m h = h
+makes-by path change (Some files) done.Done new m h = (h.0, sym (room-by (file_at files path) (is_folder files path) (has_room files path) m) ∙ h.1)
+makes-by path change None done.NotFile new m h = h
+makes-by path change (Some files) done.NotFile new m h = (h.0, sym (room-by (file_at files path) (is_folder files path) (has_room files path) m) ∙ h.1)
+makes-by path change told done.Failed new m h = h
+makes-by path change told done.Memory new m h = h
+
+makes : (path : List ℕ) (change : List File → List File) (old : TreeIs) (d : TreeDone) (new : TreeIs) → IfSome old.told (λ files. Look.Missing ≡ look_at files path) →
+    Changes (λ files. may_create files path) change old d new → Changes (λ files. is_found files (Makes path)) change old d new
+makes path change old d new m h = record { goes = h.goes; does = makes-by path change old.told d new.told m h.does; fails = h.fails }
+
+-- ---- the last call
+
+module _ (r : NodeRequest) (flags : ℕ) (table : HandleTable) (seat : ℕ) (path : List ℕ) (node now : ℕ) (old new : TreeIs) (d : TreeDone) (m : IfSome old.told (λ files. Look.Missing ≡ look_at files path))
+    (h : Changes (λ files. may_create files path) (files_after true (Creates path now)) old d new) where
+  pub made-done : (attr : Attr) (fh : ℕ) (handle : Handle) (ended : Ended) (after : HandleTable) → d ≡ done.Done → attr ≡ attr_of_file (on_node r node) true 0 now → fh ≡ next_handle (room_in table seat) →
+      handle ≡ file_handle (record { path = path; generation = 0 }) node flags → ended ≡ ended_by now came.Done (NodeAnswer.Created attr fh) → Handled seat (Opens handle) table after →
+      Opening (create_there r flags (room_in table seat) path node Look.Missing) seat table old (done_of_ended ended) after new
+  made-done attr fh handle ended after e a n f b o = record {
+    change = Opens handle;
+    goes = subst (λ (x : Ended). Goes (Ends (Makes path) (created r flags (room_in table seat) path node) (Errs enoent)) old (done_of_ended x) (Opens handle) new) (sym b)
+        (ends-done (Makes path) (created r flags (room_in table seat) path node) (record { answer = NodeAnswer.Created attr fh; file = Creates path now; handle = Opens handle }) now old new refl
+        (λ i. Yields (record { answer = NodeAnswer.Created (sym a i) (sym n i); file = Creates path now; handle = Opens (sym f i) }))
+        (subst (λ (x : TreeDone). Changes (λ files. is_found files (Makes path)) (files_after true (Creates path now)) old x new) e (makes path (files_after true (Creates path now)) old d new m h)));
+    handled = o;
+  }
+
+  pub made-missing : (ended : Ended) → d ≡ done.NotFile → ended ≡ ended_by now came.NotFile NodeAnswer.Empty →
+      Opening (create_there r flags (room_in table seat) path node Look.Missing) seat table old (done_of_ended ended) table new
+  made-missing ended e b = record {
+    change = HandlesStay;
+    goes = subst (λ (x : Ended). Goes (Ends (Makes path) (created r flags (room_in table seat) path node) (Errs enoent)) old (done_of_ended x) HandlesStay new) (sym b)
+        (ends-missing (Makes path) (created r flags (room_in table seat) path node) (files_after true (Creates path now)) NodeAnswer.Empty now old new refl
+        (subst (λ (x : TreeDone). Changes (λ files. is_found files (Makes path)) (files_after true (Creates path now)) old x new) e (makes path (files_after true (Creates path now)) old d new m h)));
+    handled = handles-stay seat table;
+  }
+
+  pub made-failed : (ended : Ended) → d ≡ done.Failed → ended ≡ ended_by now came.Failed NodeAnswer.Empty →
+      Opening (create_there r flags (room_in table seat) path node Look.Missing) seat table old (done_of_ended ended) table new
+  made-failed ended e b = record {
+    change = HandlesStay;
+    goes = subst (λ (x : Ended). Goes (Ends (Makes path) (created r flags (room_in table seat) path node) (Errs enoent)) old (done_of_ended x) HandlesStay new) (sym b)
+        (ends-failed (Makes path) (created r flags (room_in table seat) path node) (files_after true (Creates path now)) NodeAnswer.Empty now old new refl
+        (subst (λ (x : TreeDone). Changes (λ files. is_found files (Makes path)) (files_after true (Creates path now)) old x new) e (makes path (files_after true (Creates path now)) old d new m h)));
+    handled = handles-stay seat table;
+  }
+
+-- ---- with no handle
+
+pub stays-open : (w : Walk NodeVerdict) (seat : ℕ) (table : HandleTable) (old : TreeIs) (done : NodeDone) (new : TreeIs) → Goes w old done HandlesStay new → Opening w seat table old done table new
+stays-open w seat table old done new g = record { change = HandlesStay; goes = g; handled = handles-stay seat table }
+
+-- ---- behind the look
+
+opening-behind : (path : List ℕ) (next : Look → Walk NodeVerdict) (a : LookAnswer) (seat : ℕ) (table : HandleTable) (ended : Ended) (after : HandleTable) (old mid new : TreeIs) → Asks old (is_look_fault a) mid → Shows old.told path a →
+    OpeningBehind next a seat table mid ended after new → Opening (Looks (AtPath path) next) seat table old (done_behind (Some a) ended) after new
+opening-behind path next (look.Is shown) seat table ended after old mid new a i o = record {
+  change = o.change;
+  goes = behind-goes (AtPath path) next (look.Is shown) ended o.change old mid new a (shows-path old.told path (look.Is shown) i) o.goes;
+  handled = o.handled;
+}
+opening-behind path next look.Failed seat table ended after old mid new a i o = record {
+  change = HandlesStay;
+  goes = behind-goes (AtPath path) next look.Failed ended HandlesStay old mid new a tt (o.0, refl, o.2);
+  handled = o.1;
+}
+
+-- a copy of the path stands for it
+pub made-behind : (r : NodeRequest) (flags : ℕ) (room : Room) (path copy : List ℕ) (node : ℕ) (a : LookAnswer) (seat : ℕ) (table : HandleTable) (ended : Ended) (after : HandleTable) (old mid new : TreeIs) → copy ≡ path → Asks old (is_look_fault a) mid →
+    Shows old.told path a → OpeningBehind (create_there r flags room copy node) a seat table mid ended after new → Opening (made_walk r flags room path node) seat table old (done_behind (Some a) ended) after new
+made-behind r flags room path copy node a seat table ended after old mid new e asks shows o =
+    opening-behind path (create_there r flags room path node) a seat table ended after old mid new asks shows
+    (subst (λ (p : List ℕ). OpeningBehind (create_there r flags room p node) a seat table mid ended after new) e o)
+
+-- a copy of the path stands for it, and what was shown is still there
+pub shown-still : (path copy : List ℕ) (a : LookAnswer) (old mid : TreeIs) → copy ≡ path → Asks old (is_look_fault a) mid → Shows old.told path a → Shows mid.told copy a
+shown-still path copy a old mid e asks h =
+    subst (λ (p : List ℕ). Shows mid.told p a) (sym e) (subst (λ (t : Option (List File)). Shows t path a) (sym (ap (λ (t : TreeIs). t.told) asks.goes)) h)
+
+-- ---- behind the room for the handle
+
+pub opening-after : (r : NodeRequest) (flags seat : ℕ) (a b after : HandleTable) (path : List ℕ) (node : ℕ) (old : TreeIs) (done : NodeDone) (new : TreeIs) (free : Bool) → Handled seat HandlesStay a b → (room_in a seat).full ≡ not free → free ≡ true →
+    Opening (made_walk r flags (room_in b seat) path node) seat b old done after new → Opening (errs_if (room_in a seat).full emfile (made_walk r flags (room_in a seat) path node)) seat a old done after new
+opening-after r flags seat a b after path node old done new free k f t o = record {
+  change = o.change;
+  goes = subst (λ (full : Bool). Goes (errs_if full emfile (made_walk r flags (room_in a seat) path node)) old done o.change new) (sym (f ∙ ap not t))
+      (subst (λ (room : Room). Goes (made_walk r flags room path node) old done o.change new) (room-stays seat a b k) o.goes);
+  handled = handled-after seat o.change a b after k o.handled;
+}
+
+pub full-refuses : (w : Walk NodeVerdict) (seat : ℕ) (a b : HandleTable) (t : TreeIs) (free : Bool) → Handled seat HandlesStay a b → (room_in a seat).full ≡ not free → free ≡ false →
+    Opening (errs_if (room_in a seat).full emfile w) seat a t (done_of_ended (refuses emfile)) b t
+full-refuses w seat a b t free k f e = record {
+  change = HandlesStay;
+  goes = subst (λ (full : Bool). Goes (errs_if full emfile w) t (done_of_ended (refuses emfile)) HandlesStay t) (sym (f ∙ ap not e)) (refuses-goes emfile t);
+  handled = k;
+}
+
+-- ---- the request
+
+pub create-does : (book : FileBook) (call : NodeCall) (name : List ℕ) (flags : ℕ) (target : NewTarget) (table : HandleTable) (old : TreeIs) (done : NodeDone) (after : HandleTable) (new : TreeIs) → call.request.now.op ≡ NodeOp.Create name flags →
+    ((s : State) (room : Room) → Lends book.view s → create call.request.now name flags (place_of s call.who.now call.request.now.node) room ≡ target_walk call.request.now flags room target) →
+    Opening (target_walk call.request.now flags (room_in table call.seat) target) call.seat table old done after new → Does book call table old done after new
+create-does book call name flags target table old done after new op f o = λ s c a.
+    let r = call.request.now in
+    let w : Walk NodeVerdict = target_walk r flags (room_in table call.seat) target in
+    done-in s c book call w table old done after new a
+    (walk-is s c r (NodeOp.Create name flags) op
+    ∙ (ap (λ (who : Who). create r name flags (place_of s who r.node) (room_of s c)) a.caller
+    ∙ (ap (create r name flags (place_of s call.who.now r.node)) (sym (room-is s c book call table old.told a))
+    ∙ f s (room_in table call.seat) a.lists)))
+    (goes-done w r.op call.seat table old done o.change after new (subst IsExact (sym op) tt) o.goes o.handled)

@@ -1,0 +1,333 @@
+-- How a request that may change a file follows its walk.
+use Rattle.std.proofs.Common.{◌≡◌, ℕ, List, [], ◌∷◌, Bool, true, false, cond, Option, Some, None, refl, sym, ap, subst, ◌∙◌, IfSome, Result, Ok, Err, length, replicate, suc, take, unwrap_or, not, nat_lt, ◌≤◌, arith}
+use Rattle.std.specs.Option.{option_map}
+use Rattle.std.proofs.lemmas.Bool.Decides.{nat_tests}
+use Rattle.std.specs.List.{slice_set}
+use Rattle.std.specs.Result.{IfOk, OnErr}
+use Rattle.portal_base.specs.Calls.{FailsAsTold}
+use Rattle.portal_base.specs.Content.{file_named, is_named}
+use Rattle.portal_base.specs.declared.files.File.{File}
+use Rattle.portal_base.specs.declared.files.FileName.{FileName}
+use Rattle.portal_base.specs.declared.files.Look.{Look}
+use Rattle.portal_base.specs.declared.memory.WantOfMemory.{WantOfMemory}
+use Rattle.portal_base.specs.declared.who.Who.{Who}
+use Rattle.host_tree.specs.Trees.{Asks, Attrs, Changes as ChangesFiles, Looks as Shows, TreeIs, after_call, attributes_of, is_look_fault}
+use Rattle.host_tree.specs.declared.tree.AttrAnswer.TheVariants as attr
+use Rattle.host_tree.specs.declared.tree.LookAnswer.{LookAnswer}
+use Rattle.host_tree.specs.declared.tree.LookAnswer.TheVariants as look
+use Rattle.host_tree.specs.declared.tree.TreeDone.{TreeDone}
+use Rattle.host_tree.specs.declared.tree.TreeDone.TheVariants as done
+use Rattle.portal_model.specs.declared.reply.Answer.{Answer}
+use Rattle.portal_model.specs.declared.reply.Code.TheVariants as Code
+use Rattle.portal_model.specs.declared.reply.NodeAnswer.{NodeAnswer}
+use Rattle.portal_model.specs.Bus.{is_tree}
+use Rattle.portal_model.specs.Errno.{eio, enoent}
+use Rattle.portal_model.specs.Node.{files_after}
+use Rattle.portal_model.specs.NodeVerdict.{NodeVerdict, Errs, FileChange, FilesStay, HandleChange, HandlesStay, NodeDoing, OnFile, Yields, at_file, by_place, changes, errs, errs_if, errs_on_file, if_file, tells, told}
+use Rattle.portal_model.specs.Place.{Folder, Sight, SightOfFolder, place_of}
+use Rattle.portal_model.specs.Walk.{AtPath, Ends, Gives, IsFound, IsShown, LastCall, Looks, Named, Target, Walk, changes_file, is_found, look_of_file}
+use Rattle.app_view.specs.declared.book.ViewBook.{ViewBook}
+use Rattle.file_ops.specs.TreeCalls.{Calling, CallsAsTold, WasCalled, after_calls, with_files}
+use Rattle.open_handles.specs.Opened.{HandleTable, handle_of as handle_in, opened_on}
+use Rattle.portal_model.specs.declared.handle.Handle.{Handle}
+use Rattle.portal_model.specs.declared.request.NodeOp.{NodeOp}
+use Rattle.portal_model.specs.SetAttr.{SetsAttr, set_attr}
+use Rattle.portal_model.specs.State.{State, handle_of}
+use Rattle.portal_model.specs.Write.{write}
+use Rattle.app_view.specs.Books.{Lends}
+use Rattle.file_ops.specs.Walks.{ComesToBehind}
+use Rattle.file_ops.specs.declared.served.FileBook.{FileBook}
+use Rattle.file_ops.specs.declared.served.NodeCall.{NodeCall}
+use Rattle.file_ops.specs.Done.{Does, DoneBy, answer_of, file_change, handle_change}
+use Rattle.file_ops.specs.OpenHandles.{Handled}
+use Rattle.file_ops.proofs.DoneLemmas.{IsExact, done-in, handle-is, handles-stay, same-answer, walk-is}
+use Rattle.file_ops.specs.Sights.{sight_of}
+use Rattle.file_ops.specs.Tries.{Goes, GoesBehind, ShowsAt, done_behind, done_of_ended, ended_by, fault_of_call, found_nothing, refuses, says, shown_behind, tree_done}
+use Rattle.file_ops.specs.declared.served.NodeDone.{NodeDone}
+use Rattle.file_ops.specs.declared.sight.SeenPlace.{SeenPlace}
+use Rattle.file_ops.specs.declared.tried.Came.{Came}
+use Rattle.file_ops.specs.declared.tried.Came.TheVariants as came
+use Rattle.file_ops.specs.declared.tried.CallMade.{CallMade}
+use Rattle.file_ops.specs.declared.tried.Ended.{Ended}
+
+-- ---- files that stay, and calls
+
+pub same-told : (t : Option (List File)) → t ≡ option_map (files_after true FilesStay) t
+same-told None = refl
+same-told (Some files) = refl
+
+one-call : (old : TreeIs) (failed : Bool) (new : TreeIs) → new ≡ after_call old failed new.told → FailsAsTold old.calls failed → Calling old (failed ∷ []) new.told new
+one-call old failed new g f = record { goes = g; fails = (f, tt) }
+
+pub more-calls : (old : TreeIs) (failed : Bool) (mid : TreeIs) (calls : List Bool) (files : Option (List File)) (new : TreeIs) → Asks old failed mid → Calling mid calls files new → Calling old (failed ∷ calls) files new
+more-calls old failed mid calls files new a c = record {
+  goes = c.goes ∙ ap (λ (t : TreeIs). with_files (after_calls t calls) files) a.goes;
+  fails = (a.fails, subst (λ x. CallsAsTold x calls) (ap (λ (t : TreeIs). t.calls) a.goes) c.fails);
+}
+
+told-stays : (old : TreeIs) (failed : Bool) (new : TreeIs) → Asks old failed new → new.told ≡ old.told
+told-stays old failed new a = ap (λ (t : TreeIs). t.told) a.goes
+
+-- ---- the room for looks
+
+pub set-first : (xs : List Look) (x : Look) → length xs ≡ 2 → take 1 (slice_set xs 0 x) ≡ x ∷ []
+set-first [] x e = absurd (omega (arith, e))
+set-first (y ∷ ys) x e = refl
+
+pub set-both : (xs : List Look) (x y : Look) → length xs ≡ 2 → slice_set (slice_set xs 0 x) 1 y ≡ x ∷ y ∷ []
+set-both [] x y e = absurd (omega (arith, e))
+set-both (a ∷ []) x y e = absurd (omega (arith, e))
+set-both (a ∷ b ∷ []) x y e = refl
+set-both (a ∷ b ∷ d ∷ ds) x y e = absurd (omega (arith, e))
+
+pub shown-missing : (call : Option CallMade) (r : Bool) → r ≡ found_nothing call → r ≡ true → shown_behind call ≡ Look.Missing ∷ []
+shown-missing call r e t = ap (λ (b : Bool). cond b (Look.Missing ∷ []) []) (sym e ∙ t)
+
+pub shown-none : (call : Option CallMade) (r : Bool) → r ≡ found_nothing call → r ≡ false → shown_behind call ≡ []
+shown-none call r e t = ap (λ (b : Bool). cond b (Look.Missing ∷ []) []) (sym e ∙ t)
+
+-- ---- no call
+
+pub refuses-goes : (errno : ℕ) (t : TreeIs) → Goes (errs errno) t (done_of_ended (refuses errno)) HandlesStay t
+refuses-goes errno t = record {
+  gives = (refl, refl);
+  clock = refl;
+  keeper = λ e. cc;
+  verdict = Some (Errs errno);
+  comes = refl;
+  answer = refl;
+  handles = refl;
+  files = same-told t.told;
+  calls = record { goes = refl; fails = tt };
+}
+
+pub told-goes : (answer : NodeAnswer) (t : TreeIs) → Goes (told answer) t (done_of_ended (says answer)) HandlesStay t
+told-goes answer t = record {
+  gives = (refl, refl);
+  clock = refl;
+  keeper = λ e. cc;
+  verdict = Some (tells answer);
+  comes = refl;
+  answer = refl;
+  handles = refl;
+  files = same-told t.told;
+  calls = record { goes = refl; fails = tt };
+}
+
+as-refused : (errno : ℕ) (answer : Answer) (t : TreeIs) → answer ≡ Answer.Refused (Code.Errno errno) → Goes (errs errno) t (done_of_ended (record { answer = answer; call = None })) HandlesStay t
+as-refused errno answer t e = subst (λ (x : Answer). Goes (errs errno) t (done_of_ended (record { answer = x; call = None })) HandlesStay t) (sym e) (refuses-goes errno t)
+
+-- ---- the last call
+
+found-told : (t : Option (List File)) (call : LastCall) (found : Bool) → IfSome t (λ files. is_found files call ≡ found) → IsFound t call found
+found-told None call found h = tt
+found-told (Some files) call found h = sym h
+
+pub ends-done : (call : LastCall) (f : ℕ → NodeVerdict) (d : NodeDoing) (now : ℕ) (old new : TreeIs) → changes_file call ≡ true → f now ≡ Yields d →
+    ChangesFiles (λ files. is_found files call) (files_after true d.file) old done.Done new → Goes (Ends call f (Errs enoent)) old (done_of_ended (ended_by now came.Done d.answer)) d.handle new
+ends-done call f d now old new k e h = record {
+  gives = found-told old.told call true h.does.1;
+  clock = sym k;
+  keeper = λ e. cc;
+  verdict = Some (f now);
+  comes = refl;
+  answer = sym (ap (λ (v : NodeVerdict). answer_of (Some v)) e);
+  handles = ap (λ (v : NodeVerdict). handle_change (Some v)) e;
+  files = h.does.0 ∙ sym (ap (λ (v : NodeVerdict). option_map (files_after true (file_change (Some v))) old.told) e);
+  calls = one-call old false new h.goes h.fails;
+}
+
+pub ends-missing : (call : LastCall) (f : ℕ → NodeVerdict) (change : List File → List File) (answer : NodeAnswer) (now : ℕ) (old new : TreeIs) → changes_file call ≡ true →
+    ChangesFiles (λ files. is_found files call) change old done.NotFile new → Goes (Ends call f (Errs enoent)) old (done_of_ended (ended_by now came.NotFile answer)) HandlesStay new
+ends-missing call f change answer now old new k h = record {
+  gives = (refl, refl, refl, found-told old.told call false h.does.1);
+  clock = sym k;
+  keeper = λ e. cc;
+  verdict = Some (Errs enoent);
+  comes = refl;
+  answer = refl;
+  handles = refl;
+  files = h.does.0 ∙ same-told old.told;
+  calls = one-call old false new h.goes h.fails;
+}
+
+pub ends-failed : (call : LastCall) (f : ℕ → NodeVerdict) (change : List File → List File) (answer : NodeAnswer) (now : ℕ) (old new : TreeIs) → changes_file call ≡ true →
+    ChangesFiles (λ files. is_found files call) change old done.Failed new → Goes (Ends call f (Errs enoent)) old (done_of_ended (ended_by now came.Failed answer)) HandlesStay new
+ends-failed call f change answer now old new k h = record {
+  gives = tt;
+  clock = sym k;
+  keeper = λ e. cc;
+  verdict = None;
+  comes = refl;
+  answer = refl;
+  handles = refl;
+  files = h.does ∙ same-told old.told;
+  calls = one-call old true new h.goes h.fails;
+}
+
+ends-goes : (call : LastCall) (f : ℕ → NodeVerdict) (change : FileChange) (answer : NodeAnswer) (now : ℕ) (c : Came) (old new : TreeIs) → changes_file call ≡ true → f now ≡ changes change answer →
+    ChangesFiles (λ files. is_found files call) (files_after true change) old (tree_done c) new → Goes (Ends call f (Errs enoent)) old (done_of_ended (ended_by now c answer)) HandlesStay new
+ends-goes call f change answer now came.Done old new k e h = ends-done call f (record { answer = answer; file = change; handle = HandlesStay }) now old new k e h
+ends-goes call f change answer now came.NotFile old new k e h = ends-missing call f (files_after true change) answer now old new k h
+ends-goes call f change answer now came.Failed old new k e h = ends-failed call f (files_after true change) answer now old new k h
+
+pub changed-goes : (call : LastCall) (f : ℕ → NodeVerdict) (change : FileChange) (answer : NodeAnswer) (now : ℕ) (c : Came) (d : TreeDone) (ended : Ended) (old new : TreeIs) → changes_file call ≡ true → f now ≡ changes change answer →
+    d ≡ tree_done c → ended ≡ ended_by now c answer → ChangesFiles (λ files. is_found files call) (files_after true change) old d new → Goes (Ends call f (Errs enoent)) old (done_of_ended ended) HandlesStay new
+changed-goes call f change answer now c d ended old new k e s a h =
+    subst (λ (x : Ended). Goes (Ends call f (Errs enoent)) old (done_of_ended x) HandlesStay new) (sym a)
+    (ends-goes call f change answer now c old new k e (subst (λ (x : TreeDone). ChangesFiles (λ files. is_found files call) (files_after true change) old x new) s h))
+
+-- ---- a look ahead
+
+pub looked-goes : (target : Target) (next : Look → Walk NodeVerdict) (shown : Look) (ended : Ended) (change : HandleChange) (old mid new : TreeIs) → Asks old false mid → IsShown old.told target shown →
+    Goes (next shown) mid (done_of_ended ended) change new → Goes (Looks target next) old (done_behind (Some (look.Is shown)) ended) change new
+looked-goes target next shown ended change old mid new a i g = record {
+  gives = (i, subst (λ (t : Option (List File)). Gives t (next shown) (shown_behind ended.call) (is_tree (fault_of_call ended.call))) (told-stays old false mid a) g.gives);
+  clock = g.clock;
+  keeper = g.keeper;
+  verdict = g.verdict;
+  comes = g.comes;
+  answer = g.answer;
+  handles = g.handles;
+  files = g.files ∙ ap (option_map (files_after true (file_change g.verdict))) (told-stays old false mid a);
+  calls = more-calls old false mid _ new.told new a g.calls;
+}
+
+failed-goes : (target : Target) (next : Look → Walk NodeVerdict) (old new : TreeIs) → Asks old true new → Goes (Looks target next) old (done_behind (Some look.Failed) (refuses eio)) HandlesStay new
+failed-goes target next old new a = record {
+  gives = refl;
+  clock = refl;
+  keeper = λ e. cc;
+  verdict = None;
+  comes = refl;
+  answer = refl;
+  handles = refl;
+  files = told-stays old true new a ∙ same-told old.told;
+  calls = more-calls old true new [] new.told new a (record { goes = refl; fails = tt });
+}
+
+pub shows-path : (t : Option (List File)) (path : List ℕ) (a : LookAnswer) → Shows t path a → ShowsAt t (AtPath path) a
+shows-path None path (look.Is shown) h = tt
+shows-path (Some files) path (look.Is shown) h = h
+shows-path t path look.Failed h = tt
+
+pub named-shown : (t : Option (List File)) (name : FileName) (size moment : ℕ) → Attrs t name (attr.Is size moment) → IsShown t (Named name) (Look.File name.generation size moment)
+named-shown None name size moment h = refl
+named-shown (Some files) name size moment h = in-files files h
+  where
+    in-files : (fs : List File) → option_map attributes_of (file_named fs name) ≡ Some (size, moment) → Look.File name.generation size moment ≡ look_of_file (file_named fs name)
+    in-files [] e = cc
+    in-files (f ∷ fs) e = by (is_named name f) refl e (in-files fs)
+      where
+        by : (b : Bool) → is_named name f ≡ b → option_map attributes_of (cond b (Some f) (file_named fs name)) ≡ Some (size, moment) →
+            (option_map attributes_of (file_named fs name) ≡ Some (size, moment) → Look.File name.generation size moment ≡ look_of_file (file_named fs name)) →
+            Look.File name.generation size moment ≡ look_of_file (cond b (Some f) (file_named fs name))
+        by true n e more =
+            let same : f.generation ≡ name.generation = grind (arith, nat_tests, n) in
+            let size-is : length f.bytes ≡ size = ap (λ (o : Option (ℕ × ℕ)). (unwrap_or o (0, 0)).0) e in
+            let moment-is : f.moment ≡ moment = ap (λ (o : Option (ℕ × ℕ)). (unwrap_or o (0, 0)).1) e in
+            rw (← same, ← size-is, ← moment-is) refl
+        by false n e more = more e
+
+pub behind-goes : (target : Target) (next : Look → Walk NodeVerdict) (a : LookAnswer) (ended : Ended) (change : HandleChange) (old mid new : TreeIs) → Asks old (is_look_fault a) mid → ShowsAt old.told target a →
+    GoesBehind next a mid ended change new → Goes (Looks target next) old (done_behind (Some a) ended) change new
+behind-goes target next (look.Is shown) ended change old mid new a i g = looked-goes target next shown ended change old mid new a i g
+behind-goes target next look.Failed ended change old mid new a i g =
+    subst (λ (e : Ended). Goes (Looks target next) old (done_behind (Some look.Failed) e) change new) (sym g.0)
+    (subst (λ (h : HandleChange). Goes (Looks target next) old (done_behind (Some look.Failed) (refuses eio)) h new) (sym g.1)
+    (failed-goes target next old new (subst (λ (t : TreeIs). Asks old true t) (sym g.2) a)))
+
+on-file : (errno : ℕ) (a : LookAnswer) (answer : Answer) (t : TreeIs) → ComesToBehind (errs_on_file errno) a answer → GoesBehind (if_file (errs_on_file errno)) a t (record { answer = answer; call = None }) HandlesStay t
+on-file errno (look.Is (Look.File generation size moment)) answer t h = as-refused errno answer t h
+on-file errno (look.Is Look.Folder) answer t h = as-refused enoent answer t h
+on-file errno (look.Is Look.Missing) answer t h = as-refused enoent answer t h
+on-file errno look.Failed answer t h = (ap (λ (x : Answer). record { answer = x; call = None }) h, refl, refl)
+
+pub on-file-goes : (path : List ℕ) (errno : ℕ) (a : LookAnswer) (answer : Answer) (old new : TreeIs) → Asks old (is_look_fault a) new → Shows old.told path a → ComesToBehind (errs_on_file errno) a answer →
+    Goes (at_file path (errs_on_file errno)) old (done_behind (Some a) (record { answer = answer; call = None })) HandlesStay new
+on-file-goes path errno a answer old new asks shows h = behind-goes (AtPath path) (if_file (errs_on_file errno)) a (record { answer = answer; call = None }) HandlesStay old new new asks (shows-path old.told path a shows) (on-file errno a answer new h)
+
+-- ---- want of memory
+
+pub on-err : {A : Type 0} (r : Result A WantOfMemory) (P : Type 0) → P → OnErr r P
+on-err (Ok x) P p = tt
+on-err (Err e) P p = p
+
+pub called-behind : (old mid new : TreeIs) (failed : Bool) → failed ≡ false → Asks old failed mid → WasCalled mid new → WasCalled old new
+called-behind old mid new failed f a w =
+    let asked : Asks old false mid = subst (λ (b : Bool). Asks old b mid) f a in (
+      suc w.0,
+      more-calls old false mid (replicate w.0 false) old.told new asked
+          (subst (λ (t : Option (List File)). Calling mid (replicate w.0 false) t new) (told-stays old false mid asked) w.1),
+    )
+
+-- ---- parts of a walk
+
+pub if-wrong : (b r : Bool) (errno : ℕ) (w : Walk NodeVerdict) → r ≡ b → r ≡ true → errs_if b errno w ≡ errs errno
+if-wrong b r errno w e t = ap (λ (x : Bool). errs_if x errno w) (sym e ∙ t)
+
+pub if-right : (b r : Bool) (errno : ℕ) (w : Walk NodeVerdict) → r ≡ b → r ≡ false → errs_if b errno w ≡ w
+if-right b r errno w e t = ap (λ (x : Bool). errs_if x errno w) (sym e ∙ t)
+
+pub if-may : (may : Bool) (errno : ℕ) (w : Walk NodeVerdict) → not may ≡ false → errs_if (not may) errno w ≡ w
+if-may may errno w e = ap (λ (b : Bool). errs_if b errno w) e
+
+pub if-within : (limit n errno : ℕ) (w : Walk NodeVerdict) → n ≤ limit → errs_if (nat_lt limit n) errno w ≡ w
+if-within limit n errno w h =
+    let within : nat_lt limit n ≡ false = grind (arith, nat_tests) in
+    ap (λ (b : Bool). errs_if b errno w) within
+
+-- one walk for another that is the same
+pub along : (v w : Walk NodeVerdict) (old : TreeIs) (ended : Ended) (change : HandleChange) (new : TreeIs) → v ≡ w → Goes w old (done_of_ended ended) change new → Goes v old (done_of_ended ended) change new
+along v w old ended change new e g = subst (λ (x : Walk NodeVerdict). Goes x old (done_of_ended ended) change new) (sym e) g
+
+pub along-ok : (v w : Walk NodeVerdict) (old : TreeIs) (r : Result Ended WantOfMemory) (change : HandleChange) (new : TreeIs) → v ≡ w → IfOk r (λ ended. Goes w old (done_of_ended ended) change new) →
+    IfOk r (λ ended. Goes v old (done_of_ended ended) change new)
+along-ok v w old r change new e g = subst (λ (x : Walk NodeVerdict). IfOk r (λ ended. Goes x old (done_of_ended ended) change new)) (sym e) g
+
+-- a folder is answered the same, whichever it is
+pub folder-goes : (p q : SeenPlace) (b : ViewBook) (who : Who) (file : List ℕ → Bool → OnFile) (folder : Folder → Walk NodeVerdict) (t : TreeIs) (done : NodeDone) → p ≡ q → (f : Folder) → sight_of b who q ≡ SightOfFolder f →
+    ((x : Folder) → Goes (folder x) t done HandlesStay t) → Goes (by_place (Some (sight_of b who p)) file folder) t done HandlesStay t
+folder-goes p q b who file folder t done e f s g =
+    subst (λ (x : Sight). Goes (by_place (Some x) file folder) t done HandlesStay t) (sym (ap (sight_of b who) e ∙ s)) (g f)
+
+-- ---- the request
+
+pub goes-done : (w : Walk NodeVerdict) (op : NodeOp) (seat : ℕ) (table : HandleTable) (old : TreeIs) (done : NodeDone) (change : HandleChange) (after : HandleTable) (new : TreeIs) → IsExact op →
+    Goes w old done change new → Handled seat change table after → DoneBy w op seat table old done after new
+goes-done w op seat table old done change after new x g h = record {
+  verdict = g.verdict;
+  comes = record {
+    gives = g.gives;
+    clock = g.clock;
+    keeper = g.keeper;
+    comes = g.comes;
+    answer = same-answer old.told op (answer_of g.verdict) done.answer x g.answer;
+    files = g.files;
+    calls = g.calls;
+  };
+  handled = subst (λ (c : HandleChange). Handled seat c table after) (sym g.handles) h;
+}
+
+pub write-does : (book : FileBook) (call : NodeCall) (table : HandleTable) (fh offset : ℕ) (content : List ℕ) (handle : Option Handle) (old : TreeIs) (done : NodeDone) (new : TreeIs) → handle_in (opened_on table.seats call.seat) fh ≡ handle →
+    call.request.now.op ≡ NodeOp.Write fh offset content → Goes (write book.file_limit offset content handle) old done HandlesStay new → Does book call table old done table new
+write-does book call table fh offset content handle old done new h op g = λ s c a.
+    done-in s c book call (write book.file_limit offset content handle) table old done table new a
+    (walk-is s c call.request.now (NodeOp.Write fh offset content) op
+    ∙ (ap (λ (n : ℕ). write n offset content (handle_of s.handles c.seat fh)) a.limit
+    ∙ ap (write book.file_limit offset content) (sym (handle-is s c book call table old.told a fh) ∙ h)))
+    (goes-done (write book.file_limit offset content handle) call.request.now.op call.seat table old done HandlesStay table new (subst IsExact (sym op) tt) g (handles-stay call.seat table))
+
+pub set_attr-does : (book : FileBook) (call : NodeCall) (table : HandleTable) (valid fh size : ℕ) (handle : Option Handle) (old : TreeIs) (done : NodeDone) (new : TreeIs) → handle_in (opened_on table.seats call.seat) fh ≡ handle →
+    call.request.now.op ≡ NodeOp.SetAttr valid fh size →
+    ((s : State) → Lends book.view s → Goes (set_attr call.request.now (record { valid = valid; size = size; limit = book.file_limit }) (place_of s call.who.now call.request.now.node) handle) old done HandlesStay new) →
+    Does book call table old done table new
+set_attr-does book call table valid fh size handle old done new h op f = λ s c a.
+    let r = call.request.now in
+    let asks : SetsAttr = record { valid = valid; size = size; limit = book.file_limit } in
+    done-in s c book call (set_attr r asks (place_of s call.who.now r.node) handle) table old done table new a
+    (walk-is s c r (NodeOp.SetAttr valid fh size) op
+    ∙ (ap (λ (n : ℕ). set_attr r (record { valid = valid; size = size; limit = n }) (place_of s c.who r.node) (handle_of s.handles c.seat fh)) a.limit
+    ∙ (ap (λ (w : Who). set_attr r asks (place_of s w r.node) (handle_of s.handles c.seat fh)) a.caller
+    ∙ ap (set_attr r asks (place_of s call.who.now r.node)) (sym (handle-is s c book call table old.told a fh) ∙ h))))
+    (goes-done (set_attr r asks (place_of s call.who.now r.node) handle) r.op call.seat table old done HandlesStay table new (subst IsExact (sym op) tt) (f s a.lists) (handles-stay call.seat table))

@@ -1,0 +1,5 @@
+use Rattle.file_ops.proofs.Creates.{create-does}
+use Rattle.file_ops.proofs.created.create.Goals as goal
+
+pub returns-clause-ok : goal.returns-clause-ok
+returns-clause-ok g c = λ op. create-does c.args.book.now c.args.call.now c.args.name.now c.args.flags c.find_target-target.result c.args.handles.now _ _ _ _ op c.find_target-target.ensures (rw c.done.ensures c.in_ok-tried.ensures.ok)

@@ -1,0 +1,11 @@
+use Rattle.std.proofs.Common.{◌∙◌, Some, ap}
+use Rattle.portal_model.specs.Create.{create_in}
+use Rattle.portal_model.specs.Errno.{enotdir}
+use Rattle.portal_model.specs.NodeVerdict.{by_place, no_file}
+use Rattle.file_ops.specs.Sights.{sight_of}
+use Rattle.file_ops.specs.declared.sight.SeenPlace.{SeenPlace}
+use Rattle.file_ops.proofs.created.target_at.Goals as goal
+
+pub returns-in-Folder : goal.returns-in-Folder
+returns-in-Folder c = λ b who r flags room.
+    ap (λ (p : SeenPlace). by_place (Some (sight_of b who p)) (no_file enotdir) (create_in r c.args.name.now flags room)) c.in-Folder.is ∙ c.target_in.ensures r flags room

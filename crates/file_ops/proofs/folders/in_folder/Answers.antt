@@ -1,0 +1,29 @@
+use Rattle.std.proofs.Common.{◌∙◌, Bool, Option, Some, ap, not, subst, sym}
+use Rattle.host_tree.specs.Trees.{Asks}
+use Rattle.portal_model.specs.declared.request.NodeOp.TheVariants as NodeOp
+use Rattle.portal_model.specs.OpenDir.{open_dir}
+use Rattle.portal_model.specs.Place.{Sight}
+use Rattle.file_ops.specs.Done.{DoneBy, done_with, room_in}
+use Rattle.file_ops.specs.OpenedFolders.{ListsBehind}
+use Rattle.file_ops.specs.Sights.{sight_of}
+use Rattle.file_ops.proofs.OneLook.{called-once}
+use Rattle.file_ops.proofs.OpenedDirs.{dir-behind-look, on-err, still-wants}
+use Rattle.file_ops.proofs.folders.in_folder.Goals as goal
+
+pub returns-in_err-by_look-in-Some-clause-err : goal.returns-in_err-by_look-in-Some-clause-err
+returns-in_err-by_look-in-Some-clause-err g c =
+    on-err c.from_residual-in_err-by_look-in-Some.result _
+    (still-wants c.args.call.now.seat _ _ _ _ _ c.take_room.ensures.kept c.in_err-by_look-in-Some.ensures.err.0
+    (called-once _ _ (subst (λ (b : Bool). Asks (g.T.HostTree.is c.args.tree.now) b (g.T.HostTree.is c.look-look.new.self)) c.in_err-by_look-in-Some.ensures.err.1 c.look-look.ensures.asks)))
+
+pub returns-in_ok-by_look-in-Some-clause-ok : goal.returns-in_ok-by_look-in-Some-clause-ok
+returns-in_ok-by_look-in-Some-clause-ok g c = λ s l.
+    let seen = c.requires.seen s l in
+    let sight = sight_of c.args.book.now c.args.call.now.who.now c.args.folder in
+    subst (λ (o : Option Sight). DoneBy (open_dir c.args.call.now.request.now o (room_in c.args.handles.now c.args.call.now.seat)) NodeOp.OpenDir c.args.call.now.seat c.args.handles.now (g.T.HostTree.is c.args.tree.now)
+    (done_with (record { answer = c.in_ok-by_look-in-Some.field-0; look = Some c.look-look.result })) c.by_look.new.handles (g.T.HostTree.is c.look-look.new.self)) (sym seen)
+    (dir-behind-look c.args.call.now.request.now sight _ c.args.call.now.seat c.look-look.result _ c.args.handles.now c.take_room.new.handles _ _ _
+    (sym (rw c.in-Some.is at c.document_in.ensures c.args.book.now c.args.call.now.who.now))
+    (c.in_ok-take_room.ensures.full ∙ ap not c.if-not-branch.false)
+    c.take_room.ensures.kept c.look-look.ensures.asks c.look-look.ensures.looks
+    (subst (λ (o : Option Sight). ListsBehind c.args.call.now.request.now o c.args.call.now.seat c.look-look.result c.take_room.new.handles c.in_ok-by_look-in-Some.field-0 c.by_look.new.handles) seen (c.in_ok-by_look-in-Some.ensures.ok s l)))

@@ -1,0 +1,49 @@
+use Rattle.std.proofs.Common.{◌≡◌, ap, subst, sym, ◌∙◌}
+use Rattle.std.proofs.lemmas.Result.{IfOk-weaker, on_err_weaker}
+use Rattle.portal_model.specs.declared.request.NodeOp.TheVariants as NodeOp
+use Rattle.file_ops.specs.Done.{Forgets}
+use Rattle.file_ops.proofs.DoneLemmas.{IsExact, tells-does}
+use Rattle.file_ops.proofs.serve.serve_node.Goals as goal
+
+pub returns-in-Lookup-clause-ok : goal.returns-in-Lookup-clause-ok
+returns-in-Lookup-clause-ok g c =
+    let op : c.args.call.now.request.now.op ≡ NodeOp.Lookup c.as_slice.result.now = c.in-Lookup.is ∙ ap NodeOp.Lookup (sym c.as_slice.ensures) in
+    IfOk-weaker c.lookup.result _ _ (λ done h. tells-does c.args.book.now c.args.call.now c.args.handles.now (g.T.HostTree.is c.args.tree.now) done (g.T.HostTree.is c.lookup.new.tree) (subst IsExact (sym op) tt) h) (c.lookup.ensures.ok op)
+
+pub returns-in-Forget-clause-ok : goal.returns-in-Forget-clause-ok
+returns-in-Forget-clause-ok g c = c.forget.ensures.done c.args.book.now c.args.call.now c.args.handles.now (g.T.HostTree.is c.args.tree.now) (subst Forgets (sym c.in-Forget.is) tt)
+
+pub returns-in-BatchForget-clause-ok : goal.returns-in-BatchForget-clause-ok
+returns-in-BatchForget-clause-ok g c = c.forget-in-BatchForget.ensures.done c.args.book.now c.args.call.now c.args.handles.now (g.T.HostTree.is c.args.tree.now) (subst Forgets (sym c.in-BatchForget.is) tt)
+
+pub returns-in-Release-clause-ok : goal.returns-in-Release-clause-ok
+returns-in-Release-clause-ok g c = c.release.ensures.done c.in-Release.is c.args.book.now (g.T.HostTree.is c.args.tree.now)
+
+pub returns-in-ReleaseDir-clause-ok : goal.returns-in-ReleaseDir-clause-ok
+returns-in-ReleaseDir-clause-ok g c = c.release_dir.ensures.done c.in-ReleaseDir.is c.args.book.now (g.T.HostTree.is c.args.tree.now)
+
+pub returns-in-GetAttr-clause-ok : goal.returns-in-GetAttr-clause-ok
+returns-in-GetAttr-clause-ok g c = c.get_attr.ensures.ok c.in-GetAttr.is
+
+pub returns-in-SetAttr-clause-ok : goal.returns-in-SetAttr-clause-ok
+returns-in-SetAttr-clause-ok g c = c.set_attr.ensures.ok c.args.handles.now c.in-SetAttr.fh (sym c.get-handle.ensures.handle) c.in-SetAttr.is
+
+pub returns-in-Flush-clause-ok : goal.returns-in-Flush-clause-ok
+returns-in-Flush-clause-ok g c = c.flush.ensures.done c.in-Flush.is c.args.book.now (g.T.HostTree.is c.args.tree.now)
+
+pub returns-in-ReadDir-clause-ok : goal.returns-in-ReadDir-clause-ok
+returns-in-ReadDir-clause-ok g c = c.read_dir.ensures.done c.in-ReadDir.is c.args.book.now (g.T.HostTree.is c.args.tree.now)
+
+pub returns-in-Fsync-clause-ok : goal.returns-in-Fsync-clause-ok
+returns-in-Fsync-clause-ok g c = c.fsync.ensures.ok c.in-Fsync.is c.args.book.now
+
+pub returns-in-Fsync-clause-err : goal.returns-in-Fsync-clause-err
+returns-in-Fsync-clause-err g c =
+    on_err_weaker c.fsync.result (λ called. record { handles = λ s h. h; calls = (called.0, called.2) }) c.fsync.ensures.err
+
+pub returns-in-Read-clause-ok : goal.returns-in-Read-clause-ok
+returns-in-Read-clause-ok g c = c.read.ensures.ok c.in-Read.is c.args.book.now
+
+pub returns-in-Read-clause-err : goal.returns-in-Read-clause-err
+returns-in-Read-clause-err g c =
+    on_err_weaker c.read.result (λ called. record { handles = λ s h. h; calls = (called.0, called.2) }) c.read.ensures.err

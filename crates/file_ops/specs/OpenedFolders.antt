@@ -1,0 +1,44 @@
+-- FUSE_OPENDIR behind the room that was taken for a handle: the entries, and the handle on them.
+use Rattle.std.specs.Prelude.{◌≡◌, ℕ, List, Option, Some, None}
+use Rattle.portal_base.specs.declared.files.Look.{Look}
+use Rattle.host_tree.specs.declared.tree.LookAnswer.{LookAnswer}
+use Rattle.host_tree.specs.declared.tree.LookAnswer.TheVariants as look
+use Rattle.portal_model.specs.declared.handle.Handle.{Handle}
+use Rattle.portal_model.specs.declared.reply.Answer.{Answer}
+use Rattle.portal_model.specs.declared.reply.Code.TheVariants as Code
+use Rattle.portal_model.specs.declared.reply.DirName.{DirName}
+use Rattle.portal_model.specs.declared.reply.NodeAnswer.TheVariants as NodeAnswer
+use Rattle.portal_model.specs.declared.request.NodeRequest.{NodeRequest}
+use Rattle.portal_model.specs.Errno.{eio}
+use Rattle.portal_model.specs.NodeVerdict.{HandlesStay, Opens, next_handle}
+use Rattle.portal_model.specs.OpenDir.{open_dir}
+use Rattle.portal_model.specs.Place.{FolderOf, RootOf, Sight, SightOfFile, SightOfFolder, Views}
+use Rattle.portal_model.specs.Walk.{Answers}
+use Rattle.app_view.specs.Entries.{behind_look, opened_with}
+use Rattle.open_handles.specs.Opened.{HandleTable}
+use Rattle.file_ops.specs.Done.{room_in}
+use Rattle.file_ops.specs.OpenHandles.{Handled}
+
+-- the folder that is seen is opened with the entries that it has where a look shows this
+pub record Lists (r : NodeRequest) (sight : Option Sight) (seat : ℕ) (shown : Look)
+    (table : HandleTable) (answer : Answer) (after : HandleTable) : Type 0 where
+  pub entries : List DirName
+  pub walk : behind_look shown (open_dir r sight (room_in table seat))
+      ≡ Answers (opened_with r (room_in table seat) entries)
+  pub number : answer ≡ Answer.Node (NodeAnswer.Opened (next_handle (room_in table seat)))
+  pub handled : Handled seat (Opens (Handle.Folder r.node entries)) table after
+
+-- by the look for the document of a folder
+abbrev pub ListsBehind : NodeRequest → Option Sight → ℕ → LookAnswer → HandleTable → Answer
+    → HandleTable → Type 0
+ListsBehind r sight seat (look.Is shown) table answer after =
+    Lists r sight seat shown table answer after
+ListsBehind r sight seat look.Failed table answer after =
+    (answer ≡ Answer.Refused (Code.Errno eio)) × Handled seat HandlesStay table after
+
+-- the path that is looked at where the folder is opened
+abbrev pub path_in : Sight → Option (List ℕ)
+path_in (SightOfFile path may_write) = None
+path_in (SightOfFolder (RootOf view numbers has_views)) = None
+path_in (SightOfFolder (Views applications)) = None
+path_in (SightOfFolder (FolderOf view number path may_write)) = Some path

@@ -1,0 +1,295 @@
+//! FUSE_CREATE: the file of a document is made, and opened.
+
+ghost use Rattle.std.specs.Prelude.{◌≡◌, ℕ, ◌<◌, ◌^◌, IfOk, IfSome, IsSome, IsSomeAnd, OnErr, Some, false};
+ghost use Rattle.host_tree.specs.Trees.{Looks, is_look_fault};
+ghost use Rattle.portal_base.specs.Content.{look_at};
+ghost use Rattle.portal_base.specs.declared.files.Look.TheVariants as Look;
+ghost use Rattle.open_handles.specs.Opened.{CanAdd, opened_on};
+ghost use Rattle.portal_base.specs.declared.who.Who.{Who};
+ghost use Rattle.portal_model.specs.declared.request.NodeOp.TheVariants as NodeOp;
+ghost use Rattle.portal_model.specs.declared.request.NodeRequest.{NodeRequest};
+ghost use Rattle.portal_model.specs.Create.{create, create_in, create_there};
+ghost use Rattle.portal_model.specs.Errno.{enotdir};
+ghost use Rattle.portal_model.specs.NodeVerdict.{HandlesStay, Room, by_place, no_file};
+ghost use Rattle.portal_model.specs.Place.{FolderOf, place_of};
+ghost use Rattle.portal_model.specs.State.{State};
+ghost use Rattle.app_view.specs.Books.{Lends};
+ghost use Rattle.app_view.specs.declared.book.ViewBook.{ViewBook};
+ghost use Rattle.file_ops.specs.Creates.{Opening, OpeningBehind, made_walk, target_walk};
+ghost use Rattle.file_ops.specs.Done.{Does, Reads, Wants, room_in};
+ghost use Rattle.file_ops.specs.OpenHandles.{Handled};
+ghost use Rattle.file_ops.specs.Sights.{sight_of, view_of};
+ghost use Rattle.file_ops.specs.TreeCalls.{WasCalled};
+ghost use Rattle.file_ops.specs.Tries.{done_of_ended, done_of_tried, moment_of};
+
+use crate::attributes::attr_of_file;
+use crate::entry::{is_name_of, is_too_long};
+use crate::handed::{hand_out, take_room};
+use crate::open_flags::{file_handle, has_no_mode};
+use crate::served::{FileBook, NodeCall, NodeDone};
+use crate::sight::{SeenPlace, seen_place};
+use crate::tried::{Came, Ended, Tried, came_of, room_for_looks};
+use app_view::{SeenDocument, ViewBook, node_of};
+use host_tree::{HostTree, LookAnswer};
+use open_handles::Handles;
+use portal_base::files::{FileName, Look};
+use portal_base::memory::{Replica, WantOfMemory};
+use portal_base::names::HostPath;
+use portal_base::outside::Clock;
+use portal_base::who::Who;
+use portal_model::errno::{
+    EACCES, EEXIST, EINVAL, EIO, EMFILE, ENAMETOOLONG, ENOENT, ENOTDIR, EPERM,
+};
+use portal_model::place::Place;
+use portal_model::reply::NodeAnswer;
+use portal_model::request::NodeRequest;
+use std::alloc::Global;
+
+/// What a CREATE comes to by the name that it gives and by what the caller sees.
+#[derive(Clone, Copy)]
+enum Target<'a> {
+    /// It is refused.
+    Refused(u32),
+    /// A file stands in the place of the folder.
+    File(&'a HostPath),
+    /// The file of a document is to be made.
+    New {
+        /// Its path.
+        path: &'a HostPath,
+        /// Its node.
+        node: u64,
+    },
+}
+
+/// Answers a CREATE of a name in a folder, with the flags of open(2): the file of a
+/// document alone may be made, where it may be written and isn't there, and it is
+/// opened.
+///
+/// The room for the handle is taken before the tree is called. It takes a look at the
+/// file and one more call of the tree, and for that the moment of now. Of n documents
+/// it takes about n steps.
+pub fn create<T: HostTree, C: Clock>(
+    alloc: Global,
+    book: &FileBook,
+    handles: &mut Handles,
+    tree: &mut T,
+    clock: &mut C,
+    call: &NodeCall,
+    name: &[u8],
+    flags: u32,
+) -> Result<NodeDone, WantOfMemory>
+    requires { IsSome (opened_on handles.old.seats call.now.seat) }
+    ensures ok { call.now.request.now.op ≡ NodeOp.Create name.now flags → IfOk result (λ done.
+        Does book.now call.now handles.old (T.is tree.old) done handles.new (T.is tree.new)) }
+    ensures clock { IfOk result (λ done. Reads C.told clock.old done.now clock.new) }
+    ensures err { OnErr result (Wants handles.old (T.is tree.old) handles.new (T.is tree.new)) }
+    ensures clock_err { OnErr result (C.told clock.new ≡ C.told clock.old) }
+{
+    let room = room_for_looks(alloc)?;
+    let target = find_target(&book.view, call.who, call.request, name, flags);
+    let tried = make(alloc, handles, tree, clock, call, flags, target)?;
+    Ok(tried.done(room))
+}
+
+/// What the request comes to by the name that it gives and by what the caller sees.
+fn find_target<'a>(
+    book: &ViewBook<'a>,
+    who: &'a Who,
+    request: &NodeRequest,
+    name: &[u8],
+    flags: u32,
+) -> Target<'a>
+    ensures { (s : State) (room : Room) → Lends book.now s →
+        create request.now name.now flags (place_of s who.now request.now.node) room
+        ≡ target_walk request.now flags room result }
+{
+    if has_no_mode(flags) {
+        return Target::Refused(EINVAL);
+    }
+    if is_too_long(name) {
+        return Target::Refused(ENAMETOOLONG);
+    }
+    match seen_place(book, who, request.node) {
+        Some(place) => target_at(place, name),
+        None => Target::Refused(ENOENT),
+    }
+}
+
+/// What the request comes to at a place that the caller sees.
+fn target_at<'a>(place: SeenPlace<'a>, name: &[u8]) -> Target<'a>
+    requires { view_of place < 2 ^ 28 }
+    ensures { (b : ViewBook) (who : Who) (r : NodeRequest) (flags : ℕ) (room : Room) →
+        by_place (Some (sight_of b who place.entry)) (no_file enotdir)
+        (create_in r name.now flags room) ≡ target_walk r flags room result }
+{
+    match place {
+        SeenPlace::File { seen, .. } => Target::File(&seen.document.path),
+        SeenPlace::Folder { view, seen } => target_in(view, seen, name),
+        SeenPlace::Root { .. } => Target::Refused(EPERM),
+        SeenPlace::Views => Target::Refused(EPERM),
+    }
+}
+
+/// What the request comes to in the folder of a document.
+fn target_in<'a>(view: u32, seen: SeenDocument<'a>, name: &[u8]) -> Target<'a>
+    requires { view < 2 ^ 28 }
+    ensures { (r : NodeRequest) (flags : ℕ) (room : Room) →
+        create_in r name.now flags room (FolderOf view seen.entry.document.now.id.number
+        seen.entry.document.now.path seen.entry.may_write) ≡ target_walk r flags room result }
+{
+    if !is_name_of(&seen.document.path, name) {
+        return Target::Refused(EACCES);
+    }
+    if !seen.may_write {
+        return Target::Refused(EACCES);
+    }
+    Target::New {
+        path: &seen.document.path,
+        node: node_of(Place::File {
+            view,
+            id: seen.document.id,
+        }),
+    }
+}
+
+/// How the request ends.
+fn make<T: HostTree, C: Clock>(
+    alloc: Global,
+    handles: &mut Handles,
+    tree: &mut T,
+    clock: &mut C,
+    call: &NodeCall,
+    flags: u32,
+    target: Target,
+) -> Result<Tried, WantOfMemory>
+    requires { IsSome (opened_on handles.old.seats call.now.seat) }
+    ensures ok { IfOk result (λ tried. Opening
+        (target_walk call.now.request.now flags (room_in handles.old call.now.seat) target.entry)
+        call.now.seat handles.old (T.is tree.old) (done_of_tried tried) handles.new
+        (T.is tree.new)) }
+    ensures clock { IfOk result (λ tried.
+        Reads C.told clock.old (moment_of tried.ended.call) clock.new) }
+    ensures err { OnErr result (WasCalled (T.is tree.old) (T.is tree.new)) }
+    ensures handles_err { OnErr result
+        (Handled call.now.seat HandlesStay handles.old handles.new) }
+    ensures clock_err { OnErr result (C.told clock.new ≡ C.told clock.old) }
+{
+    match target {
+        Target::Refused(errno) => Ok(Tried::unlooked(Ended::refused(errno))),
+        Target::File(path) => Ok(Tried::refused_on_file(tree, path, ENOTDIR)),
+        Target::New { path, node } => {
+            let free = take_room(handles, call.seat)?;
+            if free {
+                make_new(alloc, handles, tree, clock, call, flags, path, node)
+            } else {
+                Ok(Tried::unlooked(Ended::refused(EMFILE)))
+            }
+        }
+    }
+}
+
+/// How the request ends on a file that is to be made; room was taken for the handle.
+fn make_new<T: HostTree, C: Clock>(
+    alloc: Global,
+    handles: &mut Handles,
+    tree: &mut T,
+    clock: &mut C,
+    call: &NodeCall,
+    flags: u32,
+    path: &HostPath,
+    node: u64,
+) -> Result<Tried, WantOfMemory>
+    requires { IsSomeAnd (opened_on handles.old.seats call.now.seat) (CanAdd handles.old.most) }
+    ensures ok { IfOk result (λ tried. Opening
+        (made_walk call.now.request.now flags (room_in handles.old call.now.seat) path.now node)
+        call.now.seat handles.old (T.is tree.old) (done_of_tried tried) handles.new
+        (T.is tree.new)) }
+    ensures clock { IfOk result (λ tried.
+        Reads C.told clock.old (moment_of tried.ended.call) clock.new) }
+    ensures err { OnErr result (WasCalled (T.is tree.old) (T.is tree.new)) }
+    ensures handles_err { OnErr result
+        (Handled call.now.seat HandlesStay handles.old handles.new) }
+    ensures clock_err { OnErr result (C.told clock.new ≡ C.told clock.old) }
+{
+    let path_copy = path.replica(alloc)?;
+    let look = tree.look(path);
+    let file = FileName {
+        path: path_copy,
+        generation: 0,
+    };
+    let ended = make_looked(handles, tree, clock, call, flags, file, node, look)?;
+    Ok(Tried {
+        look: Some(look),
+        ended,
+    })
+}
+
+/// How the request ends behind the look for the file.
+fn make_looked<T: HostTree, C: Clock>(
+    handles: &mut Handles,
+    tree: &mut T,
+    clock: &mut C,
+    call: &NodeCall,
+    flags: u32,
+    file: FileName,
+    node: u64,
+    look: LookAnswer,
+) -> Result<Ended, WantOfMemory>
+    requires room { IsSomeAnd (opened_on handles.old.seats call.now.seat)
+        (CanAdd handles.old.most) }
+    requires first { file.generation ≡ 0 }
+    requires looks { Looks (T.is tree.old).told file.path look }
+    ensures ok { IfOk result (λ ended. OpeningBehind
+        (create_there call.now.request.now flags (room_in handles.old call.now.seat) file.path node)
+        look call.now.seat handles.old (T.is tree.old) ended handles.new (T.is tree.new)) }
+    ensures clock { IfOk result (λ ended. Reads C.told clock.old (moment_of ended.call) clock.new) }
+    ensures err { OnErr result (WasCalled (T.is tree.old) (T.is tree.new)) }
+    ensures shown { OnErr result (is_look_fault look ≡ false) }
+    ensures handles_err { OnErr result
+        (Handled call.now.seat HandlesStay handles.old handles.new) }
+    ensures clock_err { OnErr result (C.told clock.new ≡ C.told clock.old) }
+{
+    match look {
+        LookAnswer::Is(Look::Missing) => make_file(handles, tree, clock, call, flags, file, node),
+        LookAnswer::Is(Look::Folder | Look::File { .. }) => Ok(Ended::refused(EEXIST)),
+        LookAnswer::Failed => Ok(Ended::refused(EIO)),
+    }
+}
+
+/// How the request ends where nothing stands at the path.
+fn make_file<T: HostTree, C: Clock>(
+    handles: &mut Handles,
+    tree: &mut T,
+    clock: &mut C,
+    call: &NodeCall,
+    flags: u32,
+    file: FileName,
+    node: u64,
+) -> Result<Ended, WantOfMemory>
+    requires room { IsSomeAnd (opened_on handles.old.seats call.now.seat)
+        (CanAdd handles.old.most) }
+    requires first { file.generation ≡ 0 }
+    requires missing { IfSome (T.is tree.old).told (λ files. Look.Missing ≡ look_at files file.path) }
+    ensures ok { IfOk result (λ ended. Opening
+        (create_there call.now.request.now flags (room_in handles.old call.now.seat) file.path node
+        Look.Missing) call.now.seat handles.old (T.is tree.old) (done_of_ended ended) handles.new
+        (T.is tree.new)) }
+    ensures clock { IfOk result (λ ended. Reads C.told clock.old (moment_of ended.call) clock.new) }
+    ensures err { OnErr result (WasCalled (T.is tree.old) (T.is tree.new)) }
+    ensures handles_err { OnErr result
+        (Handled call.now.seat HandlesStay handles.old handles.new) }
+    ensures clock_err { OnErr result (C.told clock.new ≡ C.told clock.old) }
+{
+    let now = clock.now();
+    let came = came_of(tree.create(&file.path, now))?;
+    match came {
+        Came::Done => {
+            let attr = attr_of_file(call.request, node, true, 0, now);
+            let fh = hand_out(handles, call.seat, file_handle(file, node, flags));
+            let answer = NodeAnswer::Created { attr, fh };
+            Ok(Ended::by_call(now, came, answer))
+        }
+        Came::NotFile => Ok(Ended::missing(now)),
+        Came::Failed => Ok(Ended::failed(now)),
+    }
+}

@@ -1,0 +1,258 @@
+//! FUSE_OPEN: a file is opened, by the flags of open(2).
+
+ghost use Rattle.std.specs.Prelude.{◌≡◌, ◌&&◌, ℕ, IfOk, IsSome, IsSomeAnd, OnErr, false, not, true};
+ghost use Rattle.host_tree.specs.Trees.{is_look_fault};
+ghost use Rattle.open_handles.specs.Opened.{CanAdd, opened_on};
+ghost use Rattle.portal_model.specs.declared.reply.NodeAnswer.TheVariants as NodeAnswer;
+ghost use Rattle.portal_model.specs.declared.request.NodeOp.TheVariants as NodeOp;
+ghost use Rattle.portal_model.specs.NodeVerdict.{Opens, at_file, if_file, next_handle};
+ghost use Rattle.portal_model.specs.Open.{file_handle, open_file, open_name, open_node, opens_to_write, truncates};
+ghost use Rattle.portal_model.specs.Place.{place_of};
+ghost use Rattle.portal_model.specs.State.{State};
+ghost use Rattle.app_view.specs.Books.{Lends};
+ghost use Rattle.file_ops.specs.Done.{Does, Reads, Wants, room_in};
+ghost use Rattle.file_ops.specs.OpenHandles.{Handled};
+ghost use Rattle.file_ops.specs.Creates.{Opening, OpeningBehind};
+ghost use Rattle.file_ops.specs.Tries.{done_of_ended, done_of_tried, moment_of};
+
+use crate::handed::{hand_out, take_room};
+use crate::open_flags::{file_handle, has_no_mode, opens_to_write, truncates};
+use crate::served::{FileBook, NodeCall, NodeDone};
+use crate::sight::{SeenPlace, seen_place};
+use crate::tried::{Came, Ended, Tried, came_of, room_for_looks};
+use app_view::{SeenDocument, ViewBook};
+use host_tree::{HostTree, LookAnswer};
+use open_handles::Handles;
+use portal_base::files::{FileName, Look};
+use portal_base::memory::{Replica, WantOfMemory};
+use portal_base::outside::Clock;
+use portal_model::errno::{EACCES, EINVAL, EIO, EISDIR, EMFILE, ENOENT};
+use portal_model::reply::NodeAnswer;
+use std::alloc::Global;
+
+/// Answers a caller's OPEN of a file with these flags: the next handle of its
+/// connection, which was entered. Who may not write the document may open its file
+/// neither to write nor to cut it.
+///
+/// It takes a look at the file, and room for the handle; with O_TRUNC then one more
+/// call of the tree, and for that the moment of now. Of n documents it takes about n
+/// steps.
+pub fn open<T: HostTree, C: Clock>(
+    alloc: Global,
+    book: &FileBook,
+    handles: &mut Handles,
+    tree: &mut T,
+    clock: &mut C,
+    call: &NodeCall,
+    flags: u32,
+) -> Result<NodeDone, WantOfMemory>
+    requires { IsSome (opened_on handles.old.seats call.now.seat) }
+    ensures ok { call.now.request.now.op ≡ NodeOp.Open flags → IfOk result (λ done.
+        Does book.now call.now handles.old (T.is tree.old) done handles.new (T.is tree.new)) }
+    ensures clock { IfOk result (λ done. Reads C.told clock.old done.now clock.new) }
+    ensures err { OnErr result (Wants handles.old (T.is tree.old) handles.new (T.is tree.new)) }
+    ensures clock_err { OnErr result (C.told clock.new ≡ C.told clock.old) }
+{
+    let room = room_for_looks(alloc)?;
+    let tried = opened(alloc, &book.view, handles, tree, clock, call, flags)?;
+    Ok(tried.done(room))
+}
+
+/// How the request ends.
+fn opened<T: HostTree, C: Clock>(
+    alloc: Global,
+    book: &ViewBook,
+    handles: &mut Handles,
+    tree: &mut T,
+    clock: &mut C,
+    call: &NodeCall,
+    flags: u32,
+) -> Result<Tried, WantOfMemory>
+    requires { IsSome (opened_on handles.old.seats call.now.seat) }
+    ensures ok { IfOk result (λ tried. (s : State) → Lends book.now s → Opening
+        (open_node call.now.request.now flags
+        (place_of s call.now.who.now call.now.request.now.node)
+        (room_in handles.old call.now.seat)) call.now.seat handles.old (T.is tree.old)
+        (done_of_tried tried) handles.new (T.is tree.new)) }
+    ensures clock { IfOk result (λ tried.
+        Reads C.told clock.old (moment_of tried.ended.call) clock.new) }
+    ensures err { OnErr result (Wants handles.old (T.is tree.old) handles.new (T.is tree.new)) }
+    ensures clock_err { OnErr result (C.told clock.new ≡ C.told clock.old) }
+{
+    if has_no_mode(flags) {
+        return Ok(Tried::unlooked(Ended::refused(EINVAL)));
+    }
+    match seen_place(book, call.who, call.request.node) {
+        None => Ok(Tried::unlooked(Ended::refused(ENOENT))),
+        Some(SeenPlace::File { seen, .. }) => {
+            open_document(alloc, handles, tree, clock, call, flags, seen)
+        }
+        Some(SeenPlace::Folder { .. } | SeenPlace::Root { .. } | SeenPlace::Views) => {
+            Ok(Tried::unlooked(Ended::refused(EISDIR)))
+        }
+    }
+}
+
+/// How the request ends on the file of a document.
+fn open_document<T: HostTree, C: Clock>(
+    alloc: Global,
+    handles: &mut Handles,
+    tree: &mut T,
+    clock: &mut C,
+    call: &NodeCall,
+    flags: u32,
+    seen: SeenDocument,
+) -> Result<Tried, WantOfMemory>
+    requires { IsSome (opened_on handles.old.seats call.now.seat) }
+    ensures ok { IfOk result (λ tried. Opening (at_file seen.entry.document.now.path
+        (open_file call.now.request.now flags (room_in handles.old call.now.seat)
+        seen.entry.document.now.path seen.entry.may_write)) call.now.seat handles.old
+        (T.is tree.old) (done_of_tried tried) handles.new (T.is tree.new)) }
+    ensures clock { IfOk result (λ tried.
+        Reads C.told clock.old (moment_of tried.ended.call) clock.new) }
+    ensures err { OnErr result (Wants handles.old (T.is tree.old) handles.new (T.is tree.new)) }
+    ensures clock_err { OnErr result (C.told clock.new ≡ C.told clock.old) }
+{
+    let look = tree.look(&seen.document.path);
+    let ended = open_looked(alloc, handles, tree, clock, call, flags, seen, look)?;
+    Ok(Tried {
+        look: Some(look),
+        ended,
+    })
+}
+
+/// How the request ends behind the look for the file.
+fn open_looked<T: HostTree, C: Clock>(
+    alloc: Global,
+    handles: &mut Handles,
+    tree: &mut T,
+    clock: &mut C,
+    call: &NodeCall,
+    flags: u32,
+    seen: SeenDocument,
+    look: LookAnswer,
+) -> Result<Ended, WantOfMemory>
+    requires { IsSome (opened_on handles.old.seats call.now.seat) }
+    ensures ok { IfOk result (λ ended. OpeningBehind (if_file
+        (open_file call.now.request.now flags (room_in handles.old call.now.seat)
+        seen.entry.document.now.path seen.entry.may_write)) look call.now.seat handles.old
+        (T.is tree.old) ended handles.new (T.is tree.new)) }
+    ensures clock { IfOk result (λ ended. Reads C.told clock.old (moment_of ended.call) clock.new) }
+    ensures err { OnErr result (Wants handles.old (T.is tree.old) handles.new (T.is tree.new)) }
+    ensures shown { OnErr result (is_look_fault look ≡ false) }
+    ensures clock_err { OnErr result (C.told clock.new ≡ C.told clock.old) }
+{
+    match look {
+        LookAnswer::Is(Look::File { generation, .. }) => {
+            open_shown(alloc, handles, tree, clock, call, flags, seen, generation)
+        }
+        LookAnswer::Is(Look::Folder | Look::Missing) => Ok(Ended::refused(ENOENT)),
+        LookAnswer::Failed => Ok(Ended::refused(EIO)),
+    }
+}
+
+/// How the request ends on a file that is there.
+fn open_shown<T: HostTree, C: Clock>(
+    alloc: Global,
+    handles: &mut Handles,
+    tree: &mut T,
+    clock: &mut C,
+    call: &NodeCall,
+    flags: u32,
+    seen: SeenDocument,
+    generation: u64,
+) -> Result<Ended, WantOfMemory>
+    requires { IsSome (opened_on handles.old.seats call.now.seat) }
+    ensures ok { (size moment : ℕ) → IfOk result (λ ended. Opening
+        (open_file call.now.request.now flags (room_in handles.old call.now.seat)
+        seen.entry.document.now.path seen.entry.may_write generation size moment) call.now.seat
+        handles.old (T.is tree.old) (done_of_ended ended) handles.new (T.is tree.new)) }
+    ensures clock { IfOk result (λ ended. Reads C.told clock.old (moment_of ended.call) clock.new) }
+    ensures err { OnErr result (Wants handles.old (T.is tree.old) handles.new (T.is tree.new)) }
+    ensures clock_err { OnErr result (C.told clock.new ≡ C.told clock.old) }
+{
+    if is_denied(flags, seen.may_write) {
+        return Ok(Ended::refused(EACCES));
+    }
+    let name = FileName {
+        path: seen.document.path.replica(alloc)?,
+        generation,
+    };
+    if !take_room(handles, call.seat)? {
+        return Ok(Ended::refused(EMFILE));
+    }
+    open_name(handles, tree, clock, call, flags, name)
+}
+
+/// Says whether a file is opened to be changed by one who may not write it.
+fn is_denied(flags: u32, may_write: bool) -> bool
+    ensures { result ≡ (opens_to_write flags && not may_write) }
+{
+    opens_to_write(flags) && !may_write
+}
+
+/// How the request ends on a file for which there is room among the handles.
+fn open_name<T: HostTree, C: Clock>(
+    handles: &mut Handles,
+    tree: &mut T,
+    clock: &mut C,
+    call: &NodeCall,
+    flags: u32,
+    name: FileName,
+) -> Result<Ended, WantOfMemory>
+    requires { IsSomeAnd (opened_on handles.old.seats call.now.seat) (CanAdd handles.old.most) }
+    ensures ok { IfOk result (λ ended. Opening (open_name call.now.request.now flags
+        (room_in handles.old call.now.seat) name) call.now.seat handles.old (T.is tree.old)
+        (done_of_ended ended) handles.new (T.is tree.new)) }
+    ensures clock { IfOk result (λ ended. Reads C.told clock.old (moment_of ended.call) clock.new) }
+    ensures err { OnErr result (Wants handles.old (T.is tree.old) handles.new (T.is tree.new)) }
+    ensures clock_err { OnErr result (C.told clock.new ≡ C.told clock.old) }
+{
+    if truncates(flags) {
+        open_cut(handles, tree, clock, call, flags, name)
+    } else {
+        Ok(Ended::told(handed(handles, call, flags, name)))
+    }
+}
+
+/// How the request ends on a file that is cut to no bytes first.
+fn open_cut<T: HostTree, C: Clock>(
+    handles: &mut Handles,
+    tree: &mut T,
+    clock: &mut C,
+    call: &NodeCall,
+    flags: u32,
+    name: FileName,
+) -> Result<Ended, WantOfMemory>
+    requires room { IsSomeAnd (opened_on handles.old.seats call.now.seat) (CanAdd handles.old.most) }
+    requires cuts { truncates flags ≡ true }
+    ensures ok { IfOk result (λ ended. Opening (open_name call.now.request.now flags
+        (room_in handles.old call.now.seat) name) call.now.seat handles.old (T.is tree.old)
+        (done_of_ended ended) handles.new (T.is tree.new)) }
+    ensures clock { IfOk result (λ ended. Reads C.told clock.old (moment_of ended.call) clock.new) }
+    ensures err { OnErr result (Wants handles.old (T.is tree.old) handles.new (T.is tree.new)) }
+    ensures clock_err { OnErr result (C.told clock.new ≡ C.told clock.old) }
+{
+    let now = clock.now();
+    match came_of(tree.set_len(&name, 0, now))? {
+        Came::Done => {
+            let answer = handed(handles, call, flags, name);
+            Ok(Ended::by_call(now, Came::Done, answer))
+        }
+        Came::NotFile => Ok(Ended::missing(now)),
+        Came::Failed => Ok(Ended::failed(now)),
+    }
+}
+
+/// The handle on an open file, for which there is room.
+fn handed(handles: &mut Handles, call: &NodeCall, flags: u32, name: FileName) -> NodeAnswer
+    requires { IsSomeAnd (opened_on handles.old.seats call.now.seat) (CanAdd handles.old.most) }
+    ensures answer { result ≡ NodeAnswer.Opened (next_handle (room_in handles.old call.now.seat)) }
+    ensures opens { Handled call.now.seat
+        (Opens (file_handle name call.now.request.now.node flags)) handles.old handles.new }
+{
+    let handle = file_handle(name, call.request.node, flags);
+    NodeAnswer::Opened {
+        fh: hand_out(handles, call.seat, handle),
+    }
+}

@@ -1,0 +1,386 @@
+//! FUSE_SETATTR: of the attributes a file's length alone may be set.
+
+ghost use Rattle.std.specs.Prelude.{◌≡◌, ℕ, IfOk, OnErr, None, Some, false, option_copied};
+ghost use Rattle.open_handles.specs.Opened.{HandleTable, handle_of, opened_on};
+ghost use Rattle.portal_model.specs.declared.request.NodeOp.TheVariants as NodeOp;
+ghost use Rattle.host_tree.specs.Trees.{TreeIs, is_look_fault};
+ghost use Rattle.portal_model.specs.Attributes.{on_node};
+ghost use Rattle.portal_model.specs.NodeVerdict.{HandlesStay, at_file, by_file_handle, by_place, if_file};
+ghost use Rattle.portal_model.specs.Place.{Folder, place_of};
+ghost use Rattle.portal_model.specs.SetAttr.{set_attr, set_attr_at, set_attr_of, set_attr_of_folder, set_attr_open, sets_by_handle, sets_owner_or_mode, sets_size};
+ghost use Rattle.portal_model.specs.State.{State};
+ghost use Rattle.app_view.specs.Books.{Lends};
+ghost use Rattle.file_ops.specs.Done.{Does, Reads};
+ghost use Rattle.file_ops.specs.Opened.{by_open_file};
+ghost use Rattle.file_ops.specs.Sets.{generation_of, set_subject, sets_length, sets_of};
+ghost use Rattle.file_ops.specs.Sights.{sight_of};
+ghost use Rattle.file_ops.specs.TreeCalls.{WasCalled};
+ghost use Rattle.file_ops.specs.Tries.{Goes, GoesBehind, done_of_ended, done_of_tried, moment_of};
+
+use crate::attributes::{attr_of_file, attr_of_folder};
+use crate::opened::{OpenFile, look_named, open_file};
+use crate::served::{FileBook, NodeCall, NodeDone};
+use crate::sight::{SeenPlace, seen_place};
+use crate::tried::{Ended, Tried, came_of, room_for_looks};
+use app_view::ViewBook;
+use host_tree::{HostTree, LookAnswer};
+use portal_base::files::{FileName, Look};
+use portal_base::memory::{Replica, WantOfMemory};
+use portal_base::names::HostPath;
+use portal_base::outside::Clock;
+use portal_base::who::Who;
+use portal_model::errno::{EACCES, EBADF, EFBIG, EIO, EISDIR, ENOENT, EPERM};
+use portal_model::handle::Handle;
+use portal_model::reply::NodeAnswer;
+use portal_model::request::NodeRequest;
+use std::alloc::Global;
+
+/// What a SETATTR asks.
+#[derive(Clone, Copy)]
+struct Setting {
+    /// The bits say which attributes are to be set.
+    valid: u32,
+    /// The length that is asked for, in bytes.
+    size: u64,
+    /// How long a file may be, in bytes.
+    limit: u64,
+}
+
+/// Answers a caller's SETATTR, on a node or on the open file of a handle. A number
+/// of no open file is EBADF.
+///
+/// It takes a look at the file, and where the length is to be set one more call of
+/// the tree, and for that the moment of now. Where memory is wanting the tree was
+/// called at most, and no file has changed. Of n documents it takes about n steps.
+pub fn set_attr<T: HostTree, C: Clock>(
+    alloc: Global,
+    book: &FileBook,
+    tree: &mut T,
+    clock: &mut C,
+    call: &NodeCall,
+    handle: Option<&Handle>,
+    valid: u32,
+    size: u64,
+) -> Result<NodeDone, WantOfMemory>
+    ensures ok { (table : HandleTable) (fh : ℕ) →
+        handle_of (opened_on table.seats call.now.seat) fh ≡ option_copied handle.entry →
+        call.now.request.now.op ≡ NodeOp.SetAttr valid fh size → IfOk result (λ done.
+        Does book.now call.now table (T.is tree.old) done table (T.is tree.new)) }
+    ensures clock { IfOk result (λ done. Reads C.told clock.old done.now clock.new) }
+    ensures err { OnErr result (WasCalled (T.is tree.old) (T.is tree.new)) }
+    ensures clock_err { OnErr result (C.told clock.new ≡ C.told clock.old) }
+{
+    let room = room_for_looks(alloc)?;
+    let setting = Setting {
+        valid,
+        size,
+        limit: book.file_limit,
+    };
+    let tried = set(
+        alloc,
+        &book.view,
+        tree,
+        clock,
+        call.who,
+        call.request,
+        setting,
+        handle,
+    )?;
+    Ok(tried.done(room))
+}
+
+/// How the request ends.
+fn set<T: HostTree, C: Clock>(
+    alloc: Global,
+    book: &ViewBook,
+    tree: &mut T,
+    clock: &mut C,
+    who: &Who,
+    request: &NodeRequest,
+    setting: Setting,
+    handle: Option<&Handle>,
+) -> Result<Tried, WantOfMemory>
+    ensures ok { IfOk result (λ tried. (s : State) → Lends book.now s →
+        Goes (set_attr request.now (sets_of setting) (place_of s who.now request.now.node)
+        (option_copied handle.entry)) (T.is tree.old) (done_of_tried tried) HandlesStay
+        (T.is tree.new)) }
+    ensures clock { IfOk result (λ tried.
+        Reads C.told clock.old (moment_of tried.ended.call) clock.new) }
+    ensures err { OnErr result (WasCalled (T.is tree.old) (T.is tree.new)) }
+    ensures clock_err { OnErr result (C.told clock.new ≡ C.told clock.old) }
+{
+    if sets_owner_or_mode(setting.valid) {
+        return Ok(Tried::unlooked(Ended::refused(EPERM)));
+    }
+    if sets_by_handle(setting.valid) {
+        return set_open(tree, clock, request, setting, handle);
+    }
+    match seen_place(book, who, request.node) {
+        Some(place) => set_place(alloc, book, tree, clock, who, request, setting, place),
+        None => Ok(Tried::unlooked(Ended::refused(ENOENT))),
+    }
+}
+
+/// Says whether the mode or the owner is to be set.
+fn sets_owner_or_mode(valid: u32) -> bool
+    ensures { result ≡ sets_owner_or_mode valid }
+{
+    valid % 8 != 0
+}
+
+/// Says whether the length is to be set.
+fn sets_size(valid: u32) -> bool
+    ensures { result ≡ sets_size valid }
+{
+    valid / 8 % 2 == 1
+}
+
+/// Says whether a handle is named.
+fn sets_by_handle(valid: u32) -> bool
+    ensures { result ≡ sets_by_handle valid }
+{
+    valid / 64 % 2 == 1
+}
+
+/// How the request ends on a handle.
+fn set_open<T: HostTree, C: Clock>(
+    tree: &mut T,
+    clock: &mut C,
+    request: &NodeRequest,
+    setting: Setting,
+    handle: Option<&Handle>,
+) -> Result<Tried, WantOfMemory>
+    ensures ok { IfOk result (λ tried. Goes (by_file_handle (option_copied handle.entry)
+        (set_attr_open request.now (sets_of setting))) (T.is tree.old) (done_of_tried tried)
+        HandlesStay (T.is tree.new)) }
+    ensures clock { IfOk result (λ tried.
+        Reads C.told clock.old (moment_of tried.ended.call) clock.new) }
+    ensures err { OnErr result (WasCalled (T.is tree.old) (T.is tree.new)) }
+    ensures clock_err { OnErr result (C.told clock.new ≡ C.told clock.old) }
+{
+    match open_file(handle) {
+        Some(file) => set_open_file(tree, clock, request, setting, file),
+        None => Ok(Tried::unlooked(Ended::refused(EBADF))),
+    }
+}
+
+/// How the request ends on an open file.
+fn set_open_file<T: HostTree, C: Clock>(
+    tree: &mut T,
+    clock: &mut C,
+    request: &NodeRequest,
+    setting: Setting,
+    file: OpenFile,
+) -> Result<Tried, WantOfMemory>
+    ensures ok { IfOk result (λ tried. Goes (by_open_file (Some file.entry)
+        (set_attr_open request.now (sets_of setting))) (T.is tree.old) (done_of_tried tried)
+        HandlesStay (T.is tree.new)) }
+    ensures clock { IfOk result (λ tried.
+        Reads C.told clock.old (moment_of tried.ended.call) clock.new) }
+    ensures err { OnErr result (WasCalled (T.is tree.old) (T.is tree.new)) }
+    ensures clock_err { OnErr result (C.told clock.new ≡ C.told clock.old) }
+{
+    let look = look_named(tree, file.name);
+    let subject = Subject {
+        node: file.node,
+        may_write: file.write,
+        denial: EBADF,
+    };
+    let ended = set_looked(tree, clock, request, setting, file.name, subject, look)?;
+    Ok(Tried {
+        look: Some(look),
+        ended,
+    })
+}
+
+/// A file whose attributes are to be set.
+#[derive(Clone, Copy)]
+struct Subject {
+    /// The node that is told.
+    node: u64,
+    /// Whether it may be written.
+    may_write: bool,
+    /// The error of one that may not.
+    denial: u32,
+}
+
+/// How the request ends behind the look for a file.
+fn set_looked<T: HostTree, C: Clock>(
+    tree: &mut T,
+    clock: &mut C,
+    request: &NodeRequest,
+    setting: Setting,
+    name: &FileName,
+    subject: Subject,
+    look: LookAnswer,
+) -> Result<Ended, WantOfMemory>
+    ensures ok { IfOk result (λ ended. GoesBehind
+        (if_file (set_subject request.now (sets_of setting) subject name.now)) look
+        (T.is tree.old) ended HandlesStay (T.is tree.new)) }
+    ensures clock { IfOk result (λ ended. Reads C.told clock.old (moment_of ended.call) clock.new) }
+    ensures err { OnErr result (WasCalled (T.is tree.old) (T.is tree.new)) }
+    ensures shown { OnErr result (is_look_fault look ≡ false) }
+    ensures clock_err { OnErr result (C.told clock.new ≡ C.told clock.old) }
+{
+    match look {
+        LookAnswer::Is(Look::File { size, moment, .. }) => {
+            set_file(tree, clock, request, setting, name, subject, size, moment)
+        }
+        LookAnswer::Is(Look::Folder | Look::Missing) => Ok(Ended::refused(ENOENT)),
+        LookAnswer::Failed => Ok(Ended::refused(EIO)),
+    }
+}
+
+/// How the request ends on a file of this length and moment.
+fn set_file<T: HostTree, C: Clock>(
+    tree: &mut T,
+    clock: &mut C,
+    request: &NodeRequest,
+    setting: Setting,
+    name: &FileName,
+    subject: Subject,
+    size: u64,
+    moment: u64,
+) -> Result<Ended, WantOfMemory>
+    ensures ok { IfOk result (λ ended. Goes
+        (set_attr_of (on_node request.now subject.node) (sets_of setting) subject.denial name.now
+        subject.may_write size moment) (T.is tree.old) (done_of_ended ended) HandlesStay
+        (T.is tree.new)) }
+    ensures clock { IfOk result (λ ended. Reads C.told clock.old (moment_of ended.call) clock.new) }
+    ensures err { OnErr result (WasCalled (T.is tree.old) (T.is tree.new)) }
+    ensures clock_err { OnErr result (C.told clock.new ≡ C.told clock.old) }
+{
+    if sets_size(setting.valid) {
+        set_size(tree, clock, request, setting, name, subject)
+    } else {
+        let attr = attr_of_file(request, subject.node, subject.may_write, size, moment);
+        Ok(Ended::told(NodeAnswer::Attr(attr)))
+    }
+}
+
+/// How the request ends where the length of a file is to be set.
+fn set_size<T: HostTree, C: Clock>(
+    tree: &mut T,
+    clock: &mut C,
+    request: &NodeRequest,
+    setting: Setting,
+    name: &FileName,
+    subject: Subject,
+) -> Result<Ended, WantOfMemory>
+    ensures ok { IfOk result (λ ended. Goes
+        (sets_length (on_node request.now subject.node) (sets_of setting) subject.denial name.now
+        subject.may_write) (T.is tree.old) (done_of_ended ended) HandlesStay (T.is tree.new)) }
+    ensures clock { IfOk result (λ ended. Reads C.told clock.old (moment_of ended.call) clock.new) }
+    ensures err { OnErr result (WasCalled (T.is tree.old) (T.is tree.new)) }
+    ensures clock_err { OnErr result (C.told clock.new ≡ C.told clock.old) }
+{
+    if !subject.may_write {
+        return Ok(Ended::refused(subject.denial));
+    }
+    if setting.size > setting.limit {
+        return Ok(Ended::refused(EFBIG));
+    }
+    let now = clock.now();
+    let came = came_of(tree.set_len(name, setting.size, now))?;
+    let attr = attr_of_file(request, subject.node, subject.may_write, setting.size, now);
+    Ok(Ended::by_call(now, came, NodeAnswer::Attr(attr)))
+}
+
+/// How the request ends at a place that the caller sees.
+fn set_place<T: HostTree, C: Clock>(
+    alloc: Global,
+    book: &ViewBook,
+    tree: &mut T,
+    clock: &mut C,
+    who: &Who,
+    request: &NodeRequest,
+    setting: Setting,
+    place: SeenPlace,
+) -> Result<Tried, WantOfMemory>
+    ensures ok { IfOk result (λ tried. Goes
+        (by_place (Some (sight_of book.now who.now place.entry))
+        (set_attr_at request.now (sets_of setting))
+        (set_attr_of_folder request.now (sets_of setting))) (T.is tree.old) (done_of_tried tried)
+        HandlesStay (T.is tree.new)) }
+    ensures clock { IfOk result (λ tried.
+        Reads C.told clock.old (moment_of tried.ended.call) clock.new) }
+    ensures err { OnErr result (WasCalled (T.is tree.old) (T.is tree.new)) }
+    ensures clock_err { OnErr result (C.told clock.new ≡ C.told clock.old) }
+{
+    match place {
+        SeenPlace::File { seen, .. } => set_placed(
+            alloc,
+            tree,
+            clock,
+            request,
+            setting,
+            &seen.document.path,
+            seen.may_write,
+        ),
+        SeenPlace::Folder { .. } => Ok(set_folder(request, setting)),
+        SeenPlace::Root { .. } => Ok(set_folder(request, setting)),
+        SeenPlace::Views => Ok(set_folder(request, setting)),
+    }
+}
+
+/// How the request ends on a folder.
+fn set_folder(request: &NodeRequest, setting: Setting) -> Tried
+    ensures goes { (tree : TreeIs) (folder : Folder) →
+        Goes (set_attr_of_folder request.now (sets_of setting) folder) tree
+        (done_of_tried result) HandlesStay tree }
+    ensures call { result.ended.call ≡ None }
+{
+    if sets_size(setting.valid) {
+        Tried::unlooked(Ended::refused(EISDIR))
+    } else {
+        let attr = attr_of_folder(request, request.node);
+        Tried::unlooked(Ended::told(NodeAnswer::Attr(attr)))
+    }
+}
+
+/// How the request ends on the file of a document.
+fn set_placed<T: HostTree, C: Clock>(
+    alloc: Global,
+    tree: &mut T,
+    clock: &mut C,
+    request: &NodeRequest,
+    setting: Setting,
+    path: &HostPath,
+    may_write: bool,
+) -> Result<Tried, WantOfMemory>
+    ensures ok { IfOk result (λ tried. Goes
+        (at_file path.now (set_attr_at request.now (sets_of setting) path.now may_write))
+        (T.is tree.old) (done_of_tried tried) HandlesStay (T.is tree.new)) }
+    ensures clock { IfOk result (λ tried.
+        Reads C.told clock.old (moment_of tried.ended.call) clock.new) }
+    ensures err { OnErr result (WasCalled (T.is tree.old) (T.is tree.new)) }
+    ensures clock_err { OnErr result (C.told clock.new ≡ C.told clock.old) }
+{
+    let path_copy = path.replica(alloc)?;
+    let look = tree.look(path);
+    let name = FileName {
+        path: path_copy,
+        generation: generation_of(look),
+    };
+    let subject = Subject {
+        node: request.node,
+        may_write,
+        denial: EACCES,
+    };
+    let ended = set_looked(tree, clock, request, setting, &name, subject, look)?;
+    Ok(Tried {
+        look: Some(look),
+        ended,
+    })
+}
+
+/// Which of the files of a path was shown, or 0 where there is none.
+fn generation_of(look: LookAnswer) -> u64
+    ensures { result ≡ generation_of look }
+{
+    match look {
+        LookAnswer::Is(Look::File { generation, .. }) => generation,
+        LookAnswer::Is(Look::Folder | Look::Missing) => 0,
+        LookAnswer::Failed => 0,
+    }
+}

@@ -1,0 +1,103 @@
+//! Any request on a node.
+
+ghost use Rattle.std.specs.Prelude.{◌≡◌, IfOk, IsSome, OnErr};
+ghost use Rattle.open_handles.specs.Opened.{opened_on};
+ghost use Rattle.file_ops.specs.Done.{Does, Reads, Wants};
+
+use crate::checked::access;
+use crate::contents::read;
+use crate::created::create;
+use crate::described::get_attr;
+use crate::entry::lookup;
+use crate::folders::open_dir;
+use crate::forgotten::forget;
+use crate::listed::read_dir;
+use crate::opening::open;
+use crate::released::{release, release_dir};
+use crate::resized::set_attr;
+use crate::served::{FileBook, NodeCall, NodeDone};
+use crate::synced::{flush, fsync};
+use crate::written::write;
+use host_tree::HostTree;
+use open_handles::Handles;
+use portal_base::memory::WantOfMemory;
+use portal_base::outside::Clock;
+use portal_model::request::NodeOp;
+use std::alloc::Global;
+
+/// Answers a request on a node, of a seat that was entered and not left. Each takes
+/// what its own call says.
+///
+/// Where memory is wanted, the open handles and the files are as before; the tree
+/// may have been asked, and the clock read.
+pub fn serve_node<T: HostTree, C: Clock>(
+    alloc: Global,
+    book: &FileBook,
+    handles: &mut Handles,
+    tree: &mut T,
+    clock: &mut C,
+    call: &NodeCall,
+) -> Result<NodeDone, WantOfMemory>
+    requires { IsSome (opened_on handles.old.seats call.now.seat) }
+    ensures ok { IfOk result (λ done. Does book.now call.now handles.old (T.is tree.old) done
+        handles.new (T.is tree.new)) }
+    ensures clock { IfOk result (λ done. Reads C.told clock.old done.now clock.new) }
+    ensures err { OnErr result (Wants handles.old (T.is tree.old) handles.new (T.is tree.new)) }
+    ensures clock_err { OnErr result (C.told clock.new ≡ C.told clock.old) }
+{
+    let NodeCall { who, request, seat } = *call;
+    match &request.op {
+        NodeOp::Lookup { name } => {
+            lookup(alloc, &book.view, tree, who, request, name.as_slice())
+        }
+        NodeOp::Forget { .. } => Ok(forget(alloc)),
+        NodeOp::BatchForget { .. } => Ok(forget(alloc)),
+        NodeOp::GetAttr { flags, fh } => { get_attr(alloc, book, handles, tree, call, *flags, *fh) }
+        NodeOp::SetAttr { valid, fh, size } => {
+            let handle = handles.get(seat, *fh);
+            set_attr(alloc, book, tree, clock, call, handle, *valid, *size)
+        }
+        NodeOp::Open { flags } => open(alloc, book, handles, tree, clock, call, *flags),
+        NodeOp::Create { name, flags } => {
+            create(
+                alloc,
+                book,
+                handles,
+                tree,
+                clock,
+                call,
+                name.as_slice(),
+                *flags,
+            )
+        }
+        NodeOp::Read { fh, offset, size } => {
+            read(alloc, handles, tree, call, *fh, *offset, *size)
+        }
+        NodeOp::Write {
+            fh,
+            offset,
+            content,
+        } => {
+            let handle = handles.get(seat, *fh);
+            write(
+                alloc,
+                book,
+                tree,
+                clock,
+                call,
+                handle,
+                *offset,
+                content.as_slice(),
+            )
+        }
+        NodeOp::Flush { fh } => Ok(flush(alloc, handles, call, *fh)),
+        NodeOp::Fsync { fh } => fsync(alloc, handles, tree, call, *fh),
+        NodeOp::Release { fh } => Ok(release(alloc, handles, call, *fh)),
+        NodeOp::OpenDir => open_dir(alloc, book, handles, tree, call),
+        NodeOp::ReadDir { fh, offset, size } => {
+            read_dir(alloc, handles, call, *fh, *offset, *size)
+        }
+        NodeOp::ReleaseDir { fh } => Ok(release_dir(alloc, handles, call, *fh)),
+        NodeOp::Access { mask } => access(alloc, &book.view, tree, who, request, *mask),
+    }
+}

@@ -1,0 +1,142 @@
+//! FUSE_WRITE: bytes over those of an open file.
+
+ghost use Rattle.std.specs.Prelude.{◌≡◌, ℕ, ◌+◌, ◌≤◌, IfOk, OnErr, length, nat_lt, option_copied};
+ghost use Rattle.open_handles.specs.Opened.{HandleTable, handle_of, opened_on};
+ghost use Rattle.portal_model.specs.declared.request.NodeOp.TheVariants as NodeOp;
+ghost use Rattle.portal_model.specs.NodeVerdict.{HandlesStay};
+ghost use Rattle.portal_model.specs.Write.{write, write_name, write_open};
+ghost use Rattle.file_ops.specs.Done.{Does, Reads};
+ghost use Rattle.file_ops.specs.TreeCalls.{WasCalled};
+ghost use Rattle.file_ops.specs.Tries.{Goes, done_of_ended, moment_of};
+
+use crate::opened::{OpenFile, open_file};
+use crate::served::{FileBook, NodeCall, NodeDone};
+use crate::tried::{Ended, Tried, came_of, room_for_looks};
+use host_tree::HostTree;
+use portal_base::files::FileName;
+use portal_base::memory::WantOfMemory;
+use portal_base::outside::Clock;
+use portal_model::errno::{EBADF, EFBIG, EINVAL};
+use portal_model::handle::Handle;
+use portal_model::reply::NodeAnswer;
+use std::alloc::Global;
+
+/// The most that is written at once, in bytes.
+const WRITE_LIMIT: usize = 131_072;
+
+/// Answers a WRITE of bytes from an offset on, by the open handle of its number,
+/// whatever has become of the document and of the rights in it. A number of no open
+/// file that may be written is EBADF.
+///
+/// It takes one call of the tree, and for that the moment of now. Where memory is
+/// wanting the tree was called once at most, and no file has changed.
+pub fn write<T: HostTree, C: Clock>(
+    alloc: Global,
+    book: &FileBook,
+    tree: &mut T,
+    clock: &mut C,
+    call: &NodeCall,
+    handle: Option<&Handle>,
+    offset: u64,
+    content: &[u8],
+) -> Result<NodeDone, WantOfMemory>
+    ensures ok { (table : HandleTable) (fh : ℕ) →
+        handle_of (opened_on table.seats call.now.seat) fh ≡ option_copied handle.entry →
+        call.now.request.now.op ≡ NodeOp.Write fh offset content.now → IfOk result (λ done.
+        Does book.now call.now table (T.is tree.old) done table (T.is tree.new)) }
+    ensures clock { IfOk result (λ done. Reads C.told clock.old done.now clock.new) }
+    ensures err { OnErr result (WasCalled (T.is tree.old) (T.is tree.new)) }
+    ensures clock_err { OnErr result (C.told clock.new ≡ C.told clock.old) }
+{
+    let room = room_for_looks(alloc)?;
+    let ended = written(tree, clock, handle, book.file_limit, offset, content)?;
+    Ok(Tried::unlooked(ended).done(room))
+}
+
+/// How the request ends.
+fn written<T: HostTree, C: Clock>(
+    tree: &mut T,
+    clock: &mut C,
+    handle: Option<&Handle>,
+    file_limit: u64,
+    offset: u64,
+    content: &[u8],
+) -> Result<Ended, WantOfMemory>
+    ensures ok { IfOk result (λ ended.
+        Goes (write file_limit offset content.now (option_copied handle.entry)) (T.is tree.old)
+        (done_of_ended ended) HandlesStay (T.is tree.new)) }
+    ensures clock { IfOk result (λ ended. Reads C.told clock.old (moment_of ended.call) clock.new) }
+    ensures err { OnErr result (WasCalled (T.is tree.old) (T.is tree.new)) }
+    ensures clock_err { OnErr result (C.told clock.new ≡ C.told clock.old) }
+{
+    if content.len() > WRITE_LIMIT {
+        return Ok(Ended::refused(EINVAL));
+    }
+    match open_file(handle) {
+        Some(file) => write_open(tree, clock, file, file_limit, offset, content),
+        None => Ok(Ended::refused(EBADF)),
+    }
+}
+
+/// How the request ends on an open file.
+fn write_open<T: HostTree, C: Clock>(
+    tree: &mut T,
+    clock: &mut C,
+    file: OpenFile,
+    file_limit: u64,
+    offset: u64,
+    content: &[u8],
+) -> Result<Ended, WantOfMemory>
+    requires { length content.now ≤ 131072 }
+    ensures ok { IfOk result (λ ended.
+        Goes (write_open file_limit offset content.now file.entry.name.now file.entry.node
+        file.entry.read file.entry.write) (T.is tree.old) (done_of_ended ended) HandlesStay
+        (T.is tree.new)) }
+    ensures clock { IfOk result (λ ended. Reads C.told clock.old (moment_of ended.call) clock.new) }
+    ensures err { OnErr result (WasCalled (T.is tree.old) (T.is tree.new)) }
+    ensures clock_err { OnErr result (C.told clock.new ≡ C.told clock.old) }
+{
+    if !file.write {
+        return Ok(Ended::refused(EBADF));
+    }
+    if content.is_empty() {
+        return Ok(Ended::told(NodeAnswer::Written { size: 0 }));
+    }
+    write_named(tree, clock, file.name, file_limit, offset, content)
+}
+
+/// How a request with bytes ends on a file that may be written.
+fn write_named<T: HostTree, C: Clock>(
+    tree: &mut T,
+    clock: &mut C,
+    name: &FileName,
+    file_limit: u64,
+    offset: u64,
+    content: &[u8],
+) -> Result<Ended, WantOfMemory>
+    requires { length content.now ≤ 131072 }
+    ensures ok { IfOk result (λ ended.
+        Goes (write_name file_limit name.now offset content.now) (T.is tree.old)
+        (done_of_ended ended) HandlesStay (T.is tree.new)) }
+    ensures clock { IfOk result (λ ended. Reads C.told clock.old (moment_of ended.call) clock.new) }
+    ensures err { OnErr result (WasCalled (T.is tree.old) (T.is tree.new)) }
+    ensures clock_err { OnErr result (C.told clock.new ≡ C.told clock.old) }
+{
+    if is_past(file_limit, offset, content.len()) {
+        return Ok(Ended::refused(EFBIG));
+    }
+    let now = clock.now();
+    let came = came_of(tree.write(name, offset, content, now))?;
+    let size = content.len() as u32;
+    Ok(Ended::by_call(now, came, NodeAnswer::Written { size }))
+}
+
+/// Says whether so many bytes from an offset on pass a limit.
+fn is_past(limit: u64, offset: u64, len: usize) -> bool
+    ensures { result ≡ nat_lt limit (offset + len) }
+{
+    match offset.checked_add(len as u64) {
+        Some(end) => end > limit,
+        None => true,
+    }
+}

@@ -1,0 +1,3 @@
+mod FairWalks
+mod FirstChanged
+mod SeatSteps

@@ -1,0 +1,102 @@
+//! A request of a seat.
+
+ghost use Rattle.std.specs.Prelude.{◌≡◌, IfOk, OnErr, length, option_copied};
+ghost use Rattle.file_ops.specs.Done.{Reads, Wants};
+ghost use Rattle.node_serving.specs.Counted.{Counts};
+ghost use Rattle.node_serving.specs.Seats.{AreEntered, IsServedIn, ServesSeat, refused_here};
+ghost use Rattle.portal_model.specs.State.{State, connection_of as open_connection};
+ghost use Rattle.portal_model.specs.Step.{mount_of as open_mount};
+
+use crate::counted::count;
+use crate::numbered::number;
+use file_ops::{FileBook, NodeCall, NodeDone, serve_node};
+use host_tree::HostTree;
+use inode_table::InodeTable;
+use open_handles::Handles;
+use portal_base::list::List;
+use portal_base::memory::WantOfMemory;
+use portal_base::outside::Clock;
+use portal_base::who::Kind;
+use portal_model::entry::Fault;
+use portal_model::reply::{Answer, Code};
+use portal_model::request::NodeRequest;
+use portal_model::state::Connection;
+use std::alloc::Global;
+
+/// Serves a request of a seat on a node.
+///
+/// A seat without an open mount is answered `NotHere`. The node of an entry that
+/// is answered has one look-up more in the counts, for which room is taken before
+/// the tree is asked, and what the kernel forgets is taken back; where a handle is
+/// opened, its number is the last that the connection was given.
+pub fn serve<T: HostTree, C: Clock>(
+    alloc: Global,
+    book: &FileBook,
+    connections: &mut List<Connection>,
+    handles: &mut Handles,
+    counts: &mut InodeTable,
+    tree: &mut T,
+    clock: &mut C,
+    seat: u32,
+    request: &NodeRequest,
+) -> Result<NodeDone, WantOfMemory>
+    requires { AreEntered connections.old handles.old }
+    ensures ok { IfOk result (λ done. (s : State) →
+        IsServedIn s book.now connections.old handles.old (T.is tree.old).told →
+        ServesSeat s seat request.now (T.is tree.old) done connections.new handles.new
+        (T.is tree.new)) }
+    ensures clock { IfOk result (λ done. Reads C.told clock.old done.now clock.new) }
+    ensures counts { IfOk result (λ done.
+        Counts seat request.now done.answer counts.old.counts counts.new.counts) }
+    ensures count { length connections.new ≡ length connections.old }
+    ensures err { OnErr result (Wants handles.old (T.is tree.old) handles.new (T.is tree.new)) }
+    ensures clock_err { OnErr result (C.told clock.new ≡ C.told clock.old) }
+    ensures connections { OnErr result (connections.new ≡ connections.old) }
+    ensures kept { OnErr result (counts.new.counts ≡ counts.old.counts) }
+{
+    counts.reserve(1)?;
+    let Some(connection) = mount_of(connections.as_slice(), seat) else {
+        return Ok(not_here(alloc));
+    };
+    let call = NodeCall {
+        seat,
+        who: &connection.who,
+        request,
+    };
+    let done = serve_node(alloc, book, handles, tree, clock, &call)?;
+    count(counts, seat, request, &done.answer);
+    number(alloc, connections, seat, &done.answer);
+    Ok(done)
+}
+
+/// What a seat without an open mount is answered.
+fn not_here(alloc: Global) -> NodeDone
+    ensures { result ≡ refused_here }
+{
+    NodeDone {
+        answer: Answer::Refused(Code::NotHere),
+        looks: List::new(alloc),
+        now: None,
+        fault: Fault::None,
+    }
+}
+
+/// The open connection of a seat, where it is a mount.
+fn mount_of(connections: &[Connection], seat: u32) -> Option<&Connection>
+    ensures { option_copied result ≡ open_mount (open_connection connections.now seat) }
+{
+    let connection = connection_of(connections, seat)?;
+    match connection.kind {
+        Kind::Mount => Some(connection),
+        Kind::Bus => None,
+    }
+}
+
+/// The open connection of a seat.
+fn connection_of(connections: &[Connection], seat: u32) -> Option<&Connection>
+    ensures { option_copied result ≡ open_connection connections.now seat }
+{
+    connections
+        .iter()
+        .find(|connection| connection.seat == seat)
+}

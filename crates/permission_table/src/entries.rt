@@ -1,0 +1,240 @@
+//! The entries of all tables, in order of creation.
+
+ghost use Rattle.std.specs.Prelude.{◌≡◌, true, IfOk, OnOk, OnErr, MatchOption, option_copied};
+ghost use Rattle.std.specs.List.{position};
+ghost use Rattle.portal_model.specs.Store.{is_entry_of, entry_of, is_in_table, ids_of, put_entry, without_entry, change_of, has_row, entry_to_set, new_entry, with_permissions, without_permissions};
+ghost use Rattle.portal_model.specs.Ordered.{is_rising};
+ghost use Rattle.portal_model.specs.Rows.{row_less};
+ghost use Rattle.portal_model.specs.declared.store.StoreAnswer.TheVariants.{Entry};
+ghost use Rattle.permission_table.specs.Tables.{AreEntries, restored};
+
+use crate::ordered::put_in_order;
+use crate::rows::{row_of, with_row, without_row};
+use portal_base::list::List;
+use portal_base::memory::{Replica, WantOfMemory};
+use portal_base::text::Text;
+use portal_model::datum::Datum;
+use portal_model::records::Row;
+use portal_model::store::{StoreAnswer, StoredChange, StoredEntry, TableEntry};
+use std::alloc::Global;
+
+/// The entry of a table and an identifier.
+pub(crate) fn entry_of<'a>(
+    entries: &'a [StoredEntry],
+    table: &Text,
+    id: &Text,
+) -> Option<&'a StoredEntry>
+    ensures { option_copied result ≡ entry_of entries.now table.now id.now }
+{
+    entries.iter().find(|entry| is_entry_of(entry, table, id))
+}
+
+/// The place of the entry of a table and an identifier.
+pub(crate) fn place_of(entries: &[StoredEntry], table: &Text, id: &Text) -> Option<usize>
+    ensures { result ≡ position (is_entry_of table.now id.now) entries.now }
+{
+    entries
+        .iter()
+        .position(|entry| is_entry_of(entry, table, id))
+}
+
+/// Says whether an entry is of a table and an identifier.
+fn is_entry_of(entry: &StoredEntry, table: &Text, id: &Text) -> bool
+    ensures { result ≡ is_entry_of table.now id.now entry.now }
+{
+    entry.table == *table && entry.id == *id
+}
+
+/// The identifiers of a table, in byte order.
+pub(crate) fn ids_of(
+    alloc: Global,
+    entries: &[StoredEntry],
+    table: &Text,
+) -> Result<List<Text>, WantOfMemory>
+    ensures { IfOk result (λ ids. ids ≡ ids_of table.now entries.now) }
+{
+    let mut ids = Vec::new(alloc);
+    let mut at = entries.len();
+    while at > 0 {
+        at -= 1;
+        let entry = &entries[at];
+        if entry.table == *table {
+            put_in_order(&mut ids, entry.id.replica(alloc)?)?;
+        }
+    }
+    Ok(List::from_vec(ids))
+}
+
+/// What is told of an entry that is looked up.
+pub(crate) fn answer_of(alloc: Global, entry: &StoredEntry) -> Result<StoreAnswer, WantOfMemory>
+    ensures { IfOk result (λ answer. answer ≡ Entry entry.now.rows entry.now.datum) }
+{
+    Ok(StoreAnswer::Entry {
+        rows: entry.rows.replica(alloc)?,
+        datum: entry.datum.replica(alloc)?,
+    })
+}
+
+/// A copy of the entry of a call that sets something: with `create` a new one
+/// where there is none.
+pub(crate) fn entry_to_set(
+    alloc: Global,
+    entries: &[StoredEntry],
+    create: bool,
+    table: &Text,
+    id: &Text,
+) -> Result<Option<StoredEntry>, WantOfMemory>
+    ensures { IfOk result (λ found. found ≡ entry_to_set entries.now create table.now id.now) }
+{
+    match entry_of(entries, table, id) {
+        Some(entry) => Ok(Some(entry.replica(alloc)?)),
+        None => {
+            if !create {
+                return Ok(None);
+            }
+            Ok(Some(new_entry(alloc, table, id)?))
+        }
+    }
+}
+
+/// An entry without rows, which has the byte 0 as data.
+fn new_entry(alloc: Global, table: &Text, id: &Text) -> Result<StoredEntry, WantOfMemory>
+    ensures { IfOk result (λ entry. entry ≡ new_entry table.now id.now) }
+{
+    Ok(StoredEntry {
+        table: table.replica(alloc)?,
+        id: id.replica(alloc)?,
+        datum: Datum::zero(),
+        rows: List::new(alloc),
+    })
+}
+
+/// An entry with these rows and data.
+pub(crate) fn with_content(entry: StoredEntry, rows: List<Row>, datum: Datum) -> StoredEntry
+    ensures { result ≡ record entry { rows = rows; datum = datum } }
+{
+    StoredEntry {
+        table: entry.table,
+        id: entry.id,
+        datum,
+        rows,
+    }
+}
+
+/// An entry with this data.
+pub(crate) fn with_datum(entry: StoredEntry, datum: Datum) -> StoredEntry
+    ensures { result ≡ record entry { datum = datum } }
+{
+    StoredEntry {
+        table: entry.table,
+        id: entry.id,
+        datum,
+        rows: entry.rows,
+    }
+}
+
+/// An entry in which an application has these permissions.
+pub(crate) fn with_permissions(
+    alloc: Global,
+    entry: StoredEntry,
+    app: &Text,
+    names: &List<Text>,
+) -> Result<StoredEntry, WantOfMemory>
+    requires { is_rising row_less entry.rows ≡ true }
+    ensures { IfOk result (λ set. set ≡ with_permissions app.now names.now entry) }
+{
+    let row = Row {
+        app: app.replica(alloc)?,
+        names: names.replica(alloc)?,
+    };
+    Ok(StoredEntry {
+        table: entry.table,
+        id: entry.id,
+        datum: entry.datum,
+        rows: with_row(entry.rows, row)?,
+    })
+}
+
+/// Says whether an application has a row in an entry.
+pub(crate) fn has_row(entry: &StoredEntry, app: &Text) -> bool
+    ensures { result ≡ has_row app.now entry.now }
+{
+    row_of(entry.rows.as_slice(), app).is_some()
+}
+
+/// An entry without the row of an application.
+pub(crate) fn without_permissions(
+    alloc: Global,
+    entry: &StoredEntry,
+    app: &Text,
+) -> Result<StoredEntry, WantOfMemory>
+    ensures { IfOk result (λ left. left ≡ without_permissions app.now entry.now) }
+{
+    Ok(StoredEntry {
+        table: entry.table.replica(alloc)?,
+        id: entry.id.replica(alloc)?,
+        datum: entry.datum.replica(alloc)?,
+        rows: without_row(entry.rows.replica(alloc)?, app),
+    })
+}
+
+/// What the signal tells of an entry that is gone, or is now so.
+pub(crate) fn change_of(deleted: bool, entry: StoredEntry) -> StoredChange
+    ensures { result ≡ change_of deleted entry }
+{
+    StoredChange {
+        table: entry.table,
+        id: entry.id,
+        deleted,
+        datum: entry.datum,
+        rows: entry.rows,
+    }
+}
+
+/// Puts an entry in place of that of its table and identifier, or else behind
+/// the others.
+pub(crate) fn put_entry(
+    entries: &mut Vec<StoredEntry>,
+    entry: StoredEntry,
+) -> Result<(), WantOfMemory>
+    ensures ok { OnOk result (entries.new.items ≡ put_entry entry entries.old.items) }
+    ensures err { OnErr result (entries.new.items ≡ entries.old.items) }
+{
+    match place_of(entries, &entry.table, &entry.id) {
+        Some(at) => entries[at] = entry,
+        None => entries.push(entry)?,
+    }
+    Ok(())
+}
+
+/// Takes the entry of a table and an identifier out.
+pub(crate) fn take_entry(
+    entries: &mut Vec<StoredEntry>,
+    table: &Text,
+    id: &Text,
+) -> Option<StoredEntry>
+    requires { AreEntries entries.old.items }
+    ensures entry { result ≡ entry_of entries.old.items table.now id.now }
+    ensures rest { entries.new.items ≡ without_entry table.now id.now entries.old.items }
+{
+    let at = place_of(entries, table, id)?;
+    Some(entries.remove(at))
+}
+
+/// Gives the entry of a table and an identifier the rows and data that it had,
+/// in its place.
+pub(crate) fn restore(entries: &mut Vec<StoredEntry>, table: &Text, id: &Text, former: TableEntry)
+    ensures { entries.new.items ≡ restored table.now id.now former entries.old.items }
+{
+    if let Some(at) = place_of(entries, table, id) {
+        restore_at(&mut entries[at], former);
+    }
+}
+
+/// Gives an entry the rows and data that it had.
+fn restore_at(entry: &mut StoredEntry, former: TableEntry)
+    ensures { entry.new ≡ record entry.old { rows = former.rows; datum = former.datum } }
+{
+    entry.rows = former.rows;
+    entry.datum = former.datum;
+}

@@ -1,0 +1,98 @@
+//! The rows of an entry.
+
+ghost use Rattle.std.specs.Prelude.{◌≡◌, true, not, IfOk, option_copied, is_some};
+ghost use Rattle.std.specs.List.{filter};
+ghost use Rattle.portal_model.specs.Ordered.{is_rising};
+ghost use Rattle.portal_model.specs.Rows.{is_row_of, row_less, row_of, has_names, stored_rows, with_row, without_row, permissions_of};
+
+use crate::ordered::put_in_order;
+use portal_base::list::List;
+use portal_base::memory::{Replica, WantOfMemory};
+use portal_base::text::Text;
+use portal_model::records::Row;
+use std::alloc::Global;
+
+/// The rows that are stored of those that a call brings.
+pub(crate) fn stored_rows(alloc: Global, rows: &[Row]) -> Result<List<Row>, WantOfMemory>
+    ensures { IfOk result (λ stored. stored ≡ stored_rows rows.now) }
+{
+    let mut stored = Vec::new(alloc);
+    for row in rows {
+        put_in_order(&mut stored, row.replica(alloc)?)?;
+    }
+    leave_named(&mut stored);
+    Ok(List::from_vec(stored))
+}
+
+/// Rows in which one row stands instead of that of its application; an empty
+/// one isn't stored.
+pub(crate) fn with_row(rows: List<Row>, row: Row) -> Result<List<Row>, WantOfMemory>
+    requires { is_rising row_less rows ≡ true }
+    ensures { IfOk result (λ stored. stored ≡ with_row row rows) }
+{
+    let mut rows = rows.into_vec();
+    put_in_order(&mut rows, row)?;
+    leave_named(&mut rows);
+    Ok(List::from_vec(rows))
+}
+
+/// Rows without that of an application.
+pub(crate) fn without_row(rows: List<Row>, app: &Text) -> List<Row>
+    ensures { result ≡ without_row app.now rows }
+{
+    let mut rows = rows.into_vec();
+    leave_others(&mut rows, app);
+    List::from_vec(rows)
+}
+
+/// The row of an application.
+pub(crate) fn row_of<'a>(rows: &'a [Row], app: &Text) -> Option<&'a Row>
+    ensures { option_copied result ≡ row_of rows.now app.now }
+{
+    rows.iter().find(|row| is_row_of(row, app))
+}
+
+/// The permissions of an application.
+pub(crate) fn permissions_of(
+    alloc: Global,
+    rows: &[Row],
+    app: &Text,
+) -> Result<List<Text>, WantOfMemory>
+    ensures { IfOk result (λ names. names ≡ permissions_of rows.now app.now) }
+{
+    match row_of(rows, app) {
+        Some(row) => row.names.replica(alloc),
+        None => Ok(List::new(alloc)),
+    }
+}
+
+/// Says whether a row is of an application.
+fn is_row_of(row: &Row, app: &Text) -> bool
+    ensures { result ≡ is_row_of app.now row.now }
+{
+    row.app == *app
+}
+
+/// Says whether a row has a permission.
+fn has_names(row: &Row) -> bool
+    ensures { result ≡ has_names row.now }
+{
+    match row.names.as_slice() {
+        [] => false,
+        [_, ..] => true,
+    }
+}
+
+/// Leaves the rows that have a permission.
+fn leave_named(rows: &mut Vec<Row>)
+    ensures { rows.new.items ≡ filter has_names rows.old.items }
+{
+    rows.retain(|row| has_names(row));
+}
+
+/// Leaves the rows of other applications.
+fn leave_others(rows: &mut Vec<Row>, app: &Text)
+    ensures { rows.new.items ≡ filter (λ row. not (is_row_of app.now row)) rows.old.items }
+{
+    rows.retain(|row| !is_row_of(row, app));
+}

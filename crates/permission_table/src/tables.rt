@@ -1,0 +1,238 @@
+//! The tables, with a method for each call of the permission store.
+
+ghost use Rattle.std.specs.Prelude.{◌≡◌, [], true, IfErr, IfSome};
+ghost use Rattle.portal_model.specs.Rows.{are_rows};
+ghost use Rattle.portal_model.specs.Store.{lookup, set, delete, set_value, set_permission, delete_permission, get_permission, list, becomes, becomes_if_told};
+ghost use Rattle.portal_model.specs.declared.store.StoreError.TheVariants.{NotFound};
+ghost use Rattle.permission_table.specs.Tables.{AreEntries, Gives, put_back};
+
+use crate::entries::{
+    answer_of, change_of, entry_of, entry_to_set, has_row, ids_of, put_entry, restore, take_entry,
+    with_content, with_datum, with_permissions, without_permissions,
+};
+use crate::lengths::can_be_told;
+use crate::rows::{permissions_of, stored_rows};
+use portal_base::list::List;
+use portal_base::memory::Replica;
+use portal_base::text::Text;
+use portal_model::datum::Datum;
+use portal_model::records::Row;
+use portal_model::store::{StoreAnswer, StoreError, StoredEntry, TableEntry};
+use std::alloc::Global;
+use std::marker::Model;
+
+/// The entries of all tables, in order of creation.
+///
+/// Tables, identifiers and the keys of applications may be any texts.
+#[derive(Drop)]
+pub struct Tables {
+    alloc: Global,
+    entries: Vec<StoredEntry>,
+}
+
+impl Model for Tables {
+    ghost use Rattle.dbus_types.specs.contracts.types.Value as e;
+    ghost use Rattle.std.specs.Coded.{codes};
+    ghost use Rattle.portal_model.specs.Store.{Entries};
+    ghost use Rattle.permission_table.specs.Tables.{AreEntries};
+
+    ghost Value = { Entries };
+
+    ghost coded = { Prim.hlevel (codes, e.the_row.coded) };
+
+    ghost view = { λ a. a.entries.items };
+
+    ghost invariant = { λ a. AreEntries a.entries.items };
+}
+
+impl Tables {
+    /// No entries.
+    pub fn new(alloc: Global) -> Tables
+        ensures { result ≡ [] }
+    {
+        Tables {
+            alloc,
+            entries: Vec::new(alloc),
+        }
+    }
+
+    /// All entries, in order of creation. They differ in table or identifier, and
+    /// the rows of each stand in byte order, one for each application and none
+    /// empty.
+    pub fn entries(&self) -> &[StoredEntry]
+        ensures value { result.now ≡ self.now }
+        ensures kept { AreEntries self.now }
+    {
+        self.entries.as_slice()
+    }
+
+    /// The rows and the data of an entry; `NotFound` where it isn't there.
+    pub fn lookup(&self, table: &Text, id: &Text) -> Result<StoreAnswer, StoreError>
+        ensures { Gives (lookup self.now table.now id.now) self.now self.now result }
+    {
+        match entry_of(&self.entries, table, id) {
+            Some(entry) => Ok(answer_of(self.alloc, entry)?),
+            None => Err(StoreError::NotFound),
+        }
+    }
+
+    /// Replaces the rows and the data of an entry. Of two rows for one application
+    /// the last stands, and an empty one isn't stored. Without the entry it is
+    /// made with `create`, and else `NotFound`. `TooLong` where the signal that
+    /// tells of the entry would be longer than 16,777,216 bytes.
+    pub fn set(
+        &mut self,
+        table: &Text,
+        create: bool,
+        id: &Text,
+        rows: &List<Row>,
+        datum: &Datum,
+    ) -> Result<StoreAnswer, StoreError>
+        ensures { Gives (set self.old table.now create id.now rows.now datum.now) self.old self.new
+            result }
+    {
+        let Some(entry) = entry_to_set(self.alloc, &self.entries, create, table, id)? else {
+            return Err(StoreError::NotFound);
+        };
+        let rows = stored_rows(self.alloc, rows.as_slice())?;
+        let datum = datum.replica(self.alloc)?;
+        self.put_told(with_content(entry, rows, datum))
+    }
+
+    /// Takes an entry out, and tells its rows and data; `NotFound` where it isn't
+    /// there. It takes no memory.
+    pub fn delete(&mut self, table: &Text, id: &Text) -> Result<StoreAnswer, StoreError>
+        ensures done { Gives (delete self.old table.now id.now) self.old self.new result }
+        ensures refused { IfErr result (λ error. error ≡ NotFound) }
+    {
+        let Some(entry) = take_entry(&mut self.entries, table, id) else {
+            return Err(StoreError::NotFound);
+        };
+        Ok(StoreAnswer::Done(change_of(true, entry)))
+    }
+
+    /// Replaces the data of an entry, and keeps its rows; a new entry has none.
+    /// Refused as [`Tables::set`] is.
+    pub fn set_value(
+        &mut self,
+        table: &Text,
+        create: bool,
+        id: &Text,
+        datum: &Datum,
+    ) -> Result<StoreAnswer, StoreError>
+        ensures { Gives (set_value self.old table.now create id.now datum.now) self.old self.new
+            result }
+    {
+        let Some(entry) = entry_to_set(self.alloc, &self.entries, create, table, id)? else {
+            return Err(StoreError::NotFound);
+        };
+        let datum = datum.replica(self.alloc)?;
+        self.put_told(with_datum(entry, datum))
+    }
+
+    /// Replaces the row of an application in an entry, and keeps its data; a new
+    /// entry has the byte 0. An empty list stores no row. Refused as
+    /// [`Tables::set`] is.
+    pub fn set_permission(
+        &mut self,
+        table: &Text,
+        create: bool,
+        id: &Text,
+        app: &Text,
+        names: &List<Text>,
+    ) -> Result<StoreAnswer, StoreError>
+        ensures { Gives (set_permission self.old table.now create id.now app.now names.now)
+            self.old self.new result }
+    {
+        let Some(entry) = entry_to_set(self.alloc, &self.entries, create, table, id)? else {
+            return Err(StoreError::NotFound);
+        };
+        let entry = with_permissions(self.alloc, entry, app, names)?;
+        self.put_told(entry)
+    }
+
+    /// Takes the row of an application out of an entry; `NotFound` where the entry
+    /// isn't there, and `Kept` where only the row isn't.
+    pub fn delete_permission(
+        &mut self,
+        table: &Text,
+        id: &Text,
+        app: &Text,
+    ) -> Result<StoreAnswer, StoreError>
+        ensures { Gives (delete_permission self.old table.now id.now app.now) self.old self.new
+            result }
+    {
+        let Some(entry) = entry_of(&self.entries, table, id) else {
+            return Err(StoreError::NotFound);
+        };
+        if !has_row(entry, app) {
+            return Ok(StoreAnswer::Kept);
+        }
+        let left = without_permissions(self.alloc, entry, app)?;
+        self.put(left)
+    }
+
+    /// The permissions of an application in an entry, none where it has no row;
+    /// `NotFound` where the entry isn't there.
+    pub fn get_permission(
+        &self,
+        table: &Text,
+        id: &Text,
+        app: &Text,
+    ) -> Result<StoreAnswer, StoreError>
+        ensures { Gives (get_permission self.now table.now id.now app.now) self.now self.now
+            result }
+    {
+        match entry_of(&self.entries, table, id) {
+            Some(entry) => {
+                let names = permissions_of(self.alloc, entry.rows.as_slice(), app)?;
+                Ok(StoreAnswer::Names(names))
+            }
+            None => Err(StoreError::NotFound),
+        }
+    }
+
+    /// The identifiers of a table's entries, in byte order: none of a table
+    /// without entries.
+    pub fn list(&self, table: &Text) -> Result<StoreAnswer, StoreError>
+        ensures { Gives (list self.now table.now) self.now self.now result }
+    {
+        let ids = ids_of(self.alloc, &self.entries, table)?;
+        Ok(StoreAnswer::Names(ids))
+    }
+
+    /// Takes a call back: the entry has its former rows and data in its place, or
+    /// goes where it wasn't there before. It takes no memory.
+    pub fn put_back(&mut self, table: &Text, id: &Text, former: Option<TableEntry>)
+        requires { IfSome former (λ entry. are_rows entry.rows ≡ true) }
+        ensures { self.new ≡ put_back table.now id.now former self.old }
+    {
+        match former {
+            Some(former) => restore(&mut self.entries, table, id, former),
+            None => {
+                take_entry(&mut self.entries, table, id);
+            }
+        }
+    }
+
+    /// An entry becomes so, where the signal that tells of it isn't too long.
+    fn put_told(&mut self, entry: StoredEntry) -> Result<StoreAnswer, StoreError>
+        requires { are_rows entry.rows ≡ true }
+        ensures { Gives (becomes_if_told entry self.old) self.old self.new result }
+    {
+        if !can_be_told(&entry) {
+            return Err(StoreError::TooLong);
+        }
+        self.put(entry)
+    }
+
+    /// An entry becomes so, and is told.
+    fn put(&mut self, entry: StoredEntry) -> Result<StoreAnswer, StoreError>
+        requires { are_rows entry.rows ≡ true }
+        ensures { Gives (becomes entry self.old) self.old self.new result }
+    {
+        let change = change_of(false, entry.replica(self.alloc)?);
+        put_entry(&mut self.entries, entry)?;
+        Ok(StoreAnswer::Done(change))
+    }
+}
