@@ -49,6 +49,7 @@ leave_is_given s o seat = record {
   applied = λ changes. absurd (leave_unkept s seat changes);
   unapplied = λ _. refl;
   words = refl;
+  moment = tt;
   clock = refl;
 }
 

@@ -5,3 +5,6 @@ pub mod RowLemmas
 pub mod EndLemmas
 pub mod ChangedHeader
 pub mod SetEntries
+pub mod TakenBack
+pub mod RowLaws
+pub mod Shorter

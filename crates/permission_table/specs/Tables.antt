@@ -1,6 +1,6 @@
 -- What tables keep, and what a call of theirs gives. The terms are those of the documentation of
 -- org.freedesktop.impl.portal.PermissionStore.
-use Rattle.std.specs.Prelude.{◌≡◌, ℕ, List, Bool, true, Option, Some, None, Result, Ok, Err}
+use Rattle.std.specs.Prelude.{◌≡◌, ℕ, List, Bool, true, Option, Some, None, option_map, Result, Ok, Err}
 use Rattle.std.specs.List.{list_all, IsDistinct}
 use Rattle.portal_model.specs.declared.store.StoreAnswer.{StoreAnswer}
 use Rattle.portal_model.specs.declared.store.StoreError.{StoreError}
@@ -9,7 +9,7 @@ use Rattle.portal_model.specs.declared.store.StoredEntry.{StoredEntry}
 use Rattle.portal_model.specs.declared.store.TableEntry.{TableEntry}
 use Rattle.portal_model.specs.RecordChanges.{change_first}
 use Rattle.portal_model.specs.Rows.{are_rows}
-use Rattle.portal_model.specs.Store.{Entries, Outcome, is_entry_of, without_entry}
+use Rattle.portal_model.specs.Store.{Entries, Outcome, is_entry_of, entry_of, without_entry}
 
 abbrev pub is_same_entry : StoredEntry → StoredEntry → Bool
 is_same_entry a b = is_entry_of b.table b.id a
@@ -25,6 +25,13 @@ abbrev pub Gives : Outcome → Entries → Entries → Result StoreAnswer StoreE
 Gives outcome old new (Ok answer) = outcome ≡ Ok (new, answer)
 Gives outcome old new (Err Memory) = new ≡ old
 Gives outcome old new (Err error) = (outcome ≡ Err error) × (new ≡ old)
+
+abbrev pub content_of : StoredEntry → TableEntry
+content_of e = record { rows = e.rows; datum = e.datum }
+
+-- what an entry has: nothing where it isn't there
+abbrev pub former_of : Entries → List ℕ → List ℕ → Option TableEntry
+former_of entries table id = option_map content_of (entry_of entries table id)
 
 -- the entry has its former rows and data, in its place
 abbrev pub restored : List ℕ → List ℕ → TableEntry → Entries → Entries

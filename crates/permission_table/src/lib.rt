@@ -13,6 +13,7 @@
 //! | `rows` | the rows of one entry |
 //! | `ordered` | lists in byte order of their keys |
 //! | `lengths`, `ends` | how long the signal is that tells of an entry |
+//! | `laws` | what is true of rows, of what can be told, and of calls that are taken back |
 //!
 //! ```text
 //! let mut tables = Tables::new(alloc);
@@ -25,6 +26,7 @@
 
 mod ends;
 mod entries;
+pub mod laws;
 mod lengths;
 mod ordered;
 mod rows;

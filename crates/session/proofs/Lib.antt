@@ -22,7 +22,7 @@ pub mod ConnectionEntries
 pub mod CallsAreHeard
 pub mod HeardReplies
 pub mod WholeInputsEnd
-pub mod ItemsBuilt
+pub mod FramesCarry
 pub mod ItemsCostLittle
 pub mod RoomIsEnough
 pub mod EndsStay
