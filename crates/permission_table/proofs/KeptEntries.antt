@@ -1,16 +1,18 @@
 -- The entry of a table and an identifier, looked up, taken out and put in its place.
-use Rattle.std.proofs.Common.{◌≡◌, ℕ, ◌+◌, ◌<◌, nat_lt, suc, List, [], ◌∷◌, ◌++◌, length, Bool, true, false, not, ◌&&◌, cond, Some, None, refl, sym, ap, ◌∙◌, arith}
-use Rattle.std.specs.List.{filter, find, list_all, list_any, remove, prefix_len, position, position_or_len, slice_get, IsDistinct, AllByRecursion}
+use Rattle.std.proofs.Common.{◌≡◌, ℕ, ◌+◌, ◌<◌, nat_lt, suc, List, [], ◌∷◌, ◌++◌, length, Bool, true, false, not, ◌&&◌, cond, Some, None, refl, sym, ap, subst, ◌∙◌, arith}
+use Rattle.std.specs.List.{All, filter, find, list_any, remove, prefix_len, position, position_or_len, slice_get, IsDistinct, AllByRecursion}
 use Rattle.std.proofs.lemmas.Bool.Decides.{nat_tests}
-use Rattle.std.proofs.lemmas.List.Folds.{find_at, list_all-append}
+use Rattle.std.proofs.lemmas.List.Elements.{All-cons, All-filter, All-head, All-nil, All-push, All-tail}
+use Rattle.std.proofs.lemmas.List.Folds.{find_at}
 use Rattle.portal_base.specs.Names.{is_same}
 use Rattle.portal_model.specs.RecordChanges.{change_first}
-use Rattle.portal_model.specs.Rows.{are_rows}
-use Rattle.portal_model.specs.Store.{Entries, is_entry_of, put_entry, without_entry}
+use Rattle.portal_model.specs.Store.{Entries, entry_of, is_entry_of, put_entry, without_entry}
 use Rattle.portal_model.specs.declared.store.StoredEntry.{StoredEntry}
-use Rattle.portal_model.proofs.DistinctItems.{IsDistinct-filter, list_all-filter}
+use Rattle.portal_model.specs.declared.store.TableEntry.{TableEntry}
+use Rattle.portal_model.proofs.DistinctItems.{IsDistinct-filter}
+use Rattle.portal_model.proofs.ListLookups.{found_passes}
 use Rattle.portal_model.proofs.TripleOrder.{is_same-eq, is_same-refl}
-use Rattle.permission_table.specs.Tables.{AreEntries, is_same_entry}
+use Rattle.permission_table.specs.Tables.{AreEntries, IsFormer, IsHeld, is_same_entry, restored}
 
 place-is : (b : Bool) (n i : ℕ) → cond b (Some n) None ≡ Some i → i ≡ n
 place-is true n i e = cc
@@ -103,7 +105,7 @@ of-one table id a b h d = step (is_entry_of table id b) refl
 kept-some : (p : StoredEntry → Bool) (entries : Entries) → AreEntries entries → AreEntries (filter p entries)
 kept-some p entries k = record {
   differ = IsDistinct-filter is_same_entry p entries k.differ;
-  rows = list_all-filter (λ e. are_rows e.rows) p entries k.rows;
+  held = All-filter p IsHeld entries k.held;
 }
 
 pub kept-without : (table id : List ℕ) (entries : Entries) → AreEntries entries → AreEntries (without_entry table id entries)
@@ -150,34 +152,60 @@ module _ (test : StoredEntry → Bool) (change : StoredEntry → StoredEntry)
       step true e more = (all-left x xs e d.0, d.1)
       step false e more = (all-changed x xs d.0, more)
 
-  rows-changed : (xs : Entries) → ((e : StoredEntry) → are_rows (change e).rows ≡ true) → list_all (λ e. are_rows e.rows) xs ≡ true → list_all (λ e. are_rows e.rows) (change_first test change xs) ≡ true
-  rows-changed [] f h = refl
-  rows-changed (x ∷ xs) f h =
-      let one : are_rows x.rows ≡ true = grind arith in
-      let rest : list_all (λ e. are_rows e.rows) xs ≡ true = grind arith in
-      step (test x) one rest (rows-changed xs f rest)
+  held-changed : (xs : Entries) → ((e : StoredEntry) → test e ≡ true → IsHeld (change e)) → All IsHeld xs → All IsHeld (change_first test change xs)
+  held-changed [] f h = h
+  held-changed (x ∷ xs) f h = step (test x) refl (held-changed xs f (All-tail IsHeld x xs h))
     where
-      step : (b : Bool) → are_rows x.rows ≡ true → list_all (λ e. are_rows e.rows) xs ≡ true → list_all (λ e. are_rows e.rows) (change_first test change xs) ≡ true
-          → list_all (λ e. are_rows e.rows) (cond b (change x ∷ xs) (x ∷ change_first test change xs)) ≡ true
-      step true one rest more = λ i. f x i && rest i
-      step false one rest more = λ i. one i && more i
+      step : (b : Bool) → test x ≡ b → All IsHeld (change_first test change xs) → All IsHeld (cond b (change x ∷ xs) (x ∷ change_first test change xs))
+      step true e more = All-cons IsHeld (change x) xs (f x e) (All-tail IsHeld x xs h)
+      step false e more = All-cons IsHeld x (change_first test change xs) (All-head IsHeld x xs h) more
 
-  pub kept-changed : (xs : Entries) → ((e : StoredEntry) → are_rows (change e).rows ≡ true) → AreEntries xs → AreEntries (change_first test change xs)
-  kept-changed xs f k = record { differ = differ-changed xs k.differ; rows = rows-changed xs f k.rows }
+  pub kept-changed : (xs : Entries) → ((e : StoredEntry) → test e ≡ true → IsHeld (change e)) → AreEntries xs → AreEntries (change_first test change xs)
+  kept-changed xs f k = record { differ = differ-changed xs k.differ; held = held-changed xs f k.held }
 
-pub kept-put : (e : StoredEntry) (entries : Entries) → are_rows e.rows ≡ true → AreEntries entries → AreEntries (put_entry e entries)
+pub kept-put : (e : StoredEntry) (entries : Entries) → IsHeld e → AreEntries entries → AreEntries (put_entry e entries)
 kept-put e entries r k = step (list_any (is_entry_of e.table e.id) entries) refl
   where
     same-key : (x : StoredEntry) → is_entry_of e.table e.id x ≡ true → (e.table ≡ x.table) × (e.id ≡ x.id)
     same-key x h = let s = is-of e.table e.id x h in (sym s.0, sym s.1)
 
     step : (b : Bool) → list_any (is_entry_of e.table e.id) entries ≡ b → AreEntries (cond b (change_first (is_entry_of e.table e.id) (λ _. e) entries) (entries ++ e ∷ []))
-    step true h = kept-changed (is_entry_of e.table e.id) (λ _. e) same-key entries (λ _. r) k
+    step true h = kept-changed (is_entry_of e.table e.id) (λ _. e) same-key entries (λ _ _. r) k
     step false h = record {
       differ = differ-last e entries k.differ h;
-      rows = list_all-append (λ x. are_rows x.rows) entries (e ∷ []) ∙ (λ i. k.rows i && (r i && true));
+      held = All-push IsHeld entries e k.held r;
     }
+
+-- an entry that has its former rows and data is held, as it was
+pub kept-restored : (table id : List ℕ) (former : TableEntry) (entries : Entries) → IsFormer table id former → AreEntries entries → AreEntries (restored table id former entries)
+kept-restored table id former entries r k =
+    kept-changed (is_entry_of table id) (λ e. record e { rows = former.rows; datum = former.datum }) (λ e h. (refl, refl)) entries held k
+  where
+    held : (e : StoredEntry) → is_entry_of table id e ≡ true → IsHeld (record e { rows = former.rows; datum = former.datum })
+    held e h =
+        let s = is-of table id e h in
+        subst IsHeld (λ i. record { table = sym s.0 i; id = sym s.1 i; datum = former.datum; rows = former.rows }) r
 
 pub kept-none : AreEntries []
 unfolding IsDistinct
-kept-none = record { differ = tt; rows = refl }
+kept-none = record { differ = tt; held = All-nil IsHeld }
+
+-- ---- the one that is looked up
+
+all-found : (test : StoredEntry → Bool) (xs : Entries) (x : StoredEntry) → find test xs ≡ Some x → All IsHeld xs → IsHeld x
+all-found test [] x f a = let never : ⊥ = cc in absurd never
+all-found test (y ∷ ys) x f a = step (test y) f (λ g. all-found test ys x g (All-tail IsHeld y ys a))
+  where
+    same : Some y ≡ Some x → y ≡ x
+    same p = cc
+
+    step : (b : Bool) → cond b (Some y) (find test ys) ≡ Some x → (find test ys ≡ Some x → IsHeld x) → IsHeld x
+    step true g more = subst IsHeld (same g) (All-head IsHeld y ys a)
+    step false g more = more g
+
+pub held-found : (table id : List ℕ) (entries : Entries) (e : StoredEntry) → AreEntries entries → entry_of entries table id ≡ Some e → IsHeld e
+held-found table id entries e k h = all-found (is_entry_of table id) entries e h k.held
+
+-- it is of that table and identifier
+pub found-of : (table id : List ℕ) (entries : Entries) (e : StoredEntry) → entry_of entries table id ≡ Some e → (e.table ≡ table) × (e.id ≡ id)
+found-of table id entries e h = is-of table id e (found_passes (is_entry_of table id) entries e h)

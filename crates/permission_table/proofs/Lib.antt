@@ -4,4 +4,8 @@ pub mod KeptEntries
 pub mod RowLemmas
 pub mod EndLemmas
 pub mod ChangedHeader
-pub mod SetEntries
+pub mod SoundEntries
+pub mod TakenBack
+pub mod RowLaws
+pub mod Shorter
+pub mod HeldRecords

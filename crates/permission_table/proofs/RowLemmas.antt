@@ -13,14 +13,14 @@ use Rattle.permission_table.proofs.InOrder.{bytes}
 pub reverse-more : {X : Type 0} (xs : List X) (i : ℕ) (x : X) → i < length xs → x ≡ get_or xs i x → reverse (take (i + 1) xs) ≡ x ∷ reverse (take i xs)
 reverse-more xs i x l e = ap reverse (take_more xs i x l) ∙ (ap (λ y. reverse (take i xs ++ y ∷ [])) (sym e) ∙ reverse-append (take i xs) (x ∷ []))
 
-both : (a b : Bool) → a ≡ true → b ≡ true → (a && b) ≡ true
+pub both : (a b : Bool) → a ≡ true → b ≡ true → (a && b) ≡ true
 both a b h l = λ i. h i && l i
 
-left : (a b : Bool) → (a && b) ≡ true → a ≡ true
+pub left : (a b : Bool) → (a && b) ≡ true → a ≡ true
 left true b h = refl
 left false b h = cc
 
-right : (a b : Bool) → (a && b) ≡ true → b ≡ true
+pub right : (a b : Bool) → (a && b) ≡ true → b ≡ true
 right true b h = h
 right false b h = cc
 

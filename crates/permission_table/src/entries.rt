@@ -6,7 +6,7 @@ ghost use Rattle.portal_model.specs.Store.{is_entry_of, entry_of, is_in_table, i
 ghost use Rattle.portal_model.specs.Ordered.{is_rising};
 ghost use Rattle.portal_model.specs.Rows.{row_less};
 ghost use Rattle.portal_model.specs.declared.store.StoreAnswer.TheVariants.{Entry};
-ghost use Rattle.permission_table.specs.Tables.{AreEntries, restored};
+ghost use Rattle.permission_table.specs.Tables.{AreEntries, content_of, restored};
 
 use crate::ordered::put_in_order;
 use crate::rows::{row_of, with_row, without_row};
@@ -175,6 +175,16 @@ pub(crate) fn without_permissions(
         id: entry.id.replica(alloc)?,
         datum: entry.datum.replica(alloc)?,
         rows: without_row(entry.rows.replica(alloc)?, app),
+    })
+}
+
+/// A copy of what an entry has.
+pub(crate) fn content_of(alloc: Global, entry: &StoredEntry) -> Result<TableEntry, WantOfMemory>
+    ensures { IfOk result (λ content. content ≡ content_of entry.now) }
+{
+    Ok(TableEntry {
+        rows: entry.rows.replica(alloc)?,
+        datum: entry.datum.replica(alloc)?,
     })
 }
 

@@ -1,10 +1,11 @@
 //! The tables of the permission store.
 //!
-//! **It promises** that after every call the tables are the list of its definition,
-//! and that each answer is the one of its definition: the rows of an entry stand in
+//! **It promises** that after every call the tables are the list that the definitions
+//! of `portal_model` say, and that each answer is theirs: the rows of an entry stand in
 //! byte order of the applications' keys, of two rows for one application the last
-//! stands, and an empty list of permissions stores no row. A call that is refused,
-//! and one that finds no memory, changes nothing. A deletion takes no memory.
+//! stands, and an empty list of permissions stores no row. Every entry that it holds is
+//! such as a valid state has. A call that is refused, and one that finds no memory,
+//! changes nothing. A deletion takes no memory.
 //!
 //! | Room | Holds |
 //! |---|---|
@@ -13,6 +14,7 @@
 //! | `rows` | the rows of one entry |
 //! | `ordered` | lists in byte order of their keys |
 //! | `lengths`, `ends` | how long the signal is that tells of an entry |
+//! | `laws` | what is true of rows, of what can be told, of records, and of calls that are taken back |
 //!
 //! ```text
 //! let mut tables = Tables::new(alloc);
@@ -20,15 +22,18 @@
 //! ```
 //!
 //! Source: XDG Desktop Portal documentation,
-//! `org.freedesktop.impl.portal.PermissionStore`.
+//! `org.freedesktop.impl.portal.PermissionStore`. That a missing row is no fault, the
+//! data of a new entry, the order of rows, that an empty list stores no row, and the
+//! limit are this project's own.
 #![tactic(auto)]
 
 mod ends;
 mod entries;
+pub mod laws;
 mod lengths;
 mod ordered;
 mod rows;
 mod tables;
 
-pub use portal_model::store::{StoreAnswer, StoreError, TableEntry};
+pub use portal_model::store::{StoreAnswer, StoreError, StoredChange, StoredEntry, TableEntry};
 pub use tables::Tables;

@@ -1,19 +1,20 @@
 //! The tables, with a method for each call of the permission store.
 
-ghost use Rattle.std.specs.Prelude.{◌≡◌, [], true, IfErr, IfSome};
-ghost use Rattle.portal_model.specs.Rows.{are_rows};
+ghost use Rattle.std.specs.Prelude.{◌≡◌, [], true, IfOk, IfErr, IfSome};
+ghost use Rattle.std.specs.List.{list_all};
 ghost use Rattle.portal_model.specs.Store.{lookup, set, delete, set_value, set_permission, delete_permission, get_permission, list, becomes, becomes_if_told};
 ghost use Rattle.portal_model.specs.declared.store.StoreError.TheVariants.{NotFound};
-ghost use Rattle.permission_table.specs.Tables.{AreEntries, Gives, put_back};
+ghost use Rattle.portal_model.specs.Valid.{is_text};
+ghost use Rattle.permission_table.specs.Tables.{AreEntries, Gives, IsFormer, IsHeld, IsSound, IsSoundDatum, former_of, have_texts, put_back};
 
 use crate::entries::{
-    answer_of, change_of, entry_of, entry_to_set, has_row, ids_of, put_entry, restore, take_entry,
-    with_content, with_datum, with_permissions, without_permissions,
+    answer_of, change_of, content_of, entry_of, entry_to_set, has_row, ids_of, put_entry, restore,
+    take_entry, with_content, with_datum, with_permissions, without_permissions,
 };
 use crate::lengths::can_be_told;
 use crate::rows::{permissions_of, stored_rows};
 use portal_base::list::List;
-use portal_base::memory::Replica;
+use portal_base::memory::{Replica, WantOfMemory};
 use portal_base::text::Text;
 use portal_model::datum::Datum;
 use portal_model::records::Row;
@@ -23,7 +24,9 @@ use std::marker::Model;
 
 /// The entries of all tables, in order of creation.
 ///
-/// Tables, identifiers and the keys of applications may be any texts.
+/// Tables, identifiers, the keys of applications and permissions are any texts
+/// without a zero byte. The signal that tells of an entry is no longer than a
+/// message may be.
 #[derive(Drop)]
 pub struct Tables {
     alloc: Global,
@@ -58,7 +61,7 @@ impl Tables {
 
     /// All entries, in order of creation. They differ in table or identifier, and
     /// the rows of each stand in byte order, one for each application and none
-    /// empty.
+    /// empty. Of each there is a record such as a valid state has.
     pub fn entries(&self) -> &[StoredEntry]
         ensures value { result.now ≡ self.now }
         ensures kept { AreEntries self.now }
@@ -79,7 +82,8 @@ impl Tables {
     /// Replaces the rows and the data of an entry. Of two rows for one application
     /// the last stands, and an empty one isn't stored. Without the entry it is
     /// made with `create`, and else `NotFound`. `TooLong` where the signal that
-    /// tells of the entry would be longer than 16,777,216 bytes.
+    /// tells of the entry would be longer than 16,777,216 bytes. No text may have a
+    /// zero byte, and the data as a variant has to keep the rules of values.
     pub fn set(
         &mut self,
         table: &Text,
@@ -88,6 +92,10 @@ impl Tables {
         rows: &List<Row>,
         datum: &Datum,
     ) -> Result<StoreAnswer, StoreError>
+        requires table { is_text table.now ≡ true }
+        requires id { is_text id.now ≡ true }
+        requires rows { have_texts rows.now ≡ true }
+        requires datum { IsSoundDatum datum.now }
         ensures { Gives (set self.old table.now create id.now rows.now datum.now) self.old self.new
             result }
     {
@@ -112,7 +120,7 @@ impl Tables {
     }
 
     /// Replaces the data of an entry, and keeps its rows; a new entry has none.
-    /// Refused as [`Tables::set`] is.
+    /// Refused as [`Tables::set`] is, and asks the same of texts and data.
     pub fn set_value(
         &mut self,
         table: &Text,
@@ -120,6 +128,9 @@ impl Tables {
         id: &Text,
         datum: &Datum,
     ) -> Result<StoreAnswer, StoreError>
+        requires table { is_text table.now ≡ true }
+        requires id { is_text id.now ≡ true }
+        requires datum { IsSoundDatum datum.now }
         ensures { Gives (set_value self.old table.now create id.now datum.now) self.old self.new
             result }
     {
@@ -132,7 +143,7 @@ impl Tables {
 
     /// Replaces the row of an application in an entry, and keeps its data; a new
     /// entry has the byte 0. An empty list stores no row. Refused as
-    /// [`Tables::set`] is.
+    /// [`Tables::set`] is, and asks the same of texts.
     pub fn set_permission(
         &mut self,
         table: &Text,
@@ -141,6 +152,10 @@ impl Tables {
         app: &Text,
         names: &List<Text>,
     ) -> Result<StoreAnswer, StoreError>
+        requires table { is_text table.now ≡ true }
+        requires id { is_text id.now ≡ true }
+        requires app { is_text app.now ≡ true }
+        requires names { list_all is_text names.now ≡ true }
         ensures { Gives (set_permission self.old table.now create id.now app.now names.now)
             self.old self.new result }
     {
@@ -201,10 +216,23 @@ impl Tables {
         Ok(StoreAnswer::Names(ids))
     }
 
-    /// Takes a call back: the entry has its former rows and data in its place, or
-    /// goes where it wasn't there before. It takes no memory.
+    /// What an entry has, to be put back once a call has changed it: nothing where
+    /// it isn't there.
+    pub fn former(&self, table: &Text, id: &Text) -> Result<Option<TableEntry>, WantOfMemory>
+        ensures former { IfOk result (λ former. former ≡ former_of self.now table.now id.now) }
+        ensures held { IfOk result (λ former. IfSome former (IsFormer table.now id.now)) }
+    {
+        match entry_of(&self.entries, table, id) {
+            Some(entry) => Ok(Some(content_of(self.alloc, entry)?)),
+            None => Ok(None),
+        }
+    }
+
+    /// Takes a call back: the entry has the rows and data that it had before, as
+    /// [`Tables::former`] gave them, in its place, or goes where it wasn't there.
+    /// It takes no memory.
     pub fn put_back(&mut self, table: &Text, id: &Text, former: Option<TableEntry>)
-        requires { IfSome former (λ entry. are_rows entry.rows ≡ true) }
+        requires { IfSome former (IsFormer table.now id.now) }
         ensures { self.new ≡ put_back table.now id.now former self.old }
     {
         match former {
@@ -217,7 +245,7 @@ impl Tables {
 
     /// An entry becomes so, where the signal that tells of it isn't too long.
     fn put_told(&mut self, entry: StoredEntry) -> Result<StoreAnswer, StoreError>
-        requires { are_rows entry.rows ≡ true }
+        requires { IsSound entry }
         ensures { Gives (becomes_if_told entry self.old) self.old self.new result }
     {
         if !can_be_told(&entry) {
@@ -228,7 +256,7 @@ impl Tables {
 
     /// An entry becomes so, and is told.
     fn put(&mut self, entry: StoredEntry) -> Result<StoreAnswer, StoreError>
-        requires { are_rows entry.rows ≡ true }
+        requires { IsHeld entry }
         ensures { Gives (becomes entry self.old) self.old self.new result }
     {
         let change = change_of(false, entry.replica(self.alloc)?);

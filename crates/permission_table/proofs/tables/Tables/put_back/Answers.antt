@@ -1,18 +1,17 @@
-use Rattle.std.proofs.Common.{◌≡◌, refl, sym, subst, Option, true}
+use Rattle.std.proofs.Common.{sym, subst, Option}
 use Rattle.std.specs.Prelude.{IfSome}
-use Rattle.portal_model.specs.Rows.{are_rows}
-use Rattle.portal_model.specs.Store.{is_entry_of}
 use Rattle.portal_model.specs.declared.store.TableEntry.{TableEntry}
-use Rattle.permission_table.specs.Tables.{AreEntries}
-use Rattle.permission_table.proofs.KeptEntries.{kept-without, kept-changed}
+use Rattle.permission_table.specs.Tables.{AreEntries, IsFormer}
+use Rattle.permission_table.proofs.KeptEntries.{kept-restored, kept-without}
 use Rattle.permission_table.proofs.tables.Tables.put_back.Goals as goal
 
 pub invariant_of-self : goal.invariant_of-self
 invariant_of-self c =
+    let table = c.args.table.now in
+    let id = c.args.id.now in
     let former = c.in-Some.former in
-    let rows : are_rows former.rows ≡ true = subst (λ (o : Option TableEntry). IfSome o (λ entry. are_rows entry.rows ≡ true)) c.in-Some.is c.requires in
-    subst AreEntries (sym c.restore.ensures)
-    (kept-changed (is_entry_of c.args.table.now c.args.id.now) (λ e. record e { rows = former.rows; datum = former.datum }) (λ e h. (refl, refl)) c.self.inside.entries.items (λ e. rows) c.self.invariant)
+    let held : IsFormer table id former = subst (λ (o : Option TableEntry). IfSome o (IsFormer table id)) c.in-Some.is c.requires in
+    subst AreEntries (sym c.restore.ensures) (kept-restored table id former c.self.inside.entries.items held c.self.invariant)
 
 pub invariant_of-self-in-None : goal.invariant_of-self-in-None
 invariant_of-self-in-None c =

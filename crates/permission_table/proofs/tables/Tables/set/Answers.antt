@@ -1,9 +1,19 @@
-use Rattle.std.proofs.Common.{◌∙◌, ap}
-use Rattle.portal_model.specs.Rows.{are_rows}
-use Rattle.portal_model.specs.declared.store.StoredEntry.{StoredEntry}
-use Rattle.permission_table.proofs.RowLemmas.{stored-are}
+use Rattle.std.proofs.Common.{◌≡◌, ◌∙◌, ap, sym, subst, Some}
+use Rattle.portal_model.specs.Rows.{stored_rows}
+use Rattle.portal_model.specs.Store.{Entries, entry_to_set}
+use Rattle.permission_table.specs.Tables.{IsSound}
+use Rattle.permission_table.proofs.SoundEntries.{content-sound, set-sound}
 use Rattle.permission_table.proofs.tables.Tables.set.Goals as goal
 
 pub put_told-requires : goal.put_told-requires
 put_told-requires c =
-    ap (λ (e : StoredEntry). are_rows e.rows) c.with_content.ensures ∙ (ap are_rows c.in_ok-rows.ensures ∙ stored-are c.as_slice.result.now)
+    let entries = c.self.inside.entries.items in
+    let table = c.args.table.now in
+    let id = c.args.id.now in
+    let found : Some c.in-Some.entry ≡ entry_to_set entries c.args.create table id =
+    sym c.in-Some.is ∙ (c.in_ok-entry.ensures ∙ ap (λ (es : Entries). entry_to_set es c.args.create table id) c.deref.ensures.value) in
+    let sound : IsSound c.in-Some.entry = set-sound entries c.args.create table id c.in-Some.entry c.self.invariant c.requires.table c.requires.id found in
+    let rows = c.args.rows.now in
+    let made : c.with_content.result ≡ record c.in-Some.entry { rows = stored_rows rows; datum = c.args.datum.now } =
+    c.with_content.ensures ∙ (λ i. record c.in-Some.entry { rows = (c.in_ok-rows.ensures ∙ ap stored_rows c.as_slice.ensures) i; datum = c.in_ok-datum.ensures i }) in
+    subst IsSound (sym made) (content-sound c.in-Some.entry rows c.args.datum.now sound c.requires.rows c.requires.datum)
