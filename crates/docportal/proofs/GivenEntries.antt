@@ -1,5 +1,5 @@
 -- Entries that the outside of a script gives to requests, one after another.
-use Rattle.std.proofs.Common.{◌≡◌, ℕ, List, [], ◌∷◌, ◌++◌, Option, Some, None, refl, ap, subst, ◌∙◌}
+use Rattle.std.proofs.Common.{◌≡◌, ℕ, List, [], ◌∷◌, ◌++◌, Option, Some, None, refl, subst, ◌∙◌}
 use Rattle.portal_model.specs.declared.entry.Entry.{Entry}
 use Rattle.portal_model.specs.declared.request.Request.{Request}
 use Rattle.portal_model.specs.declared.state.Connection.{Connection}
@@ -49,6 +49,7 @@ leave_is_given s o seat = record {
   applied = λ changes. absurd (leave_unkept s seat changes);
   unapplied = λ _. refl;
   words = refl;
+  moment = tt;
   clock = refl;
 }
 

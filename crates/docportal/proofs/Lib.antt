@@ -1,7 +1,7 @@
 pub mod BytesAhead
+pub mod OneWalk
 pub mod WalksAlike
 pub mod AddAlike
-pub mod AttrWalks
 pub mod OneEntry
 pub mod GivenEntries
 pub mod MadeAlone

@@ -1,26 +1,26 @@
 -- What became of a seat's requests at a portal that it has alone: where none was refused, each is an entry that
 -- the outside of the script gives.
-use Rattle.std.proofs.Common.{◌≡◌, ℕ, suc, ◌==◌, List, [], ◌∷◌, ◌++◌, Option, Some, None, Result, Ok, Err, Bool, true, false, cond, refl, sym, ap, ◌∙◌, subst, arith}
+use Rattle.std.proofs.Common.{◌≡◌, ℕ, suc, ◌==◌, List, [], ◌∷◌, ◌++◌, Option, Some, None, Result, Ok, Err, Bool, true, cond, refl, sym, ap, ◌∙◌, subst, arith}
 use Rattle.std.specs.List.{All}
 use Rattle.std.specs.Option.{option_map}
+use Rattle.std.specs.Prelude.{IfSome}
 use Rattle.std.proofs.lemmas.Bool.Decides.{nat_tests}
 use Rattle.std.proofs.lemmas.List.{append_cancel_left}
+use Rattle.file_ops.specs.Done.{Reads}
+use Rattle.file_ops.specs.TreeCalls.{after_calls}
 use Rattle.host_tree.specs.Devices.{tree_of}
-use Rattle.host_tree.specs.Trees.{TreeIs}
+use Rattle.host_tree.specs.Trees.{TreeIs, after_call}
 use Rattle.portal_base.specs.Calls.{Calls, next_call}
-use Rattle.portal_base.specs.declared.files.Look.{Look}
 use Rattle.portal_core.specs.Answered.{Spends, Went}
 use Rattle.portal_core.specs.Chain.{Chain, answered, refused}
 use Rattle.portal_core.specs.Devices.{KeeperWentOn}
 use Rattle.portal_core.specs.Story.{state_first, state_now}
-use Rattle.portal_core.specs.TreeCalls.{after_fault, after_looks, after_one}
-use Rattle.portal_model.specs.declared.entry.Fault.{Fault}
-use Rattle.portal_model.specs.declared.entry.Fault.TheVariants as Fault
+use Rattle.portal_core.specs.TreeCalls.{entry_calls}
 use Rattle.portal_model.specs.declared.state.Connection.{Connection}
 use Rattle.record_keeper.specs.Devices.{KeeperState, keeper_of}
 use Rattle.record_keeper.specs.Keepers.{KeeperIs}
 use Rattle.docportal.specs.Scenes.{ScriptPortal, outside_at}
-use Rattle.docportal.specs.Seats.{Alone, Asked, words_of}
+use Rattle.docportal.specs.Seats.{Alone, Asked, clock_of, words_of}
 use Rattle.portal_model.specs.declared.entry.Entry.{Entry}
 use Rattle.portal_model.specs.declared.request.Request.{Request}
 use Rattle.portal_model.specs.History.{EachLawful, Legal, run}
@@ -37,18 +37,25 @@ abbrev IsOwn : ℕ → Entry → Type 0
 IsOwn seat e = e.seat ≡ seat
 
 abbrev Goes : ScriptPortal → List (Result Entry Request) → ScriptPortal → Type 0
-Goes = Chain (Went tree_of keeper_of words_of) (Spends tree_of keeper_of words_of)
+Goes = Chain (Went tree_of keeper_of clock_of words_of) (Spends tree_of keeper_of clock_of words_of)
 
 -- ---- what the devices go through
 
-calls_go : (looks : List Look) (fault : Fault) (t : TreeIs) (c : Calls) → t.calls ≡ Some c → (after_fault (after_looks t looks) fault).calls ≡ Some (calls_past c looks fault)
-calls_go [] Fault.None t c e = e
-calls_go [] Fault.Tree t c e = ap (option_map next_call) e
-calls_go [] Fault.Keeper t c e = e
-calls_go (l ∷ ls) fault t c e = calls_go ls fault (after_one t false) (next_call c) (ap (option_map next_call) e)
-
 some_is : (x y : Calls) → Some x ≡ Some y → x ≡ y
 some_is x y e = cc
+
+some_number : (x y : ℕ) → Some x ≡ Some y → x ≡ y
+some_number x y e = cc
+
+-- the tree was called so often as there are calls
+calls_go : (calls : List Bool) (t : TreeIs) (c : Calls) → t.calls ≡ Some c → (after_calls t calls).calls ≡ Some (calls_past c calls)
+calls_go [] t c e = e
+calls_go (failed ∷ more) t c e = calls_go more (after_call t failed t.told) (next_call c) (ap (option_map next_call) e)
+
+-- a clock that was set shows its moment, and stays
+clock_goes : (now : Option ℕ) (a b : ℕ) → Reads clock_of a now b → IfSome now (λ n. n ≡ a) × (b ≡ a)
+clock_goes None a b k = (tt, k)
+clock_goes (Some n) a b k = (k.value, some_number b a k.stays)
 
 -- the keeper was called as the outside says
 keeper_went : (s : State) (e : Entry) (then : State) (x y : KeeperState) (c : Option Connection) → KeeperWentOn s e then (keeper_of x) (keeper_of y) c
@@ -59,22 +66,24 @@ keeper_went s e then x y (Some c) k = (
   λ unchanged. some_is _ _ (ap (λ (z : KeeperIs). z.calls) (k.uncalled unchanged)),
 )
 
-went_given : (a m : ScriptPortal) (e : Entry) → Lawful (state_now a.story) e → Went tree_of keeper_of words_of a e m → IsGiven (state_now a.story) (outside_at a) e (outside_at m)
+went_given : (a m : ScriptPortal) (e : Entry) → Lawful (state_now a.story) e → Went tree_of keeper_of clock_of words_of a e m → IsGiven (state_now a.story) (outside_at a) e (outside_at m)
 went_given a m e lawful w =
     let s = state_now a.story in
     let keeper = keeper_went s e (state_now m.story) a.keeper m.keeper (bus_of (connection_of s.connections e.seat)) w.keeper in
+    let clock = clock_goes e.given.now a.clock m.clock w.clock in
     record {
       lawful = lawful;
       tree = w.tree.fails;
-      tree_left = some_is _ _ (ap (λ (t : TreeIs). t.calls) w.tree.goes ∙ calls_go e.given.looks e.given.fault (tree_of a.tree) a.tree.count.calls refl);
+      tree_left = some_is _ _ (ap (λ (t : TreeIs). t.calls) w.tree.goes ∙ calls_go (entry_calls s e) (tree_of a.tree) a.tree.count.calls refl);
       applied = keeper.0;
       unapplied = keeper.1;
       words = w.words;
-      clock = w.clock;
+      moment = clock.0;
+      clock = clock.1;
     }
 
 -- and the portal is in the state after the entry
-went_on : (a m : ScriptPortal) (e : Entry) → Went tree_of keeper_of words_of a e m → state_now m.story ≡ after (state_now a.story) e
+went_on : (a m : ScriptPortal) (e : Entry) → Went tree_of keeper_of clock_of words_of a e m → state_now m.story ≡ after (state_now a.story) e
 went_on a m e w = ap state_now w.grown ∙ run-append a.story.history (e ∷ []) (state_first a.story)
 
 -- ---- what was asked

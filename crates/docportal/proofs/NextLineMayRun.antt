@@ -18,18 +18,17 @@ use Rattle.script_form.specs.declared.script.ScriptLine.TheVariants as line
 use Rattle.script_form.specs.Lines.{KeepsRules, line_text}
 use Rattle.script_form.specs.Order.{opens}
 use Rattle.script_form.specs.Outside.{Outside}
-use Rattle.session.specs.declared.act.Act.{Act}
 use Rattle.session.specs.declared.act.Client.{Client}
 use Rattle.session.specs.declared.served.Fed.TheVariants as fed
 use Rattle.session.specs.declared.served.Stop.{Stop}
 use Rattle.session.specs.declared.served.Stop.TheVariants as stop
-use Rattle.session.specs.Asked.{asked_by, requests_of}
+use Rattle.session.specs.Asked.{requests_of}
 use Rattle.session.specs.Items.{joined}
 use Rattle.session.specs.Sessions.{fed_of}
 use Rattle.session.specs.Standings.{Standing, client, fresh, longest}
 use Rattle.session.proofs.ConnectionStaysOpen.{ArePlain, bound_stays, items_plain}
 use Rattle.docportal.specs.Entries.{AreGiven}
-use Rattle.docportal.specs.Lines.{Comes, CloseDoes, DataDoes, Does, Goes, Hears, Passes}
+use Rattle.docportal.specs.Lines.{Comes, CloseDoes, DataDoes, Does, Goes, Hears, Passes, Sets}
 use Rattle.docportal.specs.Scenes.{Scene, placed, run_settings}
 use Rattle.docportal.specs.Steps.{Agrees, HaveRoom, IsIdle, IsNew, binding}
 use Rattle.docportal.specs.Texts.{out_line}
@@ -118,6 +117,10 @@ comes_agree a b seat rs lines now es out agrees idle is h = subst Agrees (sym h.
 passes_agree : (a b : Scene) (es : List Entry) (out : List (List ℕ)) → Agrees a → Passes a es out b → Agrees b
 passes_agree a b es out agrees h = subst Agrees (sym h.2) agrees
 
+-- a clock that is set moves no session
+sets_agree : (moment : ℕ) (a b : Scene) (es : List Entry) (out : List (List ℕ)) → Agrees a → Sets a moment es out b → Agrees b
+sets_agree moment a b es out agrees h = subst Agrees (sym h.2) (record { idle = agrees.idle; bound_alike = agrees.bound_alike })
+
 -- the requests of items leave the connection of a session
 module _ (a b : Scene) (seat : ℕ) (at now : Standing) (bytes : List ℕ) (what : Stop) (rs : List Request) (ps : List (List ℕ)) (es : List Entry) (out : List (List ℕ)) (agrees : Agrees a) (open_at : a.sessions seat ≡ Some at) (x : Hears a.portal a.outside seat at bytes what rs ps now) where
   open_bound : bound a.portal seat ≡ Some (binding at)
@@ -154,7 +157,7 @@ close_agrees (Some at) a b seat es out agrees h = comes_agree a b seat (Request.
 pub does_agree : (line : ScriptLine) (a b : Scene) (es : List Entry) (out : List (List ℕ)) → Agrees a → IsNew a line → Does a line es out b → Agrees b
 does_agree (File path content) a b es out agrees new h = passes_agree a b es out agrees h
 does_agree (Doc id reusable path grants) a b es out agrees new h = passes_agree a b es out agrees h
-does_agree (Now moment) a b es out agrees new h = passes_agree a b es out agrees h
+does_agree (Now moment) a b es out agrees new h = sets_agree moment a b es out agrees h
 does_agree (line.Entry entry) a b es out agrees new h = passes_agree a b es out agrees h
 does_agree (Fail device call) a b es out agrees new h = passes_agree a b es out agrees h
 does_agree (Word word) a b es out agrees new h = passes_agree a b es out agrees h
@@ -216,7 +219,7 @@ close_cost (Some at) a b seat es out h = comes_cost a b seat (Request.Leave ∷ 
 pub does_cost : (line : ScriptLine) (a b : Scene) (es : List Entry) (out : List (List ℕ)) → Agrees a → KeepsRules line → Does a line es out b → cost es ≤ 8 * (length (line_text line) + 1)
 does_cost (File path content) a b es out agrees k h = let none = passes_cost a b es out h in omega arith
 does_cost (Doc id reusable path grants) a b es out agrees k h = let none = passes_cost a b es out h in omega arith
-does_cost (Now moment) a b es out agrees k h = let none = passes_cost a b es out h in omega arith
+does_cost (Now moment) a b es out agrees k h = let none = ap cost h.0 in omega arith
 does_cost (line.Entry entry) a b es out agrees k h = let none = passes_cost a b es out h in omega arith
 does_cost (Fail device call) a b es out agrees k h = let none = passes_cost a b es out h in omega arith
 does_cost (Word word) a b es out agrees k h = let none = passes_cost a b es out h in omega arith
@@ -248,6 +251,9 @@ comes_room a b seat rs lines now es out less more le room here h =
 passes_room : (a b : Scene) (es : List Entry) (out : List (List ℕ)) (less more : ℕ) → less ≤ more → HaveRoom a more → Passes a es out b → HaveRoom b less
 passes_room a b es out less more le room h = subst (λ (z : Scene). HaveRoom z less) (sym h.2) (λ n. holds_less (a.sessions n) less more le (room n))
 
+sets_room : (moment : ℕ) (a b : Scene) (es : List Entry) (out : List (List ℕ)) (less more : ℕ) → less ≤ more → HaveRoom a more → Sets a moment es out b → HaveRoom b less
+sets_room moment a b es out less more le room h = subst (λ (z : Scene). HaveRoom z less) (sym h.2) (λ n. holds_less (a.sessions n) less more le (room n))
+
 goes_room : (what : Stop) (a b : Scene) (seat : ℕ) (rs : List Request) (ps : List (List ℕ)) (now : Standing) (es : List Entry) (out : List (List ℕ)) (less more : ℕ)
     → less ≤ more → HaveRoom a more → now.before + less ≤ longest → Goes a seat what rs ps now es out b → HaveRoom b less
 goes_room stop.More a b seat rs ps now es out less more le room here h = comes_room a b seat rs _ (Some now) es out less more le room here h.1
@@ -274,7 +280,7 @@ close_room (Some at) a b seat es out less more le room h = comes_room a b seat (
 pub does_room : (line : ScriptLine) (a b : Scene) (es : List Entry) (out : List (List ℕ)) (less : ℕ) → Agrees a → less ≤ longest → HaveRoom a (length (line_text line) + 1 + less) → Does a line es out b → HaveRoom b less
 does_room (File path content) a b es out less agrees short room h = passes_room a b es out less _ (omega arith) room h
 does_room (Doc id reusable path grants) a b es out less agrees short room h = passes_room a b es out less _ (omega arith) room h
-does_room (Now moment) a b es out less agrees short room h = passes_room a b es out less _ (omega arith) room h
+does_room (Now moment) a b es out less agrees short room h = sets_room moment a b es out less _ (omega arith) room h
 does_room (line.Entry entry) a b es out less agrees short room h = passes_room a b es out less _ (omega arith) room h
 does_room (Fail device call) a b es out less agrees short room h = passes_room a b es out less _ (omega arith) room h
 does_room (Word word) a b es out less agrees short room h = passes_room a b es out less _ (omega arith) room h
@@ -343,7 +349,7 @@ opens_own n seat h k = grind (arith, nat_tests)
 pub does_close : (line : ScriptLine) (a b : Scene) (es : List Entry) (out : List (List ℕ)) (lines : List ScriptLine) → AreClosed lines a → Does a line es out b → AreClosed (lines ++ line ∷ []) b
 does_close (File path content) a b es out lines closed h = passes_closed a b es out lines (File path content) closed h
 does_close (Doc id reusable path grants) a b es out lines closed h = passes_closed a b es out lines (Doc id reusable path grants) closed h
-does_close (Now moment) a b es out lines closed h = passes_closed a b es out lines (Now moment) closed h
+does_close (Now moment) a b es out lines closed h = subst (AreClosed (lines ++ Now moment ∷ [])) (sym h.2) (λ n k. closed n (front_closed n lines (Now moment) k).0)
 does_close (line.Entry entry) a b es out lines closed h = passes_closed a b es out lines (line.Entry entry) closed h
 does_close (Fail device call) a b es out lines closed h = passes_closed a b es out lines (Fail device call) closed h
 does_close (Word word) a b es out lines closed h = passes_closed a b es out lines (Word word) closed h

@@ -1,5 +1,6 @@
 -- The outside of a script gives one thing to a request, and leaves one thing.
 use Rattle.std.proofs.Common.{◌≡◌, ℕ, ◌<◌, ◌^◌, ◌==◌, List, [], ◌∷◌, ◌++◌, length, nat_lt, Bool, true, false, cond, Option, Some, None, is_some, refl, sym, ap, subst, ◌∙◌, arith}
+use Rattle.std.specs.Prelude.{IfSome}
 use Rattle.std.proofs.lemmas.Bool.Decides.{nat_tests}
 use Rattle.document_calls.specs.KeeperCalls.{is_keeper}
 use Rattle.portal_base.specs.Calls.{Calls, is_to_fail, next_call}
@@ -9,7 +10,8 @@ use Rattle.portal_base.specs.declared.files.File.{File}
 use Rattle.portal_base.specs.declared.files.Look.{Look}
 use Rattle.portal_base.specs.declared.names.doc_id.DocId.{DocId}
 use Rattle.portal_core.specs.Devices.{Drawn}
-use Rattle.portal_core.specs.TreeCalls.{CallsAsTold}
+use Rattle.portal_core.specs.TreeCalls.{CallsAsTold, bus_calls}
+use Rattle.node_serving.specs.Seats.{calls_on}
 use Rattle.portal_model.specs.declared.entry.Entry.{Entry}
 use Rattle.portal_model.specs.declared.entry.Fault.{Fault}
 use Rattle.portal_model.specs.declared.entry.Fault.TheVariants as Fault
@@ -17,26 +19,22 @@ use Rattle.portal_model.specs.declared.entry.Given.{Given}
 use Rattle.portal_model.specs.declared.request.NodeRequest.{NodeRequest}
 use Rattle.portal_model.specs.declared.request.Request.{Request}
 use Rattle.portal_model.specs.declared.state.Connection.{Connection}
-use Rattle.portal_desk.specs.Built.{Built}
 use Rattle.portal_model.specs.Bus.{bus_walk, is_tree, moment_given}
 use Rattle.portal_model.specs.Documents.{IsUnused, above}
-use Rattle.portal_model.specs.Lawful.{LawfulGiven, LawfulOnBus, LawfulOnNode}
+use Rattle.portal_model.specs.Lawful.{LawfulOnBus, LawfulOnNode}
 use Rattle.portal_model.specs.Node.{walk_on_node}
 use Rattle.portal_model.specs.Outside.{AreDrawn, ChangesRecords, files_told, meets_limit, verdict_of, words_drawn}
 use Rattle.portal_model.specs.State.{State, connection_of}
 use Rattle.portal_model.specs.Step.{after, all_told, bus_of, mount_of}
-use Rattle.portal_model.specs.Valid.{is_made}
-use Rattle.portal_model.specs.Verdict.{Verdict}
 use Rattle.portal_model.specs.Walk.{Gives, reads_clock, walked}
 use Rattle.portal_model.proofs.ListLookups.{is_same-eq, nat_is}
 use Rattle.portal_model.proofs.StaysTold.{step_told}
 use Rattle.portal_model.proofs.TripleOrder.{is_same-refl}
 use Rattle.script_form.specs.Outside.{Outside}
-use Rattle.session.proofs.ItemsBuilt.{AllBuilt}
-use Rattle.docportal.specs.Entries.{Applied, AreGiven, Changes, ChangesOn, IsGiven, calls_past}
+use Rattle.docportal.specs.Entries.{AreGiven, Changes, ChangesOn, IsGiven}
 use Rattle.docportal.proofs.AddAlike.{bus_alike}
-use Rattle.docportal.proofs.AttrWalks.{AnyVerdict, attr_alike}
-use Rattle.docportal.proofs.WalksAlike.{DrawAlike, WalkAlike, alike_clock, alike_drawn, alike_given}
+use Rattle.docportal.proofs.OneWalk.{moment_one, one_given}
+use Rattle.docportal.proofs.WalksAlike.{DrawAlike, alike_clock, alike_drawn, alike_given}
 
 -- ---- words and numbers
 
@@ -142,31 +140,31 @@ entry seat request given = record { seat = seat; request = request; given = give
 
 -- ---- on a node
 
-node_one : (s : State) (r : NodeRequest) (g h : Given) (calls : Calls) (o : Option Connection) → Built (Request.Node r) → s.told ≡ true → CallsAsTold (Some calls) g.looks g.fault → CallsAsTold (Some calls) h.looks h.fault
-    → LawfulOnNode s r g o → LawfulOnNode s r h o → g ≡ h
-node_one s r g h calls None b t c d l k = l ∙ sym k
-node_one s r g h calls (Some x) b t c d l k =
+node_one : (s : State) (r : NodeRequest) (g h : Given) (calls : Calls) (moment : ℕ) (o : Option Connection) → s.told ≡ true → CallsAsTold (Some calls) (calls_on s r g o) → CallsAsTold (Some calls) (calls_on s r h o)
+    → IfSome g.now (λ now. now ≡ moment) → IfSome h.now (λ now. now ≡ moment) → LawfulOnNode s r g o → LawfulOnNode s r h o → g ≡ h
+node_one s r g h calls moment None t c d m n l k = l ∙ sym k
+node_one s r g h calls moment (Some x) t c d m n l k =
     let at = all_told x.seat s in
     let w = walk_on_node at x r in
-    let alike = attr_alike at x r b in
     let told = told_files at t in
     let lg = subst (λ (files : Option (List File)). Gives files w g.looks (is_tree g.fault)) told l.looks in
     let lh = subst (λ (files : Option (List File)). Gives files w h.looks (is_tree h.fault)) told k.looks in
-    let both = alike_given AnyVerdict s.files w w g.looks h.looks g.fault h.fault calls alike lg lh c d in
+    let both = one_given s.files w g.looks h.looks (is_tree g.fault) (is_tree h.fault) calls lg lh c d in
+    let read : is_some g.now ≡ is_some h.now = l.clock ∙ (ap (reads_clock w) both.0 ∙ sym k.clock) in
     given_is g h
-    (no_moment g.now (l.clock ∙ alike_clock AnyVerdict w w g.looks alike) ∙ sym (no_moment h.now (k.clock ∙ alike_clock AnyVerdict w w h.looks alike)))
+    (moment_one g.now h.now moment read m n)
     (l.words ∙ sym k.words) (l.numbers ∙ sym k.numbers) both.0 (l.full ∙ sym k.full)
     (fault_is g.fault h.fault both.1 (no_keeper g.fault l.keeper ∙ sym (no_keeper h.fault k.keeper)))
 
 -- ---- on documents
 
-module _ (s : State) (o : Outside) (request : Request) (g h : Given) (left also : Option (List ℕ)) (t : s.told ≡ true) (c : CallsAsTold (Some o.tree) g.looks g.fault) (d : CallsAsTold (Some o.tree) h.looks h.fault) (v : Drawn (Some o.words) g.words left) (w : Drawn (Some o.words) h.words also) where
+module _ (s : State) (o : Outside) (request : Request) (g h : Given) (left also : Option (List ℕ)) (t : s.told ≡ true) (v : Drawn (Some o.words) g.words left) (w : Drawn (Some o.words) h.words also) where
   abbrev Fails : State → Connection → Given → Type 0
   Fails at x z = ChangesRecords at (verdict_of at x request z) → is_keeper z.fault ≡ is_to_fail (next_call o.keeper)
 
-  bus_one : (x : Option Connection) → LawfulOnBus s request g x → LawfulOnBus s request h x → ((y : Connection) → x ≡ Some y → Fails (all_told y.seat s) y g) → ((y : Connection) → x ≡ Some y → Fails (all_told y.seat s) y h) → g ≡ h
-  bus_one None l k p q = l ∙ sym k
-  bus_one (Some x) l k p q =
+  bus_one : (x : Option Connection) → CallsAsTold (Some o.tree) (bus_calls s request g x) → CallsAsTold (Some o.tree) (bus_calls s request h x) → LawfulOnBus s request g x → LawfulOnBus s request h x → ((y : Connection) → x ≡ Some y → Fails (all_told y.seat s) y g) → ((y : Connection) → x ≡ Some y → Fails (all_told y.seat s) y h) → g ≡ h
+  bus_one None c d l k p q = l ∙ sym k
+  bus_one (Some x) c d l k p q =
       let at = all_told x.seat s in
       let wg = bus_walk at x request g.numbers in
       let wh = bus_walk at x request h.numbers in
@@ -174,7 +172,7 @@ module _ (s : State) (o : Outside) (request : Request) (g h : Given) (left also 
       let told = told_files at t in
       let lg = subst (λ (files : Option (List File)). Gives files wg g.looks (is_tree g.fault)) told l.looks in
       let lh = subst (λ (files : Option (List File)). Gives files wh h.looks (is_tree h.fault)) told k.looks in
-      let both = alike_given DrawAlike s.files wg wh g.looks h.looks g.fault h.fault o.tree alike lg lh c d in
+      let both = alike_given DrawAlike s.files wg wh g.looks h.looks (is_tree g.fault) (is_tree h.fault) o.tree alike lg lh c d in
       let count : words_drawn (verdict_of at x request g) ≡ words_drawn (verdict_of at x request h) =
       alike_drawn wg wh g.looks (moment_given g.now) (moment_given h.now) (is_tree g.fault) alike
       ∙ (ap (λ (z : List Look). words_drawn (walked wh (moment_given h.now) z (is_tree g.fault))) both.0
@@ -201,25 +199,27 @@ module _ (s : State) (o : Outside) (seat : ℕ) (request : Request) (g : Given) 
       (x.applied (subst (ChangesOn s (entry seat request g)) at changes)).fails
 
 module _ (s : State) (o : Outside) (seat : ℕ) (g h : Given) (left also : Outside) (t : s.told ≡ true) where
-  call_one : (request : Request) → IsGiven s o (entry seat request g) left → IsGiven s o (entry seat request h) also
-      → LawfulOnBus s request g (bus_of (connection_of s.connections seat)) → LawfulOnBus s request h (bus_of (connection_of s.connections seat)) → g ≡ h
-  call_one request x y l k =
-      let c = bus_of (connection_of s.connections seat) in
-      bus_one s o request g h (Some left.words) (Some also.words) t x.tree y.tree x.words y.words c l k (keeper_fails s o seat request g left x c refl) (keeper_fails s o seat request h also y c refl)
+  abbrev there : Option Connection
+  there = bus_of (connection_of s.connections seat)
 
-  request_one : (request : Request) → Built request → IsGiven s o (entry seat request g) left → IsGiven s o (entry seat request h) also → g ≡ h
-  request_one (Request.Enter who kind) b x y = x.lawful.given.1 ∙ sym y.lawful.given.1
-  request_one Request.Leave b x y = x.lawful.given ∙ sym y.lawful.given
-  request_one Request.Collect b x y = x.lawful.given ∙ sym y.lawful.given
-  request_one (Request.Node r) b x y = node_one s r g h o.tree (mount_of (connection_of s.connections seat)) b t x.tree y.tree x.lawful.given y.lawful.given
-  request_one (Request.Present path) b x y = call_one (Request.Present path) x y x.lawful.given y.lawful.given
-  request_one (Request.Add a) b x y = call_one (Request.Add a) x y x.lawful.given y.lawful.given
-  request_one (Request.Grant call) b x y = call_one (Request.Grant call) x y x.lawful.given y.lawful.given
-  request_one (Request.Revoke call) b x y = call_one (Request.Revoke call) x y x.lawful.given y.lawful.given
-  request_one (Request.DeleteDocument doc) b x y = call_one (Request.DeleteDocument doc) x y x.lawful.given y.lawful.given
-  request_one (Request.LookupDocument path) b x y = call_one (Request.LookupDocument path) x y x.lawful.given y.lawful.given
-  request_one (Request.Info doc) b x y = call_one (Request.Info doc) x y x.lawful.given y.lawful.given
-  request_one (Request.ListDocuments app) b x y = call_one (Request.ListDocuments app) x y x.lawful.given y.lawful.given
+  call_one : (request : Request) → IsGiven s o (entry seat request g) left → IsGiven s o (entry seat request h) also → CallsAsTold (Some o.tree) (bus_calls s request g there) → CallsAsTold (Some o.tree) (bus_calls s request h there)
+      → LawfulOnBus s request g there → LawfulOnBus s request h there → g ≡ h
+  call_one request x y c d l k =
+      bus_one s o request g h (Some left.words) (Some also.words) t x.words y.words there c d l k (keeper_fails s o seat request g left x there refl) (keeper_fails s o seat request h also y there refl)
+
+  request_one : (request : Request) → IsGiven s o (entry seat request g) left → IsGiven s o (entry seat request h) also → g ≡ h
+  request_one (Request.Enter who kind) x y = x.lawful.given.1 ∙ sym y.lawful.given.1
+  request_one Request.Leave x y = x.lawful.given ∙ sym y.lawful.given
+  request_one Request.Collect x y = x.lawful.given ∙ sym y.lawful.given
+  request_one (Request.Node r) x y = node_one s r g h o.tree o.clock (mount_of (connection_of s.connections seat)) t x.tree y.tree x.moment y.moment x.lawful.given y.lawful.given
+  request_one (Request.Present path) x y = call_one (Request.Present path) x y x.tree y.tree x.lawful.given y.lawful.given
+  request_one (Request.Add a) x y = call_one (Request.Add a) x y x.tree y.tree x.lawful.given y.lawful.given
+  request_one (Request.Grant call) x y = call_one (Request.Grant call) x y x.tree y.tree x.lawful.given y.lawful.given
+  request_one (Request.Revoke call) x y = call_one (Request.Revoke call) x y x.tree y.tree x.lawful.given y.lawful.given
+  request_one (Request.DeleteDocument doc) x y = call_one (Request.DeleteDocument doc) x y x.tree y.tree x.lawful.given y.lawful.given
+  request_one (Request.LookupDocument path) x y = call_one (Request.LookupDocument path) x y x.tree y.tree x.lawful.given y.lawful.given
+  request_one (Request.Info doc) x y = call_one (Request.Info doc) x y x.tree y.tree x.lawful.given y.lawful.given
+  request_one (Request.ListDocuments app) x y = call_one (Request.ListDocuments app) x y x.tree y.tree x.lawful.given y.lawful.given
 
 -- ---- what is left
 
@@ -259,24 +259,24 @@ left_one s o e left also x y =
 entry_is : (e : Entry) (seat : ℕ) (request : Request) → e.seat ≡ seat → e.request ≡ request → e ≡ entry seat request e.given
 entry_is e seat request a b = λ i. record { seat = a i; request = b i; given = e.given }
 
-pub entry_one : (s : State) (o : Outside) (seat : ℕ) (request : Request) (e f : Entry) (left also : Outside) → Built request → s.told ≡ true → e.seat ≡ seat → e.request ≡ request → f.seat ≡ seat → f.request ≡ request
+pub entry_one : (s : State) (o : Outside) (seat : ℕ) (request : Request) (e f : Entry) (left also : Outside) → s.told ≡ true → e.seat ≡ seat → e.request ≡ request → f.seat ≡ seat → f.request ≡ request
     → IsGiven s o e left → IsGiven s o f also → (e ≡ f) × (left ≡ also)
-entry_one s o seat request e f left also b t es er fs fr x y =
+entry_one s o seat request e f left also t es er fs fr x y =
     let first = entry_is e seat request es er in
     let second = entry_is f seat request fs fr in
-    let given_same = request_one s o seat e.given f.given left also t request b (subst (λ (z : Entry). IsGiven s o z left) first x) (subst (λ (z : Entry). IsGiven s o z also) second y) in
+    let given_same = request_one s o seat e.given f.given left also t request (subst (λ (z : Entry). IsGiven s o z left) first x) (subst (λ (z : Entry). IsGiven s o z also) second y) in
     let same : e ≡ f = first ∙ (ap (entry seat request) given_same ∙ sym second) in
     (same, left_one s o f left also (subst (λ (z : Entry). IsGiven s o z left) same x) y)
 
-pub entries_one : (rs : List Request) (es fs : List Entry) (s : State) (o : Outside) (seat : ℕ) (left also : Outside) → AllBuilt rs → s.told ≡ true → AreGiven s o seat rs es left → AreGiven s o seat rs fs also → (es ≡ fs) × (left ≡ also)
-entries_one [] [] [] s o seat left also b t x y = (refl, x ∙ sym y)
-entries_one [] (e ∷ es) fs s o seat left also b t x y = absurd x
-entries_one [] [] (f ∷ fs) s o seat left also b t x y = absurd y
-entries_one (r ∷ rs) [] fs s o seat left also b t x y = absurd x
-entries_one (r ∷ rs) (e ∷ es) [] s o seat left also b t x y = absurd y
-entries_one (r ∷ rs) (e ∷ es) (f ∷ fs) s o seat left also b t x y =
-    let one = entry_one s o seat r e f x.2 y.2 b.0 t x.0 x.1 y.0 y.1 x.3 y.3 in
+pub entries_one : (rs : List Request) (es fs : List Entry) (s : State) (o : Outside) (seat : ℕ) (left also : Outside) → s.told ≡ true → AreGiven s o seat rs es left → AreGiven s o seat rs fs also → (es ≡ fs) × (left ≡ also)
+entries_one [] [] [] s o seat left also t x y = (refl, x ∙ sym y)
+entries_one [] (e ∷ es) fs s o seat left also t x y = absurd x
+entries_one [] [] (f ∷ fs) s o seat left also t x y = absurd y
+entries_one (r ∷ rs) [] fs s o seat left also t x y = absurd x
+entries_one (r ∷ rs) (e ∷ es) [] s o seat left also t x y = absurd y
+entries_one (r ∷ rs) (e ∷ es) (f ∷ fs) s o seat left also t x y =
+    let one = entry_one s o seat r e f x.2 y.2 t x.0 x.1 y.0 y.1 x.3 y.3 in
     let y1 = subst (λ (z : Entry). AreGiven (after s z) y.2 seat rs fs also) (sym one.0) y.4 in
     let y2 = subst (λ (z : Outside). AreGiven (after s e) z seat rs fs also) (sym one.1) y1 in
-    let rest = entries_one rs es fs (after s e) x.2 seat left also b.1 (step_told s e.seat e.request e.given ∙ t) x.4 y2 in
+    let rest = entries_one rs es fs (after s e) x.2 seat left also (step_told s e.seat e.request e.given ∙ t) x.4 y2 in
     (ap (λ (z : Entry). z ∷ es) one.0 ∙ ap (λ (z : List Entry). f ∷ z) rest.0, rest.1)

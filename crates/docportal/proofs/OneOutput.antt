@@ -21,7 +21,6 @@ use Rattle.session.specs.Sessions.{fed_of}
 use Rattle.session.specs.Standings.{Standing, stage}
 use Rattle.session.proofs.ItemsAreOne.{are_one}
 use Rattle.session.proofs.AnswersAsked.{say_alike}
-use Rattle.session.proofs.ItemsBuilt.{AllBuilt, built-append, items_built}
 use Rattle.docportal.specs.Entries.{AreGiven, made_of}
 use Rattle.docportal.specs.Lines.{Comes, CloseDoes, DataDoes, Does, Goes, Hears, Passes}
 use Rattle.docportal.specs.Plays.{Plays}
@@ -42,10 +41,6 @@ standing_is x y c p s b r f =
     ∙ (ap (λ (z : List ℕ). standing y.client y.stage.phase y.stage.serial y.before z x.fed) r
     ∙ ap (λ (z : Fed). standing y.client y.stage.phase y.stage.serial y.before y.rest z) f))))
 
--- what the items ask has a body
-heard_built : (s : State) (o : Outside) (seat : ℕ) (at : Standing) (bytes : List ℕ) (what : Stop) (rs : List Request) (ps : List (List ℕ)) (now : Standing) → Hears s o seat at bytes what rs ps now → AllBuilt rs
-heard_built s o seat at bytes what rs ps now x = subst AllBuilt (sym x.asked) (items_built x.items at.client at.stage.phase x.acts x.cut.each)
-
 -- what bytes come to is one thing
 hears_one : (s : State) (o : Outside) (seat : ℕ) (at : Standing) (bytes : List ℕ) (what also : Stop) (rs qs : List Request) (ps os : List (List ℕ)) (now then : Standing)
     → s.told ≡ true → Hears s o seat at bytes what rs ps now → Hears s o seat at bytes also qs os then → (what ≡ also) × (rs ≡ qs) × (ps ≡ os) × (now ≡ then)
@@ -53,7 +48,7 @@ hears_one s o seat at bytes what also rs qs ps os now then told x y =
     let one = are_one at.client at.stage.phase (at.rest ++ bytes) x.items y.items x.acts y.acts now.rest then.rest what also x.cut y.cut in
     let requests : rs ≡ qs = x.asked ∙ (ap requests_of one.1 ∙ sym y.asked) in
     let given : AreGiven s o seat qs x.entries x.left = subst (λ (z : List Request). AreGiven s o seat z x.entries x.left) requests x.given in
-    let entries : x.entries ≡ y.entries = (entries_one qs x.entries y.entries s o seat x.left y.left (heard_built s o seat at bytes also qs os then y) told given y.given).0 in
+    let entries : x.entries ≡ y.entries = (entries_one qs x.entries y.entries s o seat x.left y.left told given y.given).0 in
     let first : Answers at.client at.stage.serial y.acts (made_of s y.entries) ps now.stage.serial =
     subst (λ (z : List Entry). Answers at.client at.stage.serial y.acts (made_of s z) ps now.stage.serial) entries (subst (λ (z : List Act). Answers at.client at.stage.serial z (made_of s x.entries) ps now.stage.serial) one.1 x.answers) in
     let said = say_alike at.client at.stage.serial now.stage.serial then.stage.serial y.acts (made_of s y.entries) (made_of s y.entries) ps os refl first y.answers in
@@ -76,18 +71,18 @@ abbrev reached : Scene → ℕ → Option Standing → List Entry → Outside �
 reached a seat now es left = record { portal = run a.portal es; outside = left; sessions = placed a.sessions seat now }
 
 comes_one : (a b c : Scene) (seat : ℕ) (rs : List Request) (lines : List (List ℕ)) (now : Option Standing) (es fs : List Entry) (out also : List (List ℕ))
-    → a.portal.told ≡ true → AllBuilt rs → Comes a seat rs lines now es out b → Comes a seat rs lines now fs also c → AreSame es fs out also b c
-comes_one a b c seat rs lines now es fs out also told built h k =
-    let one = entries_one rs es fs a.portal a.outside seat h.left k.left built told h.given k.given in
+    → a.portal.told ≡ true → Comes a seat rs lines now es out b → Comes a seat rs lines now fs also c → AreSame es fs out also b c
+comes_one a b c seat rs lines now es fs out also told h k =
+    let one = entries_one rs es fs a.portal a.outside seat h.left k.left told h.given k.given in
     let end : reached a seat now es h.left ≡ reached a seat now fs k.left = λ i. reached a seat now (one.0 i) (one.1 i) in
     (one.0, h.out_is ∙ sym k.out_is, h.scene ∙ (end ∙ sym k.scene))
 
 goes_one : (what : Stop) (a b c : Scene) (seat : ℕ) (rs : List Request) (ps : List (List ℕ)) (now : Standing) (es fs : List Entry) (out also : List (List ℕ))
-    → a.portal.told ≡ true → AllBuilt rs → Goes a seat what rs ps now es out b → Goes a seat what rs ps now fs also c → AreSame es fs out also b c
-goes_one stop.More a b c seat rs ps now es fs out also told built h k = comes_one a b c seat _ _ _ es fs out also told built h.1 k.1
-goes_one (stop.Bad rule) a b c seat rs ps now es fs out also told built h k = comes_one a b c seat _ _ _ es fs out also told (built-append rs (Request.Leave ∷ []) built (tt, tt)) h k
-goes_one stop.TooLong a b c seat rs ps now es fs out also told built h k = comes_one a b c seat _ _ _ es fs out also told (built-append rs (Request.Leave ∷ []) built (tt, tt)) h k
-goes_one stop.Unbuilt a b c seat rs ps now es fs out also told built h k = absurd h
+    → a.portal.told ≡ true → Goes a seat what rs ps now es out b → Goes a seat what rs ps now fs also c → AreSame es fs out also b c
+goes_one stop.More a b c seat rs ps now es fs out also told h k = comes_one a b c seat _ _ _ es fs out also told h.1 k.1
+goes_one (stop.Bad rule) a b c seat rs ps now es fs out also told h k = comes_one a b c seat _ _ _ es fs out also told h k
+goes_one stop.TooLong a b c seat rs ps now es fs out also told h k = comes_one a b c seat _ _ _ es fs out also told h k
+goes_one stop.Unbuilt a b c seat rs ps now es fs out also told h k = absurd h
 
 heard_one : (a b c : Scene) (seat : ℕ) (at : Standing) (bytes : List ℕ) (what other : Stop) (rs qs : List Request) (ps os : List (List ℕ)) (now then : Standing) (es fs : List Entry) (out also : List (List ℕ))
     → a.portal.told ≡ true → Hears a.portal a.outside seat at bytes what rs ps now → Hears a.portal a.outside seat at bytes other qs os then → Goes a seat what rs ps now es out b → Goes a seat other qs os then fs also c → AreSame es fs out also b c
@@ -97,7 +92,7 @@ heard_one a b c seat at bytes what other rs qs ps os now then es fs out also tol
     let g2 = subst (λ (z : List Request). Goes a seat other z ps now es out b) one.1 g1 in
     let g3 = subst (λ (z : List (List ℕ)). Goes a seat other qs z now es out b) one.2 g2 in
     let g4 = subst (λ (z : Standing). Goes a seat other qs os z es out b) one.3 g3 in
-    goes_one other a b c seat qs os then es fs out also told (heard_built a.portal a.outside seat at bytes other qs os then y) g4 k
+    goes_one other a b c seat qs os then es fs out also told g4 k
 
 data_one : (o : Option Standing) (a b c : Scene) (seat : ℕ) (bytes : List ℕ) (es fs : List Entry) (out also : List (List ℕ))
     → a.portal.told ≡ true → DataDoes a seat bytes o es out b → DataDoes a seat bytes o fs also c → AreSame es fs out also b c
@@ -107,16 +102,16 @@ data_one (Some at) a b c seat bytes es fs out also told h k = heard_one a b c se
 close_one : (o : Option Standing) (a b c : Scene) (seat : ℕ) (es fs : List Entry) (out also : List (List ℕ))
     → a.portal.told ≡ true → CloseDoes a seat o es out b → CloseDoes a seat o fs also c → AreSame es fs out also b c
 close_one None a b c seat es fs out also told h k = passes_one a b c es fs out also h k
-close_one (Some at) a b c seat es fs out also told h k = comes_one a b c seat _ _ _ es fs out also told (tt, tt) h k
+close_one (Some at) a b c seat es fs out also told h k = comes_one a b c seat _ _ _ es fs out also told h k
 
 does_one : (line : ScriptLine) (a b c : Scene) (es fs : List Entry) (out also : List (List ℕ)) → a.portal.told ≡ true → Does a line es out b → Does a line fs also c → AreSame es fs out also b c
 does_one (File path content) a b c es fs out also told h k = passes_one a b c es fs out also h k
 does_one (Doc id reusable path grants) a b c es fs out also told h k = passes_one a b c es fs out also h k
-does_one (Now moment) a b c es fs out also told h k = passes_one a b c es fs out also h k
+does_one (Now moment) a b c es fs out also told h k = (h.0 ∙ sym k.0, h.1 ∙ sym k.1, h.2 ∙ sym k.2)
 does_one (line.Entry entry) a b c es fs out also told h k = passes_one a b c es fs out also h k
 does_one (Fail device call) a b c es fs out also told h k = passes_one a b c es fs out also h k
 does_one (Word word) a b c es fs out also told h k = passes_one a b c es fs out also h k
-does_one (Open seat kind who) a b c es fs out also told h k = comes_one a b c seat _ _ _ es fs out also told (tt, tt) h k
+does_one (Open seat kind who) a b c es fs out also told h k = comes_one a b c seat _ _ _ es fs out also told h k
 does_one (Data seat bytes) a b c es fs out also told h k = data_one (a.sessions seat) a b c seat bytes es fs out also told h k
 does_one (Close seat) a b c es fs out also told h k = close_one (a.sessions seat) a b c seat es fs out also told h k
 

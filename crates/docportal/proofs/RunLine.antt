@@ -19,7 +19,7 @@ use Rattle.portal_model.specs.Seated.{binding_of, bound, is_open}
 use Rattle.portal_model.specs.State.{State, connection_of}
 use Rattle.portal_model.proofs.Histories.{run-append}
 use Rattle.script_form.specs.declared.script.ScriptLine.{ScriptLine}
-use Rattle.script_form.specs.declared.script.ScriptLine.TheVariants.{Open, Data, Close}
+use Rattle.script_form.specs.declared.script.ScriptLine.TheVariants.{Now, Open, Data, Close}
 use Rattle.script_form.specs.Lines.{line_text}
 use Rattle.session.specs.declared.act.Client.{Client}
 use Rattle.session.specs.declared.served.Fed.{Fed}
@@ -32,7 +32,7 @@ use Rattle.session.specs.Standings.{Standing, client, fresh, longest}
 use Rattle.docportal.specs.declared.error.LineError.{LineError}
 use Rattle.docportal.specs.declared.error.LineError.TheVariants as not_run
 use Rattle.docportal.specs.Entries.{AreGiven}
-use Rattle.docportal.specs.Lines.{CloseDoes, DataDoes, DataIsUnbuilt, Does, Hears}
+use Rattle.docportal.specs.Lines.{CloseDoes, DataDoes, DataIsUnbuilt, Does, Hears, set_to}
 use Rattle.docportal.specs.Scenes.{Scene, ScriptPortal, outside_at, placed, run_settings, sessions_of}
 use Rattle.docportal.specs.Seats.{Asked, HeardAs, HearsNot, IsEnd}
 use Rattle.docportal.specs.Steps.{Agrees, AreFirst, Breaks, IsIdle, MayRun, Opens, Runs, WritesPart, WritesShort, binding, scene}
@@ -411,6 +411,16 @@ opening_runs p table line line' told e does = record {
   entries = [];
   out = [];
   does = subst (λ (z : ScriptLine). Does (scene p table) z [] [] (scene p table)) (sym e) (does (scene p table));
+  history = sym (append-nil p.story.history);
+  output = onto_none told;
+}
+
+-- the clock is set
+pub clock_runs : (p : ScriptPortal) (table : List (Option Standing)) (line : ScriptLine) (moment clock : ℕ) (told : Option (List (List ℕ))) → line ≡ Now moment → clock ≡ moment → Runs p table (record p { clock = clock }) table line told told
+clock_runs p table line moment clock told e set = record {
+  entries = [];
+  out = [];
+  does = subst (λ (z : ScriptLine). Does (scene p table) z [] [] (scene (record p { clock = clock }) table)) (sym e) (refl, refl, ap (λ (n : ℕ). set_to n (scene p table)) set);
   history = sym (append-nil p.story.history);
   output = onto_none told;
 }

@@ -1,5 +1,5 @@
 -- The history of lines that are run is legal, and isolates each application.
-use Rattle.std.proofs.Common.{◌≡◌, ℕ, List, [], ◌∷◌, ◌++◌, Option, Some, None, true, refl, sym, ap, ◌∙◌, subst}
+use Rattle.std.proofs.Common.{◌≡◌, ℕ, List, [], ◌∷◌, ◌++◌, Option, Some, None, refl, sym, ap, ◌∙◌, subst}
 use Rattle.portal_model.specs.declared.entry.Entry.{Entry}
 use Rattle.portal_model.specs.declared.request.Request.{Request}
 use Rattle.portal_model.specs.History.{EachLawful, run}
@@ -13,7 +13,7 @@ use Rattle.script_form.specs.declared.script.ScriptLine.TheVariants as line
 use Rattle.session.specs.declared.served.Stop.{Stop}
 use Rattle.session.specs.declared.served.Stop.TheVariants as stop
 use Rattle.session.specs.Standings.{Standing}
-use Rattle.docportal.specs.Lines.{Comes, CloseDoes, DataDoes, Does, Goes, Passes}
+use Rattle.docportal.specs.Lines.{Comes, CloseDoes, DataDoes, Does, Goes, Passes, Sets}
 use Rattle.docportal.specs.Plays.{Plays}
 use Rattle.docportal.specs.Runs.{IsSound}
 use Rattle.docportal.specs.Scenes.{Scene, first_scene, opening_state}
@@ -26,6 +26,12 @@ pub record Leads (a : Scene) (entries : List Entry) (b : Scene) : Type 0 where
 
 passes_lead : (a b : Scene) (es : List Entry) (out : List (List ℕ)) → Passes a es out b → Leads a es b
 passes_lead a b es out h = record {
+  lawful = subst (EachLawful a.portal) (sym h.0) tt;
+  portal = ap (λ (z : Scene). z.portal) h.2 ∙ ap (run a.portal) (sym h.0);
+}
+
+sets_lead : (moment : ℕ) (a b : Scene) (es : List Entry) (out : List (List ℕ)) → Sets a moment es out b → Leads a es b
+sets_lead moment a b es out h = record {
   lawful = subst (EachLawful a.portal) (sym h.0) tt;
   portal = ap (λ (z : Scene). z.portal) h.2 ∙ ap (run a.portal) (sym h.0);
 }
@@ -53,7 +59,7 @@ close_leads (Some at) a b seat es out h = comes_lead a b seat _ _ _ es out h
 pub does_lead : (line : ScriptLine) (a b : Scene) (es : List Entry) (out : List (List ℕ)) → Does a line es out b → Leads a es b
 does_lead (File path content) a b es out h = passes_lead a b es out h
 does_lead (Doc id reusable path grants) a b es out h = passes_lead a b es out h
-does_lead (Now moment) a b es out h = passes_lead a b es out h
+does_lead (Now moment) a b es out h = sets_lead moment a b es out h
 does_lead (line.Entry entry) a b es out h = passes_lead a b es out h
 does_lead (Fail device call) a b es out h = passes_lead a b es out h
 does_lead (Word word) a b es out h = passes_lead a b es out h

@@ -1,15 +1,13 @@
--- Walks that look alike: over a tree that tells its files and its calls, what is given to the one is given to the other.
-use Rattle.std.proofs.Common.{◌≡◌, ℕ, List, [], ◌∷◌, Bool, true, false, Option, Some, None, refl, sym, ap, subst, ◌∙◌}
-use Rattle.portal_base.specs.Calls.{Calls, is_to_fail, next_call}
+-- Walks of requests on documents that look alike: over a tree that tells its files and its calls, what is given to the one is given to the other.
+use Rattle.std.proofs.Common.{◌≡◌, ℕ, List, [], ◌∷◌, Bool, false, Some, refl, sym, ap, subst, ◌∙◌}
+use Rattle.file_ops.specs.TreeCalls.{CallsAsTold, calls_of}
+use Rattle.portal_base.specs.Calls.{Calls, next_call}
 use Rattle.portal_base.specs.declared.files.File.{File}
 use Rattle.portal_base.specs.declared.files.Look.{Look}
-use Rattle.portal_core.specs.TreeCalls.{CallsAsTold}
-use Rattle.portal_model.specs.declared.entry.Fault.{Fault}
-use Rattle.portal_model.specs.declared.entry.Fault.TheVariants as Fault
-use Rattle.portal_model.specs.Bus.{is_tree}
 use Rattle.portal_model.specs.Outside.{words_drawn}
 use Rattle.portal_model.specs.Verdict.{Verdict}
-use Rattle.portal_model.specs.Walk.{Walk, Answers, Looks, Ends, Target, Gives, reads_clock, shown_at, walked}
+use Rattle.portal_model.specs.Walk.{Walk, Answers, Looks, Ends, Gives, reads_clock, shown_at, walked}
+use Rattle.docportal.proofs.OneWalk.{not_both}
 
 module _ {X : Type 0} (Same : X → X → Type 0) where
   -- they look at the same, whatever that shows, and what they come to is alike; none ends with a
@@ -32,15 +30,9 @@ module _ {X : Type 0} (Same : X → X → Type 0) where
   alike_clock (Looks target next) (Ends call done missing) (look ∷ looks) h = absurd h
   alike_clock (Ends call done missing) u looks h = absurd h
 
-  -- a look that was shown, and a call that failed in its place
-  fails_once : {Y : Type 0} (calls : Calls) (f : Fault) (looks : List Look) (g : Fault) (look : Look) → is_tree f ≡ true → CallsAsTold (Some calls) [] f → CallsAsTold (Some calls) (look ∷ looks) g → Y
-  fails_once calls Fault.None looks g look t a b = absurd (cc)
-  fails_once calls Fault.Tree looks g look t a b = let x : true ≡ is_to_fail (next_call calls) = a in let y : false ≡ is_to_fail (next_call calls) = b.0 in absurd (cc)
-  fails_once calls Fault.Keeper looks g look t a b = absurd (cc)
-
   -- the same looks are given, and the same call fails
-  pub alike_given : (files : List File) (w u : Walk X) (xs ys : List Look) (f g : Fault) (calls : Calls) → WalkAlike w u → Gives (Some files) w xs (is_tree f) → Gives (Some files) u ys (is_tree g)
-      → CallsAsTold (Some calls) xs f → CallsAsTold (Some calls) ys g → (xs ≡ ys) × (is_tree f ≡ is_tree g)
+  pub alike_given : (files : List File) (w u : Walk X) (xs ys : List Look) (f g : Bool) (calls : Calls) → WalkAlike w u → Gives (Some files) w xs f → Gives (Some files) u ys g
+      → CallsAsTold (Some calls) (calls_of w xs f) → CallsAsTold (Some calls) (calls_of u ys g) → (xs ≡ ys) × (f ≡ g)
   alike_given files (Answers x) (Answers y) xs ys f g calls h a b c d = (a.0 ∙ sym b.0, a.1 ∙ sym b.1)
   alike_given files (Answers x) (Looks other more) xs ys f g calls h a b c d = absurd h
   alike_given files (Answers x) (Ends call done missing) xs ys f g calls h a b c d = absurd h
@@ -48,12 +40,13 @@ module _ {X : Type 0} (Same : X → X → Type 0) where
   alike_given files (Looks target next) (Ends call done missing) xs ys f g calls h a b c d = absurd h
   alike_given files (Ends call done missing) u xs ys f g calls h a b c d = absurd h
   alike_given files (Looks target next) (Looks other more) [] [] f g calls h a b c d = (refl, a ∙ sym b)
-  alike_given files (Looks target next) (Looks other more) [] (y ∷ ys) f g calls h a b c d = fails_once calls f ys g y a c d
-  alike_given files (Looks target next) (Looks other more) (x ∷ xs) [] f g calls h a b c d = fails_once calls g xs f x b d c
+  alike_given files (Looks target next) (Looks other more) [] (y ∷ ys) f g calls h a b c d = not_both f _ a c.0 d.0
+  alike_given files (Looks target next) (Looks other more) (x ∷ xs) [] f g calls h a b c d = not_both g _ b d.0 c.0
   alike_given files (Looks target next) (Looks other more) (x ∷ xs) (y ∷ ys) f g calls h a b c d =
       let same : x ≡ y = a.0 ∙ (ap (shown_at files) h.0 ∙ sym b.0) in
-      let behind : Gives (Some files) (more x) ys (is_tree g) = subst (λ (l : Look). Gives (Some files) (more l) ys (is_tree g)) (sym same) b.1 in
-      let rest = alike_given files (next x) (more x) xs ys f g (next_call calls) (h.1 x) a.1 behind c.1 d.1 in
+      let behind : Gives (Some files) (more x) ys g = subst (λ (l : Look). Gives (Some files) (more l) ys g) (sym same) b.1 in
+      let calling : CallsAsTold (Some (next_call calls)) (calls_of (more x) ys g) = subst (λ (l : Look). CallsAsTold (Some (next_call calls)) (calls_of (more l) ys g)) (sym same) d.1 in
+      let rest = alike_given files (next x) (more x) xs ys f g (next_call calls) (h.1 x) a.1 behind c.1 calling in
       (ap (λ (l : Look). l ∷ xs) same ∙ ap (λ (ls : List Look). y ∷ ls) rest.0, rest.1)
 
 -- and as many words are drawn of what they come to, where that is so of what they may come to

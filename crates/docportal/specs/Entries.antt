@@ -1,14 +1,13 @@
 -- The entries that the outside of a script gives to requests: its tree shows the files of the
--- state, its words come in their order, and those calls fail that are to fail.
-use Rattle.std.specs.Prelude.{◌≡◌, ℕ, List, [], ◌∷◌, Option, Some, None}
+-- state, its clock shows what it was set to, its words come in their order, and those calls fail
+-- that are to fail.
+use Rattle.std.specs.Prelude.{◌≡◌, ℕ, List, [], ◌∷◌, Bool, Option, Some, None, IfSome}
 use Rattle.document_calls.specs.KeeperCalls.{is_keeper}
 use Rattle.portal_base.specs.Calls.{Calls, FailsAsTold, next_call}
-use Rattle.portal_base.specs.declared.files.Look.{Look}
 use Rattle.portal_core.specs.Devices.{Drawn}
-use Rattle.portal_core.specs.TreeCalls.{CallsAsTold}
+use Rattle.portal_core.specs.TreeCalls.{CallsAsTold, entry_calls}
 use Rattle.portal_model.specs.declared.entry.Entry.{Entry}
 use Rattle.portal_model.specs.declared.entry.Fault.{Fault}
-use Rattle.portal_model.specs.declared.entry.Fault.TheVariants as Fault
 use Rattle.portal_model.specs.declared.request.Request.{Request}
 use Rattle.portal_model.specs.declared.state.Connection.{Connection}
 use Rattle.portal_model.specs.Lawful.{Lawful}
@@ -21,12 +20,10 @@ use Rattle.session.specs.Answers.{Outcome, Made}
 
 -- ---- the calls of an entry
 
--- the tree was called for each look that it showed, and once more where it failed
-abbrev pub calls_past : Calls → List Look → Fault → Calls
-calls_past calls [] Fault.None = calls
-calls_past calls [] Fault.Tree = next_call calls
-calls_past calls [] Fault.Keeper = calls
-calls_past calls (look ∷ looks) fault = calls_past (next_call calls) looks fault
+-- the calls of the tree after these, for each of which it is told whether it failed
+abbrev pub calls_past : Calls → List Bool → Calls
+calls_past calls [] = calls
+calls_past calls (failed ∷ more) = calls_past (next_call calls) more
 
 -- the step of the entry changes the records, where the keeper doesn't fail; on a seat without an
 -- open bus no step does
@@ -46,17 +43,20 @@ pub record Applied (old : Calls) (fault : Fault) (new : Calls) : Type 0 where
 -- ---- one entry
 
 -- The outside gives this to an entry, and so much is left of it. It is lawful, so the tree shows
--- the files of the state, which a script's state tells; no request that is built reads the clock.
+-- the files of the state, which a script's state tells, and the clock is read where the request
+-- changes or makes a file.
 pub record IsGiven (s : State) (o : Outside) (e : Entry) (left : Outside) : Type 0 where
   pub lawful : Lawful s e
   -- of the calls of the tree those fail that are to fail
-  pub tree : CallsAsTold (Some o.tree) e.given.looks e.given.fault
-  pub tree_left : left.tree ≡ calls_past o.tree e.given.looks e.given.fault
+  pub tree : CallsAsTold (Some o.tree) (entry_calls s e)
+  pub tree_left : left.tree ≡ calls_past o.tree (entry_calls s e)
   -- the keeper is called once where the records change, and else not at all
   pub applied : Changes s e → Applied o.keeper e.given.fault left.keeper
   pub unapplied : (Changes s e → ⊥) → left.keeper ≡ o.keeper
   -- the words that are drawn are the first that are left, and behind the last of them 0
   pub words : Drawn (Some o.words) e.given.words (Some left.words)
+  -- the clock shows what it was set to, however often it is read
+  pub moment : IfSome e.given.now (λ now. now ≡ o.clock)
   pub clock : left.clock ≡ o.clock
 
 -- ---- entries, one after another

@@ -7,7 +7,8 @@ use Rattle.portal_model.specs.declared.request.Request.{Request}
 use Rattle.portal_model.specs.History.{run}
 use Rattle.portal_model.specs.State.{State}
 use Rattle.script_form.specs.declared.script.ScriptLine.{ScriptLine}
-use Rattle.script_form.specs.declared.script.ScriptLine.TheVariants.{File, Doc, Fail, Word, Now, Open, Data, Close}
+use Rattle.script_form.specs.declared.script.ScriptLine.TheVariants.{File, Doc, Fail, Word, Now}
+use Rattle.script_form.specs.declared.script.ScriptLine.TheVariants.{Open, Data, Close}
 use Rattle.script_form.specs.declared.script.ScriptLine.TheVariants as line
 use Rattle.script_form.specs.Outside.{Outside}
 use Rattle.session.specs.declared.act.Act.{Act}
@@ -49,6 +50,14 @@ pub record Hears (s : State) (o : Outside) (seat : ℕ) (at : Standing) (bytes :
 abbrev pub Passes : Scene → List Entry → List (List ℕ) → Scene → Type 0
 Passes a entries out b = (entries ≡ []) × (out ≡ []) × (b ≡ a)
 
+-- the clock is set: from then on it shows this moment
+abbrev pub set_to : ℕ → Scene → Scene
+set_to moment a = record a { outside = record a.outside { clock = moment } }
+
+-- nothing is asked or written, and the clock is set
+abbrev pub Sets : Scene → ℕ → List Entry → List (List ℕ) → Scene → Type 0
+Sets a moment entries out b = (entries ≡ []) × (out ≡ []) × (b ≡ set_to moment a)
+
 -- These requests of a seat are asked, one after another; this is written; and then this stands at
 -- its number.
 pub record Comes (a : Scene) (seat : ℕ) (requests : List Request) (lines : List (List ℕ))
@@ -63,8 +72,8 @@ pub record Comes (a : Scene) (seat : ℕ) (requests : List Request) (lines : Lis
   }
 
 -- A connection whose bytes end between items goes on; one with an item that breaks a rule, or with
--- a line that is too long, ends by itself and leaves. A request that isn't built isn't asked, and
--- bytes that end inside an item are no line that is built.
+-- a line that is too long, ends by itself and leaves. A message that asks for what isn't built is
+-- not asked, and bytes that end inside an item are no line that is built.
 abbrev pub Goes : Scene → ℕ → Stop → List Request → List (List ℕ) → Standing → List Entry
     → List (List ℕ) → Scene → Type 0
 Goes a seat stop.More requests pieces now entries out b =
@@ -96,15 +105,15 @@ CloseDoes a seat None entries out b = Passes a entries out b
 CloseDoes a seat (Some at) entries out b =
     Comes a seat (Request.Leave ∷ []) (end_line seat (ending_at at.rest) ∷ []) None entries out b
 
--- A line is run: from one scene to another, with these entries and this output. Files, documents,
--- entries and times are in the state that the script opens with; words, wherever they stand, and
--- calls that fail are in its outside. No request that is built reads the clock.
+-- A line is run: from one scene to another, with these entries and this output. Files, documents
+-- and entries are in the state that the script opens with; words, wherever they stand, and calls
+-- that fail are in its outside. A time sets the clock for the lines behind it.
 abbrev pub Does : Scene → ScriptLine → List Entry → List (List ℕ) → Scene → Type 0
 Does a (File path content) entries out b = Passes a entries out b
 Does a (line.Entry entry) entries out b = Passes a entries out b
 Does a (Fail device call) entries out b = Passes a entries out b
 Does a (Word word) entries out b = Passes a entries out b
-Does a (Now moment) entries out b = Passes a entries out b
+Does a (Now moment) entries out b = Sets a moment entries out b
 Does a (Doc id reusable path grants) entries out b = Passes a entries out b
 Does a (Open seat kind who) entries out b = Comes a seat (Request.Enter who kind ∷ []) []
     (Some (fresh (client who kind run_settings))) entries out b
@@ -113,7 +122,7 @@ Does a (Close seat) entries out b = CloseDoes a seat (a.sessions seat) entries o
 
 -- ---- a line that isn't built
 
--- bytes that end inside an item, or at a request that isn't built
+-- bytes that end inside an item, or at a message that asks for what isn't built
 abbrev pub IsUnbuiltStop : Stop → List ℕ → Type 0
 IsUnbuiltStop stop.More left = left ≢ []
 IsUnbuiltStop (stop.Bad rule) left = ⊥

@@ -38,6 +38,10 @@ known_at p seat refusals = seated_at (state_first p.story) p.story.history seat 
 abbrev pub sunk : Seated → SinkState → World
 sunk d sink = world d (Some sink.pieces) sink.faults
 
+-- what the clock shows
+abbrev pub clock_of : ℕ → Option ℕ
+clock_of seconds = Some seconds
+
 -- the words to come
 abbrev pub words_of : List ℕ → Option (List ℕ)
 words_of words = Some words
@@ -48,8 +52,8 @@ pub record Alone (seat refusals : ℕ) (old new : ScriptPortal) : Type 0 where
   pub asked : List (Result Entry Request)
   pub grows : GrowsByOwn seat asked old.story.history new.story.history
   pub count : refusals ≡ rises_by 0 (refused asked)
-  pub chain : Chain (Went tree_of keeper_of words_of) (Spends tree_of keeper_of words_of) old asked
-      new
+  pub chain : Chain (Went tree_of keeper_of clock_of words_of)
+      (Spends tree_of keeper_of clock_of words_of) old asked new
 
 -- these requests of a seat, and no others, are new in the history, and the devices went through
 -- them
@@ -131,7 +135,7 @@ HeardAs true old new seat at bytes pieces now =
     (what : Stop) × IsEnd what × HearsAt old new seat at bytes what pieces now
 
 -- what a session of a script meets: an item that breaks a rule, a line that is too long, or a
--- request that isn't built
+-- message whose request isn't built
 abbrev pub IsMet : Served → Type 0
 IsMet (served.Malformed at rule) = Unit {0}
 IsMet (served.LineTooLong at) = Unit {0}

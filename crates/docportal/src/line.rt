@@ -24,9 +24,9 @@ use script_form::script::ScriptLine;
 use session::session::Session;
 use std::alloc::Global;
 
-/// Runs a line: a connection is opened or closed at the portal, or bytes come
-/// on one, and each line of output is written as one piece. Nothing is written
-/// of a line that isn't built.
+/// Runs a line: a connection is opened or closed at the portal, bytes come on
+/// one, or its clock is set, and each line of output is written as one piece.
+/// Nothing is written of a line that isn't built.
 pub fn run_line<K: Sink>(
     alloc: Global,
     portal: &mut ScriptPortal,
@@ -50,7 +50,10 @@ pub fn run_line<K: Sink>(
         ScriptLine::Entry(_) => Ok(()),
         ScriptLine::Fail { .. } => Ok(()),
         ScriptLine::Word { .. } => Ok(()),
-        ScriptLine::Now { .. } => Ok(()),
+        ScriptLine::Now { moment } => {
+            portal.clock_mut().set(*moment);
+            Ok(())
+        }
         ScriptLine::Open { seat, kind, who } => {
             open(alloc, portal, connections, settings, *seat, *kind, who)
         }

@@ -15,9 +15,6 @@
 //! With no round the portal is opened alone.
 #![tactic(auto)]
 
-ghost use Rattle.std.specs.Prelude.{IfOk};
-ghost use Rattle.portal_desk.specs.Built.{Built};
-
 use portal_base::list::{ByteList, List};
 use portal_base::who::{Kind, Who};
 use portal_lines::{DOCUMENTS, LONGEST, PLENTY, ScriptPortal, limits, opened_by};
@@ -101,9 +98,7 @@ fn counted_at(
 }
 
 /// Asks a request: 1 where it isn't refused.
-fn asked(alloc: Global, portal: &mut ScriptPortal, request: Request) -> Result<u64, VectorError>
-    requires { Built request }
-{
+fn asked(alloc: Global, portal: &mut ScriptPortal, request: Request) -> Result<u64, VectorError> {
     match portal.ask(alloc, 1, request) {
         Ok(reply) => Ok(u64::from(is_done(&reply.answer))),
         Err(refused) => Err(VectorError::Refused(debug(alloc, &refused)?)),
@@ -115,9 +110,7 @@ fn is_done(answer: &Answer) -> bool {
 }
 
 /// The request of a call.
-fn request(alloc: Global, call: Call, last: u32) -> Result<Request, VectorError>
-    ensures { IfOk result Built }
-{
+fn request(alloc: Global, call: Call, last: u32) -> Result<Request, VectorError> {
     match call {
         Call::Info => Ok(Request::Info {
             doc: copied(alloc, format!(in alloc; "{last:08x}")?.as_str())?,

@@ -1,8 +1,10 @@
 -- A portal that starts: its lists are those of a valid state, and the keeper's records stand for it.
 use Rattle.std.specs.Prelude.{IfSome}
-use Rattle.std.proofs.Common.{◌≡◌, ◌<◌, ◌^◌, ℕ, List, [], map, true, Option, Some, None, sym, ap, subst, ◌∙◌, arith}
+use Rattle.std.proofs.Common.{◌≡◌, ◌<◌, ◌^◌, ℕ, List, [], map, true, cond, Option, Some, None, refl, sym, ap, subst, ◌∙◌, arith}
 use Rattle.std.specs.List.{list_all}
 use Rattle.document_records.specs.Documents.{DocumentList}
+use Rattle.file_ops.specs.OpenHandles.{AreOpened, open_on}
+use Rattle.open_handles.specs.Opened.{HandleTable, Opened, opened_on}
 use Rattle.portal_base.specs.Content.{IsTree}
 use Rattle.portal_base.specs.declared.files.File.{File}
 use Rattle.portal_base.specs.declared.limits.Limits.{Limits}
@@ -11,16 +13,20 @@ use Rattle.portal_model.specs.declared.opening.OpeningState.{OpeningState}
 use Rattle.portal_model.specs.declared.records.Records.{Records}
 use Rattle.portal_model.specs.declared.state.Triple.{Triple}
 use Rattle.portal_model.specs.Kept.{records_of}
-use Rattle.portal_model.specs.Opening.{SoundOpening, document_kept, id_of, opened_over, rights_kept}
-use Rattle.portal_model.specs.State.{State}
+use Rattle.portal_model.specs.Opening.{SoundOpening, document_kept, files_of, id_of, is_told, opened_over, rights_kept}
 use Rattle.portal_model.specs.Valid.{Valid}
 use Rattle.record_keeper.specs.BadRecords.{AreGood}
 use Rattle.record_keeper.specs.Keepers.{KeeperIs}
 use Rattle.portal_core.specs.Answered.{KeepsState}
-use Rattle.portal_core.specs.Held.{Stands, state_of}
+use Rattle.portal_core.specs.Held.{Stands}
 use Rattle.portal_core.specs.Started.{LoadsGood, is_narrow, opening_loaded}
 use Rattle.portal_core.proofs.GoodRecords.{all_sound, numbers_apart, over_any, sound_records, valid_quiet}
 use Rattle.portal_core.proofs.KeptRights.{all_back}
+
+-- the files that a state tells that began so
+told_by : (began : Option (List File)) → cond (is_told began) (Some (files_of began)) None ≡ began
+told_by None = refl
+told_by (Some files) = refl
 
 pub sound_loaded : (limits : Limits) (records : Records) (o : OpeningState) → o ≡ opening_loaded limits records → AreGood limits records → list_all is_narrow o.made ≡ true → limits.made < 2 ^ 32 → limits.queued < 2 ^ 32 → SoundOpening o
 sound_loaded limits records o e good narrow made queued =
@@ -48,26 +54,39 @@ back limits records began good = λ i. record {
 }
 
 module _ (began : Option (List File)) (o : OpeningState) (ds : DocumentList) (rs : List Triple) (apps : List (List ℕ)) (k : ds ≡ record { most_live = o.limits.documents; most_made = o.limits.made; live = map document_kept o.documents; made = o.made }) (r : rs ≡ rights_kept o.documents) (a : apps ≡ o.applications) where
-  state_first_is : opened_over began o ≡ state_of began o ds rs apps []
-  state_first_is = λ i. state_of began o (sym k i) (sym r i) (sym a i) []
+  nothing-open : (q : ℕ) (n : Option Opened) → n ≡ None → AreOpened (open_on [] q) None n
+  nothing-open q None e = tt
+  nothing-open q (Some n) e = absurd (cc)
 
-  pub stands_first : (limit : ℕ) → Valid (opened_over None o) → IfSome began IsTree → limit ≡ o.limits.history → Stands began o [] limit ds rs apps []
-  stands_first limit v t l = record {
+  pub stands_first : (limit : ℕ) (table : HandleTable) (told : Option (List File)) → Valid (opened_over None o) → IfSome began IsTree → limit ≡ o.limits.history → table.most ≡ o.limits.handles → table.seats ≡ [] → told ≡ began → Stands began o [] limit ds rs apps [] table told
+  stands_first limit table told v t l m e f = record {
     legal = record { opening = over_any o began v t; lawful = tt };
-    state_is = state_first_is;
     limit_is = l;
     within = omega arith;
-    most_live = ap (λ (x : DocumentList). x.most_live) k;
-    most_made = ap (λ (x : DocumentList). x.most_made) k;
+    holds = record {
+      limits_are = refl;
+      lists = record {
+        book = record {
+          live = ap (λ (x : DocumentList). x.live) (sym k);
+          made = ap (λ (x : DocumentList). x.made) (sym k);
+          most_live = ap (λ (x : DocumentList). x.most_live) (sym k);
+          most_made = ap (λ (x : DocumentList). x.most_made) (sym k);
+          held = sym r;
+          numbered = sym a;
+        };
+        connected = refl;
+      };
+      handles = record { limit = m; each = λ q. nothing-open q (opened_on table.seats q) (ap (λ (xs : List (ℕ × Opened)). opened_on xs q) e) };
+      files = told_by began ∙ sym f;
+    };
   }
 
   same_told : (told : Option Records) (records : Records) → IfSome told (λ kept. records ≡ kept) → records_of (opened_over began o) ≡ records → KeepsState told (opened_over began o)
   same_told None records g e = tt
   same_told (Some kept) records g e = sym (e ∙ g)
 
-  pub kept_first : (limits : Limits) (old new : KeeperIs) → LoadsGood limits old o new → KeepsState new.told (state_of began o ds rs apps [])
+  pub kept_first : (limits : Limits) (old new : KeeperIs) → LoadsGood limits old o new → KeepsState new.told (opened_over began o)
   kept_first limits old new g =
       let told : new.told ≡ old.told = ap (λ (x : KeeperIs). x.told) g.loads.goes in
       let same : records_of (opened_over began o) ≡ g.records = ap (λ (x : OpeningState). records_of (opened_over began x)) g.opening_is ∙ back limits g.records began g.good in
-      subst (λ (s : State). KeepsState new.told s) state_first_is
-      (subst (λ (t : Option Records). KeepsState t (opened_over began o)) (sym told) (same_told old.told g.records g.loads.gives same))
+      subst (λ (t : Option Records). KeepsState t (opened_over began o)) (sym told) (same_told old.told g.records g.loads.gives same)

@@ -2,7 +2,10 @@
 use Rattle.std.proofs.Common.{◌≡◌, ◌≢◌, ◌+◌, ◌<◌, ◌≤◌, ◌^◌, ℕ, List, [], ◌∷◌, ◌++◌, length, Bool, true, false, cond, Option, Some, None, inl, inr, ◌⊎◌, refl, sym, ap, subst, ◌∙◌, arith}
 use Rattle.document_records.specs.Documents.{DocumentList}
 use Rattle.portal_base.specs.Outside.{HasRisen}
+use Rattle.file_ops.specs.OpenHandles.{AreOpen}
+use Rattle.open_handles.specs.Opened.{HandleTable}
 use Rattle.portal_base.specs.declared.files.File.{File}
+use Rattle.portal_base.specs.declared.limits.Limits.{Limits}
 use Rattle.portal_model.specs.declared.entry.Entry.{Entry}
 use Rattle.portal_model.specs.declared.entry.Fault.{Fault}
 use Rattle.portal_model.specs.declared.entry.Given.{Given}
@@ -27,10 +30,10 @@ use Rattle.portal_model.specs.State.{State, connection_of}
 use Rattle.portal_model.specs.Step.{after, all_told, bus_of, bus_step, reply_at, reply_with, with_signals}
 use Rattle.portal_model.specs.Valid.{Valid, is_silent}
 use Rattle.portal_model.specs.Verdict.{Verdict, Refuses, Does}
-use Rattle.portal_model.specs.Walk.{Walk, Gives, walked}
-use Rattle.portal_model.proofs.Histories.{run-append, Legal-append, cost-append}
+use Rattle.portal_model.specs.Walk.{Walk, Gives, reads_clock, walked}
+use Rattle.portal_model.proofs.BusLaws.{bus_step-holds}
+use Rattle.portal_model.proofs.Histories.{run-append}
 use Rattle.portal_model.proofs.NoChangeWaits.{all_told-silent, unsent-silent}
-use Rattle.portal_model.proofs.ValidLaws.{run-Valid}
 use Rattle.record_keeper.specs.Keepers.{KeeperIs}
 use Rattle.host_tree.specs.Trees.{TreeIs}
 use Rattle.add_calls.specs.Shown.{Asked}
@@ -39,12 +42,14 @@ use Rattle.document_calls.specs.KeeperCalls.{KeeperStays, KeeperWent, ServesKept
 use Rattle.portal_core.specs.Answered.{KeepsState}
 use Rattle.portal_core.specs.Devices.{Keeping, KeeperWentOn, may_change_records}
 use Rattle.portal_core.specs.Documents.{HasLists, ServedOn, is_document_call, with_lists}
-use Rattle.portal_core.specs.Held.{Stands, state_of}
+use Rattle.portal_core.specs.Held.{Holds, Stands, told_files}
 use Rattle.portal_core.proofs.AddVerdicts.{TellsNoFaultIf, add-tells, gives-none, queue-records}
 use Rattle.portal_core.proofs.AskedCalls.{asked-risen}
+use Rattle.portal_core.proofs.BusCalls.{no-moment}
 use Rattle.portal_core.proofs.CallVerdicts.{TellsNone, TellsOf, call-changes-none, call-on-bus, is_on_bus, lawful-on-bus, refused-stays, step-on-bus, tells-none, verdict_on, walk-is}
 use Rattle.portal_core.proofs.SettledCalls.{Settles, settles}
-use Rattle.portal_core.proofs.Steps.{bus_found, is_silent_now, told_by}
+use Rattle.portal_core.proofs.OpenSteps.{open-requeued, open-told}
+use Rattle.portal_core.proofs.Steps.{bus_found, silent-now, stands_more, valid-now}
 
 abbrev pub entry_with : ℕ → Request → Given → Entry
 entry_with seat request given = record { seat = seat; request = request; given = given }
@@ -66,6 +71,7 @@ pub record IsUntreed (request : Request) (given : Given) : Type 0 where
   pub looks : given.looks ≡ []
   pub untreed : is_tree given.fault ≡ false
   pub words : given.words ≡ []
+  pub moment : given.now ≡ None
   pub unkept : may_change_records request ≡ false → given.fault ≢ Fault.Keeper
 
 module _ (s : State) (seat : ℕ) (request : Request) (given : Given) (next : State) (answer : Answer) (old new : KeeperIs) (on : is_on_bus request ≡ true) (silent : is_silent s.connections ≡ true) (same : next.entries ≡ s.entries) (keeps : KeepsState old.told s) where
@@ -146,6 +152,7 @@ module _ (s : State) (c : Connection) (request : Request) (given : Given) (call 
         looks = given_none.0;
         untreed = given_none.1;
         words = no-words given.words ((lawful.words ∙ ap words_drawn verdict-is) ∙ none-drawn (verdict_on s c request) (tells-none s c request));
+        moment = no-moment given.now (lawful.clock ∙ ap (λ (w : Walk Verdict). reads_clock w given.looks) (walk-is s c request given.numbers call));
         unkept = λ h f. call-changes-none s c request h (subst (ChangesRecords s) verdict-is (lawful.keeper f));
       }
 
@@ -154,6 +161,7 @@ untreed-on s request given next answer old new None call k = record {
   looks = ap (λ (g : Given). g.looks) k.0;
   untreed = ap (λ (g : Given). is_tree g.fault) k.0;
   words = ap (λ (g : Given). g.words) k.0;
+  moment = ap (λ (g : Given). g.now) k.0;
   unkept = λ h f. let no : Fault.Keeper ≡ Fault.None = sym f ∙ ap (λ (g : Given). g.fault) k.0 in cc;
 }
 untreed-on s request given next answer old new (Some c) call k = untreed-here s c request given call k.serves.lawful
@@ -173,75 +181,97 @@ tells-of-add s c a given lawful =
 
 -- ---- the portal's lists
 
-module _ (began : Option (List File)) (o : OpeningState) (h : List Entry) (limit : ℕ) (ds : DocumentList) (rs : List Triple) (apps : List (List ℕ)) (cs : List Connection) (p : Stands began o h limit ds rs apps cs) where
+-- the calls of a bus leave the open handles, the files and the limits
+module _ (limits : Limits) (table : HandleTable) (told : Option (List File)) where
+  abbrev Leaves : State → Type 0
+  Leaves s = (s.limits ≡ limits) × AreOpen s table × (told_files s ≡ told)
+
+  bus-leaves : (s : State) (request : Request) (given : Given) (c : Option Connection) → Leaves s → Leaves (bus_step s request given c).0
+  bus-leaves = bus_step-holds Leaves
+      (λ s seat l. (l.0, open-told table s seat l.1, l.2))
+      (λ s seat change l. (l.0, open-requeued table s seat change l.1, l.2))
+      (λ s ds made rights apps l. (l.0, record { limit = l.1.limit; each = l.1.each }, l.2))
+
+module _ (began : Option (List File)) (o : OpeningState) (h : List Entry) (limit : ℕ) (ds : DocumentList) (rs : List Triple) (apps : List (List ℕ)) (cs : List Connection) (table : HandleTable) (told : Option (List File)) (p : Stands began o h limit ds rs apps cs table told) where
   abbrev at : State
-  at = state_of began o ds rs apps cs
+  at = run (opened_over began o) h
 
-  pub valid_at : Valid at
-  valid_at = subst Valid p.state_is (run-Valid h (opened_over began o) p.legal)
+  queued-at : at.limits.queued ≡ o.limits.queued
+  queued-at = ap (λ (l : Limits). l.queued) p.holds.limits_are
 
-  pub limit_at : o.limits.queued < 2 ^ 32
-  limit_at = valid_at.queued_limit
-
-  lists_at : HasLists at ds rs apps cs
-  lists_at = record {
-    book = record { live = refl; made = refl; most_live = sym p.most_live; most_made = sym p.most_made; held = refl; numbered = refl };
-    connected = refl;
-  }
+  bus-at : (seat : ℕ) → bus_of (connection_of cs seat) ≡ bus_of (connection_of at.connections seat)
+  bus-at seat = ap (λ (l : List Connection). bus_of (connection_of l seat)) (sym p.holds.lists.connected)
 
   module _ (ds' : DocumentList) (rs' : List Triple) (apps' : List (List ℕ)) (cs' : List Connection) (seat : ℕ) (request : Request) (given : Given) (answer : Answer) (old new : KeeperIs) where
+    abbrev next : State
+    next = with_lists at ds' rs' apps' cs'
+
     abbrev pub CallServed : Type 0
     CallServed = (s : State) → Valid s → HasLists s ds rs apps cs → s.limits.queued ≡ o.limits.queued → ServedOn s request given (with_lists s ds' rs' apps' cs') answer old new (bus_of (connection_of cs seat))
 
-    pub comes : is_document_call request ≡ true → KeepsState old.told at → CallServed → Comes at seat request given (state_of began o ds' rs' apps' cs') answer old new
+    pub comes : is_document_call request ≡ true → KeepsState old.told at → CallServed → Comes at seat request given next answer old new
     comes call keeps k =
-        comes-on at seat request given (state_of began o ds' rs' apps' cs') answer old new (call-on-bus request call) (is_silent_now began o h limit ds rs apps cs p) refl keeps (bus_of (connection_of cs seat)) refl
-        (λ c lawful. tells-of-call at c request given call) (λ c. ap records_of (refused-stays at c request call)) (k at valid_at lists_at refl)
+        comes-on at seat request given next answer old new (call-on-bus request call) (silent-now began o h limit ds rs apps cs table told p) refl keeps (bus_of (connection_of at.connections seat)) refl
+        (λ c lawful. tells-of-call at c request given call) (λ c. ap records_of (refused-stays at c request call))
+        (subst (ServedOn at request given next answer old new) (bus-at seat) (k at (valid-now began o h limit ds rs apps cs table told p) p.holds.lists queued-at))
 
     pub untreed : is_document_call request ≡ true → CallServed → IsUntreed request given
-    untreed call k = untreed-on at request given (state_of began o ds' rs' apps' cs') answer old new (bus_of (connection_of cs seat)) call (k at valid_at lists_at refl)
+    untreed call k = untreed-on at request given next answer old new (bus_of (connection_of cs seat)) call (k at (valid-now began o h limit ds rs apps cs table told p) p.holds.lists queued-at)
 
     -- of an Add
-    pub comes_added : (a : AddRequest) → request ≡ Request.Add a → (told : Option (List File)) → told ≡ began → KeepsState old.told at →
-        ((s : State) → Valid s → HasLists s ds rs apps cs → files_told s ≡ told → ServedOn s (Request.Add a) given (with_lists s ds' rs' apps' cs') answer old new (bus_of (connection_of cs seat))) →
-        Comes at seat request given (state_of began o ds' rs' apps' cs') answer old new
-    comes_added a e told t keeps k =
-        subst (λ (r : Request). Comes at seat r given (state_of began o ds' rs' apps' cs') answer old new) (sym e)
-        (comes-on at seat (Request.Add a) given (state_of began o ds' rs' apps' cs') answer old new refl (is_silent_now began o h limit ds rs apps cs p) refl keeps (bus_of (connection_of cs seat)) refl
-        (λ c lawful. tells-of-add at c a given lawful) (λ c. queue-records at c a) (k at valid_at lists_at (told_by began ∙ sym t)))
+    pub comes_added : (a : AddRequest) → request ≡ Request.Add a → (tells : Option (List File)) → tells ≡ told → KeepsState old.told at →
+        ((s : State) → Valid s → HasLists s ds rs apps cs → files_told s ≡ tells → ServedOn s (Request.Add a) given (with_lists s ds' rs' apps' cs') answer old new (bus_of (connection_of cs seat))) →
+        Comes at seat request given next answer old new
+    comes_added a e tells t keeps k =
+        subst (λ (r : Request). Comes at seat r given next answer old new) (sym e)
+        (comes-on at seat (Request.Add a) given next answer old new refl (silent-now began o h limit ds rs apps cs table told p) refl keeps (bus_of (connection_of at.connections seat)) refl
+        (λ c lawful. tells-of-add at c a given lawful) (λ c. queue-records at c a)
+        (subst (ServedOn at (Request.Add a) given next answer old new) (bus-at seat) (k at (valid-now began o h limit ds rs apps cs table told p) p.holds.lists (p.holds.files ∙ sym t))))
 
-    pub stands_served : Comes at seat request given (state_of began o ds' rs' apps' cs') answer old new → SameLimits ds ds' → cost h + cost_of request ≤ o.limits.history →
-        Stands began o (h ++ entry_with seat request given ∷ []) limit ds' rs' apps' cs'
-    stands_served k same room = record {
-      legal = Legal-append h (entry_with seat request given ∷ []) (opened_over began o) p.legal
-          (record { opening = run-Valid h (opened_over began o) p.legal; lawful = (subst (λ (s : State). Lawful s (entry_with seat request given)) (sym p.state_is) k.lawful, tt) });
-      state_is = run-append h (entry_with seat request given ∷ []) (opened_over began o) ∙ (ap (λ (s : State). after s (entry_with seat request given)) p.state_is ∙ k.after_is);
-      limit_is = p.limit_is;
-      within = rw (cost-append h (entry_with seat request given ∷ [])) (omega arith);
-      most_live = same.0 ∙ p.most_live;
-      most_made = same.1 ∙ p.most_made;
-    }
+    -- the state after it holds the new lists, and the open handles and the files as before
+    holds-served : is_on_bus request ≡ true → Comes at seat request given next answer old new → SameLimits ds ds' → Holds (after at (entry_with seat request given)) o.limits ds' rs' apps' cs' table told
+    holds-served on k same =
+        let step : after at (entry_with seat request given) ≡ (bus_step at request given (bus_of (connection_of at.connections seat))).0 = ap (λ (x : State × Reply). x.0) (step-on-bus at seat request given on) in
+        let leaves : Leaves o.limits table told next = subst (Leaves o.limits table told) (sym step ∙ k.after_is)
+        (bus-leaves o.limits table told at request given (bus_of (connection_of at.connections seat)) (p.holds.limits_are, p.holds.handles, p.holds.files)) in
+        subst (λ (s : State). Holds s o.limits ds' rs' apps' cs' table told) (sym k.after_is) (record {
+          limits_are = leaves.0;
+          lists = record {
+            book = record {
+              live = refl;
+              made = refl;
+              most_live = p.holds.lists.book.most_live ∙ sym same.0;
+              most_made = p.holds.lists.book.most_made ∙ sym same.1;
+              held = refl;
+              numbered = refl;
+            };
+            connected = refl;
+          };
+          handles = leaves.1;
+          files = leaves.2;
+        })
 
-    -- what is true of the lists' state is true of the state after the history
+    pub stands_served : is_on_bus request ≡ true → Comes at seat request given next answer old new → SameLimits ds ds' → cost h + cost_of request ≤ o.limits.history →
+        Stands began o (h ++ entry_with seat request given ∷ []) limit ds' rs' apps' cs' table told
+    stands_served on k same room = stands_more began o h limit ds rs apps cs table told p (entry_with seat request given) ds' rs' apps' cs' table told k.lawful (holds-served on k same) room
 
-    pub lawful_run : Comes at seat request given (state_of began o ds' rs' apps' cs') answer old new → Lawful (run (opened_over began o) h) (entry_with seat request given)
-    lawful_run k = subst (λ (s : State). Lawful s (entry_with seat request given)) (sym p.state_is) k.lawful
+    -- the state after the longer history is that of the step
+    next-is : Comes at seat request given next answer old new → run (opened_over began o) (h ++ entry_with seat request given ∷ []) ≡ next
+    next-is k = run-append h (entry_with seat request given ∷ []) (opened_over began o) ∙ k.after_is
 
-    pub replied_run : Comes at seat request given (state_of began o ds' rs' apps' cs') answer old new → reply_with [] answer ≡ reply_at (run (opened_over began o) h) (entry_with seat request given)
-    replied_run k = subst (λ (s : State). reply_with [] answer ≡ reply_at s (entry_with seat request given)) (sym p.state_is) k.reply_is
+    pub keeps_run : Comes at seat request given next answer old new → KeepsState new.told (run (opened_over began o) (h ++ entry_with seat request given ∷ []))
+    keeps_run k = subst (λ (s : State). KeepsState new.told s) (sym (next-is k)) k.settles.kept
 
-    pub keeping_run : Comes at seat request given (state_of began o ds' rs' apps' cs') answer old new → Stands began o (h ++ entry_with seat request given ∷ []) limit ds' rs' apps' cs' →
-        Keeping (run (opened_over began o) h) (entry_with seat request given) (run (opened_over began o) (h ++ entry_with seat request given ∷ [])) old new
-    keeping_run k s = subst (λ (t : State). Keeping (run (opened_over began o) h) (entry_with seat request given) t old new) (sym s.state_is)
-        (subst (λ (t : State). Keeping t (entry_with seat request given) (state_of began o ds' rs' apps' cs') old new) (sym p.state_is) k.keeping)
+    pub keeping_run : Comes at seat request given next answer old new → Keeping at (entry_with seat request given) (run (opened_over began o) (h ++ entry_with seat request given ∷ [])) old new
+    keeping_run k = subst (λ (t : State). Keeping at (entry_with seat request given) t old new) (sym (next-is k)) k.keeping
 
 -- ---- a tree that began so goes by another name
 
-pub stands_over : (began began' : Option (List File)) (o : OpeningState) (h : List Entry) (limit : ℕ) (ds : DocumentList) (rs : List Triple) (apps : List (List ℕ)) (cs : List Connection) (told : Option Records) → began' ≡ began → Stands began o h limit ds rs apps cs → KeepsState told (state_of began o ds rs apps cs) →
-    Stands began' o h limit ds rs apps cs × KeepsState told (state_of began' o ds rs apps cs)
-stands_over began began' o h limit ds rs apps cs told e s k = (
-  subst (λ (b : Option (List File)). Stands b o h limit ds rs apps cs) (sym e) s,
-  subst (λ (b : Option (List File)). KeepsState told (state_of b o ds rs apps cs)) (sym e) k,
+pub stands_over : (began began' : Option (List File)) (o : OpeningState) (h : List Entry) (limit : ℕ) (ds : DocumentList) (rs : List Triple) (apps : List (List ℕ)) (cs : List Connection) (table : HandleTable) (files files' : Option (List File)) (told : Option Records) → began' ≡ began → files' ≡ files → Stands began o h limit ds rs apps cs table files → KeepsState told (run (opened_over began o) h) →
+    Stands began' o h limit ds rs apps cs table files' × KeepsState told (run (opened_over began' o) h)
+stands_over began began' o h limit ds rs apps cs table files files' told e f s k = (
+  subst (λ (b : Option (List File)). Stands b o h limit ds rs apps cs table files') (sym e) (subst (λ (x : Option (List File)). Stands began o h limit ds rs apps cs table x) (sym f) s),
+  subst (λ (b : Option (List File)). KeepsState told (run (opened_over b o) h)) (sym e) k,
 )
 
 pub keeping_over : (began began' : Option (List File)) (o : OpeningState) (h : List Entry) (s : State) (e : Entry) (old new : KeeperIs) → began' ≡ began → Keeping s e (run (opened_over began o) h) old new → Keeping s e (run (opened_over began' o) h) old new

@@ -7,10 +7,12 @@ pub mod KeptRights
 pub mod GoodRecords
 pub mod FreshItems
 pub mod Beginning
-pub mod Looks
+pub mod OpenSteps
 pub mod Steps
+pub mod NodeSteps
 pub mod SameRecords
 pub mod CallVerdicts
+pub mod BusCalls
 pub mod AskedCalls
 pub mod DrawnWords
 pub mod AddVerdicts
@@ -18,7 +20,6 @@ pub mod SettledCalls
 pub mod CallSteps
 pub mod ServedLists
 pub mod WentDevices
-pub mod NodeFailures
 pub mod SeatQueues
 pub mod AddedFiles
 pub mod Desks

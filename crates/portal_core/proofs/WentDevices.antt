@@ -1,7 +1,8 @@
 -- What the devices of a portal went through in an entry.
 use Rattle.std.proofs.Common.{◌≡◌, ◌≢◌, ℕ, List, [], ◌∷◌, ◌++◌, length, Bool, true, false, Option, Some, None, refl, sym, ap, subst, ◌∙◌, inl}
 use Rattle.host_tree.specs.Trees.{TreeIs}
-use Rattle.portal_base.specs.declared.files.Look.{Look}
+use Rattle.file_ops.specs.Done.{Reads}
+use Rattle.portal_base.specs.declared.files.File.{File}
 use Rattle.portal_model.specs.declared.entry.Entry.{Entry}
 use Rattle.portal_model.specs.declared.entry.Fault.{Fault}
 use Rattle.portal_model.specs.declared.entry.Given.{Given}
@@ -17,11 +18,12 @@ use Rattle.portal_core.specs.Answered.{Spends, Went}
 use Rattle.add_calls.specs.Placing.{Drew, HasDrawn}
 use Rattle.add_calls.specs.Shown.{Asked}
 use Rattle.add_serving.specs.Adds.{WasAsked}
-use Rattle.portal_core.specs.Devices.{Drawn, Keeping, KeeperWentOn, may_change_records, may_draw}
-use Rattle.portal_core.proofs.AskedCalls.{calling-asked}
+use Rattle.portal_core.specs.Devices.{Drawn, Keeping, KeeperWentOn, may_ask_tree, may_change_records, may_draw}
+use Rattle.portal_core.proofs.AskedCalls.{asked-calling, asked-keeps, was-asked-called}
+use Rattle.portal_core.proofs.BusCalls.{listed}
 use Rattle.portal_core.proofs.DrawnWords.{drawn-drew}
 use Rattle.portal_core.specs.Story.{PortalIs, state_now}
-use Rattle.portal_core.specs.TreeCalls.{Calling, CallsAsTold, after_fault, after_looks}
+use Rattle.portal_core.specs.TreeCalls.{Calling, WasCalled, entry_calls}
 
 -- ---- requests that are none on documents
 
@@ -49,32 +51,28 @@ still-on s e after k (Some c) h = record {
 drawn-none : (told : Option (List ℕ)) (words : List ℕ) → words ≡ [] → Drawn told words told
 drawn-none told words e = subst (λ (ws : List ℕ). Drawn told ws told) (sym e) refl
 
--- ---- the tree isn't asked
+-- ---- the tree and the clock aren't asked
 
-unfaulted : (t : TreeIs) (fault : Fault) → is_tree fault ≡ false → t ≡ after_fault t fault
-unfaulted t Fault.None h = refl
-unfaulted t Fault.Tree h = cc
-unfaulted t Fault.Keeper h = refl
+pub calling-none : (t : TreeIs) → Calling t [] t.told t
+calling-none t = record { goes = refl; fails = tt }
 
-no-calls : (t : TreeIs) (fault : Fault) → is_tree fault ≡ false → CallsAsTold t.calls [] fault
-no-calls t Fault.None h = tt
-no-calls t Fault.Tree h = absurd (cc)
-no-calls t Fault.Keeper h = tt
+reads-none : {C : Type 0} (told : C → Option ℕ) (old : C) (moment : Option ℕ) (new : C) → moment ≡ None → new ≡ old → Reads told old moment new
+reads-none told old None new e k = k
+reads-none told old (Some now) new e k = absurd (cc)
 
-pub calling-none : (t : TreeIs) (given : Given) → given.looks ≡ [] → is_tree given.fault ≡ false → Calling t given t
-calling-none t given l f = record {
-  goes = unfaulted t given.fault f ∙ ap (λ (ls : List Look). after_fault (after_looks t ls) given.fault) (sym l);
-  fails = subst (λ (ls : List Look). CallsAsTold t.calls ls given.fault) (sym l) (no-calls t given.fault f);
-}
-
-module _ {T K C W : Type 0} (tree_is : T → TreeIs) (keeper_is : K → KeeperIs) (words_told : W → Option (List ℕ)) (old new : PortalIs T K C W) (e : Entry) where
+module _ {T K C W : Type 0} (tree_is : T → TreeIs) (keeper_is : K → KeeperIs) (clock_told : C → Option ℕ) (words_told : W → Option (List ℕ)) (old new : PortalIs T K C W) (e : Entry) where
   -- by an entry, and nothing else
   story-grown : new.story.began ≡ old.story.began → new.story.opening ≡ old.story.opening → new.story.history ≡ old.story.history ++ e ∷ [] → new.story ≡ record old.story { history = old.story.history ++ e ∷ [] }
   story-grown b o h = λ i. record { began = b i; opening = o i; history = h i }
 
-  pub went-plain : new.story.began ≡ old.story.began → new.story.opening ≡ old.story.opening → new.story.history ≡ old.story.history ++ e ∷ [] → is_plain e.request ≡ true → Calling (tree_is old.tree) e.given (tree_is new.tree) → e.given.fault ≢ Fault.Keeper → e.given.words ≡ [] → new.keeper ≡ old.keeper → new.clock ≡ old.clock → new.words ≡ old.words →
-      Went tree_is keeper_is words_told old e new
-  went-plain b o h plain calling fault drawn k c w = record {
+  still-called : entry_calls (state_now old.story) e ≡ [] → new.tree ≡ old.tree → Calling (tree_is old.tree) (entry_calls (state_now old.story) e) (tree_is new.tree).told (tree_is new.tree)
+  still-called none t = subst (λ (calls : List Bool). Calling (tree_is old.tree) calls (tree_is new.tree).told (tree_is new.tree)) (sym none)
+      (subst (λ (x : T). Calling (tree_is old.tree) [] (tree_is x).told (tree_is x)) (sym t) (calling-none (tree_is old.tree)))
+
+  -- a request on a node
+  pub went-node : new.story.began ≡ old.story.began → new.story.opening ≡ old.story.opening → new.story.history ≡ old.story.history ++ e ∷ [] → is_plain e.request ≡ true → Calling (tree_is old.tree) (entry_calls (state_now old.story) e) (tree_is new.tree).told (tree_is new.tree) → e.given.fault ≢ Fault.Keeper → e.given.words ≡ [] → new.keeper ≡ old.keeper →
+      Reads clock_told old.clock e.given.now new.clock → new.words ≡ old.words → Went tree_is keeper_is clock_told words_told old e new
+  went-node b o h plain calling fault drawn k c w = record {
     grown = story-grown b o h;
     tree = calling;
     keeper = subst (λ (x : K). Keeping (state_now old.story) e (state_now new.story) (keeper_is old.keeper) (keeper_is x)) (sym k)
@@ -85,63 +83,78 @@ module _ {T K C W : Type 0} (tree_is : T → TreeIs) (keeper_is : K → KeeperIs
     undrawn = λ _. w;
   }
 
+  -- an Enter, a Leave or a Collect
+  pub went-plain : new.story.began ≡ old.story.began → new.story.opening ≡ old.story.opening → new.story.history ≡ old.story.history ++ e ∷ [] → is_plain e.request ≡ true → entry_calls (state_now old.story) e ≡ [] → new.tree ≡ old.tree → e.given.fault ≢ Fault.Keeper → e.given.words ≡ [] → new.keeper ≡ old.keeper → e.given.now ≡ None → new.clock ≡ old.clock → new.words ≡ old.words →
+      Went tree_is keeper_is clock_told words_told old e new
+  went-plain b o h plain none t fault drawn k moment c w = went-node b o h plain (still-called none t) fault drawn k (reads-none clock_told old.clock e.given.now new.clock moment c) w
+
   -- a request on documents but Add
-  pub went-call : new.story.began ≡ old.story.began → new.story.opening ≡ old.story.opening → new.story.history ≡ old.story.history ++ e ∷ [] → new.tree ≡ old.tree → e.given.looks ≡ [] → is_tree e.given.fault ≡ false → Keeping (state_now old.story) e (state_now new.story) (keeper_is old.keeper) (keeper_is new.keeper) → new.clock ≡ old.clock →
-      e.given.words ≡ [] → new.words ≡ old.words → (may_change_records e.request ≡ false → (e.given.fault ≢ Fault.Keeper) × (new.keeper ≡ old.keeper)) → Went tree_is keeper_is words_told old e new
-  went-call b o h t looks fault keeping c drawn w unkept = record {
+  pub went-call : new.story.began ≡ old.story.began → new.story.opening ≡ old.story.opening → new.story.history ≡ old.story.history ++ e ∷ [] → new.tree ≡ old.tree → entry_calls (state_now old.story) e ≡ [] → Keeping (state_now old.story) e (state_now new.story) (keeper_is old.keeper) (keeper_is new.keeper) → e.given.now ≡ None → new.clock ≡ old.clock →
+      e.given.words ≡ [] → new.words ≡ old.words → (may_change_records e.request ≡ false → (e.given.fault ≢ Fault.Keeper) × (new.keeper ≡ old.keeper)) → Went tree_is keeper_is clock_told words_told old e new
+  went-call b o h t none keeping moment c drawn w unkept = record {
     grown = story-grown b o h;
-    tree = subst (λ (x : T). Calling (tree_is old.tree) e.given (tree_is x)) (sym t) (calling-none (tree_is old.tree) e.given looks fault);
+    tree = still-called none t;
     keeper = keeping;
-    clock = c;
+    clock = reads-none clock_told old.clock e.given.now new.clock moment c;
     words = subst (λ (x : W). Drawn (words_told old.words) e.given.words (words_told x)) (sym w) (drawn-none (words_told old.words) e.given.words drawn);
     unkept = unkept;
     undrawn = λ _. w;
   }
 
   -- an Add
-  pub went-add : new.story.began ≡ old.story.began → new.story.opening ≡ old.story.opening → new.story.history ≡ old.story.history ++ e ∷ [] → may_draw e.request ≡ true → may_change_records e.request ≡ true → Asked (tree_is old.tree) (length e.given.looks) (is_tree e.given.fault) (tree_is new.tree) →
-      Keeping (state_now old.story) e (state_now new.story) (keeper_is old.keeper) (keeper_is new.keeper) → new.clock ≡ old.clock → Drew (words_told old.words) e.given.words (words_told new.words) → Went tree_is keeper_is words_told old e new
-  went-add b o h draws changes asked keeping c drew = record {
+  pub went-add : new.story.began ≡ old.story.began → new.story.opening ≡ old.story.opening → new.story.history ≡ old.story.history ++ e ∷ [] → may_draw e.request ≡ true → may_change_records e.request ≡ true → entry_calls (state_now old.story) e ≡ listed (length e.given.looks) (is_tree e.given.fault) → Asked (tree_is old.tree) (length e.given.looks) (is_tree e.given.fault) (tree_is new.tree) →
+      Keeping (state_now old.story) e (state_now new.story) (keeper_is old.keeper) (keeper_is new.keeper) → e.given.now ≡ None → new.clock ≡ old.clock → Drew (words_told old.words) e.given.words (words_told new.words) → Went tree_is keeper_is clock_told words_told old e new
+  went-add b o h draws changes calls asked keeping moment c drew = record {
     grown = story-grown b o h;
-    tree = calling-asked (tree_is old.tree) e.given (tree_is new.tree) asked;
+    tree = subst (λ (l : List Bool). Calling (tree_is old.tree) l (tree_is new.tree).told (tree_is new.tree)) (sym calls)
+        (subst (λ (files : Option (List File)). Calling (tree_is old.tree) (listed (length e.given.looks) (is_tree e.given.fault)) files (tree_is new.tree)) (sym (asked-keeps (length e.given.looks) (is_tree e.given.fault) (tree_is old.tree) (tree_is new.tree) asked).1)
+        (asked-calling (length e.given.looks) (is_tree e.given.fault) (tree_is old.tree) (tree_is new.tree) asked));
     keeper = keeping;
-    clock = c;
+    clock = reads-none clock_told old.clock e.given.now new.clock moment c;
     words = drawn-drew e.given.words (words_told old.words) (words_told new.words) drew;
     unkept = λ f. let no : true ≡ false = sym changes ∙ f in absurd (cc);
     undrawn = λ f. let no : true ≡ false = sym draws ∙ f in absurd (cc);
   }
 
--- a refusal that changes nothing
-pub spends-nothing : {T K C W : Type 0} (tree_is : T → TreeIs) (keeper_is : K → KeeperIs) (words_told : W → Option (List ℕ)) (old : PortalIs T K C W) (request : Request) (new : PortalIs T K C W) → new ≡ old → Spends tree_is keeper_is words_told old request new
-spends-nothing {T = T} {K = K} {C = C} {W = W} tree_is keeper_is words_told old request new e = record {
-  tree = (0, ap (λ (p : PortalIs T K C W). tree_is p.tree) e);
-  keeper = inl (ap (λ (p : PortalIs T K C W). keeper_is p.keeper) e);
-  clock = ap (λ (p : PortalIs T K C W). p.clock) e;
-  words = ([], ap (λ (p : PortalIs T K C W). words_told p.words) e);
-  story = ap (λ (p : PortalIs T K C W). p.story) e;
-  unspent = λ _. (ap (λ (p : PortalIs T K C W). p.tree) e, ap (λ (p : PortalIs T K C W). p.words) e);
-}
+module _ {T K C W : Type 0} (tree_is : T → TreeIs) (keeper_is : K → KeeperIs) (clock_told : C → Option ℕ) (words_told : W → Option (List ℕ)) (old : PortalIs T K C W) (request : Request) (new : PortalIs T K C W) where
+  -- a refusal for which nothing but the keeper was asked
+  pub spends-keeper : new.tree ≡ old.tree → KeeperStays (keeper_is old.keeper) (keeper_is new.keeper) → new.clock ≡ old.clock → new.words ≡ old.words → new.story ≡ old.story → Spends tree_is keeper_is clock_told words_told old request new
+  spends-keeper t k c w s = record {
+    tree = subst (λ (x : T). WasCalled (tree_is old.tree) (tree_is x)) (sym t) (0, calling-none (tree_is old.tree));
+    keeper = k;
+    clock = ap clock_told c;
+    words = ([], ap words_told w);
+    story = s;
+    unasked = λ _. (t, c);
+    undrawn = λ _. w;
+  }
 
--- nor is anything but the keeper asked
-pub spends-keeper : {T K C W : Type 0} (tree_is : T → TreeIs) (keeper_is : K → KeeperIs) (words_told : W → Option (List ℕ)) (old : PortalIs T K C W) (request : Request) (new : PortalIs T K C W) → new.tree ≡ old.tree → KeeperStays (keeper_is old.keeper) (keeper_is new.keeper) → new.clock ≡ old.clock → new.words ≡ old.words → new.story ≡ old.story →
-    Spends tree_is keeper_is words_told old request new
-spends-keeper {T = T} {W = W} tree_is keeper_is words_told old request new t k c w s = record {
-  tree = (0, ap tree_is t);
-  keeper = k;
-  clock = c;
-  words = ([], ap words_told w);
-  story = s;
-  unspent = λ _. (t, w);
-}
+  -- one that changes nothing
+  pub spends-nothing : new ≡ old → Spends tree_is keeper_is clock_told words_told old request new
+  spends-nothing e = spends-keeper (ap (λ (p : PortalIs T K C W). p.tree) e) (inl (ap (λ (p : PortalIs T K C W). keeper_is p.keeper) e)) (ap (λ (p : PortalIs T K C W). p.clock) e) (ap (λ (p : PortalIs T K C W). p.words) e) (ap (λ (p : PortalIs T K C W). p.story) e)
 
--- or that of an Add, which may have asked each device
-pub spends-add : {T K C W : Type 0} (tree_is : T → TreeIs) (keeper_is : K → KeeperIs) (words_told : W → Option (List ℕ)) (old : PortalIs T K C W) (request : Request) (new : PortalIs T K C W) → may_draw request ≡ true → WasAsked (tree_is old.tree) (tree_is new.tree) → KeeperStays (keeper_is old.keeper) (keeper_is new.keeper) → new.clock ≡ old.clock →
-    HasDrawn (words_told old.words) (words_told new.words) → new.story.began ≡ old.story.began → new.story.opening ≡ old.story.opening → new.story.history ≡ old.story.history → Spends tree_is keeper_is words_told old request new
-spends-add tree_is keeper_is words_told old request new draws t k c w b o h = record {
-  tree = t;
-  keeper = k;
-  clock = c;
-  words = w;
-  story = λ i. record { began = b i; opening = o i; history = h i };
-  unspent = λ f. let no : true ≡ false = sym draws ∙ f in absurd (cc);
-}
+  -- that of an Add, which may have asked each device but the clock
+  pub spends-add : may_draw request ≡ true → may_ask_tree request ≡ true → WasAsked (tree_is old.tree) (tree_is new.tree) → KeeperStays (keeper_is old.keeper) (keeper_is new.keeper) → new.clock ≡ old.clock →
+      HasDrawn (words_told old.words) (words_told new.words) → new.story.began ≡ old.story.began → new.story.opening ≡ old.story.opening → new.story.history ≡ old.story.history → Spends tree_is keeper_is clock_told words_told old request new
+  spends-add draws asks t k c w b o h = record {
+    tree = was-asked-called (tree_is old.tree) (tree_is new.tree) t;
+    keeper = k;
+    clock = ap clock_told c;
+    words = w;
+    story = λ i. record { began = b i; opening = o i; history = h i };
+    unasked = λ f. let no : true ≡ false = sym asks ∙ f in absurd (cc);
+    undrawn = λ f. let no : true ≡ false = sym draws ∙ f in absurd (cc);
+  }
+
+  -- that of a request on a node, which may have asked the tree and the clock
+  pub spends-node : may_ask_tree request ≡ true → WasCalled (tree_is old.tree) (tree_is new.tree) → new.keeper ≡ old.keeper → clock_told new.clock ≡ clock_told old.clock → new.words ≡ old.words → new.story.began ≡ old.story.began → new.story.opening ≡ old.story.opening → new.story.history ≡ old.story.history →
+      Spends tree_is keeper_is clock_told words_told old request new
+  spends-node asks t k c w b o h = record {
+    tree = t;
+    keeper = inl (ap keeper_is k);
+    clock = c;
+    words = ([], ap words_told w);
+    story = λ i. record { began = b i; opening = o i; history = h i };
+    unasked = λ f. let no : true ≡ false = sym asks ∙ f in absurd (cc);
+    undrawn = λ _. w;
+  }

@@ -1,5 +1,5 @@
 -- The keeper and the words beside the tree: what an entry asked of them.
-use Rattle.std.specs.Prelude.{◌≡◌, ◌⊎◌, ℕ, List, [], ◌∷◌, Bool, true, false, Option, Some, None}
+use Rattle.std.specs.Prelude.{◌≡◌, ◌⊎◌, ℕ, List, [], ◌∷◌, Bool, true, false, ◌||◌, Option, Some, None}
 use Rattle.portal_base.specs.Outside.{Draws, HasRisen}
 use Rattle.host_tree.specs.Trees.{TreeIs}
 use Rattle.portal_model.specs.declared.entry.Entry.{Entry}
@@ -63,6 +63,27 @@ abbrev pub Drawn : Option (List ℕ) → List ℕ → Option (List ℕ) → Type
 Drawn old [] new = new ≡ old
 Drawn old (word ∷ words) new =
     (between : Option (List ℕ)) × Draws old word between × Drawn between words new
+
+-- ---- the tree and the clock
+
+-- the requests that may ask the tree; of these alone the clock may be read
+abbrev pub may_ask_tree : Request → Bool
+may_ask_tree (Request.Add a) = true
+may_ask_tree (Request.Node r) = true
+may_ask_tree (Request.Enter who kind) = false
+may_ask_tree Request.Leave = false
+may_ask_tree Request.Collect = false
+may_ask_tree (Request.Present path) = false
+may_ask_tree (Request.Grant call) = false
+may_ask_tree (Request.Revoke call) = false
+may_ask_tree (Request.DeleteDocument doc) = false
+may_ask_tree (Request.LookupDocument path) = false
+may_ask_tree (Request.Info doc) = false
+may_ask_tree (Request.ListDocuments app) = false
+
+-- the requests that may ask a device: a refusal of any other leaves all as it was
+abbrev pub may_ask : Request → Bool
+may_ask request = may_change_records request || may_ask_tree request
 
 -- ---- faults
 

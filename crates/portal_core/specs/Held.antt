@@ -1,7 +1,10 @@
 -- What the portal's lists are, beside its history and its devices.
 use Rattle.std.specs.Prelude.{◌≡◌, ◌≤◌, ℕ, List, Option, Some, None, cond}
 use Rattle.document_records.specs.Documents.{DocumentList}
+use Rattle.file_ops.specs.OpenHandles.{AreOpen}
+use Rattle.open_handles.specs.Opened.{HandleTable}
 use Rattle.portal_base.specs.declared.files.File.{File}
+use Rattle.portal_base.specs.declared.limits.Limits.{Limits}
 use Rattle.portal_model.specs.declared.entry.Entry.{Entry}
 use Rattle.portal_model.specs.declared.opening.OpeningState.{OpeningState}
 use Rattle.portal_model.specs.declared.state.Connection.{Connection}
@@ -9,31 +12,28 @@ use Rattle.portal_model.specs.declared.state.Triple.{Triple}
 use Rattle.portal_model.specs.History.{run, Legal, cost}
 use Rattle.portal_model.specs.Opening.{opened_over}
 use Rattle.portal_model.specs.State.{State}
+use Rattle.portal_core.specs.Documents.{HasLists}
 
 -- the files of a state, where they are told
 abbrev pub told_files : State → Option (List File)
 told_files s = cond s.told (Some s.files) None
 
--- the state over a tree that began so, whose lists are these by now
-abbrev pub state_of : Option (List File) → OpeningState → DocumentList → List Triple
-    → List (List ℕ) → List Connection → State
-state_of began o documents rights applications connections =
-    record (opened_over began o) {
-      documents = documents.live;
-      made = documents.made;
-      rights = rights;
-      applications = applications;
-      connections = connections;
-    }
+-- the state has these limits, these lists, the open handles of the table and the files told
+pub record Holds (s : State) (limits : Limits) (documents : DocumentList) (rights : List Triple)
+    (applications : List (List ℕ)) (connections : List Connection) (table : HandleTable)
+    (told : Option (List File)) : Type 0 where
+  pub limits_are : s.limits ≡ limits
+  pub lists : HasLists s documents rights applications connections
+  pub handles : AreOpen s table
+  pub files : told_files s ≡ told
 
--- the history is legal and within its limit, and the lists are those of the state after it
+-- the history is legal and within its limit, and the state after it holds this
 pub record Stands (began : Option (List File)) (o : OpeningState) (history : List Entry)
     (limit : ℕ) (documents : DocumentList) (rights : List Triple)
-    (applications : List (List ℕ)) (connections : List Connection) : Type 0 where
+    (applications : List (List ℕ)) (connections : List Connection) (table : HandleTable)
+    (told : Option (List File)) : Type 0 where
   pub legal : Legal (opened_over began o) history
-  pub state_is : run (opened_over began o) history
-      ≡ state_of began o documents rights applications connections
   pub limit_is : limit ≡ o.limits.history
   pub within : cost history ≤ o.limits.history
-  pub most_live : documents.most_live ≡ o.limits.documents
-  pub most_made : documents.most_made ≡ o.limits.made
+  pub holds : Holds (run (opened_over began o) history) o.limits documents rights applications
+      connections table told

@@ -7,6 +7,7 @@ pub mod Documents
 pub mod Started
 pub mod Held
 pub mod Growth
+pub mod OpenFiles
 pub mod Chain
 pub mod Lending
 pub mod Borrowing

@@ -1,38 +1,34 @@
--- The calls of the tree that an entry made, told by what the outside gave it: one for each look,
--- none of which failed, and behind them one that failed where the fault is the tree's.
-use Rattle.std.specs.Prelude.{◌≡◌, List, [], ◌∷◌, Bool, true, false, Option, option_map}
-use Rattle.portal_base.specs.Calls.{Calls, next_call, FailsAsTold}
-use Rattle.portal_base.specs.declared.files.Look.{Look}
-use Rattle.host_tree.specs.Trees.{TreeIs, after_call}
-use Rattle.portal_model.specs.declared.entry.Fault.{Fault}
+-- The calls of the tree that an entry made, told by the walk of its request: for each, whether it
+-- failed.
+use Rattle.std.specs.Prelude.{ℕ, List, [], Bool, Option, Some, None}
+use Rattle.node_serving.specs.Seats.{seat_calls}
+use Rattle.portal_model.specs.declared.entry.Entry.{Entry}
 use Rattle.portal_model.specs.declared.entry.Given.{Given}
+use Rattle.portal_model.specs.declared.request.Request.{Request}
+use Rattle.portal_model.specs.declared.state.Connection.{Connection}
+use Rattle.portal_model.specs.Bus.{bus_walk, is_tree}
+use Rattle.portal_model.specs.State.{State, connection_of}
+use Rattle.portal_model.specs.Step.{all_told, bus_of}
+use Rattle.file_ops.specs.TreeCalls.{calls_of}
+pub use Rattle.file_ops.specs.TreeCalls.{Calling, CallsAsTold, WasCalled}
 
--- the tree after a call that changed nothing
-abbrev pub after_one : TreeIs → Bool → TreeIs
-after_one tree failed = after_call tree failed tree.told
+-- those of a request on documents, in the state in which the connection was told what it waited for
+abbrev pub bus_calls : State → Request → Given → Option Connection → List Bool
+bus_calls s request given None = []
+bus_calls s request given (Some c) =
+    calls_of (bus_walk (all_told c.seat s) c request given.numbers) given.looks
+    (is_tree given.fault)
 
-abbrev pub after_looks : TreeIs → List Look → TreeIs
-after_looks tree [] = tree
-after_looks tree (look ∷ looks) = after_looks (after_one tree false) looks
+abbrev pub document_calls : State → ℕ → Request → Given → List Bool
+document_calls s seat request given =
+    bus_calls s request given (bus_of (connection_of s.connections seat))
 
-abbrev pub after_fault : TreeIs → Fault → TreeIs
-after_fault tree Fault.None = tree
-after_fault tree Fault.Tree = after_one tree true
-after_fault tree Fault.Keeper = tree
+abbrev pub request_calls : State → ℕ → Request → Given → List Bool
+request_calls s seat (Request.Enter who kind) given = []
+request_calls s seat Request.Leave given = []
+request_calls s seat Request.Collect given = []
+request_calls s seat (Request.Node r) given = seat_calls s seat r given
+request_calls s seat request given = document_calls s seat request given
 
--- what the tree is after an entry to which this was given
-abbrev pub tree_after : TreeIs → Given → TreeIs
-tree_after tree given = after_fault (after_looks tree given.looks) given.fault
-
--- where calls are told: no call that showed a look was to fail, and one that failed was
-abbrev pub CallsAsTold : Option Calls → List Look → Fault → Type 0
-CallsAsTold calls [] Fault.None = Unit {0}
-CallsAsTold calls [] Fault.Tree = FailsAsTold calls true
-CallsAsTold calls [] Fault.Keeper = Unit {0}
-CallsAsTold calls (look ∷ looks) fault =
-    FailsAsTold calls false × CallsAsTold (option_map next_call calls) looks fault
-
--- just these calls were made, and each failed exactly where the tree tells that it does
-pub record Calling (old : TreeIs) (given : Given) (new : TreeIs) : Type 0 where
-  pub goes : new ≡ tree_after old given
-  pub fails : CallsAsTold old.calls given.looks given.fault
+abbrev pub entry_calls : State → Entry → List Bool
+entry_calls s e = request_calls s e.seat e.request e.given

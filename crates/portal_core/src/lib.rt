@@ -5,11 +5,11 @@
 //! the end of one legal history which grows by this one entry; that just the calls
 //! of its devices were made that the step reaches, and the keeper's records are
 //! those that stand for the state; that a refusal changes nothing but how often the
-//! tree and the keeper were asked and which words come next; and that the Leave of
-//! an open connection is never refused. It is asked nothing but what has a body:
-//! Enter, Leave, Collect, GETATTR and the requests on documents. It starts exactly
-//! where the records are good, and else says what is wrong and hands the devices
-//! back.
+//! tree and the keeper were asked, whether the clock was read, and which words come
+//! next; and that the Leave of an open connection is never refused. An OPEN goes by the
+//! rights of its moment, and what goes by the number of a handle by the handle that was
+//! opened by that number. It starts exactly where the records are good, and else says
+//! what is wrong and hands the devices back.
 //!
 //! | Room | Holds |
 //! |---|---|
@@ -18,8 +18,8 @@
 //! | `storied` | [`storied::Storied`]: what anything that keeps a history promises |
 //! | `local_desk` | [`local_desk::LocalDesk`]: the desk of one seat, on one thread |
 //! | `opening` | the lists that an opening state begins with |
-//! | `lists`, `place` | what is looked up among connections and documents |
-//! | `attributes` | GETATTR |
+//! | `lists` | what is looked up among connections |
+//! | `seats` | the connections of seats, each with its open handles |
 //! | `documents` | the requests on documents that neither ask the tree nor draw a word |
 //! | `additions` | Add |
 //!
@@ -30,12 +30,11 @@
 #![tactic(auto)]
 
 mod additions;
-mod attributes;
 mod documents;
 mod lists;
 pub mod local_desk;
 mod opening;
-mod place;
 pub mod portal;
+mod seats;
 pub mod start;
 pub mod storied;

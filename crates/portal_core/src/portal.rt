@@ -1,29 +1,32 @@
 //! The portal.
 
-ghost use Rattle.std.specs.Prelude.{◌≡◌, ◌<◌, ◌≤◌, ◌^◌, [], ◌∷◌, length, false, true, IfErr, IfOk, IsOk, OnErr, OnOk, Some, None, option_copied};
-ghost use Rattle.portal_desk.specs.Built.{Built, BuiltOp};
+ghost use Rattle.std.specs.Prelude.{◌≡◌, ◌<◌, ◌≤◌, ◌^◌, [], length, false, true, IfErr, IfOk, IsOk, OnErr, OnOk, Some, None, option_copied};
 ghost use Rattle.portal_model.specs.History.{Legal, cost};
 ghost use Rattle.portal_model.specs.Enter.{new_connection};
 ghost use Rattle.portal_model.specs.Seated.{is_open};
-ghost use Rattle.portal_model.specs.State.{connection_of as open_connection};
-ghost use Rattle.portal_model.specs.Step.{mount_of as open_mount, reply_with};
+ghost use Rattle.portal_model.specs.Step.{reply_with};
 ghost use Rattle.portal_model.specs.Valid.{Valid, is_caller};
 ghost use Rattle.portal_core.specs.Answered.{Answers, KeepsState, Spends, TellsFault};
-ghost use Rattle.portal_core.specs.Devices.{TellsFailure, may_change_records};
+ghost use Rattle.portal_core.specs.Devices.{TellsFailure, may_ask, may_change_records};
 ghost use Rattle.portal_core.specs.Documents.{is_document_call};
 ghost use Rattle.portal_core.specs.Held.{told_files};
-ghost use Rattle.portal_core.specs.Served.{NodeServed, collect_answer as answer_of_bus, entry_of, fault_of, taken};
+ghost use Rattle.portal_core.specs.OpenFiles.{GoesByHandles, OpensByRights};
+ghost use Rattle.portal_core.specs.Served.{collect_answer as answer_of_bus, entry_of, node_entry};
 ghost use Rattle.portal_core.specs.Started.{HandsBack, Starts};
 ghost use Rattle.portal_core.specs.Story.{HasCause, cost_with, limit_of, state_first, state_now};
 
 use crate::additions::serve_add;
-use crate::attributes::{NodeDone, get_attr};
-use crate::documents;
-use crate::lists::{bus_of, connection_of, mount_of, of_others};
+use crate::lists::{bus_of, connection_of, of_others};
 use crate::start::{Lists, StartRefusal, load};
+use crate::{documents, seats};
+use app_view::ViewBook;
 use document_calls::ServedCall;
 use document_records::{Applications, Documents, Grants};
-use host_tree::{HostTree, LookAnswer};
+use file_laws::laws::{no_open_after_a_revocation, older_handles_keep_their_rights};
+use file_ops::{FileBook, NodeDone};
+use host_tree::HostTree;
+use inode_table::InodeTable;
+use open_handles::Handles;
 use portal_base::files::Look;
 use portal_base::limits::Limits;
 use portal_base::list::List;
@@ -34,7 +37,7 @@ use portal_history::{History, cost_of};
 use portal_model::entry::{Entry, Fault, Given};
 use portal_model::opening::OpeningState;
 use portal_model::reply::{Answer, Code, Refused, Reply};
-use portal_model::request::{AddRequest, NodeOp, NodeRequest, Request};
+use portal_model::request::{AddRequest, NodeRequest, Request};
 use portal_model::state::Connection;
 use record_keeper::Keeper;
 use std::alloc::Global;
@@ -58,13 +61,17 @@ pub struct Portal<T: HostTree, K: Keeper, C: Clock, W: Words> {
     rights: Grants,
     applications: Applications,
     connections: List<Connection>,
+    handles: Handles,
+    counts: InodeTable,
     history: History,
 }
 
 impl<T: HostTree, K: Keeper, C: Clock, W: Words> Model for Portal<T, K, C, W> {
     ghost use Rattle.std.specs.Prelude.{◌≡◌, ◌≤◌, length};
     ghost use Rattle.portal_core.specs.Answered.{KeepsState};
-    ghost use Rattle.portal_core.specs.Held.{Stands, state_of};
+    ghost use Rattle.portal_core.specs.Held.{Stands};
+    ghost use Rattle.portal_model.specs.History.{run};
+    ghost use Rattle.portal_model.specs.Opening.{opened_over};
     ghost use Rattle.portal_core.specs.Story.{PortalIs};
 
     ghost Value = { PortalIs T K C W };
@@ -83,12 +90,10 @@ impl<T: HostTree, K: Keeper, C: Clock, W: Words> Model for Portal<T, K, C, W> {
 
     // Room is kept for a Leave of each open connection.
     ghost invariant = { λ p. Stands (T.is p.tree).began p.opening p.history.entries p.history.limit
-        p.documents p.rights p.applications p.connections
+        p.documents p.rights p.applications p.connections p.handles (T.is p.tree).told
         × (length p.connections ≤ p.history.spare)
-        × ((T.is p.tree).told ≡ (T.is p.tree).began)
         × KeepsState (K.is p.keeper).told
-        (state_of (T.is p.tree).began p.opening p.documents p.rights p.applications
-        p.connections) };
+        (run (opened_over (T.is p.tree).began p.opening) p.history.entries) };
 }
 
 impl<T: HostTree, K: Keeper, C: Clock, W: Words> Portal<T, K, C, W> {
@@ -132,6 +137,8 @@ impl<T: HostTree, K: Keeper, C: Clock, W: Words> Portal<T, K, C, W> {
                 rights,
                 applications,
                 connections: List::new(alloc),
+                handles: Handles::new(alloc, &limits),
+                counts: InodeTable::new(alloc),
                 history: History::new(alloc, &limits),
             }),
             Err(error) => Err(StartRefusal {
@@ -162,7 +169,9 @@ impl<T: HostTree, K: Keeper, C: Clock, W: Words> Portal<T, K, C, W> {
 
     /// What is true of every portal: its history is legal, within its limit
     /// and countable, its state is valid, and its devices tell the files and
-    /// the records of that state, where they tell.
+    /// the records of that state, where they tell. An OPEN that was done had
+    /// each right that was taken before given again, and what goes by the
+    /// number of a handle meets the handle that was opened by that number.
     pub fn known(&self)
         ensures legal { Legal (state_first self.now.story) self.now.story.history }
         ensures valid { Valid (state_now self.now.story) }
@@ -170,39 +179,40 @@ impl<T: HostTree, K: Keeper, C: Clock, W: Words> Portal<T, K, C, W> {
         ensures short { length self.now.story.history < 2 ^ 64 }
         ensures told { (T.is self.now.tree).told ≡ told_files (state_now self.now.story) }
         ensures kept { KeepsState (K.is self.now.keeper).told (state_now self.now.story) }
+        ensures opens { OpensByRights self.now.story }
+        ensures handles { GoesByHandles self.now.story }
     {
         let _ = self.history.len();
+        no_open_after_a_revocation();
+        older_handles_keep_their_rights();
     }
 
-    /// Answers a request of a seat, which is a number from 1. The request is
-    /// one of those that have a body: an Enter, a Leave, a Collect, a request
-    /// on documents, or a GETATTR by a handle, or of a document's file in the
-    /// caller's own view.
+    /// Answers a request of a seat, which is a number from 1.
     ///
     /// The reply is that of one step of the sequential portal, from the state
-    /// after the history, which grows by this request. Just the calls of the
-    /// tree that the step reaches are made, words are drawn just for new
-    /// documents, and the keeper is asked once where the step changes the
-    /// records; EIO and Failed come only where such a call failed. A refusal
-    /// leaves the portal as it was; one of a request that may change the
-    /// records may have asked the keeper in vain, and one of an Add may have
-    /// asked the tree too, and drawn words. `Full` comes exactly where the
+    /// after the history, which grows by this request; over a tree that doesn't
+    /// tell its files it is alike to that. Just the calls of the tree that the
+    /// step reaches are made, the clock is read where it changes or makes a file,
+    /// words are drawn just for new documents, and the keeper is asked once where
+    /// the step changes the records; EIO and Failed come only where such a call
+    /// failed. A refusal leaves the portal as it was; one of a request that may
+    /// change the records may have asked the keeper in vain, one of an Add or on
+    /// a node may have asked the tree, an Add may have drawn words, and on a node
+    /// the clock may have been read. `Full` comes exactly where the
     /// history with this request would cost more than its limit; want of memory
     /// may come at any other request, but not at the Leave of an open
     /// connection, which is never refused.
     pub fn ask(&mut self, alloc: Global, seat: u32, request: Request) -> Result<Reply, Refused>
-        requires seat { 1 ≤ seat }
-        requires built { Built request }
+        requires { 1 ≤ seat }
 
         ensures began { self.new.story.began ≡ self.old.story.began }
         ensures opening { self.new.story.opening ≡ self.old.story.opening }
-        ensures ok { IfOk result (Answers T.is K.is W.told self.old self.new seat request) }
+        ensures ok { IfOk result (Answers T.is K.is C.told W.told self.old self.new seat request) }
         ensures fault { IfOk result (TellsFault (T.is self.old.tree) (T.is self.new.tree)) }
         ensures failure { IfOk result (TellsFailure (T.is self.old.tree) (T.is self.new.tree)
             (K.is self.old.keeper) (K.is self.new.keeper)) }
-        ensures err { OnErr result (Spends T.is K.is W.told self.old request self.new) }
-        ensures unasked { may_change_records request ≡ false
-            → OnErr result (self.new ≡ self.old) }
+        ensures err { OnErr result (Spends T.is K.is C.told W.told self.old request self.new) }
+        ensures unasked { may_ask request ≡ false → OnErr result (self.new ≡ self.old) }
 
         // Both ways: it is full exactly where the cost would pass the limit. Nothing is asked then.
         ensures full { limit_of self.old.story < cost_with self.old.story request
@@ -223,6 +233,8 @@ impl<T: HostTree, K: Keeper, C: Clock, W: Words> Portal<T, K, C, W> {
         ensures short { length self.new.story.history < 2 ^ 64 }
         ensures told { (T.is self.new.tree).told ≡ told_files (state_now self.new.story) }
         ensures kept { KeepsState (K.is self.new.keeper).told (state_now self.new.story) }
+        ensures opens { OpensByRights self.new.story }
+        ensures handles { GoesByHandles self.new.story }
     {
         let answered = self.answer(alloc, seat, request);
         self.known();
@@ -230,16 +242,14 @@ impl<T: HostTree, K: Keeper, C: Clock, W: Words> Portal<T, K, C, W> {
     }
 
     fn answer(&mut self, alloc: Global, seat: u32, request: Request) -> Result<Reply, Refused>
-        requires { Built request }
         ensures began { self.new.story.began ≡ self.old.story.began }
         ensures opening { self.new.story.opening ≡ self.old.story.opening }
-        ensures ok { IfOk result (Answers T.is K.is W.told self.old self.new seat request) }
+        ensures ok { IfOk result (Answers T.is K.is C.told W.told self.old self.new seat request) }
         ensures fault { IfOk result (TellsFault (T.is self.old.tree) (T.is self.new.tree)) }
         ensures failure { IfOk result (TellsFailure (T.is self.old.tree) (T.is self.new.tree)
             (K.is self.old.keeper) (K.is self.new.keeper)) }
-        ensures err { OnErr result (Spends T.is K.is W.told self.old request self.new) }
-        ensures unasked { may_change_records request ≡ false
-            → OnErr result (self.new ≡ self.old) }
+        ensures err { OnErr result (Spends T.is K.is C.told W.told self.old request self.new) }
+        ensures unasked { may_ask request ≡ false → OnErr result (self.new ≡ self.old) }
         ensures full { limit_of self.old.story < cost_with self.old.story request
             → result
             ≡ Err (Refused.Full (cost self.old.story.history) (limit_of self.old.story)) }
@@ -302,7 +312,7 @@ impl<T: HostTree, K: Keeper, C: Clock, W: Words> Portal<T, K, C, W> {
         ensures began { self.new.story.began ≡ self.old.story.began }
         ensures opening { self.new.story.opening ≡ self.old.story.opening }
         ensures ok { IfOk result
-            (Answers T.is K.is W.told self.old self.new seat (Request.Enter who kind)) }
+            (Answers T.is K.is C.told W.told self.old self.new seat (Request.Enter who kind)) }
         ensures fault { IfOk result (TellsFault (T.is self.old.tree) (T.is self.new.tree)) }
         ensures failure { IfOk result (TellsFailure (T.is self.old.tree) (T.is self.new.tree)
             (K.is self.old.keeper) (K.is self.new.keeper)) }
@@ -322,8 +332,11 @@ impl<T: HostTree, K: Keeper, C: Clock, W: Words> Portal<T, K, C, W> {
             self.history.push(entry);
             return Ok(silent_reply(alloc, Answer::Refused(Code::NotHere)));
         }
-        self.connections
-            .push(opened_connection(alloc, seat, who, kind))?;
+        seats::enter(
+            &mut self.connections,
+            &mut self.handles,
+            opened_connection(alloc, seat, who, kind),
+        )?;
         self.history.push(entry);
         Ok(silent_reply(alloc, Answer::Done))
     }
@@ -334,34 +347,48 @@ impl<T: HostTree, K: Keeper, C: Clock, W: Words> Portal<T, K, C, W> {
         seat: u32,
         request: NodeRequest,
     ) -> Result<Reply, WantOfMemory>
-        requires fits { cost_with self.old.story (Request.Node request)
-            ≤ limit_of self.old.story }
-        requires built { BuiltOp request.node request.op }
+        requires { cost_with self.old.story (Request.Node request) ≤ limit_of self.old.story }
         ensures began { self.new.story.began ≡ self.old.story.began }
         ensures opening { self.new.story.opening ≡ self.old.story.opening }
         ensures ok { IfOk result
-            (Answers T.is K.is W.told self.old self.new seat (Request.Node request)) }
+            (Answers T.is K.is C.told W.told self.old self.new seat (Request.Node request)) }
         ensures fault { IfOk result (TellsFault (T.is self.old.tree) (T.is self.new.tree)) }
         ensures failure { IfOk result (TellsFailure (T.is self.old.tree) (T.is self.new.tree)
             (K.is self.old.keeper) (K.is self.new.keeper)) }
-        ensures err { OnErr result (self.new ≡ self.old) }
+        ensures err { OnErr result
+            (Spends T.is K.is C.told W.told self.old (Request.Node request) self.new) }
     {
-        // All memory is taken before the tree is asked.
-        let room = room_for_look(alloc)?;
         self.history.reserve(self.connections.as_slice().len() + 1)?;
-        let NodeDone { answer, look } = serve(
+        let book = FileBook {
+            view: ViewBook {
+                documents: &self.documents,
+                grants: &self.rights,
+                applications: &self.applications,
+            },
+            file_limit: self.opening.limits.file_bytes,
+        };
+        let served = node_serving::serve(
+            alloc,
+            &book,
+            &mut self.connections,
+            &mut self.handles,
+            &mut self.counts,
             &mut self.tree,
-            &self.documents,
-            &self.rights,
-            self.connections.as_slice(),
+            &mut self.clock,
             seat,
             &request,
         );
-        let fault = fault_shown(look);
-        let looks = looks_made(room, look);
-        let entry = entry_made(alloc, seat, Request::Node(request), looks, fault);
-        self.history.push(entry);
-        Ok(silent_reply(alloc, answer))
+        match served {
+            Ok(done) => {
+                let (entry, answer) = node_entry(alloc, seat, request, done);
+                self.history.push(entry);
+                Ok(silent_reply(alloc, answer))
+            }
+            Err(error) => {
+                drop(request);
+                Err(error)
+            }
+        }
     }
 
     fn document(
@@ -374,11 +401,11 @@ impl<T: HostTree, K: Keeper, C: Clock, W: Words> Portal<T, K, C, W> {
         requires call { is_document_call request ≡ true }
         ensures began { self.new.story.began ≡ self.old.story.began }
         ensures opening { self.new.story.opening ≡ self.old.story.opening }
-        ensures ok { IfOk result (Answers T.is K.is W.told self.old self.new seat request) }
+        ensures ok { IfOk result (Answers T.is K.is C.told W.told self.old self.new seat request) }
         ensures fault { IfOk result (TellsFault (T.is self.old.tree) (T.is self.new.tree)) }
         ensures failure { IfOk result (TellsFailure (T.is self.old.tree) (T.is self.new.tree)
             (K.is self.old.keeper) (K.is self.new.keeper)) }
-        ensures err { OnErr result (Spends T.is K.is W.told self.old request self.new) }
+        ensures err { OnErr result (Spends T.is K.is C.told W.told self.old request self.new) }
         ensures unasked { may_change_records request ≡ false
             → OnErr result (self.new ≡ self.old) }
     {
@@ -415,12 +442,12 @@ impl<T: HostTree, K: Keeper, C: Clock, W: Words> Portal<T, K, C, W> {
         ensures began { self.new.story.began ≡ self.old.story.began }
         ensures opening { self.new.story.opening ≡ self.old.story.opening }
         ensures ok { IfOk result
-            (Answers T.is K.is W.told self.old self.new seat (Request.Add add)) }
+            (Answers T.is K.is C.told W.told self.old self.new seat (Request.Add add)) }
         ensures fault { IfOk result (TellsFault (T.is self.old.tree) (T.is self.new.tree)) }
         ensures failure { IfOk result (TellsFailure (T.is self.old.tree) (T.is self.new.tree)
             (K.is self.old.keeper) (K.is self.new.keeper)) }
         ensures err { OnErr result
-            (Spends T.is K.is W.told self.old (Request.Add add) self.new) }
+            (Spends T.is K.is C.told W.told self.old (Request.Add add) self.new) }
     {
         self.history.reserve(self.connections.as_slice().len() + 1)?;
         let served = serve_add(
@@ -454,7 +481,7 @@ impl<T: HostTree, K: Keeper, C: Clock, W: Words> Portal<T, K, C, W> {
     fn leave(&mut self, alloc: Global, seat: u32) -> Result<Reply, WantOfMemory>
         ensures began { self.new.story.began ≡ self.old.story.began }
         ensures opening { self.new.story.opening ≡ self.old.story.opening }
-        ensures ok { IfOk result (Answers T.is K.is W.told self.old self.new seat Request.Leave) }
+        ensures ok { IfOk result (Answers T.is K.is C.told W.told self.old self.new seat Request.Leave) }
         ensures fault { IfOk result (TellsFault (T.is self.old.tree) (T.is self.new.tree)) }
         ensures failure { IfOk result (TellsFailure (T.is self.old.tree) (T.is self.new.tree)
             (K.is self.old.keeper) (K.is self.new.keeper)) }
@@ -470,6 +497,8 @@ impl<T: HostTree, K: Keeper, C: Clock, W: Words> Portal<T, K, C, W> {
         }
         let connections = mem::replace(&mut self.connections, List::new(alloc));
         self.connections = of_others(connections, seat);
+        self.handles.leave(seat);
+        self.counts.leave(seat);
         self.history.push(entry);
         Ok(silent_reply(alloc, Answer::Done))
     }
@@ -478,7 +507,7 @@ impl<T: HostTree, K: Keeper, C: Clock, W: Words> Portal<T, K, C, W> {
         requires { cost_with self.old.story Request.Collect ≤ limit_of self.old.story }
         ensures began { self.new.story.began ≡ self.old.story.began }
         ensures opening { self.new.story.opening ≡ self.old.story.opening }
-        ensures ok { IfOk result (Answers T.is K.is W.told self.old self.new seat Request.Collect) }
+        ensures ok { IfOk result (Answers T.is K.is C.told W.told self.old self.new seat Request.Collect) }
         ensures fault { IfOk result (TellsFault (T.is self.old.tree) (T.is self.new.tree)) }
         ensures failure { IfOk result (TellsFailure (T.is self.old.tree) (T.is self.new.tree)
             (K.is self.old.keeper) (K.is self.new.keeper)) }
@@ -507,30 +536,6 @@ impl<T: HostTree, K: Keeper, C: Clock, W: Words> Portal<T, K, C, W> {
     }
 }
 
-/// Serves a request of a seat on a node, which changes nothing. It takes no
-/// memory.
-fn serve<T: HostTree>(
-    tree: &mut T,
-    documents: &Documents,
-    rights: &Grants,
-    connections: &[Connection],
-    seat: u32,
-    request: &NodeRequest,
-) -> NodeDone
-    requires { BuiltOp request.now.node request.now.op }
-    ensures { NodeServed documents.now.live rights.now
-        (open_mount (open_connection connections.now seat)) request.now (T.is tree.old)
-        result.answer result.look (T.is tree.new) }
-{
-    let NodeOp::GetAttr { flags, .. } = &request.op else {
-        unreachable!();
-    };
-    let Some(connection) = mount_of(connections, seat) else {
-        return NodeDone::refused(Code::NotHere);
-    };
-    get_attr(tree, documents, rights, &connection.who, request, *flags)
-}
-
 /// Nothing to do: an application's name keeps the rule of names by its type.
 fn check_caller(who: &Who)
     ensures { is_caller who.now ≡ true }
@@ -551,38 +556,33 @@ fn collect_answer(bus: Option<&Connection>) -> Answer
     }
 }
 
-/// A list with room for one look.
-fn room_for_look(alloc: Global) -> Result<List<Look>, WantOfMemory>
-    ensures { IfOk result (λ room. room ≡ Look.Missing ∷ []) }
+/// The entry of a request on a node that was served, and its answer.
+fn node_entry(alloc: Global, seat: u32, request: NodeRequest, done: NodeDone) -> (Entry, Answer)
+    ensures { result ≡ (node_entry seat request done, done.answer) }
 {
-    let mut room = List::new(alloc);
-    room.push(Look::Missing)?;
-    Ok(room)
-}
-
-/// The looks that were taken, of which there is one at most.
-fn looks_made(room: List<Look>, look: Option<LookAnswer>) -> List<Look>
-    requires { room ≡ Look.Missing ∷ [] }
-    ensures { result ≡ taken look }
-{
-    let mut looks = room;
-    match look {
-        Some(LookAnswer::Is(shown)) => looks.set(0, shown),
-        Some(LookAnswer::Failed) => looks.truncate(0),
-        None => looks.truncate(0),
-    }
-    looks
-}
-
-/// Whether the tree failed.
-fn fault_shown(look: Option<LookAnswer>) -> Fault
-    ensures { result ≡ fault_of look }
-{
-    match look {
-        Some(LookAnswer::Is(_)) => Fault::None,
-        Some(LookAnswer::Failed) => Fault::Tree,
-        None => Fault::None,
-    }
+    let NodeDone {
+        answer,
+        looks,
+        now,
+        fault,
+    } = done;
+    let given = Given {
+        now,
+        words: List::new(alloc),
+        numbers: List::new(alloc),
+        looks,
+        full: false,
+        fault,
+    };
+    let request = Request::Node(request);
+    (
+        Entry {
+            seat,
+            request,
+            given,
+        },
+        answer,
+    )
 }
 
 /// The entry of a request for which the tree showed these looks alone, or

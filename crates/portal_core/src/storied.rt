@@ -2,7 +2,6 @@
 
 ghost use Rattle.std.specs.Prelude.{◌≡◌, ◌<◌, ◌≤◌, ◌^◌, length, true, IfErr, IfOk, IsOk, OnErr};
 ghost use Rattle.portal_core.specs.Growth.{GrowsBy, RefusedFor, cost_after};
-ghost use Rattle.portal_desk.specs.Built.{Built};
 ghost use Rattle.portal_model.specs.History.{Legal, cost, run};
 ghost use Rattle.portal_model.specs.Seated.{is_open};
 
@@ -37,8 +36,7 @@ pub trait Storied {
     /// refused and the value after.
     ghost spends: { Self → Request → Self → Type 0 };
 
-    /// Answers a request of a seat, which is a number from 1. The request is
-    /// one that has a body.
+    /// Answers a request of a seat, which is a number from 1.
     ///
     /// The reply is that of one step of the sequential portal, from the state
     /// after the history, which grows by this request; over a tree that
@@ -48,8 +46,7 @@ pub trait Storied {
     /// whatever is answered, the history costs no more than that. The Leave of
     /// an open connection is never refused.
     fn ask(&mut self, alloc: Global, seat: u32, request: Request) -> Result<Reply, Refused>
-        requires seat { 1 ≤ seat }
-        requires built { Built request }
+        requires { 1 ≤ seat }
 
         ensures opening { opening self.new ≡ opening self.old }
         ensures answered { IfOk result
@@ -96,10 +93,10 @@ impl<T: HostTree, K: Keeper, C: Clock, W: Words> Storied for Portal<T, K, C, W> 
     ghost entries = { λ p. p.story.history };
 
     // Just the calls of the tree that the step reaches were made, and the one of the keeper.
-    ghost says = { Went T.is K.is W.told };
+    ghost says = { Went T.is K.is C.told W.told };
 
-    // The tree, the keeper and the words may have been asked, and then memory was wanted.
-    ghost spends = { Spends T.is K.is W.told };
+    // The devices may have been asked, and then memory was wanted.
+    ghost spends = { Spends T.is K.is C.told W.told };
 
     fn ask(&mut self, alloc: Global, seat: u32, request: Request) -> Result<Reply, Refused> {
         Portal::ask(self, alloc, seat, request)

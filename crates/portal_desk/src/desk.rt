@@ -1,6 +1,5 @@
 //! Where a seat asks.
 
-ghost use Rattle.portal_desk.specs.Built.{Built};
 ghost use Rattle.portal_model.specs.Seated.{Asks, Known};
 
 use portal_model::reply::{Refused, Reply};
@@ -22,7 +21,7 @@ pub trait Desk {
     /// What a kind of desk says of a state of it and a later one.
     ghost goes: { Self → Self → Type 0 };
 
-    /// Asks a request of the seat, which is one that has a body.
+    /// Asks a request of the seat.
     ///
     /// A reply is that of one step of the sequential portal: the history that
     /// is seen begins with what was seen before and ends with this request,
@@ -32,7 +31,6 @@ pub trait Desk {
     /// where the history that is seen and this request would cost more than
     /// the limit. The Leave of an open connection is never refused.
     fn ask(&mut self, alloc: Global, request: Request) -> Result<Reply, Refused>
-        requires { Built request }
         ensures asks { Asks (seated self.old) request result (seated self.new) }
         ensures goes { goes self.old self.new };
 

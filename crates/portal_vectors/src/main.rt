@@ -6,6 +6,7 @@
 //! numbers of those of the input. The modules say which lines there are.
 #![tactic(auto)]
 
+mod nodes;
 mod portal;
 mod requests;
 mod start;

@@ -19,8 +19,10 @@ use vector_lines::notation::{self, cut, number, small_number};
 /// a portal that the script opens and whose history may cost LIMIT, or, for
 /// `LIMIT,DOCUMENTS`, which may besides have so many live documents; and then how
 /// many entries the history has, and their cost. A request is `SEAT enter WHO
-/// KIND`, `SEAT leave`, `SEAT collect`, `SEAT getattr NODE FLAGS FH`, the last
-/// by user and group 1000, of a document's file in the own view or by a handle;
+/// KIND`, `SEAT leave`, `SEAT collect`, one on a node: `SEAT getattr NODE FLAGS FH`,
+/// `SEAT named NODE NAME` for a LOOKUP, `SEAT access NODE MASK`, `SEAT open NODE FLAGS`,
+/// `SEAT create NODE FLAGS NAME`, `SEAT read NODE FH OFFSET SIZE`, `SEAT write NODE FH
+/// OFFSET TEXT` or `SEAT release NODE FH`;
 /// `SEAT present PATH`, `SEAT add ARGUMENT ..` and `SEAT addfull ARGUMENT ..`,
 /// whose arguments `record_lines` reads, with `fds=N` for more files than one;
 /// `SEAT grant DOCUMENT APPLICATION RIGHT,RIGHT ..`, `SEAT revoke ..`,

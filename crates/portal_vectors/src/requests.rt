@@ -1,25 +1,20 @@
 //! Requests as lines name them, and how their answers are printed.
 
-ghost use Rattle.std.specs.Prelude.{IfOk};
-ghost use Rattle.portal_desk.specs.Built.{Built};
-
+use crate::nodes::{is_on_node, node_request};
 use portal_base::list::List;
 use portal_base::names::DocId;
 use portal_base::text::Text;
 use portal_lines::{kind, who};
-use portal_model::place::file_number;
 use portal_model::records::Row;
-use portal_model::reply::{Answer, ListedDocument, Refused, Reply};
-use portal_model::request::{AddRequest, NodeOp, NodeRequest, Request, RightsCall, names_handle};
+use portal_model::reply::{Answer, ListedDocument, NodeAnswer, Refused, Reply};
+use portal_model::request::{AddRequest, Request, RightsCall};
 use record_lines::{addition, number_or};
 use std::alloc::Global;
 use vector_lines::error::{LineError, VectorError};
 use vector_lines::notation::{cut, debug, number, small_number, text};
 
 /// The request of a line's words.
-pub fn request_of(alloc: Global, words: &str) -> Result<Request, VectorError>
-    ensures { IfOk result Built }
-{
+pub fn request_of(alloc: Global, words: &str) -> Result<Request, VectorError> {
     let (word, rest) = cut(words);
     match word {
         "enter" => {
@@ -31,34 +26,13 @@ pub fn request_of(alloc: Global, words: &str) -> Result<Request, VectorError>
         }
         "leave" => Ok(Request::Leave),
         "collect" => Ok(Request::Collect),
-        "getattr" => getattr(rest),
+        _ if is_on_node(word) => node_request(alloc, word, rest),
         _ => document_request(alloc, word, rest),
     }
 }
 
-fn getattr(rest: &str) -> Result<Request, VectorError>
-    ensures { IfOk result Built }
-{
-    let (node, rest) = cut(rest);
-    let (flags, fh) = cut(rest);
-    let node = number(node)?;
-    let flags = small_number(flags)?;
-    let fh = number(fh)?;
-    if !names_handle(flags) && file_number(node).is_none() {
-        return Err(VectorError::Line(LineError::BadLine));
-    }
-    Ok(Request::Node(NodeRequest {
-        node,
-        uid: 1000,
-        gid: 1000,
-        op: NodeOp::GetAttr { flags, fh },
-    }))
-}
-
 /// A request on documents.
-fn document_request(alloc: Global, word: &str, rest: &str) -> Result<Request, VectorError>
-    ensures { IfOk result Built }
-{
+fn document_request(alloc: Global, word: &str, rest: &str) -> Result<Request, VectorError> {
     match word {
         "present" => Ok(Request::Present {
             path: text(alloc, rest)?,
@@ -123,6 +97,11 @@ fn answer(alloc: Global, answer: &Answer) -> Result<String, VectorError> {
             Ok(out)
         }
         Answer::Listed(documents) => listed(alloc, documents.as_slice()),
+        Answer::Node(NodeAnswer::Content(content)) => {
+            let mut out = format!(in alloc; "Content ")?;
+            put_bytes(alloc, &mut out, content.as_slice())?;
+            Ok(out)
+        }
         _ => Ok(debug(alloc, answer)?),
     }
 }

@@ -1,5 +1,5 @@
 -- Each stream of bytes has items and a rest, and items from its front are the first of them.
-use Rattle.std.proofs.Common.{◌≡◌, inl, inr, Bool, true, false, ℕ, zero, suc, ◌≤◌, ◌<◌, List, [], ◌∷◌, ◌++◌, length, take, drop, Ok, Err, refl, sym, ap, ◌∙◌, subst, arith}
+use Rattle.std.proofs.Common.{◌≡◌, inl, inr, ℕ, zero, suc, ◌≤◌, ◌<◌, List, [], ◌∷◌, ◌++◌, length, take, drop, Ok, Err, refl, sym, ap, ◌∙◌, subst, arith}
 use Rattle.std.proofs.lemmas.List.{append_assoc, length-drop, take-append-drop}
 use Rattle.std.proofs.lemmas.List.Elements.{All-drop, All-take}
 use Rattle.std.specs.List.{All}
@@ -15,20 +15,16 @@ use Rattle.dbus_message.proofs.Fronts.{some_front}
 use Rattle.dbus_message.specs.Messages.{IsMessage}
 use Rattle.dbus_message.specs.Rules.{IsFirstBroken}
 use Rattle.dbus_types.specs.declared.message.Message.{Message}
-use Rattle.portal_model.specs.declared.request.NodeRequest.{NodeRequest}
-use Rattle.fuse_wire.specs.declared.request.FuseAsk.{FuseAsk}
-use Rattle.fuse_wire.specs.declared.request.FuseAsk.TheVariants as fuse
-use Rattle.fuse_wire.specs.Asks.{ask_of as frame_ask_of}
-use Rattle.fuse_wire.specs.Frames.{header_of, split_of}
+use Rattle.fuse_wire.specs.Frames.{split_of}
 use Rattle.session.specs.declared.act.Act.{Act}
-use Rattle.session.specs.declared.act.Act.TheVariants.{Nothing, Line, Call, Portal, Node, Local}
+use Rattle.session.specs.declared.act.Act.TheVariants.{Nothing, Line, Call, Portal}
 use Rattle.session.specs.declared.act.Client.{Client}
 use Rattle.session.specs.declared.act.ItemError.TheVariants.{Breaks, Unbuilt}
 use Rattle.session.specs.declared.phase.Phase.{Phase}
 use Rattle.session.specs.declared.phase.Phase.TheVariants as due
 use Rattle.session.specs.declared.served.Stop.{Stop}
 use Rattle.session.specs.declared.served.Stop.TheVariants as stop
-use Rattle.session.specs.Asked.{Means, act_of_ask, act_of_frame, is_built, is_host, line_act, node_act, reply_to}
+use Rattle.session.specs.Asked.{Means, act_of_ask, frame_act, is_host, line_act, reply_to}
 use Rattle.session.specs.Cuts.{Cut, Cuts, cut_of, line_cut, line_of, next_phase, whole_item, zero_byte_cut}
 use Rattle.session.specs.Items.{AreItems, IsItem, Items, Remains, joined, phase_after}
 use Rattle.session.specs.Laws.{ItemsAreFound, ItemsComeFirst}
@@ -65,21 +61,11 @@ read_means : (c : Client) (item : List ℕ) → ((m : Message) × IsMessage item
 read_means c item (inl read) = message_means c item read.0 (ask_of c.settings read.0) read.1 refl
 read_means c item (inr broken) = inr (inl (broken.0, broken.1))
 
-node_means : (c : Client) (item : List ℕ) (request : NodeRequest) (b : Bool) → is_built request ≡ b → frame_ask_of item ≡ fuse.Portal request → HasMeaning c due.Frames item
-node_means c item request true h e =
-    let unique = (header_of item).unique in inl (Node unique request, sym (ap (act_of_frame unique) e ∙ ap (node_act unique request) h))
-node_means c item request false h e = let unique = (header_of item).unique in inr (inr (sym (ap (act_of_frame unique) e ∙ ap (node_act unique request) h)))
-
-frame_means : (c : Client) (item : List ℕ) (x : FuseAsk) → frame_ask_of item ≡ x → HasMeaning c due.Frames item
-frame_means c item (fuse.Portal request) e = node_means c item request (is_built request) refl e
-frame_means c item (fuse.Local told) e = let unique = (header_of item).unique in inl (Local unique told, sym (ap (act_of_frame unique) e))
-frame_means c item fuse.Ignore e = inl (Nothing, sym (ap (act_of_frame (header_of item).unique) e))
-
 a_meaning : (c : Client) (p : Phase) (item : List ℕ) → All (λ b. b < 256) item → Cuts p item (whole_item (length item)) → HasMeaning c p item
 a_meaning c due.ZeroByte item fits h = inl (Nothing, refl)
 a_meaning c (due.Handshake a) item fits h = line_means c a item (step a (line_of item)).0 refl
 a_meaning c due.Messages item fits h = read_means c item (found item fits (message_whole item h))
-a_meaning c due.Frames item fits h = frame_means c item (frame_ask_of item) refl
+a_meaning c due.Frames item fits h = inl (frame_act item, refl)
 
 -- ---- the items of a stream
 

@@ -63,7 +63,7 @@ one_meaning c (due.Handshake a) item r s t u h k =
     let e = line_act (step a (line_of item)).0 in
     told_is r e t h ∙ sym (told_is s e u k)
 one_meaning c due.Messages item r s t u h k = message_means c item r s t u h k
-one_meaning c due.Frames item r s t u h k = let e = frame_act item in told_is r e t h ∙ sym (told_is s e u k)
+one_meaning c due.Frames item r s t u h k = let e = Ok (frame_act item) in told_is r e t h ∙ sym (told_is s e u k)
 
 -- ---- one rest
 

@@ -1,8 +1,9 @@
 -- What the requests of items cost the history.
-use Rattle.std.proofs.Common.{◌≡◌, ℕ, ◌+◌, ◌*◌, ◌-◌, ◌^◌, ◌≤◌, min, List, [], ◌∷◌, ◌++◌, length, Bool, true, false, Result, Ok, refl, sym, subst, ap, ◌∙◌, arith, length-append}
+use Rattle.std.proofs.Common.{◌≡◌, ℕ, ◌+◌, ◌*◌, ◌-◌, ◌^◌, ◌≤◌, min, List, [], ◌∷◌, ◌++◌, length, drop, Bool, true, false, Result, Ok, refl, sym, subst, ap, ◌∙◌, arith, length-append}
 use Rattle.std.specs.Prelude.{nat_lt, if◌then◌else◌}
 use Rattle.std.specs.List.{sum_by}
 use Rattle.std.proofs.lemmas.Bool.Decides.{nat_tests}
+use Rattle.std.proofs.lemmas.List.{length-drop}
 use Rattle.std.proofs.lemmas.List.Sums.{sum_by-append, sum_by-cons}
 use Rattle.dbus_auth.specs.declared.handshake.AuthAnswer.{AuthAnswer}
 use Rattle.dbus_auth.specs.declared.handshake.AuthAnswer.TheVariants.{Say, Begin, Early}
@@ -19,8 +20,6 @@ use Rattle.fuse_wire.specs.declared.request.FuseAsk.{FuseAsk}
 use Rattle.fuse_wire.specs.declared.request.FuseAsk.TheVariants as fuse
 use Rattle.portal_base.specs.declared.split.Split.{Split}
 use Rattle.portal_base.specs.declared.split.Split.TheVariants.{More, Bad, Whole}
-use Rattle.portal_model.specs.declared.request.NodeOp.{NodeOp}
-use Rattle.portal_model.specs.declared.request.NodeOp.TheVariants.{GetAttr}
 use Rattle.portal_model.specs.declared.request.NodeRequest.{NodeRequest}
 use Rattle.portal_model.specs.declared.request.Request.{Request}
 use Rattle.portal_model.specs.declared.request.Request.TheVariants as request
@@ -31,7 +30,8 @@ use Rattle.session.specs.declared.act.Client.{Client}
 use Rattle.session.specs.declared.act.ItemError.{ItemError}
 use Rattle.session.specs.declared.phase.Phase.{Phase}
 use Rattle.session.specs.declared.phase.Phase.TheVariants as due
-use Rattle.session.specs.Asked.{act_of_ask, act_of_frame, asked_by, collect_requests, is_built, is_built_op, is_host, line_act, node_act, reply_to, requests_of}
+use Rattle.session.specs.Asked.{act_of_ask, act_of_frame, asked_by, collect_requests, is_host, line_act, reply_to, requests_of}
+use Rattle.session.proofs.FramesCarry.{Carries, frame_carries}
 use Rattle.session.proofs.ReadActs.{read_as, same_act}
 use Rattle.session.specs.Cuts.{cut_of, line_of, next_phase, whole_item}
 use Rattle.session.specs.Items.{AreItems, IsItem, joined}
@@ -49,12 +49,8 @@ costs-append rs qs = sum_by-append cost_of rs qs
 min_left : (a b : ℕ) → min a b ≤ a
 min_left a b = omega arith
 
-op_free : (node : ℕ) (op : NodeOp) → is_built_op node op ≡ true → node_bytes op ≡ 0
-op_free node (GetAttr flags fh) h = refl
-op_free node op h = absurd (cc)
-
-node_cost : (r : NodeRequest) → is_built r ≡ true → cost_of (request.Node r) ≤ 128
-node_cost r h = let free = op_free r.node r.op h in let least = min_left (128 + node_bytes r.op) (2 ^ 64 - 1) in omega arith
+node_cost : (r : NodeRequest) (n : ℕ) → node_bytes r.op ≤ n → cost_of (request.Node r) ≤ 128 + n
+node_cost r n h = let least = min_left (128 + node_bytes r.op) (2 ^ 64 - 1) in omega arith
 
 collect_cost : (b : Bool) → costs (collect_requests b) ≤ 128
 collect_cost true = omega arith
@@ -73,14 +69,11 @@ call_cost c i m (ask.Portal r) act read long is e =
     subst (λ (a : Act). costs (asked_by a) ≤ 8 * length i) (sym (same_act act (Portal m r) e)) (one_cost r (8 * length i) (call_costs c.settings i m r read is))
 call_cost c i m ask.Unbuilt act read long is e = absurd (cc)
 
-built_cost : (unique : ℕ) (r : NodeRequest) (b : Bool) (act : Act) → is_built r ≡ b → Ok act ≡ node_act unique r b → costs (asked_by act) ≤ 128
-built_cost unique r true act h e = let least = node_cost r h in same_costs act (Node unique r) e (omega arith)
-built_cost unique r false act h e = absurd (cc)
-
-frame_cost : (unique : ℕ) (a : FuseAsk) (act : Act) → Ok act ≡ act_of_frame unique a → costs (asked_by act) ≤ 128
-frame_cost unique (fuse.Portal r) act e = built_cost unique r (is_built r) act refl e
-frame_cost unique (fuse.Local told) act e = same_costs act (Local unique told) e (omega arith)
-frame_cost unique fuse.Ignore act e = same_costs act Nothing e (omega arith)
+-- a frame asks one request, which carries no more than the bytes behind its header
+frame_cost : (unique n : ℕ) (a : FuseAsk) (act : Act) → Carries n a → read_as act ≡ read_as (act_of_frame unique a) → costs (asked_by act) ≤ 128 + n
+frame_cost unique n (fuse.Portal r) act h e = subst (λ (x : Act). costs (asked_by x) ≤ 128 + n) (sym (same_act act (Node unique r) e)) (one_cost (request.Node r) (128 + n) (node_cost r n h))
+frame_cost unique n (fuse.Local told) act h e = let most = same_costs act (Local unique told) e (omega arith) in omega arith
+frame_cost unique n fuse.Ignore act h e = let most = same_costs act Nothing e (omega arith) in omega arith
 
 -- a message has at least 16 bytes, a frame 40
 whole_message : (split : Split) (i : List ℕ) (n : ℕ) → IsSplit i split → whole_item n ≡ cut_of split → 16 ≤ length i
@@ -96,7 +89,7 @@ not_more More n s e = cc
 not_more (Whole len) n s e = cc
 not_more (Bad rule) n s e = cc
 
-whole_frame : (b : Bool) (i : List ℕ) (n : ℕ) → nat_lt (length i) 40 ≡ b → whole_item n ≡ cut_of (split_of i) → 16 ≤ length i
+whole_frame : (b : Bool) (i : List ℕ) (n : ℕ) → nat_lt (length i) 40 ≡ b → whole_item n ≡ cut_of (split_of i) → 40 ≤ length i
 whole_frame true i n h e = absurd (not_more (split_of i) n (short_frame i h) e)
 whole_frame false i n h e = grind (arith, nat_tests)
 
@@ -115,7 +108,11 @@ pub item_cost : (p : Phase) (c : Client) (i : List ℕ) (act : Act) → IsItem c
 item_cost due.ZeroByte c i act h = free (asked_by act) (8 * length i) (zero_asks act (Ok act) refl h.1)
 item_cost (due.Handshake a) c i act h = free (asked_by act) (8 * length i) (line_asks (step a (line_of i)).0 act h.1)
 item_cost due.Messages c i act h = call_cost c i h.1.0 (ask_of c.settings h.1.0) act h.1.1 (whole_message h.0.0 i (length i) h.0.1 h.0.2) refl h.1.2
-item_cost due.Frames c i act h = let long = whole_frame (nat_lt (length i) 40) i (length i) refl h.0 in let most = frame_cost (header_of i).unique (frame_ask_of i) act h.1 in omega arith
+item_cost due.Frames c i act h =
+    let long = whole_frame (nat_lt (length i) 40) i (length i) refl h.0 in
+    let most = frame_cost (header_of i).unique (length (drop 40 i)) (frame_ask_of i) act (frame_carries i) h.1 in
+    let body = length-drop 40 i in
+    omega arith
 
 pub items_cost : (is : List (List ℕ)) (c : Client) (p : Phase) (acts : List Act) → AreItems c p is acts → costs (requests_of acts) ≤ 8 * length (joined is)
 items_cost [] c p acts h = free (requests_of acts) 0 (ap requests_of h)

@@ -3,7 +3,6 @@ use Rattle.std.proofs.Common.{◌≡◌, ℕ, List, [], ◌∷◌, ◌++◌, Boo
 use Rattle.std.proofs.lemmas.List.{map-append}
 use Rattle.portal_base.specs.declared.who.Kind.{Kind}
 use Rattle.portal_model.specs.declared.entry.Entry.{Entry}
-use Rattle.portal_model.specs.declared.request.NodeRequest.{NodeRequest}
 use Rattle.portal_model.specs.declared.request.Request.{Request}
 use Rattle.portal_model.specs.Seated.{Exchange}
 use Rattle.dbus_auth.specs.declared.handshake.AuthAnswer.{AuthAnswer}
@@ -25,7 +24,7 @@ use Rattle.session.specs.declared.act.Client.{Client}
 use Rattle.session.specs.declared.phase.Phase.{Phase}
 use Rattle.session.specs.declared.phase.Phase.TheVariants as due
 use Rattle.session.specs.Answers.{AreOf, Denied, IsOf, Made, Outcome, kept}
-use Rattle.session.specs.Asked.{Means, act_of_ask, act_of_frame, asked_by, collect_requests, is_built, is_host, line_act, node_act, reply_to, requests_of}
+use Rattle.session.specs.Asked.{Means, act_of_ask, act_of_frame, asked_by, collect_requests, is_host, line_act, reply_to, requests_of}
 use Rattle.session.specs.Cuts.{first_phase, line_of, next_phase, phase_behind}
 use Rattle.session.specs.Items.{AreItems, phase_after}
 use Rattle.session.proofs.Grew.{kept-append}
@@ -128,12 +127,8 @@ call_fits c m (ask.Portal request) act is e =
     subst (λ (a : Act). AllFit Kind.Bus (asked_by a)) (sym (same_act act (Portal m request) e)) (documents_fit request (calls_on_documents c.settings m request is), tt)
 call_fits c m ask.Unbuilt act is e = absurd (cc)
 
-node_fits : (unique : ℕ) (request : NodeRequest) (b : Bool) (act : Act) → Ok act ≡ node_act unique request b → AllFit Kind.Mount (asked_by act)
-node_fits unique request true act e = subst (λ (a : Act). AllFit Kind.Mount (asked_by a)) (sym (same_act act (Node unique request) e)) (tt, tt)
-node_fits unique request false act e = absurd (cc)
-
-frame_fits : (unique : ℕ) (a : FuseAsk) (act : Act) → Ok act ≡ act_of_frame unique a → AllFit Kind.Mount (asked_by act)
-frame_fits unique (fuse.Portal request) act e = node_fits unique request (is_built request) act e
+frame_fits : (unique : ℕ) (a : FuseAsk) (act : Act) → read_as act ≡ read_as (act_of_frame unique a) → AllFit Kind.Mount (asked_by act)
+frame_fits unique (fuse.Portal request) act e = subst (λ (a : Act). AllFit Kind.Mount (asked_by a)) (sym (same_act act (Node unique request) e)) (tt, tt)
 frame_fits unique (fuse.Local told) act e = subst (λ (a : Act). AllFit Kind.Mount (asked_by a)) (sym (same_act act (Local unique told) e)) tt
 frame_fits unique fuse.Ignore act e = nothing_fits Kind.Mount act e
 

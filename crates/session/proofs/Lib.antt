@@ -21,8 +21,10 @@ pub mod ReadCall
 pub mod ConnectionEntries
 pub mod CallsAreHeard
 pub mod HeardReplies
+pub mod NodeAnswersFit
+pub mod FramesFit
 pub mod WholeInputsEnd
-pub mod ItemsBuilt
+pub mod FramesCarry
 pub mod ItemsCostLittle
 pub mod RoomIsEnough
 pub mod EndsStay

@@ -1,5 +1,5 @@
 -- What is read of an item that asks the portal by a call is what the call asks.
-use Rattle.std.proofs.Common.{◌≡◌, ℕ, List, Bool, true, false, Result, Ok, refl, sym, subst}
+use Rattle.std.proofs.Common.{◌≡◌, ℕ, List, Result, Ok, refl, sym, subst}
 use Rattle.dbus_auth.specs.declared.handshake.AuthAnswer.{AuthAnswer}
 use Rattle.dbus_auth.specs.declared.handshake.AuthAnswer.TheVariants.{Say, Begin, Early}
 use Rattle.dbus_auth.specs.Handshake.{step}
@@ -11,8 +11,7 @@ use Rattle.fuse_wire.specs.Asks.{ask_of as frame_ask_of}
 use Rattle.fuse_wire.specs.Frames.{header_of}
 use Rattle.fuse_wire.specs.declared.request.FuseAsk.{FuseAsk}
 use Rattle.fuse_wire.specs.declared.request.FuseAsk.TheVariants as fuse
-use Rattle.portal_model.specs.declared.request.NodeRequest.{NodeRequest}
-use Rattle.session.specs.Asked.{Means, act_of_ask, act_of_frame, is_built, is_host, line_act, node_act, reply_to}
+use Rattle.session.specs.Asked.{Means, act_of_ask, act_of_frame, is_host, line_act, reply_to}
 use Rattle.session.specs.Cuts.{line_of}
 use Rattle.session.specs.declared.act.Act.{Act}
 use Rattle.session.specs.declared.act.Act.TheVariants.{Nothing, Line, Call, Portal, Node, Local}
@@ -50,12 +49,8 @@ call_asks c m ask.Ignore act is e = by_act c act Nothing e tt
 call_asks c m (ask.Portal request) act is e = by_act c act (Portal m request) e is
 call_asks c m ask.Unbuilt act is e = absurd (cc)
 
-node_asks : (c : Client) (unique : ℕ) (r : NodeRequest) (b : Bool) (act : Act) → Ok act ≡ node_act unique r b → AsksAsRead c act
-node_asks c unique r true act e = by_act c act (Node unique r) e tt
-node_asks c unique r false act e = absurd (cc)
-
-frame_asks : (c : Client) (unique : ℕ) (a : FuseAsk) (act : Act) → Ok act ≡ act_of_frame unique a → AsksAsRead c act
-frame_asks c unique (fuse.Portal r) act e = node_asks c unique r (is_built r) act e
+frame_asks : (c : Client) (unique : ℕ) (a : FuseAsk) (act : Act) → read_as act ≡ read_as (act_of_frame unique a) → AsksAsRead c act
+frame_asks c unique (fuse.Portal r) act e = by_act c act (Node unique r) e tt
 frame_asks c unique (fuse.Local told) act e = by_act c act (Local unique told) e tt
 frame_asks c unique fuse.Ignore act e = by_act c act Nothing e tt
 

@@ -14,7 +14,6 @@ use Rattle.portal_model.specs.declared.reply.Answer.{Answer}
 use Rattle.portal_model.specs.declared.reply.Reply.{Reply}
 use Rattle.portal_model.specs.declared.request.Request.{Request}
 use Rattle.portal_model.specs.Alike.{Alike, AnswersAlike}
-use Rattle.portal_desk.specs.Built.{Built}
 use Rattle.portal_model.specs.History.{Legal, run}
 use Rattle.portal_model.specs.Seated.{Asks, Known, Seated}
 use Rattle.portal_model.specs.State.{State}
@@ -29,26 +28,6 @@ use Rattle.session.specs.Answers.{IsOf, Outcome, answer_for, last_spoken, reply_
 use Rattle.session.specs.Asked.{reply_to}
 use Rattle.session.specs.Ledger.{ActEnds, Grew, Sends, world}
 use Rattle.session.proofs.DidItems.{act_ends}
-
--- ---- what is asked
-
--- a request on documents has a body
-documents_built : (r : Request) → IsOnDocuments r → Built r
-documents_built (Request.Enter who kind) h = absurd h
-documents_built Request.Leave h = absurd h
-documents_built Request.Collect h = tt
-documents_built (Request.Node r) h = absurd h
-documents_built (Request.Present path) h = tt
-documents_built (Request.Add a) h = tt
-documents_built (Request.Grant call) h = tt
-documents_built (Request.Revoke call) h = tt
-documents_built (Request.DeleteDocument doc) h = tt
-documents_built (Request.LookupDocument path) h = tt
-documents_built (Request.Info doc) h = tt
-documents_built (Request.ListDocuments app) h = tt
-
-pub call_built : (c : Client) (call : Message) (request : Request) → ask_of c.settings call ≡ ask.Portal request → Built request
-call_built c call request is = documents_built request (calls_on_documents c.settings call request is)
 
 -- ---- the answer that is given
 

@@ -1,16 +1,10 @@
 -- What an item asks: a line by the table of the handshake, a message as it is dispatched, a frame
 -- by its opcode.
 use Rattle.std.specs.Prelude.{◌≡◌, ℕ, List, [], ◌∷◌, ◌++◌, Bool, true, false}
-use Rattle.std.specs.Prelude.{◌||◌, if◌then◌else◌, Option, Some, None, IfSome, Result, Ok}
-use Rattle.std.specs.Prelude.{Err}
+use Rattle.std.specs.Prelude.{if◌then◌else◌, Option, Some, None, IfSome, Result, Ok, Err}
 use Rattle.std.specs.List.{flat_map}
 use Rattle.portal_base.specs.declared.who.Who.{Who}
-use Rattle.portal_model.specs.declared.request.NodeOp.{NodeOp}
-use Rattle.portal_model.specs.declared.request.NodeRequest.{NodeRequest}
 use Rattle.portal_model.specs.declared.request.Request.{Request}
-use Rattle.portal_desk.specs.Built.{Built}
-use Rattle.portal_model.specs.GetAttr.{names_handle}
-use Rattle.portal_model.specs.Place.{is_own_file}
 use Rattle.dbus_auth.specs.declared.handshake.AuthAnswer.{AuthAnswer}
 use Rattle.dbus_auth.specs.declared.handshake.AuthAnswer.TheVariants.{Say, Begin, Early}
 use Rattle.dbus_auth.specs.Handshake.{step}
@@ -66,26 +60,13 @@ act_of_ask c message ask.Unbuilt = Err Unbuilt
 abbrev pub act_of_message : Client → Message → Result Act ItemError
 act_of_message c message = act_of_ask c message (ask_of c.settings message)
 
--- of requests on nodes the one that is asked is FUSE_GETATTR by a handle, or of a file in the
--- caller's own view
-abbrev pub is_built_op : ℕ → NodeOp → Bool
-is_built_op node (NodeOp.GetAttr flags fh) = names_handle flags || is_own_file node
-is_built_op node op = false
-
-abbrev pub is_built : NodeRequest → Bool
-is_built request = is_built_op request.node request.op
-
-abbrev pub node_act : ℕ → NodeRequest → Bool → Result Act ItemError
-node_act unique request true = Ok (Node unique request)
-node_act unique request false = Err Unbuilt
-
 -- What the portal has no part in is answered without it, and what is ignored is passed over.
-abbrev pub act_of_frame : ℕ → FuseAsk → Result Act ItemError
-act_of_frame unique (fuse.Portal request) = node_act unique request (is_built request)
-act_of_frame unique (fuse.Local told) = Ok (Local unique told)
-act_of_frame unique fuse.Ignore = Ok Nothing
+abbrev pub act_of_frame : ℕ → FuseAsk → Act
+act_of_frame unique (fuse.Portal request) = Node unique request
+act_of_frame unique (fuse.Local told) = Local unique told
+act_of_frame unique fuse.Ignore = Nothing
 
-abbrev pub frame_act : List ℕ → Result Act ItemError
+abbrev pub frame_act : List ℕ → Act
 frame_act frame = act_of_frame (header_of frame).unique (frame_ask_of frame)
 
 -- ---- what an item means
@@ -109,7 +90,7 @@ abbrev pub Means : Client → Phase → List ℕ → Result Act ItemError → Ty
 Means c due.ZeroByte item found = found ≡ Ok Nothing
 Means c (due.Handshake h) item found = OrMemory found (line_act (step h (line_of item)).0)
 Means c due.Messages item found = MessageMeans c item found
-Means c due.Frames item found = OrMemory found (frame_act item)
+Means c due.Frames item found = OrMemory found (Ok (frame_act item))
 
 -- ---- what is asked of the portal
 
@@ -132,12 +113,11 @@ requests_of acts = flat_map asked_by acts
 abbrev pub asked : Client → List Act → List Request
 asked c acts = Request.Enter c.who c.kind ∷ (requests_of acts ++ Request.Leave ∷ [])
 
--- what an item asks the portal has a body and is what its call asks, and a local answer can be
--- written
+-- what an item asks the portal is what its call asks, and a local answer can be written
 abbrev pub MayAnswer : Client → Act → Type 0
 MayAnswer c Nothing = Unit {0}
 MayAnswer c (Line reply) = Unit {0}
 MayAnswer c (Call reply collects) = IfSome reply IsWritable
-MayAnswer c (Portal call request) = Built request × (ask_of c.settings call ≡ ask.Portal request)
-MayAnswer c (Node unique request) = Built (Request.Node request)
+MayAnswer c (Portal call request) = ask_of c.settings call ≡ ask.Portal request
+MayAnswer c (Node unique request) = Unit {0}
 MayAnswer c (Local unique told) = Unit {0}

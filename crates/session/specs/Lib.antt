@@ -2,6 +2,7 @@ pub mod Cuts
 pub mod Asked
 pub mod Items
 pub mod Frames
+pub mod FrameLengths
 pub mod Answers
 pub mod Ledger
 pub mod Standings

@@ -1,10 +1,9 @@
 //! Reading items.
 
-ghost use Rattle.std.specs.Prelude.{◌≡◌, ◌≤◌, length, true, IfOk, OnOk, OnErr};
-ghost use Rattle.portal_desk.specs.Built.{BuiltOp};
+ghost use Rattle.std.specs.Prelude.{◌≡◌, ◌≤◌, length, IfOk, Ok, OnOk, OnErr};
 ghost use Rattle.session.specs.Cuts.{Cuts, next_phase, line_of, whole_item};
 ghost use Rattle.session.specs.Asked.{Means, MessageMeans, MayAnswer, OrMemory, act_of_frame};
-ghost use Rattle.session.specs.Asked.{act_of_message, frame_act, is_built, is_host, reply_to};
+ghost use Rattle.session.specs.Asked.{act_of_message, frame_act, is_host, reply_to};
 ghost use Rattle.dbus_auth.specs.Command.{longest_line};
 ghost use Rattle.dbus_auth.specs.Handshake.{step};
 ghost use Rattle.dbus_message.specs.Rules.{IsWhole};
@@ -23,8 +22,6 @@ use fuse_wire::frame::unique_of;
 use fuse_wire::request::{FuseAsk, read_request};
 use portal_base::memory::WantOfMemory;
 use portal_base::who::Who;
-use portal_model::place::file_number;
-use portal_model::request::{NodeOp, NodeRequest, names_handle};
 use std::alloc::Global;
 
 /// The rule that `BEGIN` breaks before OK was said.
@@ -131,40 +128,21 @@ fn is_host(who: &Who) -> bool
 /// Says what a frame asks.
 fn read_frame(alloc: Global, item: &[u8]) -> Result<Act, ItemError>
     requires { split_of item.now ≡ split.Whole (length item.now) }
-    ensures asks { OrMemory result (frame_act item.now) }
+    ensures asks { OrMemory result (Ok (frame_act item.now)) }
     ensures may_answer { (c : AClient) → IfOk result (MayAnswer c) }
 {
     let unique = unique_of(item);
-    frame_act(unique, read_request(alloc, item)?)
+    Ok(frame_act(unique, read_request(alloc, item)?))
 }
 
 /// Says what is asked with a frame of this number.
-fn frame_act(unique: u64, asked: FuseAsk) -> Result<Act, ItemError>
+fn frame_act(unique: u64, asked: FuseAsk) -> Act
     ensures asks { result ≡ act_of_frame unique asked }
-    ensures may_answer { (c : AClient) → IfOk result (MayAnswer c) }
+    ensures may_answer { (c : AClient) → MayAnswer c result }
 {
     match asked {
-        FuseAsk::Portal(request) => {
-            if is_built(&request) {
-                Ok(Act::Node { unique, request })
-            } else {
-                Err(ItemError::Unbuilt)
-            }
-        }
-        FuseAsk::Local(answer) => Ok(Act::Local { unique, answer }),
-        FuseAsk::Ignore => Ok(Act::Nothing),
-    }
-}
-
-/// Says whether a request on a node is one that is asked.
-fn is_built(request: &NodeRequest) -> bool
-    ensures answers { result ≡ is_built request.now }
-    ensures has_body { result ≡ true → BuiltOp request.now.node request.now.op }
-{
-    match &request.op {
-        NodeOp::GetAttr { flags, .. } => {
-            names_handle(*flags) || file_number(request.node).is_some()
-        }
-        _ => false,
+        FuseAsk::Portal(request) => Act::Node { unique, request },
+        FuseAsk::Local(answer) => Act::Local { unique, answer },
+        FuseAsk::Ignore => Act::Nothing,
     }
 }

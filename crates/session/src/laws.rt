@@ -2,6 +2,7 @@
 //!
 //! Each function does nothing; its contract is the law.
 
+ghost use Rattle.session.specs.FrameLengths.{FramesFit};
 ghost use Rattle.session.specs.Laws.{AreOne, AreCutAlike, AnswerAsked, CostLittle};
 ghost use Rattle.session.specs.Laws.{EndingsAreTheStreams, EndsStay, FeedsCostLittle};
 ghost use Rattle.session.specs.Laws.{ItemsAreFound, ItemsComeFirst, MeetsAlike, RoomIsEnough};
@@ -69,6 +70,13 @@ pub fn told_replies_are_the_steps()
 /// the reply that was given.
 pub fn given_replies_are_met()
     ensures { MeetsAlike }
+{}
+
+/// The frame that answers a request on a node tells its length, and has no more
+/// bytes behind its header than a READ or a READDIR asks for; of any other no
+/// more than the structs of a CREATE.
+pub fn frames_fit()
+    ensures { FramesFit }
 {}
 
 /// What is written in part is a prefix of the whole.

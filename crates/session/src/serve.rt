@@ -7,7 +7,6 @@ ghost use Rattle.std.specs.Prelude.{◌≡◌, ℕ, List, ◌≤◌, ◌∷◌, 
 ghost use Rattle.std.specs.Prelude.{IfOk, IfSome};
 ghost use Rattle.dbus_dispatch.specs.Writable.{IsWritable};
 ghost use Rattle.dbus_types.specs.declared.message.OutMessage.{OutMessage as AnOutMessage};
-ghost use Rattle.portal_desk.specs.Built.{Built};
 ghost use Rattle.session.specs.declared.act.Client.{Client as AClient};
 ghost use Rattle.session.specs.Asked.{collect_requests, reply_to as message_to, MayAnswer};
 ghost use Rattle.session.specs.Answers.{last_spoken, serial_after, spoken};
@@ -183,7 +182,6 @@ fn serve_node<D: Desk, K: Sink>(
     desk: &mut D,
     sink: &mut K,
 ) -> Result<u32, Fed>
-    requires { Built (Request.Node request) }
     ensures ends { (c : AClient) → ActEnds c result (Act.Node unique request) serial
         (world (D.seated desk.old) (K.told sink.old) (K.faults sink.old))
         (world (D.seated desk.new) (K.told sink.new) (K.faults sink.new)) }

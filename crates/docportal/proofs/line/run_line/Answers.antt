@@ -1,6 +1,6 @@
 use Rattle.std.proofs.Common.{refl}
-use Rattle.script_form.specs.declared.script.ScriptLine.TheVariants.{File, Doc, Now, Word}
-use Rattle.docportal.proofs.RunLine.{opening_runs}
+use Rattle.script_form.specs.declared.script.ScriptLine.TheVariants.{File, Doc, Word}
+use Rattle.docportal.proofs.RunLine.{clock_runs, opening_runs}
 use Rattle.docportal.proofs.line.run_line.Goals as goal
 
 pub returns-in-File-clause-ok : goal.returns-in-File-clause-ok
@@ -10,7 +10,7 @@ pub returns-in-Doc-clause-ok : goal.returns-in-Doc-clause-ok
 returns-in-Doc-clause-ok g c = opening_runs c.args.portal.now c.args.connections.now c.args.line.now (Doc c.in-Doc.id c.in-Doc.reusable c.in-Doc.path c.in-Doc.grants) _ c.in-Doc.is (λ a. (refl, refl, refl))
 
 pub returns-in-Now-clause-ok : goal.returns-in-Now-clause-ok
-returns-in-Now-clause-ok g c = opening_runs c.args.portal.now c.args.connections.now c.args.line.now (Now c.in-Now.moment) _ c.in-Now.is (λ a. (refl, refl, refl))
+returns-in-Now-clause-ok g c = clock_runs c.args.portal.now c.args.connections.now c.args.line.now c.in-Now.moment c.set.new.self _ c.in-Now.is c.set.ensures
 
 pub returns-in-Entry-clause-ok : goal.returns-in-Entry-clause-ok
 returns-in-Entry-clause-ok g c = opening_runs c.args.portal.now c.args.connections.now c.args.line.now _ _ c.in-Entry.is (λ a. (refl, refl, refl))

@@ -1,8 +1,5 @@
 use Rattle.std.proofs.Common.{sym, ◌∙◌}
-use Rattle.session.proofs.ServeCall.{call_built}
 use Rattle.session.proofs.item.call_act.Goals as goal
 
 pub returns-in-Portal-clause-may_answer : goal.returns-in-Portal-clause-may_answer
-returns-in-Portal-clause-may_answer c =
-    let is = sym c.in-Ok.ensures.asks ∙ c.in-Portal.is in
-    (call_built c.args.client.now c.args.message c.in-Portal.request is, is)
+returns-in-Portal-clause-may_answer c = sym c.in-Ok.ensures.asks ∙ c.in-Portal.is

@@ -7,14 +7,11 @@ use Rattle.session.proofs.Grew.{asked_err, asked_ok}
 use Rattle.session.proofs.ServeCall.{call_ends, reply_told}
 use Rattle.session.proofs.serve.serve_call.Goals as goal
 
-pub ask-requires : goal.ask-requires
-ask-requires g c = c.requires.0
-
 pub send_answer-requires : goal.send_answer-requires
 send_answer-requires g c =
     let v = g.D.Desk.seated c.args.desk.now in
     let w = g.D.Desk.seated c.ask.new.self in
-    c.reply_message-answer.ensures.writable (reply_told c.args.client.now c.args.call.now c.args.request v w c.in-Ok.reply c.requires.1 c.in-Ok.ensures.asks c.known.ensures)
+    c.reply_message-answer.ensures.writable (reply_told c.args.client.now c.args.call.now c.args.request v w c.in-Ok.reply c.requires c.in-Ok.ensures.asks c.known.ensures)
 
 pub returns-in-Ok-clause-ends : goal.returns-in-Ok-clause-ends
 returns-in-Ok-clause-ends g c =

@@ -1,15 +1,19 @@
-use Rattle.std.proofs.Common.{◌≡◌, ◌≤◌, ◌+◌, ◌∷◌, ◌++◌, [], length, ap, arith, refl, rules, sym, ◌∙◌}
+use Rattle.std.proofs.Common.{◌≡◌, ◌≤◌, ◌+◌, ◌∷◌, ◌++◌, [], length, None, ap, arith, refl, rules, sym, ◌∙◌}
 use Rattle.portal_model.specs.declared.reply.Reply.{Reply}
 use Rattle.portal_model.specs.declared.request.Request.TheVariants as Request
 use Rattle.portal_model.specs.Bus.{is_tree}
 use Rattle.portal_model.specs.History.{cost, cost_of, run}
 use Rattle.portal_model.specs.Lawful.{Lawful}
 use Rattle.portal_model.specs.Opening.{opened_over}
-use Rattle.portal_model.specs.Step.{reply_at, reply_with}
+use Rattle.portal_model.specs.State.{connection_of}
+use Rattle.portal_model.specs.Step.{bus_of, reply_at, reply_with}
 use Rattle.portal_core.specs.Devices.{Keeping}
 use Rattle.portal_core.specs.Story.{state_now}
+use Rattle.portal_core.specs.TreeCalls.{entry_calls}
+use Rattle.portal_core.proofs.BusCalls.{add-calls, bus-moment, listed}
+use Rattle.portal_core.proofs.NodeSteps.{alike-same}
 use Rattle.portal_core.proofs.AskedCalls.{asked-keeps, was-asked-keeps}
-use Rattle.portal_core.proofs.CallSteps.{comes_added, entry_with, failed_device, keeping_over, keeping_run, lawful_run, replied_run, stands_over, stands_served, stays_told}
+use Rattle.portal_core.proofs.CallSteps.{comes_added, entry_with, failed_device, keeping_over, keeping_run, keeps_run, stands_over, stands_served, stays_told}
 use Rattle.portal_core.proofs.WentDevices.{spends-add, went-add}
 use Rattle.portal_core.proofs.portal.Portal.add.Goals as goal
 
@@ -22,17 +26,17 @@ invariant_of-self-in-Ok g c =
     let after = g.T.HostTree.is served.tree in
     let given = c.in-Ok.field-0.given in
     let answer = c.in-Ok.field-0.answer in
-    let came = comes_added began k.opening k.history.entries k.history.limit k.documents k.rights k.applications k.connections c.self.invariant.0 served.documents served.rights served.applications served.connections c.args.seat (Request.Add c.args.add) given answer (g.K.Keeper.is k.keeper) (g.K.Keeper.is served.keeper) c.args.add refl tree.told c.self.invariant.2 c.self.invariant.3 c.in-Ok.ensures.ok in
+    let came = comes_added began k.opening k.history.entries k.history.limit k.documents k.rights k.applications k.connections k.handles tree.told c.self.invariant.0 served.documents served.rights served.applications served.connections c.args.seat (Request.Add c.args.add) given answer (g.K.Keeper.is k.keeper) (g.K.Keeper.is served.keeper) c.args.add refl tree.told refl c.self.invariant.2 c.in-Ok.ensures.ok in
     let room = rw (c.as_slice.ensures) at c.in_ok-reserve.ensures.ok in
     let count = c.serve_add-served.ensures.count in
     let fits : cost k.history.entries + cost_of (Request.Add c.args.add) ≤ k.opening.limits.history = rw (← c.self.view_is) at c.requires in
-    let stands = stands_served began k.opening k.history.entries k.history.limit k.documents k.rights k.applications k.connections c.self.invariant.0 served.documents served.rights served.applications served.connections c.args.seat (Request.Add c.args.add) given answer (g.K.Keeper.is k.keeper) (g.K.Keeper.is served.keeper) came c.serve_add-served.ensures.limits fits in
+    let stands = stands_served began k.opening k.history.entries k.history.limit k.documents k.rights k.applications k.connections k.handles tree.told c.self.invariant.0 served.documents served.rights served.applications served.connections c.args.seat (Request.Add c.args.add) given answer (g.K.Keeper.is k.keeper) (g.K.Keeper.is served.keeper) refl came c.serve_add-served.ensures.limits fits in
     let kept = asked-keeps (length given.looks) (is_tree given.fault) tree after c.in-Ok.ensures.asked in
-    let both = stands_over began after.began k.opening (k.history.entries ++ entry_with c.args.seat (Request.Add c.args.add) given ∷ []) k.history.limit served.documents served.rights served.applications served.connections (g.K.Keeper.is served.keeper).told kept.0 stands came.settles.kept in
+    let keeps = keeps_run began k.opening k.history.entries k.history.limit k.documents k.rights k.applications k.connections k.handles tree.told c.self.invariant.0 served.documents served.rights served.applications served.connections c.args.seat (Request.Add c.args.add) given answer (g.K.Keeper.is k.keeper) (g.K.Keeper.is served.keeper) came in
+    let both = stands_over began after.began k.opening (k.history.entries ++ entry_with c.args.seat (Request.Add c.args.add) given ∷ []) k.history.limit served.documents served.rights served.applications served.connections k.handles tree.told after.told (g.K.Keeper.is served.keeper).told kept.0 kept.1 stands keeps in
     rw (c.push.ensures, c.in_ok-reserve.ensures.entries, c.in_ok-reserve.ensures.limit) (
       both.0,
       omega (arith, room, count),
-      kept.1 ∙ (c.self.invariant.2 ∙ sym kept.0),
       both.1,
     )
 
@@ -45,11 +49,10 @@ invariant_of-self-in-Err g c =
     let room = rw (c.as_slice.ensures) at c.in_ok-reserve.ensures.ok in
     let kept = was-asked-keeps tree after c.in-Err.ensures.tree in
     let told = stays_told (g.K.Keeper.is k.keeper) (g.K.Keeper.is served.keeper) c.in-Err.ensures.keeper in
-    let both = stands_over tree.began after.began k.opening k.history.entries k.history.limit k.documents k.rights k.applications k.connections (g.K.Keeper.is k.keeper).told kept.0 c.self.invariant.0 c.self.invariant.3 in
+    let both = stands_over tree.began after.began k.opening k.history.entries k.history.limit k.documents k.rights k.applications k.connections k.handles tree.told after.told (g.K.Keeper.is k.keeper).told kept.0 kept.1 c.self.invariant.0 c.self.invariant.2 in
     rw (c.in-Err.ensures.documents, c.in-Err.ensures.rights, c.in-Err.ensures.applications, c.in-Err.ensures.connections, c.in_ok-reserve.ensures.entries, c.in_ok-reserve.ensures.limit, told) (
       both.0,
       omega (arith, room),
-      kept.1 ∙ (c.self.invariant.2 ∙ sym kept.0),
       both.1,
     )
 
@@ -72,23 +75,25 @@ returns-in-Ok-clause-ok g c =
     let after = g.T.HostTree.is served.tree in
     let given = c.in-Ok.field-0.given in
     let answer = c.in-Ok.field-0.answer in
-    let came = comes_added began k.opening k.history.entries k.history.limit k.documents k.rights k.applications k.connections c.self.invariant.0 served.documents served.rights served.applications served.connections c.args.seat (Request.Add c.args.add) given answer (g.K.Keeper.is k.keeper) (g.K.Keeper.is served.keeper) c.args.add refl tree.told c.self.invariant.2 c.self.invariant.3 c.in-Ok.ensures.ok in
+    let came = comes_added began k.opening k.history.entries k.history.limit k.documents k.rights k.applications k.connections k.handles tree.told c.self.invariant.0 served.documents served.rights served.applications served.connections c.args.seat (Request.Add c.args.add) given answer (g.K.Keeper.is k.keeper) (g.K.Keeper.is served.keeper) c.args.add refl tree.told refl c.self.invariant.2 c.in-Ok.ensures.ok in
     let entry = entry_with c.args.seat (Request.Add c.args.add) given in
-    let fits : cost k.history.entries + cost_of (Request.Add c.args.add) ≤ k.opening.limits.history = rw (← c.self.view_is) at c.requires in
-    let stands = stands_served began k.opening k.history.entries k.history.limit k.documents k.rights k.applications k.connections c.self.invariant.0 served.documents served.rights served.applications served.connections c.args.seat (Request.Add c.args.add) given answer (g.K.Keeper.is k.keeper) (g.K.Keeper.is served.keeper) came c.serve_add-served.ensures.limits fits in
     let kept = asked-keeps (length given.looks) (is_tree given.fault) tree after c.in-Ok.ensures.asked in
-    let lawful : Lawful (state_now c.args.self.now.story) entry = rw (← c.self.view_is) (lawful_run began k.opening k.history.entries k.history.limit k.documents k.rights k.applications k.connections c.self.invariant.0 served.documents served.rights served.applications served.connections c.args.seat (Request.Add c.args.add) given answer (g.K.Keeper.is k.keeper) (g.K.Keeper.is served.keeper) came) in
-    let replied : reply_with [] answer ≡ reply_at (state_now c.args.self.now.story) entry = rw (← c.self.view_is) (replied_run began k.opening k.history.entries k.history.limit k.documents k.rights k.applications k.connections c.self.invariant.0 served.documents served.rights served.applications served.connections c.args.seat (Request.Add c.args.add) given answer (g.K.Keeper.is k.keeper) (g.K.Keeper.is served.keeper) came) in
+    let lawful : Lawful (state_now c.args.self.now.story) entry = rw (← c.self.view_is) came.lawful in
+    let replied : reply_with [] answer ≡ reply_at (state_now c.args.self.now.story) entry = rw (← c.self.view_is) came.reply_is in
     let keeping : Keeping (state_now c.args.self.now.story) entry (run (opened_over after.began k.opening) (k.history.entries ++ entry ∷ [])) (g.K.Keeper.is c.args.self.now.keeper) (g.K.Keeper.is served.keeper) =
-    rw (← c.self.view_is) (keeping_over began after.began k.opening (k.history.entries ++ entry ∷ []) (run (opened_over began k.opening) k.history.entries) entry (g.K.Keeper.is k.keeper) (g.K.Keeper.is served.keeper) kept.0 (keeping_run began k.opening k.history.entries k.history.limit k.documents k.rights k.applications k.connections c.self.invariant.0 served.documents served.rights served.applications served.connections c.args.seat (Request.Add c.args.add) given answer (g.K.Keeper.is k.keeper) (g.K.Keeper.is served.keeper) came stands)) in
+    rw (← c.self.view_is) (keeping_over began after.began k.opening (k.history.entries ++ entry ∷ []) (run (opened_over began k.opening) k.history.entries) entry (g.K.Keeper.is k.keeper) (g.K.Keeper.is served.keeper) kept.0 (keeping_run began k.opening k.history.entries k.history.limit k.documents k.rights k.applications k.connections k.handles tree.told c.self.invariant.0 served.documents served.rights served.applications served.connections c.args.seat (Request.Add c.args.add) given answer (g.K.Keeper.is k.keeper) (g.K.Keeper.is served.keeper) came)) in
+    let at = run (opened_over began k.opening) k.history.entries in
+    let moment : given.now ≡ None = bus-moment at (Request.Add c.args.add) given (bus_of (connection_of at.connections c.args.seat)) came.lawful.given in
+    let called : entry_calls (state_now c.args.self.now.story) entry ≡ listed (length given.looks) (is_tree given.fault) =
+    rw (← c.self.view_is) (add-calls at c.args.add given (bus_of (connection_of at.connections c.args.seat)) came.lawful.given) in
     record {
       entry = entry;
       grown = search rules;
       seat_is = refl;
       request_is = refl;
       lawful = lawful;
-      reply_is = c.silent_reply.ensures ∙ replied;
-      went = went-add _ _ _ _ _ _ (rw (← c.self.view_is) kept.0) (search rules) (search rules) refl refl (rw (← c.self.view_is) c.in-Ok.ensures.asked) (rw (c.push.ensures, c.in_ok-reserve.ensures.entries) keeping) (search rules) (rw (← c.self.view_is) c.in-Ok.ensures.drew);
+      reply_is = alike-same _ (Request.Add c.args.add) _ _ refl (c.silent_reply.ensures ∙ replied);
+      went = went-add _ _ _ _ _ _ _ (rw (← c.self.view_is) kept.0) (search rules) (search rules) refl refl called (rw (← c.self.view_is) c.in-Ok.ensures.asked) (rw (c.push.ensures, c.in_ok-reserve.ensures.entries) keeping) moment (search rules) (rw (← c.self.view_is) c.in-Ok.ensures.drew);
     }
 
 pub returns-in-Ok-clause-fault : goal.returns-in-Ok-clause-fault
@@ -100,7 +105,7 @@ returns-in-Ok-clause-fault g c =
     let after = g.T.HostTree.is served.tree in
     let given = c.in-Ok.field-0.given in
     let answer = c.in-Ok.field-0.answer in
-    let came = comes_added began k.opening k.history.entries k.history.limit k.documents k.rights k.applications k.connections c.self.invariant.0 served.documents served.rights served.applications served.connections c.args.seat (Request.Add c.args.add) given answer (g.K.Keeper.is k.keeper) (g.K.Keeper.is served.keeper) c.args.add refl tree.told c.self.invariant.2 c.self.invariant.3 c.in-Ok.ensures.ok in
+    let came = comes_added began k.opening k.history.entries k.history.limit k.documents k.rights k.applications k.connections k.handles tree.told c.self.invariant.0 served.documents served.rights served.applications served.connections c.args.seat (Request.Add c.args.add) given answer (g.K.Keeper.is k.keeper) (g.K.Keeper.is served.keeper) c.args.add refl tree.told refl c.self.invariant.2 c.in-Ok.ensures.ok in
     λ h. absurd (came.settles.no_errno (sym (ap (λ (r : Reply). r.answer) c.silent_reply.ensures) ∙ h))
 
 pub returns-in-Ok-clause-failure : goal.returns-in-Ok-clause-failure
@@ -112,10 +117,10 @@ returns-in-Ok-clause-failure g c =
     let after = g.T.HostTree.is served.tree in
     let given = c.in-Ok.field-0.given in
     let answer = c.in-Ok.field-0.answer in
-    let came = comes_added began k.opening k.history.entries k.history.limit k.documents k.rights k.applications k.connections c.self.invariant.0 served.documents served.rights served.applications served.connections c.args.seat (Request.Add c.args.add) given answer (g.K.Keeper.is k.keeper) (g.K.Keeper.is served.keeper) c.args.add refl tree.told c.self.invariant.2 c.self.invariant.3 c.in-Ok.ensures.ok in
+    let came = comes_added began k.opening k.history.entries k.history.limit k.documents k.rights k.applications k.connections k.handles tree.told c.self.invariant.0 served.documents served.rights served.applications served.connections c.args.seat (Request.Add c.args.add) given answer (g.K.Keeper.is k.keeper) (g.K.Keeper.is served.keeper) c.args.add refl tree.told refl c.self.invariant.2 c.in-Ok.ensures.ok in
     λ h. rw (← c.self.view_is) (failed_device tree after (length given.looks) given.fault _ answer (g.K.Keeper.is k.keeper) (g.K.Keeper.is served.keeper) c.in-Ok.ensures.asked came.settles (sym (ap (λ (r : Reply). r.answer) c.silent_reply.ensures) ∙ h))
 
 pub returns-in-Err-clause-err : goal.returns-in-Err-clause-err
 returns-in-Err-clause-err g c =
     let kept = was-asked-keeps (g.T.HostTree.is c.self.inside.tree) (g.T.HostTree.is c.serve_add-served.new.tree) c.in-Err.ensures.tree in
-    spends-add _ _ _ _ _ _ refl (rw (← c.self.view_is) c.in-Err.ensures.tree) (rw (← c.self.view_is) c.in-Err.ensures.keeper) (search rules) (rw (← c.self.view_is) c.in-Err.ensures.words) (rw (← c.self.view_is) kept.0) (search rules) (search rules)
+    spends-add _ _ _ _ _ _ _ refl refl (rw (← c.self.view_is) c.in-Err.ensures.tree) (rw (← c.self.view_is) c.in-Err.ensures.keeper) (search rules) (rw (← c.self.view_is) c.in-Err.ensures.words) (rw (← c.self.view_is) kept.0) (search rules) (search rules)

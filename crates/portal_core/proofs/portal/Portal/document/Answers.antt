@@ -3,10 +3,15 @@ use Rattle.portal_model.specs.declared.reply.Reply.{Reply}
 use Rattle.portal_model.specs.History.{cost, cost_of, run}
 use Rattle.portal_model.specs.Lawful.{Lawful}
 use Rattle.portal_model.specs.Opening.{opened_over}
-use Rattle.portal_model.specs.Step.{reply_at, reply_with}
+use Rattle.portal_model.specs.State.{connection_of}
+use Rattle.portal_model.specs.Step.{bus_of, reply_at, reply_with}
 use Rattle.portal_core.specs.Devices.{Keeping}
 use Rattle.portal_core.specs.Story.{state_now}
-use Rattle.portal_core.proofs.CallSteps.{comes, entry_with, keeping_run, lawful_run, replied_run, stands_served, untreed}
+use Rattle.portal_core.specs.TreeCalls.{entry_calls}
+use Rattle.portal_core.proofs.BusCalls.{call-calls, on-bus}
+use Rattle.portal_core.proofs.CallSteps.{comes, entry_with, keeping_run, keeps_run, stands_served, untreed}
+use Rattle.portal_core.proofs.CallVerdicts.{call-on-bus}
+use Rattle.portal_core.proofs.NodeSteps.{alike-same, call-off-nodes}
 use Rattle.portal_core.proofs.WentDevices.{went-call}
 use Rattle.portal_core.proofs.portal.Portal.document.Goals as goal
 
@@ -14,68 +19,73 @@ pub invariant_of-self-in-Ok : goal.invariant_of-self-in-Ok
 invariant_of-self-in-Ok g c =
     let k = c.self.inside in
     let began = (g.T.HostTree.is k.tree).began in
+    let told = (g.T.HostTree.is k.tree).told in
     let served = c.serve-served.new in
     let room = rw (c.as_slice.ensures) at c.in_ok-reserve.ensures.ok in
     let count = c.serve-served.ensures.count in
     let fits : cost k.history.entries + cost_of c.args.request ≤ k.opening.limits.history = rw (← c.self.view_is) at c.requires.fits in
-    let came = comes began k.opening k.history.entries k.history.limit k.documents k.rights k.applications k.connections c.self.invariant.0 served.documents served.rights served.applications served.connections c.args.seat c.args.request c.in-Ok.field-0.given c.in-Ok.field-0.answer
-    (g.K.Keeper.is k.keeper) (g.K.Keeper.is served.keeper) c.requires.call c.self.invariant.3 c.in-Ok.ensures.ok in
-    let stands = stands_served began k.opening k.history.entries k.history.limit k.documents k.rights k.applications k.connections c.self.invariant.0 served.documents served.rights served.applications served.connections c.args.seat c.args.request c.in-Ok.field-0.given c.in-Ok.field-0.answer
-    (g.K.Keeper.is k.keeper) (g.K.Keeper.is served.keeper) came c.serve-served.ensures.limits fits in
+    let came = comes began k.opening k.history.entries k.history.limit k.documents k.rights k.applications k.connections k.handles told c.self.invariant.0 served.documents served.rights served.applications served.connections c.args.seat c.args.request c.in-Ok.field-0.given c.in-Ok.field-0.answer
+    (g.K.Keeper.is k.keeper) (g.K.Keeper.is served.keeper) c.requires.call c.self.invariant.2 c.in-Ok.ensures.ok in
+    let stands = stands_served began k.opening k.history.entries k.history.limit k.documents k.rights k.applications k.connections k.handles told c.self.invariant.0 served.documents served.rights served.applications served.connections c.args.seat c.args.request c.in-Ok.field-0.given c.in-Ok.field-0.answer
+    (g.K.Keeper.is k.keeper) (g.K.Keeper.is served.keeper) (call-on-bus c.args.request c.requires.call) came c.serve-served.ensures.limits fits in
     rw (c.push.ensures, c.in_ok-reserve.ensures.entries, c.in_ok-reserve.ensures.limit) (
       stands,
       omega (arith, room, count),
-      c.self.invariant.2,
-      came.settles.kept,
+      keeps_run began k.opening k.history.entries k.history.limit k.documents k.rights k.applications k.connections k.handles told c.self.invariant.0 served.documents served.rights served.applications served.connections c.args.seat c.args.request c.in-Ok.field-0.given c.in-Ok.field-0.answer
+          (g.K.Keeper.is k.keeper) (g.K.Keeper.is served.keeper) came,
     )
 
 pub returns-in-Ok-clause-ok : goal.returns-in-Ok-clause-ok
 returns-in-Ok-clause-ok g c =
     let k = c.self.inside in
     let began = (g.T.HostTree.is k.tree).began in
+    let told = (g.T.HostTree.is k.tree).told in
     let served = c.serve-served.new in
     let entry = entry_with c.args.seat c.args.request c.in-Ok.field-0.given in
-    let fits : cost k.history.entries + cost_of c.args.request ≤ k.opening.limits.history = rw (← c.self.view_is) at c.requires.fits in
-    let came = comes began k.opening k.history.entries k.history.limit k.documents k.rights k.applications k.connections c.self.invariant.0 served.documents served.rights served.applications served.connections c.args.seat c.args.request c.in-Ok.field-0.given c.in-Ok.field-0.answer
-    (g.K.Keeper.is k.keeper) (g.K.Keeper.is served.keeper) c.requires.call c.self.invariant.3 c.in-Ok.ensures.ok in
-    let stands = stands_served began k.opening k.history.entries k.history.limit k.documents k.rights k.applications k.connections c.self.invariant.0 served.documents served.rights served.applications served.connections c.args.seat c.args.request c.in-Ok.field-0.given c.in-Ok.field-0.answer
-    (g.K.Keeper.is k.keeper) (g.K.Keeper.is served.keeper) came c.serve-served.ensures.limits fits in
-    let plain = untreed began k.opening k.history.entries k.history.limit k.documents k.rights k.applications k.connections c.self.invariant.0 served.documents served.rights served.applications served.connections c.args.seat c.args.request c.in-Ok.field-0.given c.in-Ok.field-0.answer
+    let came = comes began k.opening k.history.entries k.history.limit k.documents k.rights k.applications k.connections k.handles told c.self.invariant.0 served.documents served.rights served.applications served.connections c.args.seat c.args.request c.in-Ok.field-0.given c.in-Ok.field-0.answer
+    (g.K.Keeper.is k.keeper) (g.K.Keeper.is served.keeper) c.requires.call c.self.invariant.2 c.in-Ok.ensures.ok in
+    let plain = untreed began k.opening k.history.entries k.history.limit k.documents k.rights k.applications k.connections k.handles told c.self.invariant.0 served.documents served.rights served.applications served.connections c.args.seat c.args.request c.in-Ok.field-0.given c.in-Ok.field-0.answer
     (g.K.Keeper.is k.keeper) (g.K.Keeper.is served.keeper) c.requires.call c.in-Ok.ensures.ok in
     let lawful : Lawful (state_now c.args.self.now.story) entry =
-    rw (← c.self.view_is) (lawful_run began k.opening k.history.entries k.history.limit k.documents k.rights k.applications k.connections c.self.invariant.0 served.documents served.rights served.applications served.connections c.args.seat c.args.request c.in-Ok.field-0.given c.in-Ok.field-0.answer
-    (g.K.Keeper.is k.keeper) (g.K.Keeper.is served.keeper) came) in
+    rw (← c.self.view_is) came.lawful in
     let replied : reply_with [] c.in-Ok.field-0.answer ≡ reply_at (state_now c.args.self.now.story) entry =
-    rw (← c.self.view_is) (replied_run began k.opening k.history.entries k.history.limit k.documents k.rights k.applications k.connections c.self.invariant.0 served.documents served.rights served.applications served.connections c.args.seat c.args.request c.in-Ok.field-0.given c.in-Ok.field-0.answer
-    (g.K.Keeper.is k.keeper) (g.K.Keeper.is served.keeper) came) in
+    rw (← c.self.view_is) came.reply_is in
     let keeping : Keeping (state_now c.args.self.now.story) entry (run (opened_over began k.opening) (k.history.entries ++ entry ∷ [])) (g.K.Keeper.is c.args.self.now.keeper) (g.K.Keeper.is served.keeper) =
-    rw (← c.self.view_is) (keeping_run began k.opening k.history.entries k.history.limit k.documents k.rights k.applications k.connections c.self.invariant.0 served.documents served.rights served.applications served.connections c.args.seat c.args.request c.in-Ok.field-0.given c.in-Ok.field-0.answer
-    (g.K.Keeper.is k.keeper) (g.K.Keeper.is served.keeper) came stands) in
+    rw (← c.self.view_is) (keeping_run began k.opening k.history.entries k.history.limit k.documents k.rights k.applications k.connections k.handles told c.self.invariant.0 served.documents served.rights served.applications served.connections c.args.seat c.args.request c.in-Ok.field-0.given c.in-Ok.field-0.answer
+    (g.K.Keeper.is k.keeper) (g.K.Keeper.is served.keeper) came) in
+    let at = run (opened_over began k.opening) k.history.entries in
+    let called : entry_calls (state_now c.args.self.now.story) entry ≡ [] =
+    rw (← c.self.view_is) (on-bus at c.args.seat c.args.request c.in-Ok.field-0.given (call-on-bus c.args.request c.requires.call)
+    ∙ call-calls at c.args.request c.in-Ok.field-0.given (bus_of (connection_of at.connections c.args.seat)) c.requires.call) in
     record {
       entry = entry;
       grown = search rules;
       seat_is = refl;
       request_is = refl;
       lawful = lawful;
-      reply_is = c.silent_reply.ensures ∙ replied;
-      went = went-call _ _ _ _ _ _ (search rules) (search rules) (search rules) (search rules) plain.looks plain.untreed (rw (c.push.ensures, c.in_ok-reserve.ensures.entries) keeping) (search rules) plain.words (search rules)
+      reply_is = alike-same _ c.args.request _ _ (call-off-nodes c.args.request c.requires.call) (c.silent_reply.ensures ∙ replied);
+      went = went-call _ _ _ _ _ _ _ (search rules) (search rules) (search rules) (search rules) called (rw (c.push.ensures, c.in_ok-reserve.ensures.entries) keeping) plain.moment (search rules) plain.words (search rules)
           (λ h. (plain.unkept h, rw (← c.self.view_is) (c.serve-served.ensures.unasked h)));
     }
 
 pub returns-in-Ok-clause-fault : goal.returns-in-Ok-clause-fault
 returns-in-Ok-clause-fault g c =
     let k = c.self.inside in
+    let began = (g.T.HostTree.is k.tree).began in
+    let told = (g.T.HostTree.is k.tree).told in
     let served = c.serve-served.new in
-    let came = comes (g.T.HostTree.is k.tree).began k.opening k.history.entries k.history.limit k.documents k.rights k.applications k.connections c.self.invariant.0 served.documents served.rights served.applications served.connections c.args.seat c.args.request c.in-Ok.field-0.given c.in-Ok.field-0.answer
-    (g.K.Keeper.is k.keeper) (g.K.Keeper.is served.keeper) c.requires.call c.self.invariant.3 c.in-Ok.ensures.ok in
+    let came = comes began k.opening k.history.entries k.history.limit k.documents k.rights k.applications k.connections k.handles told c.self.invariant.0 served.documents served.rights served.applications served.connections c.args.seat c.args.request c.in-Ok.field-0.given c.in-Ok.field-0.answer
+    (g.K.Keeper.is k.keeper) (g.K.Keeper.is served.keeper) c.requires.call c.self.invariant.2 c.in-Ok.ensures.ok in
     λ h. absurd (came.settles.no_errno (sym (ap (λ (r : Reply). r.answer) c.silent_reply.ensures) ∙ h))
 
 pub returns-in-Ok-clause-failure : goal.returns-in-Ok-clause-failure
 returns-in-Ok-clause-failure g c =
     let k = c.self.inside in
+    let began = (g.T.HostTree.is k.tree).began in
+    let told = (g.T.HostTree.is k.tree).told in
     let served = c.serve-served.new in
-    let came = comes (g.T.HostTree.is k.tree).began k.opening k.history.entries k.history.limit k.documents k.rights k.applications k.connections c.self.invariant.0 served.documents served.rights served.applications served.connections c.args.seat c.args.request c.in-Ok.field-0.given c.in-Ok.field-0.answer
-    (g.K.Keeper.is k.keeper) (g.K.Keeper.is served.keeper) c.requires.call c.self.invariant.3 c.in-Ok.ensures.ok in
-    let plain = untreed (g.T.HostTree.is k.tree).began k.opening k.history.entries k.history.limit k.documents k.rights k.applications k.connections c.self.invariant.0 served.documents served.rights served.applications served.connections c.args.seat c.args.request c.in-Ok.field-0.given c.in-Ok.field-0.answer
+    let came = comes began k.opening k.history.entries k.history.limit k.documents k.rights k.applications k.connections k.handles told c.self.invariant.0 served.documents served.rights served.applications served.connections c.args.seat c.args.request c.in-Ok.field-0.given c.in-Ok.field-0.answer
+    (g.K.Keeper.is k.keeper) (g.K.Keeper.is served.keeper) c.requires.call c.self.invariant.2 c.in-Ok.ensures.ok in
+    let plain = untreed began k.opening k.history.entries k.history.limit k.documents k.rights k.applications k.connections k.handles told c.self.invariant.0 served.documents served.rights served.applications served.connections c.args.seat c.args.request c.in-Ok.field-0.given c.in-Ok.field-0.answer
     (g.K.Keeper.is k.keeper) (g.K.Keeper.is served.keeper) c.requires.call c.in-Ok.ensures.ok in
     λ h. inr (rw (← c.self.view_is) (came.settles.failed plain.untreed (sym (ap (λ (r : Reply). r.answer) c.silent_reply.ensures) ∙ h)))

@@ -1,7 +1,8 @@
-use Rattle.std.proofs.Common.{◌≡◌, ◌<◌, length, is_some, arith, rules, true}
+use Rattle.std.proofs.Common.{◌≡◌, ◌<◌, length, is_some, arith, rules, true, refl}
 use Rattle.portal_model.specs.Leave.{of_others}
 use Rattle.portal_model.specs.State.{connection_of}
-use Rattle.portal_core.proofs.Steps.{fewer_others, stands_absent, stands_left}
+use Rattle.portal_core.proofs.Steps.{fewer_others, keeps-left, stands_absent, stands_left}
+use Rattle.portal_core.proofs.NodeSteps.{alike-same}
 use Rattle.portal_core.proofs.WentDevices.{went-plain}
 use Rattle.portal_core.proofs.portal.Portal.leave.Goals as goal
 
@@ -9,11 +10,10 @@ pub invariant_of-self-then-not-is_here : goal.invariant_of-self-then-not-is_here
 invariant_of-self-then-not-is_here g c =
     let room = rw (c.as_slice-then-not-is_here.ensures) at c.in_ok-reserve.ensures.ok in
     rw (c.push.ensures, c.in_ok-reserve.ensures.entries, c.in_ok-reserve.ensures.limit, c.entry_made-entry.ensures, c.new.ensures) (
-      stands_absent (g.T.HostTree.is c.self.inside.tree).began c.self.inside.opening c.self.inside.history.entries c.self.inside.history.limit c.self.inside.documents c.self.inside.rights c.self.inside.applications c.self.inside.connections c.self.invariant.0
+      stands_absent (g.T.HostTree.is c.self.inside.tree).began c.self.inside.opening c.self.inside.history.entries c.self.inside.history.limit c.self.inside.documents c.self.inside.rights c.self.inside.applications c.self.inside.connections c.self.inside.handles (g.T.HostTree.is c.self.inside.tree).told c.self.invariant.0
           c.args.seat (search rules),
       omega (arith, room),
-      c.self.invariant.2,
-      c.self.invariant.3,
+      keeps-left (g.T.HostTree.is c.self.inside.tree).began c.self.inside.opening c.self.inside.history.entries c.self.inside.history.limit c.self.inside.documents c.self.inside.rights c.self.inside.applications c.self.inside.connections c.self.inside.handles (g.T.HostTree.is c.self.inside.tree).told c.self.invariant.0 c.args.seat (g.K.Keeper.is c.self.inside.keeper).told c.self.invariant.2,
     )
 
 pub invariant_of-self-2 : goal.invariant_of-self-2
@@ -21,10 +21,9 @@ invariant_of-self-2 g c =
     let here : is_some (connection_of c.self.inside.connections c.args.seat) ≡ true = search rules in
     let fewer : length (of_others c.args.seat c.self.inside.connections) < length c.self.inside.connections = fewer_others c.args.seat c.self.inside.connections here in
     rw (c.push-2.ensures, c.of_others.ensures, c.replace-connections.ensures.value, c.entry_made-entry.ensures, c.new.ensures) (
-      stands_left (g.T.HostTree.is c.self.inside.tree).began c.self.inside.opening c.self.inside.history.entries c.self.inside.history.limit c.self.inside.documents c.self.inside.rights c.self.inside.applications c.self.inside.connections c.self.invariant.0 c.args.seat here,
+      stands_left (g.T.HostTree.is c.self.inside.tree).began c.self.inside.opening c.self.inside.history.entries c.self.inside.history.limit c.self.inside.documents c.self.inside.rights c.self.inside.applications c.self.inside.connections c.self.inside.handles (g.T.HostTree.is c.self.inside.tree).told c.self.invariant.0 c.args.seat c.leave.new.self here c.leave.ensures.limit c.leave.ensures.rest,
       omega (arith, c.self.invariant.1),
-      c.self.invariant.2,
-      c.self.invariant.3,
+      keeps-left (g.T.HostTree.is c.self.inside.tree).began c.self.inside.opening c.self.inside.history.entries c.self.inside.history.limit c.self.inside.documents c.self.inside.rights c.self.inside.applications c.self.inside.connections c.self.inside.handles (g.T.HostTree.is c.self.inside.tree).told c.self.invariant.0 c.args.seat (g.K.Keeper.is c.self.inside.keeper).told c.self.invariant.2,
     )
 
 pub returns-then-not-is_here-clause-ok : goal.returns-then-not-is_here-clause-ok
@@ -35,8 +34,8 @@ returns-then-not-is_here-clause-ok g c =
       seat_is = search rules;
       request_is = search rules;
       lawful = search rules;
-      reply_is = search rules;
-      went = went-plain _ _ _ _ _ _ (search rules) (search rules) (search rules) (search rules) (search rules) (search rules) (search rules) (search rules) (search rules) (search rules);
+      reply_is = alike-same _ _ _ _ refl (search rules);
+      went = went-plain _ _ _ _ _ _ _ (search rules) (search rules) (search rules) (search rules) (search rules) (search rules) (search rules) (search rules) (search rules) (search rules) (search rules) (search rules);
     }
 
 pub returns-clause-ok : goal.returns-clause-ok
@@ -47,6 +46,6 @@ returns-clause-ok g c =
       seat_is = search rules;
       request_is = search rules;
       lawful = search rules;
-      reply_is = search rules;
-      went = went-plain _ _ _ _ _ _ (search rules) (search rules) (search rules) (search rules) (search rules) (search rules) (search rules) (search rules) (search rules) (search rules);
+      reply_is = alike-same _ _ _ _ refl (search rules);
+      went = went-plain _ _ _ _ _ _ _ (search rules) (search rules) (search rules) (search rules) (search rules) (search rules) (search rules) (search rules) (search rules) (search rules) (search rules) (search rules);
     }

@@ -1,68 +1,124 @@
-use Rattle.std.proofs.Common.{◌≡◌, ◌≢◌, ◌≤◌, ◌+◌, ◌∷◌, ◌++◌, [], arith, refl, rules, sym, ◌∙◌}
+use Rattle.std.proofs.Common.{◌≡◌, ◌≢◌, ◌≤◌, ◌+◌, ◌∷◌, ◌++◌, [], ap, arith, refl, rules, sym, ◌∙◌}
+use Rattle.file_ops.specs.Done.{Reads}
+use Rattle.file_ops.specs.Served.{given_to}
+use Rattle.node_serving.specs.Seats.{seat_calls}
+use Rattle.portal_model.specs.declared.entry.Entry.{Entry}
 use Rattle.portal_model.specs.declared.entry.Fault.TheVariants as Fault
+use Rattle.portal_model.specs.declared.reply.Answer.{Answer}
+use Rattle.portal_model.specs.declared.reply.Reply.{Reply}
 use Rattle.portal_model.specs.declared.request.Request.TheVariants as Request
-use Rattle.portal_model.specs.History.{cost, cost_of}
+use Rattle.portal_model.specs.Alike.{Alike}
+use Rattle.portal_model.specs.History.{cost, cost_of, run}
 use Rattle.portal_model.specs.Lawful.{Lawful}
+use Rattle.portal_model.specs.Opening.{opened_over}
 use Rattle.portal_model.specs.Step.{reply_at, reply_with}
-use Rattle.portal_core.specs.Served.{entry_of, fault_of, looked, taken}
-use Rattle.portal_core.specs.Story.{state_now}
-use Rattle.portal_core.specs.TreeCalls.{Calling}
-use Rattle.portal_core.proofs.Looks.{not_kept}
-use Rattle.portal_core.proofs.Steps.{is_silent_now, lawful_node, replied_node, serves, stands_again, stands_node}
-use Rattle.portal_core.proofs.WentDevices.{went-plain}
+use Rattle.portal_core.specs.Served.{node_entry}
+use Rattle.portal_core.specs.Story.{state_first, state_now}
+use Rattle.portal_core.specs.TreeCalls.{Calling, entry_calls}
+use Rattle.portal_core.proofs.CallSteps.{stands_over}
+use Rattle.portal_core.proofs.NodeSteps.{calls-keep, never-kept, replied-node, told-on, was-called-keeps}
+use Rattle.portal_core.proofs.Steps.{keeps-node, lawful_node, served_in, stands_node, stands_wanting}
+use Rattle.portal_core.proofs.WentDevices.{spends-node, went-node}
 use Rattle.portal_core.proofs.portal.Portal.node.Goals as goal
 
-pub invariant_of-self-2 : goal.invariant_of-self-2
-invariant_of-self-2 g c =
+pub invariant_of-self-in-Ok : goal.invariant_of-self-in-Ok
+invariant_of-self-in-Ok g c =
     let k = c.self.inside in
-    let old = g.T.HostTree.is k.tree in
-    let new = g.T.HostTree.is c.serve-answer.new.tree in
-    let done = c.serve-answer.result in
+    let tree = g.T.HostTree.is k.tree in
+    let new = c.serve-served.new in
+    let after = g.T.HostTree.is new.tree in
+    let done = c.in-Ok.done in
     let room = rw (c.as_slice.ensures) at c.in_ok-reserve.ensures.ok in
-    let silent = is_silent_now old.began k.opening k.history.entries k.history.limit k.documents k.rights k.applications k.connections c.self.invariant.0 in
-    let s = serves old.began k.opening k.documents k.rights k.applications k.connections c.args.seat c.args.request old c.self.invariant.2 silent done.answer done.look new c.requires.built (rw (c.as_slice-2.ensures) at c.serve-answer.ensures) in
-    let fits : cost k.history.entries + cost_of (Request.Node c.args.request) ≤ k.opening.limits.history = rw (← c.self.view_is) at c.requires.fits in
-    let stands = stands_node old.began k.opening k.history.entries k.history.limit k.documents k.rights k.applications k.connections c.self.invariant.0 c.args.seat c.args.request old done.answer done.look new s fits in
-    let both = stands_again old.began k.opening k.history.entries k.history.limit k.documents k.rights k.applications k.connections c.self.invariant.0 new.began (g.K.Keeper.is k.keeper).told s.kept.0 c.self.invariant.3
-    (k.history.entries ++ entry_of c.args.seat (Request.Node c.args.request) (taken done.look) (fault_of done.look) ∷ []) stands in
-    rw (c.push.ensures, c.in_ok-reserve.ensures.entries, c.in_ok-reserve.ensures.limit, c.entry_made-entry.ensures, c.looks_made-looks.ensures, c.fault_shown-fault.ensures) (
+    let count = c.serve-served.ensures.count in
+    let at = run (opened_over tree.began k.opening) k.history.entries in
+    let s = c.in-Ok.ensures.ok at (served_in tree.began k.opening k.history.entries k.history.limit k.documents k.rights k.applications k.connections k.handles tree.told c.self.invariant.0 _ refl refl refl refl) in
+    let fits : cost k.history.entries + cost_of (Request.Node c.args.request) ≤ k.opening.limits.history = rw (← c.self.view_is) at c.requires in
+    let stands = stands_node tree.began k.opening k.history.entries k.history.limit k.documents k.rights k.applications k.connections k.handles tree.told c.self.invariant.0 c.args.seat c.args.request tree done new.connections new.handles after s fits in
+    let keeps = keeps-node tree.began k.opening k.history.entries k.history.limit k.documents k.rights k.applications k.connections k.handles tree.told c.self.invariant.0 c.args.seat c.args.request tree done new.connections new.handles after s (g.K.Keeper.is k.keeper).told c.self.invariant.2 in
+    let kept = calls-keep tree (seat_calls at c.args.seat c.args.request (given_to done)) after.told after s.calls in
+    let both = stands_over tree.began after.began k.opening (k.history.entries ++ node_entry c.args.seat c.args.request done ∷ []) k.history.limit k.documents k.rights k.applications new.connections new.handles after.told after.told (g.K.Keeper.is k.keeper).told kept refl stands keeps in
+    rw (c.push.ensures, c.in_ok-reserve.ensures.entries, c.in_ok-reserve.ensures.limit, c.node_entry-entry.ensures) (
       both.0,
-      omega (arith, room),
-      s.kept.1 ∙ (c.self.invariant.2 ∙ sym s.kept.0),
+      omega (arith, room, count),
       both.1,
     )
 
-pub returns-clause-began : goal.returns-clause-began
-returns-clause-began g c =
+pub invariant_of-self-in-Err : goal.invariant_of-self-in-Err
+invariant_of-self-in-Err g c =
     let k = c.self.inside in
-    let old = g.T.HostTree.is k.tree in
-    let new = g.T.HostTree.is c.serve-answer.new.tree in
-    let done = c.serve-answer.result in
-    let silent = is_silent_now old.began k.opening k.history.entries k.history.limit k.documents k.rights k.applications k.connections c.self.invariant.0 in
-    let s = serves old.began k.opening k.documents k.rights k.applications k.connections c.args.seat c.args.request old c.self.invariant.2 silent done.answer done.look new c.requires.built (rw (c.as_slice-2.ensures) at c.serve-answer.ensures) in
-    rw (← c.self.view_is) s.kept.0
+    let tree = g.T.HostTree.is k.tree in
+    let after = g.T.HostTree.is c.serve-served.new.tree in
+    let room = rw (c.as_slice.ensures) at c.in_ok-reserve.ensures.ok in
+    let kept = was-called-keeps tree after c.in-Err.ensures.err.calls in
+    let wanting = stands_wanting tree.began k.opening k.history.entries k.history.limit k.documents k.rights k.applications k.connections k.handles tree.told c.self.invariant.0 c.serve-served.new.handles c.in-Err.ensures.err.handles in
+    let both = stands_over tree.began after.began k.opening k.history.entries k.history.limit k.documents k.rights k.applications k.connections c.serve-served.new.handles tree.told after.told (g.K.Keeper.is k.keeper).told kept.0 kept.1 wanting c.self.invariant.2 in
+    rw (c.in-Err.ensures.connections, c.in_ok-reserve.ensures.entries, c.in_ok-reserve.ensures.limit) (
+      both.0,
+      omega (arith, room),
+      both.1,
+    )
 
-pub returns-clause-ok : goal.returns-clause-ok
-returns-clause-ok g c =
+pub returns-in-Ok-clause-ok : goal.returns-in-Ok-clause-ok
+returns-in-Ok-clause-ok g c =
     let k = c.self.inside in
-    let old = g.T.HostTree.is k.tree in
-    let new = g.T.HostTree.is c.serve-answer.new.tree in
-    let done = c.serve-answer.result in
-    let silent = is_silent_now old.began k.opening k.history.entries k.history.limit k.documents k.rights k.applications k.connections c.self.invariant.0 in
-    let s = serves old.began k.opening k.documents k.rights k.applications k.connections c.args.seat c.args.request old c.self.invariant.2 silent done.answer done.look new c.requires.built (rw (c.as_slice-2.ensures) at c.serve-answer.ensures) in
-    let entry_is : c.entry_made-entry.result ≡ entry_of c.args.seat (Request.Node c.args.request) (taken done.look) (fault_of done.look) = rw (c.entry_made-entry.ensures, c.looks_made-looks.ensures, c.fault_shown-fault.ensures) refl in
-    let lawful : Lawful (state_now c.args.self.now.story) (entry_of c.args.seat (Request.Node c.args.request) (taken done.look) (fault_of done.look)) =
-    rw (← c.self.view_is) (lawful_node old.began k.opening k.history.entries k.history.limit k.documents k.rights k.applications k.connections c.self.invariant.0 c.args.seat c.args.request old done.answer done.look new s) in
-    let replied : reply_with [] done.answer ≡ reply_at (state_now c.args.self.now.story) (entry_of c.args.seat (Request.Node c.args.request) (taken done.look) (fault_of done.look)) =
-    rw (← c.self.view_is) (replied_node old.began k.opening k.history.entries k.history.limit k.documents k.rights k.applications k.connections c.self.invariant.0 c.args.seat c.args.request old done.answer done.look new s) in
-    let calling : Calling (g.T.HostTree.is c.args.self.now.tree) (looked (taken done.look) (fault_of done.look)) new = rw (← c.self.view_is) s.calling in
-    let kept : fault_of done.look ≢ Fault.Keeper = not_kept done.look in
+    let tree = g.T.HostTree.is k.tree in
+    let new = c.serve-served.new in
+    let after = g.T.HostTree.is new.tree in
+    let done = c.in-Ok.done in
+    let at = run (opened_over tree.began k.opening) k.history.entries in
+    let s = c.in-Ok.ensures.ok at (served_in tree.began k.opening k.history.entries k.history.limit k.documents k.rights k.applications k.connections k.handles tree.told c.self.invariant.0 _ refl refl refl refl) in
+    let kept = calls-keep tree (seat_calls at c.args.seat c.args.request (given_to done)) after.told after s.calls in
+    let made : Entry = node_entry c.args.seat c.args.request done in
+    let entry_is : c.node_entry-entry.result.0 ≡ made = ap (λ (x : Entry × Answer). x.0) c.node_entry-entry.ensures in
+    let answer_is : done.answer ≡ c.node_entry-entry.result.1 = sym (ap (λ (x : Entry × Answer). x.1) c.node_entry-entry.ensures) in
+    let reply_made : reply_with [] done.answer ≡ c.silent_reply.result = ap (reply_with []) answer_is ∙ sym c.silent_reply.ensures in
+    let lawful : Lawful (state_now c.args.self.now.story) made =
+    rw (← c.self.view_is) (lawful_node tree.began k.opening k.history.entries k.history.limit k.documents k.rights k.applications k.connections k.handles tree.told c.self.invariant.0 c.args.seat c.args.request tree done new.connections new.handles after s) in
+    let replied : Alike (state_first c.args.self.now.story).told (Request.Node c.args.request) (reply_at (state_now c.args.self.now.story) made) (reply_with [] done.answer) =
+    rw (← c.self.view_is) (replied-node (opened_over tree.began k.opening).told at c.args.seat c.args.request tree done new.connections new.handles after (told-on k.history.entries (opened_over tree.began k.opening)) s) in
+    let calling : Calling (g.T.HostTree.is c.args.self.now.tree) (entry_calls (state_now c.args.self.now.story) made) after.told after = rw (← c.self.view_is) s.calls in
+    let kept_not : made.given.fault ≢ Fault.Keeper = never-kept _ c.args.request made.given _ s.lawful in
+    let moment : Reads g.C.Clock.told c.args.self.now.clock made.given.now new.clock = rw (← c.self.view_is) c.in-Ok.ensures.clock in
     record {
-      entry = c.entry_made-entry.result;
+      entry = c.node_entry-entry.result.0;
       grown = search rules;
-      seat_is = search rules;
-      request_is = search rules;
+      seat_is = rw entry_is refl;
+      request_is = rw entry_is refl;
       lawful = rw entry_is lawful;
-      reply_is = c.silent_reply.ensures ∙ rw entry_is replied;
-      went = went-plain _ _ _ _ _ _ (rw (← c.self.view_is) s.kept.0) (search rules) (search rules) (search rules) (rw entry_is calling) (rw entry_is kept) (search rules) (search rules) (search rules) (search rules);
+      reply_is = rw (entry_is, ← reply_made) replied;
+      went = went-node _ _ _ _ _ _ _ (rw (← c.self.view_is) kept) (search rules) (search rules) (rw entry_is refl) (rw entry_is calling) (rw entry_is kept_not) (rw entry_is refl) (search rules) (rw entry_is moment) (search rules);
     }
+
+pub returns-in-Ok-clause-began : goal.returns-in-Ok-clause-began
+returns-in-Ok-clause-began g c =
+    let k = c.self.inside in
+    let tree = g.T.HostTree.is k.tree in
+    let after = g.T.HostTree.is c.serve-served.new.tree in
+    let at = run (opened_over tree.began k.opening) k.history.entries in
+    let s = c.in-Ok.ensures.ok at (served_in tree.began k.opening k.history.entries k.history.limit k.documents k.rights k.applications k.connections k.handles tree.told c.self.invariant.0 _ refl refl refl refl) in
+    rw (← c.self.view_is) (calls-keep tree (seat_calls at c.args.seat c.args.request (given_to c.in-Ok.done)) after.told after s.calls)
+
+pub returns-in-Err-clause-began : goal.returns-in-Err-clause-began
+returns-in-Err-clause-began g c =
+    rw (← c.self.view_is) (was-called-keeps (g.T.HostTree.is c.self.inside.tree) (g.T.HostTree.is c.serve-served.new.tree) c.in-Err.ensures.err.calls).0
+
+pub returns-in-Ok-clause-fault : goal.returns-in-Ok-clause-fault
+returns-in-Ok-clause-fault g c =
+    let k = c.self.inside in
+    let tree = g.T.HostTree.is k.tree in
+    let s = c.in-Ok.ensures.ok _ (served_in tree.began k.opening k.history.entries k.history.limit k.documents k.rights k.applications k.connections k.handles tree.told c.self.invariant.0 _ refl refl refl refl) in
+    let answer_is : c.node_entry-entry.result.1 ≡ c.in-Ok.done.answer = ap (λ (x : Entry × Answer). x.1) c.node_entry-entry.ensures in
+    λ h. rw (← c.self.view_is) (s.fault (sym answer_is ∙ (sym (ap (λ (r : Reply). r.answer) c.silent_reply.ensures) ∙ h)))
+
+pub returns-in-Ok-clause-failure : goal.returns-in-Ok-clause-failure
+returns-in-Ok-clause-failure g c =
+    let k = c.self.inside in
+    let tree = g.T.HostTree.is k.tree in
+    let s = c.in-Ok.ensures.ok _ (served_in tree.began k.opening k.history.entries k.history.limit k.documents k.rights k.applications k.connections k.handles tree.told c.self.invariant.0 _ refl refl refl refl) in
+    let answer_is : c.node_entry-entry.result.1 ≡ c.in-Ok.done.answer = ap (λ (x : Entry × Answer). x.1) c.node_entry-entry.ensures in
+    λ h. absurd (s.failure (sym answer_is ∙ (sym (ap (λ (r : Reply). r.answer) c.silent_reply.ensures) ∙ h)))
+
+pub returns-in-Err-clause-err : goal.returns-in-Err-clause-err
+returns-in-Err-clause-err g c =
+    let kept = was-called-keeps (g.T.HostTree.is c.self.inside.tree) (g.T.HostTree.is c.serve-served.new.tree) c.in-Err.ensures.err.calls in
+    spends-node _ _ _ _ _ _ _ refl (rw (← c.self.view_is) c.in-Err.ensures.err.calls) (search rules) (rw (← c.self.view_is) c.in-Err.ensures.clock_err) (search rules) (rw (← c.self.view_is) kept.0) (search rules) (search rules)
