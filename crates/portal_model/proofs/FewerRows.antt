@@ -13,10 +13,7 @@ use Rattle.portal_model.specs.Rows.{is_row_of}
 use Rattle.portal_model.specs.Store.{can_be_told, without_permissions}
 use Rattle.portal_model.specs.declared.records.Row.{Row}
 use Rattle.portal_model.specs.declared.store.StoredEntry.{StoredEntry}
-use Rattle.permission_table.specs.Ends.{elements_at}
-use Rattle.permission_table.specs.Tables.{IsHeld}
-use Rattle.permission_table.proofs.SoundEntries.{without-sound}
-use Rattle.permission_table.proofs.EndLemmas.{behind, on, entry-end, struct-end, rows-end, texts-end}
+use Rattle.portal_model.proofs.SpelledEnds.{behind, elements_at, on, entry-end, struct-end, rows-end, texts-end}
 
 -- ---- what begins later ends later
 
@@ -131,7 +128,3 @@ fewer-told app e h =
     let shorter : spelled_length 0 (V.Struct (a ∷ b ∷ c ∷ d ∷ rows_value (filter p e.rows) ∷ [])) ≤ spelled_length 0 (V.Struct (a ∷ b ∷ c ∷ d ∷ rows_value e.rows ∷ [])) =
     omega (arith, rows-shorter p at e.rows, last-of a b c d (rows_value (filter p e.rows)), last-of a b c d (rows_value e.rows)) in
     fits changed_header (spelled_length 0 (V.Struct (a ∷ b ∷ c ∷ d ∷ rows_value e.rows ∷ []))) (spelled_length 0 (V.Struct (a ∷ b ∷ c ∷ d ∷ rows_value (filter p e.rows) ∷ []))) shorter h
-
--- the tables hold what is left
-pub fewer-held : (app : List ℕ) (e : StoredEntry) → IsHeld e → IsHeld (without_permissions app e)
-fewer-held app e k = record { sound = without-sound app e k.sound; told = fewer-told app e k.told }
