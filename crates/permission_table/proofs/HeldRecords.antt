@@ -2,15 +2,16 @@
 use Rattle.std.proofs.Common.{◌≡◌, ℕ, List, [], ◌∷◌, ◌++◌, map, Bool, true, false, not, ◌&&◌, cond, refl, ap, arith}
 use Rattle.std.specs.List.{All, IsDistinct, filter, list_all, list_any}
 use Rattle.std.proofs.lemmas.List.{map-append}
-use Rattle.std.proofs.lemmas.List.Elements.{All-head, All-tail}
+use Rattle.std.proofs.lemmas.List.Elements.{All-cons, All-head, All-nil, All-tail}
 use Rattle.portal_model.specs.Data.{is_data}
 use Rattle.portal_model.specs.RecordChanges.{change_first, is_of_key, is_other_key, set_entry}
+use Rattle.portal_model.specs.Rows.{are_rows}
 use Rattle.portal_model.specs.Store.{Entries, can_be_told, is_entry_of, put_entry, record_of, without_entry}
 use Rattle.portal_model.specs.Valid.{has_entry_texts, is_valid_entry, same_entry}
 use Rattle.portal_model.specs.declared.records.EntryRecord.{EntryRecord}
 use Rattle.portal_model.specs.declared.store.StoredEntry.{StoredEntry}
 use Rattle.permission_table.specs.Tables.{AreEntries, IsHeld}
-use Rattle.permission_table.proofs.RowLemmas.{both}
+use Rattle.permission_table.proofs.RowLemmas.{both, left, right}
 
 -- ---- what tables hold is valid
 
@@ -26,6 +27,29 @@ held-valid entries k = all-valid entries k.held
 
 pub held-differ : (entries : Entries) → AreEntries entries → IsDistinct same_entry entries
 held-differ entries k = k.differ
+
+-- ---- what is valid may be held
+
+one-held : (e : StoredEntry) → is_valid_entry e ≡ true → are_rows e.rows ≡ true → IsHeld e
+one-held e valid rows =
+    let rest : (is_data e.datum && can_be_told e) ≡ true = right (has_entry_texts e) (is_data e.datum && can_be_told e) valid in
+    record {
+      sound = record {
+        rows = rows;
+        texts = left (has_entry_texts e) (is_data e.datum && can_be_told e) valid;
+        datum = left (is_data e.datum) (can_be_told e) rest;
+      };
+      told = right (is_data e.datum) (can_be_told e) rest;
+    }
+
+all-held : (entries : Entries) → list_all is_valid_entry entries ≡ true → list_all (λ e. are_rows e.rows) entries ≡ true → All IsHeld entries
+all-held [] valid rows = All-nil IsHeld
+all-held (e ∷ es) valid rows =
+    let first : IsHeld e = one-held e (left (is_valid_entry e) (list_all is_valid_entry es) valid) (left (are_rows e.rows) (list_all (λ x. are_rows x.rows) es) rows) in
+    All-cons IsHeld e es first (all-held es (right (is_valid_entry e) (list_all is_valid_entry es) valid) (right (are_rows e.rows) (list_all (λ x. are_rows x.rows) es) rows))
+
+pub valid-held : (entries : Entries) → IsDistinct same_entry entries → list_all is_valid_entry entries ≡ true → list_all (λ e. are_rows e.rows) entries ≡ true → AreEntries entries
+valid-held entries differ valid rows = record { differ = differ; held = all-held entries valid rows }
 
 -- ---- they follow the entries
 

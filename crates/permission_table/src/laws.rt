@@ -50,6 +50,13 @@ pub fn what_tables_hold_is_valid()
         → list_all is_valid_entry entries ≡ true }
 {}
 
+/// Valid entries that differ, with their rows in order, are such as tables hold.
+pub fn valid_entries_are_held()
+    ensures { (entries : Entries) → IsDistinct same_entry entries
+        → list_all is_valid_entry entries ≡ true
+        → list_all (λ e. are_rows e.rows) entries ≡ true → AreEntries entries }
+{}
+
 /// The records that are kept of entries are set and removed as the entries are.
 pub fn records_follow_the_tables()
     ensures put { (e : StoredEntry') (entries : Entries)

@@ -1,7 +1,7 @@
 -- Which records may be kept: what each of them keeps by itself. The terms are those of the
 -- documentation of org.freedesktop.impl.portal.PermissionStore, where an entry is of a table and an
 -- identifier.
-use Rattle.std.specs.Prelude.{◌≡◌, ℕ, ◌≤◌, false, true, Bool, ◌&&◌, List, [], ◌∷◌, map, codes, All}
+use Rattle.std.specs.Prelude.{◌≡◌, ℕ, ◌≤◌, false, true, Bool, ◌&&◌, List, [], ◌∷◌, map, All}
 use Rattle.std.specs.List.{list_all, list_any}
 use Rattle.std.specs.Cmp.Lexicographic.{slice_cmp}
 use Rattle.std.specs.Ordering.{nat_cmp}
@@ -10,6 +10,7 @@ use Rattle.dbus_types.specs.declared.types.Value.{Value}
 use Rattle.portal_base.specs.Names.{is_app_name, is_host_path, is_same}
 use Rattle.portal_model.specs.Changed.{HasDatum}
 use Rattle.portal_model.specs.State.{is_none}
+use Rattle.portal_model.specs.StoreRequest.{own_table}
 use Rattle.portal_model.specs.Valid.{has_texts, is_text}
 use Rattle.portal_model.specs.declared.records.DocRecord.{DocRecord}
 use Rattle.portal_model.specs.declared.records.EntryRecord.{EntryRecord}
@@ -37,10 +38,6 @@ pub record IsSoundDocument (document : DocRecord) : Type 0 where
   pub rising : IsRising (map (λ grant. grant.app) document.grants)
 
 -- ---- entries
-
--- the table that is the portal's own
-abbrev pub own_table : List ℕ
-own_table = codes "documents"
 
 abbrev pub is_empty_row : Row → Bool
 is_empty_row row = is_none row.names
