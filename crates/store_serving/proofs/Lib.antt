@@ -1,0 +1,5 @@
+pub mod Waits
+mod Passed
+mod EntrySteps
+mod RecordSteps
+mod StoreSteps
