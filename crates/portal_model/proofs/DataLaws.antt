@@ -68,22 +68,22 @@ judged-spelled = ind-Value Agrees (λ x y is.
     ∙ (subst (λ (z : Value-F Value). (judge (map-Value Value Judged judged z)).0 ≡ spell_step Little (map-Value Value Spelled (spelled Little) z)) is (agrees_layer y)
     ∙ sym (fold-roll-Value Spelled (spell_step Little) x)))
 
-judged_text : (at : ℕ) (v : Value) → (judged v).0.1 at ≡ spelling Little at v
+pub judged_text : (at : ℕ) (v : Value) → (judged v).0.1 at ≡ spelling Little at v
 judged_text at v = ap (λ (s : Spelled). s.1 at) (judged-spelled v)
 
-judged_type : (v : Value) → (judged v).0.0 ≡ type_of v
+pub judged_type : (v : Value) → (judged v).0.0 ≡ type_of v
 judged_type v = ap (λ (s : Spelled). s.0) (judged-spelled v) ∙ spelled_kind Little v
 
-all_spelled : (vs : List Value) → map spelled_of (map judged vs) ≡ map (spelled Little) vs
+pub all_spelled : (vs : List Value) → map spelled_of (map judged vs) ≡ map (spelled Little) vs
 all_spelled [] = refl
 all_spelled (v ∷ vs) = λ i. judged-spelled v i ∷ all_spelled vs i
 
 -- ---- tests of values with no other inside
 
-below : (n m : ℕ) → nat_lt n m ≡ true → n < m
+pub below : (n m : ℕ) → nat_lt n m ≡ true → n < m
 below n m h = grind (arith, nat_tests)
 
-at_most : (n m : ℕ) → nat_le n m ≡ true → n ≤ m
+pub at_most : (n m : ℕ) → nat_le n m ≡ true → n ≤ m
 at_most n m h = grind (arith, nat_tests)
 
 fits_16 : (z : ℤ) → is_within (2 ^ 15) z ≡ true → FitsSigned w16 z
@@ -119,7 +119,7 @@ signature_is text h = by_reading (whole_at 32 32 text) refl (second_of_both (nat
     by_reading (Ok ts) e k = (ts, short_reading text (Ok ts) short e)
     by_reading (Err error) e k = cc
 
-variant_is : (t : WireType) → is_variant_type t ≡ true → IsVariantType t
+pub variant_is : (t : WireType) → is_variant_type t ≡ true → IsVariantType t
 variant_is t h =
     let valid = is_valid_type t in
     let whole : valid ≡ true = first_of_both valid (nat_le (length (type_text t)) 255) h in
@@ -194,7 +194,7 @@ module _ (S : WireType → ℕ → Value → List ℕ → Type 0) (Inside : Valu
   rest_kept v vs at h = (
     first_of_both ((judged v).1 at) (all_keep (map judged vs) (at + length ((judged v).0.1 at))) h,
     ap (λ (bytes : List ℕ). all_keep (map judged vs) (at + length bytes)) (sym (judged_text at v))
-    ∙ second_of_both ((judged v).1 at) (all_keep (map judged vs) (at + length ((judged v).0.1 at))) h,
+        ∙ second_of_both ((judged v).1 at) (all_keep (map judged vs) (at + length ((judged v).0.1 at))) h,
   )
 
   members_kept : (vs : List Value) (at : ℕ) → All Inside vs → all_keep (map judged vs) at ≡ true → Members S (map type_of vs) vs at (spellings Little at vs)
@@ -387,10 +387,10 @@ kept-spells (suc n) at v d h =
 
 -- ---- data
 
-type_variant : (datum : Value) → type_of (V.Variant datum) ≡ W.Variant
+pub type_variant : (datum : Value) → type_of (V.Variant datum) ≡ W.Variant
 type_variant datum = search the_lemmas
 
-variant_holds : (datum : Value) → holds_handle (V.Variant datum) ≡ holds_handle datum
+pub variant_holds : (datum : Value) → holds_handle (V.Variant datum) ≡ holds_handle datum
 variant_holds datum = search the_lemmas
 
 none_held : (b : Bool) → not b ≡ true → b ≡ false
@@ -411,35 +411,35 @@ data-spelled datum h =
 
 -- ---- a value that is spelled passes
 
-above : (n m : ℕ) → n < m → nat_lt n m ≡ true
+pub above : (n m : ℕ) → n < m → nat_lt n m ≡ true
 above n m h = grind (arith, nat_tests)
 
-no_more : (n m : ℕ) → n ≤ m → nat_le n m ≡ true
+pub no_more : (n m : ℕ) → n ≤ m → nat_le n m ≡ true
 no_more n m h = grind (arith, nat_tests)
 
-within_16 : (z : ℤ) → FitsSigned w16 z → is_within (2 ^ 15) z ≡ true
+pub within_16 : (z : ℤ) → FitsSigned w16 z → is_within (2 ^ 15) z ≡ true
 within_16 (pos n) s = above n (2 ^ 15) s.sfits
 within_16 (negsuc n) s = above n (2 ^ 15) s.sfits
 
-within_32 : (z : ℤ) → FitsSigned w32 z → is_within (2 ^ 31) z ≡ true
+pub within_32 : (z : ℤ) → FitsSigned w32 z → is_within (2 ^ 31) z ≡ true
 within_32 (pos n) s = above n (2 ^ 31) s.sfits
 within_32 (negsuc n) s = above n (2 ^ 31) s.sfits
 
-within_64 : (z : ℤ) → FitsSigned w64 z → is_within (2 ^ 63) z ≡ true
+pub within_64 : (z : ℤ) → FitsSigned w64 z → is_within (2 ^ 63) z ≡ true
 within_64 (pos n) s = above n (2 ^ 63) s.sfits
 within_64 (negsuc n) s = above n (2 ^ 63) s.sfits
 
-text_passes : (text : List ℕ) → IsText text → length text < 2 ^ 32 → is_text_value text ≡ true
+pub text_passes : (text : List ℕ) → IsText text → length text < 2 ^ 32 → is_text_value text ≡ true
 text_passes text h l =
     both (is_utf8 text) (list_all is_byte_of_path text && nat_lt (length text) (2 ^ 32)) (is_utf8-from_IsUtf8 text h.0)
     (both (list_all is_byte_of_path text) (nat_lt (length text) (2 ^ 32)) (test_from_all text h.1) (above (length text) (2 ^ 32) l))
 
-signature_passes : (text : List ℕ) → IsSignatureText text → is_signature text ≡ true
+pub signature_passes : (text : List ℕ) → IsSignatureText text → is_signature text ≡ true
 signature_passes text h =
     let s : IsSignature h.0 text = h.1 in
     both (nat_le (length text) 255) (is_read (whole_at 32 32 text)) (no_more (length text) 255 s.2) (ap (λ (r : Result (List WireType) SignatureError). is_read r) (whole_again h.0 text s.1 s.0))
 
-variant_passes : (t : WireType) → IsVariantType t → is_variant_type t ≡ true
+pub variant_passes : (t : WireType) → IsVariantType t → is_variant_type t ≡ true
 variant_passes t h =
     let valid = h.0 in
     both (is_valid_type t) (nat_le (length (type_text t)) 255)
@@ -654,7 +654,7 @@ data-counted datum bytes h =
     let passes : is_spelled datum ≡ true = both ((judged (V.Variant datum)).1 0) (nat_le (nesting (V.Variant datum)) 64) p.tested (no_more (nesting (V.Variant datum)) 64 p.deep) in
     spelled-counts datum (is_spelled datum) refl bytes passes (sym (spells_same 64 Little W.Variant 0 (V.Variant datum) bytes h).0)
 
-passed-spells : (datum : Value) → is_spelled datum ≡ true → Spells Little 0 W.Variant (V.Variant datum) (spelling Little 0 (V.Variant datum))
+pub passed-spells : (datum : Value) → is_spelled datum ≡ true → Spells Little 0 W.Variant (V.Variant datum) (spelling Little 0 (V.Variant datum))
 passed-spells datum h =
     let passes = (judged (V.Variant datum)).1 0 in
     let deep = nat_le (nesting (V.Variant datum)) 64 in

@@ -111,13 +111,13 @@ pub record Deletions : Type 0 where
   pub in_order : after (after tables (calls 2 (Call.DeletePermission t i x)))
       (calls 1 (Call.Delete t i))
       ≡ tables_with (entry_b ∷ []) ((record gone { rows = [] }) ∷ [])
-        (without_row ∷ (record gone { rows = [] }) ∷ [])
+      (without_row ∷ (record gone { rows = [] }) ∷ [])
 
 -- a row that isn't there is no fault, and the entry is told as it stands; no entry is one
 pub record RowsThatGo : Type 0 where
   pub row : after tables (calls 1 (Call.DeletePermission t i x))
       ≡ tables_with ((record entry_i { rows = [] }) ∷ entry_b ∷ []) (without_row ∷ [])
-        (without_row ∷ [])
+      (without_row ∷ [])
   pub no_row : reply_at tables (calls 1 (Call.DeletePermission t i (codes "app.y")))
       ≡ told_nothing Answer.Done
   pub stands : after tables (calls 1 (Call.DeletePermission t i (codes "app.y")))

@@ -1,0 +1,3 @@
+pub mod EightAlignments
+pub mod WalkedLeaves
+pub mod WalkedParts
