@@ -29,6 +29,9 @@ pub carried : (kept keeps : Bool) (p q a b : ℕ) (r : Option Walk) → kept ≡
 carried kept keeps p q a b r e f g h =
     subst (λ (x : Bool). Passes x q b r) e (subst (λ (x : ℕ). Passes kept x b r) f (subst (λ (x : ℕ). Passes kept p x r) g h))
 
+pub stands-at : (p q a b : ℕ) (w : Walk) → p ≡ q → a ≡ b → Stands p a w → Stands q b w
+stands-at p q a b w f g h = subst (λ (x : ℕ). Stands x b w) f (subst (λ (x : ℕ). Stands p x w) g h)
+
 -- past a value whose outer layer is judged so
 pub judged-so : (passed at count : ℕ) (keeps : Bool) (v u : Value) (j : Judged) (r : Option Walk) → v ≡ u → judged u ≡ j → keeps ≡ j.1 at → count ≡ length (j.0.1 at)
     → Passes keeps (passed + count) (at + count) r → Passes ((judged v).1 at) (passed + spelled_length at v) (at + spelled_length at v) r

@@ -113,7 +113,7 @@ variant-length at x =
     ) in
     sym (whole ∙ (long ∙ ap (λ (n : ℕ). n + spelled_length n x) same))
 
-first_fails : (a b : Bool) → a ≡ false → (a && b) ≡ false
+pub first_fails : (a b : Bool) → a ≡ false → (a && b) ≡ false
 first_fails true b h = cc
 first_fails false b h = refl
 
@@ -157,7 +157,7 @@ array-test at v t vs is h =
     ∙ (first_holds (list_all (is_of_type t) js) (short (map spelled_of js)) (same-kinds t vs h)
     ∙ (ap (λ (j : Judged). j.1 at) (sym (judged_array t vs)) ∙ ap (λ (y : Value). (judged y).1 at) (sym is)))
 
-second_fails : (a b : Bool) → b ≡ false → (a && b) ≡ false
+pub second_fails : (a b : Bool) → b ≡ false → (a && b) ≡ false
 second_fails true b h = h
 second_fails false b h = refl
 
@@ -240,7 +240,7 @@ entry-stops at v k x is h =
 
 pub entry-passes : (passed at : ℕ) (v k x : Value) (r : Option Walk) → v ≡ V.DictEntry k x → (judged k).1 (at + gap 8 at) ≡ true
     → (let start = at + gap 8 at in let second = start + spelled_length start k in
-       Passes ((judged x).1 second) (((passed + gap 8 at) + spelled_length start k) + spelled_length second x) (second + spelled_length second x) r)
+    Passes ((judged x).1 second) (((passed + gap 8 at) + spelled_length start k) + spelled_length second x) (second + spelled_length second x) r)
     → Passes ((judged v).1 at) (passed + spelled_length at v) (at + spelled_length at v) r
 entry-passes passed at v k x r is kept h =
     let start : ℕ = at + gap 8 at in
