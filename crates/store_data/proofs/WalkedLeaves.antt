@@ -1,10 +1,11 @@
 -- Walks past values that hold no other.
-use Rattle.std.proofs.Common.{◌≡◌, ℕ, ◌+◌, ◌<◌, ◌^◌, nat_lt, ℤ, List, [], ◌∷◌, ◌++◌, length, Bool, true, false, ◌&&◌, Option, Some, refl, sym, ap, subst, ◌∙◌, arith}
+use Rattle.std.proofs.Common.{◌≡◌, ℕ, ◌+◌, ◌<◌, ◌≤◌, ◌^◌, nat_lt, ℤ, List, [], ◌∷◌, ◌++◌, length, Bool, true, false, ◌&&◌, Option, None, Some, refl, sym, ap, subst, ◌∙◌, arith}
 use Rattle.std.specs.Prelude.{IsTrue}
 use Rattle.std.specs.Int.{w8, w16, w32, w64, to_le_bytes, cast_unsigned}
 use Rattle.std.specs.Str.{is_utf8}
 use Rattle.std.specs.List.{list_all}
 use Rattle.std.proofs.lemmas.List.{length-append}
+use Rattle.std.proofs.lemmas.Bool.Decides.{nat_tests}
 use Rattle.std.proofs.lemmas.Str.{is_utf8-from_IsUtf8}
 use Rattle.dbus_types.specs.declared.types.Endian.TheVariants.{Little}
 use Rattle.dbus_types.specs.declared.types.Value.{Value, out-Value, the_lemmas}
@@ -24,11 +25,19 @@ use Rattle.portal_model.proofs.SpelledEnds.{behind}
 use Rattle.store_data.specs.declared.walk.Walk.{Walk}
 use Rattle.store_data.specs.Walks.{Passes, Stands}
 
+pub assoc : (a b c : ℕ) → (a + b) + c ≡ a + (b + c)
+assoc a b c = omega arith
+
 -- the same rule at the same place
 pub carried : (kept keeps : Bool) (p q a b : ℕ) (r : Option Walk) → kept ≡ keeps → p ≡ q → a ≡ b → Passes kept p a r → Passes keeps q b r
 carried kept keeps p q a b r e f g h =
     subst (λ (x : Bool). Passes x q b r) e (subst (λ (x : ℕ). Passes kept x b r) f (subst (λ (x : ℕ). Passes kept p x r) g h))
 
+-- a walk that has ended
+pub stops : (keeps : Bool) (p a : ℕ) (r : Option Walk) → r ≡ None → keeps ≡ false → Passes keeps p a r
+stops keeps p a r e h = subst (λ (o : Option Walk). Passes keeps p a o) (sym e) h
+
+-- at the same place
 pub stands-at : (p q a b : ℕ) (w : Walk) → p ≡ q → a ≡ b → Stands p a w → Stands q b w
 stands-at p q a b w f g h = subst (λ (x : ℕ). Stands x b w) f (subst (λ (x : ℕ). Stands p x w) g h)
 
@@ -163,6 +172,12 @@ double-passes passed at n v w is k h =
 
 -- ---- texts
 
+pub long : (n : ℕ) → 4_294_967_295 < n → nat_lt n (2 ^ 32) ≡ false
+long n h = grind (arith, nat_tests)
+
+pub short : (n : ℕ) → n ≤ 4_294_967_295 → nat_lt n (2 ^ 32) ≡ true
+short n h = grind (arith, nat_tests)
+
 number_32 : (n : ℕ) → length (number Little w32 n) ≡ 4
 number_32 n = refl
 
@@ -174,6 +189,11 @@ text-bytes at text = omega (
   length-append text (0 ∷ []),
   number_32 (length text),
 )
+
+-- a text of so many bytes
+pub text-so : (passed at count : ℕ) (text : List ℕ) (r : Option Walk) → count ≡ length text → Passes (nat_lt count (2 ^ 32)) (passed + (gap 4 at + (4 + count + 1))) (at + (gap 4 at + (4 + count + 1))) r
+    → Passes (nat_lt (length text) (2 ^ 32)) (passed + (gap 4 at + (4 + length text + 1))) (at + (gap 4 at + (4 + length text + 1))) r
+text-so passed at count text r e h = subst (λ (n : ℕ). Passes (nat_lt n (2 ^ 32)) (passed + (gap 4 at + (4 + n + 1))) (at + (gap 4 at + (4 + n + 1))) r) e h
 
 third : (a b c : Bool) → a ≡ true → b ≡ true → c ≡ (a && (b && c))
 third true true c h k = refl
@@ -222,13 +242,13 @@ out_signature text = search the_lemmas
 signature-bytes : (text : List ℕ) → length text + 2 ≡ length (signature_body text)
 signature-bytes text = omega (arith, length-append (to_le_bytes w8 (length text)) (text ++ 0 ∷ []), length-append text (0 ∷ []))
 
-pub signature-is : (passed at : ℕ) (text : List ℕ) (v : Value) (w : Walk) → v ≡ V.Signature text → LeafKeeps (out-Value v) → Stands ((passed + length text) + 2) ((at + length text) + 2) w
+pub signature-is : (passed at : ℕ) (text : List ℕ) (count : ℕ) (v : Value) (w : Walk) → v ≡ V.Signature text → count ≡ length text → LeafKeeps (out-Value v) → Stands ((passed + count) + 2) ((at + count) + 2) w
     → Passes ((judged v).1 at) (passed + spelled_length at v) (at + spelled_length at v) (Some w)
-signature-is passed at text v w is k h =
+signature-is passed at text count v w is long k h =
     let good : IsSignatureText text = kept-leaf v (V.Signature text) (Value-F.Signature text) is (out_signature text) k in
-    let short : length text < 2 ^ 32 = omega (arith, good.1.2) in
-    let kept : (is_text_value text && is_signature text) ≡ true = both (is_text_value text) (is_signature text) (text_passes text (signature_text text good) short) (signature_passes text good) in
-    let p : (passed + length text) + 2 ≡ passed + (length text + 2) = omega arith in
-    let a : (at + length text) + 2 ≡ at + (length text + 2) = omega arith in
+    let small : length text < 2 ^ 32 = omega (arith, good.1.2) in
+    let kept : (is_text_value text && is_signature text) ≡ true = both (is_text_value text) (is_signature text) (text_passes text (signature_text text good) small) (signature_passes text good) in
+    let p : (passed + count) + 2 ≡ passed + (length text + 2) = omega (arith, long) in
+    let a : (at + count) + 2 ≡ at + (length text + 2) = omega (arith, long) in
     judged-so passed at (length text + 2) true v (V.Signature text) (judge (Value-F.Signature text)) (Some w) is (judged_signature text) (sym kept) (signature-bytes text)
-    (carried true true ((passed + length text) + 2) (passed + (length text + 2)) ((at + length text) + 2) (at + (length text + 2)) (Some w) refl p a (refl, h))
+    (refl, stands-at ((passed + count) + 2) (passed + (length text + 2)) ((at + count) + 2) (at + (length text + 2)) w p a h)

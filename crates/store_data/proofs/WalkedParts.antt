@@ -1,32 +1,53 @@
 -- Walks past values that hold others.
-use Rattle.std.proofs.Common.{◌≡◌, ℕ, zero, suc, ◌+◌, ◌-◌, ◌%◌, ◌<◌, ◌≤◌, nat_le, List, [], ◌∷◌, ◌++◌, length, map, Bool, true, false, not, ◌&&◌, Option, None, Some, refl, sym, ap, subst, ◌∙◌, arith}
+use Rattle.std.proofs.Common.{◌≡◌, ℕ, zero, suc, ◌+◌, ◌-◌, ◌%◌, ◌<◌, ◌≤◌, nat_le, List, [], ◌∷◌, ◌++◌, length, map, drop, get_or, Bool, true, false, not, ◌&&◌, Option, None, Some, refl, sym, ap, subst, ◌∙◌, arith}
 use Rattle.std.specs.Prelude.{All}
 use Rattle.std.specs.Int.{w8, to_le_bytes}
 use Rattle.std.specs.List.{list_all}
-use Rattle.std.proofs.lemmas.List.{length-append}
-use Rattle.std.proofs.lemmas.List.Elements.{All-cons, All-head, All-nil, All-tail, All-weaker}
+use Rattle.std.proofs.lemmas.Bool.Decides.{nat_tests}
+use Rattle.std.proofs.Math.Numerals.{add-one}
+use Rattle.std.proofs.Math.Seq.{drop-cons}
+use Rattle.std.proofs.lemmas.List.{drop_all, length-append}
+use Rattle.std.proofs.lemmas.List.Elements.{All-get_or, All-head, All-tail, All-weaker}
 use Rattle.dbus_types.specs.declared.types.Endian.TheVariants.{Little}
 use Rattle.dbus_types.specs.declared.types.WireType.{WireType, out-WireType}
 use Rattle.dbus_types.specs.declared.types.WireType.TheOpen.{WireType-F}
-use Rattle.dbus_types.specs.declared.types.Value.{Value, out-Value, the_lemmas}
+use Rattle.dbus_types.specs.declared.types.Value.{Value, out-Value, roll-Value, the_lemmas}
 use Rattle.dbus_types.specs.declared.types.Value.TheOpen.{Value-F}
 use Rattle.dbus_types.specs.declared.types.Value.TheVariants as V
 use Rattle.dbus_types.specs.Spells.{gap}
 use Rattle.dbus_types.specs.Spelling.{Spelled, in_row, spelled, spelled_length, spelled_lengths, spelling, variant_body}
-use Rattle.dbus_types.specs.Types.{alignment, alignment_of, type_text, IsVariantType}
-use Rattle.dbus_types.specs.Values.{KeepsWithin, ValueKeeps, type_of}
+use Rattle.dbus_types.specs.Types.{alignment, alignment_of, type_text, IsValidType, IsVariantType}
+use Rattle.dbus_types.specs.Values.{KeepsWithin, LeafKeeps, ValueKeeps, type_of}
 use Rattle.dbus_types.proofs.OneSpelling.{roll_variant}
 use Rattle.dbus_types.proofs.SpelledType.{spelled_kind}
-use Rattle.portal_model.specs.Data.{Judged, all_keep, elements_at, is_of_type, is_variant_type, judge, judged, spelled_of}
+use Rattle.portal_model.specs.Data.{Judged, all_keep, elements_at, is_of_type, is_valid_type, is_variant_type, judge, judged, spelled_of}
 use Rattle.portal_model.specs.State.{is_none}
 use Rattle.portal_base.specs.Names.{is_same}
-use Rattle.portal_model.proofs.DataLaws.{all_spelled, judged_text, judged_type}
+use Rattle.portal_model.proofs.DataLaws.{all_spelled, judged_text, judged_type, variant_passes}
 use Rattle.portal_model.proofs.DocumentChanges.{both}
 use Rattle.portal_model.proofs.ListLookups.{is_same-refl}
 use Rattle.portal_model.proofs.SpelledEnds.{array-end, entry-end, struct-end, values-more}
 use Rattle.store_data.specs.declared.walk.Walk.{Walk}
 use Rattle.store_data.specs.Walks.{Keeps, Passes, Stands, ahead_of_elements}
-use Rattle.store_data.proofs.WalkedLeaves.{carried}
+use Rattle.store_data.proofs.WalkedLeaves.{assoc, carried}
+
+rolled : (v : Value) (f : Value-F Value) → out-Value v ≡ f → v ≡ roll-Value f
+rolled v f e = sym (back v) ∙ ap roll-Value e
+  where
+    back : (w : Value) → roll-Value (out-Value w) ≡ w
+    back w = search the_lemmas
+
+rolls_variant : (x : Value) → roll-Value (Value-F.Variant x) ≡ V.Variant x
+rolls_variant x = search the_lemmas
+
+rolls_array : (t : WireType) (vs : List Value) → roll-Value (Value-F.Array t vs) ≡ V.Array t vs
+rolls_array t vs = search the_lemmas
+
+rolls_struct : (vs : List Value) → roll-Value (Value-F.Struct vs) ≡ V.Struct vs
+rolls_struct vs = search the_lemmas
+
+rolls_entry : (k x : Value) → roll-Value (Value-F.DictEntry k x) ≡ V.DictEntry k x
+rolls_entry k x = search the_lemmas
 
 -- ---- what those inside keep
 
@@ -79,13 +100,36 @@ struct-parts v vs is h = parts v (V.Struct vs) (Value-F.Struct vs) is (out_struc
 pub entry-parts : (v k x : Value) → v ≡ V.DictEntry k x → Keeps v → Keeps k × Keeps x
 entry-parts v k x is h = parts v (V.DictEntry k x) (Value-F.DictEntry k x) is (out_entry k x) h
 
+-- ---- a value that holds no other
+
+leaf-inside : (P : Value → Type 0) (v : Value) (f : Value-F Value) → out-Value v ≡ f → ((x : Value) → v ≡ V.Variant x → ⊥) → ((t : WireType) (vs : List Value) → v ≡ V.Array t vs → ⊥) → ((vs : List Value) → v ≡ V.Struct vs → ⊥) →
+    ((k x : Value) → v ≡ V.DictEntry k x → ⊥) → ValueKeeps P f → LeafKeeps f
+leaf-inside P v (Value-F.Variant x) e a b c d h = absurd (a x (rolled v (Value-F.Variant x) e ∙ rolls_variant x))
+leaf-inside P v (Value-F.Array t vs) e a b c d h = absurd (b t vs (rolled v (Value-F.Array t vs) e ∙ rolls_array t vs))
+leaf-inside P v (Value-F.Struct vs) e a b c d h = absurd (c vs (rolled v (Value-F.Struct vs) e ∙ rolls_struct vs))
+leaf-inside P v (Value-F.DictEntry k x) e a b c d h = absurd (d k x (rolled v (Value-F.DictEntry k x) e ∙ rolls_entry k x))
+leaf-inside P v f e a b c d h = h
+
+leaf-within : (n : ℕ) (v : Value) → ((x : Value) → v ≡ V.Variant x → ⊥) → ((t : WireType) (vs : List Value) → v ≡ V.Array t vs → ⊥) → ((vs : List Value) → v ≡ V.Struct vs → ⊥) →
+    ((k x : Value) → v ≡ V.DictEntry k x → ⊥) → KeepsWithin n v → LeafKeeps (out-Value v)
+unfolding KeepsWithin
+leaf-within zero v a b c d h = leaf-inside (λ x. ⊥) v (out-Value v) refl a b c d h
+leaf-within (suc n) v a b c d h = leaf-inside (KeepsWithin n) v (out-Value v) refl a b c d h
+
+pub leaf-keeps : (v : Value) → ((x : Value) → v ≡ V.Variant x → ⊥) → ((t : WireType) (vs : List Value) → v ≡ V.Array t vs → ⊥) → ((vs : List Value) → v ≡ V.Struct vs → ⊥) →
+    ((k x : Value) → v ≡ V.DictEntry k x → ⊥) → Keeps v → LeafKeeps (out-Value v)
+leaf-keeps v a b c d h = leaf-within h.0 v a b c d h.1
+
 -- ---- the judgement of a layer
+
+as-far : (passed at count next whole : ℕ) → (at + count) + next ≡ at + whole → (passed + count) + next ≡ passed + whole
+as-far passed at count next whole e = omega arith
 
 -- what passes a part, and comes to the end of the whole, passes the whole
 pub whole-passes : (passed at count next : ℕ) (keeps : Bool) (v : Value) (r : Option Walk) → keeps ≡ (judged v).1 at → (at + count) + next ≡ at + spelled_length at v
     → Passes keeps ((passed + count) + next) ((at + count) + next) r → Passes ((judged v).1 at) (passed + spelled_length at v) (at + spelled_length at v) r
 whole-passes passed at count next keeps v r e long h =
-    let p : (passed + count) + next ≡ passed + spelled_length at v = omega (arith, long) in
+    let p : (passed + count) + next ≡ passed + spelled_length at v = as-far passed at count next (spelled_length at v) long in
     carried keeps ((judged v).1 at) ((passed + count) + next) (passed + spelled_length at v) ((at + count) + next) (at + spelled_length at v) r e p long h
 
 -- a variant's type, and behind its signature the value
@@ -121,6 +165,14 @@ first_holds : (a b : Bool) → a ≡ true → b ≡ (a && b)
 first_holds true b h = refl
 first_holds false b h = cc
 
+pub second_fails : (a b : Bool) → b ≡ false → (a && b) ≡ false
+second_fails true b h = h
+second_fails false b h = refl
+
+second_holds : (a b : Bool) → b ≡ true → a ≡ (a && b)
+second_holds true b h = sym h
+second_holds false b h = refl
+
 pub variant-stops : (at : ℕ) (v x : Value) → v ≡ V.Variant x → is_variant_type (type_of x) ≡ false → (judged v).1 at ≡ false
 variant-stops at v x is h =
     ap (λ (y : Value). (judged y).1 at) is ∙ (variant-test at x ∙ first_fails (is_variant_type (type_of x)) ((judged x).1 (at + signature_bytes x)) h)
@@ -133,7 +185,22 @@ variant-passes passed at v x r is kind h =
     let test : (judged x).1 next ≡ (judged v).1 at = first_holds (is_variant_type (type_of x)) ((judged x).1 next) kind ∙ (sym (variant-test at x) ∙ ap (λ (y : Value). (judged y).1 at) (sym is)) in
     whole-passes passed at (signature_bytes x) (spelled_length next x) ((judged x).1 next) v r test (variant-length at x ∙ ap (λ (y : Value). at + spelled_length at y) (sym is)) h
 
+too_long : (n : ℕ) → 255 < n → nat_le n 255 ≡ false
+too_long n h = grind (arith, nat_tests)
+
+pub too-long-kind : (x : Value) → 255 < length (type_text (type_of x)) → is_variant_type (type_of x) ≡ false
+too-long-kind x h = second_fails (is_valid_type (type_of x)) (nat_le (length (type_text (type_of x))) 255) (too_long (length (type_text (type_of x))) h)
+
+pub kind-passes : (x : Value) → IsValidType (type_of x) → length (type_text (type_of x)) ≤ 255 → is_variant_type (type_of x) ≡ true
+kind-passes x h l = variant_passes (type_of x) (h, l)
+
 -- ---- arrays
+
+pub long-body : (n : ℕ) → 67_108_864 < n → nat_le n 67_108_864 ≡ false
+long-body n h = grind (arith, nat_tests)
+
+pub short-body : (n : ℕ) → n ≤ 67_108_864 → nat_le n 67_108_864 ≡ true
+short-body n h = grind (arith, nat_tests)
 
 judged_array : (t : WireType) (vs : List Value) → judged (V.Array t vs) ≡ judge (Value-F.Array t (map judged vs))
 judged_array t vs = search the_lemmas
@@ -157,20 +224,12 @@ array-test at v t vs is h =
     ∙ (first_holds (list_all (is_of_type t) js) (short (map spelled_of js)) (same-kinds t vs h)
     ∙ (ap (λ (j : Judged). j.1 at) (sym (judged_array t vs)) ∙ ap (λ (y : Value). (judged y).1 at) (sym is)))
 
-pub second_fails : (a b : Bool) → b ≡ false → (a && b) ≡ false
-second_fails true b h = h
-second_fails false b h = refl
-
-second_holds : (a b : Bool) → b ≡ true → a ≡ (a && b)
-second_holds true b h = sym h
-second_holds false b h = refl
+far : (at pad g h : ℕ) → g ≡ h → at + ((pad + 4) + g) ≡ ((at + pad) + 4) + h
+far at pad g h e = omega arith
 
 at-elements : (t : WireType) (at : ℕ) → at + ahead_of_elements t at ≡ elements_at t at
 at-elements t at =
-    let start : ℕ = at + gap 4 at in
-    let moved : at + (gap 4 at + 4) ≡ start + 4 = omega arith in
-    let same : gap (alignment t) (at + (gap 4 at + 4)) ≡ gap (alignment t) (start + 4) = ap (gap (alignment t)) moved in
-    omega (arith, same)
+    far at (gap 4 at) (gap (alignment t) (at + (gap 4 at + 4))) (gap (alignment t) ((at + gap 4 at) + 4)) (ap (λ (n : ℕ). gap (alignment t) n) (sym (assoc at (gap 4 at) 4)))
 
 pub array-stops : (at : ℕ) (v : Value) (t : WireType) (vs : List Value) → v ≡ V.Array t vs → Keeps v → all_keep (map judged vs) (at + ahead_of_elements t at) ≡ false → (judged v).1 at ≡ false
 array-stops at v t vs is k h =
@@ -238,6 +297,9 @@ entry-stops at v k x is h =
     let start : ℕ = at + gap 8 at in
     entry-test at v k x is ∙ first_fails ((judged k).1 start) ((judged x).1 (start + spelled_length start k)) h
 
+shifted : (passed at g key last whole : ℕ) → ((at + g) + key) + last ≡ at + whole → ((passed + g) + key) + last ≡ passed + whole
+shifted passed at g key last whole e = omega arith
+
 pub entry-passes : (passed at : ℕ) (v k x : Value) (r : Option Walk) → v ≡ V.DictEntry k x → (judged k).1 (at + gap 8 at) ≡ true
     → (let start = at + gap 8 at in let second = start + spelled_length start k in
     Passes ((judged x).1 second) (((passed + gap 8 at) + spelled_length start k) + spelled_length second x) (second + spelled_length second x) r)
@@ -249,7 +311,7 @@ entry-passes passed at v k x r is kept h =
     let last : ℕ = spelled_length second x in
     let test : (judged x).1 second ≡ (judged v).1 at = first_holds ((judged k).1 start) ((judged x).1 second) kept ∙ sym (entry-test at v k x is) in
     let long : second + last ≡ at + spelled_length at v = entry-end at k x ∙ ap (λ (y : Value). at + spelled_length at y) (sym is) in
-    let p : ((passed + gap 8 at) + key) + last ≡ passed + spelled_length at v = omega (arith, long) in
+    let p : ((passed + gap 8 at) + key) + last ≡ passed + spelled_length at v = shifted passed at (gap 8 at) key last (spelled_length at v) long in
     carried ((judged x).1 second) ((judged v).1 at) (((passed + gap 8 at) + key) + last) (passed + spelled_length at v) (second + last) (at + spelled_length at v) r test p long h
 
 -- ---- one after another
@@ -273,10 +335,23 @@ at-first passed at all left w e h = record {
   keeps = ap (λ (vs : List Value). all_keep (map judged vs) at) e;
 }
 
+-- the first that is left, and the others
+pub next-left : (vs : List Value) (i : ℕ) (v : Value) → i < length vs → v ≡ get_or vs i v → drop i vs ≡ v ∷ drop (i + 1) vs
+next-left vs i v l e = rw add-one (drop-cons vs i v l ∙ ap (λ (x : Value). x ∷ drop (suc i) vs) (sym e))
+
+pub none-left : (vs : List Value) (i : ℕ) → length vs ≤ i → drop i vs ≡ []
+none-left vs i l = drop_all i vs l
+
+pub item-keeps : (vs : List Value) (i : ℕ) (v : Value) → i < length vs → v ≡ get_or vs i v → All Keeps vs → Keeps v
+item-keeps vs i v l e h = subst Keeps (sym e) (All-get_or Keeps vs i v l h)
+
 one-keeps : (at : ℕ) (v : Value) (vs : List Value) → (judged v).1 at ≡ true → all_keep (map judged vs) (at + spelled_length at v) ≡ all_keep (map judged (v ∷ vs)) at
 one-keeps at v vs h =
     ap (λ (bytes : List ℕ). all_keep (map judged vs) (at + length bytes)) (sym (judged_text at v))
     ∙ first_holds ((judged v).1 at) (all_keep (map judged vs) (at + length ((judged v).0.1 at))) h
+
+onward : (a far rest left whole : ℕ) → left ≡ far + rest → a + left ≡ whole → (a + far) + rest ≡ whole
+onward a far rest left whole e h = omega arith
 
 pub one-on : (passed at : ℕ) (all left rest : List Value) (v : Value) (w next : Walk) (o : OnWay passed at all left w) → left ≡ v ∷ rest
     → Passes ((judged v).1 o.place) (o.counted + spelled_length o.place v) (o.place + spelled_length o.place v) (Some next) → OnWay passed at all rest next
@@ -284,14 +359,12 @@ one-on passed at all left rest v w next o e h =
     let place : ℕ = o.place in
     let far : ℕ = spelled_length place v in
     let more : spelled_lengths place left ≡ far + spelled_lengths (place + far) rest = ap (λ (vs : List Value). spelled_lengths place vs) e ∙ values-more place v rest in
-    let b = o.bytes in
-    let f = o.offset in
     record {
       counted = o.counted + far;
       place = place + far;
       stands = h.1;
-      bytes = omega (arith, more, b);
-      offset = omega (arith, more, f);
+      bytes = onward o.counted far (spelled_lengths (place + far) rest) (spelled_lengths place left) (passed + spelled_lengths at all) more o.bytes;
+      offset = onward place far (spelled_lengths (place + far) rest) (spelled_lengths place left) (at + spelled_lengths at all) more o.offset;
       keeps = one-keeps place v rest h.0 ∙ (ap (λ (vs : List Value). all_keep (map judged vs) place) (sym e) ∙ o.keeps);
     }
 
