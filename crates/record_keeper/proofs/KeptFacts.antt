@@ -1,7 +1,8 @@
 -- The entries that records keep: the data of each is that of its record, and no other.
-use Rattle.std.proofs.Common.{◌≡◌, ℕ, List, [], ◌∷◌, ◌++◌, map, Bool, true, ◌&&◌, refl, sym, ap, subst, ◌∙◌}
+use Rattle.std.proofs.Common.{◌≡◌, ℕ, List, [], ◌∷◌, ◌++◌, map, Bool, true, ◌&&◌, refl, sym, ap, subst, ◌∙◌, append_assoc}
 use Rattle.std.specs.List.{list_all}
 use Rattle.std.proofs.lemmas.Bool.{and_parts}
+use Rattle.std.proofs.lemmas.List.{map-append}
 use Rattle.dbus_types.specs.declared.types.Endian.TheVariants.{Little}
 use Rattle.dbus_types.specs.declared.types.Value.{Value, out-Value, the_lemmas}
 use Rattle.dbus_types.specs.declared.types.Value.TheOpen.{Value-F}
@@ -12,7 +13,7 @@ use Rattle.dbus_types.specs.declared.types.WireType.TheVariants as W
 use Rattle.dbus_types.specs.Spelling.{spelling}
 use Rattle.dbus_types.specs.Spells.{Row, Spells, SpellsWithin}
 use Rattle.dbus_marshal.proofs.SpelledIsRead.{one_spelling}
-use Rattle.portal_model.specs.Changed.{HasDatum, IsDatum}
+use Rattle.portal_model.specs.Changed.{HasDatum, IsDatum, holds_handle}
 use Rattle.portal_model.specs.Store.{Entries, record_of}
 use Rattle.portal_model.specs.StoreLaws.{entry_of_record}
 use Rattle.portal_model.specs.Valid.{is_valid_entry}
@@ -39,6 +40,9 @@ unfolding SpellsWithin
 spelled_variant v bytes h =
     let row = subst (λ (t : WireType-F WireType). Row (SpellsWithin 63 Little) Little t 0 v bytes) variant_type h in
     (row.1, row.3)
+
+pub variant_holds : (v : Value) → holds_handle (V.Variant v) ≡ holds_handle v
+variant_holds v = search the_lemmas
 
 -- ---- one entry
 
@@ -82,3 +86,21 @@ all_one (e ∷ es) (f ∷ fs) valid fine same =
 
 pub kept_in_one_way : (records : List EntryRecord) (one other : Entries) → KeepEntries records one → KeepEntries records other → one ≡ other
 kept_in_one_way records one other a b = all_one one other a.valid b.valid (a.kept ∙ sym b.kept)
+
+-- ---- one entry more
+
+both : (a b : Bool) → a ≡ true → b ≡ true → (a && b) ≡ true
+both a b h k = λ i. h i && k i
+
+pub valid_more : (entries : Entries) (e : StoredEntry) → list_all is_valid_entry entries ≡ true → is_valid_entry e ≡ true → list_all is_valid_entry (entries ++ (e ∷ [])) ≡ true
+valid_more [] e valid one = both (is_valid_entry e) true one refl
+valid_more (x ∷ xs) e valid one =
+    let parts = and_parts (is_valid_entry x) (list_all is_valid_entry xs) valid in
+    both (is_valid_entry x) (list_all is_valid_entry (xs ++ (e ∷ []))) parts.0 (valid_more xs e parts.1 one)
+
+-- the record of the entry is the first of those to come
+pub kept_more : (entries : Entries) (e : StoredEntry) (r : EntryRecord) (rest all : List EntryRecord) → map record_of entries ++ (r ∷ rest) ≡ all → record_of e ≡ r → map record_of (entries ++ (e ∷ [])) ++ rest ≡ all
+kept_more entries e r rest all so_far same =
+    ap (λ (rs : List EntryRecord). rs ++ rest) (map-append record_of entries (e ∷ []))
+    ∙ (append_assoc (map record_of entries) (record_of e ∷ []) rest
+    ∙ (ap (λ (x : EntryRecord). map record_of entries ++ (x ∷ rest)) same ∙ so_far))

@@ -47,7 +47,8 @@ fn state_of(alloc: Global, script: &Script, limits: Limits) -> Result<OpeningSta
     let documents = documents_in(alloc, lines)?;
     let made = numbers_of(alloc, documents.as_slice())?;
     let applications = applications_in(alloc, lines)?;
-    let entries = kept_entries(alloc, entries_in(alloc, lines)?)?;
+    let kept = entries_in(alloc, lines)?;
+    let entries = kept_entries(alloc, kept)?;
     let files = files_in(alloc, lines)?;
     Ok(OpeningState {
         limits,
