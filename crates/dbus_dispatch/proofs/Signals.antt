@@ -1,5 +1,5 @@
 -- What is told of a change can be written, where the entry that it tells of is as entries are.
-use Rattle.std.proofs.Common.{◌≡◌, ◌≢◌, ℕ, ◌+◌, ◌<◌, ◌≤◌, ◌^◌, Bool, true, false, nat_le, List, [], ◌∷◌, ◌++◌, length, map, Result, Ok, Err, refl, sym, ap, subst, ◌∙◌, arith}
+use Rattle.std.proofs.Common.{◌≡◌, ◌≢◌, ℕ, suc, ◌+◌, ◌<◌, ◌≤◌, ◌^◌, Bool, true, false, nat_le, List, [], ◌∷◌, ◌++◌, length, map, Result, Ok, Err, refl, sym, ap, subst, ◌∙◌, arith}
 use Rattle.std.specs.Prelude.{All, IfOk, IsTrue, ◌&&◌, codes}
 use Rattle.std.specs.Int.{w32}
 use Rattle.std.specs.List.{list_all}
@@ -83,13 +83,12 @@ carries_its_signature change = ap types_text (types_are change) ∙ texts_are
 out_bool : (b : Bool) → out-Value (V.Bool b) ≡ Value-F.Bool b
 out_bool b = search the_lemmas
 
-bool_keeps : (d : ℕ) (b : Bool) → KeepsWithin d (V.Bool b)
+bool_keeps : (d : ℕ) (b : Bool) → KeepsWithin (suc d) (V.Bool b)
 unfolding KeepsWithin
-bool_keeps zero b = subst (ValueKeeps (λ inside. ⊥)) (sym (out_bool b)) tt
-bool_keeps (suc d) b = subst (ValueKeeps (KeepsWithin d)) (sym (out_bool b)) tt
+bool_keeps d b = subst (ValueKeeps (KeepsWithin d)) (sym (out_bool b)) tt
 
 good_bool : (b : Bool) → Good (V.Bool b) 1
-good_bool b = good (V.Bool b) W.Bool Basic 0 0 1 (type_bool b) (role_bool, arrays_bool, brackets_bool, ap length text_bool) refl (omega arith) (omega arith) (bool_keeps 64 b)
+good_bool b = good (V.Bool b) W.Bool Basic 0 0 1 (type_bool b) (role_bool, arrays_bool, brackets_bool, ap length text_bool) refl (omega arith) (omega arith) (bool_keeps 63 b)
 
 -- the parts of what a sound change tells
 pub record Parts (change : Change) : Type 0 where
@@ -117,6 +116,7 @@ parts change h utf8 =
 body_good : (change : Change) → Parts change → IsChangeInUtf8 change → IsGoodBody (changed_body change)
 body_good change p utf8 =
     let rows : Value = rows_value change.rows in
+    let ten : length (types_text (map type_of (changed_body change))) ≡ 10 = ap length (carries_its_signature change) in
     let after_bool : List Value = V.Variant change.datum ∷ rows ∷ [] in
     let after_id : List Value = V.Bool change.deleted ∷ after_bool in
     let after_table : List Value = V.Str change.id ∷ after_id in (
@@ -125,7 +125,7 @@ body_good change p utf8 =
           (All-cons KeepsRules (V.Bool change.deleted) after_bool (good_bool change.deleted).0
           (All-cons KeepsRules (V.Variant change.datum) (rows ∷ []) (good_variant change.datum p.datum).0
           (All-cons KeepsRules rows [] (good_rows change.rows (stored_rows_texts change.rows p.rows utf8.rows)).0 (All-nil KeepsRules))))),
-      omega (arith, ap length (carries_its_signature change)),
+      omega (arith, ten),
     )
 
 -- ---- its length
@@ -160,7 +160,6 @@ body_length change =
 
 fields_are : (change : Change) → V.Array field_type (fields_out (signal_of change)) ≡ changed_fields
 fields_are change =
-    let front : List Value = fields_out (signal_of change) in
     ap (λ (text : List ℕ). V.Array field_type (field 1 (V.ObjectPath (codes "/org/freedesktop/impl/portal/PermissionStore")) ∷ field 2 (V.Str (codes "org.freedesktop.impl.portal.PermissionStore")) ∷ field 3 (V.Str (codes "Changed")) ∷ field 8 (V.Signature text) ∷ [])) (carries_its_signature change)
 
 signal_length : (change : Change) (serial : ℕ) → length (message_bytes (signal_of change) serial) ≡ changed_length (record_of (entry_told change)) (V.Variant change.datum)

@@ -123,10 +123,10 @@ pub(crate) fn texts_in(alloc: Global, items: &[Value]) -> Result<List<Text>, Wan
 }
 
 /// The row that an entry of `a{sas}` is.
-fn row_of(alloc: Global, value: &Value) -> Result<Option<Row>, WantOfMemory>
-    ensures { IfOk result (λ row. row ≡ row_of (out-Value value.now)) }
+fn row_of(alloc: Global, entry: &Value) -> Result<Option<Row>, WantOfMemory>
+    ensures { IfOk result (λ row. row ≡ row_of (out-Value entry.now)) }
 {
-    let Value::DictEntry { key, value } = value else {
+    let Value::DictEntry { key, value } = entry else {
         return Ok(None);
     };
     match (text_of(key.get()), items_of(value.get())) {

@@ -72,9 +72,9 @@ fn entry(alloc: Global, rows: &[Row], datum: &Datum) -> Result<List<Value>, Want
         ∷ V.Variant datum.now ∷ []) }
     ensures utf8 { IfOk result (λ body. All IsRowInUtf8 rows.now) }
 {
-    let rows = rows_value(alloc, rows)?;
-    let datum = datum.replica(alloc)?.into_value();
-    pair(alloc, rows, Value::Variant(Boxed::new(alloc, datum)?))
+    let first = rows_value(alloc, rows)?;
+    let inside = datum.replica(alloc)?.into_value();
+    pair(alloc, first, Value::Variant(Boxed::new(alloc, inside)?))
 }
 
 /// Values with one more behind them.
@@ -122,10 +122,10 @@ pub(crate) fn closed_bytes(alloc: Global, bytes: &[u8]) -> Result<Value, WantOfM
 /// A text as a value.
 pub(crate) fn text_value(alloc: Global, text: &Text) -> Result<Value, WantOfMemory>
     ensures told { IfOk result (λ value. value ≡ V.Str text.now) }
-    ensures utf8 { IsUtf8 text.now }
+    ensures utf8 { IfOk result (λ value. IsUtf8 text.now) }
 {
-    let utf8 = text.as_str();
-    Ok(Value::Str(Text::copied(alloc, utf8)?))
+    let characters = text.as_str();
+    Ok(Value::Str(Text::copied(alloc, characters)?))
 }
 
 /// Texts, each as a value.
