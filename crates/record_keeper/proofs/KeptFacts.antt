@@ -1,5 +1,5 @@
 -- The entries that records keep: the data of each is that of its record, and no other.
-use Rattle.std.proofs.Common.{◌≡◌, ℕ, List, [], ◌∷◌, ◌++◌, map, Bool, true, ◌&&◌, refl, sym, ap, subst, ◌∙◌, append_assoc}
+use Rattle.std.proofs.Common.{◌≡◌, ℕ, List, [], ◌∷◌, ◌++◌, length, map, Bool, true, ◌&&◌, refl, sym, ap, subst, ◌∙◌, append_assoc, arith}
 use Rattle.std.specs.List.{list_all}
 use Rattle.std.proofs.lemmas.Bool.{and_parts}
 use Rattle.std.proofs.lemmas.List.{map-append}
@@ -104,3 +104,7 @@ kept_more entries e r rest all so_far same =
     ap (λ (rs : List EntryRecord). rs ++ rest) (map-append record_of entries (e ∷ []))
     ∙ (append_assoc (map record_of entries) (record_of e ∷ []) rest
     ∙ (ap (λ (x : EntryRecord). map record_of entries ++ (x ∷ rest)) same ∙ so_far))
+
+pub nothing_left : {X : Type 0} (xs : List X) → length xs ≡ 0 → xs ≡ []
+nothing_left [] h = refl
+nothing_left (x ∷ xs) h = absurd (omega arith)
