@@ -47,7 +47,6 @@ goes_lead : (what : Stop) (a b : Scene) (seat : ℕ) (rs : List Request) (ps : L
 goes_lead stop.More a b seat rs ps now es out h = comes_lead a b seat _ _ _ es out h.1
 goes_lead (stop.Bad rule) a b seat rs ps now es out h = comes_lead a b seat _ _ _ es out h
 goes_lead stop.TooLong a b seat rs ps now es out h = comes_lead a b seat _ _ _ es out h
-goes_lead stop.Unbuilt a b seat rs ps now es out h = absurd h
 
 data_leads : (o : Option Standing) (a b : Scene) (seat : ℕ) (bytes : List ℕ) (es : List Entry) (out : List (List ℕ)) → DataDoes a seat bytes o es out b → Leads a es b
 data_leads None a b seat bytes es out h = passes_lead a b es out h
