@@ -7,7 +7,6 @@ use Rattle.portal_base.specs.Names.{is_host_path, is_app_name}
 use Rattle.portal_model.specs.Examples.{editor, other, a_text, read_write, of_other, of_nobody, AttributesOfGrantedFile, ForeignIsAsMissing, CostsOfRequests, AnswersOfSeats, LeaveAndCollect, FailedLook}
 use Rattle.portal_model.specs.Opening.{opened}
 use Rattle.portal_model.specs.Valid.{Valid}
-use Rattle.std.proofs.lemmas.List.Elements.{All-nil}
 
 -- ---- the names in the examples are names
 
