@@ -1,6 +1,6 @@
 //! What the tables made of a call, told to the host's connections and kept.
 
-ghost use Rattle.std.specs.Prelude.{◌≡◌, ◌×◌, false, IfOk, IfSome, MatchBool, None, Ok, OnErr, Option, cond};
+ghost use Rattle.std.specs.Prelude.{◌≡◌, false, IfOk, IfSome, MatchBool, None, Ok, OnErr, Option, cond};
 ghost use Rattle.change_signals.specs.Unsent.{AtEach, IsSame, told};
 ghost use Rattle.document_calls.specs.KeeperCalls.{AppliedIf, KeeperStays};
 ghost use Rattle.document_calls.specs.Serves.{given_with};
