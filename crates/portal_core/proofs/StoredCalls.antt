@@ -1,5 +1,6 @@
 -- A call of the permission store at a portal: it is one step of the state that the portal's lists, tables and boxes are.
-use Rattle.std.proofs.Common.{◌≡◌, ◌≢◌, ◌+◌, ◌≤◌, ℕ, List, [], ◌∷◌, ◌++◌, Bool, true, false, Option, Some, None, option_map, refl, sym, ap, subst, ◌∙◌}
+use Rattle.std.specs.Prelude.{IfOk}
+use Rattle.std.proofs.Common.{◌≡◌, Result, ◌+◌, ◌≤◌, ℕ, List, [], ◌∷◌, ◌++◌, Bool, true, false, Option, Some, None, option_map, refl, sym, ap, subst, ◌∙◌}
 use Rattle.change_signals.specs.Unsent.{AtSeat as BoxAtSeat, Boxes, holding}
 use Rattle.document_calls.specs.KeeperCalls.{fault_if}
 use Rattle.document_calls.specs.declared.served.ServedCall.{ServedCall}
@@ -7,12 +8,14 @@ use Rattle.document_records.specs.Documents.{DocumentList}
 use Rattle.file_ops.specs.OpenHandles.{AreOpen}
 use Rattle.open_handles.specs.Opened.{HandleTable}
 use Rattle.portal_base.specs.declared.files.File.{File}
+use Rattle.portal_base.specs.declared.memory.WantOfMemory.{WantOfMemory}
 use Rattle.portal_model.specs.declared.entry.Entry.{Entry}
 use Rattle.portal_model.specs.declared.entry.Fault.{Fault}
 use Rattle.portal_model.specs.declared.entry.Given.{Given}
 use Rattle.portal_model.specs.declared.opening.OpeningState.{OpeningState}
 use Rattle.portal_model.specs.declared.reply.Answer.{Answer}
 use Rattle.portal_model.specs.declared.reply.Change.{Change}
+use Rattle.portal_model.specs.declared.reply.Code.{Code}
 use Rattle.portal_model.specs.declared.reply.Reply.{Reply}
 use Rattle.portal_model.specs.declared.request.Request.{Request}
 use Rattle.portal_model.specs.declared.state.Connection.{Connection}
@@ -34,6 +37,7 @@ use Rattle.portal_core.specs.Stored.{StoredOn}
 use Rattle.portal_core.proofs.Boxes.{unsent_of}
 use Rattle.portal_core.proofs.CallSteps.{Comes, IsUntreed, Leaves, bus-leaves, comes-here, comes-nowhere, entry_with}
 use Rattle.portal_core.proofs.CallVerdicts.{step-on-bus}
+use Rattle.portal_core.proofs.ServedLists.{if_ok, none-there, on-some}
 use Rattle.portal_core.proofs.SettledCalls.{Settles}
 use Rattle.portal_core.proofs.Steps.{bus-now, holds_told, stands_more, stored_more, stored_told, told_now, valid-now}
 use Rattle.store_serving.specs.Serving.{GivesStore, HasStore, ServesStore}
@@ -63,6 +67,23 @@ nothing-untreed call given e = record {
   moment = ap (λ (g : Given). g.now) e;
   unkept = λ h f. let no : Fault.Keeper ≡ Fault.None = sym f ∙ ap (λ (g : Given). g.fault) e in cc;
 }
+
+-- ---- on a bus, and of a seat that has none
+
+pub stored-nowhere : (call : StoreCall) (entries : Entries) (boxes : Boxes) (k : KeeperIs) (served : ServedCall) (here : Option Connection) → here ≡ None → served ≡ record { given = nothing_given; answer = Answer.Refused Code.NotHere } →
+    (s : State) (b : Option Connection) → HasStore s entries boxes → option_map silent b ≡ here → StoredOn s call entries boxes k entries boxes k served b
+stored-nowhere call entries boxes k served here n e = λ s b st h.
+    subst (StoredOn s call entries boxes k entries boxes k served) (sym (none-there b (h ∙ n)))
+    (record { given_is = ap (λ (x : ServedCall). x.given) e; answer_is = ap (λ (x : ServedCall). x.answer) e; entries_stay = refl; boxes_stay = λ q. refl; keeper_stays = refl })
+
+pub stored-somewhere : (call : StoreCall) (entries entries' : Entries) (boxes boxes' : Boxes) (old new : KeeperIs) (r : Result ServedCall WantOfMemory) (here : Option Connection) (bus : Connection) → here ≡ Some bus →
+    IfOk r (λ served. (s : State) (c : Connection) → c.who ≡ bus.who → HasStore s entries boxes → ServesStore s c call old entries' boxes' new served) →
+    IfOk r (λ served. (s : State) (b : Option Connection) → HasStore s entries boxes → option_map silent b ≡ here → StoredOn s call entries boxes old entries' boxes' new served b)
+stored-somewhere call entries entries' boxes boxes' old new r here bus e =
+    if_ok (λ served. (s : State) (c : Connection) → c.who ≡ bus.who → HasStore s entries boxes → ServesStore s c call old entries' boxes' new served)
+    (λ served. (s : State) (b : Option Connection) → HasStore s entries boxes → option_map silent b ≡ here → StoredOn s call entries boxes old entries' boxes' new served b)
+    r
+    (λ served k. λ s b st h. on-some (StoredOn s call entries boxes old entries' boxes' new served) b bus (h ∙ e) (λ d same. k s d (ap (λ (x : Connection). x.who) same) st))
 
 -- ---- the step
 
