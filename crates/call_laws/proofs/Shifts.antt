@@ -24,7 +24,10 @@ fixed f n h = (λ a b le. omega (arith, h a, h b, le), λ a. h (a + 8) ∙ sym (
 behind_bytes : (k : ℕ) (f g : ℕ → List ℕ) → ((at : ℕ) → length (g at) ≡ k + length (f (at + k))) → Shifts f → Shifts g
 behind_bytes k f g h s = (
   λ a b le. omega (arith, h a, h b, s.0 (a + k) (b + k) (omega (arith, le))),
-  λ a. let moved : length (f (a + 8 + k)) ≡ length (f (a + k + 8)) = ap (λ (n : ℕ). length (f n)) (omega arith) in omega (arith, h a, h (a + 8), moved, s.1 (a + k)),
+  λ a.
+      let same : a + 8 + k ≡ a + k + 8 = omega arith in
+      let moved : length (f (a + 8 + k)) ≡ length (f (a + k + 8)) = ap (λ (n : ℕ). length (f n)) same in
+      omega (arith, h a, h (a + 8), moved, s.1 (a + k)),
 )
 
 abbrev Pads : ℕ → Type 0
@@ -75,8 +78,11 @@ number_shifts to n bytes p is = behind_padding to (λ start. bytes) p (fixed (λ
 
 -- ---- values
 
+abbrev Moves : Value → Type 0
+Moves v = Shifts (λ at. spelling Little at v)
+
 abbrev Such : Type 0
-Such = (v : Value) × Shifts (λ at. spelling Little at v)
+Such = (v : Value) × Moves v
 
 abbrev spelled_of : List Such → List Spelled
 spelled_of xs = map (spelled Little) (map (λ x. x.0) xs)
@@ -135,17 +141,18 @@ layer (Value-F.Array t xs) = behind_padding 4 (array_body Little (alignment t) (
 layer (Value-F.Struct xs) = behind_padding 8 (in_row (spelled_of xs)) eight_pads (row_shifts xs)
 layer (Value-F.DictEntry k x) = behind_padding 8 (in_row (spelled_of (k ∷ x ∷ []))) eight_pads (row_shifts (k ∷ x ∷ []))
 
-value_shifts : (v : Value) → Shifts (λ at. spelling Little at v)
-value_shifts = ind-Value (λ (v : Value). Shifts (λ at. spelling Little at v)) (λ x y is.
+value_shifts : (v : Value) → Moves v
+value_shifts = ind-Value Moves (λ x y is.
     subst (λ (s : Spelled). Shifts s.1) (sym (fold-roll-Value Spelled (spell_step Little) x))
     (subst (λ (z : Value-F Value). Shifts (spell_step Little (map-Value Value Spelled (spelled Little) z)).1) is (layer y)))
 
 -- ---- at the beginning and elsewhere
 
 eights : (f : ℕ → List ℕ) (n a : ℕ) → Shifts f → length (f (a + 8 * n)) ≡ length (f a)
-eights f zero a s = ap (λ (n : ℕ). length (f n)) (omega arith)
+eights f zero a s = let same : a + 8 * zero ≡ a = omega arith in ap (λ (n : ℕ). length (f n)) same
 eights f (suc n) a s =
-    let moved : length (f (a + 8 * suc n)) ≡ length (f (a + 8 * n + 8)) = ap (λ (n : ℕ). length (f n)) (omega arith) in
+    let same : a + 8 * suc n ≡ a + 8 * n + 8 = omega arith in
+    let moved : length (f (a + 8 * suc n)) ≡ length (f (a + 8 * n + 8)) = ap (λ (m : ℕ). length (f m)) same in
     moved ∙ (s.1 (a + 8 * n) ∙ eights f n a s)
 
 -- A value takes at most eight bytes more at the beginning than elsewhere.
@@ -154,5 +161,6 @@ at_most_eight v at =
     let s : Shifts (λ n. spelling Little n v) = value_shifts v in
     let r : ℕ = at % 8 in
     let whole : length (spelling Little (r + 8 * (at / 8)) v) ≡ length (spelling Little r v) = eights (λ n. spelling Little n v) (at / 8) r s in
-    let here : length (spelling Little (r + 8 * (at / 8)) v) ≡ length (spelling Little at v) = ap (λ (n : ℕ). length (spelling Little n v)) (omega arith) in
+    let same : r + 8 * (at / 8) ≡ at = omega arith in
+    let here : length (spelling Little (r + 8 * (at / 8)) v) ≡ length (spelling Little at v) = ap (λ (n : ℕ). length (spelling Little n v)) same in
     omega (arith, whole, here, s.0 0 r (omega arith))

@@ -5,6 +5,7 @@ use Rattle.std.specs.List.{list_all}
 use Rattle.portal_model.specs.declared.entry.Entry.{Entry}
 use Rattle.portal_model.specs.declared.entry.Given.{Given}
 use Rattle.portal_model.specs.declared.reply.Change.{Change}
+use Rattle.portal_model.specs.declared.request.NodeRequest.{NodeRequest}
 use Rattle.portal_model.specs.declared.request.Request.{Request}
 use Rattle.portal_model.specs.declared.state.Connection.{Connection}
 use Rattle.portal_model.specs.State.{State, connection_of, is_mount}
@@ -50,7 +51,7 @@ bus_sound : (o : Option Connection) → WaitsSound o → WaitsSound (bus_of o)
 bus_sound None h = tt
 bus_sound (Some c) h = if_bus (is_mount c.kind) c h
 
-on_mount : (s : State) (request : _) (given : Given) (o : Option Connection) → WaitsSound o → AreSound (node_step s request given o).1.signals
+on_mount : (s : State) (request : NodeRequest) (given : Given) (o : Option Connection) → WaitsSound o → AreSound (node_step s request given o).1.signals
 on_mount s request given None h = refl
 on_mount s request given (Some c) h = h
 

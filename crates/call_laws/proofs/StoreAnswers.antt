@@ -13,9 +13,10 @@ use Rattle.portal_model.specs.declared.store.StoreAnswer.TheVariants.{Done, Entr
 use Rattle.portal_model.specs.declared.store.StoreCall.{StoreCall}
 use Rattle.portal_model.specs.declared.store.StoreCall.TheVariants as Call
 use Rattle.portal_model.specs.declared.store.StoredEntry.{StoredEntry}
+use Rattle.portal_model.specs.declared.store.StoreError.TheVariants.{TooLong}
 use Rattle.portal_model.specs.Data.{is_data}
 use Rattle.portal_model.specs.Ordered.{bytes_less, put_all}
-use Rattle.portal_model.specs.Rows.{is_row_of, permissions_of, row_of}
+use Rattle.portal_model.specs.Rows.{is_row_of, permissions_of, row_of, stored_rows}
 use Rattle.portal_model.specs.State.{State}
 use Rattle.portal_model.specs.Store.{Entries, Outcome, becomes, becomes_if_told, can_be_told, change_of, entry_of, entry_to_set, has_row, ids_of, is_entry_of, is_in_table, lookup, get_permission, store_call, with_entry, with_permissions, without_entry, without_permissions}
 use Rattle.portal_model.specs.StoreRequest.{are_store_arguments, own_table, store_allowed, store_answered, store_request, store_verdict, table_of}
@@ -76,6 +77,9 @@ set_told : (b : Bool) (e : StoredEntry) (entries : Entries) (o : Outcome) → Ou
 set_told true e entries o h = tt
 set_told false e entries o h = h
 
+if_told : (e : StoredEntry) (entries : Entries) → OutcomeTold (becomes_if_told e entries)
+if_told e entries = set_told (can_be_told e) e entries (Err TooLong) tt
+
 with_told : (o : Option StoredEntry) (does : StoredEntry → Outcome) → ((e : StoredEntry) → o ≡ Some e → OutcomeTold (does e)) → OutcomeTold (with_entry o does)
 with_told None does h = tt
 with_told (Some e) does h = h e refl
@@ -87,10 +91,14 @@ module _ (entries : Entries) (valid : list_all is_valid_entry entries ≡ true) 
   call_told : (call : StoreCall) → OutcomeTold (store_call call entries)
   call_told (Call.Lookup table id) =
       with_told (entry_of entries table id) (λ e. Ok (entries, Entry e.rows e.datum)) (λ e is. let p = entry_parts e (found_valid table id e is) in (p.1, p.2))
-  call_told (Call.Set table create id rows datum) = with_told (entry_to_set entries create table id) _ (λ e is. set_told _ _ entries _ tt)
+  call_told (Call.Set table create id rows datum) =
+      with_told (entry_to_set entries create table id) (λ e. becomes_if_told (record e { rows = stored_rows rows; datum = datum }) entries)
+      (λ e is. if_told (record e { rows = stored_rows rows; datum = datum }) entries)
   call_told (Call.Delete table id) = with_told (entry_of entries table id) (λ e. Ok (without_entry table id entries, Done (change_of true e))) (λ e is. tt)
-  call_told (Call.SetValue table create id datum) = with_told (entry_to_set entries create table id) _ (λ e is. set_told _ _ entries _ tt)
-  call_told (Call.SetPermission table create id app names) = with_told (entry_to_set entries create table id) _ (λ e is. set_told _ _ entries _ tt)
+  call_told (Call.SetValue table create id datum) =
+      with_told (entry_to_set entries create table id) (λ e. becomes_if_told (record e { datum = datum }) entries) (λ e is. if_told (record e { datum = datum }) entries)
+  call_told (Call.SetPermission table create id app names) =
+      with_told (entry_to_set entries create table id) (λ e. becomes_if_told (with_permissions app names e) entries) (λ e is. if_told (with_permissions app names e) entries)
   call_told (Call.DeletePermission table id app) =
       with_told (entry_of entries table id) (λ e. cond (has_row app e) (becomes (without_permissions app e) entries) (Ok (entries, Kept))) (λ e is. set_told (has_row app e) (without_permissions app e) entries (Ok (entries, Kept)) tt)
   call_told (Call.GetPermission table id app) =
