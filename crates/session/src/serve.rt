@@ -151,15 +151,12 @@ fn send_answer<K: Sink>(
 
 /// Asks for what the host was not told yet, which is answered. A refusal leaves
 /// it untold.
-fn collect<D: Desk>(alloc: Global, collects: bool, desk: &mut D) -> List<Change>
-    ensures asked { Collected (collect_requests collects) result (D.seated desk.old)
+fn ask_untold<D: Desk>(alloc: Global, desk: &mut D) -> List<Change>
+    ensures asked { Collected (Request.Collect ∷ []) result (D.seated desk.old)
         (D.seated desk.new) }
     ensures sound { list_all is_sound_change result ≡ true }
     ensures goes { D.goes desk.old desk.new }
 {
-    if !collects {
-        return List::new(alloc);
-    }
     match desk.ask(alloc, Request::Collect) {
         Ok(reply) => {
             desk.known();
@@ -167,6 +164,19 @@ fn collect<D: Desk>(alloc: Global, collects: bool, desk: &mut D) -> List<Change>
         }
         Err(_) => List::new(alloc),
     }
+}
+
+/// The same, where it is to be asked.
+fn collect<D: Desk>(alloc: Global, collects: bool, desk: &mut D) -> List<Change>
+    ensures asked { Collected (collect_requests collects) result (D.seated desk.old)
+        (D.seated desk.new) }
+    ensures sound { list_all is_sound_change result ≡ true }
+    ensures goes { D.goes desk.old desk.new }
+{
+    if collects {
+        return ask_untold(alloc, desk);
+    }
+    List::new(alloc)
 }
 
 /// Asks what a call asks, tells what the host was not told yet, and answers the
