@@ -22,9 +22,13 @@ pub struct Outboxes {
 }
 
 impl Model for Outboxes {
+    ghost use Rattle.dbus_types.specs.contracts.types.Value as e;
+    ghost use Rattle.std.specs.Coded.{codes};
     ghost use Rattle.change_signals.specs.Unsent.{Boxes};
 
     ghost Value = { Boxes };
+
+    ghost coded = { Prim.hlevel (codes, e.the_row.coded) };
 
     ghost view = { λ a. a.boxes.entries };
 }

@@ -69,7 +69,11 @@ box-told seat q c e = by (seat == q) refl
     by false h = ap (λ (t : Bool). box_of (cond t (record c { unsent = [] }) c)) (ap (λ (n : ℕ). n == seat) e ∙ turned seat q false h)
 
 box-on-told : (seat q : ℕ) (cs : List Connection) (o : Option Connection) → connection_of cs q ≡ o → box_on (option_map (told_of seat) o) ≡ cond (seat == q) (holding [] (box_on o)) (box_on o)
-box-on-told seat q cs None e = elim (seat == q) as (λ b. None ≡ cond b None None) [ true ↦ refl | false ↦ refl ]
+box-on-told seat q cs None e = either (seat == q) None
+  where
+    either : (b : Bool) (u : Option (List Change)) → u ≡ cond b u u
+    either true u = refl
+    either false u = refl
 box-on-told seat q cs (Some c) e = box-told seat q c (nat_is c.seat q (found_passes (λ (x : Connection). x.seat == q) cs c e))
 
 pub taken-waits : (seat : ℕ) (cs : List Connection) (old new : Boxes) → AtSeat (holding []) old new seat → AreWaiting cs old → AreWaiting (map (told_of seat) cs) new
