@@ -80,8 +80,12 @@ impl<T: HostTree, K: Keeper, C: Clock, W: Words> Model for Portal<T, K, C, W> {
     ghost use Rattle.portal_model.specs.Opening.{opened_over};
     ghost use Rattle.portal_core.specs.Story.{PortalIs};
     ghost use Rattle.store_serving.specs.Serving.{HasStore};
+    ghost use Rattle.dbus_types.specs.contracts.types.Value as e;
+    ghost use Rattle.std.specs.Coded.{codes};
 
     ghost Value = { PortalIs T K C W };
+
+    ghost coded = { Prim.hlevel (codes, e.the_row.coded, T.code, K.code, C.code, W.code) };
 
     ghost view = { λ p. record {
       tree = p.tree;
