@@ -29,9 +29,9 @@ use Rattle.portal_core.specs.declared.start.StartRefusal.{StartRefusal}
 abbrev pub document_loaded : DocRecord → OpeningDocument
 document_loaded d = record { kept = d; persistent = true }
 
--- The opening state that stands for records, with these entries: no document was made but those that
--- are kept, and the applications are numbered as the records first name them. The tree tells the
--- files.
+-- The opening state that stands for records, with these entries: no document was made but those
+-- that are kept, and the applications are numbered as the records first name them. The tree tells
+-- the files.
 abbrev pub opening_loaded : Entries → Limits → Records → OpeningState
 opening_loaded entries limits records = record {
   limits = limits;

@@ -1,5 +1,5 @@
--- What the code makes of a call of the permission store, over the portal's tables, the boxes of what
--- its connections wait for, and the keeper.
+-- What the code makes of a call of the permission store, over the portal's tables, the boxes of
+-- what its connections wait for, and the keeper.
 use Rattle.std.specs.Prelude.{◌≡◌, ℕ, Bool, true, false, Option, Some, None}
 use Rattle.change_signals.specs.Unsent.{AtSeat, Boxes, IsSame, entered}
 use Rattle.document_calls.specs.declared.served.ServedCall.{ServedCall}
@@ -19,8 +19,9 @@ Hears true seat old new = AtSeat entered old new seat
 Hears false seat old new = IsSame old new
 
 -- a seat that has no open bus is answered so, and nothing changes
-pub record ServesNowhere (entries : Entries) (boxes : Boxes) (old : KeeperIs) (entries_after : Entries)
-    (boxes_after : Boxes) (new : KeeperIs) (served : ServedCall) : Type 0 where
+pub record ServesNowhere (entries : Entries) (boxes : Boxes) (old : KeeperIs)
+    (entries_after : Entries) (boxes_after : Boxes) (new : KeeperIs)
+    (served : ServedCall) : Type 0 where
   pub given_is : served.given ≡ nothing_given
   pub answer_is : served.answer ≡ Answer.Refused Code.NotHere
   pub entries_stay : entries_after ≡ entries

@@ -18,13 +18,7 @@ use Rattle.portal_model.proofs.EntriesKept.{found-of}
 use Rattle.store_serving.specs.Serving.{changes_an_entry, entry_with, may_change_entries}
 
 made-is : (a b : Entries × StoreAnswer) (r : Outcome) → r ≡ Ok a → r ≡ Ok b → a ≡ b
-made-is a b r e f = inside a b (sym e ∙ f)
-  where
-    same : (a b : Entries × StoreAnswer) (x y : Outcome) → x ≡ Ok a → y ≡ Ok b → x ≡ y → a ≡ b
-    same a b x y e f g = cc
-
-    inside : (a b : Entries × StoreAnswer) → (let x : Outcome = Ok a in let y : Outcome = Ok b in x ≡ y) → a ≡ b
-    inside a b g = same a b (Ok a) (Ok b) refl refl g
+made-is a b r e f = cc
 
 -- ---- a call that sets an entry, or takes a row out of one
 
@@ -115,7 +109,10 @@ Tells before after (Entry rows datum) = after ≡ before
 Tells before after (Names names) = after ≡ before
 
 module _ (before after : Entries) (answer : StoreAnswer) where
-  tells-made : (told : StoreAnswer) → Tells before before told → (let made : Outcome = Ok (before, told) in made ≡ Ok (after, answer)) → Tells before after answer
+  abbrev IsMade : Outcome → Type 0
+  IsMade outcome = outcome ≡ Ok (after, answer)
+
+  tells-made : (told : StoreAnswer) → Tells before before told → IsMade (Ok (before, told)) → Tells before after answer
   tells-made told h m =
       let made : Entries × StoreAnswer = (before, told) in
       let same : made ≡ (after, answer) = made-is made (after, answer) (Ok made) refl m in

@@ -30,7 +30,7 @@ use Rattle.portal_model.specs.Bus.{bus_walk}
 use Rattle.portal_model.specs.Errno.{eio}
 use Rattle.portal_model.specs.Kept.{records_of}
 use Rattle.portal_model.specs.State.{State}
-use Rattle.portal_model.specs.Store.{Entries, change_of, entry_of, record_of, store_call, with_entry, without_entry}
+use Rattle.portal_model.specs.Store.{Entries, Outcome, change_of, entry_of, record_of, store_call, with_entry, without_entry}
 use Rattle.portal_model.specs.StoreRequest.{identifier_of, store_verdict, table_of, tell_hosts, tell_kept, told_change}
 use Rattle.portal_model.specs.Valid.{entry_told}
 use Rattle.portal_model.specs.Verdict.{Verdict, Refuses, does}
@@ -302,7 +302,7 @@ module _ (before : Entries) (table id : List ℕ) (boxes : Boxes) where
       let there : entry_of before table id ≡ Some entry = sym (former-entry table id before) ∙ ap (entry_with table id) (sym f) in
       let gives : store_call deletion before ≡ Ok (without_entry table id before, StoreAnswer.Done change) =
       ap (λ (o : Option StoredEntry). with_entry o (λ x. Ok (without_entry table id before, StoreAnswer.Done (change_of true x)))) there
-      ∙ ap (λ (x : Change). Ok (without_entry table id before, StoreAnswer.Done x)) (sym d) in
+      ∙ ap (λ (x : Change). let made : Outcome = Ok (without_entry table id before, StoreAnswer.Done x) in made) (sym d) in
       change-served s c deletion before boxes boxes' old new h (without_entry table id before) change (Some (RemoveEntry table id)) refl
       (ap (λ (x : Verdict). Answers x) (passed-is s c.who deletion p ∙ (ap (λ (es : Entries). store_verdict s deletion (store_call deletion es)) h.stored ∙ ap (store_verdict s deletion) gives)))
       (gone-changes s before table id entry h.stored there change)
