@@ -3,3 +3,5 @@ mod Passed
 mod EntrySteps
 mod RecordSteps
 mod StoreSteps
+mod CallArguments
+mod SameRows

@@ -1,5 +1,5 @@
 -- A call of the store over tables, boxes and a keeper is that of the sequential portal.
-use Rattle.std.specs.Prelude.{IfOk, MatchBool}
+use Rattle.std.specs.Prelude.{IfOk, MatchBool, OnErr}
 use Rattle.std.proofs.Common.{◌≡◌, ℕ, List, [], map, Bool, true, false, cond, Option, Some, None, option_map, Result, Ok, Err, refl, sym, ap, subst, ◌∙◌}
 use Rattle.change_signals.specs.Unsent.{AtEach, Boxes, IsSame, told}
 use Rattle.document_calls.specs.Changes.{done_with}
@@ -44,6 +44,16 @@ use Rattle.store_serving.proofs.EntrySteps.{Puts, Tells, call-puts, call-reads, 
 use Rattle.store_serving.proofs.Passed.{is_fault_code, passed-is, refused-is, refused-plain}
 use Rattle.store_serving.proofs.RecordSteps.{Changes, change-kept, change-risen, changes-match, gone-changes, set-changes}
 use Rattle.store_serving.proofs.Waits.{same-waits, told-silent, told-waits}
+
+-- ---- results
+
+pub if_ok : {X E : Type 0} (P Q : X → Type 0) (r : Result X E) → ((x : X) → P x → Q x) → IfOk r P → IfOk r Q
+if_ok P Q (Ok x) f h = f x h
+if_ok P Q (Err e) f h = tt
+
+pub if_err : {X E : Type 0} (P Q : Type 0) (r : Result X E) → (P → Q) → OnErr r P → OnErr r Q
+if_err P Q (Ok x) f h = tt
+if_err P Q (Err e) f h = f h
 
 -- ---- what the outside gave
 
@@ -133,6 +143,13 @@ pub refusal-follows : (who : Who) (call : StoreCall) (code : Code) (entries : En
     (s : State) (c : Connection) → c.who ≡ who → HasStore s entries boxes → ServesStore s c call k entries boxes k (answered_call (Answer.Refused code))
 refusal-follows who call code entries boxes k r s c w h =
     refusal-served s c call entries boxes k h code (refused-plain who call code r) (ap (λ (x : Verdict). Answers x) (refused-is s c.who call code (ap (λ (x : Who). refusal_of x call) w ∙ r)))
+
+-- the same of a call that isn't refused so, by its caller
+pub passed-follows : (who : Who) (call : StoreCall) (entries entries' : Entries) (boxes boxes' : Boxes) (old new : KeeperIs) (r : Result ServedCall WantOfMemory) → refusal_of who call ≡ None →
+    IfOk r (StoreServed call entries boxes old entries' boxes' new) → IfOk r (λ served. (s : State) (c : Connection) → c.who ≡ who → HasStore s entries boxes → ServesStore s c call old entries' boxes' new served)
+passed-follows who call entries entries' boxes boxes' old new r p =
+    if_ok (StoreServed call entries boxes old entries' boxes' new) (λ served. (s : State) (c : Connection) → c.who ≡ who → HasStore s entries boxes → ServesStore s c call old entries' boxes' new served) r
+    (λ served k. λ s c w h. k s c (ap (λ (x : Who). refusal_of x call) w ∙ p) h)
 
 -- ---- what the tables refuse, and what they tell
 

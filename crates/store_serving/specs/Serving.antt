@@ -44,16 +44,6 @@ may_change_entries (Call.DeletePermission table id app) = true
 may_change_entries (Call.GetPermission table id app) = false
 may_change_entries (Call.List table) = false
 
-abbrev pub is_deletion : StoreCall → Bool
-is_deletion (Call.Delete table id) = true
-is_deletion (Call.Lookup table id) = false
-is_deletion (Call.Set table create id rows datum) = false
-is_deletion (Call.SetValue table create id datum) = false
-is_deletion (Call.SetPermission table create id app names) = false
-is_deletion (Call.DeletePermission table id app) = false
-is_deletion (Call.GetPermission table id app) = false
-is_deletion (Call.List table) = false
-
 -- the calls that set an entry, or take a row out of one
 abbrev pub changes_an_entry : StoreCall → Bool
 changes_an_entry (Call.Set table create id rows datum) = true

@@ -9,7 +9,7 @@ ghost use Rattle.portal_model.specs.Store.{entry_of, store_call, without_entry};
 ghost use Rattle.portal_model.specs.StoreRequest.{are_data, are_store_arguments, data_of, identifier_of, table_of};
 ghost use Rattle.portal_model.specs.declared.state.Connection.{Connection};
 ghost use Rattle.portal_model.specs.declared.store.StoreCall.TheVariants as StoreCall;
-ghost use Rattle.store_serving.specs.Serving.{HasStore, ServesStore, StoreServed, changes_an_entry, is_deletion, may_change_entries};
+ghost use Rattle.store_serving.specs.Serving.{HasStore, ServesStore, StoreServed, changes_an_entry, may_change_entries};
 
 use crate::arguments::refusal;
 use crate::settling::{change_of, keep_told, read, settle};
@@ -72,9 +72,11 @@ fn serve_passed<K: Keeper>(
     ensures keeper { OnErr result (KeeperStays (K.is keeper.old) (K.is keeper.new)) }
 {
     match call {
-        StoreCall::Lookup { .. } => read(alloc, ask(alloc, tables, call)),
-        StoreCall::GetPermission { .. } => read(alloc, ask(alloc, tables, call)),
-        StoreCall::List { .. } => read(alloc, ask(alloc, tables, call)),
+        StoreCall::Lookup { table, id } => read(alloc, tables.lookup(table, id)),
+        StoreCall::GetPermission { table, id, app } => {
+            read(alloc, tables.get_permission(table, id, app))
+        }
+        StoreCall::List { table } => read(alloc, tables.list(table)),
         StoreCall::Delete { table, id } => delete(alloc, tables, outboxes, keeper, table, id),
         StoreCall::Set { table, id, .. } => {
             change(alloc, tables, outboxes, keeper, table, id, call)
@@ -116,20 +118,17 @@ fn change<K: Keeper>(
     settle(alloc, tables, outboxes, keeper, table, id, former, answer)
 }
 
-/// What the tables make of a call that isn't a Delete.
+/// What the tables make of a call that sets an entry, or takes a row out of one.
 fn ask(
     alloc: Global,
     tables: &mut Tables,
     call: &StoreCall,
 ) -> Result<StoreAnswer, StoreError>
     requires arguments { are_store_arguments call.now ≡ true }
-    requires kind { is_deletion call.now ≡ false }
+    requires kind { changes_an_entry call.now ≡ true }
     ensures { Gives (store_call call.now tables.old) tables.old tables.new result }
 {
     match call {
-        StoreCall::Lookup { table, id } => tables.lookup(table, id),
-        StoreCall::GetPermission { table, id, app } => tables.get_permission(table, id, app),
-        StoreCall::List { table } => tables.list(table),
         StoreCall::Set {
             table,
             create,
@@ -148,7 +147,7 @@ fn ask(
             names,
         } => tables.set_permission(table, *create, id, app, names),
         StoreCall::DeletePermission { table, id, app } => tables.delete_permission(table, id, app),
-        StoreCall::Delete { .. } => unreachable!(),
+        _ => unreachable!(),
     }
 }
 
