@@ -45,9 +45,9 @@ pub record Went {T K C W : Type 0} (tree_is : T → TreeIs) (keeper_is : K
 
 -- What a refusal does, which comes where memory is wanted: the keeper may have been asked once and
 -- have wanted memory too. Where the request may ask the tree in vain, that may have been asked, of
--- which no call failed; where it may draw words, some may have been drawn; and where it may read the
--- clock, that may have been read, which shows what it showed. All else is as before: the tree, the
--- clock and the words themselves of the other requests.
+-- which no call failed, and else it is the same; where it may draw words, some may have been drawn,
+-- and else they are the same; and where it may read the clock, that may have been read, which shows
+-- what it showed, and else it is the same. All else is as before.
 pub record Spends {T K C W : Type 0} (tree_is : T → TreeIs) (keeper_is : K
     → KeeperIs) (clock_told : C → Option ℕ) (words_told : W → Option (List ℕ))
     (old : PortalIs T K C W) (request : Request) (new : PortalIs T K C W) : Type 0 where
