@@ -11,3 +11,4 @@ pub mod Opened
 pub mod Sets
 pub mod Tries
 pub mod Creates
+pub mod Wanting

@@ -1,8 +1,9 @@
 //! Any request on a node.
 
-ghost use Rattle.std.specs.Prelude.{◌≡◌, IfOk, IsSome, OnErr};
+ghost use Rattle.std.specs.Prelude.{◌≡◌, IfOk, IsSome, OnErr, false};
 ghost use Rattle.open_handles.specs.Opened.{opened_on};
 ghost use Rattle.file_ops.specs.Done.{Does, Reads, Wants};
+ghost use Rattle.file_ops.specs.Wanting.{may_call_in_vain, may_change_file};
 
 use crate::checked::access;
 use crate::contents::read;
@@ -28,8 +29,10 @@ use std::alloc::Global;
 /// Answers a request on a node, of a seat that was entered and not left. Each takes
 /// what its own call says.
 ///
-/// Where memory is wanted, the open handles and the files are as before; the tree
-/// may have been asked, and the clock read.
+/// Where memory is wanted, the open handles and the files are as before. The tree may
+/// have been called in vain by a SETATTR, OPEN, CREATE, READ, WRITE, FSYNC or OPENDIR,
+/// and the clock read by a SETATTR, OPEN, CREATE or WRITE; no other request that wants
+/// memory has called the tree, and none reads the clock.
 pub fn serve_node<T: HostTree, C: Clock>(
     alloc: Global,
     book: &FileBook,
@@ -44,6 +47,10 @@ pub fn serve_node<T: HostTree, C: Clock>(
     ensures clock { IfOk result (λ done. Reads C.told clock.old done.now clock.new) }
     ensures err { OnErr result (Wants handles.old (T.is tree.old) handles.new (T.is tree.new)) }
     ensures clock_err { OnErr result (C.told clock.new ≡ C.told clock.old) }
+    ensures unasked { may_call_in_vain call.now.request.now.op ≡ false
+        → OnErr result (tree.new ≡ tree.old) }
+    ensures unread { may_change_file call.now.request.now.op ≡ false
+        → clock.new ≡ clock.old }
 {
     let NodeCall { who, request, seat } = *call;
     match &request.op {

@@ -1,7 +1,8 @@
 //! A request of a seat.
 
-ghost use Rattle.std.specs.Prelude.{◌≡◌, IfOk, OnErr, length, option_copied};
+ghost use Rattle.std.specs.Prelude.{◌≡◌, IfOk, OnErr, false, length, option_copied};
 ghost use Rattle.file_ops.specs.Done.{Reads, Wants};
+ghost use Rattle.file_ops.specs.Wanting.{may_call_in_vain, may_change_file};
 ghost use Rattle.node_serving.specs.Counted.{Counts};
 ghost use Rattle.node_serving.specs.Seats.{AreEntered, IsServedIn, ServesSeat, refused_here};
 ghost use Rattle.portal_model.specs.State.{State, connection_of as open_connection};
@@ -29,6 +30,10 @@ use std::alloc::Global;
 /// is answered has one look-up more in the counts, for which room is taken before
 /// the tree is asked, and what the kernel forgets is taken back; where a handle is
 /// opened, its number is the last that the connection was given.
+///
+/// Where memory is wanted, the connections, the counts, the open handles and the files
+/// are as before. A request that takes all its room first, or asks nothing of the tree,
+/// has then not called it, and one that can't change a file never reads the clock.
 pub fn serve<T: HostTree, C: Clock>(
     alloc: Global,
     book: &FileBook,
@@ -51,6 +56,9 @@ pub fn serve<T: HostTree, C: Clock>(
     ensures count { length connections.new ≡ length connections.old }
     ensures err { OnErr result (Wants handles.old (T.is tree.old) handles.new (T.is tree.new)) }
     ensures clock_err { OnErr result (C.told clock.new ≡ C.told clock.old) }
+    ensures unasked { may_call_in_vain request.now.op ≡ false
+        → OnErr result (tree.new ≡ tree.old) }
+    ensures unread { may_change_file request.now.op ≡ false → clock.new ≡ clock.old }
     ensures connections { OnErr result (connections.new ≡ connections.old) }
     ensures kept { OnErr result (counts.new.counts ≡ counts.old.counts) }
 {

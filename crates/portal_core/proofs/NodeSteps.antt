@@ -1,6 +1,7 @@
 -- What a request on a node asks of the devices, and how it is replied to.
 use Rattle.std.proofs.Common.{◌≡◌, ◌≢◌, ℕ, List, [], ◌∷◌, replicate, Bool, true, false, Option, Some, None, refl, sym, ap, subst, ◌∙◌}
 use Rattle.file_ops.specs.TreeCalls.{after_calls}
+use Rattle.file_ops.specs.Wanting.{may_call_in_vain, may_change_file}
 use Rattle.file_ops.specs.declared.served.NodeDone.{NodeDone}
 use Rattle.host_tree.specs.Trees.{TreeIs, after_call}
 use Rattle.node_serving.specs.Seats.{ServesSeat}
@@ -10,6 +11,7 @@ use Rattle.portal_model.specs.declared.entry.Entry.{Entry}
 use Rattle.portal_model.specs.declared.entry.Fault.{Fault}
 use Rattle.portal_model.specs.declared.entry.Given.{Given}
 use Rattle.portal_model.specs.declared.reply.Reply.{Reply}
+use Rattle.portal_model.specs.declared.request.NodeOp.{NodeOp}
 use Rattle.portal_model.specs.declared.request.NodeRequest.{NodeRequest}
 use Rattle.portal_model.specs.declared.request.Request.{Request}
 use Rattle.portal_model.specs.declared.state.Connection.{Connection}
@@ -55,6 +57,14 @@ alike-same false request stepped given n e = (ap (λ (r : Reply). r.signals) e, 
 pub call-off-nodes : (request : Request) → is_document_call request ≡ true → is_on_node request ≡ false
 call-off-nodes (Request.Node r) h = absurd (cc)
 call-off-nodes request h = refl
+
+-- a request that doesn't call the tree in vain changes no file
+pub still-file : (op : NodeOp) → may_call_in_vain op ≡ false → may_change_file op ≡ false
+still-file (NodeOp.SetAttr valid fh size) h = absurd (cc)
+still-file (NodeOp.Open flags) h = absurd (cc)
+still-file (NodeOp.Create name flags) h = absurd (cc)
+still-file (NodeOp.Write fh offset content) h = absurd (cc)
+still-file op h = refl
 
 -- a tree that tells goes on telling
 pub told-on : (h : List Entry) (s : State) → (run s h).told ≡ s.told

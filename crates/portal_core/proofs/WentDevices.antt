@@ -18,7 +18,7 @@ use Rattle.portal_core.specs.Answered.{Spends, Went}
 use Rattle.add_calls.specs.Placing.{Drew, HasDrawn}
 use Rattle.add_calls.specs.Shown.{Asked}
 use Rattle.add_serving.specs.Adds.{WasAsked}
-use Rattle.portal_core.specs.Devices.{Drawn, Keeping, KeeperWentOn, may_ask_tree, may_change_records, may_draw}
+use Rattle.portal_core.specs.Devices.{Drawn, Keeping, KeeperWentOn, may_ask_tree_in_vain, may_change_records, may_draw, may_read_clock}
 use Rattle.portal_core.proofs.AskedCalls.{asked-calling, asked-keeps, was-asked-called}
 use Rattle.portal_core.proofs.BusCalls.{listed}
 use Rattle.portal_core.proofs.DrawnWords.{drawn-drew}
@@ -116,6 +116,10 @@ module _ {T K C W : Type 0} (tree_is : T → TreeIs) (keeper_is : K → KeeperIs
     undrawn = λ f. let no : true ≡ false = sym draws ∙ f in absurd (cc);
   }
 
+-- it is the same part for part
+pub same-portal : {T K C W : Type 0} (old new : PortalIs T K C W) → new.tree ≡ old.tree → new.keeper ≡ old.keeper → new.clock ≡ old.clock → new.words ≡ old.words → new.story.began ≡ old.story.began → new.story.opening ≡ old.story.opening → new.story.history ≡ old.story.history → new ≡ old
+same-portal old new t k c w b o h = λ i. record { tree = t i; keeper = k i; clock = c i; words = w i; story = record { began = b i; opening = o i; history = h i } }
+
 module _ {T K C W : Type 0} (tree_is : T → TreeIs) (keeper_is : K → KeeperIs) (clock_told : C → Option ℕ) (words_told : W → Option (List ℕ)) (old : PortalIs T K C W) (request : Request) (new : PortalIs T K C W) where
   -- a refusal for which nothing but the keeper was asked
   pub spends-keeper : new.tree ≡ old.tree → KeeperStays (keeper_is old.keeper) (keeper_is new.keeper) → new.clock ≡ old.clock → new.words ≡ old.words → new.story ≡ old.story → Spends tree_is keeper_is clock_told words_told old request new
@@ -125,8 +129,9 @@ module _ {T K C W : Type 0} (tree_is : T → TreeIs) (keeper_is : K → KeeperIs
     clock = ap clock_told c;
     words = ([], ap words_told w);
     story = s;
-    unasked = λ _. (t, c);
+    unasked = λ _. t;
     undrawn = λ _. w;
+    unread = λ _. c;
   }
 
   -- one that changes nothing
@@ -134,7 +139,7 @@ module _ {T K C W : Type 0} (tree_is : T → TreeIs) (keeper_is : K → KeeperIs
   spends-nothing e = spends-keeper (ap (λ (p : PortalIs T K C W). p.tree) e) (inl (ap (λ (p : PortalIs T K C W). keeper_is p.keeper) e)) (ap (λ (p : PortalIs T K C W). p.clock) e) (ap (λ (p : PortalIs T K C W). p.words) e) (ap (λ (p : PortalIs T K C W). p.story) e)
 
   -- that of an Add, which may have asked each device but the clock
-  pub spends-add : may_draw request ≡ true → may_ask_tree request ≡ true → WasAsked (tree_is old.tree) (tree_is new.tree) → KeeperStays (keeper_is old.keeper) (keeper_is new.keeper) → new.clock ≡ old.clock →
+  pub spends-add : may_draw request ≡ true → may_ask_tree_in_vain request ≡ true → WasAsked (tree_is old.tree) (tree_is new.tree) → KeeperStays (keeper_is old.keeper) (keeper_is new.keeper) → new.clock ≡ old.clock →
       HasDrawn (words_told old.words) (words_told new.words) → new.story.began ≡ old.story.began → new.story.opening ≡ old.story.opening → new.story.history ≡ old.story.history → Spends tree_is keeper_is clock_told words_told old request new
   spends-add draws asks t k c w b o h = record {
     tree = was-asked-called (tree_is old.tree) (tree_is new.tree) t;
@@ -144,17 +149,19 @@ module _ {T K C W : Type 0} (tree_is : T → TreeIs) (keeper_is : K → KeeperIs
     story = λ i. record { began = b i; opening = o i; history = h i };
     unasked = λ f. let no : true ≡ false = sym asks ∙ f in absurd (cc);
     undrawn = λ f. let no : true ≡ false = sym draws ∙ f in absurd (cc);
+    unread = λ _. c;
   }
 
   -- that of a request on a node, which may have asked the tree and the clock
-  pub spends-node : may_ask_tree request ≡ true → WasCalled (tree_is old.tree) (tree_is new.tree) → new.keeper ≡ old.keeper → clock_told new.clock ≡ clock_told old.clock → new.words ≡ old.words → new.story.began ≡ old.story.began → new.story.opening ≡ old.story.opening → new.story.history ≡ old.story.history →
+  pub spends-node : (may_ask_tree_in_vain request ≡ false → new.tree ≡ old.tree) → (may_read_clock request ≡ false → new.clock ≡ old.clock) → WasCalled (tree_is old.tree) (tree_is new.tree) → new.keeper ≡ old.keeper → clock_told new.clock ≡ clock_told old.clock → new.words ≡ old.words → new.story.began ≡ old.story.began → new.story.opening ≡ old.story.opening → new.story.history ≡ old.story.history →
       Spends tree_is keeper_is clock_told words_told old request new
-  spends-node asks t k c w b o h = record {
+  spends-node asks reads t k c w b o h = record {
     tree = t;
     keeper = inl (ap keeper_is k);
     clock = c;
     words = ([], ap words_told w);
     story = λ i. record { began = b i; opening = o i; history = h i };
-    unasked = λ f. let no : true ≡ false = sym asks ∙ f in absurd (cc);
+    unasked = asks;
     undrawn = λ _. w;
+    unread = reads;
   }

@@ -19,7 +19,8 @@ use Rattle.record_keeper.specs.Keepers.{KeeperIs}
 use Rattle.add_calls.specs.Placing.{HasDrawn}
 use Rattle.file_ops.specs.Done.{Reads}
 use Rattle.document_calls.specs.KeeperCalls.{KeeperStays}
-use Rattle.portal_core.specs.Devices.{Drawn, Keeping, may_ask_tree, may_change_records, may_draw}
+use Rattle.portal_core.specs.Devices.{Drawn, Keeping, may_ask_tree_in_vain, may_change_records}
+use Rattle.portal_core.specs.Devices.{may_draw, may_read_clock}
 use Rattle.portal_core.specs.Story.{PortalIs, state_first, state_now}
 use Rattle.portal_core.specs.TreeCalls.{Calling, WasCalled, entry_calls}
 
@@ -43,9 +44,10 @@ pub record Went {T K C W : Type 0} (tree_is : T → TreeIs) (keeper_is : K
   pub undrawn : may_draw e.request ≡ false → new.words ≡ old.words
 
 -- What a refusal does, which comes where memory is wanted: the keeper may have been asked once and
--- have wanted memory too. Where the request may draw words, some may have been drawn; where it may
--- ask the tree, that may have been asked, of which no call failed, and the clock read, which shows
--- what it showed. All else is as before.
+-- have wanted memory too. Where the request may ask the tree in vain, that may have been asked, of
+-- which no call failed, and else it is the same; where it may draw words, some may have been drawn,
+-- and else they are the same; and where it may read the clock, that may have been read, which shows
+-- what it showed, and else it is the same. All else is as before.
 pub record Spends {T K C W : Type 0} (tree_is : T → TreeIs) (keeper_is : K
     → KeeperIs) (clock_told : C → Option ℕ) (words_told : W → Option (List ℕ))
     (old : PortalIs T K C W) (request : Request) (new : PortalIs T K C W) : Type 0 where
@@ -54,9 +56,9 @@ pub record Spends {T K C W : Type 0} (tree_is : T → TreeIs) (keeper_is : K
   pub clock : clock_told new.clock ≡ clock_told old.clock
   pub words : HasDrawn (words_told old.words) (words_told new.words)
   pub story : new.story ≡ old.story
-  pub unasked : may_ask_tree request ≡ false →
-      (new.tree ≡ old.tree) × (new.clock ≡ old.clock)
+  pub unasked : may_ask_tree_in_vain request ≡ false → new.tree ≡ old.tree
   pub undrawn : may_draw request ≡ false → new.words ≡ old.words
+  pub unread : may_read_clock request ≡ false → new.clock ≡ old.clock
 
 -- The history grew by one lawful entry, of this seat and request. The reply is alike to that of its
 -- step: over a tree that tells its files it is that one.

@@ -1,6 +1,7 @@
 -- The keeper and the words beside the tree: what an entry asked of them.
 use Rattle.std.specs.Prelude.{◌≡◌, ◌⊎◌, ℕ, List, [], ◌∷◌, Bool, true, false, ◌||◌, Option, Some, None}
 use Rattle.portal_base.specs.Outside.{Draws, HasRisen}
+use Rattle.file_ops.specs.Wanting.{may_call_in_vain, may_change_file}
 use Rattle.host_tree.specs.Trees.{TreeIs}
 use Rattle.portal_model.specs.declared.entry.Entry.{Entry}
 use Rattle.portal_model.specs.declared.reply.Answer.{Answer}
@@ -69,25 +70,41 @@ Drawn old (word ∷ words) new =
 
 -- ---- the tree and the clock
 
--- the requests that may ask the tree; of these alone the clock may be read
-abbrev pub may_ask_tree : Request → Bool
-may_ask_tree (Request.Add a) = true
-may_ask_tree (Request.Node r) = true
-may_ask_tree (Request.Enter who kind) = false
-may_ask_tree Request.Leave = false
-may_ask_tree Request.Collect = false
-may_ask_tree (Request.Present path) = false
-may_ask_tree (Request.Grant call) = false
-may_ask_tree (Request.Revoke call) = false
-may_ask_tree (Request.DeleteDocument doc) = false
-may_ask_tree (Request.LookupDocument path) = false
-may_ask_tree (Request.Info doc) = false
-may_ask_tree (Request.ListDocuments app) = false
-may_ask_tree (Request.Store call) = false
+-- the requests that may have asked the tree when memory is wanted: no refusal of another asked it
+abbrev pub may_ask_tree_in_vain : Request → Bool
+may_ask_tree_in_vain (Request.Add a) = true
+may_ask_tree_in_vain (Request.Node r) = may_call_in_vain r.op
+may_ask_tree_in_vain (Request.Enter who kind) = false
+may_ask_tree_in_vain Request.Leave = false
+may_ask_tree_in_vain Request.Collect = false
+may_ask_tree_in_vain (Request.Present path) = false
+may_ask_tree_in_vain (Request.Grant call) = false
+may_ask_tree_in_vain (Request.Revoke call) = false
+may_ask_tree_in_vain (Request.DeleteDocument doc) = false
+may_ask_tree_in_vain (Request.LookupDocument path) = false
+may_ask_tree_in_vain (Request.Info doc) = false
+may_ask_tree_in_vain (Request.ListDocuments app) = false
+may_ask_tree_in_vain (Request.Store call) = false
 
--- the requests that may ask a device: a refusal of any other leaves all as it was
-abbrev pub may_ask : Request → Bool
-may_ask request = may_change_records request || may_ask_tree request
+-- the requests that may read the clock: a file may be changed or made by them
+abbrev pub may_read_clock : Request → Bool
+may_read_clock (Request.Node r) = may_change_file r.op
+may_read_clock (Request.Add a) = false
+may_read_clock (Request.Enter who kind) = false
+may_read_clock Request.Leave = false
+may_read_clock Request.Collect = false
+may_read_clock (Request.Present path) = false
+may_read_clock (Request.Grant call) = false
+may_read_clock (Request.Revoke call) = false
+may_read_clock (Request.DeleteDocument doc) = false
+may_read_clock (Request.LookupDocument path) = false
+may_read_clock (Request.Info doc) = false
+may_read_clock (Request.ListDocuments app) = false
+may_read_clock (Request.Store call) = false
+
+-- the requests that may ask a device in vain: a refusal of any other leaves all as it was
+abbrev pub may_ask_in_vain : Request → Bool
+may_ask_in_vain request = may_change_records request || may_ask_tree_in_vain request
 
 -- ---- faults
 

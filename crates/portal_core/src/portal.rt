@@ -7,7 +7,7 @@ ghost use Rattle.portal_model.specs.Seated.{is_open};
 ghost use Rattle.portal_model.specs.Step.{reply_with};
 ghost use Rattle.portal_model.specs.Valid.{Valid, is_caller};
 ghost use Rattle.portal_core.specs.Answered.{Answers, KeepsState, Spends, TellsFault};
-ghost use Rattle.portal_core.specs.Devices.{TellsFailure, may_ask, may_change_records};
+ghost use Rattle.portal_core.specs.Devices.{TellsFailure, may_ask_in_vain, may_ask_tree_in_vain, may_change_records};
 ghost use Rattle.portal_core.specs.Documents.{is_document_call};
 ghost use Rattle.portal_core.specs.Held.{told_files};
 ghost use Rattle.portal_core.specs.OpenFiles.{GoesByHandles, OpensByRights};
@@ -213,13 +213,14 @@ impl<T: HostTree, K: Keeper, C: Clock, W: Words> Portal<T, K, C, W> {
     /// step reaches are made, the clock is read where it changes or makes a file,
     /// words are drawn just for new documents, and the keeper is asked once where
     /// the step changes the records; EIO and Failed come only where such a call
-    /// failed. A refusal leaves the portal as it was; one of a request that may
-    /// change the records may have asked the keeper in vain, one of an Add or on
-    /// a node may have asked the tree, an Add may have drawn words, and on a node
-    /// the clock may have been read. `Full` comes exactly where the
-    /// history with this request would cost more than its limit; want of memory
-    /// may come at any other request, but not at the Leave of an open
-    /// connection, which is never refused.
+    /// failed. A refusal leaves the portal as it was, but one of a request that may
+    /// change the records may have asked the keeper in vain; one of an Add may have
+    /// asked the tree too, and have drawn words; one of a SETATTR, OPEN, CREATE, READ,
+    /// WRITE, FSYNC or OPENDIR may have asked the tree; and of these SETATTR, OPEN,
+    /// CREATE and WRITE may have read the clock. `Full` comes exactly where the history
+    /// with this request would cost more than its limit; want of memory may come at any
+    /// other request, but not at the Leave of an open connection, which is never
+    /// refused.
     pub fn ask(&mut self, alloc: Global, seat: u32, request: Request) -> Result<Reply, Refused>
         requires { 1 ≤ seat }
 
@@ -230,7 +231,7 @@ impl<T: HostTree, K: Keeper, C: Clock, W: Words> Portal<T, K, C, W> {
         ensures failure { IfOk result (TellsFailure (T.is self.old.tree) (T.is self.new.tree)
             (K.is self.old.keeper) (K.is self.new.keeper)) }
         ensures err { OnErr result (Spends T.is K.is C.told W.told self.old request self.new) }
-        ensures unasked { may_ask request ≡ false → OnErr result (self.new ≡ self.old) }
+        ensures unasked { may_ask_in_vain request ≡ false → OnErr result (self.new ≡ self.old) }
 
         // Both ways: it is full exactly where the cost would pass the limit. Nothing is asked then.
         ensures full { limit_of self.old.story < cost_with self.old.story request
@@ -267,7 +268,7 @@ impl<T: HostTree, K: Keeper, C: Clock, W: Words> Portal<T, K, C, W> {
         ensures failure { IfOk result (TellsFailure (T.is self.old.tree) (T.is self.new.tree)
             (K.is self.old.keeper) (K.is self.new.keeper)) }
         ensures err { OnErr result (Spends T.is K.is C.told W.told self.old request self.new) }
-        ensures unasked { may_ask request ≡ false → OnErr result (self.new ≡ self.old) }
+        ensures unasked { may_ask_in_vain request ≡ false → OnErr result (self.new ≡ self.old) }
         ensures full { limit_of self.old.story < cost_with self.old.story request
             → result
             ≡ Err (Refused.Full (cost self.old.story.history) (limit_of self.old.story)) }
@@ -377,6 +378,8 @@ impl<T: HostTree, K: Keeper, C: Clock, W: Words> Portal<T, K, C, W> {
             (K.is self.old.keeper) (K.is self.new.keeper)) }
         ensures err { OnErr result
             (Spends T.is K.is C.told W.told self.old (Request.Node request) self.new) }
+        ensures unasked { may_ask_tree_in_vain (Request.Node request) ≡ false
+            → OnErr result (self.new ≡ self.old) }
     {
         self.history.reserve(self.connections.as_slice().len() + 1)?;
         let book = FileBook {

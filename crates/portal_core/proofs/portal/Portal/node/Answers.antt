@@ -16,10 +16,10 @@ use Rattle.portal_core.specs.Served.{node_entry}
 use Rattle.portal_core.specs.Story.{state_first, state_now}
 use Rattle.portal_core.specs.TreeCalls.{Calling, entry_calls}
 use Rattle.portal_core.proofs.CallSteps.{stands_over, stored_over}
-use Rattle.portal_core.proofs.NodeSteps.{calls-keep, never-kept, replied-node, told-on, was-called-keeps}
+use Rattle.portal_core.proofs.NodeSteps.{calls-keep, never-kept, replied-node, still-file, told-on, was-called-keeps}
 use Rattle.portal_core.proofs.QuietNodes.{quiet}
 use Rattle.portal_core.proofs.Steps.{keeps-node, lawful_node, loud-served, served_in, stands_node, stands_wanting, stored_node}
-use Rattle.portal_core.proofs.WentDevices.{spends-node, went-node}
+use Rattle.portal_core.proofs.WentDevices.{same-portal, spends-node, went-node}
 use Rattle.portal_core.proofs.portal.Portal.node.Goals as goal
 
 pub invariant_of-self-in-Ok : goal.invariant_of-self-in-Ok
@@ -126,4 +126,9 @@ returns-in-Ok-clause-failure g c =
 pub returns-in-Err-clause-err : goal.returns-in-Err-clause-err
 returns-in-Err-clause-err g c =
     let kept = was-called-keeps (g.T.HostTree.is c.self.inside.tree) (g.T.HostTree.is c.serve-served.new.tree) c.in-Err.ensures.err.calls in
-    spends-node _ _ _ _ _ _ _ refl (rw (← c.self.view_is) c.in-Err.ensures.err.calls) (search rules) (rw (← c.self.view_is) c.in-Err.ensures.clock_err) (search rules) (rw (← c.self.view_is) kept.0) (search rules) (search rules)
+    spends-node _ _ _ _ _ _ _ (λ h. rw (← c.self.view_is) (c.in-Err.ensures.unasked h)) (λ h. rw (← c.self.view_is) (c.serve-served.ensures.unread h)) (rw (← c.self.view_is) c.in-Err.ensures.err.calls) (search rules) (rw (← c.self.view_is) c.in-Err.ensures.clock_err) (search rules) (rw (← c.self.view_is) kept.0) (search rules) (search rules)
+
+pub returns-in-Err-clause-unasked : goal.returns-in-Err-clause-unasked
+returns-in-Err-clause-unasked g c = λ h.
+    let kept = was-called-keeps (g.T.HostTree.is c.self.inside.tree) (g.T.HostTree.is c.serve-served.new.tree) c.in-Err.ensures.err.calls in
+    same-portal _ _ (rw (← c.self.view_is) (c.in-Err.ensures.unasked h)) (search rules) (rw (← c.self.view_is) (c.serve-served.ensures.unread (still-file c.args.request.op h))) (search rules) (rw (← c.self.view_is) kept.0) (search rules) (search rules)

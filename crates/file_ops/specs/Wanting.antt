@@ -1,0 +1,42 @@
+-- What a request that wants memory may have asked of the tree and of the clock, by its kind.
+use Rattle.std.specs.Prelude.{Bool, true, false}
+use Rattle.portal_model.specs.declared.request.NodeOp.{NodeOp}
+
+-- the requests that may change or make a file: no other reads the clock
+abbrev pub may_change_file : NodeOp → Bool
+may_change_file (NodeOp.SetAttr valid fh size) = true
+may_change_file (NodeOp.Open flags) = true
+may_change_file (NodeOp.Create name flags) = true
+may_change_file (NodeOp.Write fh offset content) = true
+may_change_file (NodeOp.Lookup name) = false
+may_change_file (NodeOp.Forget count) = false
+may_change_file (NodeOp.BatchForget nodes) = false
+may_change_file (NodeOp.GetAttr flags fh) = false
+may_change_file (NodeOp.Read fh offset size) = false
+may_change_file (NodeOp.Flush fh) = false
+may_change_file (NodeOp.Fsync fh) = false
+may_change_file (NodeOp.Release fh) = false
+may_change_file NodeOp.OpenDir = false
+may_change_file (NodeOp.ReadDir fh offset size) = false
+may_change_file (NodeOp.ReleaseDir fh) = false
+may_change_file (NodeOp.Access mask) = false
+
+-- the requests that may call the tree in vain: memory may be wanted in that call or behind it. Of
+-- the others some never call it, and the rest take all their room first.
+abbrev pub may_call_in_vain : NodeOp → Bool
+may_call_in_vain (NodeOp.SetAttr valid fh size) = true
+may_call_in_vain (NodeOp.Open flags) = true
+may_call_in_vain (NodeOp.Create name flags) = true
+may_call_in_vain (NodeOp.Read fh offset size) = true
+may_call_in_vain (NodeOp.Write fh offset content) = true
+may_call_in_vain (NodeOp.Fsync fh) = true
+may_call_in_vain NodeOp.OpenDir = true
+may_call_in_vain (NodeOp.Lookup name) = false
+may_call_in_vain (NodeOp.Forget count) = false
+may_call_in_vain (NodeOp.BatchForget nodes) = false
+may_call_in_vain (NodeOp.GetAttr flags fh) = false
+may_call_in_vain (NodeOp.Flush fh) = false
+may_call_in_vain (NodeOp.Release fh) = false
+may_call_in_vain (NodeOp.ReadDir fh offset size) = false
+may_call_in_vain (NodeOp.ReleaseDir fh) = false
+may_call_in_vain (NodeOp.Access mask) = false
