@@ -86,8 +86,11 @@ pub fn spoken(
         serial,
     };
     speak_signals(alloc, &mut speech, changes)?;
-    if let Some(message) = message {
-        speak(alloc, &mut speech, message)?;
+    match message {
+        Some(message) => {
+            speak(alloc, &mut speech, message)?;
+            Ok(speech)
+        }
+        None => Ok(speech),
     }
-    Ok(speech)
 }

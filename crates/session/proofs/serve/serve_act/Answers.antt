@@ -27,8 +27,8 @@ returns-in-Call-clause-ends g c =
     let reply = c.in-Call.reply in
     let k = c.collect-changes.ensures.asked in
     let f = c.send_messages in
-    let changes : List Change = c.as_slice-changes.result.now in
-    let told : map signal_of changes ≡ flat_map signals_for k.0 = ap (map signal_of) (c.as_slice-changes.ensures ∙ k.3) ∙ signals_each k.0 in
+    let changes : List Change = c.as_slice-in-Call.result.now in
+    let told : map signal_of changes ≡ flat_map signals_for k.0 = ap (map signal_of) (c.as_slice-in-Call.ensures ∙ k.3) ∙ signals_each k.0 in
     let messages : map signal_of changes ++ option_to_list reply ≡ flat_map signals_for k.0 ++ option_to_list reply = ap (λ (z : List OutMessage). z ++ option_to_list reply) told in
     let last = subst (λ (z : List OutMessage). IfOk f.result (λ l. l ≡ last_spoken n z)) messages f.ensures.last in
     rw c.in-Call.is (act_ends c.args.client.now (Call reply c.in-Call.collects) n k.0 _ _ k.2 _ _ _ _ f.result (spoken n (map signal_of changes ++ option_to_list reply)) k.1 (ap (spoken n) messages) f.ensures.sends last)
