@@ -37,39 +37,39 @@ module _ (test : EntryRecord → Bool) (r : EntryRecord) (passes : test r ≡ tr
   -- the first that passes is the one that is put
   found-changed : (rs : List EntryRecord) → list_any test rs ≡ true → find test (change_first test (λ _. r) rs) ≡ Some r
   found-changed [] h = cc
-  found-changed (x ∷ xs) h = step (test x) refl h
+  found-changed (x ∷ xs) h = step (test x) refl h (λ k. found-changed xs k)
     where
-      step : (b : Bool) → test x ≡ b → (b || list_any test xs) ≡ true → find test (cond b (r ∷ xs) (x ∷ change_first test (λ _. r) xs)) ≡ Some r
-      step true e h = ap (λ (b : Bool). cond b (Some r) (find test xs)) passes
-      step false e h = ap (λ (b : Bool). cond b (Some x) (find test (change_first test (λ _. r) xs))) e ∙ found-changed xs h
+      step : (b : Bool) → test x ≡ b → (b || list_any test xs) ≡ true → (list_any test xs ≡ true → find test (change_first test (λ _. r) xs) ≡ Some r) → find test (cond b (r ∷ xs) (x ∷ change_first test (λ _. r) xs)) ≡ Some r
+      step true e h next = ap (λ (b : Bool). cond b (Some r) (find test xs)) passes
+      step false e h next = ap (λ (b : Bool). cond b (Some x) (find test (change_first test (λ _. r) xs))) e ∙ next h
 
   found-last : (rs : List EntryRecord) → list_any test rs ≡ false → find test (rs ++ r ∷ []) ≡ Some r
   found-last [] h = ap (λ (b : Bool). cond b (Some r) None) passes
-  found-last (x ∷ xs) h = step (test x) refl h
+  found-last (x ∷ xs) h = step (test x) refl h (λ k. found-last xs k)
     where
-      step : (b : Bool) → test x ≡ b → (b || list_any test xs) ≡ false → cond (test x) (Some x) (find test (xs ++ r ∷ [])) ≡ Some r
-      step true e h = absurd (cc)
-      step false e h = ap (λ (b : Bool). cond b (Some x) (find test (xs ++ r ∷ []))) e ∙ found-last xs h
+      step : (b : Bool) → test x ≡ b → (b || list_any test xs) ≡ false → (list_any test xs ≡ false → find test (xs ++ r ∷ []) ≡ Some r) → cond (test x) (Some x) (find test (xs ++ r ∷ [])) ≡ Some r
+      step true e h next = cc
+      step false e h next = ap (λ (b : Bool). cond b (Some x) (find test (xs ++ r ∷ []))) e ∙ next h
 
   -- written again as it was
   same-changed : (rs : List EntryRecord) → find test rs ≡ Some r → change_first test (λ _. r) rs ≡ rs
   same-changed [] f = cc
-  same-changed (x ∷ xs) f = step (test x) f
+  same-changed (x ∷ xs) f = step (test x) f (λ k. same-changed xs k)
     where
       first : (a b : EntryRecord) → Some a ≡ Some b → a ≡ b
       first a b e = cc
 
-      step : (b : Bool) → cond b (Some x) (find test xs) ≡ Some r → cond b (r ∷ xs) (x ∷ change_first test (λ _. r) xs) ≡ x ∷ xs
-      step true f = ap (λ (y : EntryRecord). y ∷ xs) (sym (first x r f))
-      step false f = ap (λ (ys : List EntryRecord). x ∷ ys) (same-changed xs f)
+      step : (b : Bool) → cond b (Some x) (find test xs) ≡ Some r → (find test xs ≡ Some r → change_first test (λ _. r) xs ≡ xs) → cond b (r ∷ xs) (x ∷ change_first test (λ _. r) xs) ≡ x ∷ xs
+      step true f next = ap (λ (y : EntryRecord). y ∷ xs) (sym (first x r f))
+      step false f next = ap (λ (ys : List EntryRecord). x ∷ ys) (next f)
 
   found-any : (rs : List EntryRecord) → find test rs ≡ Some r → list_any test rs ≡ true
   found-any [] f = cc
-  found-any (x ∷ xs) f = step (test x) f
+  found-any (x ∷ xs) f = step (test x) f (λ k. found-any xs k)
     where
-      step : (b : Bool) → cond b (Some x) (find test xs) ≡ Some r → (b || list_any test xs) ≡ true
-      step true f = refl
-      step false f = found-any xs f
+      step : (b : Bool) → cond b (Some x) (find test xs) ≡ Some r → (find test xs ≡ Some r → list_any test xs ≡ true) → (b || list_any test xs) ≡ true
+      step true f next = refl
+      step false f next = next f
 
 found-set : (r : EntryRecord) (rs : List EntryRecord) → find (is_of_key r.table r.id) (set_entry r rs) ≡ Some r
 found-set r rs = step (list_any (is_of_key r.table r.id) rs) refl
@@ -85,11 +85,11 @@ set-same r rs f =
 
 none-left : (test : EntryRecord → Bool) (rs : List EntryRecord) → find test (filter (λ r. not (test r)) rs) ≡ None
 none-left test [] = refl
-none-left test (x ∷ xs) = step (test x) refl
+none-left test (x ∷ xs) = step (test x) refl (none-left test xs)
   where
-    step : (b : Bool) → test x ≡ b → find test (cond (not b) (x ∷ filter (λ r. not (test r)) xs) (filter (λ r. not (test r)) xs)) ≡ None
-    step true e = none-left test xs
-    step false e = ap (λ (b : Bool). cond b (Some x) (find test (filter (λ r. not (test r)) xs))) e ∙ none-left test xs
+    step : (b : Bool) → test x ≡ b → find test (filter (λ r. not (test r)) xs) ≡ None → find test (cond (not b) (x ∷ filter (λ r. not (test r)) xs) (filter (λ r. not (test r)) xs)) ≡ None
+    step true e next = next
+    step false e next = ap (λ (b : Bool). cond b (Some x) (find test (filter (λ r. not (test r)) xs))) e ∙ next
 
 -- the record of a table and an identifier is that of the entry
 found-record : (table id : List ℕ) (entries : Entries) → find (is_of_key table id) (map record_of entries) ≡ option_map record_of (entry_of entries table id)
