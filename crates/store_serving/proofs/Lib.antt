@@ -4,4 +4,5 @@ mod EntrySteps
 mod RecordSteps
 mod StoreSteps
 mod CallArguments
+mod AskedTexts
 mod SameRows
