@@ -5,4 +5,5 @@ mod RecordSteps
 mod StoreSteps
 mod CallArguments
 mod AskedTexts
+mod Settled
 mod SameRows
