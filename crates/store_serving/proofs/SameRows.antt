@@ -38,7 +38,7 @@ by-length [] (y ∷ ys) h k = absurd (grind (arith, nat_tests))
 by-length (x ∷ xs) [] h k = absurd (grind (arith, nat_tests))
 by-length (x ∷ xs) (y ∷ ys) h k =
     λ i. same_row-eq x y (first_of_both (same_row x y) (list_all same_pair (zip xs ys)) k) i
-        ∷ by-length xs ys (next-length (length xs) (length ys) h) (second_of_both (same_row x y) (list_all same_pair (zip xs ys)) k) i
+    ∷ by-length xs ys (next-length (length xs) (length ys) h) (second_of_both (same_row x y) (list_all same_pair (zip xs ys)) k) i
 
 pub same_rows-eq : (a b : List Row) → same_rows a b ≡ true → a ≡ b
 same_rows-eq a b h = by-length a b (first_of_both (length a == length b) (list_all same_pair (zip a b)) h) (second_of_both (length a == length b) (list_all same_pair (zip a b)) h)

@@ -92,9 +92,12 @@ fn have_texts_of(call: &StoreCall) -> bool
 {
     match call {
         StoreCall::Lookup { table, id } => is_text(table) && is_text(id),
-        StoreCall::Set { table, id, rows, .. } => {
-            is_text(table) && is_text(id) && have_texts(rows.as_slice())
-        }
+        StoreCall::Set {
+            table,
+            id,
+            rows,
+            ..
+        } => is_text(table) && is_text(id) && have_texts(rows.as_slice()),
         StoreCall::Delete { table, id } => is_text(table) && is_text(id),
         StoreCall::SetValue { table, id, .. } => is_text(table) && is_text(id),
         StoreCall::SetPermission {

@@ -119,11 +119,7 @@ fn change<K: Keeper>(
 }
 
 /// What the tables make of a call that sets an entry, or takes a row out of one.
-fn ask(
-    alloc: Global,
-    tables: &mut Tables,
-    call: &StoreCall,
-) -> Result<StoreAnswer, StoreError>
+fn ask(alloc: Global, tables: &mut Tables, call: &StoreCall) -> Result<StoreAnswer, StoreError>
     requires arguments { are_store_arguments call.now ≡ true }
     requires kind { changes_an_entry call.now ≡ true }
     ensures { Gives (store_call call.now tables.old) tables.old tables.new result }
@@ -137,7 +133,10 @@ fn ask(
             ..
         } => tables.set(table, *create, id, rows, &datum_of(alloc, call)?),
         StoreCall::SetValue {
-            table, create, id, ..
+            table,
+            create,
+            id,
+            ..
         } => tables.set_value(table, *create, id, &datum_of(alloc, call)?),
         StoreCall::SetPermission {
             table,

@@ -62,7 +62,11 @@ fn spelled(alloc: Global, datum: &Datum) -> Result<ByteList, WantOfMemory>
 fn same_rows(rows: &[Row], others: &[Row]) -> bool
     ensures { result ≡ same_rows rows.now others.now }
 {
-    rows.len() == others.len() && rows.iter().zip(others).all(|(row, other)| same_row(row, other))
+    rows.len() == others.len()
+        && rows
+            .iter()
+            .zip(others)
+            .all(|(row, other)| same_row(row, other))
 }
 
 /// Says whether two rows are the same.

@@ -123,9 +123,7 @@ fn settle_answer<K: Keeper>(
             }
         }
         StoreAnswer::Kept => tell_as_it_stands(alloc, outboxes, table, id, former),
-        StoreAnswer::Entry { rows, datum } => {
-            Ok(answered(alloc, Answer::Entry { rows, datum }))
-        }
+        StoreAnswer::Entry { rows, datum } => Ok(answered(alloc, Answer::Entry { rows, datum })),
         StoreAnswer::Names(names) => Ok(answered(alloc, Answer::Names(names))),
     }
 }
