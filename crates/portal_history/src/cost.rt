@@ -1,9 +1,9 @@
 //! What a request costs in the history.
 
 ghost use Rattle.std.specs.Prelude.{◌≡◌, ◌+◌, ◌-◌, ◌^◌, length, min};
-ghost use Rattle.std.specs.List.{flat_map};
+ghost use Rattle.std.specs.List.{sum_by};
+ghost use Rattle.portal_history.specs.Rows.{row_bytes};
 ghost use Rattle.portal_model.specs.History.{add_bytes as bytes_of_add, cost_of as request_cost, node_bytes as bytes_of_node, rights_call_bytes as bytes_of_call, store_bytes as bytes_of_store, texts_bytes as bytes_of_texts, who_bytes};
-ghost use Rattle.portal_model.specs.StoreRequest.{texts_of_row};
 
 use portal_base::list::List;
 use portal_base::text::Text;
@@ -93,7 +93,10 @@ fn store_bytes(call: &StoreCall) -> u64
             .saturating_add(rows_bytes(rows))
             .saturating_add(data_bytes(datum)),
         StoreCall::SetValue {
-            table, id, datum, ..
+            table,
+            id,
+            datum,
+            ..
         } => key_bytes(table, id).saturating_add(data_bytes(datum)),
         StoreCall::SetPermission {
             table,
@@ -120,7 +123,7 @@ fn key_bytes(table: &Text, id: &Text) -> u64
 }
 
 fn rows_bytes(rows: &List<Row>) -> u64
-    ensures { result ≡ min (bytes_of_texts (flat_map texts_of_row rows.now)) (2 ^ 64 - 1) }
+    ensures { result ≡ min (sum_by row_bytes rows.now) (2 ^ 64 - 1) }
 {
     let mut bytes: u64 = 0;
     for row in rows.as_slice() {

@@ -15,8 +15,8 @@ gap_4 at phase p = omega (arith, p)
 gap_8 : (at phase : ℕ) → phase ≡ at % 8 → (8 - phase % 8) % 8 ≡ gap 8 at
 gap_8 at phase p = omega (arith, p)
 
-none_above : (n : ℕ) → 8 % (n + 9) ≡ 0 → ⊥
-none_above n e = let far : 8 < n + 9 = omega arith in let same : 8 % (n + 9) ≡ 8 = mod-eq_of_lt far in omega (arith, e, same)
+none_above : (n : ℕ) → 8 < n → 8 % n ≡ 0 → ⊥
+none_above n far e = let same : 8 % n ≡ 8 = mod-eq_of_lt far in omega (arith, e, same)
 
 -- an alignment that divides 8 sees no more of an offset
 pub same-gap : (to at phase : ℕ) → 0 < to → 8 % to ≡ 0 → phase ≡ at % 8 → (to - phase % to) % to ≡ gap to at
@@ -29,4 +29,4 @@ same-gap (suc (suc (suc (suc (suc zero))))) at phase some e p = absurd (omega (a
 same-gap (suc (suc (suc (suc (suc (suc zero)))))) at phase some e p = absurd (omega (arith, e))
 same-gap (suc (suc (suc (suc (suc (suc (suc zero))))))) at phase some e p = absurd (omega (arith, e))
 same-gap (suc (suc (suc (suc (suc (suc (suc (suc zero)))))))) at phase some e p = gap_8 at phase p
-same-gap (suc (suc (suc (suc (suc (suc (suc (suc (suc n))))))))) at phase some e p = absurd (none_above n e)
+same-gap (suc (suc (suc (suc (suc (suc (suc (suc (suc n))))))))) at phase some e p = absurd (none_above (suc (suc (suc (suc (suc (suc (suc (suc (suc n))))))))) (omega arith) e)

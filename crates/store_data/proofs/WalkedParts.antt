@@ -1,8 +1,9 @@
 -- Walks past values that hold others.
-use Rattle.std.proofs.Common.{◌≡◌, ℕ, zero, suc, ◌+◌, ◌-◌, ◌%◌, ◌<◌, ◌≤◌, nat_le, List, [], ◌∷◌, ◌++◌, length, map, drop, get_or, Bool, true, false, not, ◌&&◌, Option, None, Some, refl, sym, ap, subst, ◌∙◌, arith}
-use Rattle.std.specs.Prelude.{All}
+use Rattle.std.proofs.Common.{◌≡◌, ℕ, zero, suc, ◌+◌, ◌-◌, ◌%◌, ◌<◌, ◌≤◌, ◌↔◌, nat_le, List, [], ◌∷◌, ◌++◌, length, map, drop, get_or, Bool, true, false, not, ◌&&◌, Option, None, Some, refl, sym, ap, subst, ◌∙◌, arith}
+use Rattle.std.specs.Prelude.{All, IsTrue}
 use Rattle.std.specs.Int.{w8, to_le_bytes}
 use Rattle.std.specs.List.{list_all}
+use Rattle.std.proofs.lemmas.Bool.{true≢false}
 use Rattle.std.proofs.lemmas.Bool.Decides.{nat_tests}
 use Rattle.std.proofs.Math.Numerals.{add-one}
 use Rattle.std.proofs.Math.Seq.{drop-cons}
@@ -264,6 +265,9 @@ struct-test at v vs is = ap (λ (y : Value). (judged y).1 at) is ∙ ap (λ (j :
 pub struct-stops : (at : ℕ) (v : Value) (vs : List Value) → v ≡ V.Struct vs → vs ≡ [] → (judged v).1 at ≡ false
 struct-stops at v vs is none =
     struct-test at v vs is ∙ ap (λ (xs : List Value). not (is_none (map judged xs)) && all_keep (map judged xs) (at + gap 8 at)) none
+
+pub not-empty : (b : Bool) (members vs : List Value) → b ≡ false → IsTrue b ↔ (members ≡ []) → vs ≡ members → vs ≡ [] → ⊥
+not-empty b members vs f h e n = let yes : b ≡ true = h.1 (sym e ∙ n) in true≢false (sym yes ∙ f)
 
 some-there : (vs : List Value) → (vs ≡ [] → ⊥) → not (is_none (map judged vs)) ≡ true
 some-there [] h = absurd (h refl)

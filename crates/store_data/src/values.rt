@@ -51,8 +51,8 @@ fn text_end(walk: Walk, count: usize) -> Option<Walk>
 
 /// Past a value that holds no other.
 fn leaf_end(walk: Walk, value: &Value) -> Option<Walk>
-    requires { LeafKeeps (out-Value value.now) }
-    ensures { (passed at : ℕ) → Stands passed at walk → Passes ((judged value.now).1 at)
+    ensures { (passed at : ℕ) → LeafKeeps (out-Value value.now) → Stands passed at walk
+        → Passes ((judged value.now).1 at)
         (passed + spelled_length at value.now) (at + spelled_length at value.now) result }
 {
     match value {
@@ -82,9 +82,8 @@ fn leaf_end(walk: Walk, value: &Value) -> Option<Walk>
 /// Past the signature that stands ahead of a value in its variant, where the
 /// value's type is a single complete one within the limits.
 pub(crate) fn signature_end(walk: Walk, inner: &Value) -> Option<Walk>
-    requires { IsValidType (type_of inner.now) }
     ensures { let kind = type_of inner.now in let count = 1 + length (type_text kind) + 1
-        in (passed at : ℕ) → Stands passed at walk
+        in (passed at : ℕ) → IsValidType kind → Stands passed at walk
         → Passes (is_variant_type kind) (passed + count) (at + count) result }
 {
     let left = type_leaves(inner, LONGEST_SIGNATURE)?;
@@ -112,11 +111,11 @@ fn elements_end(first: Walk, body: Walk) -> Option<Walk>
     Some(passing(first, body.bytes))
 }
 
-/// Past a value.
+/// Past a value that keeps the rules of values.
 #[cycle(value_end)]
 pub(crate) fn value_end(walk: Walk, value: &Value) -> Option<Walk>
-    requires { Keeps value.now }
-    ensures { (passed at : ℕ) → Stands passed at walk → Passes ((judged value.now).1 at)
+    ensures { (passed at : ℕ) → Keeps value.now → Stands passed at walk
+        → Passes ((judged value.now).1 at)
         (passed + spelled_length at value.now) (at + spelled_length at value.now) result }
 {
     match value {
@@ -144,11 +143,11 @@ pub(crate) fn value_end(walk: Walk, value: &Value) -> Option<Walk>
     }
 }
 
-/// Past values, one after another.
+/// Past values that keep the rules, one after another.
 #[cycle(value_end)]
 fn values_end(walk: Walk, values: &[Value]) -> Option<Walk>
-    requires { All Keeps values.now }
-    ensures { (passed at : ℕ) → Stands passed at walk → Passes (all_keep (map judged values.now) at)
+    ensures { (passed at : ℕ) → All Keeps values.now → Stands passed at walk
+        → Passes (all_keep (map judged values.now) at)
         (passed + spelled_lengths at values.now) (at + spelled_lengths at values.now) result }
 {
     let mut end = walk;

@@ -3,11 +3,11 @@ use Rattle.store_data.proofs.WalkedLeaves.{stands-at}
 use Rattle.store_data.proofs.WalkedParts.{long-body, short-body}
 use Rattle.store_data.proofs.values.elements_end.Goals as goal
 
-pub returns-then-body-bytes-gt-LONGEST_ARRAY : goal.returns-then-body-bytes-gt-LONGEST_ARRAY
-returns-then-body-bytes-gt-LONGEST_ARRAY c passed at count first body = let counted = body.counted in long-body count (omega arith)
+pub returns-then-body-gt-LONGEST_ARRAY : goal.returns-then-body-gt-LONGEST_ARRAY
+returns-then-body-gt-LONGEST_ARRAY c passed at count first body = let counted = body.counted in long-body count (omega arith)
 
-pub returns-else-body-bytes-gt-LONGEST_ARRAY : goal.returns-else-body-bytes-gt-LONGEST_ARRAY
-returns-else-body-bytes-gt-LONGEST_ARRAY c passed at count first body =
+pub returns : goal.returns
+returns c passed at count first body =
     let counted = body.counted in
     let bytes = c.args.body.bytes in
     let same : bytes ≡ count = omega arith in

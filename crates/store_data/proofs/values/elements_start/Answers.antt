@@ -1,4 +1,4 @@
-use Rattle.std.proofs.Common.{◌≡◌, ◌+◌, ◌∙◌, ℕ, ap, arith}
+use Rattle.std.proofs.Common.{◌≡◌, ◌+◌, ◌%◌, ◌∙◌, ℕ, ap, arith}
 use Rattle.dbus_types.specs.Spells.{gap}
 use Rattle.dbus_types.specs.Types.{alignment}
 use Rattle.store_data.specs.Walks.{ahead_of_elements}

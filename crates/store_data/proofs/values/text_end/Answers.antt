@@ -7,8 +7,8 @@ use Rattle.store_data.proofs.values.text_end.Goals as goal
 pub returns-then-count-gt-LONGEST_TEXT : goal.returns-then-count-gt-LONGEST_TEXT
 returns-then-count-gt-LONGEST_TEXT c passed at h = long c.args.count (omega arith)
 
-pub returns-else-count-gt-LONGEST_TEXT : goal.returns-else-count-gt-LONGEST_TEXT
-returns-else-count-gt-LONGEST_TEXT c passed at h =
+pub returns : goal.returns
+returns c passed at h =
     let ahead = gap 4 at in
     let n = 4 + c.args.count + 1 in
     (short c.args.count (omega arith), stands-at ((passed + ahead) + n) (passed + (ahead + n)) ((at + ahead) + n) (at + (ahead + n)) c.passing.result (assoc passed ahead n) (assoc at ahead n) (c.passing.ensures (passed + ahead) (at + ahead) (c.padded.ensures passed at h)))
