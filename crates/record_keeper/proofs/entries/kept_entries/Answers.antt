@@ -1,4 +1,4 @@
-use Rattle.std.proofs.Common.{◌≡◌, ◌∷◌, [], ◌++◌, List, length, map, sym, ap, subst, ◌∙◌, append-nil, arith}
+use Rattle.std.proofs.Common.{◌≡◌, ◌∷◌, [], ◌++◌, List, length, map, sym, ap, subst, ◌∙◌, append-nil, arith, rules}
 use Rattle.std.specs.List.{All, list_all}
 use Rattle.std.specs.Vec.Iter.{into_iter_items}
 use Rattle.std.proofs.lemmas.List.Elements.{All-head, All-tail}
@@ -8,6 +8,16 @@ use Rattle.portal_model.specs.declared.records.EntryRecord.{EntryRecord}
 use Rattle.record_keeper.specs.SoundRecords.{IsValidEntry}
 use Rattle.record_keeper.proofs.KeptFacts.{kept_more, nothing_left, valid_more}
 use Rattle.record_keeper.proofs.entries.kept_entries.Goals as goal
+
+pub loop-kept-init : goal.loop-kept-init
+loop-kept-init c =
+    let gives : into_iter_items c.into_iter-kept-iterator.result ≡ c.args.records = c.into_iter-kept-iterator.ensures.into_iter_gives.0 ∙ c.into_vec-kept-items.ensures in
+    record {
+      kept = search rules;
+      valid = search rules;
+      sound = subst (All IsValidEntry) (sym gives) c.requires;
+      count = search rules;
+    }
 
 pub kept_entry-requires : goal.kept_entry-requires
 kept_entry-requires c =
@@ -40,5 +50,5 @@ returns c =
     let all : into_iter_items at.kept-iterator ≡ [] → map record_of at.entries ≡ c.args.records =
     λ e. sym (append-nil (map record_of at.entries))
     ∙ (ap (λ (rs : List EntryRecord). map record_of at.entries ++ rs) (sym e)
-    ∙ (at.invariant.kept ∙ (c.into_iter-kept-iterator.ensures.into_iter_gives.0 ∙ c.into_vec.ensures))) in
+    ∙ (at.invariant.kept ∙ (c.into_iter-kept-iterator.ensures.into_iter_gives.0 ∙ c.into_vec-kept-items.ensures))) in
     record { kept = all empty; valid = at.invariant.valid }

@@ -14,11 +14,11 @@ unreachable-requires c =
     none c.requires.told.0 (subst (IsDatum c.requires.told.0) (sym c.as_slice.ensures) c.requires.told.1.is)
 
 -- and these are a variant
-pub unreachable-requires-2 : goal.unreachable-requires-2
-unreachable-requires-2 c =
+pub unreachable-requires-in_default-variant : goal.unreachable-requires-in_default-variant
+unreachable-requires-in_default-variant c =
     let is : IsDatum c.in-Some.variant c.as_slice.result.now = rw c.in-Some.is at c.in_ok-variant.ensures in
     let one = spelled_variant c.in-Some.variant c.as_slice.result.now is.spelled in
-    c.in_default-2.not-Variant one.0 one.1
+    c.in_default-variant.not-Variant one.0 one.1
 
 pub new-requires : goal.new-requires
 new-requires c =
