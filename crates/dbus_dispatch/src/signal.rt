@@ -3,7 +3,8 @@
 //! Source: XDG Desktop Portal documentation,
 //! "org.freedesktop.impl.portal.PermissionStore".
 
-ghost use Rattle.std.specs.Prelude.{◌≡◌, true, IfOk};
+ghost use Rattle.std.specs.Prelude.{◌≡◌, [], ◌∷◌, ◌++◌, true, IfOk, IsUtf8};
+ghost use Rattle.dbus_types.specs.declared.types.Value.TheVariants as V;
 ghost use Rattle.portal_model.specs.Valid.{is_sound_change};
 ghost use Rattle.dbus_dispatch.specs.Signals.{changed_body, signal_of};
 ghost use Rattle.dbus_dispatch.specs.Writable.{IsChangeInUtf8, IsWritable};
@@ -49,15 +50,38 @@ fn changed_body(alloc: Global, change: &Change) -> Result<List<Value>, WantOfMem
     ensures tells { IfOk result (λ body. body ≡ changed_body change.now) }
     ensures utf8 { IfOk result (λ body. IsChangeInUtf8 change.now) }
 {
+    let front = named_entry(alloc, change)?;
+    let inside = change.datum.replica(alloc)?.into_value();
+    let rows = rows_value(alloc, change.rows.as_slice())?;
+    with_content(alloc, front, inside, rows)
+}
+
+/// The entry that a change names, and whether it is gone.
+fn named_entry(alloc: Global, change: &Change) -> Result<List<Value>, WantOfMemory>
+    ensures tells { IfOk result (λ front. front ≡ V.Str change.now.table
+        ∷ V.Str change.now.id ∷ V.Bool change.now.deleted ∷ []) }
+    ensures table { IfOk result (λ front. IsUtf8 change.now.table) }
+    ensures id { IfOk result (λ front. IsUtf8 change.now.id) }
+{
     let table = text_value(alloc, &change.table)?;
     let id = text_value(alloc, &change.id)?;
-    let datum = change.datum.replica(alloc)?.into_value();
-    let rows = rows_value(alloc, change.rows.as_slice())?;
-    let mut body = List::new(alloc);
-    body.push(table)?;
-    body.push(id)?;
-    body.push(Value::Bool(change.deleted))?;
-    body.push(Value::Variant(Boxed::new(alloc, datum)?))?;
-    body.push(rows)?;
-    Ok(body)
+    let mut front = List::new(alloc);
+    front.push(table)?;
+    front.push(id)?;
+    front.push(Value::Bool(change.deleted))?;
+    Ok(front)
+}
+
+/// Values with data, as a variant, and rows behind them.
+fn with_content(
+    alloc: Global,
+    mut values: List<Value>,
+    inside: Value,
+    rows: Value,
+) -> Result<List<Value>, WantOfMemory>
+    ensures { IfOk result (λ body. body ≡ values ++ V.Variant inside ∷ rows ∷ []) }
+{
+    values.push(Value::Variant(Boxed::new(alloc, inside)?))?;
+    values.push(rows)?;
+    Ok(values)
 }
