@@ -19,12 +19,11 @@ use Rattle.portal_model.specs.declared.opening.OpeningDocument.{OpeningDocument}
 use Rattle.portal_model.specs.declared.records.GrantRecord.{GrantRecord}
 use Rattle.portal_model.specs.declared.opening.OpeningState.{OpeningState}
 use Rattle.portal_model.proofs.OpeningLaws.{sound-ValidOpening}
-use Rattle.portal_model.specs.Valid.{same_entry, IsValidEntry}
 use Rattle.portal_model.specs.declared.records.EntryRecord.{EntryRecord}
-use Rattle.record_keeper.specs.SoundRecords.{IsGrant, IsRising}
+use Rattle.record_keeper.specs.SoundRecords.{IsGrant, IsRising, IsValidEntry}
 use Rattle.script_form.specs.Lines.{is_script_path, is_plain}
 use Rattle.script_form.specs.Paths.{clash}
-use Rattle.script_form.specs.Opening.{opening, documents_of, entries_of, files_of, files_from, time_behind, applications_of, HoldsScripts}
+use Rattle.script_form.specs.Opening.{documents_of, entries_of, files_of, files_from, time_behind, applications_of, HoldsScripts}
 use Rattle.script_form.specs.Order.{StandBehind, IsScript, clashes, keeps, stores, is_doc, document_limit}
 use Rattle.script_form.specs.declared.script.ScriptLine.{ScriptLine}
 use Rattle.script_form.specs.declared.script.ScriptLine.TheVariants.{File, Doc, Entry}
