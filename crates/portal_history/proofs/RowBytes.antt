@@ -35,5 +35,11 @@ permission-bytes table id app create names =
     omega (arith, sum_by-cons size table (id ∷ app ∷ names), sum_by-cons size id (app ∷ names), sum_by-cons size app names)
 
 -- what a call of so many bytes counts
-pub counted : (call other : StoreCall) (n r : ℕ) → call ≡ other → store_bytes other ≡ n → r ≡ min n (2 ^ 64 - 1) → r ≡ min (store_bytes call) (2 ^ 64 - 1)
+counted : (call other : StoreCall) (n r : ℕ) → call ≡ other → store_bytes other ≡ n → r ≡ min n (2 ^ 64 - 1) → r ≡ min (store_bytes call) (2 ^ 64 - 1)
 counted call other n r is long e = e ∙ ap (λ (m : ℕ). min m (2 ^ 64 - 1)) (sym long ∙ ap (λ (c : StoreCall). store_bytes c) (sym is))
+
+pub set-counted : (call : StoreCall) (table id : List ℕ) (create : Bool) (rows : List Row) (datum : Value) (r : ℕ) → call ≡ Call.Set table create id rows datum → r ≡ min ((length table + length id) + (sum_by row_bytes rows + data_bytes datum)) (2 ^ 64 - 1) → r ≡ min (store_bytes call) (2 ^ 64 - 1)
+set-counted call table id create rows datum r is e = counted call (Call.Set table create id rows datum) _ r is (set-bytes table id create rows datum) e
+
+pub permission-counted : (call : StoreCall) (table id app : List ℕ) (create : Bool) (names : List (List ℕ)) (r : ℕ) → call ≡ Call.SetPermission table create id app names → r ≡ min ((length table + length id) + (length app + texts_bytes names)) (2 ^ 64 - 1) → r ≡ min (store_bytes call) (2 ^ 64 - 1)
+permission-counted call table id app create names r is e = counted call (Call.SetPermission table create id app names) _ r is (permission-bytes table id app create names) e
