@@ -1,0 +1,4 @@
+pub mod Draws
+pub mod Frames
+pub mod Calls
+pub mod Lines
