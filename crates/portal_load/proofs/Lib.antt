@@ -3,3 +3,8 @@ pub mod Ranges
 pub mod Identifiers
 pub mod CallLaid
 pub mod RequestLines
+pub mod Spellings
+pub mod Bytes
+pub mod Scripts
+pub mod Lengths
+pub mod ReadFrames

@@ -2,3 +2,4 @@ pub mod Draws
 pub mod Frames
 pub mod Calls
 pub mod Lines
+pub mod Laws

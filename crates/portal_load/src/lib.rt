@@ -9,7 +9,8 @@
 //! line: what is drawn of each number (`specs/Draws.antt`), the frame that asks
 //! it by `fuse.h` (`specs/Frames.antt`) or the call that does by the D-Bus
 //! Specification (`specs/Calls.antt`), and the lines ahead of them
-//! (`specs/Lines.antt`).
+//! (`specs/Lines.antt`). A load is a script, and its frames are read as what was
+//! drawn.
 //!
 //! | Room | Holds |
 //! |---|---|
@@ -17,6 +18,7 @@
 //! | `ahead` | the lines ahead of the requests |
 //! | `draw` | the numbers, and what is drawn of each |
 //! | `frame`, `call` | the frame and the call of a request |
+//! | `laws` | what is true of every load |
 //!
 //! ```text
 //! let load = generate(alloc, 1000)?;
@@ -27,4 +29,5 @@ mod ahead;
 mod call;
 pub mod draw;
 mod frame;
+pub mod laws;
 pub mod load;
