@@ -1,6 +1,6 @@
 //! Requests of the portal, one after another.
 
-ghost use Rattle.std.specs.Prelude.{◌<◌, ◌^◌, IfOk};
+ghost use Rattle.std.specs.Prelude.{◌<◌, ◌^◌};
 
 use crate::requests::{request_of, shown};
 use portal_base::limits::Limits;
@@ -30,7 +30,8 @@ use vector_lines::notation::{self, cut, number, small_number};
 /// APPLICATION`. `desk SEAT REQUEST, REQUEST ..` asks them of one desk of the seat.
 pub fn portal(alloc: Global, rest: &str) -> Result<String, VectorError> {
     let (words, rest) = cut(rest);
-    let mut portal = opened_in(alloc, rest, limits_of(words)?)?;
+    let Most { history, documents } = most_of(words)?;
+    let mut portal = opened_in(alloc, rest, limits(documents, history))?;
     answered(alloc, &mut portal, rest)
 }
 
@@ -41,14 +42,25 @@ fn answered(alloc: Global, portal: &mut ScriptPortal, rest: &str) -> Result<Stri
     Ok(format!(in alloc; "{replies}{history}")?)
 }
 
+/// What a portal may hold at most.
+struct Most {
+    /// The cost of its history.
+    history: u64,
+    /// How many documents are live.
+    documents: u64,
+}
+
 /// The cost that a history may have, and how many documents may be live.
-fn limits_of(words: &str) -> Result<Limits, LineError>
-    ensures made { IfOk result (λ limits. limits.made < 2 ^ 32) }
-    ensures queued { IfOk result (λ limits. limits.queued < 2 ^ 32) }
-{
+fn most_of(words: &str) -> Result<Most, LineError> {
     match words.split_once(',') {
-        Some((history, documents)) => Ok(limits(number(documents)?, number(history)?)),
-        None => Ok(limits(DOCUMENTS, number(words)?)),
+        Some((history, documents)) => Ok(Most {
+            history: number(history)?,
+            documents: number(documents)?,
+        }),
+        None => Ok(Most {
+            history: number(words)?,
+            documents: DOCUMENTS,
+        }),
     }
 }
 
