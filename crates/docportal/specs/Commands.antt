@@ -9,9 +9,13 @@ use Rattle.docportal.specs.declared.command.Command.TheVariants.{Replay, Worlds,
 abbrev pub replay_words : List (List ℕ)
 replay_words = codes "replay" ∷ []
 
--- the word is a number from 1 to 100,000, in decimal digits without leading zeros
-abbrev pub IsCount : List ℕ → Type 0
-IsCount word = (n : ℕ) × (word ≡ decimal n) × (1 ≤ n) × (n ≤ 100000)
+-- the word is this number from 1 to 100,000, in decimal digits without leading zeros
+abbrev pub IsCount : List ℕ → ℕ → Type 0
+IsCount word n = (word ≡ decimal n) × (1 ≤ n) × (n ≤ 100000)
+
+-- it is none
+abbrev pub IsNoCount : List ℕ → Type 0
+IsNoCount word = (n : ℕ) → IsCount word n → ⊥
 
 -- the words ask for this command: "replay", "worlds" and an application's name, or "generate" and a
 -- count
@@ -19,8 +23,8 @@ abbrev pub IsCommand : List (List ℕ) → Command → Type 0
 IsCommand words Replay = words ≡ replay_words
 IsCommand words Worlds = (app : List ℕ) × (words ≡ codes "worlds" ∷ app ∷ [])
     × (is_app_name app ≡ true)
-IsCommand words Generate = (count : List ℕ) × (words ≡ codes "generate" ∷ count ∷ [])
-    × IsCount count
+IsCommand words (Generate count) = (word : List ℕ) × (words ≡ codes "generate" ∷ word ∷ [])
+    × IsCount word count
 
 -- they ask for none
 abbrev pub IsNoCommand : List (List ℕ) → Type 0
@@ -28,7 +32,7 @@ IsNoCommand words = (command : Command) → IsCommand words command → ⊥
 
 -- they ask for one that isn't built
 abbrev pub IsUnbuiltCommand : List (List ℕ) → Type 0
-IsUnbuiltCommand words = IsCommand words Worlds ⊎ IsCommand words Generate
+IsUnbuiltCommand words = IsCommand words Worlds
 
 -- what was read of the words
 abbrev pub ReadsCommand : List (List ℕ) → Option Command → Type 0

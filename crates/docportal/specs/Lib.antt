@@ -8,5 +8,8 @@ pub mod Seats
 pub mod Steps
 pub mod Started
 pub mod Plays
+pub mod Replays
+pub mod Outcomes
+pub mod Generated
 pub mod Runs
 pub mod Statuses

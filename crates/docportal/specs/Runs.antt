@@ -9,31 +9,14 @@ use Rattle.script_form.specs.Lines.{text_of}
 use Rattle.script_form.specs.Order.{IsRead, IsFault}
 use Rattle.docportal.specs.declared.status.Status.{Status}
 use Rattle.docportal.specs.declared.status.Status.TheVariants.{Done, Usage, ScriptFault, ReadFault, WriteFault, Memory, TooLong, Unbuilt}
-use Rattle.docportal.specs.Commands.{replay_words, IsNoCommand, IsUnbuiltCommand}
+use Rattle.docportal.specs.Commands.{replay_words, IsCommand, IsNoCommand, IsUnbuiltCommand}
+use Rattle.docportal.specs.declared.command.Command.TheVariants.{Generate}
 use Rattle.docportal.specs.Inputs.{script_limit, AtEnd}
+use Rattle.docportal.specs.Generated.{Generates}
 use Rattle.docportal.specs.Plays.{Plays, StopsAt}
+pub use Rattle.docportal.specs.Replays.{IsReplay, IsSound}
 use Rattle.docportal.specs.Scenes.{Scene, first_scene, opening_state, run_limits}
 use Rattle.docportal.specs.Steps.{AreFirst}
-
--- the history of the lines is legal, and the replies to each application are those of its own
--- machine over its trace
-pub record IsSound (lines : List ScriptLine) (history : List Entry) : Type 0 where
-  pub legal : Legal (opening_state lines) history
-  pub isolated : (app : List ℕ)
-      → replies app (opening_state lines) history
-      ≡ app_run (trace app (opening_state lines) history)
-
--- The lines of a front have this history and this output, from the state that the lines open with,
--- and no others; the history is sound, and within its limit with all that the lines behind can ask,
--- at eight times the bytes of their text.
-pub record IsReplay (lines front : List ScriptLine) (history : List Entry) (out : List (List ℕ))
-    (last : Scene) : Type 0 where
-  pub plays : Plays (first_scene lines) front history out last
-  pub only : (h : List Entry) (o : List (List ℕ)) (b : Scene)
-      → Plays (first_scene lines) front h o b → (h ≡ history) × (o ≡ out) × (b ≡ last)
-  pub sound : IsSound lines history
-  pub room : (later : List ScriptLine) → lines ≡ front ++ later
-      → cost history + 8 * length (text_of later) ≤ run_limits.history
 
 -- the text is a script, all lines of which are built, and the pieces are its output
 pub record WroteAll (text : List ℕ) (pieces : List (List ℕ)) : Type 0 where
@@ -69,27 +52,33 @@ pub record WroteFront (IsPart : List (List ℕ) → List (List ℕ)
   pub replay : IsReplay lines front history out last
   pub output : IsPart pieces out
 
--- Why a run ends so that was told these words, read this text, left this of the source, and wrote
--- these pieces.
-abbrev pub Cause : List (List ℕ) → List ℕ → Option (List ℕ) → List (List ℕ) → Status → Type 0
-Cause words text left pieces Done = (words ≡ replay_words) × (length text ≤ script_limit)
+-- Why a run without a load ends so that was told these words, read this text, left this of the
+-- source, and wrote these pieces.
+abbrev pub ReplayCause : List (List ℕ) → List ℕ → Option (List ℕ) → List (List ℕ) → Status → Type 0
+ReplayCause words text left pieces Done = (words ≡ replay_words) × (length text ≤ script_limit)
     × AtEnd left × WroteAll text pieces
-Cause words text left pieces Usage = IsNoCommand words × (text ≡ []) × (pieces ≡ [])
-Cause words text left pieces (ScriptFault line) = (words ≡ replay_words)
+ReplayCause words text left pieces Usage = IsNoCommand words × (text ≡ []) × (pieces ≡ [])
+ReplayCause words text left pieces (ScriptFault line) = (words ≡ replay_words)
     × (length text ≤ script_limit) × AtEnd left × IsFault text line × (pieces ≡ [])
-Cause words text left pieces ReadFault = (words ≡ replay_words) × (length text ≤ script_limit)
+ReplayCause words text left pieces ReadFault = (words ≡ replay_words) × (length text ≤ script_limit)
     × (pieces ≡ [])
-Cause words text left pieces WriteFault = (words ≡ replay_words) × (length text ≤ script_limit)
+ReplayCause words text left pieces WriteFault = (words ≡ replay_words) × (length text ≤ script_limit)
     × AtEnd left × WroteFront Short text pieces
-Cause words text left pieces Memory = (words ≡ replay_words)
+ReplayCause words text left pieces Memory = (words ≡ replay_words)
     × ((pieces ≡ []) ⊎ ((length text ≤ script_limit) × AtEnd left
     × WroteFront AreFirst text pieces))
-Cause words text left pieces TooLong = (words ≡ replay_words) × (script_limit < length text)
+ReplayCause words text left pieces TooLong = (words ≡ replay_words) × (script_limit < length text)
     × (pieces ≡ [])
-Cause words text left pieces (Unbuilt line) =
+ReplayCause words text left pieces (Unbuilt line) =
     (IsUnbuiltCommand words × (line ≡ 0) × (text ≡ []) × (pieces ≡ []))
     ⊎ ((words ≡ replay_words) × (length text ≤ script_limit) × AtEnd left
     × WroteUpTo text line pieces)
+
+-- Why a run ends so. With `generate` nothing is read, and the load of so many requests is run.
+abbrev pub Cause : List (List ℕ) → List ℕ → Option (List ℕ) → List (List ℕ) → Status → Type 0
+Cause words text left pieces status = ReplayCause words text left pieces status
+    ⊎ ((count : ℕ) × IsCommand words (Generate count) × (text ≡ [])
+    × Generates count pieces status)
 
 -- a run: what it read stood ahead of what is left, and what it wrote stands behind what was written
 pub record Ran (words : List (List ℕ)) (left left' : Option (List ℕ))

@@ -9,6 +9,7 @@ ghost use Rattle.docportal.specs.Inputs.{script_limit};
 ghost use Rattle.docportal.specs.Runs.{Ran, Replays, Risen};
 
 use crate::command::{Command, command_of};
+use crate::generate::generate;
 use crate::input::{InputError, read_to_end};
 use crate::replay::run_lines;
 use crate::settings::settings;
@@ -25,7 +26,9 @@ use std::alloc::Global;
 ///
 /// With `replay` the source's script is run, and its output goes to the sink.
 /// The source is read to its end, and the whole of it is found to be a script,
-/// before the first line is run. `worlds APP` and `generate N` aren't built.
+/// before the first line is run. With `generate N` the load of so many requests
+/// is run, nothing is read, and five lines say what became of them. `worlds APP`
+/// isn't built.
 pub fn run<S: Source, K: Sink>(
     alloc: Global,
     words: &[Text],
@@ -40,7 +43,7 @@ pub fn run<S: Source, K: Sink>(
     match command_of(words) {
         Some(Command::Replay) => replay_source(alloc, source, sink),
         Some(Command::Worlds) => Status::Unbuilt { line: 0 },
-        Some(Command::Generate) => Status::Unbuilt { line: 0 },
+        Some(Command::Generate { count }) => generate(alloc, count, sink),
         None => Status::Usage,
     }
 }
