@@ -1,5 +1,5 @@
 -- The records of the state in which a plan was followed.
-use Rattle.std.proofs.Common.{◌≡◌, ℕ, ◌+◌, ◌≤◌, ◌==◌, length, length-append, List, [], ◌∷◌, ◌++◌, Bool, true, false, not, ◌&&◌, ◌||◌, cond, Option, Some, refl, sym, ap, ◌∙◌, arith}
+use Rattle.std.proofs.Common.{◌≡◌, ℕ, ◌+◌, ◌≤◌, ◌==◌, length, length-append, List, map, [], ◌∷◌, ◌++◌, Bool, true, false, not, ◌&&◌, ◌||◌, cond, Option, Some, refl, sym, ap, ◌∙◌, arith}
 use Rattle.std.specs.List.{filter, list_all, list_any}
 use Rattle.std.proofs.lemmas.List.Folds.{list_any-append}
 use Rattle.portal_base.specs.declared.names.doc_id.DocId.{DocId}
@@ -11,6 +11,7 @@ use Rattle.portal_model.specs.Kept.{records_of}
 use Rattle.portal_model.specs.Outside.{AreDrawn}
 use Rattle.portal_model.specs.RecordChanges.{changed_by}
 use Rattle.portal_model.specs.State.{State, document_of}
+use Rattle.portal_model.specs.Store.{record_of}
 use Rattle.portal_model.specs.Valid.{Valid, is_made}
 use Rattle.portal_model.proofs.DrawnNumbers.{Unused, drawn-unused}
 use Rattle.portal_model.proofs.TripleOrder.{nat_is}
@@ -65,7 +66,7 @@ enough-left made drawn used left e h = omega arith
 module _ (s : State) (v : Valid s) (who : Who) (a : AddRequest) (plan : AddPlan) (call : IsOfCall who a plan) (words : List ℕ) (numbers : List DocId) (drawn : AreDrawn s.made words numbers)
     (after : Book) (made : after.documents.made ≡ s.made ++ numbers) (told : List (Option DocId)) (follows : followed who a plan s numbers ≡ followed_at s after [] told) where
   abbrev pub records_then : Records
-  records_then = with_records s.entries (kept_records after.rights after.documents.live)
+  records_then = with_records (map record_of s.entries) (kept_records after.rights after.documents.live)
 
   abbrev changes : Bool
   changes = plan_changes s.documents s.rights who a plan
@@ -90,9 +91,9 @@ module _ (s : State) (v : Valid s) (who : Who) (a : AddRequest) (plan : AddPlan)
   pub changes-make-them : changed_by (changes_of (length s.documents) after.documents.live after.rights told) (records_of s) ≡ records_then
   changes-make-them =
       (λ i. changed_by (changes_of (length s.documents) (live-is i) after.rights told) (records_of s))
-      ∙ (changes-make s.documents grown.news s.rights after.rights told s.entries v.numbers_differ
+      ∙ (changes-make s.documents grown.news s.rights after.rights told (map record_of s.entries) v.numbers_differ
       (λ m e. ap (filter (is_here m)) (sym rights-is) ∙ grown.apart m (ap (list_any (names m)) told-is ∙ e))
-      ∙ (λ i. with_records s.entries (kept_records after.rights (sym live-is i))))
+      ∙ (λ i. with_records (map record_of s.entries) (kept_records after.rights (sym live-is i))))
 
   none-idle : Idle s.documents s.rights who a plan v.numbers_differ [] (none_followed s numbers)
   none-idle = record {
@@ -119,5 +120,5 @@ module _ (s : State) (v : Valid s) (who : Who) (a : AddRequest) (plan : AddPlan)
   pub records-stay : plan_changes s.documents s.rights who a plan ≡ false → records_then ≡ records_of s
   records-stay h =
       let same = idle-all s.documents s.rights who a plan v.numbers_differ plan.items [] (none_followed s numbers) none-idle h call.earlier numbers-left in
-      (λ i. with_records s.entries (kept_records (sym rights-is i) ((sym (ap (λ (f : Followed). f.state.documents) follows)) i)))
-      ∙ (λ i. with_records s.entries (same i))
+      (λ i. with_records (map record_of s.entries) (kept_records (sym rights-is i) ((sym (ap (λ (f : Followed). f.state.documents) follows)) i)))
+      ∙ (λ i. with_records (map record_of s.entries) (same i))

@@ -22,6 +22,7 @@ use Rattle.portal_model.specs.Present.{present}
 use Rattle.portal_model.specs.Revoke.{revoke}
 use Rattle.portal_model.specs.State.{State, connection_of, is_app}
 use Rattle.portal_model.specs.Step.{is_mount, bus_of, bus_step, mount_of, all_told, with_signals, node_step}
+use Rattle.portal_model.specs.StoreRequest.{store_request}
 use Rattle.portal_model.specs.Valid.{Valid}
 use Rattle.portal_model.specs.Verdict.{Verdict, does}
 use Rattle.portal_model.proofs.ListLookups.{found_passes, nat_is}
@@ -49,6 +50,7 @@ use Rattle.app_world.proofs.PresentLaws.{own-other, present-other, present-own}
 use Rattle.app_world.proofs.ReachedLaws.{IsTouched, seen_verdict}
 use Rattle.app_world.proofs.ReadingLaws.{info-other, list-other, lookup-other}
 use Rattle.app_world.proofs.RevokeLaws.{revoke-other, revoke-own}
+use Rattle.app_world.proofs.StoreLaws.{store-other}
 use Rattle.app_world.proofs.ViewLaws.{is_app-named, own-some, own_told, own_unsent, view-told}
 
 -- a step, as the view sees it
@@ -144,6 +146,8 @@ module _ (app : List ℕ) (s : State) (c : Connection) (given : Given) (own : Ow
       same_verdict (Request.Info doc) (OwnRefuses Code.NotAllowed) (info s c.who doc) refl refl (ap (λ (who : Who). seen_verdict app (info s who doc)) (sym named))
   bus_answer_own (Request.ListDocuments name) d =
       same_verdict (Request.ListDocuments name) (OwnRefuses Code.NotAllowed) (list_documents s c.who name) refl refl (ap (λ (who : Who). seen_verdict app (list_documents s who name)) (sym named))
+  bus_answer_own (Request.Store call) d =
+      same_verdict (Request.Store call) (OwnRefuses Code.AccessDenied) (store_request s c.who call) refl refl (ap (λ (who : Who). seen_verdict app (store_request s who call)) (sym named))
   bus_answer_own request d = settled-own app s s given own full fault (Some (does s Answer.Done))
 
 module _ (app : List ℕ) (s : State) (c : Connection) (given : Given) (valid : Valid s) (apart : is_app app c.who ≡ false) (e : found_connection (own_connections app s.handles s.connections) c.seat ≡ None) where
@@ -166,6 +170,7 @@ module _ (app : List ℕ) (s : State) (c : Connection) (given : Given) (valid : 
   bus_answer_other (Request.LookupDocument path) d = touches [] (lookup_document t c.who path) (lookup-other app t c.who path)
   bus_answer_other (Request.Info doc) d = touches [] (info t c.who doc) (info-other app t c.who doc)
   bus_answer_other (Request.ListDocuments name) d = touches [] (list_documents t c.who name) (list-other app t c.who name)
+  bus_answer_other (Request.Store call) d = touches [] (store_request t c.who call) (store-other app t c.who call)
   bus_answer_other request d = touches [] (does t Answer.Done) (refl, refl)
 
 module _ (app : List ℕ) (s : State) (seat : ℕ) (c : Connection) (given : Given) (v : Valid s) (e : connection_of s.connections seat ≡ Some c) (k : is_mount c.kind ≡ false) (named : c.who ≡ Who.App app) where

@@ -5,8 +5,7 @@ use Rattle.std.specs.List.{IsDistinct}
 use Rattle.std.specs.Str.{is_utf8, chars}
 use Rattle.portal_base.specs.Names.{is_host_path}
 use Rattle.portal_model.specs.Opening.{opened}
-use Rattle.portal_model.specs.Valid.{Valid, IsValidEntry}
-use Rattle.std.proofs.lemmas.List.Elements.{All-nil}
+use Rattle.portal_model.specs.Valid.{Valid}
 use Rattle.portal_model.proofs.ExampleProofs.{a_path, editor_name, other_name}
 use Rattle.app_world.specs.Examples.{b_text, with_another, EffectsOnAView, TracesTellWhatIsHeld}
 use Rattle.app_world.specs.View.{HeldDocument}
@@ -33,7 +32,7 @@ valid_with_another = record {
   handles_sound = refl;
   handles_within = refl;
   entries_differ = tt;
-  entries_sound = All-nil IsValidEntry;
+  entries_sound = refl;
   files_differ = ((refl, tt), (tt, tt));
   files_apart = refl;
   files_named = rw (b_path, a_path) refl;

@@ -7,6 +7,7 @@ use Rattle.portal_model.specs.declared.request.AddRequest.{AddRequest}
 use Rattle.portal_model.specs.declared.request.NodeRequest.{NodeRequest}
 use Rattle.portal_model.specs.declared.request.Request.{Request}
 use Rattle.portal_model.specs.declared.request.RightsCall.{RightsCall}
+use Rattle.portal_model.specs.declared.store.StoreCall.{StoreCall}
 use Rattle.portal_model.specs.State.{connection_of}
 use Rattle.portal_model.specs.Step.{bus_of, with_signals}
 use Rattle.app_world.specs.Effect.{apply_all}
@@ -83,6 +84,12 @@ pub listings : SeenAlways {X = List ℕ} (λ x. Request.ListDocuments x)
 listings = record {
   own = λ app s seat x given v m. bus_own app s seat (Request.ListDocuments x) given v (connection_of s.connections seat) refl refl m tt tt;
   other = λ app s seat x given v m. bus_other app s seat (Request.ListDocuments x) given v (connection_of s.connections seat) refl m tt;
+}
+
+pub store_calls : SeenAlways {X = StoreCall} (λ x. Request.Store x)
+store_calls = record {
+  own = λ app s seat x given v m. bus_own app s seat (Request.Store x) given v (connection_of s.connections seat) refl refl m tt tt;
+  other = λ app s seat x given v m. bus_other app s seat (Request.Store x) given v (connection_of s.connections seat) refl m tt;
 }
 
 pub additions : SeenLawful {X = AddRequest} (λ x. Request.Add x)

@@ -14,6 +14,7 @@ pub mod GrantLaws
 pub mod RevokeLaws
 pub mod DeleteDocumentLaws
 pub mod ReadingLaws
+pub mod StoreLaws
 pub mod UseLaws
 pub mod AddLaws
 pub mod AddOwnLaws

@@ -1,5 +1,5 @@
 -- The rights of an application in a document are those that a history tells.
-use Rattle.std.proofs.Common.{◌≡◌, ℕ, ◌^◌, ◌<◌, ◌==◌, nat_lt, List, [], ◌∷◌, ◌++◌, drop, fold, length, Bool, true, false, not, ◌&&◌, ◌||◌, cond, Option, Some, None, refl, sym, ap, ◌∙◌, arith}
+use Rattle.std.proofs.Common.{◌≡◌, ℕ, ◌^◌, ◌<◌, ◌==◌, nat_lt, List, [], ◌∷◌, ◌++◌, drop, fold, length, Bool, true, false, not, ◌&&◌, ◌||◌, cond, Option, Some, None, Ok, Err, refl, sym, ap, ◌∙◌, arith}
 use Rattle.std.specs.List.{filter, find, list_all}
 use Rattle.std.proofs.lemmas.Bool.Decides.{nat_tests}
 use Rattle.std.proofs.lemmas.List.Folds.{list_all-append}
@@ -24,6 +24,9 @@ use Rattle.portal_model.specs.declared.rights.Right.TheVariants.{Read, Write, Gr
 use Rattle.portal_model.specs.declared.state.Connection.{Connection}
 use Rattle.portal_model.specs.declared.state.Document.{Document}
 use Rattle.portal_model.specs.declared.state.Triple.{Triple}
+use Rattle.portal_model.specs.declared.store.StoreAnswer.{StoreAnswer}
+use Rattle.portal_model.specs.declared.store.StoreCall.{StoreCall}
+use Rattle.portal_model.specs.declared.store.StoredEntry.{StoredEntry}
 use Rattle.portal_model.specs.Add.{Added, add, add_allowed, add_file, add_looking, add_presented, add_shown, added, added_files, adding_rights, are_of_kind, caller_rights, first_number, may_list_all, new_document, taken_from_queue, use_document, used_again, with_new_document, with_rights_of}
 use Rattle.portal_model.specs.AddArguments.{are_add_arguments, are_presented, document_paths, is_left_out, names_nobody, paths_shown, persists}
 use Rattle.portal_model.specs.Arguments.{ahead_of_end, document_named, is_ended_path, reached}
@@ -44,8 +47,10 @@ use Rattle.portal_model.specs.State.{State, app_has, connection_of, document_of,
 use Rattle.portal_model.specs.Node.{node_done, node_given, settled_on_node, walk_on_node}
 use Rattle.portal_model.specs.NodeVerdict.{NodeDoing, NodeVerdict, Errs, Yields}
 use Rattle.portal_model.specs.Step.{after, all_told, bus_of, bus_step, collect_step, is_mount, mount_of, node_step, reply_at, request_step}
+use Rattle.portal_model.specs.Store.{Outcome, entry_of, store_call}
+use Rattle.portal_model.specs.StoreRequest.{are_store_arguments, identifier_of, own_table, store_allowed, store_answered, store_request, store_verdict, table_of, tell_kept}
 use Rattle.portal_model.specs.Valid.{has_identifier}
-use Rattle.portal_model.specs.Verdict.{Doing, Verdict, Refuses, Does, does}
+use Rattle.portal_model.specs.Verdict.{Doing, Verdict, Refuses, Does, does, unless}
 use Rattle.portal_model.proofs.WalkDoings.{IfDoes, IfGiven, OnWalk, if-passes, on-looks, on-walked, walk-passes}
 use Rattle.portal_model.proofs.ListLookups.{found_passes, nat_is}
 use Rattle.portal_model.proofs.TripleOrder.{is_same-sym}
@@ -228,6 +233,35 @@ module _ (app : List ℕ) (number : ℕ) (s : State) (identified : are_identifie
       if-passes (Tells app number Who.Host (Request.ListDocuments name) s) (is_same name [] || is_app_name name) Code.InvalidArgument (does s (Answer.Listed (documents_listed s name)))
       (λ named. record { answered = refl; rights = refl; identified = identified })
 
+  -- ---- calls of the permission store
+
+  abbrev Told : StoreCall → Doing → Type 0
+  Told call = Tells app number Who.Host (Request.Store call) s
+
+  kept-tells : (call : StoreCall) (t : State) (o : Option StoredEntry) → held_of t.rights app number ≡ held → are_identified t ≡ true → IfDoes (Told call) (does (tell_kept o t) Answer.Done)
+  kept-tells call t None e f = record { answered = refl; rights = e; identified = f }
+  kept-tells call t (Some x) e f = record { answered = refl; rights = e; identified = f }
+
+  answered-tells : (call : StoreCall) (t : State) (answer : StoreAnswer) → held_of t.rights app number ≡ held → are_identified t ≡ true → IfDoes (Told call) (store_answered t call answer)
+  answered-tells call t (StoreAnswer.Done change) e f = record { answered = refl; rights = e; identified = f }
+  answered-tells call t StoreAnswer.Kept e f = kept-tells call t (entry_of t.entries (table_of call) (identifier_of call)) e f
+  answered-tells call t (StoreAnswer.Entry rows datum) e f = record { answered = refl; rights = e; identified = f }
+  answered-tells call t (StoreAnswer.Names names) e f = record { answered = refl; rights = e; identified = f }
+
+  outcome-tells : (call : StoreCall) (outcome : Outcome) → IfDoes (Told call) (store_verdict s call outcome)
+  outcome-tells call (Err error) = tt
+  outcome-tells call (Ok (entries, answer)) = answered-tells call (record s { entries = entries }) answer refl identified
+
+  either-tells : (call : StoreCall) (wrong : Bool) (code : Code) (v : Verdict) → IfDoes (Told call) v → IfDoes (Told call) (unless wrong code v)
+  either-tells call true code v h = tt
+  either-tells call false code v h = h
+
+  store-tells : (who : Who) (call : StoreCall) → IfDoes (Tells app number who (Request.Store call) s) (store_request s who call)
+  store-tells (Who.App caller) call = tt
+  store-tells Who.Host call =
+      if-passes (Told call) (are_store_arguments call) Code.InvalidArgument (store_allowed s call)
+      (λ fine. either-tells call (is_same (table_of call) own_table) Code.NotAllowed (store_verdict s call (store_call call s.entries)) (outcome-tells call (store_call call s.entries)))
+
 -- ---- additions
 
 module _ (app : List ℕ) (number : ℕ) (who : Who) (a : AddRequest) where
@@ -325,6 +359,7 @@ walk-tells app number s c (Request.DeleteDocument doc) numbers e l = delete_reac
 walk-tells app number s c (Request.LookupDocument path) numbers e l = lookup-tells app number s e c.who path
 walk-tells app number s c (Request.Info doc) numbers e l = info-tells app number s e c.who doc
 walk-tells app number s c (Request.ListDocuments name) numbers e l = list-tells app number s e c.who name
+walk-tells app number s c (Request.Store call) numbers e l = store-tells app number s e c.who call
 walk-tells app number s c request numbers e l = record { answered = refl; rights = refl; identified = e }
 
 -- the rights after an answer, and that each document has an identifier
@@ -443,6 +478,7 @@ module _ (app : List ℕ) (number : ℕ) (s : State) (e : are_identified s ≡ t
   step-then seat (Request.LookupDocument path) given l = bus-then (Request.LookupDocument path) given (connection_of s.connections seat) l
   step-then seat (Request.Info doc) given l = bus-then (Request.Info doc) given (connection_of s.connections seat) l
   step-then seat (Request.ListDocuments name) given l = bus-then (Request.ListDocuments name) given (connection_of s.connections seat) l
+  step-then seat (Request.Store call) given l = bus-then (Request.Store call) given (connection_of s.connections seat) l
 
 -- ---- a history
 

@@ -18,7 +18,7 @@ use Rattle.portal_model.specs.State.{State, app_has, connection_of, document_of,
 use Rattle.portal_model.specs.Step.{all_told, told_of}
 use Rattle.portal_model.specs.Valid.{Valid, is_none, is_host_bus, is_sound_connection}
 use Rattle.portal_model.proofs.ListLookups.{is_same-eq, nat_is, find-filter-none, find-filter-some, find-map, found_in_all}
-use Rattle.portal_model.proofs.NoChangeWaits.{none-nil}
+use Rattle.portal_model.proofs.WhoWaits.{none-nil}
 use Rattle.app_world.specs.Laws.{with_document, with_right}
 use Rattle.app_world.specs.View.{HeldDocument, OwnConnection, TakesAlike, found_connection, held_documents, is_among, is_held, named_paths, number_of, own_connection, own_connections, own_handle, prune, pruned, seen, view, view_over}
 use Rattle.app_world.proofs.ContentLaws.{contents-fewer, contents-same}

@@ -18,7 +18,7 @@ use Rattle.app_world.specs.TraceItem.{TraceItem, item_of}
 use Rattle.app_world.specs.Laws.{StepsSeen, asks}
 use Rattle.app_world.specs.View.{AppView, view}
 use Rattle.app_world.specs.World.{app_run, app_step, items, own_of, own_replies, touch, trace}
-use Rattle.app_world.proofs.KindLaws.{additions, collects, deletions, enters, grants, informations, leaves, listings, lookups, node_requests, presentations, revocations}
+use Rattle.app_world.proofs.KindLaws.{additions, collects, deletions, enters, grants, informations, leaves, listings, lookups, node_requests, presentations, revocations, store_calls}
 
 -- ---- an entry, by its kind
 
@@ -35,6 +35,7 @@ step_own app s seat (Request.DeleteDocument doc) given t v l m = deletions.own a
 step_own app s seat (Request.LookupDocument path) given t v l m = lookups.own app s seat path given v m
 step_own app s seat (Request.Info doc) given t v l m = informations.own app s seat doc given v m
 step_own app s seat (Request.ListDocuments name) given t v l m = listings.own app s seat name given v m
+step_own app s seat (Request.Store call) given t v l m = store_calls.own app s seat call given v m
 step_own app s seat (Request.Add a) given t v l m = additions.own app s seat a given t v l m
 step_own app s seat (Request.Node r) given t v l m = node_requests.own app s seat r given t v l m
 
@@ -51,6 +52,7 @@ step_other app s seat (Request.DeleteDocument doc) given v l m = deletions.other
 step_other app s seat (Request.LookupDocument path) given v l m = lookups.other app s seat path given v m
 step_other app s seat (Request.Info doc) given v l m = informations.other app s seat doc given v m
 step_other app s seat (Request.ListDocuments name) given v l m = listings.other app s seat name given v m
+step_other app s seat (Request.Store call) given v l m = store_calls.other app s seat call given v m
 step_other app s seat (Request.Add a) given v l m = additions.other app s seat a given v l m
 step_other app s seat (Request.Node r) given v l m = node_requests.other app s seat r given v l m
 

@@ -23,8 +23,9 @@ use Rattle.app_world.specs.Present.{own_present}
 use Rattle.app_world.specs.Revoke.{own_revoke, revoke_touch}
 use Rattle.app_world.specs.View.{AppView, OwnConnection}
 
--- The host alone may look a path up, and ask for what is known of documents. Nothing comes of the
--- requests that are none on documents: their step doesn't ask this.
+-- The host alone may look a path up, ask for what is known of documents, and call the permission
+-- store. Nothing comes of an Enter, a Leave, a Collect and a request on a node: their step doesn't
+-- ask this.
 abbrev pub own_bus_verdict : AppView → OwnConnection → Own → Request → Option OwnVerdict
 own_bus_verdict v c own (Request.Present path) = Some (own_present v c path)
 own_bus_verdict v c own (Request.Add a) =
@@ -35,6 +36,7 @@ own_bus_verdict v c own (Request.DeleteDocument doc) = Some (own_delete_document
 own_bus_verdict v c own (Request.LookupDocument path) = Some (OwnRefuses Code.NotAllowed)
 own_bus_verdict v c own (Request.Info doc) = Some (OwnRefuses Code.NotAllowed)
 own_bus_verdict v c own (Request.ListDocuments app) = Some (OwnRefuses Code.NotAllowed)
+own_bus_verdict v c own (Request.Store call) = Some (OwnRefuses Code.AccessDenied)
 own_bus_verdict v c own (Request.Enter who kind) = Some (OwnDoes v Answer.Done)
 own_bus_verdict v c own Request.Leave = Some (OwnDoes v Answer.Done)
 own_bus_verdict v c own Request.Collect = Some (OwnDoes v Answer.Done)
@@ -63,6 +65,7 @@ own_refused_view v c (Request.DeleteDocument doc) = v
 own_refused_view v c (Request.LookupDocument path) = v
 own_refused_view v c (Request.Info doc) = v
 own_refused_view v c (Request.ListDocuments app) = v
+own_refused_view v c (Request.Store call) = v
 own_refused_view v c (Request.Enter who kind) = v
 own_refused_view v c Request.Leave = v
 own_refused_view v c Request.Collect = v
@@ -92,6 +95,7 @@ bus_touch app s (Request.Present path) given o = []
 bus_touch app s (Request.LookupDocument path) given o = []
 bus_touch app s (Request.Info doc) given o = []
 bus_touch app s (Request.ListDocuments name) given o = []
+bus_touch app s (Request.Store call) given o = []
 bus_touch app s (Request.Enter who kind) given o = []
 bus_touch app s Request.Leave given o = []
 bus_touch app s Request.Collect given o = []

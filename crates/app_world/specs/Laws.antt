@@ -11,6 +11,7 @@ use Rattle.portal_model.specs.declared.request.Request.{Request}
 use Rattle.portal_model.specs.declared.request.RightsCall.{RightsCall}
 use Rattle.portal_model.specs.declared.state.Document.{Document}
 use Rattle.portal_model.specs.declared.state.Triple.{Triple}
+use Rattle.portal_model.specs.declared.store.StoreCall.{StoreCall}
 use Rattle.portal_model.specs.History.{Legal, makes, replies}
 use Rattle.portal_model.specs.Lawful.{Lawful}
 use Rattle.portal_model.specs.State.{State, held_of}
@@ -79,6 +80,7 @@ pub record KindsSeen : Type 0 where
   pub lookups : SeenAlways {X = List ℕ} (λ path. Request.LookupDocument path)
   pub informations : SeenAlways {X = List ℕ} (λ doc. Request.Info doc)
   pub listings : SeenAlways {X = List ℕ} (λ name. Request.ListDocuments name)
+  pub store_calls : SeenAlways {X = StoreCall} (λ call. Request.Store call)
   pub node_requests : SeenLawful {X = NodeRequest} (λ r. Request.Node r)
 
 -- ---- the frame

@@ -72,6 +72,8 @@ own_request_step v own (Request.LookupDocument path) =
 own_request_step v own (Request.Info doc) = own_bus_step v own (Request.Info doc) (own_bus v own)
 own_request_step v own (Request.ListDocuments app) =
     own_bus_step v own (Request.ListDocuments app) (own_bus v own)
+own_request_step v own (Request.Store call) =
+    own_bus_step v own (Request.Store call) (own_bus v own)
 
 -- the view after a request of the application, and the reply to it
 abbrev pub app_step : AppView → Own → AppView × Reply
@@ -97,6 +99,7 @@ contents_shown s (Request.DeleteDocument doc) given o = []
 contents_shown s (Request.LookupDocument path) given o = []
 contents_shown s (Request.Info doc) given o = []
 contents_shown s (Request.ListDocuments name) given o = []
+contents_shown s (Request.Store call) given o = []
 contents_shown s (Request.Enter who kind) given o = []
 contents_shown s Request.Leave given o = []
 contents_shown s Request.Collect given o = []
@@ -111,6 +114,7 @@ documents_reused s (Request.DeleteDocument doc) o = []
 documents_reused s (Request.LookupDocument path) o = []
 documents_reused s (Request.Info doc) o = []
 documents_reused s (Request.ListDocuments name) o = []
+documents_reused s (Request.Store call) o = []
 documents_reused s (Request.Enter who kind) o = []
 documents_reused s Request.Leave o = []
 documents_reused s Request.Collect o = []
@@ -154,6 +158,8 @@ request_touch app s seat (Request.Info doc) given =
     bus_touch app s (Request.Info doc) given (bus_of (connection_of s.connections seat))
 request_touch app s seat (Request.ListDocuments name) given =
     bus_touch app s (Request.ListDocuments name) given (bus_of (connection_of s.connections seat))
+request_touch app s seat (Request.Store call) given =
+    bus_touch app s (Request.Store call) given (bus_of (connection_of s.connections seat))
 
 -- what an entry that the application does not make changes of its view, where it is done
 abbrev pub touch : List ℕ → State → Entry → List Effect

@@ -12,6 +12,7 @@ use Rattle.portal_model.specs.declared.entry.Given.{Given}
 use Rattle.portal_model.specs.declared.request.AddRequest.{AddRequest}
 use Rattle.portal_model.specs.declared.request.Request.{Request}
 use Rattle.portal_model.specs.declared.state.Connection.{Connection}
+use Rattle.portal_model.specs.declared.store.StoreCall.{StoreCall}
 use Rattle.portal_model.specs.State.{State, connection_of}
 use Rattle.portal_model.specs.Step.{all_told, bus_of, reply_at, request_step}
 use Rattle.portal_model.specs.Valid.{Valid}
@@ -22,12 +23,13 @@ use Rattle.dbus_dispatch.specs.declared.error_name.ErrorName.TheVariants.{Invali
 use Rattle.dbus_dispatch.specs.declared.method.Method.{Method}
 use Rattle.dbus_dispatch.specs.declared.method.Method.TheVariants as M
 use Rattle.dbus_dispatch.specs.Tables.{row}
-use Rattle.dbus_dispatch.specs.Arguments.{text_of, flag_of, number_of, handle_of, items_of, bytes_in, text_alone, items_alone, rights_call, add_of, add_call, add_named_of, add_named_call, add_full_call, add_named_full_of, add_named_full_call, request_in}
+use Rattle.dbus_dispatch.specs.Arguments.{text_of, flag_of, number_of, handle_of, items_of, bytes_in, text_alone, items_alone, rights_call, add_of, add_call, add_named_of, add_named_call, add_full_call, add_named_full_of, add_named_full_call, lookup_call, set_call, delete_call, list_call, set_value_call, set_permission_call, delete_permission_call, get_permission_call, request_in}
 use Rattle.dbus_dispatch.specs.Asks.{ask_of, asked, asked_of_portal, asked_or_refused, is_call}
 use Rattle.dbus_dispatch.specs.Calls.{called, found, with_signature}
 use Rattle.dbus_dispatch.specs.Writable.{HasItsIdentifiers, IsTold, IsToldTo}
-use Rattle.call_laws.specs.Answers.{IsOnDocuments}
+use Rattle.call_laws.specs.Answers.{IsOnRecords}
 use Rattle.call_laws.proofs.Requests.{present_told, grant_told, revoke_told, delete_told, lookup_told, info_told, list_told, add_told}
+use Rattle.call_laws.proofs.StoreAnswers.{store_told}
 use Rattle.call_laws.proofs.Verdicts.{step_told}
 
 -- ---- what a call asks
@@ -114,6 +116,11 @@ module _ (s : State) (seat : ℕ) (given : Given) (valid : Valid s) where
   made_told : {X : Type 0} (m : Method) (f : X → Request) (o : Option X) (r : Request) → option_map f o ≡ Some r → ((x : X) → o ≡ Some x → Told m (f x)) → Told m r
   made_told m f o r e h = let p = made_of f o r e in subst (Told m) p.1 (h p.0 p.2)
 
+  on_store : (call : Message) (m : Method) (o : Option StoreCall) (r : Request) → option_map Request.Store o ≡ Some r → Told m r
+  on_store call m o r e =
+      made_told m Request.Store o r e
+      (λ x f. step_told m s (Request.Store x) given (bus_of (connection_of s.connections seat)) (λ c. store_told m (all_told c.seat s) c.who x (still_valid c)))
+
   request_told : (call : Message) (m : Method) (r : Request) → request_in call m ≡ Some r → Told m r
   request_told call M.Present r e =
       made_told M.Present (λ path. Request.Present (bytes_in path)) (items_alone call.body) r e
@@ -146,14 +153,14 @@ module _ (s : State) (seat : ℕ) (given : Given) (valid : Valid s) where
       made_told M.ListDocuments Request.ListDocuments (text_alone call.body) r e
       (λ app f. step_told M.ListDocuments s (Request.ListDocuments app) given (bus_of (connection_of s.connections seat)) (λ c. list_told (all_told c.seat s) c.who app (still_valid c)))
   request_told call M.GetMountPoint r e = absurd cc
-  request_told call M.LookupEntry r e = absurd cc
-  request_told call M.SetEntry r e = absurd cc
-  request_told call M.DeleteEntry r e = absurd cc
-  request_told call M.SetValue r e = absurd cc
-  request_told call M.SetPermission r e = absurd cc
-  request_told call M.DeletePermission r e = absurd cc
-  request_told call M.GetPermission r e = absurd cc
-  request_told call M.ListEntries r e = absurd cc
+  request_told call M.LookupEntry r e = on_store call M.LookupEntry (lookup_call call.body) r e
+  request_told call M.SetEntry r e = on_store call M.SetEntry (set_call call.body) r e
+  request_told call M.DeleteEntry r e = on_store call M.DeleteEntry (delete_call call.body) r e
+  request_told call M.SetValue r e = on_store call M.SetValue (set_value_call call.body) r e
+  request_told call M.SetPermission r e = on_store call M.SetPermission (set_permission_call call.body) r e
+  request_told call M.DeletePermission r e = on_store call M.DeletePermission (delete_permission_call call.body) r e
+  request_told call M.GetPermission r e = on_store call M.GetPermission (get_permission_call call.body) r e
+  request_told call M.ListEntries r e = on_store call M.ListEntries (list_call call.body) r e
   request_told call M.Get r e = absurd cc
   request_told call M.GetAll r e = absurd cc
   request_told call M.Ping r e = absurd cc
@@ -174,14 +181,14 @@ module _ (mountpoint : List ℕ) (call : Message) (r : Request) where
   by_method M.Info e = asks_this call (request_in call M.Info) r e
   by_method M.ListDocuments e = asks_this call (request_in call M.ListDocuments) r e
   by_method M.GetMountPoint e = absurd cc
-  by_method M.LookupEntry e = absurd cc
-  by_method M.SetEntry e = absurd cc
-  by_method M.DeleteEntry e = absurd cc
-  by_method M.SetValue e = absurd cc
-  by_method M.SetPermission e = absurd cc
-  by_method M.DeletePermission e = absurd cc
-  by_method M.GetPermission e = absurd cc
-  by_method M.ListEntries e = absurd cc
+  by_method M.LookupEntry e = asks_this call (request_in call M.LookupEntry) r e
+  by_method M.SetEntry e = asks_this call (request_in call M.SetEntry) r e
+  by_method M.DeleteEntry e = asks_this call (request_in call M.DeleteEntry) r e
+  by_method M.SetValue e = asks_this call (request_in call M.SetValue) r e
+  by_method M.SetPermission e = asks_this call (request_in call M.SetPermission) r e
+  by_method M.DeletePermission e = asks_this call (request_in call M.DeletePermission) r e
+  by_method M.GetPermission e = asks_this call (request_in call M.GetPermission) r e
+  by_method M.ListEntries e = asks_this call (request_in call M.ListEntries) r e
   by_method M.Get e = absurd cc
   by_method M.GetAll e = absurd cc
   by_method M.Ping e = absurd cc
@@ -202,17 +209,17 @@ module _ (mountpoint : List ℕ) (call : Message) (r : Request) where
 pub answers_told : (settings : Settings) (call : Message) (s : State) (e : Entry) → Valid s → ask_of settings call ≡ Portal e.request → IsToldTo call (reply_at s e).answer
 answers_told settings call s e valid asks m is = request_told s e.seat e.given valid call m e.request (asked_in settings.mountpoint call e.request m asks is)
 
--- ---- on documents
+-- ---- on documents and entries
 
-abbrev OnDocuments : Option Request → Type 0
-OnDocuments None = Unit {0}
-OnDocuments (Some r) = IsOnDocuments r
+abbrev OnRecords : Option Request → Type 0
+OnRecords None = Unit {0}
+OnRecords (Some r) = IsOnRecords r
 
-made_on : {X : Type 0} (f : X → Request) (o : Option X) → ((x : X) → IsOnDocuments (f x)) → OnDocuments (option_map f o)
+made_on : {X : Type 0} (f : X → Request) (o : Option X) → ((x : X) → IsOnRecords (f x)) → OnRecords (option_map f o)
 made_on f None h = tt
 made_on f (Some x) h = h x
 
-request_on : (call : Message) (m : Method) → OnDocuments (request_in call m)
+request_on : (call : Message) (m : Method) → OnRecords (request_in call m)
 request_on call M.Present = made_on (λ path. Request.Present (bytes_in path)) (items_alone call.body) (λ path. tt)
 request_on call M.Add = made_on Request.Add (add_call call.fds call.body) (λ a. tt)
 request_on call M.AddNamed = made_on Request.Add (add_named_call call.fds call.body) (λ a. tt)
@@ -225,27 +232,27 @@ request_on call M.LookupDocument = made_on (λ path. Request.LookupDocument (byt
 request_on call M.Info = made_on Request.Info (text_alone call.body) (λ doc. tt)
 request_on call M.ListDocuments = made_on Request.ListDocuments (text_alone call.body) (λ app. tt)
 request_on call M.GetMountPoint = tt
-request_on call M.LookupEntry = tt
-request_on call M.SetEntry = tt
-request_on call M.DeleteEntry = tt
-request_on call M.SetValue = tt
-request_on call M.SetPermission = tt
-request_on call M.DeletePermission = tt
-request_on call M.GetPermission = tt
-request_on call M.ListEntries = tt
+request_on call M.LookupEntry = made_on Request.Store (lookup_call call.body) (λ x. tt)
+request_on call M.SetEntry = made_on Request.Store (set_call call.body) (λ x. tt)
+request_on call M.DeleteEntry = made_on Request.Store (delete_call call.body) (λ x. tt)
+request_on call M.SetValue = made_on Request.Store (set_value_call call.body) (λ x. tt)
+request_on call M.SetPermission = made_on Request.Store (set_permission_call call.body) (λ x. tt)
+request_on call M.DeletePermission = made_on Request.Store (delete_permission_call call.body) (λ x. tt)
+request_on call M.GetPermission = made_on Request.Store (get_permission_call call.body) (λ x. tt)
+request_on call M.ListEntries = made_on Request.Store (list_call call.body) (λ x. tt)
 request_on call M.Get = tt
 request_on call M.GetAll = tt
 request_on call M.Ping = tt
 
-method_on : (mountpoint : List ℕ) (call : Message) (r : Request) (m : Method) → asked mountpoint call m ≡ Portal r → IsOnDocuments r
-method_on mountpoint call r m e = subst OnDocuments (by_method mountpoint call r m e) (request_on call m)
+method_on : (mountpoint : List ℕ) (call : Message) (r : Request) (m : Method) → asked mountpoint call m ≡ Portal r → IsOnRecords r
+method_on mountpoint call r m e = subst OnRecords (by_method mountpoint call r m e) (request_on call m)
 
-called_on : (mountpoint : List ℕ) (call : Message) (r : Request) (x : Result Method ErrorName) → asked_or_refused mountpoint call x ≡ Portal r → IsOnDocuments r
+called_on : (mountpoint : List ℕ) (call : Message) (r : Request) (x : Result Method ErrorName) → asked_or_refused mountpoint call x ≡ Portal r → IsOnRecords r
 called_on mountpoint call r (Ok m) e = method_on mountpoint call r m e
 called_on mountpoint call r (Err error) e = absurd cc
 
-pub calls_on_documents : (settings : Settings) (call : Message) (r : Request) → ask_of settings call ≡ Portal r → IsOnDocuments r
-calls_on_documents settings call r e = called_on settings.mountpoint call r (called call) (by_kind settings.mountpoint call r (is_call call) e)
+pub calls_on_records : (settings : Settings) (call : Message) (r : Request) → ask_of settings call ≡ Portal r → IsOnRecords r
+calls_on_records settings call r e = called_on settings.mountpoint call r (called call) (by_kind settings.mountpoint call r (is_call call) e)
 
 -- ---- the method, and its request
 

@@ -17,13 +17,15 @@ use Rattle.dbus_message.specs.Messages.{IsMessage}
 use Rattle.portal_model.specs.declared.request.AddRequest.{AddRequest}
 use Rattle.portal_model.specs.declared.request.Request.{Request}
 use Rattle.portal_model.specs.declared.request.RightsCall.{RightsCall}
-use Rattle.portal_model.specs.History.{add_bytes, cost_of, cost_of_bytes, rights_call_bytes}
+use Rattle.portal_model.specs.declared.store.StoreCall.{StoreCall}
+use Rattle.portal_model.specs.History.{add_bytes, cost_of, cost_of_bytes, rights_call_bytes, store_bytes}
 use Rattle.dbus_dispatch.specs.declared.ask.Ask.TheVariants.{Portal}
 use Rattle.dbus_dispatch.specs.declared.method.Method.{Method}
 use Rattle.dbus_dispatch.specs.declared.method.Method.TheVariants as M
-use Rattle.dbus_dispatch.specs.Arguments.{text_of, flag_of, number_of, handle_of, items_of, bytes_in, text_alone, items_alone, rights_of, rights_call, add_of, add_call, add_named_of, add_named_call, add_full_of, add_full_call, add_named_full_of, add_named_full_call, request_in}
+use Rattle.dbus_dispatch.specs.Arguments.{text_of, flag_of, number_of, handle_of, items_of, bytes_in, text_alone, items_alone, rights_of, rights_call, add_of, add_call, add_named_of, add_named_call, add_full_of, add_full_call, add_named_full_of, add_named_full_call, lookup_call, set_call, delete_call, list_call, set_value_call, set_permission_call, delete_permission_call, get_permission_call, request_in}
 use Rattle.dbus_dispatch.specs.Asks.{ask_of}
 use Rattle.call_laws.proofs.Calls.{asks_request}
+use Rattle.call_laws.proofs.StoreCosts.{StoreWithin, lookup_within, set_within, delete_within, list_within, set_value_within, set_permission_within, delete_permission_within, get_permission_within}
 use Rattle.call_laws.proofs.Sizes.{TextWithin, HandleWithin, ItemsWithin, text_takes, index_takes, items_take}
 
 -- ---- how many bytes the parts of a request have, by bounds of the arguments
@@ -171,7 +173,7 @@ module _ (e : Endian) where
 
   of_text : (f : List ℕ → Request) (o : Option (List ℕ)) (n : ℕ) → ((t : List ℕ) → cost_of (f t) ≡ cost_of_bytes (length t)) → TextWithin o n → CostWithin (option_map f o) n
   of_text f None n costs h = tt
-  of_text f (Some t) n costs h = omega (arith, costs t, least (length t) n h)
+  of_text f (Some t) n costs h = omega (arith, costs t, least (length t) n (omega (arith, h)))
 
   of_items : (f : List ℕ → Request) (o : Option (List Value)) (n : ℕ) → ((t : List ℕ) → cost_of (f t) ≡ cost_of_bytes (length t)) → ItemsWithin o n → CostWithin (option_map (λ path. f (bytes_in path)) o) n
   of_items f None n costs h = tt
@@ -184,6 +186,10 @@ module _ (e : Endian) where
   of_add : (o : Option AddRequest) (n : ℕ) → AddWithin o n → CostWithin (option_map Request.Add o) n
   of_add None n h = tt
   of_add (Some a) n h = least (add_bytes a) n h
+
+  of_store : (o : Option StoreCall) (n : ℕ) → StoreWithin o n → CostWithin (option_map Request.Store o) n
+  of_store None n h = tt
+  of_store (Some x) n h = least (store_bytes x) n h
 
   request_costs : (call : Message) (m : Method) → CostWithin (request_in call m) (size call.body 0)
   request_costs call M.Present = of_items Request.Present (items_alone call.body) (size call.body 0) (λ t. refl) (alone_items call.body)
@@ -198,14 +204,14 @@ module _ (e : Endian) where
   request_costs call M.AddFull = of_add (add_full_call call.fds call.body) (size call.body 0) (add_full_within call.fds call.body)
   request_costs call M.AddNamedFull = of_add (add_named_full_call call.fds call.body) (size call.body 0) (add_named_full_within call.fds call.body)
   request_costs call M.GetMountPoint = tt
-  request_costs call M.LookupEntry = tt
-  request_costs call M.SetEntry = tt
-  request_costs call M.DeleteEntry = tt
-  request_costs call M.SetValue = tt
-  request_costs call M.SetPermission = tt
-  request_costs call M.DeletePermission = tt
-  request_costs call M.GetPermission = tt
-  request_costs call M.ListEntries = tt
+  request_costs call M.LookupEntry = of_store (lookup_call call.body) (size call.body 0) (lookup_within e call.body)
+  request_costs call M.SetEntry = of_store (set_call call.body) (size call.body 0) (set_within e call.body)
+  request_costs call M.DeleteEntry = of_store (delete_call call.body) (size call.body 0) (delete_within e call.body)
+  request_costs call M.SetValue = of_store (set_value_call call.body) (size call.body 0) (set_value_within e call.body)
+  request_costs call M.SetPermission = of_store (set_permission_call call.body) (size call.body 0) (set_permission_within e call.body)
+  request_costs call M.DeletePermission = of_store (delete_permission_call call.body) (size call.body 0) (delete_permission_within e call.body)
+  request_costs call M.GetPermission = of_store (get_permission_call call.body) (size call.body 0) (get_permission_within e call.body)
+  request_costs call M.ListEntries = of_store (list_call call.body) (size call.body 0) (list_within e call.body)
   request_costs call M.Get = tt
   request_costs call M.GetAll = tt
   request_costs call M.Ping = tt

@@ -32,7 +32,7 @@ module _ {X : Type 0} (before : X → X → Bool) (P : X → Type 0) where
       let rest : All P ys = All-tail P y ys h in
       put_told x y ys (before x y) (before y x) p (All-head P y ys h) rest (put_all_of x ys p rest)
 
-  all_put : (xs : List X) → All P xs → All P (put_all before xs)
+  pub all_put : (xs : List X) → All P xs → All P (put_all before xs)
   all_put [] h = All-nil P
   all_put (x ∷ xs) h = put_all_of x (put_all before xs) (All-head P x xs h) (all_put xs (All-tail P x xs h))
 

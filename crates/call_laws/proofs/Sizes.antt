@@ -19,7 +19,7 @@ use Rattle.dbus_dispatch.specs.Arguments.{text_of, byte_of, handle_of, items_of,
 
 -- ---- the outer layer of a value
 
-roll_out : (v : Value) → roll-Value (out-Value v) ≡ v
+pub roll_out : (v : Value) → roll-Value (out-Value v) ≡ v
 roll_out v = search the_lemmas
 
 rolls_str : (t : List ℕ) → V.Str t ≡ roll-Value (Value-F.Str t)
@@ -34,14 +34,14 @@ rolls_handle n = search the_lemmas
 rolls_array : (t : WireType) (vs : List Value) → V.Array t vs ≡ roll-Value (Value-F.Array t vs)
 rolls_array t vs = search the_lemmas
 
-rolled : (v w : Value) (x : Value-F Value) → out-Value v ≡ x → w ≡ roll-Value x → w ≡ v
+pub rolled : (v w : Value) (x : Value-F Value) → out-Value v ≡ x → w ≡ roll-Value x → w ≡ v
 rolled v w x out is = is ∙ (ap roll-Value (sym out) ∙ roll_out v)
 
 -- ---- bounds
 
 abbrev pub TextWithin : Option (List ℕ) → ℕ → Type 0
 TextWithin None n = Unit {0}
-TextWithin (Some t) n = length t ≤ n
+TextWithin (Some t) n = length t + 5 ≤ n
 
 abbrev pub ByteWithin : Option ℕ → ℕ → Type 0
 ByteWithin None n = Unit {0}
@@ -61,16 +61,16 @@ ItemsWithin (Some vs) n = Holds vs n
 -- ---- how much it takes at least
 
 module _ (e : Endian) where
-  least_as : (v : Value) (s : Spelled) (at k : ℕ) → spelled e v ≡ s → k ≤ length (s.1 at) → k ≤ length (spelling e at v)
+  pub least_as : (v : Value) (s : Spelled) (at k : ℕ) → spelled e v ≡ s → k ≤ length (s.1 at) → k ≤ length (spelling e at v)
   least_as v s at k is h = subst (λ (x : Spelled). k ≤ length (x.1 at)) (sym is) h
 
-  least_aligned : (to : ℕ) (body : ℕ → List ℕ) (at k : ℕ) → k ≤ length (body (at + gap to at)) → k ≤ length (aligned to body at)
+  pub least_aligned : (to : ℕ) (body : ℕ → List ℕ) (at k : ℕ) → k ≤ length (body (at + gap to at)) → k ≤ length (aligned to body at)
   least_aligned to body at k h = omega (arith, h, length-append (replicate (gap to at) 0) (body (at + gap to at)))
 
-  str_takes : (t : List ℕ) (at : ℕ) → length t ≤ length (spelling e at (V.Str t))
+  str_takes : (t : List ℕ) (at : ℕ) → length t + 5 ≤ length (spelling e at (V.Str t))
   str_takes t at =
-      least_as (V.Str t) (spell_step e (Value-F.Str t)) at (length t) (roll_str e t)
-      (least_aligned 4 (λ start. text_body e t) at (length t) (omega (arith, length-append (number e w32 (length t)) (t ++ 0 ∷ []), length-append t (0 ∷ []))))
+      least_as (V.Str t) (spell_step e (Value-F.Str t)) at (length t + 5) (roll_str e t)
+      (least_aligned 4 (λ start. text_body e t) at (length t + 5) (omega (arith, length-append (number e w32 (length t)) (t ++ 0 ∷ []), number_len e four (length t), length-append t (0 ∷ []))))
 
   byte_takes : (n at : ℕ) → 1 ≤ length (spelling e at (V.Byte n))
   byte_takes n at = least_as (V.Byte n) (spell_step e (Value-F.Byte n)) at 1 (roll_byte e n) (omega arith)
@@ -100,7 +100,7 @@ module _ (e : Endian) where
   Within x n = TextWithin (text_of x) n × ByteWithin (byte_of x) n × HandleWithin (handle_of x) n × ArrayWithin (items_of x) n
 
   takes : (at : ℕ) (v : Value) (x : Value-F Value) → out-Value v ≡ x → Within x (length (spelling e at v))
-  takes at v (Value-F.Str t) out = (subst (λ (w : Value). length t ≤ length (spelling e at w)) (rolled v (V.Str t) (Value-F.Str t) out (rolls_str t)) (str_takes t at), tt, tt, tt)
+  takes at v (Value-F.Str t) out = (subst (λ (w : Value). length t + 5 ≤ length (spelling e at w)) (rolled v (V.Str t) (Value-F.Str t) out (rolls_str t)) (str_takes t at), tt, tt, tt)
   takes at v (Value-F.Byte n) out = (tt, subst (λ (w : Value). 1 ≤ length (spelling e at w)) (rolled v (V.Byte n) (Value-F.Byte n) out (rolls_byte n)) (byte_takes n at), tt, tt)
   takes at v (Value-F.Handle n) out = (tt, tt, subst (λ (w : Value). 4 ≤ length (spelling e at w)) (rolled v (V.Handle n) (Value-F.Handle n) out (rolls_handle n)) (handle_takes n at), tt)
   takes at v (Value-F.Array t vs) out = (
@@ -137,7 +137,7 @@ module _ (e : Endian) where
   one_text None n h = omega arith
   one_text (Some t) n h = omega (arith, h)
 
-  texts_append : (xs ys : List (List ℕ)) → texts_bytes (xs ++ ys) ≡ texts_bytes xs + texts_bytes ys
+  pub texts_append : (xs ys : List (List ℕ)) → texts_bytes (xs ++ ys) ≡ texts_bytes xs + texts_bytes ys
   texts_append xs ys = sum_by-append (λ (t : List ℕ). length t) xs ys
 
   holds : (at : ℕ) (vs : List Value) → Holds vs (length (spellings e at vs))
@@ -159,6 +159,9 @@ module _ (e : Endian) where
 
   pub text_takes : (at : ℕ) (v : Value) → TextWithin (text_of (out-Value v)) (length (spelling e at v))
   text_takes at v = (takes at v (out-Value v) refl).0
+
+  pub array_takes_in : (at : ℕ) (v : Value) → ArrayWithin (items_of (out-Value v)) (length (spelling e at v))
+  array_takes_in at v = (takes at v (out-Value v) refl).3
 
   pub index_takes : (at : ℕ) (v : Value) → HandleWithin (handle_of (out-Value v)) (length (spelling e at v))
   index_takes at v = (takes at v (out-Value v) refl).2

@@ -1,6 +1,7 @@
 -- What the portal answers to calls (XDG Desktop Portal documentation,
--- "org.freedesktop.portal.Documents").
-use Rattle.std.specs.Prelude.{◌≡◌, ℕ, ◌*◌, ◌≤◌, List, length}
+-- "org.freedesktop.portal.Documents" and "org.freedesktop.impl.portal.PermissionStore").
+use Rattle.std.specs.Prelude.{◌≡◌, ℕ, ◌*◌, ◌≤◌, List, length, true}
+use Rattle.std.specs.List.{list_all}
 use Rattle.portal_base.specs.declared.limits.Settings.{Settings}
 use Rattle.dbus_types.specs.declared.message.Message.{Message}
 use Rattle.dbus_message.specs.Messages.{IsMessage}
@@ -9,7 +10,7 @@ use Rattle.portal_model.specs.declared.request.Request.{Request}
 use Rattle.portal_model.specs.History.{cost_of}
 use Rattle.portal_model.specs.State.{State}
 use Rattle.portal_model.specs.Step.{reply_at}
-use Rattle.portal_model.specs.Valid.{Valid}
+use Rattle.portal_model.specs.Valid.{Valid, is_sound_change}
 use Rattle.dbus_dispatch.specs.declared.ask.Ask.TheVariants.{Portal}
 use Rattle.dbus_dispatch.specs.Asks.{ask_of}
 use Rattle.dbus_dispatch.specs.Writable.{IsToldTo}
@@ -20,18 +21,23 @@ abbrev pub AnswersAreTold : Type 0
 AnswersAreTold = (settings : Settings) (call : Message) (s : State) (e : Entry) → Valid s →
     ask_of settings call ≡ Portal e.request → IsToldTo call (reply_at s e).answer
 
--- a request of a bus on documents
-abbrev pub IsOnDocuments : Request → Type 0
-IsOnDocuments (Request.Enter who kind) = ⊥
-IsOnDocuments Request.Leave = ⊥
-IsOnDocuments Request.Collect = ⊥
-IsOnDocuments (Request.Node r) = ⊥
-IsOnDocuments request = Unit {0}
+-- The changes that ride in the reply to an entry tell of entries that are valid, or were.
+abbrev pub SignalsAreTold : Type 0
+SignalsAreTold = (s : State) (e : Entry) → Valid s →
+    list_all is_sound_change (reply_at s e).signals ≡ true
 
--- what a call asks is a request of a bus on documents
-abbrev pub CallsAskOnDocuments : Type 0
-CallsAskOnDocuments = (settings : Settings) (call : Message) (request : Request) →
-    ask_of settings call ≡ Portal request → IsOnDocuments request
+-- a request of a bus on documents or on entries of the permission store
+abbrev pub IsOnRecords : Request → Type 0
+IsOnRecords (Request.Enter who kind) = ⊥
+IsOnRecords Request.Leave = ⊥
+IsOnRecords Request.Collect = ⊥
+IsOnRecords (Request.Node r) = ⊥
+IsOnRecords request = Unit {0}
+
+-- what a call asks is such a request
+abbrev pub CallsAskOnRecords : Type 0
+CallsAskOnRecords = (settings : Settings) (call : Message) (request : Request) →
+    ask_of settings call ≡ Portal request → IsOnRecords request
 
 -- what a call asks costs the history at most eight times the bytes of its message
 abbrev pub CallsCostLittle : Type 0

@@ -1,8 +1,9 @@
 //! Laws of the calls that ask the portal, over the steps of the portal.
 //!
 //! **It promises** that what the portal answers a call can be told to its
-//! caller, that a call asks a request on documents, and that this costs the
-//! history little for the length of the call.
+//! caller, and so can the changes that ride ahead of it; that a call asks a
+//! request on documents or on entries of the permission store; and that this
+//! costs the history little for the length of the call.
 //!
 //! | Room | Holds |
 //! |---|---|

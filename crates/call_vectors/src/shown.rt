@@ -50,7 +50,7 @@ fn answer(alloc: Global, answer: &Answer) -> Result<String, VectorError> {
             Ok(format!(in alloc; "{path} {rows}")?)
         }
         Answer::Listed(documents) => listed(alloc, documents.as_slice()),
-        Answer::Node(_) => bad(),
+        Answer::Node(_) | Answer::Entry { .. } | Answer::Names(_) => bad(),
     }
 }
 

@@ -10,7 +10,6 @@
 //! | Room | Holds |
 //! |---|---|
 //! | `outboxes` | [`Outboxes`]: the unsent signals by seat |
-//! | `copies` | a change is copied for each connection |
 //!
 //! ```text
 //! outboxes.enter(seat)?;
@@ -22,7 +21,6 @@
 //! `org.freedesktop.impl.portal.PermissionStore`, signal `Changed`.
 #![tactic(auto)]
 
-mod copies;
 pub mod outboxes;
 
 pub use outboxes::Outboxes;

@@ -6,10 +6,9 @@ ghost use Rattle.std.specs.Map.{values_of};
 ghost use Rattle.change_signals.specs.Unsent.{Boxes, unsent_on, entered, left, told, untold, holding, with_last, without_last, first_become, AtSeat, AtEach, IsSame};
 ghost use Rattle.portal_model.specs.declared.reply.Change.{Change};
 
-use crate::copies::copy_of;
 use indexmap::IndexMap;
 use portal_base::list::List;
-use portal_base::memory::WantOfMemory;
+use portal_base::memory::{Replica, WantOfMemory};
 use portal_model::reply::Change;
 use std::alloc::Global;
 use std::marker::Model;
@@ -23,9 +22,13 @@ pub struct Outboxes {
 }
 
 impl Model for Outboxes {
+    ghost use Rattle.dbus_types.specs.contracts.types.Value as e;
+    ghost use Rattle.std.specs.Coded.{codes};
     ghost use Rattle.change_signals.specs.Unsent.{Boxes};
 
     ghost Value = { Boxes };
+
+    ghost coded = { Prim.hlevel (codes, e.the_row.coded) };
 
     ghost view = { λ a. a.boxes.entries };
 }
@@ -148,7 +151,7 @@ fn post_at(
         ≡ set_value_at boxes.old.entries place (with_last change.now signals))) }
     ensures err { OnErr result (boxes.new.entries ≡ boxes.old.entries) }
 {
-    let copy = copy_of(change, alloc)?;
+    let copy = change.replica(alloc)?;
     match boxes.get_index_mut(place) {
         Some(signals) => signals.push(copy),
         None => Ok(()),

@@ -5,5 +5,8 @@ pub mod Identifiers
 pub mod Lengths
 pub mod ReturnLength
 pub mod Bodies
+pub mod Walked
+pub mod StoredTexts
 pub mod Told
+pub mod Signals
 pub mod Writable

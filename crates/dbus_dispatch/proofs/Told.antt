@@ -13,6 +13,9 @@ use Rattle.dbus_types.specs.declared.roles.Role.TheVariants.{Basic, Single}
 use Rattle.dbus_types.specs.Types.{is_single, array_role, entry_role, role, arrays_deep, brackets_deep, type_text, IsValidType, IsVariantType}
 use Rattle.dbus_types.specs.Values.{type_of, IsText, ValueKeeps, KeepsWithin, KeepsRules}
 use Rattle.dbus_types.proofs.TypeLayers.{text_array, text_entry, role_array, role_entry, role_byte, arrays_array, arrays_entry, brackets_array, brackets_entry}
+use Rattle.dbus_marshal.proofs.SpelledKeepsRules.{spelled_keeps}
+use Rattle.dbus_types.specs.declared.types.Endian.TheVariants.{Little}
+use Rattle.dbus_types.specs.Spelling.{spelling}
 use Rattle.dbus_message.specs.Written.{IsGoodBody}
 use Rattle.dbus_message.proofs.Ascii.{member_text}
 use Rattle.portal_model.specs.declared.records.Row.{Row}
@@ -20,17 +23,20 @@ use Rattle.portal_model.specs.declared.reply.Answer.{Answer}
 use Rattle.portal_model.specs.declared.reply.Answer.TheVariants as A
 use Rattle.portal_model.specs.declared.reply.ListedDocument.{ListedDocument}
 use Rattle.portal_model.specs.Changed.{texts_value, row_value, rows_value}
+use Rattle.portal_model.specs.Data.{is_data}
+use Rattle.portal_model.proofs.DataLaws.{data-spelled}
 use Rattle.dbus_dispatch.specs.declared.method.Method.{Method}
 use Rattle.dbus_dispatch.specs.declared.method.Method.TheVariants as M
 use Rattle.dbus_dispatch.specs.Asks.{closed_bytes}
 use Rattle.dbus_dispatch.specs.Replies.{extra, listed_value, documents_value, each_text, identifiers, body_of}
-use Rattle.dbus_dispatch.specs.Writable.{HasTexts, HasItsIdentifiers, IsTold}
+use Rattle.dbus_dispatch.specs.Writable.{HasTexts, HasItsIdentifiers, IsInUtf8, IsTold}
+use Rattle.dbus_dispatch.proofs.StoredTexts.{stored_rows_texts, stored_texts}
 use Rattle.dbus_dispatch.proofs.Identifiers.{identifier_text}
 use Rattle.dbus_dispatch.proofs.Bodies.{role_str, role_u32, role_variant, arrays_u32, arrays_byte, arrays_str, arrays_variant, brackets_u32, brackets_byte, brackets_str, brackets_variant, text_u32, text_byte, text_str, text_variant, valid, type_u32, type_byte, type_str, type_variant, type_array, type_entry, out_variant, number_keeps, byte_keeps, str_keeps, array_keeps, entry_keeps}
 
 -- ---- types: their role, how deep they nest, and how long their text is
 
-abbrev Facts : WireType → Role → ℕ → ℕ → ℕ → Type 0
+abbrev pub Facts : WireType → Role → ℕ → ℕ → ℕ → Type 0
 Facts t r a b n = (role t ≡ r) × (arrays_deep t ≡ a) × (brackets_deep t ≡ b) × (length (type_text t) ≡ n)
 
 array_facts : (t : WireType) (r : Role) (a b n : ℕ) → Facts t r a b n → Facts (W.Array t) (array_role r) (a + 1) b (n + 1)
@@ -147,14 +153,14 @@ each_listed d (document ∷ documents) h =
 -- ---- values of a body
 
 -- a value of a body with a text of its type this long
-abbrev Good : Value → ℕ → Type 0
+abbrev pub Good : Value → ℕ → Type 0
 Good v n = KeepsRules v × (length (type_text (type_of v)) ≡ n)
 
-good : (v : Value) (t : WireType) (r : Role) (a b n : ℕ) → type_of v ≡ t → Facts t r a b n → is_single r ≡ true → a ≤ 32 → b ≤ 32 → KeepsWithin 64 v → Good v n
+pub good : (v : Value) (t : WireType) (r : Role) (a b n : ℕ) → type_of v ≡ t → Facts t r a b n → is_single r ≡ true → a ≤ 32 → b ≤ 32 → KeepsWithin 64 v → Good v n
 good v t r a b n is f one small short keeps =
     ((subst IsValidType (sym is) (valid t r a b f.0 one f.1 f.2 small short), keeps), ap (λ (u : WireType). length (type_text u)) is ∙ f.3)
 
-good_str : (text : List ℕ) → IsText text → Good (V.Str text) 1
+pub good_str : (text : List ℕ) → IsText text → Good (V.Str text) 1
 good_str text h = good (V.Str text) W.Str Basic 0 0 1 (type_str text) str_facts refl (omega arith) (omega arith) (str_keeps 63 text h)
 
 good_number : (n : ℕ) → n < 2 ^ 32 → Good (V.U32 n) 1
@@ -166,10 +172,17 @@ good_texts ts h = good (texts_value ts) strings Single 1 0 2 (type_array W.Str (
 good_closed : (bs : List ℕ) → All IsByte bs → Good (closed_bytes bs) 2
 good_closed bs h = good (closed_bytes bs) bytes Single 1 0 2 (type_array W.Byte (map V.Byte (bs ++ 0 ∷ []))) bytes_facts refl (omega arith) (omega arith) (closed_keeps 62 bs h)
 
-good_rows : (rows : List Row) → All HasTexts rows → Good (rows_value rows) 6
+pub good_rows : (rows : List Row) → All HasTexts rows → Good (rows_value rows) 6
 good_rows rows h =
     good (rows_value rows) (W.Array row_type) Single 2 1 6 (type_array row_type (map row_value rows)) rows_facts refl (omega arith) (omega arith)
     (array_keeps 63 row_type (map row_value rows) (each_row 60 rows h))
+
+-- data as a variant
+pub good_variant : (datum : Value) → is_data datum ≡ true → Good (V.Variant datum) 1
+good_variant datum h =
+    let single : IsValidType W.Variant = valid W.Variant Single 0 0 role_variant refl arrays_variant brackets_variant (omega arith) (omega arith) in
+    let kept = spelled_keeps Little 0 W.Variant (V.Variant datum) (spelling Little 0 (V.Variant datum)) (data-spelled datum h).spelled single in
+    (kept.1, ap (λ (u : WireType). length (type_text u)) (type_variant datum) ∙ variant_facts.3)
 
 good_documents : (documents : List ListedDocument) → All HasBytes documents → Good (documents_value documents) 6
 good_documents documents h =
@@ -248,11 +261,13 @@ module _ (mountpoint : List ℕ) (path : All IsByte mountpoint) where
   good_identifiers M.GetAll ids h one = one_text ids h one
   good_identifiers M.Ping ids h one = one_text ids h one
 
-  pub told_body : (method : Method) (answer : Answer) → IsTold method answer → IsGoodBody (body_of method mountpoint answer)
-  told_body method (A.Place place) h = one_value (V.U32 place) 1 (omega arith) (good_number place h)
-  told_body method (A.Ids ids) h = good_identifiers method ids h.0 h.1
-  told_body method (A.Info path rights) h = two_values (closed_bytes path) (rows_value rights) 2 6 (omega arith) (good_closed path h.0) (good_rows rights h.1)
-  told_body method (A.Listed documents) h = one_value (documents_value documents) 6 (omega arith) (good_documents documents h)
-  told_body method A.Done h = no_values
-  told_body method (A.Refused code) h = no_values
-  told_body method (A.Node answer) h = no_values
+  pub told_body : (method : Method) (answer : Answer) → IsTold method answer → IsInUtf8 answer → IsGoodBody (body_of method mountpoint answer)
+  told_body method (A.Place place) h utf8 = one_value (V.U32 place) 1 (omega arith) (good_number place h)
+  told_body method (A.Ids ids) h utf8 = good_identifiers method ids h.0 h.1
+  told_body method (A.Entry rows datum) h utf8 = two_values (rows_value rows) (V.Variant datum) 6 1 (omega arith) (good_rows rows (stored_rows_texts rows h.0 utf8)) (good_variant datum h.1)
+  told_body method (A.Names names) h utf8 = one_value (texts_value names) 2 (omega arith) (good_texts names (stored_texts names h utf8))
+  told_body method (A.Info path rights) h utf8 = two_values (closed_bytes path) (rows_value rights) 2 6 (omega arith) (good_closed path h.0) (good_rows rights h.1)
+  told_body method (A.Listed documents) h utf8 = one_value (documents_value documents) 6 (omega arith) (good_documents documents h)
+  told_body method A.Done h utf8 = no_values
+  told_body method (A.Refused code) h utf8 = no_values
+  told_body method (A.Node answer) h utf8 = no_values

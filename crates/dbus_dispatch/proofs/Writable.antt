@@ -43,7 +43,7 @@ use Rattle.dbus_dispatch.specs.Properties.{texts, interface_or, value_named, val
 use Rattle.dbus_dispatch.specs.Arguments.{request_in}
 use Rattle.dbus_dispatch.specs.Asks.{is_call, answered, closed_bytes, asked_of_portal, asked, asked_or_refused, ask_of}
 use Rattle.dbus_dispatch.specs.Replies.{error_in, body_of, return_length, told, reply_by, reply_of}
-use Rattle.dbus_dispatch.specs.Writable.{CanBeAnswered, IsTold, IsToldTo, IsWritable}
+use Rattle.dbus_dispatch.specs.Writable.{CanBeAnswered, IsInUtf8, IsTold, IsToldTo, IsWritable}
 use Rattle.dbus_dispatch.proofs.Lengths.{Below, below_more, below_u32, below_str, below_signature, code_u32, code_str, code_signature, below_field, below_array, gap_small, total, each_length}
 use Rattle.dbus_dispatch.proofs.Bodies.{IsShortBody, none_short, variant_short, bytes_short, dictionary_short}
 use Rattle.dbus_dispatch.proofs.Told.{told_body}
@@ -201,14 +201,14 @@ module _ (mountpoint : List ℕ) (call : Message) (path : is_host_path mountpoin
   asked_can M.LookupDocument = portal_can (request_in call M.LookupDocument)
   asked_can M.Info = portal_can (request_in call M.Info)
   asked_can M.ListDocuments = portal_can (request_in call M.ListDocuments)
-  asked_can M.LookupEntry = tt
-  asked_can M.SetEntry = tt
-  asked_can M.DeleteEntry = tt
-  asked_can M.SetValue = tt
-  asked_can M.SetPermission = tt
-  asked_can M.DeletePermission = tt
-  asked_can M.GetPermission = tt
-  asked_can M.ListEntries = tt
+  asked_can M.LookupEntry = portal_can (request_in call M.LookupEntry)
+  asked_can M.SetEntry = portal_can (request_in call M.SetEntry)
+  asked_can M.DeleteEntry = portal_can (request_in call M.DeleteEntry)
+  asked_can M.SetValue = portal_can (request_in call M.SetValue)
+  asked_can M.SetPermission = portal_can (request_in call M.SetPermission)
+  asked_can M.DeletePermission = portal_can (request_in call M.DeletePermission)
+  asked_can M.GetPermission = portal_can (request_in call M.GetPermission)
+  asked_can M.ListEntries = portal_can (request_in call M.ListEntries)
   asked_can M.Present = portal_can (request_in call M.Present)
 
   call_can : (r : Result Method ErrorName) → CanBeAnswered (asked_or_refused mountpoint call r)
@@ -244,13 +244,15 @@ module _ (mountpoint : List ℕ) (call : Message) (path : is_host_path mountpoin
   told_can body good (Some e) = fails e
   told_can body good None = within_can body good (nat_le (return_length call body) message_limit) refl
 
-  by_method : (answer : Answer) (r : Result Method ErrorName) → ((method : Method) → r ≡ Ok method → IsTold method answer) → IsWritable (reply_by mountpoint call answer r)
-  by_method answer (Ok method) h = told_can (body_of method mountpoint answer) (told_body mountpoint mount_bytes method answer (h method refl)) (error_in answer)
-  by_method answer (Err e) h = fails e
+  by_method : (answer : Answer) (r : Result Method ErrorName) → ((method : Method) → r ≡ Ok method → IsTold method answer) → ((method : Method) → r ≡ Ok method → IsInUtf8 answer) → IsWritable (reply_by mountpoint call answer r)
+  by_method answer (Ok method) h utf8 =
+      told_can (body_of method mountpoint answer) (told_body mountpoint mount_bytes method answer (h method refl) (utf8 method refl)) (error_in answer)
+  by_method answer (Err e) h utf8 = fails e
 
-  pub reply_writes : {E : Type 0} (r : Result OutMessage E) (answer : Answer) → IfOk r (λ reply. reply ≡ reply_of mountpoint call answer) → IsToldTo call answer → IfOk r IsWritable
-  reply_writes (Ok reply) answer is h = subst IsWritable (sym is) (by_method answer (found call) h)
-  reply_writes (Err e) answer is h = tt
+  pub reply_writes : {E : Type 0} (r : Result OutMessage E) (answer : Answer) → IfOk r (λ reply. reply ≡ reply_of mountpoint call answer)
+      → ((method : Method) → found call ≡ Ok method → IfOk r (λ reply. IsInUtf8 answer)) → IsToldTo call answer → IfOk r IsWritable
+  reply_writes (Ok reply) answer is utf8 h = subst IsWritable (sym is) (by_method answer (found call) h utf8)
+  reply_writes (Err e) answer is utf8 h = tt
 
 -- what a message is answered can be written
 pub can_be_answered : (settings : Settings) (message : Message) → is_host_path settings.mountpoint ≡ true → message.serial < 2 ^ 32 → CanBeAnswered (ask_of settings message)

@@ -1,14 +1,18 @@
 -- The arguments of the calls that ask the portal, and the requests that these are (XDG Desktop
--- Portal documentation, "org.freedesktop.portal.Documents"; "local.docportal.Files1" is our own).
+-- Portal documentation, "org.freedesktop.portal.Documents" and
+-- "org.freedesktop.impl.portal.PermissionStore"; "local.docportal.Files1" is our own).
 -- Arguments of other types, which no call with its method's signature has, are none of a request.
 use Rattle.std.specs.Prelude.{ℕ, List, [], ◌∷◌, flat_map, Bool, true, false, Option, Some, None}
 use Rattle.std.specs.Option.{option_map, option_to_list}
 use Rattle.dbus_types.specs.declared.message.Message.{Message}
 use Rattle.dbus_types.specs.declared.types.Value.{Value, out-Value}
 use Rattle.dbus_types.specs.declared.types.Value.TheOpen.{Value-F}
+use Rattle.portal_model.specs.declared.records.Row.{Row}
 use Rattle.portal_model.specs.declared.request.AddRequest.{AddRequest}
 use Rattle.portal_model.specs.declared.request.Request.{Request}
 use Rattle.portal_model.specs.declared.request.RightsCall.{RightsCall}
+use Rattle.portal_model.specs.declared.store.StoreCall.{StoreCall}
+use Rattle.portal_model.specs.declared.store.StoreCall.TheVariants as Call
 use Rattle.dbus_dispatch.specs.declared.method.Method.{Method}
 use Rattle.dbus_dispatch.specs.declared.method.Method.TheVariants as M
 
@@ -40,6 +44,11 @@ abbrev pub items_of : Value-F Value → Option (List Value)
 items_of (Value-F.Array element items) = Some items
 items_of _ = None
 
+-- the value that stands in a variant
+abbrev pub inside_of : Value-F Value → Option Value
+inside_of (Value-F.Variant inside) = Some inside
+inside_of _ = None
+
 -- Of the items of an array those of one type; an array of that type has no others.
 
 abbrev pub bytes_in : List Value → List ℕ
@@ -50,6 +59,19 @@ handles_in items = flat_map (λ item. option_to_list (handle_of (out-Value item)
 
 abbrev pub texts_in : List Value → List (List ℕ)
 texts_in items = flat_map (λ item. option_to_list (text_of (out-Value item))) items
+
+abbrev pub row_named : Option (List ℕ) → Option (List Value) → Option Row
+row_named (Some app) (Some names) = Some (record { app = app; names = texts_in names })
+row_named _ _ = None
+
+-- an entry of `a{sas}`: the key of an application, and its permissions
+abbrev pub row_of : Value-F Value → Option Row
+row_of (Value-F.DictEntry key value) =
+    row_named (text_of (out-Value key)) (items_of (out-Value value))
+row_of _ = None
+
+abbrev pub rows_in : List Value → List Row
+rows_in items = flat_map (λ item. option_to_list (row_of (out-Value item))) items
 
 -- ---- calls with one argument
 
@@ -174,6 +196,97 @@ add_named_full_call fds (file ∷ name ∷ flags ∷ app ∷ names ∷ []) =
     (number_of (out-Value flags)) (text_of (out-Value app)) (items_of (out-Value names))
 add_named_full_call fds _ = None
 
+-- ---- Lookup, Set, Delete and List of the permission store
+
+abbrev pub lookup_of : Option (List ℕ) → Option (List ℕ) → Option StoreCall
+lookup_of (Some table) (Some id) = Some (Call.Lookup table id)
+lookup_of _ _ = None
+
+-- table (s), id (s)
+abbrev pub lookup_call : List Value → Option StoreCall
+lookup_call (table ∷ id ∷ []) = lookup_of (text_of (out-Value table)) (text_of (out-Value id))
+lookup_call _ = None
+
+abbrev pub set_of : Option (List ℕ) → Option Bool → Option (List ℕ) → Option (List Value)
+    → Option Value → Option StoreCall
+set_of (Some table) (Some create) (Some id) (Some rows) (Some datum) =
+    Some (Call.Set table create id (rows_in rows) datum)
+set_of _ _ _ _ _ = None
+
+-- table (s), create (b), id (s), app_permissions (a{sas}), data (v)
+abbrev pub set_call : List Value → Option StoreCall
+set_call (table ∷ create ∷ id ∷ rows ∷ datum ∷ []) =
+    set_of (text_of (out-Value table)) (flag_of (out-Value create)) (text_of (out-Value id))
+    (items_of (out-Value rows)) (inside_of (out-Value datum))
+set_call _ = None
+
+abbrev pub delete_of : Option (List ℕ) → Option (List ℕ) → Option StoreCall
+delete_of (Some table) (Some id) = Some (Call.Delete table id)
+delete_of _ _ = None
+
+-- table (s), id (s)
+abbrev pub delete_call : List Value → Option StoreCall
+delete_call (table ∷ id ∷ []) = delete_of (text_of (out-Value table)) (text_of (out-Value id))
+delete_call _ = None
+
+-- table (s)
+abbrev pub list_call : List Value → Option StoreCall
+list_call arguments = option_map Call.List (text_alone arguments)
+
+-- ---- SetValue
+
+abbrev pub set_value_of :
+    Option (List ℕ) → Option Bool → Option (List ℕ) → Option Value → Option StoreCall
+set_value_of (Some table) (Some create) (Some id) (Some datum) =
+    Some (Call.SetValue table create id datum)
+set_value_of _ _ _ _ = None
+
+-- table (s), create (b), id (s), data (v)
+abbrev pub set_value_call : List Value → Option StoreCall
+set_value_call (table ∷ create ∷ id ∷ datum ∷ []) =
+    set_value_of (text_of (out-Value table)) (flag_of (out-Value create)) (text_of (out-Value id))
+    (inside_of (out-Value datum))
+set_value_call _ = None
+
+-- ---- SetPermission, DeletePermission and GetPermission
+
+abbrev pub set_permission_of : Option (List ℕ) → Option Bool → Option (List ℕ) → Option (List ℕ)
+    → Option (List Value) → Option StoreCall
+set_permission_of (Some table) (Some create) (Some id) (Some app) (Some names) =
+    Some (Call.SetPermission table create id app (texts_in names))
+set_permission_of _ _ _ _ _ = None
+
+-- table (s), create (b), id (s), app (s), permissions (as)
+abbrev pub set_permission_call : List Value → Option StoreCall
+set_permission_call (table ∷ create ∷ id ∷ app ∷ names ∷ []) =
+    set_permission_of (text_of (out-Value table)) (flag_of (out-Value create))
+    (text_of (out-Value id)) (text_of (out-Value app)) (items_of (out-Value names))
+set_permission_call _ = None
+
+abbrev pub delete_permission_of :
+    Option (List ℕ) → Option (List ℕ) → Option (List ℕ) → Option StoreCall
+delete_permission_of (Some table) (Some id) (Some app) = Some (Call.DeletePermission table id app)
+delete_permission_of _ _ _ = None
+
+-- table (s), id (s), app (s)
+abbrev pub delete_permission_call : List Value → Option StoreCall
+delete_permission_call (table ∷ id ∷ app ∷ []) =
+    delete_permission_of (text_of (out-Value table)) (text_of (out-Value id))
+    (text_of (out-Value app))
+delete_permission_call _ = None
+
+abbrev pub get_permission_of :
+    Option (List ℕ) → Option (List ℕ) → Option (List ℕ) → Option StoreCall
+get_permission_of (Some table) (Some id) (Some app) = Some (Call.GetPermission table id app)
+get_permission_of _ _ _ = None
+
+-- table (s), id (s), app (s)
+abbrev pub get_permission_call : List Value → Option StoreCall
+get_permission_call (table ∷ id ∷ app ∷ []) =
+    get_permission_of (text_of (out-Value table)) (text_of (out-Value id))
+    (text_of (out-Value app))
+get_permission_call _ = None
+
 -- ---- requests
 
 -- what a call of a method asks the portal, by its arguments and, of an addition, by how many files
@@ -192,4 +305,12 @@ request_in call M.LookupDocument =
     option_map (λ path. Request.LookupDocument (bytes_in path)) (items_alone call.body)
 request_in call M.Info = option_map Request.Info (text_alone call.body)
 request_in call M.ListDocuments = option_map Request.ListDocuments (text_alone call.body)
+request_in call M.LookupEntry = option_map Request.Store (lookup_call call.body)
+request_in call M.SetEntry = option_map Request.Store (set_call call.body)
+request_in call M.DeleteEntry = option_map Request.Store (delete_call call.body)
+request_in call M.SetValue = option_map Request.Store (set_value_call call.body)
+request_in call M.SetPermission = option_map Request.Store (set_permission_call call.body)
+request_in call M.DeletePermission = option_map Request.Store (delete_permission_call call.body)
+request_in call M.GetPermission = option_map Request.Store (get_permission_call call.body)
+request_in call M.ListEntries = option_map Request.Store (list_call call.body)
 request_in call _ = None

@@ -12,7 +12,7 @@ use Rattle.portal_model.specs.declared.request.Request.{Request}
 use Rattle.dbus_dispatch.specs.declared.method.Method.{Method}
 use Rattle.dbus_dispatch.specs.declared.method.Method.TheVariants as M
 use Rattle.dbus_dispatch.specs.declared.ask.Ask.{Ask}
-use Rattle.dbus_dispatch.specs.declared.ask.Ask.TheVariants.{Local, Ignore, Portal, Unbuilt}
+use Rattle.dbus_dispatch.specs.declared.ask.Ask.TheVariants.{Local, Ignore, Portal}
 use Rattle.dbus_dispatch.specs.declared.error_name.ErrorName.{ErrorName}
 use Rattle.dbus_dispatch.specs.declared.error_name.ErrorName.TheVariants.{InvalidArgs}
 use Rattle.dbus_dispatch.specs.Tables.{properties_of}
@@ -56,14 +56,6 @@ asked mountpoint call M.GetAll =
     Local (answered call (λ interface. dictionary (properties_of interface))
     (interface_in (object_of call) (texts call.body)))
 asked mountpoint call M.GetMountPoint = Local (returned call (closed_bytes mountpoint ∷ []))
-asked mountpoint call M.LookupEntry = Unbuilt
-asked mountpoint call M.SetEntry = Unbuilt
-asked mountpoint call M.DeleteEntry = Unbuilt
-asked mountpoint call M.SetValue = Unbuilt
-asked mountpoint call M.SetPermission = Unbuilt
-asked mountpoint call M.DeletePermission = Unbuilt
-asked mountpoint call M.GetPermission = Unbuilt
-asked mountpoint call M.ListEntries = Unbuilt
 asked mountpoint call method = asked_of_portal call (request_in call method)
 
 -- what a call asks: its method's answer, or the first refusal

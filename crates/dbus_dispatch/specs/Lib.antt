@@ -6,4 +6,5 @@ pub mod Arguments
 pub mod Properties
 pub mod Asks
 pub mod Replies
+pub mod Signals
 pub mod Writable

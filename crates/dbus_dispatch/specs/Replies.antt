@@ -1,6 +1,6 @@
 -- What the portal's answers are on a bus (XDG Desktop Portal documentation,
--- "org.freedesktop.portal.Documents": what each call returns; D-Bus Specification, "Message
--- Protocol").
+-- "org.freedesktop.portal.Documents" and "org.freedesktop.impl.portal.PermissionStore": what each
+-- call returns; D-Bus Specification, "Message Protocol").
 use Rattle.std.specs.Prelude.{ℕ, nat_le, List, [], ◌∷◌, ◌++◌, length, map, codes, if◌then◌else◌, Option, Some, None, Result, Ok, Err}
 use Rattle.portal_base.specs.Names.{doc_text}
 use Rattle.dbus_types.specs.declared.types.WireType.TheVariants as W
@@ -76,6 +76,8 @@ body_of method mountpoint (A.Place place) = V.U32 place ∷ []
 body_of method mountpoint (A.Ids ids) = identifiers method mountpoint ids
 body_of method mountpoint (A.Info path rights) = closed_bytes path ∷ rows_value rights ∷ []
 body_of method mountpoint (A.Listed documents) = documents_value documents ∷ []
+body_of method mountpoint (A.Entry rows datum) = rows_value rows ∷ V.Variant datum ∷ []
+body_of method mountpoint (A.Names names) = texts_value names ∷ []
 body_of method mountpoint _ = []
 
 -- ---- replies

@@ -97,6 +97,17 @@ row M.Get = call (codes "Get") (codes "ss")
 row M.GetAll = call (codes "GetAll") (codes "s")
 row M.Ping = call (codes "Ping") []
 
+-- ## Signals
+
+-- the name of a signal, and the signature of what it carries
+pub record SignalRow : Type 0 where
+  pub member : List ℕ
+  pub carries : List ℕ
+
+-- the one signal of PermissionStore
+abbrev pub changed : SignalRow
+changed = record { member = codes "Changed"; carries = codes "ssbva{sas}" }
+
 -- no text stands twice in a list
 abbrev pub are_apart : List (List ℕ) → Bool
 are_apart [] = true

@@ -5,12 +5,13 @@
 ghost use Rattle.std.specs.Prelude.{◌≡◌, IfOk};
 ghost use Rattle.std.specs.Option.{option_copied};
 ghost use Rattle.dbus_types.specs.declared.types.Value.{out-Value};
-ghost use Rattle.dbus_dispatch.specs.Arguments.{text_of, flag_of, number_of, handle_of, byte_of, items_of, bytes_in, handles_in, texts_in, text_alone, items_alone};
+ghost use Rattle.dbus_dispatch.specs.Arguments.{text_of, flag_of, number_of, handle_of, byte_of, items_of, inside_of, row_of, bytes_in, handles_in, texts_in, rows_in, text_alone, items_alone};
 
 use dbus_types::types::Value;
 use portal_base::list::{ByteList, List};
 use portal_base::memory::{Replica, WantOfMemory};
 use portal_base::text::Text;
+use portal_model::records::Row;
 use std::alloc::Global;
 
 /// The text that a value is.
@@ -72,6 +73,16 @@ pub(crate) fn items_of(value: &Value) -> Option<&List<Value>>
     }
 }
 
+/// The value that stands in the variant that a value is.
+pub(crate) fn inside_of(value: &Value) -> Option<&Value>
+    ensures { option_copied result ≡ inside_of (out-Value value.now) }
+{
+    match value {
+        Value::Variant(inside) => Some(inside.get()),
+        _ => None,
+    }
+}
+
 /// The bytes among the items of an array.
 pub(crate) fn bytes_in(alloc: Global, items: &[Value]) -> Result<ByteList, WantOfMemory>
     ensures { IfOk result (λ bytes. bytes ≡ bytes_in items.now) }
@@ -109,6 +120,35 @@ pub(crate) fn texts_in(alloc: Global, items: &[Value]) -> Result<List<Text>, Wan
         }
     }
     Ok(texts)
+}
+
+/// The row that an entry of `a{sas}` is.
+fn row_of(alloc: Global, entry: &Value) -> Result<Option<Row>, WantOfMemory>
+    ensures { IfOk result (λ row. row ≡ row_of (out-Value entry.now)) }
+{
+    let Value::DictEntry { key, value } = entry else {
+        return Ok(None);
+    };
+    match (text_of(key.get()), items_of(value.get())) {
+        (Some(app), Some(names)) => Ok(Some(Row {
+            app: app.replica(alloc)?,
+            names: texts_in(alloc, names.as_slice())?,
+        })),
+        _ => Ok(None),
+    }
+}
+
+/// The rows among the items of an array.
+pub(crate) fn rows_in(alloc: Global, items: &[Value]) -> Result<List<Row>, WantOfMemory>
+    ensures { IfOk result (λ rows. rows ≡ rows_in items.now) }
+{
+    let mut rows = List::new(alloc);
+    for item in items {
+        if let Some(row) = row_of(alloc, item)? {
+            rows.push(row)?;
+        }
+    }
+    Ok(rows)
 }
 
 /// The text that is the only argument.

@@ -31,8 +31,6 @@ pub enum Ask {
     Ignore,
     /// This request to the portal.
     Portal(Request),
-    /// A call of the permission store, which isn't built yet.
-    Unbuilt,
 }
 
 /// Says whether a message is a call that expects a reply, be it a return or an
@@ -94,14 +92,6 @@ fn asked(
             let path = closed_bytes(alloc, mountpoint)?;
             returned(call, only(alloc, path)?)
         }
-        Method::LookupEntry
-        | Method::SetEntry
-        | Method::DeleteEntry
-        | Method::SetValue
-        | Method::SetPermission
-        | Method::DeletePermission
-        | Method::GetPermission
-        | Method::ListEntries => return Ok(Ask::Unbuilt),
         _ => return asked_of_portal(alloc, call, method),
     };
     Ok(Ask::Local(answer))

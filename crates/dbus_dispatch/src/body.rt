@@ -1,13 +1,16 @@
 //! The values that calls return.
 //!
 //! Source: XDG Desktop Portal documentation,
-//! "org.freedesktop.portal.Documents".
+//! "org.freedesktop.portal.Documents" and
+//! "org.freedesktop.impl.portal.PermissionStore".
 
-ghost use Rattle.std.specs.Prelude.{◌≡◌, [], ◌∷◌, ◌++◌, IfOk};
+ghost use Rattle.std.specs.Prelude.{◌≡◌, [], ◌∷◌, ◌++◌, IfOk, IsUtf8, All};
+ghost use Rattle.dbus_types.specs.declared.types.Value.TheVariants as V;
 ghost use Rattle.portal_model.specs.Changed.{rows_value as value_of_rows, row_value as value_of_row, texts_value as value_of_texts};
 ghost use Rattle.portal_base.specs.Names.{doc_text};
 ghost use Rattle.dbus_dispatch.specs.Asks.{closed_bytes};
 ghost use Rattle.dbus_dispatch.specs.Replies.{extra, listed_value, documents_value, each_text, identifiers, body_of};
+ghost use Rattle.dbus_dispatch.specs.Writable.{IsInUtf8, IsRowInUtf8};
 
 use crate::method::Method;
 use dbus_types::shared::Shared;
@@ -16,6 +19,7 @@ use portal_base::boxed::Boxed;
 use portal_base::list::List;
 use portal_base::memory::{Replica, WantOfMemory};
 use portal_base::text::Text;
+use portal_model::datum::Datum;
 use portal_model::records::Row;
 use portal_model::reply::{Answer, ListedDocument};
 use std::alloc::Global;
@@ -28,7 +32,8 @@ pub(crate) fn body_of(
     mountpoint: &[u8],
     answer: &Answer,
 ) -> Result<List<Value>, WantOfMemory>
-    ensures { IfOk result (λ body. body ≡ body_of method mountpoint.now answer.now) }
+    ensures told { IfOk result (λ body. body ≡ body_of method mountpoint.now answer.now) }
+    ensures utf8 { IfOk result (λ body. IsInUtf8 answer.now) }
 {
     match answer {
         Answer::Place(place) => only(alloc, Value::U32(*place)),
@@ -39,6 +44,8 @@ pub(crate) fn body_of(
             rows_value(alloc, rights.as_slice())?,
         ),
         Answer::Listed(documents) => { only(alloc, documents_value(alloc, documents.as_slice())?) }
+        Answer::Entry { rows, datum } => entry(alloc, rows.as_slice(), datum),
+        Answer::Names(names) => only(alloc, texts_value(alloc, names.as_slice())?),
         Answer::Done | Answer::Refused(_) | Answer::Node(_) => Ok(List::new(alloc)),
     }
 }
@@ -57,6 +64,17 @@ fn identifiers(
         Method::AddNamedFull => with_extra(each_text(alloc, ids)?, extra(alloc, mountpoint)?),
         _ => each_text(alloc, ids),
     }
+}
+
+/// The rows and the data of an entry.
+fn entry(alloc: Global, rows: &[Row], datum: &Datum) -> Result<List<Value>, WantOfMemory>
+    ensures told { IfOk result (λ body. body ≡ value_of_rows rows.now
+        ∷ V.Variant datum.now ∷ []) }
+    ensures utf8 { IfOk result (λ body. All IsRowInUtf8 rows.now) }
+{
+    let first = rows_value(alloc, rows)?;
+    let inside = datum.replica(alloc)?.into_value();
+    pair(alloc, first, Value::Variant(Boxed::new(alloc, inside)?))
 }
 
 /// Values with one more behind them.
@@ -101,20 +119,31 @@ pub(crate) fn closed_bytes(alloc: Global, bytes: &[u8]) -> Result<Value, WantOfM
     })
 }
 
+/// A text as a value.
+pub(crate) fn text_value(alloc: Global, text: &Text) -> Result<Value, WantOfMemory>
+    ensures told { IfOk result (λ value. value ≡ V.Str text.now) }
+    ensures utf8 { IfOk result (λ value. IsUtf8 text.now) }
+{
+    let characters = text.as_str();
+    Ok(Value::Str(Text::copied(alloc, characters)?))
+}
+
 /// Texts, each as a value.
 fn each_text(alloc: Global, texts: &[Text]) -> Result<List<Value>, WantOfMemory>
-    ensures { IfOk result (λ values. values ≡ each_text texts.now) }
+    ensures told { IfOk result (λ values. values ≡ each_text texts.now) }
+    ensures utf8 { IfOk result (λ values. All IsUtf8 texts.now) }
 {
     let mut values = List::new(alloc);
     for text in texts {
-        values.push(Value::Str(text.replica(alloc)?))?;
+        values.push(text_value(alloc, text)?)?;
     }
     Ok(values)
 }
 
 /// Texts as `as`.
 fn texts_value(alloc: Global, texts: &[Text]) -> Result<Value, WantOfMemory>
-    ensures { IfOk result (λ value. value ≡ value_of_texts texts.now) }
+    ensures told { IfOk result (λ value. value ≡ value_of_texts texts.now) }
+    ensures utf8 { IfOk result (λ value. All IsUtf8 texts.now) }
 {
     Ok(Value::Array {
         element: Shared::new(alloc, WireType::Str)?,
@@ -143,8 +172,9 @@ fn extra(alloc: Global, mountpoint: &[u8]) -> Result<Value, WantOfMemory>
 }
 
 /// Rows as `a{sas}`.
-fn rows_value(alloc: Global, rows: &[Row]) -> Result<Value, WantOfMemory>
-    ensures { IfOk result (λ value. value ≡ value_of_rows rows.now) }
+pub(crate) fn rows_value(alloc: Global, rows: &[Row]) -> Result<Value, WantOfMemory>
+    ensures told { IfOk result (λ value. value ≡ value_of_rows rows.now) }
+    ensures utf8 { IfOk result (λ value. All IsRowInUtf8 rows.now) }
 {
     let mut items = List::new(alloc);
     for row in rows {
@@ -162,9 +192,10 @@ fn rows_value(alloc: Global, rows: &[Row]) -> Result<Value, WantOfMemory>
 }
 
 fn row_value(alloc: Global, row: &Row) -> Result<Value, WantOfMemory>
-    ensures { IfOk result (λ value. value ≡ value_of_row row.now) }
+    ensures told { IfOk result (λ value. value ≡ value_of_row row.now) }
+    ensures utf8 { IfOk result (λ value. IsRowInUtf8 row.now) }
 {
-    let key = Value::Str(row.app.replica(alloc)?);
+    let key = text_value(alloc, &row.app)?;
     let value = texts_value(alloc, row.names.as_slice())?;
     Ok(Value::DictEntry {
         key: Boxed::new(alloc, key)?,

@@ -8,7 +8,11 @@ ghost use Rattle.portal_base.specs.Names.{is_host_path};
 ghost use Rattle.dbus_types.specs.declared.message.Message.{Message as AMessage};
 ghost use Rattle.dbus_dispatch.specs.Asks.{ask_of};
 ghost use Rattle.dbus_dispatch.specs.Writable.{CanBeAnswered};
-ghost use Rattle.dbus_dispatch.specs.Tables.{objects, path_of, interfaces_of, interface_name, methods_of, row, are_apart};
+ghost use Rattle.portal_model.specs.declared.reply.Change.{Change as AChange};
+ghost use Rattle.dbus_types.specs.Types.{types_text};
+ghost use Rattle.dbus_types.specs.Values.{type_of};
+ghost use Rattle.dbus_dispatch.specs.Signals.{changed_body};
+ghost use Rattle.dbus_dispatch.specs.Tables.{changed, objects, path_of, interfaces_of, interface_name, methods_of, row, are_apart};
 
 /// The objects have different paths, the interfaces of an object different
 /// names, and so have all the methods of these: a member stands in one of an
@@ -29,4 +33,10 @@ pub fn answers_can_be_written()
     ensures { (settings : TheSettings) (message : AMessage)
         → is_host_path settings.mountpoint ≡ true → message.serial < 2 ^ 32
         → CanBeAnswered (ask_of settings message) }
+{}
+
+/// What the signal Changed carries has the signature that the table gives.
+pub fn signals_have_their_signatures()
+    ensures { (change : AChange)
+        → types_text (map type_of (changed_body change)) ≡ changed.carries }
 {}

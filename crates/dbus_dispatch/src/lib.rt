@@ -9,8 +9,9 @@
 //! | `ask` | [`ask::request_of`]: what a message asks |
 //! | `object`, `interface`, `method` | the tables |
 //! | `call`, `signature` | the method that a call names, or its error |
-//! | `arguments`, `request` | what the arguments of a call ask the portal |
+//! | `arguments`, `request`, `store_request` | what the arguments of a call ask the portal |
 //! | `reply`, `body` | [`reply::reply_message`]: what an answer of the portal is told as |
+//! | `signal` | [`signal::signal_message`]: what a host is told of a change |
 //! | `properties`, `refused`, `error_name` | answers that need no portal |
 //! | `laws` | laws of these answers |
 //!
@@ -18,19 +19,19 @@
 //! match request_of(alloc, &message, &settings)? {
 //!     Ask::Local(answer) => ..,               // Ping, Properties, an error
 //!     Ask::Ignore => ..,                      // no call
-//!     Ask::Portal(request) => ..,             // a call on documents
-//!     Ask::Unbuilt => ..,                     // a call of the permission store
+//!     Ask::Portal(request) => ..,             // a call that asks the portal
 //! }
 //! ```
 //!
 //! `docs/calls.md` has the objects, their interfaces and calls, and the names
-//! of errors.
+//! of errors; `docs/permission-store.md` has the calls of the permission store.
 #![tactic(auto)]
 
 mod arguments;
 pub mod ask;
 mod body;
 pub mod call;
+mod copies;
 pub mod error_name;
 pub mod interface;
 pub mod laws;
@@ -40,4 +41,6 @@ pub mod properties;
 pub mod refused;
 pub mod reply;
 mod request;
+pub mod signal;
 mod signature;
+mod store_request;

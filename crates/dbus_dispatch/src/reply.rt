@@ -10,7 +10,9 @@ ghost use Rattle.dbus_types.specs.Values.{type_of};
 ghost use Rattle.dbus_types.specs.Spells.{gap};
 ghost use Rattle.portal_model.specs.Changed.{message_limit};
 ghost use Rattle.dbus_dispatch.specs.Replies.{error_of, error_in, return_or_limit, return_length, reply_of};
-ghost use Rattle.dbus_dispatch.specs.Writable.{IsToldTo, IsWritable};
+ghost use Rattle.dbus_dispatch.specs.declared.method.Method.{Method as AMethod};
+ghost use Rattle.dbus_dispatch.specs.Calls.{found};
+ghost use Rattle.dbus_dispatch.specs.Writable.{IsInUtf8, IsToldTo, IsWritable};
 
 use crate::ask::{fits, returned};
 use crate::body::body_of;
@@ -61,7 +63,10 @@ fn reply_of(
     call: &Message,
     mountpoint: &[u8],
 ) -> Result<OutMessage, WantOfMemory>
-    ensures { IfOk result (λ reply. reply ≡ reply_of mountpoint.now call.now answer.now) }
+    ensures told { IfOk result (λ reply. reply
+        ≡ reply_of mountpoint.now call.now answer.now) }
+    ensures utf8 { (method : AMethod) → found call.now ≡ Ok method
+        → IfOk result (λ reply. IsInUtf8 answer.now) }
 {
     let method = match found(call) {
         Ok(method) => method,

@@ -1,7 +1,8 @@
 //! The requests to the portal that calls are.
 //!
 //! Source: XDG Desktop Portal documentation,
-//! "org.freedesktop.portal.Documents".
+//! "org.freedesktop.portal.Documents" and
+//! "org.freedesktop.impl.portal.PermissionStore".
 
 ghost use Rattle.std.specs.Prelude.{◌≡◌, [], ◌∷◌, IfOk};
 ghost use Rattle.std.specs.Option.{option_map};
@@ -13,6 +14,10 @@ use crate::arguments::{
     text_of, texts_in,
 };
 use crate::method::Method;
+use crate::store_request::{
+    delete_entry, delete_permission, get_permission, list_entries, lookup_entry, set_entry,
+    set_permission, set_value,
+};
 use dbus_types::message::Message;
 use dbus_types::types::Value;
 use portal_base::list::{ByteList, List};
@@ -43,7 +48,15 @@ pub(crate) fn request_in(
         Method::LookupDocument => lookup(alloc, arguments),
         Method::Info => info(alloc, arguments),
         Method::ListDocuments => list(alloc, arguments),
-        _ => Ok(None),
+        Method::LookupEntry => lookup_entry(alloc, arguments),
+        Method::SetEntry => set_entry(alloc, arguments),
+        Method::DeleteEntry => delete_entry(alloc, arguments),
+        Method::SetValue => set_value(alloc, arguments),
+        Method::SetPermission => set_permission(alloc, arguments),
+        Method::DeletePermission => delete_permission(alloc, arguments),
+        Method::GetPermission => get_permission(alloc, arguments),
+        Method::ListEntries => list_entries(alloc, arguments),
+        Method::GetMountPoint | Method::Get | Method::GetAll | Method::Ping => Ok(None),
     }
 }
 

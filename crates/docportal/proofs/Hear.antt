@@ -27,7 +27,7 @@ use Rattle.docportal.specs.declared.seats.Heard.{Heard}
 use Rattle.docportal.specs.Entries.{made_of}
 use Rattle.docportal.specs.Lines.{DataIsUnbuilt, IsUnbuiltStop}
 use Rattle.docportal.specs.Scenes.{ScriptPortal, outside_at}
-use Rattle.docportal.specs.Seats.{Alone, HeardAs, HearsAt, HearsNot, IsMet, WantsMemory, is_last, known_at, sunk}
+use Rattle.docportal.specs.Seats.{Alone, HeardAs, HearsAt, HearsNot, IsMet, WantsMemory, known_at, sunk}
 use Rattle.docportal.proofs.MadeAlone.{asked_alone}
 
 some_is : (x y : List (List ℕ)) → Some x ≡ Some y → x ≡ y
@@ -102,7 +102,6 @@ module _ (p q : ScriptPortal) (seat count : ℕ) (at now : Standing) (bytes : Li
   over_met : (s : Served) → at.before + length at.rest + length bytes ≤ longest → FeedsOver at (sunk (known_at p seat 0) sink) bytes s now (sunk (known_at q seat count) sink') → IsMet s
   over_met (served.Malformed place rule) space h = tt
   over_met (served.LineTooLong place) space h = tt
-  over_met (served.Unbuilt place) space h = tt
   over_met served.Spent space h = let far = h.0 in absurd (omega arith)
   over_met served.Ended space h = absurd h
   over_met (served.Cut n) space h = absurd h
@@ -114,43 +113,22 @@ module _ (p q : ScriptPortal) (seat count : ℕ) (at now : Standing) (bytes : Li
   pub met : at.fed ≡ fed.More → (s : Served) → at.before + length at.rest + length bytes ≤ longest → Fed_so (fed.Over s) → IsMet s
   met goes s space f = over_met s space (open_so (fed.Over s) goes f).0
 
-  over_heard : (s : Served) → is_last s ≡ true → FeedsOpen at (sunk (known_at p seat 0) sink) bytes (fed.Over s) now (sunk (known_at q seat count) sink') → HeardAs true p q seat at bytes sink'.pieces now
-  over_heard (served.Malformed place rule) last h = (stop.Bad rule, tt, takes_hears (stop.Bad rule) h.0.0 (h.1.0 ∙ ap (λ (n : ℕ). fed.Over (served.Malformed n rule)) h.0.1))
-  over_heard (served.LineTooLong place) last h = (stop.TooLong, tt, takes_hears stop.TooLong h.0.0 (h.1.0 ∙ ap (λ (n : ℕ). fed.Over (served.LineTooLong n)) h.0.1))
-  over_heard (served.Unbuilt place) last h = absurd (cc)
-  over_heard served.Spent last h = absurd (cc)
-  over_heard served.Ended last h = absurd (cc)
-  over_heard (served.Cut n) last h = absurd (cc)
-  over_heard served.ReadFault last h = absurd (cc)
-  over_heard served.WriteFault last h = absurd (cc)
-  over_heard (served.Full cost limit) last h = absurd (cc)
-  over_heard served.Memory last h = absurd (cc)
+  over_heard : (s : Served) → IsMet s → FeedsOpen at (sunk (known_at p seat 0) sink) bytes (fed.Over s) now (sunk (known_at q seat count) sink') → HeardAs true p q seat at bytes sink'.pieces now
+  over_heard (served.Malformed place rule) is h = (stop.Bad rule, tt, takes_hears (stop.Bad rule) h.0.0 (h.1.0 ∙ ap (λ (n : ℕ). fed.Over (served.Malformed n rule)) h.0.1))
+  over_heard (served.LineTooLong place) is h = (stop.TooLong, tt, takes_hears stop.TooLong h.0.0 (h.1.0 ∙ ap (λ (n : ℕ). fed.Over (served.LineTooLong n)) h.0.1))
+  over_heard served.Spent is h = absurd is
+  over_heard served.Ended is h = absurd is
+  over_heard (served.Cut n) is h = absurd is
+  over_heard served.ReadFault is h = absurd is
+  over_heard served.WriteFault is h = absurd is
+  over_heard (served.Full cost limit) is h = absurd is
+  over_heard served.Memory is h = absurd is
 
-  over_unheard : (s : Served) → IsMet s → is_last s ≡ false → FeedsOpen at (sunk (known_at p seat 0) sink) bytes (fed.Over s) now (sunk (known_at q seat count) sink') → DataIsUnbuilt bytes (Some at)
-  over_unheard (served.Malformed place rule) is last h = absurd (cc)
-  over_unheard (served.LineTooLong place) is last h = absurd (cc)
-  over_unheard (served.Unbuilt place) is last h = takes_unbuilt stop.Unbuilt h.0.0 tt
-  over_unheard served.Spent is last h = absurd is
-  over_unheard served.Ended is last h = absurd is
-  over_unheard (served.Cut n) is last h = absurd is
-  over_unheard served.ReadFault is last h = absurd is
-  over_unheard served.WriteFault is last h = absurd is
-  over_unheard (served.Full cost limit) is last h = absurd is
-  over_unheard served.Memory is last h = absurd is
-
-  pub heard_last : at.fed ≡ fed.More → (s : Served) → Fed_so (fed.Over s) → (r : Result Heard LineError) → IfOk r (λ (heard : Heard). (heard.written ≡ sink') × (heard.is_over ≡ true) × (is_last s ≡ true))
-      → IfOk r (λ (heard : Heard). HeardAs heard.is_over p q seat at bytes heard.written.pieces now)
-  heard_last goes s f (Ok heard) h =
-      let all = over_heard s h.2 (open_so (fed.Over s) goes f) in
-      subst (λ (b : Bool). HeardAs b p q seat at bytes heard.written.pieces now) (sym h.1) (subst (λ (z : SinkState). HeardAs true p q seat at bytes z.pieces now) (sym h.0) all)
-  heard_last goes s f (Err e) h = tt
-
-  pub unheard_last : at.fed ≡ fed.More → (s : Served) → at.before + length at.rest + length bytes ≤ longest → Fed_so (fed.Over s) → (r : Result Heard LineError) → IfErr r (λ (e : LineError). (e ≡ not_run.Unbuilt) × (is_last s ≡ false))
-      → IfErr r (HearsNot p q seat at bytes now)
-  unheard_last goes s space f (Ok heard) h = tt
-  unheard_last goes s space f (Err e) h =
+  pub heard_last : at.fed ≡ fed.More → (s : Served) → at.before + length at.rest + length bytes ≤ longest → Fed_so (fed.Over s) → (heard : Heard) → heard.written ≡ sink' → heard.is_over ≡ true → HeardAs heard.is_over p q seat at bytes heard.written.pieces now
+  heard_last goes s space f heard written over =
       let g = open_so (fed.Over s) goes f in
-      subst (HearsNot p q seat at bytes now) (sym h.0) (over_unheard s (over_met s space g.0) h.1 g)
+      let all = over_heard s (over_met s space g.0) g in
+      subst (λ (b : Bool). HeardAs b p q seat at bytes heard.written.pieces now) (sym over) (subst (λ (z : SinkState). HeardAs true p q seat at bytes z.pieces now) (sym written) all)
 
 -- ---- there was no memory
 

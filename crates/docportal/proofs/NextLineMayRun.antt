@@ -144,7 +144,6 @@ goes_agree : (what : Stop) (a b : Scene) (seat : ℕ) (at now : Standing) (bytes
 goes_agree stop.More a b seat at now bytes rs ps es out agrees e x h = goes_on_agree a b seat at now bytes stop.More rs ps es out agrees e x refl h.0 h.1
 goes_agree (stop.Bad rule) a b seat at now bytes rs ps es out agrees e x h = ends_agree a b seat at now bytes (stop.Bad rule) rs ps es out agrees e x _ h
 goes_agree stop.TooLong a b seat at now bytes rs ps es out agrees e x h = ends_agree a b seat at now bytes stop.TooLong rs ps es out agrees e x _ h
-goes_agree stop.Unbuilt a b seat at now bytes rs ps es out agrees e x h = absurd h
 
 data_agrees : (o : Option Standing) (a b : Scene) (seat : ℕ) (bytes : List ℕ) (es : List Entry) (out : List (List ℕ)) → Agrees a → a.sessions seat ≡ o → DataDoes a seat bytes o es out b → Agrees b
 data_agrees None a b seat bytes es out agrees e h = passes_agree a b es out agrees h
@@ -197,7 +196,6 @@ goes_cost : (what : Stop) (a b : Scene) (seat : ℕ) (rs : List Request) (ps : L
 goes_cost stop.More a b seat rs ps now es out h = comes_cost a b seat rs _ _ es out h.1
 goes_cost (stop.Bad rule) a b seat rs ps now es out h = comes_cost a b seat (rs ++ Request.Leave ∷ []) _ _ es out h ∙ leaves_cost rs
 goes_cost stop.TooLong a b seat rs ps now es out h = comes_cost a b seat (rs ++ Request.Leave ∷ []) _ _ es out h ∙ leaves_cost rs
-goes_cost stop.Unbuilt a b seat rs ps now es out h = absurd h
 
 maybe_idle : (o : Option Standing) (x : Standing) → o ≡ Some x → IfSome o IsIdle → IsIdle x
 maybe_idle o x e h = subst (λ (z : Option Standing). IfSome z IsIdle) e h
@@ -259,7 +257,6 @@ goes_room : (what : Stop) (a b : Scene) (seat : ℕ) (rs : List Request) (ps : L
 goes_room stop.More a b seat rs ps now es out less more le room here h = comes_room a b seat rs _ (Some now) es out less more le room here h.1
 goes_room (stop.Bad rule) a b seat rs ps now es out less more le room here h = comes_room a b seat (rs ++ Request.Leave ∷ []) _ None es out less more le room tt h
 goes_room stop.TooLong a b seat rs ps now es out less more le room here h = comes_room a b seat (rs ++ Request.Leave ∷ []) _ None es out less more le room tt h
-goes_room stop.Unbuilt a b seat rs ps now es out less more le room here h = absurd h
 
 data_room : (o : Option Standing) (a b : Scene) (seat : ℕ) (bytes : List ℕ) (es : List Entry) (out : List (List ℕ)) (less : ℕ) → Agrees a → a.sessions seat ≡ o
     → HaveRoom a (length (line_text (Data seat bytes)) + 1 + less) → DataDoes a seat bytes o es out b → HaveRoom b less
@@ -331,7 +328,6 @@ goes_closed : (what : Stop) (a b : Scene) (seat : ℕ) (rs : List Request) (ps :
 goes_closed stop.More a b seat rs ps now es out lines line closed here h = comes_closed a b seat rs _ (Some now) es out lines line closed (here (Some now)) h.1
 goes_closed (stop.Bad rule) a b seat rs ps now es out lines line closed here h = comes_closed a b seat _ _ None es out lines line closed (here None) h
 goes_closed stop.TooLong a b seat rs ps now es out lines line closed here h = comes_closed a b seat _ _ None es out lines line closed (here None) h
-goes_closed stop.Unbuilt a b seat rs ps now es out lines line closed here h = absurd h
 
 data_closed : (o : Option Standing) (a b : Scene) (seat : ℕ) (bytes : List ℕ) (es : List Entry) (out : List (List ℕ)) (lines : List ScriptLine) → AreClosed lines a → a.sessions seat ≡ o → DataDoes a seat bytes o es out b
     → AreClosed (lines ++ Data seat bytes ∷ []) b

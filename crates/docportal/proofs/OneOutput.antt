@@ -82,7 +82,6 @@ goes_one : (what : Stop) (a b c : Scene) (seat : ℕ) (rs : List Request) (ps : 
 goes_one stop.More a b c seat rs ps now es fs out also told h k = comes_one a b c seat _ _ _ es fs out also told h.1 k.1
 goes_one (stop.Bad rule) a b c seat rs ps now es fs out also told h k = comes_one a b c seat _ _ _ es fs out also told h k
 goes_one stop.TooLong a b c seat rs ps now es fs out also told h k = comes_one a b c seat _ _ _ es fs out also told h k
-goes_one stop.Unbuilt a b c seat rs ps now es fs out also told h k = absurd h
 
 heard_one : (a b c : Scene) (seat : ℕ) (at : Standing) (bytes : List ℕ) (what other : Stop) (rs qs : List Request) (ps os : List (List ℕ)) (now then : Standing) (es fs : List Entry) (out also : List (List ℕ))
     → a.portal.told ≡ true → Hears a.portal a.outside seat at bytes what rs ps now → Hears a.portal a.outside seat at bytes other qs os then → Goes a seat what rs ps now es out b → Goes a seat other qs os then fs also c → AreSame es fs out also b c

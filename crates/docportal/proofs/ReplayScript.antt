@@ -6,10 +6,13 @@ use Rattle.portal_base.specs.Outside.{Short, onto}
 use Rattle.portal_model.specs.declared.entry.Entry.{Entry}
 use Rattle.portal_model.specs.History.{cost, run}
 use Rattle.portal_model.specs.State.{State}
+use Rattle.portal_model.specs.Store.{Entries}
 use Rattle.portal_model.specs.Valid.{Valid}
 use Rattle.portal_core.specs.Story.{limit_of, state_first, state_now}
 use Rattle.script_form.specs.declared.script.ScriptLine.{ScriptLine}
 use Rattle.script_form.specs.Lines.{text_of}
+use Rattle.record_keeper.specs.KeptEntries.{KeepEntries}
+use Rattle.script_form.specs.Opening.{entries_of}
 use Rattle.script_form.specs.Outside.{Outside}
 use Rattle.script_form.specs.Order.{IsRead, IsFault, IsScript, StandBehind}
 use Rattle.docportal.specs.declared.input.InputError.{InputError}
@@ -34,26 +37,28 @@ use Rattle.docportal.proofs.SoundHistory.{sound}
 abbrev pub Replayed : List ℕ → Option (List (List ℕ)) → Option (List (List ℕ)) → Status → Type 0
 Replayed text told told' status = (pieces : List (List ℕ)) × (told' ≡ onto told pieces) × Replays text pieces status
 
-front_room : (text : List ℕ) (lines front later : List ScriptLine) (history : List Entry) (out : List (List ℕ)) (last : Scene) → length text ≤ script_limit → IsRead text lines
-    → Plays (first_scene lines) front history out last → lines ≡ front ++ later → cost history + 8 * length (text_of later) ≤ run_limits.history
-front_room text lines front later history out last short script plays e =
-    let most = plays_cost front later [] (first_scene lines) last history out (subst (StandBehind []) e script.good) (record { idle = λ n. tt; bound_alike = λ n. refl }) (λ n h. refl) plays in
+front_room : (entries : Entries) (text : List ℕ) (lines front later : List ScriptLine) (history : List Entry) (out : List (List ℕ)) (last : Scene) → length text ≤ script_limit → IsRead text lines
+    → Plays (first_scene entries lines) front history out last → lines ≡ front ++ later → cost history + 8 * length (text_of later) ≤ run_limits.history
+front_room entries text lines front later history out last short script plays e =
+    let most = plays_cost front later [] (first_scene entries lines) last history out (subst (StandBehind []) e script.good) (record { idle = λ n. tt; bound_alike = λ n. refl }) (λ n h. refl) plays in
     let cut : length text ≡ length (text_of lines) = ap length script.whole in
     let both : length (text_of lines) ≡ length (text_of front) + length (text_of later) = ap (λ (z : List ScriptLine). length (text_of z)) e ∙ text_joined front later in
     omega arith
 
-is_replay : (text : List ℕ) (lines front later : List ScriptLine) (history : List Entry) (out : List (List ℕ)) (last : Scene) → length text ≤ script_limit → IsRead text lines → lines ≡ front ++ later → Valid (opening_state lines)
-    → Plays (first_scene lines) front history out last → IsReplay lines front history out last
-is_replay text lines front later history out last short script ahead valid plays = record {
+is_replay : (entries : Entries) (text : List ℕ) (lines front later : List ScriptLine) (history : List Entry) (out : List (List ℕ)) (last : Scene) → KeepEntries (entries_of lines) entries → length text ≤ script_limit → IsRead text lines → lines ≡ front ++ later → Valid (opening_state entries lines)
+    → Plays (first_scene entries lines) front history out last → IsReplay lines front history out last
+is_replay entries text lines front later history out last kept short script ahead valid plays = record {
+  entries = entries;
+  kept = kept;
   plays = plays;
-  only = λ h o b p. plays_one front (first_scene lines) b last h history o out refl p plays;
-  sound = sound lines front history out last valid plays;
-  room = λ later e. front_room text lines front later history out last short script plays e;
+  only = λ h o b p. plays_one front (first_scene entries lines) b last h history o out refl p plays;
+  sound = sound entries lines front history out last valid plays;
+  room = λ later e. front_room entries text lines front later history out last short script plays e;
 }
 
 -- a text of these lines, whose opening is valid, and a portal that opened so
-module _ (text : List ℕ) (lines : List ScriptLine) (size : length text ≤ script_limit) (script : IsRead text lines) (valid : Valid (opening_state lines)) (told told' : Option (List (List ℕ))) where
-  played_part : (IsPart : List (List ℕ) → List (List ℕ) → Type 0) → PlaysPart IsPart (first_scene lines) lines told told' → (pieces : List (List ℕ)) × (told' ≡ onto told pieces) × WroteFront IsPart text pieces
+module _ (text : List ℕ) (lines : List ScriptLine) (entries : Entries) (kept : KeepEntries (entries_of lines) entries) (size : length text ≤ script_limit) (script : IsRead text lines) (valid : Valid (opening_state entries lines)) (told told' : Option (List (List ℕ))) where
+  played_part : (IsPart : List (List ℕ) → List (List ℕ) → Type 0) → PlaysPart IsPart (first_scene entries lines) lines told told' → (pieces : List (List ℕ)) × (told' ≡ onto told pieces) × WroteFront IsPart text pieces
   played_part IsPart p = (
     p.pieces,
     p.output,
@@ -66,12 +71,12 @@ module _ (text : List ℕ) (lines : List ScriptLine) (size : length text ≤ scr
       history = p.history;
       out = p.out;
       last = p.last;
-      replay = is_replay text lines p.front p.plays.0 p.history p.out p.last size script p.plays.1 valid p.plays.2;
+      replay = is_replay entries text lines p.front p.plays.0 p.history p.out p.last kept size script p.plays.1 valid p.plays.2;
       output = p.part;
     },
   )
 
-  played_up_to : (number : ℕ) → PlaysUpTo (first_scene lines) lines number told told' → Replayed text told told' (Unbuilt number)
+  played_up_to : (number : ℕ) → PlaysUpTo (first_scene entries lines) lines number told told' → Replayed text told told' (Unbuilt number)
   played_up_to number p = (
     p.out,
     p.output,
@@ -81,7 +86,7 @@ module _ (text : List ℕ) (lines : List ScriptLine) (size : length text ≤ scr
       front = p.front;
       history = p.history;
       last = p.last;
-      replay = is_replay text lines p.front (p.stops.0 ∷ p.stops.1) p.history p.out p.last size script p.stops.2 valid p.plays;
+      replay = is_replay entries text lines p.front (p.stops.0 ∷ p.stops.1) p.history p.out p.last kept size script p.stops.2 valid p.plays;
       first = p.stops;
     },
   )
@@ -89,7 +94,7 @@ module _ (text : List ℕ) (lines : List ScriptLine) (size : length text ≤ scr
   part_memory : (pieces : List (List ℕ)) × (told' ≡ onto told pieces) × WroteFront AreFirst text pieces → Replayed text told told' Memory
   part_memory p = (p.0, p.1, inr p.2)
 
-  stopped : (faults faults' : ℕ) (status : Status) → PlayStops (first_scene lines) lines told faults told' faults' status → Replayed text told told' status
+  stopped : (faults faults' : ℕ) (status : Status) → PlayStops (first_scene entries lines) lines told faults told' faults' status → Replayed text told told' status
   stopped faults faults' Done p = absurd p
   stopped faults faults' Usage p = absurd p
   stopped faults faults' (ScriptFault line) p = absurd p
@@ -99,12 +104,12 @@ module _ (text : List ℕ) (lines : List ScriptLine) (size : length text ≤ scr
   stopped faults faults' TooLong p = absurd p
   stopped faults faults' (Unbuilt number) p = played_up_to number p.1
 
-ended : (text : List ℕ) (lines : List ScriptLine) (told told' : Option (List (List ℕ))) (history : List Entry) (out : List (List ℕ)) (last : Scene)
-    → length text ≤ script_limit → IsRead text lines → Valid (opening_state lines) → Plays (first_scene lines) lines history out last → told' ≡ onto told out → Replayed text told told' Done
-ended text lines told told' history out last size script valid plays output = (
+ended : (text : List ℕ) (lines : List ScriptLine) (entries : Entries) (told told' : Option (List (List ℕ))) (history : List Entry) (out : List (List ℕ)) (last : Scene)
+    → KeepEntries (entries_of lines) entries → length text ≤ script_limit → IsRead text lines → Valid (opening_state entries lines) → Plays (first_scene entries lines) lines history out last → told' ≡ onto told out → Replayed text told told' Done
+ended text lines entries told told' history out last kept size script valid plays output = (
   out,
   output,
-  record { lines = lines; script = script; history = history; last = last; replay = is_replay text lines lines [] history out last size script (sym (append-nil lines)) valid plays },
+  record { lines = lines; script = script; history = history; last = last; replay = is_replay entries text lines lines [] history out last kept size script (sym (append-nil lines)) valid plays },
 )
 
 pub stopped_risen : (lines : List ScriptLine) (s : Scene) (told told' : Option (List (List ℕ))) (faults faults' : ℕ) (status : Status)
@@ -125,13 +130,13 @@ replayed_none text told = ([], onto_none told, inl refl)
 
 -- the script's portal begins in the scene that the script opens with
 module _ (text : List ℕ) (lines slice : List ScriptLine) (p : ScriptPortal) (size : length text ≤ script_limit) (b : IsRead text lines) (is : slice ≡ lines) (h : StartsScript lines p) where
-  none : state_now p.story ≡ opening_state lines
+  none : state_now p.story ≡ opening_state h.entries lines
   none = ap (run (state_first p.story)) h.history ∙ h.state
 
-  scene_is : scene p [] ≡ first_scene lines
+  scene_is : scene p [] ≡ first_scene h.entries lines
   scene_is =
       ap (λ (z : State). record { portal = z; outside = outside_at p; sessions = sessions_of [] }) none
-      ∙ ap (λ (z : Outside). record { portal = opening_state lines; outside = z; sessions = sessions_of [] }) h.outside
+      ∙ ap (λ (z : Outside). record { portal = opening_state h.entries lines; outside = z; sessions = sessions_of [] }) h.outside
 
   pub may_replay : MayPlay [] p [] slice
   may_replay =
@@ -150,14 +155,14 @@ module _ (text : List ℕ) (lines slice : List ScriptLine) (p : ScriptPortal) (s
 
   pub replay_stops : (told told' : Option (List (List ℕ))) (faults faults' : ℕ) (status : Status) → PlayStops (scene p []) slice told faults told' faults' status → Replayed text told told' status
   replay_stops told told' faults faults' status k =
-      stopped text lines size b h.valid told told' faults faults' status
-      (subst (λ (x : List ScriptLine). PlayStops (first_scene lines) x told faults told' faults' status) is (subst (λ (x : Scene). PlayStops x slice told faults told' faults' status) scene_is k))
+      stopped text lines h.entries h.kept size b h.valid told told' faults faults' status
+      (subst (λ (x : List ScriptLine). PlayStops (first_scene h.entries lines) x told faults told' faults' status) is (subst (λ (x : Scene). PlayStops x slice told faults told' faults' status) scene_is k))
 
   pub replays_all : (q : ScriptPortal) (told told' : Option (List (List ℕ))) → PlaysAll p q slice told told' → Replayed text told told' Done
   replays_all q told told' k =
-      let plays : Plays (first_scene lines) lines k.history k.out k.last =
-      subst (λ (x : List ScriptLine). Plays (first_scene lines) x k.history k.out k.last) is (subst (λ (x : Scene). Plays x slice k.history k.out k.last) scene_is k.plays) in
-      ended text lines told told' k.history k.out k.last size b h.valid plays k.output
+      let plays : Plays (first_scene h.entries lines) lines k.history k.out k.last =
+      subst (λ (x : List ScriptLine). Plays (first_scene h.entries lines) x k.history k.out k.last) is (subst (λ (x : Scene). Plays x slice k.history k.out k.last) scene_is k.plays) in
+      ended text lines h.entries told told' k.history k.out k.last h.kept size b h.valid plays k.output
 
 -- ---- the whole run
 

@@ -67,7 +67,6 @@ takes_costs what s v piece t w h =
 over_costs : (met : Served) (s : Standing) (v : World) (piece : List ℕ) (t : Standing) (w : World) → (h : FeedsOver s v piece met t w) → Costs v.seated w.seated (length (s.rest ++ piece)) (outcomes_over met s v piece t w h)
 over_costs (served.Malformed at rule) s v piece t w h = takes_costs _ s v piece t w h.0
 over_costs (served.LineTooLong at) s v piece t w h = takes_costs _ s v piece t w h.0
-over_costs (served.Unbuilt at) s v piece t w h = takes_costs _ s v piece t w h.0
 over_costs served.Spent s v piece t w h = none_costs v w (length (s.rest ++ piece)) h.1
 over_costs served.Ended s v piece t w h = absurd h
 over_costs (served.Cut n) s v piece t w h = absurd h

@@ -205,7 +205,6 @@ module _ (p q : ScriptPortal) (table : List (Option Standing)) (seat : ℕ) (at 
       let said : lines ++ last ≡ lines ++ end_line seat (LineTooLong now.before) ∷ [] = ap (λ (f : Fed). lines ++ end_line seat (ending f now.rest) ∷ []) x.fed in
       subst (λ (o : Option Standing). DataDoes (scene p table) seat bytes o es (lines ++ last) (moved p table seat es left None)) here
       (stop.TooLong, rs, pieces, now, x, record { left = left; given = given; out_is = said; scene = refl }, later, begins)
-  ends_so stop.Unbuilt rs es left end x given later begins = absurd end
 
   -- what the whole line comes to, also before the connection has left
   abbrev entries_over : HeardAs true p q seat at bytes pieces now → List Entry

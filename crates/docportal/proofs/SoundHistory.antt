@@ -16,6 +16,7 @@ use Rattle.session.specs.Standings.{Standing}
 use Rattle.docportal.specs.Lines.{Comes, CloseDoes, DataDoes, Does, Goes, Passes, Sets}
 use Rattle.docportal.specs.Plays.{Plays}
 use Rattle.docportal.specs.Runs.{IsSound}
+use Rattle.portal_model.specs.Store.{Entries}
 use Rattle.docportal.specs.Scenes.{Scene, first_scene, opening_state}
 use Rattle.docportal.proofs.GivenEntries.{given_lawful}
 
@@ -46,7 +47,6 @@ goes_lead : (what : Stop) (a b : Scene) (seat : ℕ) (rs : List Request) (ps : L
 goes_lead stop.More a b seat rs ps now es out h = comes_lead a b seat _ _ _ es out h.1
 goes_lead (stop.Bad rule) a b seat rs ps now es out h = comes_lead a b seat _ _ _ es out h
 goes_lead stop.TooLong a b seat rs ps now es out h = comes_lead a b seat _ _ _ es out h
-goes_lead stop.Unbuilt a b seat rs ps now es out h = absurd h
 
 data_leads : (o : Option Standing) (a b : Scene) (seat : ℕ) (bytes : List ℕ) (es : List Entry) (out : List (List ℕ)) → DataDoes a seat bytes o es out b → Leads a es b
 data_leads None a b seat bytes es out h = passes_lead a b es out h
@@ -74,10 +74,10 @@ plays_lawful (line ∷ front) a b es out (first, more, said, rest, mid, entries_
     let behind = subst (λ (s : State). EachLawful s more) leads.portal (plays_lawful front mid b more rest plays) in
     subst (EachLawful a.portal) (sym entries_are) (EachLawful-append first more a.portal leads.lawful behind)
 
-pub sound : (lines front : List ScriptLine) (history : List Entry) (out : List (List ℕ)) (last : Scene) → Valid (opening_state lines) → Plays (first_scene lines) front history out last → IsSound lines history
-sound lines front history out last valid plays =
-    let lawful = plays_lawful front (first_scene lines) last history out plays in
+pub sound : (entries : Entries) (lines front : List ScriptLine) (history : List Entry) (out : List (List ℕ)) (last : Scene) → Valid (opening_state entries lines) → Plays (first_scene entries lines) front history out last → IsSound entries lines history
+sound entries lines front history out last valid plays =
+    let lawful = plays_lawful front (first_scene entries lines) last history out plays in
     record {
       legal = record { opening = valid; lawful = lawful };
-      isolated = λ app. replies_of_trace history app (opening_state lines) refl valid lawful;
+      isolated = λ app. replies_of_trace history app (opening_state entries lines) refl valid lawful;
     }

@@ -12,6 +12,7 @@ use Rattle.portal_model.specs.History.{run}
 use Rattle.portal_model.specs.Valid.{Valid}
 use Rattle.record_keeper.specs.BadRecords.{AreGood, IsWrong}
 use Rattle.record_keeper.specs.Devices.{KeeperState, keeper_of}
+use Rattle.record_keeper.specs.KeptEntries.{KeepEntries}
 use Rattle.record_keeper.specs.Keepers.{KeeperIs, Loads}
 use Rattle.record_keeper.specs.declared.fault.RecordsFault.{RecordsFault}
 use Rattle.record_keeper.specs.declared.fault.RecordsFault.TheVariants as wrong
@@ -28,13 +29,14 @@ use Rattle.std.specs.List.{list_any}
 use Rattle.portal_base.specs.Outside.{rises_by}
 use Rattle.portal_model.specs.Opening.{each, first_named, names_kept, opened_over, id_of}
 use Rattle.portal_model.specs.State.{State}
+use Rattle.portal_model.specs.Store.{Entries}
 use Rattle.portal_model.specs.declared.opening.OpeningDocument.{OpeningDocument}
 use Rattle.portal_model.specs.declared.records.DocRecord.{DocRecord}
 use Rattle.portal_core.specs.Started.{document_loaded, opening_loaded}
 use Rattle.portal_base.specs.declared.files.File.{File}
 use Rattle.portal_base.specs.declared.names.doc_id.DocId.{DocId}
 use Rattle.record_keeper.specs.BadRecords.{names_granted}
-use Rattle.script_form.specs.Opening.{document_in, documents_of, entries_of, opening, records_of}
+use Rattle.script_form.specs.Opening.{document_in, documents_of, entries_of, opening_with, records_of}
 use Rattle.script_form.specs.Order.{StandBehind}
 use Rattle.script_form.specs.Outside.{keeper_call_in}
 use Rattle.script_form.specs.declared.script.Device.TheVariants.{Keeper}
@@ -65,24 +67,24 @@ loaded_names : (ds : List OpeningDocument) → each names_granted (map (λ (d : 
 loaded_names [] = refl
 loaded_names (d ∷ ds) = ap (λ (z : List (List ℕ)). names_kept d ++ z) (loaded_names ds)
 
-abbrev over : Option (List File) → List OpeningDocument → List DocId → List (List ℕ) → List ScriptLine → State
-over files documents made applications lines = opened_over files (record {
+abbrev over : Option (List File) → List OpeningDocument → List DocId → List (List ℕ) → Entries → State
+over files documents made applications entries = opened_over files (record {
   limits = run_limits;
   documents = documents;
   made = made;
   applications = applications;
-  entries = entries_of lines;
+  entries = entries;
   files = [];
 })
 
 -- the state that stands for the records of a script is the one that the script opens with
-pub loaded_state : (files : Option (List File)) (lines : List ScriptLine) → opened_over files (opening_loaded run_limits (records_of lines)) ≡ opened_over files (opening run_limits lines)
-loaded_state files lines =
+pub loaded_state : (entries : Entries) (files : Option (List File)) (lines : List ScriptLine) → opened_over files (opening_loaded entries run_limits (records_of lines)) ≡ opened_over files (opening_with entries run_limits lines)
+loaded_state entries files lines =
     let ds = documents_of lines in
     let kept = map (λ (d : OpeningDocument). d.kept) ds in
-    ap (λ (z : List OpeningDocument). over files z (map (λ (d : DocRecord). id_of d.number) kept) (first_named (each names_granted kept)) lines) (loaded_documents lines)
-    ∙ (ap (λ (z : List DocId). over files ds z (first_named (each names_granted kept)) lines) (loaded_numbers ds)
-    ∙ ap (λ (z : List (List ℕ)). over files ds (map (λ (d : OpeningDocument). id_of d.kept.number) ds) (first_named z) lines) (loaded_names ds))
+    ap (λ (z : List OpeningDocument). over files z (map (λ (d : DocRecord). id_of d.number) kept) (first_named (each names_granted kept)) entries) (loaded_documents lines)
+    ∙ (ap (λ (z : List DocId). over files ds z (first_named (each names_granted kept)) entries) (loaded_numbers ds)
+    ∙ ap (λ (z : List (List ℕ)). over files ds (map (λ (d : OpeningDocument). id_of d.kept.number) ds) (first_named z) entries) (loaded_names ds))
 
 -- ---- the portal that starts
 
@@ -101,12 +103,21 @@ module _ (lines : List ScriptLine) (tree : TreeState) (keeper : KeeperState) (wo
   told_began = ap (λ (x : TreeState). Some x.files) t ∙ sym (ap (λ (x : TreeState). Some x.began) t)
 
   module _ (p : ScriptPortal) (s : Starts tree_of keeper_of tree keeper clock words limits p) where
-    state : state_first p.story ≡ opening_state lines
+    -- the entries that its records keep
+    abbrev entries : Entries
+    entries = p.story.opening.entries
+
+    records_are : s.loaded.records ≡ records_of lines
+    records_are = s.loaded.loads.gives ∙ ap (λ (x : KeeperState). x.records) k
+
+    kept : KeepEntries (entries_of lines) entries
+    kept = subst (λ (x : Records). KeepEntries x.entries entries) records_are s.loaded.opening_is.entries
+
+    state : state_first p.story ≡ opening_state entries lines
     state =
-        let records : s.loaded.records ≡ records_of lines = s.loaded.loads.gives ∙ ap (λ (x : KeeperState). x.records) k in
-        let opened = s.loaded.opening_is ∙ (ap (λ (x : Limits). opening_loaded x s.loaded.records) l ∙ ap (opening_loaded run_limits) records) in
+        let opened = s.loaded.opening_is.whole ∙ (ap (λ (x : Limits). opening_loaded entries x s.loaded.records) l ∙ ap (opening_loaded entries run_limits) records_are) in
         ap (λ (x : Option (List File)). opened_over x p.story.opening) (s.began ∙ ap (λ (x : TreeState). Some x.began) t)
-        ∙ (ap (opened_over (Some (tree_files lines))) opened ∙ loaded_state (Some (tree_files lines)) lines)
+        ∙ (ap (opened_over (Some (tree_files lines))) opened ∙ loaded_state entries (Some (tree_files lines)) lines)
 
     went : outside_at p ≡ after_keeper_call (outside_of lines)
     went =
@@ -120,6 +131,8 @@ module _ (lines : List ScriptLine) (tree : TreeState) (keeper : KeeperState) (wo
     pub starts_script : Valid (state_now p.story) → StartsScript lines p
     starts_script valid = record {
       history = s.history;
+      entries = entries;
+      kept = kept;
       state = state;
       valid = subst Valid (ap (run (state_first p.story)) s.history ∙ state) valid;
       outside = went;

@@ -72,8 +72,8 @@ pub record Comes (a : Scene) (seat : ℕ) (requests : List Request) (lines : Lis
   }
 
 -- A connection whose bytes end between items goes on; one with an item that breaks a rule, or with
--- a line that is too long, ends by itself and leaves. A message that asks for what isn't built is
--- not asked, and bytes that end inside an item are no line that is built.
+-- a line that is too long, ends by itself and leaves. Bytes that end inside an item are no line that
+-- is built.
 abbrev pub Goes : Scene → ℕ → Stop → List Request → List (List ℕ) → Standing → List Entry
     → List (List ℕ) → Scene → Type 0
 Goes a seat stop.More requests pieces now entries out b =
@@ -86,7 +86,6 @@ Goes a seat stop.TooLong requests pieces now entries out b =
     Comes a seat (requests ++ Request.Leave ∷ [])
     (map (out_line seat) pieces ++ end_line seat (served.LineTooLong now.before) ∷ []) None
     entries out b
-Goes a seat stop.Unbuilt requests pieces now entries out b = ⊥
 
 -- Data for a connection that ended by itself is passed over. Of any other the entries are those
 -- that the answers are made of, and the Leave's where the connection ends by itself.
@@ -122,12 +121,11 @@ Does a (Close seat) entries out b = CloseDoes a seat (a.sessions seat) entries o
 
 -- ---- a line that isn't built
 
--- bytes that end inside an item, or at a message that asks for what isn't built
+-- bytes that end inside an item
 abbrev pub IsUnbuiltStop : Stop → List ℕ → Type 0
 IsUnbuiltStop stop.More left = left ≢ []
 IsUnbuiltStop (stop.Bad rule) left = ⊥
 IsUnbuiltStop stop.TooLong left = ⊥
-IsUnbuiltStop stop.Unbuilt left = Unit {0}
 
 abbrev pub DataIsUnbuilt : List ℕ → Option Standing → Type 0
 DataIsUnbuilt bytes None = ⊥

@@ -3,6 +3,9 @@ use Rattle.std.specs.Prelude.{◌≡◌, ◌⊎◌, ℕ, ◌+◌, ◌*◌, ◌<�
 use Rattle.portal_base.specs.Outside.{behind, onto, HasRisen, Short}
 use Rattle.portal_model.specs.declared.entry.Entry.{Entry}
 use Rattle.portal_model.specs.History.{Legal, cost, replies}
+use Rattle.portal_model.specs.Store.{Entries}
+use Rattle.record_keeper.specs.KeptEntries.{KeepEntries}
+use Rattle.script_form.specs.Opening.{entries_of}
 use Rattle.app_world.specs.World.{app_run, trace}
 use Rattle.script_form.specs.declared.script.ScriptLine.{ScriptLine}
 use Rattle.script_form.specs.Lines.{text_of}
@@ -17,21 +20,24 @@ use Rattle.docportal.specs.Steps.{AreFirst}
 
 -- the history of the lines is legal, and the replies to each application are those of its own
 -- machine over its trace
-pub record IsSound (lines : List ScriptLine) (history : List Entry) : Type 0 where
-  pub legal : Legal (opening_state lines) history
+pub record IsSound (entries : Entries) (lines : List ScriptLine) (history : List Entry)
+    : Type 0 where
+  pub legal : Legal (opening_state entries lines) history
   pub isolated : (app : List ℕ)
-      → replies app (opening_state lines) history
-      ≡ app_run (trace app (opening_state lines) history)
+      → replies app (opening_state entries lines) history
+      ≡ app_run (trace app (opening_state entries lines) history)
 
 -- The lines of a front have this history and this output, from the state that the lines open with,
--- and no others; the history is sound, and within its limit with all that the lines behind can ask,
--- at eight times the bytes of their text.
+-- with the entries that they keep, and no others; the history is sound, and within its limit with
+-- all that the lines behind can ask, at eight times the bytes of their text.
 pub record IsReplay (lines front : List ScriptLine) (history : List Entry) (out : List (List ℕ))
     (last : Scene) : Type 0 where
-  pub plays : Plays (first_scene lines) front history out last
+  pub entries : Entries
+  pub kept : KeepEntries (entries_of lines) entries
+  pub plays : Plays (first_scene entries lines) front history out last
   pub only : (h : List Entry) (o : List (List ℕ)) (b : Scene)
-      → Plays (first_scene lines) front h o b → (h ≡ history) × (o ≡ out) × (b ≡ last)
-  pub sound : IsSound lines history
+      → Plays (first_scene entries lines) front h o b → (h ≡ history) × (o ≡ out) × (b ≡ last)
+  pub sound : IsSound entries lines history
   pub room : (later : List ScriptLine) → lines ≡ front ++ later
       → cost history + 8 * length (text_of later) ≤ run_limits.history
 

@@ -7,10 +7,11 @@ use Rattle.host_tree.specs.Devices.{TreeState}
 use Rattle.portal_core.specs.Story.{PortalIs}
 use Rattle.portal_model.specs.Opening.{opened_over}
 use Rattle.portal_model.specs.State.{State}
+use Rattle.portal_model.specs.Store.{Entries}
 use Rattle.script_form.specs.declared.script.ScriptLine.{ScriptLine}
 use Rattle.record_keeper.specs.Devices.{KeeperState}
 use Rattle.script_form.specs.Devices.{tree_files}
-use Rattle.script_form.specs.Opening.{opening}
+use Rattle.script_form.specs.Opening.{opening_with}
 use Rattle.script_form.specs.Outside.{Outside, after_keeper_call, outside_of}
 use Rattle.session.specs.Standings.{Standing}
 
@@ -65,15 +66,16 @@ no_sessions n = None
 abbrev pub sessions_of : List (Option Standing) → ℕ → Option Standing
 sessions_of table n = slice_index_or table n None
 
--- the state that a script opens with, over the tree of its files
-abbrev pub opening_state : List ScriptLine → State
-opening_state lines = opened_over (Some (tree_files lines)) (opening run_limits lines)
+-- the state that a script opens with, over the tree of its files, where it keeps these entries
+abbrev pub opening_state : Entries → List ScriptLine → State
+opening_state entries lines =
+    opened_over (Some (tree_files lines)) (opening_with entries run_limits lines)
 
 -- and before its first line the keeper was called once, to load the records, and no connection is
 -- open
-abbrev pub first_scene : List ScriptLine → Scene
-first_scene lines = record {
-  portal = opening_state lines;
+abbrev pub first_scene : Entries → List ScriptLine → Scene
+first_scene entries lines = record {
+  portal = opening_state entries lines;
   outside = after_keeper_call (outside_of lines);
   sessions = no_sessions;
 }

@@ -76,7 +76,6 @@ abbrev pub outcomes_over : (met : Served) (s : Standing) (v : World) (piece : Li
     (w : World) → FeedsOver s v piece met t w → List Outcome
 outcomes_over (served.Malformed at rule) s v piece t w h = h.0.did.outcomes
 outcomes_over (served.LineTooLong at) s v piece t w h = h.0.did.outcomes
-outcomes_over (served.Unbuilt at) s v piece t w h = h.0.did.outcomes
 outcomes_over served.Spent s v piece t w h = []
 outcomes_over served.Ended s v piece t w h = []
 outcomes_over (served.Cut n) s v piece t w h = []
@@ -124,7 +123,6 @@ abbrev pub IsEnd : Stop → Type 0
 IsEnd stop.More = ⊥
 IsEnd (stop.Bad rule) = Unit {0}
 IsEnd stop.TooLong = Unit {0}
-IsEnd stop.Unbuilt = ⊥
 
 -- bytes were heard, and the connection goes on between items, or is over
 abbrev pub HeardAs : Bool → ScriptPortal → ScriptPortal → ℕ → Standing → List ℕ
@@ -134,19 +132,11 @@ HeardAs false old new seat at bytes pieces now =
 HeardAs true old new seat at bytes pieces now =
     (what : Stop) × IsEnd what × HearsAt old new seat at bytes what pieces now
 
--- what a session of a script meets: an item that breaks a rule, a line that is too long, or a
--- message whose request isn't built
+-- what a session of a script meets: an item that breaks a rule, or a line that is too long
 abbrev pub IsMet : Served → Type 0
 IsMet (served.Malformed at rule) = Unit {0}
 IsMet (served.LineTooLong at) = Unit {0}
-IsMet (served.Unbuilt at) = Unit {0}
 IsMet other = ⊥
-
--- and whether the connection ends with it
-abbrev pub is_last : Served → Bool
-is_last (served.Malformed at rule) = true
-is_last (served.LineTooLong at) = true
-is_last other = false
 
 -- why bytes were not heard
 abbrev pub HearsNot : ScriptPortal → ScriptPortal → ℕ → Standing → List ℕ → Standing

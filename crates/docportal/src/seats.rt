@@ -9,7 +9,7 @@ ghost use Rattle.portal_model.specs.Seated.{bound, is_open};
 ghost use Rattle.session.specs.Sessions.{Closes, Feeds, Opens, ending};
 ghost use Rattle.session.specs.Standings.{client, fresh, longest};
 ghost use Rattle.session.specs.declared.served.Fed.TheVariants as fed;
-ghost use Rattle.docportal.specs.Seats.{Alone, Asked, HeardAs, HearsNot, IsMet, Unfilled, is_last};
+ghost use Rattle.docportal.specs.Seats.{Alone, Asked, HeardAs, HearsNot, IsMet, Unfilled};
 ghost use Rattle.docportal.specs.Seats.{known_at, sunk};
 ghost use Rattle.docportal.specs.Steps.{binding};
 
@@ -120,9 +120,8 @@ fn feed(
     }
 }
 
-/// Feeds bytes to a session that goes on. Where the bytes end inside an item,
-/// or at a request that isn't built, they aren't built. The history has room
-/// for what they ask, so a request that is refused wants memory.
+/// Feeds bytes to a session that goes on. Where the bytes end inside an item
+/// they aren't built. The history has room for what they ask, so a request that is refused wants memory.
 pub fn hear(
     alloc: Global,
     portal: &mut ScriptPortal,
@@ -157,29 +156,23 @@ pub fn hear(
             written,
             is_over: false,
         }),
-        Fed::Over(served) => heard_last(served, written),
+        Fed::Over(served) => Ok(heard_last(served, written)),
         Fed::WriteFault => Err(LineError::Memory),
         Fed::Memory => Err(LineError::Memory),
     }
 }
 
 /// What bytes came to with which a connection ends by itself.
-fn heard_last(served: Served, written: MemorySink) -> Result<Heard, LineError>
+fn heard_last(served: Served, written: MemorySink) -> Heard
     requires { IsMet served }
-    ensures ok { IfOk result (λ heard. (heard.written ≡ written) × (heard.is_over ≡ true)
-        × (is_last served ≡ true)) }
-    ensures err { IfErr result (λ e. (e ≡ LineError.Unbuilt) × (is_last served ≡ false)) }
+    ensures written { result.written ≡ written }
+    ensures over { result.is_over ≡ true }
 {
     match served {
-        Served::Malformed { .. } => Ok(Heard {
+        Served::Malformed { .. } | Served::LineTooLong { .. } => Heard {
             written,
             is_over: true,
-        }),
-        Served::LineTooLong { .. } => Ok(Heard {
-            written,
-            is_over: true,
-        }),
-        Served::Unbuilt { .. } => Err(LineError::Unbuilt),
+        },
         _ => unreachable!(),
     }
 }

@@ -1,5 +1,5 @@
 -- A Delete over the portal's lists is that of the sequential portal.
-use Rattle.std.proofs.Common.{◌≡◌, ℕ, ◌==◌, List, Bool, true, false, not, cond, Some, None, Result, IfOk, refl, sym, ap, subst, ◌∙◌}
+use Rattle.std.proofs.Common.{◌≡◌, ℕ, ◌==◌, List, map, Bool, true, false, not, cond, Some, None, Result, IfOk, refl, sym, ap, subst, ◌∙◌}
 use Rattle.std.specs.List.{filter, list_any}
 use Rattle.portal_base.specs.declared.memory.WantOfMemory.{WantOfMemory}
 use Rattle.portal_base.specs.declared.names.doc_id.DocId.{DocId}
@@ -17,6 +17,7 @@ use Rattle.portal_model.specs.Kept.{records_of, records_version}
 use Rattle.portal_model.specs.RecordChanges.{is_numbered, is_other_number}
 use Rattle.portal_model.specs.Rights.{forget_document}
 use Rattle.portal_model.specs.State.{State}
+use Rattle.portal_model.specs.Store.{record_of}
 use Rattle.portal_model.specs.Valid.{Valid}
 use Rattle.portal_model.specs.Verdict.{Verdict, does}
 use Rattle.portal_model.specs.Walk.{Answers}
@@ -88,10 +89,10 @@ module _ (s : State) (number : ℕ) (v : Valid s) where
   stays k =
       let same : kept_records (forget_document number s.rights) (filter (λ (d : Document). not (d.id.number == number)) s.documents) ≡ kept_records s.rights s.documents =
       sym removed ∙ filter-stays (is_other_number number) (kept_records s.rights s.documents) (not-kept number s.rights s.documents v.numbers_differ k) in
-      λ i. record { version = records_version; documents = same i; entries = s.entries }
+      λ i. record { version = records_version; documents = same i; entries = map record_of s.entries }
 
   by-kept : (b : Bool) → is_kept s.documents number ≡ b → Matches s (does after Answer.Done) after (cond b (Some (RemoveDocument number)) None)
-  by-kept true k = ((refl, differs k), λ i. record { version = records_version; documents = removed i; entries = s.entries })
+  by-kept true k = ((refl, differs k), λ i. record { version = records_version; documents = removed i; entries = map record_of s.entries })
   by-kept false k = λ changes. changes.1 (stays k)
 
 after-book : (s : State) (documents new_documents : DocumentList) (rights new_rights : List Triple) (number : ℕ) (failed : Bool) → IsBook s documents rights s.applications →

@@ -1,5 +1,5 @@
 -- A RevokePermissions over the portal's lists is that of the sequential portal.
-use Rattle.std.proofs.Common.{◌≡◌, ℕ, List, Bool, true, false, ◌&&◌, cond, Option, Result, IfOk, refl, sym, ap, subst, ◌∙◌}
+use Rattle.std.proofs.Common.{◌≡◌, ℕ, List, map, Bool, true, false, ◌&&◌, cond, Option, Result, IfOk, refl, sym, ap, subst, ◌∙◌}
 use Rattle.portal_base.specs.declared.memory.WantOfMemory.{WantOfMemory}
 use Rattle.portal_base.specs.declared.who.Who.{Who}
 use Rattle.portal_model.specs.declared.records.DocRecord.{DocRecord}
@@ -17,6 +17,7 @@ use Rattle.portal_model.specs.RecordChanges.{changed}
 use Rattle.portal_model.specs.Revoke.{revoke}
 use Rattle.portal_model.specs.Rights.{take_rights}
 use Rattle.portal_model.specs.State.{State, held_of}
+use Rattle.portal_model.specs.Store.{record_of}
 use Rattle.portal_model.specs.Valid.{Valid}
 use Rattle.portal_model.specs.Verdict.{Verdict, Refuses, does}
 use Rattle.portal_model.specs.Walk.{Answers}
@@ -43,16 +44,16 @@ use Rattle.document_calls.proofs.ServedSteps.{Matches, change-follows, refused-f
 
 module _ (s : State) (number : ℕ) (rights : List Triple) (apart : IsApart number s.rights rights) (v : Valid s) where
   abbrev pub records_then : Records
-  records_then = record { version = records_version; documents = kept_records rights s.documents; entries = s.entries }
+  records_then = record { version = records_version; documents = kept_records rights s.documents; entries = map record_of s.entries }
 
   pub grants-change : changed (SetGrants number (records_in rights number)) (records_of s) ≡ records_then
-  grants-change = λ i. record { version = records_version; documents = grants-set number s.rights rights apart s.documents v.numbers_differ i; entries = s.entries }
+  grants-change = λ i. record { version = records_version; documents = grants-set number s.rights rights apart s.documents v.numbers_differ i; entries = map record_of s.entries }
 
   pub unkept-stays : is_kept s.documents number ≡ false → records_then ≡ records_of s
   unkept-stays k = λ i. record {
     version = records_version;
     documents = (sym (grants-set number s.rights rights apart s.documents v.numbers_differ) ∙ change-stays number (λ (r : DocRecord). record r { grants = records_in rights number }) (kept_records s.rights s.documents) (not-kept number s.rights s.documents v.numbers_differ k)) i;
-    entries = s.entries;
+    entries = map record_of s.entries;
   }
 
 -- ---- it is refused

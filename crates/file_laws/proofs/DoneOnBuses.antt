@@ -18,6 +18,9 @@ use Rattle.portal_model.specs.declared.rights.Right.TheVariants.{Delete}
 use Rattle.portal_model.specs.declared.state.Connection.{Connection}
 use Rattle.portal_model.specs.declared.state.Document.{Document}
 use Rattle.portal_model.specs.declared.state.Triple.{Triple}
+use Rattle.portal_model.specs.declared.store.StoreCall.{StoreCall}
+use Rattle.portal_model.specs.declared.store.StoreCall.TheVariants as Call
+use Rattle.portal_model.specs.declared.store.StoredEntry.{StoredEntry}
 use Rattle.portal_model.specs.Add.{add, add_allowed, add_looking, add_presented, add_shown, added, added_files, are_of_kind, may_list_all}
 use Rattle.portal_model.specs.AddArguments.{are_add_arguments, are_presented, document_paths, paths_shown}
 use Rattle.portal_model.specs.Allowed.{allowed, allowed_on_bus, is_allowed, is_live, is_refusal, may_add, may_delete_in, may_grant_in, may_revoke_in}
@@ -37,6 +40,8 @@ use Rattle.portal_model.specs.Revoke.{may_revoke, names_itself, revoke_reached}
 use Rattle.portal_model.specs.Rights.{held_by}
 use Rattle.portal_model.specs.State.{State, connection_of, who_has}
 use Rattle.portal_model.specs.Step.{all_told, bus_of, bus_step, collect_step, mount_of, request_step}
+use Rattle.portal_model.specs.Store.{Outcome, entry_of, entry_to_set, store_call, with_entry}
+use Rattle.portal_model.specs.StoreRequest.{are_store_arguments, has_entry_for, own_table, store_allowed, store_request, store_verdict, table_of}
 use Rattle.portal_model.specs.Verdict.{Verdict, Refuses, Does, unless, walk_unless}
 use Rattle.portal_model.specs.Walk.{Walk, looks_at_all, looks_shown, walked}
 use Rattle.portal_model.proofs.EntriesAllowed.{allowed-told}
@@ -145,24 +150,54 @@ add-was s c a numbers now h =
     (and-both listed (are_of_kind a looks) third.0
     (passed (are_of_kind a looks) Refusal.InvalidArgument (added s (added_files s c a numbers)) shown).0))
 
--- ---- each request on documents
+-- ---- a call of the permission store
+
+free : (b : Bool) (code : Code) (v : Verdict) → IsDone (unless b code v) → (not b ≡ true) × IsDone v
+free true code v h = absurd h
+free false code v h = (refl, h)
+
+module _ (s : State) (call : StoreCall) where
+  there : (o : Option StoredEntry) (does : StoredEntry → Outcome) → IsDone (store_verdict s call (with_entry o does)) → is_some o ≡ true
+  there None does h = absurd h
+  there (Some e) does h = refl
+
+entry-was : (s : State) (call : StoreCall) → IsDone (store_verdict s call (store_call call s.entries)) → has_entry_for s.entries call ≡ true
+entry-was s (Call.Lookup table id) h = there s (Call.Lookup table id) (entry_of s.entries table id) _ h
+entry-was s (Call.Set table create id rows datum) h = there s (Call.Set table create id rows datum) (entry_to_set s.entries create table id) _ h
+entry-was s (Call.Delete table id) h = there s (Call.Delete table id) (entry_of s.entries table id) _ h
+entry-was s (Call.SetValue table create id datum) h = there s (Call.SetValue table create id datum) (entry_to_set s.entries create table id) _ h
+entry-was s (Call.SetPermission table create id app names) h = there s (Call.SetPermission table create id app names) (entry_to_set s.entries create table id) _ h
+entry-was s (Call.DeletePermission table id app) h = there s (Call.DeletePermission table id app) (entry_of s.entries table id) _ h
+entry-was s (Call.GetPermission table id app) h = there s (Call.GetPermission table id app) (entry_of s.entries table id) _ h
+entry-was s (Call.List table) h = refl
+
+store-was : (s : State) (c : Connection) (who : Who) (call : StoreCall) → c.who ≡ who → IsDone (store_request s who call) → is_allowed s c (Request.Store call) ≡ true
+store-was s c (Who.App app) call e h = absurd h
+store-was s c Who.Host call e h =
+    let other = not (is_same (table_of call) own_table) in
+    let first = passed (are_store_arguments call) Refusal.InvalidArgument (store_allowed s call) h in
+    let second = free (is_same (table_of call) own_table) Refusal.NotAllowed (store_verdict s call (store_call call s.entries)) first.1 in
+    rw e (and-both (are_store_arguments call) (other && has_entry_for s.entries call) first.0 (and-both other (has_entry_for s.entries call) second.0 (entry-was s call second.1)))
+
+-- ---- each request of a bus
 
 -- one of these, and not one that opens or closes a connection, or is on a node
-abbrev on_documents : Request → Bool
-on_documents (Request.Enter who kind) = false
-on_documents Request.Leave = false
-on_documents Request.Collect = false
-on_documents (Request.Node r) = false
-on_documents (Request.Present path) = true
-on_documents (Request.Add a) = true
-on_documents (Request.Grant call) = true
-on_documents (Request.Revoke call) = true
-on_documents (Request.DeleteDocument doc) = true
-on_documents (Request.LookupDocument path) = true
-on_documents (Request.Info doc) = true
-on_documents (Request.ListDocuments app) = true
+abbrev on_bus : Request → Bool
+on_bus (Request.Enter who kind) = false
+on_bus Request.Leave = false
+on_bus Request.Collect = false
+on_bus (Request.Node r) = false
+on_bus (Request.Present path) = true
+on_bus (Request.Add a) = true
+on_bus (Request.Grant call) = true
+on_bus (Request.Revoke call) = true
+on_bus (Request.DeleteDocument doc) = true
+on_bus (Request.LookupDocument path) = true
+on_bus (Request.Info doc) = true
+on_bus (Request.ListDocuments app) = true
+on_bus (Request.Store call) = true
 
-walk-was : (s : State) (c : Connection) (request : Request) (numbers : List DocId) (now : ℕ) → on_documents request ≡ true → IsDone (met s.files now (bus_walk s c request numbers)) → is_allowed s c request ≡ true
+walk-was : (s : State) (c : Connection) (request : Request) (numbers : List DocId) (now : ℕ) → on_bus request ≡ true → IsDone (met s.files now (bus_walk s c request numbers)) → is_allowed s c request ≡ true
 walk-was s c (Request.Present path) numbers now o h = present-was s c path h
 walk-was s c (Request.Add a) numbers now o h = add-was s c a numbers now h
 walk-was s c (Request.Grant call) numbers now o h =
@@ -175,13 +210,14 @@ walk-was s c (Request.DeleteDocument doc) numbers now o h = delete-was s c.who d
 walk-was s c (Request.LookupDocument path) numbers now o h = lookup-was s c c.who path refl h
 walk-was s c (Request.Info doc) numbers now o h = info-was s c c.who doc refl h
 walk-was s c (Request.ListDocuments app) numbers now o h = list-was s c c.who app refl h
+walk-was s c (Request.Store call) numbers now o h = store-was s c c.who call refl h
 walk-was s c request numbers now o h = cc
 
 settled-was : (s refused : State) (given : Given) (v : Verdict) → is_refusal (settled s refused given (Some v)).1 ≡ false → IsDone v
 settled-was s refused given (Refuses code) h = cc
 settled-was s refused given (Does d) h = tt
 
-bus-was : (s : State) (c : Connection) (request : Request) (given : Given) → s.told ≡ true → on_documents request ≡ true → LawfulBus s c request given → given.fault ≡ Fault.None → is_refusal (bus_answer s c request given).1 ≡ false → is_allowed s c request ≡ true
+bus-was : (s : State) (c : Connection) (request : Request) (given : Given) → s.told ≡ true → on_bus request ≡ true → LawfulBus s c request given → given.fault ≡ Fault.None → is_refusal (bus_answer s c request given).1 ≡ false → is_allowed s c request ≡ true
 bus-was s c request given t o l e h =
     let w = bus_walk s c request given.numbers in
     let now = moment_given given.now in
@@ -190,7 +226,7 @@ bus-was s c request given t o l e h =
     walk-was s c request given.numbers now o
     (settled-was s (refused_state s c request) given (met s.files now w) (sym (ap (λ (v : Option Verdict). is_refusal (settled s (refused_state s c request) given v).1) verdict) ∙ h))
 
-on-bus-was : (s : State) (request : Request) (given : Given) (o : Option Connection) → s.told ≡ true → on_documents request ≡ true → LawfulOnBus s request given o → given.fault ≡ Fault.None → is_refusal (bus_step s request given o).1.answer ≡ false → allowed_on_bus s request o ≡ true
+on-bus-was : (s : State) (request : Request) (given : Given) (o : Option Connection) → s.told ≡ true → on_bus request ≡ true → LawfulOnBus s request given o → given.fault ≡ Fault.None → is_refusal (bus_step s request given o).1.answer ≡ false → allowed_on_bus s request o ≡ true
 on-bus-was s request given None t d l e h = cc
 on-bus-was s request given (Some c) t d l e h = sym (allowed-told c.seat s c request) ∙ bus-was (all_told c.seat s) c request given t d l e h
 
@@ -223,6 +259,7 @@ request-was s seat (Request.DeleteDocument doc) given t l e h = on-bus-was s (Re
 request-was s seat (Request.LookupDocument path) given t l e h = on-bus-was s (Request.LookupDocument path) given (bus_of (connection_of s.connections seat)) t refl l e h
 request-was s seat (Request.Info doc) given t l e h = on-bus-was s (Request.Info doc) given (bus_of (connection_of s.connections seat)) t refl l e h
 request-was s seat (Request.ListDocuments app) given t l e h = on-bus-was s (Request.ListDocuments app) given (bus_of (connection_of s.connections seat)) t refl l e h
+request-was s seat (Request.Store call) given t l e h = on-bus-was s (Request.Store call) given (bus_of (connection_of s.connections seat)) t refl l e h
 
 pub only-allowed : OnlyAllowedIsDone
 only-allowed = record {

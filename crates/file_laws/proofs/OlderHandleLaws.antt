@@ -110,6 +110,7 @@ module _ (seat fh : ℕ) (handle : Handle) where
   step-keeps s n (Request.LookupDocument path) given l m e = bus-keeps s (Request.LookupDocument path) given (bus_of (connection_of s.connections n)) e
   step-keeps s n (Request.Info doc) given l m e = bus-keeps s (Request.Info doc) given (bus_of (connection_of s.connections n)) e
   step-keeps s n (Request.ListDocuments name) given l m e = bus-keeps s (Request.ListDocuments name) given (bus_of (connection_of s.connections n)) e
+  step-keeps s n (Request.Store call) given l m e = bus-keeps s (Request.Store call) given (bus_of (connection_of s.connections n)) e
 
   run-keeps : (h : List Entry) (s : State) → EachLawful s h → is_ended_in seat fh s h ≡ false → Has s → Has (run s h)
   run-keeps [] s l m e = e

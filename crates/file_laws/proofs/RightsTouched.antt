@@ -367,6 +367,7 @@ module _ (app : List ℕ) (s : State) (seat : ℕ) (given : Given) where
   each-of (Request.LookupDocument path) e = tt
   each-of (Request.Info doc) e = tt
   each-of (Request.ListDocuments name) e = tt
+  each-of (Request.Store call) e = tt
 
   pub documents-told : (request : Request) → is_on_node request ≡ false → Of request (touch app s (asks seat request given))
   documents-told request e = if-done request (is_done (reply_at s (asks seat request given)).answer) (request_touch app s seat request given) (each-of request e)

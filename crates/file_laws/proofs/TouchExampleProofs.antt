@@ -5,7 +5,7 @@ use Rattle.std.specs.List.{IsDistinct}
 use Rattle.std.specs.Str.{is_utf8, chars}
 use Rattle.portal_base.specs.Names.{doc_text, hex_number, is_app_name, is_doc_id, is_host_path, parent_of}
 use Rattle.portal_model.specs.Opening.{opened}
-use Rattle.portal_model.specs.Valid.{Valid, IsValidEntry}
+use Rattle.portal_model.specs.Valid.{Valid}
 use Rattle.std.proofs.lemmas.List.Elements.{All-nil}
 use Rattle.portal_model.proofs.ExampleProofs.{a_path, editor_name}
 use Rattle.portal_model.specs.DocumentExamples.{viewer}
@@ -37,7 +37,7 @@ valid_one_file = record {
   handles_sound = refl;
   handles_within = refl;
   entries_differ = tt;
-  entries_sound = All-nil IsValidEntry;
+  entries_sound = refl;
   files_differ = (tt, tt);
   files_apart = refl;
   files_named = rw a_path refl;
@@ -66,7 +66,7 @@ valid_two_paths = record {
   handles_sound = refl;
   handles_within = refl;
   entries_differ = tt;
-  entries_sound = All-nil IsValidEntry;
+  entries_sound = refl;
   files_differ = ((refl, tt), (tt, tt));
   files_apart = refl;
   files_named = rw (b_path, a_path) refl;

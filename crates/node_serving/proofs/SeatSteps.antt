@@ -32,11 +32,10 @@ use Rattle.portal_model.specs.NodeVerdict.{NodeVerdict, HandleChange, HandlesSta
 use Rattle.portal_model.specs.Outside.{files_told}
 use Rattle.portal_model.specs.RecordChanges.{change_first}
 use Rattle.portal_model.specs.State.{State, connection_of}
-use Rattle.portal_model.specs.Step.{is_mount, mount_of, node_step, reply_with, with_signals}
-use Rattle.portal_model.specs.Valid.{is_silent}
+use Rattle.portal_model.specs.Step.{all_told, is_mount, mount_of, node_step, reply_with, with_signals}
 use Rattle.portal_model.specs.Walk.{Walk, Answers, Looks, Ends, Gives, walked}
 use Rattle.portal_model.proofs.ListLookups.{found_passes, nat_is}
-use Rattle.portal_model.proofs.NoChangeWaits.{all_told-silent, node_step-silent}
+use Rattle.portal_model.proofs.WhoWaits.{all_told-nothing, mount-quiet, node_step-quiet}
 use Rattle.node_serving.specs.Numbered.{handle_given, is_of, numbered, with_last}
 use Rattle.node_serving.specs.Seats.{IsServedIn, ServesSeat, calls_on, refused_here, seat_step}
 use Rattle.node_serving.proofs.FairWalks.{IsFair, Fair, fair-walk, number_of}
@@ -44,6 +43,14 @@ use Rattle.node_serving.proofs.FairWalks.{IsFair, Fair, fair-walk, number_of}
 mount_found : (o : Option Connection) (c : Connection) → mount_of o ≡ Some c → o ≡ Some c
 mount_found None c e = cc
 mount_found (Some d) c e = elim (is_mount d.kind) as (λ b. cond b (Some d) None ≡ Some c → Some d ≡ Some c) [ true ↦ λ h. h | false ↦ λ h. cc ] e
+
+mount_kind : (o : Option Connection) (c : Connection) → mount_of o ≡ Some c → is_mount c.kind ≡ true
+mount_kind None c e = cc
+mount_kind (Some d) c e = by_kind (is_mount d.kind) refl e
+  where
+    by_kind : (b : Bool) → is_mount d.kind ≡ b → cond b (Some d) None ≡ Some c → is_mount c.kind ≡ true
+    by_kind true k h = let same : d ≡ c = cc in ap (λ (x : Connection). is_mount x.kind) (sym same) ∙ k
+    by_kind false k h = cc
 
 -- ---- answers that are alike
 
@@ -74,6 +81,8 @@ reads-brief size (Answer.Place place) given h = ap brief h
 reads-brief size (Answer.Ids ids) given h = ap brief h
 reads-brief size (Answer.Info path rights) given h = ap brief h
 reads-brief size (Answer.Listed documents) given h = ap brief h
+reads-brief size (Answer.Entry rows datum) given h = ap brief h
+reads-brief size (Answer.Names names) given h = ap brief h
 
 node-brief : (op : NodeOp) (stepped given : Answer) → NodeAlike op stepped given → brief given ≡ brief stepped
 node-brief (NodeOp.Read fh offset size) stepped given h = reads-brief size stepped given h
@@ -267,8 +276,13 @@ module _ (s : State) (book : FileBook) (cs : List Connection) (table : HandleTab
     found-here : connection_of s.connections call.seat ≡ Some c
     found-here = mount_found (connection_of s.connections call.seat) c mount-here
 
-    quiet : is_silent s.connections ≡ true
-    quiet = ap is_silent x.connected ∙ x.silent
+    is-mount : is_mount c.kind ≡ true
+    is-mount = mount_kind (connection_of s.connections call.seat) c mount-here
+
+    told-as-it-is : all_told c.seat s ≡ s
+    told-as-it-is =
+        let own : c.seat ≡ call.seat = nat_is c.seat call.seat (found_passes (is_of call.seat) s.connections c found-here) in
+        ap (λ (n : ℕ). all_told n s) own ∙ all_told-nothing s call.seat c x.valid found-here (mount-quiet s call.seat c x.valid found-here is-mount)
 
     done-in : DoneIn s c r old done after new
     done-in = does s c (record { valid = x.valid; lists = x.lists; limit = x.limit; handles = x.handles; files = x.files; here = found-here; caller = who })
@@ -280,7 +294,7 @@ module _ (s : State) (book : FileBook) (cs : List Connection) (table : HandleTab
     fair-here = fair-walked (room_of s c) (walk_on_node s c r) (moment_given done.now) done.looks (is_tree done.fault) (fair-walk (facts_of s c r.node) r r.op)
 
     step-is : seat_step s call.seat r (given_to done) ≡ with_signals [] (node_answer s c r (given_to done))
-    step-is = ap (node_step s r (given_to done)) mount-here ∙ node_step-silent s call.seat c r (given_to done) found-here quiet
+    step-is = ap (node_step s r (given_to done)) mount-here ∙ node_step-quiet s call.seat c r (given_to done) x.valid found-here is-mount
 
     after-is : (seat_step s call.seat r (given_to done)).0 ≡ (node_answer s c r (given_to done)).0
     after-is = ap (λ (y : State × Reply). y.0) step-is
@@ -302,14 +316,14 @@ module _ (s : State) (book : FileBook) (cs : List Connection) (table : HandleTab
 
     pub serves-mount : ServesSeat s call.seat r old done (numbered call.seat (handle_given done.answer) cs) after new
     serves-mount = record {
-      lawful = subst (LawfulOnNode s r (given_to done)) (sym mount-here) (subst (λ (u : State). LawfulNode u c r (given_to done)) (sym (all_told-silent c.seat s quiet)) done-in.lawful);
+      lawful = subst (LawfulOnNode s r (given_to done)) (sym mount-here) (subst (λ (u : State). LawfulNode u c r (given_to done)) (sym told-as-it-is) done-in.lawful);
       reply = subst (λ (y : State × Reply). Alike s.told (Request.Node r) y.1 (reply_with [] done.answer)) (sym step-is)
           (reply-alike s.told s.files old.told r (node_answer s c r (given_to done)).1 done.answer x.files done-in.answer);
       stays = subst (λ (y : State). y ≡ record s { connections = numbered call.seat (handle_given done.answer) cs; handles = y.handles; files = y.files }) (sym after-is) stays-is;
       handles = subst (λ (y : State). AreOpen y after) (sym after-is) done-in.handles;
       files = ap files_told after-is ∙ done-in.files;
       calls = subst (λ (o : Option Connection). Calling old (calls_on s r (given_to done) o) new.told new) (sym mount-here)
-          (subst (λ (u : State). Calling old (calls_of (walk_on_node u c r) done.looks (is_tree done.fault)) new.told new) (sym (all_told-silent c.seat s quiet)) done-in.calls);
+          (subst (λ (u : State). Calling old (calls_of (walk_on_node u c r) done.looks (is_tree done.fault)) new.told new) (sym told-as-it-is) done-in.calls);
       fault = λ h. call-risen (files_told s) new.told done.looks (walk_on_node s c r) (is_tree done.fault) old new done-in.lawful.looks done-in.calls
           (eio-fails s c (room_of s c) verdict (is_tree done.fault)
           (none-failed (files_told s) (moment_given done.now) (is_tree done.fault) done.looks (walk_on_node s c r) done-in.lawful.looks) fair-here

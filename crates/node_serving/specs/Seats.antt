@@ -26,19 +26,18 @@ use Rattle.portal_model.specs.Node.{walk_on_node}
 use Rattle.portal_model.specs.Outside.{files_told}
 use Rattle.portal_model.specs.State.{State, connection_of}
 use Rattle.portal_model.specs.Step.{all_told, mount_of, node_step, reply_with}
-use Rattle.portal_model.specs.Valid.{Valid, is_silent}
+use Rattle.portal_model.specs.Valid.{Valid}
 
 -- ---- the state that a request is served in
 
--- A valid state has the lists and the limit of the book, these connections, of which none waits for
--- a change, and the open handles of the table, and the tree tells what it has.
+-- A valid state has the lists and the limit of the book, these connections, and the open handles of
+-- the table, and the tree tells what it has.
 pub record IsServedIn (s : State) (book : FileBook) (connections : List Connection)
     (table : HandleTable) (told : Option (List File)) : Type 0 where
   pub valid : Valid s
   pub lists : Lends book.view s
   pub limit : s.limits.file_bytes ≡ book.file_limit
   pub connected : s.connections ≡ connections
-  pub silent : is_silent connections ≡ true
   pub handles : AreOpen s table
   pub files : files_told s ≡ told
 

@@ -1,43 +1,55 @@
--- The records that are kept of entries.
-use Rattle.std.proofs.Common.{◌≡◌, ℕ, ◌≤◌, nat_le, List, [], ◌∷◌, ◌++◌, map, Bool, true, false, not, cond, refl, ap, arith}
-use Rattle.std.specs.List.{All, AllByRecursion, IsDistinct, filter, list_any}
-use Rattle.std.proofs.lemmas.Bool.Decides.{nat_tests}
+-- What tables hold, and the records that are kept of it.
+use Rattle.std.proofs.Common.{◌≡◌, ℕ, List, [], ◌∷◌, ◌++◌, map, Bool, true, false, not, ◌&&◌, cond, refl, ap, arith}
+use Rattle.std.specs.List.{All, IsDistinct, filter, list_all, list_any}
 use Rattle.std.proofs.lemmas.List.{map-append}
-use Rattle.std.proofs.lemmas.List.Elements.{All-map, All-weaker}
-use Rattle.dbus_types.specs.declared.types.Value.TheVariants as V
-use Rattle.portal_model.specs.Changed.{changed_length, message_limit}
+use Rattle.std.proofs.lemmas.List.Elements.{All-cons, All-head, All-nil, All-tail}
+use Rattle.portal_model.specs.Data.{is_data}
 use Rattle.portal_model.specs.RecordChanges.{change_first, is_of_key, is_other_key, set_entry}
-use Rattle.portal_model.specs.Store.{Entries, is_entry_of, put_entry, record_of, without_entry}
-use Rattle.portal_model.specs.Valid.{IsValidEntry, same_entry}
+use Rattle.portal_model.specs.Rows.{are_rows}
+use Rattle.portal_model.specs.Store.{Entries, can_be_told, is_entry_of, put_entry, record_of, without_entry}
+use Rattle.portal_model.specs.Valid.{has_entry_texts, is_valid_entry, same_entry}
 use Rattle.portal_model.specs.declared.records.EntryRecord.{EntryRecord}
 use Rattle.portal_model.specs.declared.store.StoredEntry.{StoredEntry}
-use Rattle.permission_table.specs.Tables.{AreEntries, IsHeld, is_same_entry}
+use Rattle.permission_table.specs.Tables.{AreEntries, IsHeld}
+use Rattle.permission_table.proofs.RowLemmas.{both, left, right}
 
--- ---- they are valid
+-- ---- what tables hold is valid
 
-le : (a b : ℕ) → nat_le a b ≡ true → a ≤ b
-le a b h = grind (arith, nat_tests)
+valid-one : (e : StoredEntry) → IsHeld e → is_valid_entry e ≡ true
+valid-one e k = both (has_entry_texts e) (is_data e.datum && can_be_told e) k.sound.texts (both (is_data e.datum) (can_be_told e) k.sound.datum k.told)
 
-valid-one : (e : StoredEntry) → IsHeld e → IsValidEntry (record_of e)
-valid-one e k = record {
-  texts = k.sound.texts;
-  told = (V.Variant e.datum, record { is = k.sound.datum; told = le (changed_length (record_of e) (V.Variant e.datum)) message_limit k.told });
-}
+all-valid : (entries : Entries) → All IsHeld entries → list_all is_valid_entry entries ≡ true
+all-valid [] h = refl
+all-valid (e ∷ es) h = both (is_valid_entry e) (list_all is_valid_entry es) (valid-one e (All-head IsHeld e es h)) (all-valid es (All-tail IsHeld e es h))
 
-pub held-valid : (entries : Entries) → AreEntries entries → All IsValidEntry (map record_of entries)
-held-valid entries k = All-map IsValidEntry record_of entries (All-weaker IsHeld (λ e. IsValidEntry (record_of e)) valid-one entries k.held)
+pub held-valid : (entries : Entries) → AreEntries entries → list_all is_valid_entry entries ≡ true
+held-valid entries k = all-valid entries k.held
 
-none-same : (e : StoredEntry) (entries : Entries) → AllByRecursion (λ x. is_same_entry e x ≡ false) entries → AllByRecursion (λ x. same_entry (record_of e) x ≡ false) (map record_of entries)
-none-same e [] d = tt
-none-same e (x ∷ xs) d = (d.0, none-same e xs d.1)
+pub held-differ : (entries : Entries) → AreEntries entries → IsDistinct same_entry entries
+held-differ entries k = k.differ
 
-records-differ : (entries : Entries) → IsDistinct is_same_entry entries → IsDistinct same_entry (map record_of entries)
-unfolding IsDistinct
-records-differ [] d = tt
-records-differ (x ∷ xs) d = (none-same x xs d.0, records-differ xs d.1)
+-- ---- what is valid may be held
 
-pub held-differ : (entries : Entries) → AreEntries entries → IsDistinct same_entry (map record_of entries)
-held-differ entries k = records-differ entries k.differ
+one-held : (e : StoredEntry) → is_valid_entry e ≡ true → are_rows e.rows ≡ true → IsHeld e
+one-held e valid rows =
+    let rest : (is_data e.datum && can_be_told e) ≡ true = right (has_entry_texts e) (is_data e.datum && can_be_told e) valid in
+    record {
+      sound = record {
+        rows = rows;
+        texts = left (has_entry_texts e) (is_data e.datum && can_be_told e) valid;
+        datum = left (is_data e.datum) (can_be_told e) rest;
+      };
+      told = right (is_data e.datum) (can_be_told e) rest;
+    }
+
+all-held : (entries : Entries) → list_all is_valid_entry entries ≡ true → list_all (λ e. are_rows e.rows) entries ≡ true → All IsHeld entries
+all-held [] valid rows = All-nil IsHeld
+all-held (e ∷ es) valid rows =
+    let first : IsHeld e = one-held e (left (is_valid_entry e) (list_all is_valid_entry es) valid) (left (are_rows e.rows) (list_all (λ x. are_rows x.rows) es) rows) in
+    All-cons IsHeld e es first (all-held es (right (is_valid_entry e) (list_all is_valid_entry es) valid) (right (are_rows e.rows) (list_all (λ x. are_rows x.rows) es) rows))
+
+pub valid-held : (entries : Entries) → IsDistinct same_entry entries → list_all is_valid_entry entries ≡ true → list_all (λ e. are_rows e.rows) entries ≡ true → AreEntries entries
+valid-held entries differ valid rows = record { differ = differ; held = all-held entries valid rows }
 
 -- ---- they follow the entries
 

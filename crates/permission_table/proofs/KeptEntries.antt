@@ -12,7 +12,8 @@ use Rattle.portal_model.specs.declared.store.TableEntry.{TableEntry}
 use Rattle.portal_model.proofs.DistinctItems.{IsDistinct-filter}
 use Rattle.portal_model.proofs.ListLookups.{found_passes}
 use Rattle.portal_model.proofs.TripleOrder.{is_same-eq, is_same-refl}
-use Rattle.permission_table.specs.Tables.{AreEntries, IsFormer, IsHeld, is_same_entry, restored}
+use Rattle.portal_model.specs.Valid.{same_entry}
+use Rattle.permission_table.specs.Tables.{AreEntries, IsFormer, IsHeld, restored}
 
 place-is : (b : Bool) (n i : ℕ) → cond b (Some n) None ≡ Some i → i ≡ n
 place-is true n i e = cc
@@ -88,7 +89,7 @@ of-itself : (e : StoredEntry) → is_entry_of e.table e.id e ≡ true
 of-itself e = grind (arith, is_same-refl e.table, is_same-refl e.id)
 
 -- of two that differ only one is of a table and an identifier
-pub of-one : (table id : List ℕ) (a b : StoredEntry) → is_entry_of table id a ≡ true → is_same_entry a b ≡ false → is_entry_of table id b ≡ false
+pub of-one : (table id : List ℕ) (a b : StoredEntry) → is_entry_of table id a ≡ true → same_entry a b ≡ false → is_entry_of table id b ≡ false
 of-one table id a b h d = step (is_entry_of table id b) refl
   where
     step : (t : Bool) → is_entry_of table id b ≡ t → t ≡ false
@@ -96,7 +97,7 @@ of-one table id a b h d = step (is_entry_of table id b) refl
     step true e =
         let x = is-of table id a h in
         let y = is-of table id b e in
-        let s : is_same_entry a b ≡ true =
+        let s : same_entry a b ≡ true =
         (λ i. is_entry_of (y.0 i) (y.1 i) a) ∙ h in
         cc
 
@@ -104,18 +105,18 @@ of-one table id a b h d = step (is_entry_of table id b) refl
 
 kept-some : (p : StoredEntry → Bool) (entries : Entries) → AreEntries entries → AreEntries (filter p entries)
 kept-some p entries k = record {
-  differ = IsDistinct-filter is_same_entry p entries k.differ;
+  differ = IsDistinct-filter same_entry p entries k.differ;
   held = All-filter p IsHeld entries k.held;
 }
 
 pub kept-without : (table id : List ℕ) (entries : Entries) → AreEntries entries → AreEntries (without_entry table id entries)
 kept-without table id entries k = kept-some (λ e. not (is_entry_of table id e)) entries k
 
-all-last : (x e : StoredEntry) (xs : Entries) → AllByRecursion (λ y. is_same_entry x y ≡ false) xs → is_same_entry x e ≡ false → AllByRecursion (λ y. is_same_entry x y ≡ false) (xs ++ e ∷ [])
+all-last : (x e : StoredEntry) (xs : Entries) → AllByRecursion (λ y. same_entry x y ≡ false) xs → same_entry x e ≡ false → AllByRecursion (λ y. same_entry x y ≡ false) (xs ++ e ∷ [])
 all-last x e [] h l = (l, tt)
 all-last x e (y ∷ ys) h l = (h.0, all-last x e ys h.1 l)
 
-differ-last : (e : StoredEntry) (xs : Entries) → IsDistinct is_same_entry xs → list_any (is_entry_of e.table e.id) xs ≡ false → IsDistinct is_same_entry (xs ++ e ∷ [])
+differ-last : (e : StoredEntry) (xs : Entries) → IsDistinct same_entry xs → list_any (is_entry_of e.table e.id) xs ≡ false → IsDistinct same_entry (xs ++ e ∷ [])
 unfolding IsDistinct
 differ-last e [] d n = (tt, tt)
 differ-last e (x ∷ xs) d n =
@@ -125,30 +126,30 @@ differ-last e (x ∷ xs) d n =
 
 module _ (test : StoredEntry → Bool) (change : StoredEntry → StoredEntry)
     (keeps : (e : StoredEntry) → test e ≡ true → ((change e).table ≡ e.table) × ((change e).id ≡ e.id)) where
-  same-left : (x y : StoredEntry) → test x ≡ true → is_same_entry (change x) y ≡ is_same_entry x y
+  same-left : (x y : StoredEntry) → test x ≡ true → same_entry (change x) y ≡ same_entry x y
   same-left x y h = let k = keeps x h in λ i. is_same (k.0 i) y.table && is_same (k.1 i) y.id
 
-  same-right : (x y : StoredEntry) → test y ≡ true → is_same_entry x (change y) ≡ is_same_entry x y
+  same-right : (x y : StoredEntry) → test y ≡ true → same_entry x (change y) ≡ same_entry x y
   same-right x y h = let k = keeps y h in λ i. is_same x.table (k.0 i) && is_same x.id (k.1 i)
 
-  all-left : (x : StoredEntry) (ys : Entries) → test x ≡ true → AllByRecursion (λ y. is_same_entry x y ≡ false) ys → AllByRecursion (λ y. is_same_entry (change x) y ≡ false) ys
+  all-left : (x : StoredEntry) (ys : Entries) → test x ≡ true → AllByRecursion (λ y. same_entry x y ≡ false) ys → AllByRecursion (λ y. same_entry (change x) y ≡ false) ys
   all-left x [] h d = tt
   all-left x (y ∷ ys) h d = (same-left x y h ∙ d.0, all-left x ys h d.1)
 
-  all-changed : (x : StoredEntry) (ys : Entries) → AllByRecursion (λ y. is_same_entry x y ≡ false) ys → AllByRecursion (λ y. is_same_entry x y ≡ false) (change_first test change ys)
+  all-changed : (x : StoredEntry) (ys : Entries) → AllByRecursion (λ y. same_entry x y ≡ false) ys → AllByRecursion (λ y. same_entry x y ≡ false) (change_first test change ys)
   all-changed x [] d = tt
   all-changed x (y ∷ ys) d = step (test y) refl (all-changed x ys d.1)
     where
-      step : (b : Bool) → test y ≡ b → AllByRecursion (λ z. is_same_entry x z ≡ false) (change_first test change ys) → AllByRecursion (λ z. is_same_entry x z ≡ false) (cond b (change y ∷ ys) (y ∷ change_first test change ys))
+      step : (b : Bool) → test y ≡ b → AllByRecursion (λ z. same_entry x z ≡ false) (change_first test change ys) → AllByRecursion (λ z. same_entry x z ≡ false) (cond b (change y ∷ ys) (y ∷ change_first test change ys))
       step true e more = (same-right x y e ∙ d.0, d.1)
       step false e more = (d.0, more)
 
-  pub differ-changed : (xs : Entries) → IsDistinct is_same_entry xs → IsDistinct is_same_entry (change_first test change xs)
+  pub differ-changed : (xs : Entries) → IsDistinct same_entry xs → IsDistinct same_entry (change_first test change xs)
   unfolding IsDistinct
   differ-changed [] d = tt
   differ-changed (x ∷ xs) d = step (test x) refl (differ-changed xs d.1)
     where
-      step : (b : Bool) → test x ≡ b → IsDistinct is_same_entry (change_first test change xs) → IsDistinct is_same_entry (cond b (change x ∷ xs) (x ∷ change_first test change xs))
+      step : (b : Bool) → test x ≡ b → IsDistinct same_entry (change_first test change xs) → IsDistinct same_entry (cond b (change x ∷ xs) (x ∷ change_first test change xs))
       step true e more = (all-left x xs e d.0, d.1)
       step false e more = (all-changed x xs d.0, more)
 

@@ -7,5 +7,4 @@ pub mod ChangedHeader
 pub mod SoundEntries
 pub mod TakenBack
 pub mod RowLaws
-pub mod Shorter
 pub mod HeldRecords

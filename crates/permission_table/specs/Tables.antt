@@ -2,29 +2,23 @@
 -- org.freedesktop.impl.portal.PermissionStore.
 use Rattle.std.specs.Prelude.{◌≡◌, ℕ, List, Bool, true, Option, Some, None, option_map, Result, Ok, Err}
 use Rattle.std.specs.List.{All, list_all, IsDistinct}
-use Rattle.dbus_types.specs.declared.types.Endian.TheVariants.{Little}
 use Rattle.dbus_types.specs.declared.types.Value.{Value}
-use Rattle.dbus_types.specs.declared.types.Value.TheVariants as V
-use Rattle.dbus_types.specs.Spelling.{spelling}
 use Rattle.portal_model.specs.declared.records.Row.{Row}
 use Rattle.portal_model.specs.declared.store.StoreAnswer.{StoreAnswer}
 use Rattle.portal_model.specs.declared.store.StoreError.{StoreError}
 use Rattle.portal_model.specs.declared.store.StoreError.TheVariants.{Memory}
 use Rattle.portal_model.specs.declared.store.StoredEntry.{StoredEntry}
 use Rattle.portal_model.specs.declared.store.TableEntry.{TableEntry}
-use Rattle.portal_model.specs.Changed.{IsDatum}
+use Rattle.portal_model.specs.Data.{is_data}
 use Rattle.portal_model.specs.RecordChanges.{change_first}
 use Rattle.portal_model.specs.Rows.{are_rows}
 use Rattle.portal_model.specs.Store.{Entries, Outcome, can_be_told, is_entry_of, entry_of}
-use Rattle.portal_model.specs.Store.{record_of, without_entry}
-use Rattle.portal_model.specs.Valid.{has_entry_texts, has_texts}
-
-abbrev pub is_same_entry : StoredEntry → StoredEntry → Bool
-is_same_entry a b = is_entry_of b.table b.id a
+use Rattle.portal_model.specs.Store.{without_entry}
+use Rattle.portal_model.specs.Valid.{has_entry_texts, has_texts, same_entry}
 
 -- the data as a variant keep the rules of types and values, and hold no handle
 abbrev pub IsSoundDatum : Value → Type 0
-IsSoundDatum datum = IsDatum (V.Variant datum) (spelling Little 0 (V.Variant datum))
+IsSoundDatum datum = is_data datum ≡ true
 
 -- no text of the rows has a zero byte
 abbrev pub have_texts : List Row → Bool
@@ -35,7 +29,7 @@ pub record IsSound (e : StoredEntry) : Type 0 where
   -- rows stand in byte order, one for each application, and none is empty
   pub rows : are_rows e.rows ≡ true
   -- no text has a zero byte
-  pub texts : has_entry_texts (record_of e) ≡ true
+  pub texts : has_entry_texts e ≡ true
   pub datum : IsSoundDatum e.datum
 
 -- what an entry of the tables keeps
@@ -46,7 +40,7 @@ pub record IsHeld (e : StoredEntry) : Type 0 where
 
 pub record AreEntries (entries : Entries) : Type 0 where
   -- entries differ in table or identifier
-  pub differ : IsDistinct is_same_entry entries
+  pub differ : IsDistinct same_entry entries
   pub held : All IsHeld entries
 
 -- what its definition says, or want of memory; a refusal changes nothing

@@ -15,7 +15,8 @@ use portal_base::memory::{Replica, WantOfMemory};
 use portal_base::text::Text;
 use portal_model::datum::Datum;
 use portal_model::records::Row;
-use portal_model::store::{StoreAnswer, StoredChange, StoredEntry, TableEntry};
+use portal_model::reply::Change;
+use portal_model::store::{StoreAnswer, StoredEntry, TableEntry};
 use std::alloc::Global;
 
 /// The entry of a table and an identifier.
@@ -189,10 +190,10 @@ pub(crate) fn content_of(alloc: Global, entry: &StoredEntry) -> Result<TableEntr
 }
 
 /// What the signal tells of an entry that is gone, or is now so.
-pub(crate) fn change_of(deleted: bool, entry: StoredEntry) -> StoredChange
+pub(crate) fn change_of(deleted: bool, entry: StoredEntry) -> Change
     ensures { result ≡ change_of deleted entry }
 {
-    StoredChange {
+    Change {
         table: entry.table,
         id: entry.id,
         deleted,

@@ -3,13 +3,13 @@
 //! Each function does nothing; its contract is the law.
 
 ghost use Rattle.std.specs.Prelude.{◌≡◌, ℕ, List, true, cond, map, reverse};
-ghost use Rattle.std.specs.List.{All, IsDistinct, filter};
+ghost use Rattle.std.specs.List.{IsDistinct, filter, list_all};
 ghost use Rattle.portal_model.specs.declared.records.Row.{Row as Row'};
 ghost use Rattle.portal_model.specs.declared.store.StoredEntry.{StoredEntry as StoredEntry'};
 ghost use Rattle.portal_model.specs.RecordChanges.{is_other_key, set_entry};
 ghost use Rattle.portal_model.specs.Rows.{are_rows, is_row_of, permissions_of, stored_rows, with_row};
 ghost use Rattle.portal_model.specs.Store.{Entries, can_be_told, put_entry, record_of, without_entry, without_permissions};
-ghost use Rattle.portal_model.specs.Valid.{IsValidEntry, same_entry};
+ghost use Rattle.portal_model.specs.Valid.{is_valid_entry, same_entry};
 ghost use Rattle.permission_table.specs.Tables.{AreEntries, former_of, put_back};
 
 /// An entry that was put is taken back by what it had before.
@@ -43,12 +43,18 @@ pub fn fewer_rows_can_be_told()
         → can_be_told (without_permissions app e) ≡ true }
 {}
 
-/// The records of what tables hold are such as a valid state has.
+/// What tables hold is such as a valid state has.
 pub fn what_tables_hold_is_valid()
-    ensures differ { (entries : Entries) → AreEntries entries
-        → IsDistinct same_entry (map record_of entries) }
+    ensures differ { (entries : Entries) → AreEntries entries → IsDistinct same_entry entries }
     ensures valid { (entries : Entries) → AreEntries entries
-        → All IsValidEntry (map record_of entries) }
+        → list_all is_valid_entry entries ≡ true }
+{}
+
+/// Valid entries that differ, with their rows in order, are such as tables hold.
+pub fn valid_entries_are_held()
+    ensures { (entries : Entries) → IsDistinct same_entry entries
+        → list_all is_valid_entry entries ≡ true
+        → list_all (λ e. are_rows e.rows) entries ≡ true → AreEntries entries }
 {}
 
 /// The records that are kept of entries are set and removed as the entries are.

@@ -35,5 +35,6 @@ mod ordered;
 mod rows;
 mod tables;
 
-pub use portal_model::store::{StoreAnswer, StoreError, StoredChange, StoredEntry, TableEntry};
+pub use portal_model::reply::Change;
+pub use portal_model::store::{StoreAnswer, StoreError, StoredEntry, TableEntry};
 pub use tables::Tables;

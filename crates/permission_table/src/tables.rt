@@ -59,6 +59,17 @@ impl Tables {
         }
     }
 
+    /// The tables of these entries, in order of creation.
+    pub fn with_entries(alloc: Global, entries: List<StoredEntry>) -> Tables
+        requires { AreEntries entries }
+        ensures { result ≡ entries }
+    {
+        Tables {
+            alloc,
+            entries: entries.into_vec(),
+        }
+    }
+
     /// All entries, in order of creation. They differ in table or identifier, and
     /// the rows of each stand in byte order, one for each application and none
     /// empty. Of each there is a record such as a valid state has.

@@ -1,6 +1,6 @@
 -- An Add over the portal's lists: what its call gives for the queue of its seat's connection is what serves it on a bus.
 use Rattle.std.specs.Prelude.{IfOk}
-use Rattle.std.proofs.Common.{◌≡◌, ℕ, List, get_or, set, true, false, Option, Some, None, is_some, Result, refl, sym, ap, subst, ◌∙◌}
+use Rattle.std.proofs.Common.{◌≡◌, ℕ, List, get_or, set, true, false, Option, Some, None, is_some, option_map, Result, refl, sym, ap, subst, ◌∙◌}
 use Rattle.std.specs.List.{position}
 use Rattle.document_records.specs.Documents.{DocumentList}
 use Rattle.portal_base.specs.declared.files.File.{File}
@@ -20,22 +20,23 @@ use Rattle.record_keeper.specs.Keepers.{KeeperIs}
 use Rattle.document_calls.specs.Books.{IsBook, IsQueue, queue_set, with_book}
 use Rattle.document_calls.specs.KeeperCalls.{ServesKept}
 use Rattle.document_calls.specs.declared.served.ServedCall.{ServedCall}
-use Rattle.portal_core.specs.Documents.{HasLists, ServedOn, with_lists}
+use Rattle.portal_core.specs.Documents.{HasLists, ServedOn, with_lists, with_queues}
 use Rattle.portal_core.proofs.SeatQueues.{connection-is, has_seat, queue-is, queue-set, queued_so}
-use Rattle.portal_core.proofs.ServedLists.{if_ok, same_lists}
+use Rattle.portal_core.proofs.ServedLists.{if_ok, none-there, on-some, same_lists}
 use Rattle.portal_core.proofs.Steps.{bus_found}
+use Rattle.store_serving.specs.Waiting.{silent}
 
 module _ (ds : DocumentList) (rs : List Triple) (apps : List (List ℕ)) (cs : List Connection) (told : Option (List File)) where
   -- what the whole call says of an Add that was served
   abbrev pub ServesAdd : Option Connection → AddRequest → DocumentList → List Triple → List (List ℕ) → List Connection → KeeperIs → KeeperIs → ServedCall → Type 0
   ServesAdd o a ds' rs' apps' cs' old new served =
-      (s : State) → Valid s → HasLists s ds rs apps cs → files_told s ≡ told →
-      ServedOn s (Request.Add a) served.given (with_lists s ds' rs' apps' cs') served.answer old new o
+      (s : State) (b : Option Connection) → Valid s → HasLists s ds rs apps cs → files_told s ≡ told → option_map silent b ≡ o →
+      ServedOn s (Request.Add a) served.given (with_lists s ds' rs' apps' cs') served.answer old new b
 
   -- and of a connection that is an open bus
   abbrev pub ServesBus : Option Connection → AddRequest → DocumentList → List Triple → List (List ℕ) → List Connection → KeeperIs → KeeperIs → ServedCall → Type 0
   ServesBus o a ds' rs' apps' cs' old new served =
-      (s : State) (c : Connection) → Valid s → HasLists s ds rs apps cs → files_told s ≡ told → o ≡ Some c →
+      (s : State) (c : Connection) → Valid s → HasLists s ds rs apps cs → files_told s ≡ told → o ≡ Some (silent c) →
       ServesKept s c (Request.Add a) served.given (with_lists s ds' rs' apps' cs') served.answer old new
 
   -- what the call says of a queue
@@ -46,12 +47,16 @@ module _ (ds : DocumentList) (rs : List Triple) (apps : List (List ℕ)) (cs : L
 
   -- of a seat without an open bus
   pub add-nowhere : (o : Option Connection) (a : AddRequest) (k : KeeperIs) (served : ServedCall) → is_some o ≡ false → served ≡ record { given = nothing_given; answer = Answer.Refused Code.NotHere } → ServesAdd o a ds rs apps cs k k served
-  add-nowhere None a k served e h = λ s v l f. (ap (λ (x : ServedCall). x.given) h, ap (λ (x : ServedCall). x.answer) h, same_lists ds rs apps cs 0 None s l, refl)
-  add-nowhere (Some c) a k served e h = cc
+  add-nowhere None a k served e h = λ s b v l f here.
+      subst (ServedOn s (Request.Add a) served.given (with_lists s ds rs apps cs) served.answer k k) (sym (none-there b here))
+      (ap (λ (x : ServedCall). x.given) h, ap (λ (x : ServedCall). x.answer) h, same_lists ds rs apps cs 0 None s l, refl)
+  add-nowhere (Some c) a k served e h = absurd (cc)
 
   serves-on : (o : Option Connection) (a : AddRequest) (ds' : DocumentList) (rs' : List Triple) (apps' : List (List ℕ)) (cs' : List Connection) (old new : KeeperIs) (served : ServedCall) → is_some o ≡ true → ServesBus o a ds' rs' apps' cs' old new served → ServesAdd o a ds' rs' apps' cs' old new served
-  serves-on None a ds' rs' apps' cs' old new served e k = cc
-  serves-on (Some c) a ds' rs' apps' cs' old new served e k = λ s v l f. k s c v l f refl
+  serves-on None a ds' rs' apps' cs' old new served e k = absurd (cc)
+  serves-on (Some c) a ds' rs' apps' cs' old new served e k = λ s b v l f here.
+      on-some (ServedOn s (Request.Add a) served.given (with_lists s ds' rs' apps' cs') served.answer old new) b c here
+      (λ d same. k s d v l f (ap (λ (x : Connection). Some x) (sym same)))
 
   pub add-somewhere : (o : Option Connection) (a : AddRequest) (ds' : DocumentList) (rs' : List Triple) (apps' : List (List ℕ)) (cs' : List Connection) (old new : KeeperIs) (r : Result ServedCall WantOfMemory) → is_some o ≡ true → IfOk r (ServesBus o a ds' rs' apps' cs' old new) →
       IfOk r (ServesAdd o a ds' rs' apps' cs' old new)
@@ -63,7 +68,8 @@ module _ (ds : DocumentList) (rs : List Triple) (apps : List (List ℕ)) (cs : L
   add-serves seat i v place_is stands a ds' rs' apps' queue cs' e old new r =
       if_ok (ServesQueue v a ds' rs' apps' queue old new) (ServesBus (bus_of (connection_of cs seat)) a ds' rs' apps' cs' old new) r
       (λ served k. λ s c valid l files here.
-      let found : connection_of cs seat ≡ Some c = bus_found (connection_of cs seat) c here in
-      let set_is : queue_set s c queue ≡ record s { connections = cs' } = queue-set seat cs i v c place_is stands found s valid l.connected s.limits.queued refl queue ∙ (λ j. record s { connections = sym e j }) in
+      let found : connection_of cs seat ≡ Some (silent c) = bus_found (connection_of cs seat) (silent c) here in
+      let set_is : queue_set s c queue ≡ record s { connections = with_queues s.connections cs' } =
+      queue-set seat cs i v c place_is stands found s valid l.connected s.limits.queued refl queue ∙ (λ j. record s { connections = with_queues s.connections (sym e j) }) in
       subst (λ (t : State). ServesKept s c (Request.Add a) served.given t served.answer old new) (ap (λ (t : State). record (with_book s ds' rs' apps') { connections = t.connections }) set_is)
       (k s c l.book (queue-is seat cs i v c place_is stands found s valid l.connected s.limits.queued refl) files valid (ap (λ (x : Connection). x.who) (sym (connection-is seat cs i v c place_is stands found)))))

@@ -14,12 +14,14 @@ use Rattle.portal_model.specs.declared.records.Records.{Records}
 use Rattle.portal_model.specs.declared.state.Triple.{Triple}
 use Rattle.portal_model.specs.Kept.{records_of}
 use Rattle.portal_model.specs.Opening.{SoundOpening, document_kept, files_of, id_of, is_told, opened_over, rights_kept}
+use Rattle.portal_model.specs.Store.{Entries}
 use Rattle.portal_model.specs.Valid.{Valid}
 use Rattle.record_keeper.specs.BadRecords.{AreGood}
+use Rattle.record_keeper.specs.KeptEntries.{KeepEntries}
 use Rattle.record_keeper.specs.Keepers.{KeeperIs}
 use Rattle.portal_core.specs.Answered.{KeepsState}
 use Rattle.portal_core.specs.Held.{Stands}
-use Rattle.portal_core.specs.Started.{LoadsGood, is_narrow, opening_loaded}
+use Rattle.portal_core.specs.Started.{IsOpening, LoadsGood, is_narrow, opening_loaded}
 use Rattle.portal_core.proofs.GoodRecords.{all_sound, numbers_apart, over_any, sound_records, valid_quiet}
 use Rattle.portal_core.proofs.KeptRights.{all_back}
 
@@ -28,11 +30,11 @@ told_by : (began : Option (List File)) → cond (is_told began) (Some (files_of 
 told_by None = refl
 told_by (Some files) = refl
 
-pub sound_loaded : (limits : Limits) (records : Records) (o : OpeningState) → o ≡ opening_loaded limits records → AreGood limits records → list_all is_narrow o.made ≡ true → limits.made < 2 ^ 32 → limits.queued < 2 ^ 32 → SoundOpening o
+pub sound_loaded : (limits : Limits) (records : Records) (o : OpeningState) → IsOpening limits records o → AreGood limits records → list_all is_narrow o.made ≡ true → limits.made < 2 ^ 32 → limits.queued < 2 ^ 32 → SoundOpening o
 sound_loaded limits records o e good narrow made queued =
-    subst SoundOpening (sym e) (sound_records limits records good (ap (λ (x : OpeningState). list_all is_narrow x.made) (sym e) ∙ narrow) made queued)
+    subst SoundOpening (sym e.whole) (sound_records limits records o.entries e.entries good (ap (λ (x : OpeningState). list_all is_narrow x.made) (sym e.whole) ∙ narrow) made queued)
 
-pub valid_loaded : (limits : Limits) (records : Records) (o : OpeningState) → o ≡ opening_loaded limits records → AreGood limits records → list_all is_narrow o.made ≡ true → limits.made < 2 ^ 32 → limits.queued < 2 ^ 32 → Valid (opened_over None o)
+pub valid_loaded : (limits : Limits) (records : Records) (o : OpeningState) → IsOpening limits records o → AreGood limits records → list_all is_narrow o.made ≡ true → limits.made < 2 ^ 32 → limits.queued < 2 ^ 32 → Valid (opened_over None o)
 valid_loaded limits records o e good narrow made queued = valid_quiet o (sound_loaded limits records o e good narrow made queued)
 
 pub loaded_documents : (limits : Limits) (o : OpeningState) (items : List OpeningDocument) (ds : DocumentList) →
@@ -46,11 +48,11 @@ loaded_documents limits o items ds e i l m = e ∙ (λ j. record {
 })
 
 -- the records that stand for the state that records open are those records
-back : (limits : Limits) (records : Records) (began : Option (List File)) → AreGood limits records → records_of (opened_over began (opening_loaded limits records)) ≡ records
-back limits records began good = λ i. record {
+back : (limits : Limits) (records : Records) (began : Option (List File)) (entries : Entries) → KeepEntries records.entries entries → AreGood limits records → records_of (opened_over began (opening_loaded entries limits records)) ≡ records
+back limits records began entries kept good = λ i. record {
   version = sym good.version i;
   documents = all_back records.documents (numbers_apart limits records.documents good.documents) (all_sound limits records.documents [] good.documents) i;
-  entries = records.entries;
+  entries = kept.kept i;
 }
 
 module _ (began : Option (List File)) (o : OpeningState) (ds : DocumentList) (rs : List Triple) (apps : List (List ℕ)) (k : ds ≡ record { most_live = o.limits.documents; most_made = o.limits.made; live = map document_kept o.documents; made = o.made }) (r : rs ≡ rights_kept o.documents) (a : apps ≡ o.applications) where
@@ -88,5 +90,5 @@ module _ (began : Option (List File)) (o : OpeningState) (ds : DocumentList) (rs
   pub kept_first : (limits : Limits) (old new : KeeperIs) → LoadsGood limits old o new → KeepsState new.told (opened_over began o)
   kept_first limits old new g =
       let told : new.told ≡ old.told = ap (λ (x : KeeperIs). x.told) g.loads.goes in
-      let same : records_of (opened_over began o) ≡ g.records = ap (λ (x : OpeningState). records_of (opened_over began x)) g.opening_is ∙ back limits g.records began g.good in
+      let same : records_of (opened_over began o) ≡ g.records = ap (λ (x : OpeningState). records_of (opened_over began x)) g.opening_is.whole ∙ back limits g.records began o.entries g.opening_is.entries g.good in
       subst (λ (t : Option Records). KeepsState t (opened_over began o)) (sym told) (same_told old.told g.records g.loads.gives same)

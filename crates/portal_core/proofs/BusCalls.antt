@@ -9,6 +9,7 @@ use Rattle.portal_model.specs.declared.reply.Code.{Code}
 use Rattle.portal_model.specs.declared.request.AddRequest.{AddRequest}
 use Rattle.portal_model.specs.declared.request.Request.{Request}
 use Rattle.portal_model.specs.declared.state.Connection.{Connection}
+use Rattle.portal_model.specs.declared.store.StoreCall.{StoreCall}
 use Rattle.portal_model.specs.Add.{add, add_allowed, add_looking, add_presented, add_shown, may_list_all}
 use Rattle.portal_model.specs.AddArguments.{are_add_arguments, are_presented, document_paths, paths_shown}
 use Rattle.portal_model.specs.Bus.{bus_walk, is_tree}
@@ -87,6 +88,11 @@ add-calls s a given (Some c) l =
 pub call-calls : (s : State) (request : Request) (given : Given) (o : Option Connection) → is_document_call request ≡ true → bus_calls s request given o ≡ []
 call-calls s request given None h = refl
 call-calls s request given (Some c) h = ap (λ (w : Walk Verdict). calls_of w given.looks (is_tree given.fault)) (walk-is (all_told c.seat s) c request given.numbers h)
+
+-- a call of the permission store makes none either
+pub store-calls : (s : State) (call : StoreCall) (given : Given) (o : Option Connection) → bus_calls s (Request.Store call) given o ≡ []
+store-calls s call given None = refl
+store-calls s call given (Some c) = refl
 
 pub no-moment : (now : Option ℕ) → is_some now ≡ false → now ≡ None
 no-moment None e = refl

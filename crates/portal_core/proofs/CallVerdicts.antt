@@ -68,6 +68,7 @@ is_on_bus (Request.DeleteDocument doc) = true
 is_on_bus (Request.LookupDocument path) = true
 is_on_bus (Request.Info doc) = true
 is_on_bus (Request.ListDocuments app) = true
+is_on_bus (Request.Store call) = true
 is_on_bus (Request.Enter who kind) = false
 is_on_bus Request.Leave = false
 is_on_bus Request.Collect = false

@@ -24,10 +24,13 @@ use Rattle.portal_model.specs.declared.records.GrantRecord.{GrantRecord}
 use Rattle.portal_model.specs.declared.records.Records.{Records}
 use Rattle.portal_model.specs.Content.{is_above, is_folder}
 use Rattle.portal_model.specs.Opening.{each, first_named, has_grants, id_of, is_grant, names_kept, opened_over, GrantsDiffer, SoundOpening}
-use Rattle.portal_model.specs.Valid.{IsValidEntry, Valid, applications_limit, same_entry}
+use Rattle.portal_model.specs.Store.{Entries}
+use Rattle.portal_model.specs.Valid.{Valid, applications_limit}
 use Rattle.portal_model.proofs.OpeningLaws.{openings-valid}
 use Rattle.record_keeper.specs.BadRecords.{AllGood, AreGood, EachBehind, IsGoodDocument, IsGoodEntry, applications_of, names_granted}
-use Rattle.record_keeper.specs.SoundRecords.{IsGrant, IsSoundDocument}
+use Rattle.record_keeper.specs.KeptEntries.{KeepEntries}
+use Rattle.record_keeper.specs.SoundRecords.{IsGrant, IsSoundDocument, IsValidEntry}
+use Rattle.record_keeper.proofs.HeldEntries.{good_differ}
 use Rattle.portal_core.specs.Started.{document_loaded, is_narrow, opening_loaded}
 use Rattle.portal_core.proofs.KeptRights.{rising_names}
 
@@ -137,7 +140,7 @@ narrow_more (id ∷ ids) n h l = grind (arith, narrow_more ids n)
 
 -- ---- entries
 
-entries_right : (es earlier : List EntryRecord) → EachBehind IsGoodEntry earlier es → All IsValidEntry es
+pub entries_right : (es earlier : List EntryRecord) → EachBehind IsGoodEntry earlier es → All IsValidEntry es
 entries_right [] earlier all = All-nil IsValidEntry
 entries_right (e ∷ es) earlier all = All-cons IsValidEntry e es all.0.itself.valid (entries_right es (earlier ++ (e ∷ [])) all.1)
 
@@ -147,8 +150,8 @@ no_files = tt
 
 -- ---- the whole
 
-pub sound_records : (limits : Limits) (records : Records) → AreGood limits records → list_all is_narrow (opening_loaded limits records).made ≡ true → limits.made < 2 ^ 32 → limits.queued < 2 ^ 32 → SoundOpening (opening_loaded limits records)
-sound_records limits records good narrow made queued =
+pub sound_records : (limits : Limits) (records : Records) (entries : Entries) → KeepEntries records.entries entries → AreGood limits records → list_all is_narrow (opening_loaded entries limits records).made ≡ true → limits.made < 2 ^ 32 → limits.queued < 2 ^ 32 → SoundOpening (opening_loaded entries limits records)
+sound_records limits records entries kept good narrow made queued =
     let ds = records.documents in
     let sound = all_sound limits ds [] good.documents in
     record {
@@ -160,8 +163,8 @@ sound_records limits records good narrow made queued =
       names = names_loaded ds sound;
       grants = grants_loaded ds sound;
       grants_differ = grants_apart ds sound;
-      entries_differ = each_differs IsGoodEntry same_entry (λ earlier x k. k.new) records.entries [] good.entries;
-      entries_sound = entries_right records.entries [] good.entries;
+      entries_differ = good_differ records.entries entries good.entries kept;
+      entries_sound = kept.valid;
       files_differ = no_files;
       files_apart = refl;
       files_named = refl;

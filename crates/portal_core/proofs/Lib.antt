@@ -7,7 +7,9 @@ pub mod KeptRights
 pub mod GoodRecords
 pub mod FreshItems
 pub mod Beginning
+pub mod Boxes
 pub mod OpenSteps
+pub mod QuietNodes
 pub mod Steps
 pub mod NodeSteps
 pub mod SameRecords
@@ -18,6 +20,7 @@ pub mod DrawnWords
 pub mod AddVerdicts
 pub mod SettledCalls
 pub mod CallSteps
+pub mod StoredCalls
 pub mod ServedLists
 pub mod WentDevices
 pub mod SeatQueues

@@ -9,13 +9,17 @@ use Rattle.portal_base.specs.declared.who.Kind.{Kind}
 use Rattle.portal_base.specs.declared.who.Who.{Who}
 use Rattle.portal_model.specs.declared.handle.Handle.{Handle}
 use Rattle.portal_model.specs.declared.handle.OpenHandle.{OpenHandle}
+use Rattle.portal_model.specs.declared.reply.Change.{Change}
 use Rattle.portal_model.specs.declared.state.Connection.{Connection}
 use Rattle.portal_model.specs.Enter.{new_connection}
 use Rattle.portal_model.specs.Leave.{handles_of_others, of_others}
 use Rattle.portal_model.specs.Present.{requeued, with_queue}
 use Rattle.portal_model.specs.State.{State, connection_of, handles_of, is_mount}
 use Rattle.portal_model.specs.Step.{all_told, told_of}
-use Rattle.portal_model.specs.Valid.{has_host_path, is_sound_handle, opened_here}
+use Rattle.portal_model.specs.StoreRequest.{tell_hosts, told_change}
+use Rattle.portal_model.specs.Valid.{has_host_path, is_host_bus, is_sound_handle, opened_here}
+use Rattle.portal_core.proofs.Boxes.{joined-elsewhere, joined-here, left-elsewhere, left-here, silent-found, some-silent}
+use Rattle.store_serving.specs.Waiting.{silent}
 
 is-number : (a b : ℕ) → (a == b) ≡ true → a ≡ b
 is-number a b e = grind (arith, nat_tests)
@@ -61,19 +65,31 @@ open-told table s seat a = open-mapped s (told_of seat) table (told-keeps seat) 
 pub open-requeued : (table : HandleTable) (s : State) (seat : ℕ) (change : List (List ℕ) → List (List ℕ)) → AreOpen s table → AreOpen (with_queue seat change s) table
 open-requeued table s seat change a = open-mapped s (requeued seat change) table (requeued-keeps seat change) a
 
--- ---- a connection that begins
+heard-keeps : (change : Change) → Keeps (told_change change)
+heard-keeps change c = elim (is_host_bus c.who c.kind) as (λ b. ((cond b (record c { unsent = c.unsent ++ change ∷ [] }) c).seat ≡ c.seat) × ((cond b (record c { unsent = c.unsent ++ change ∷ [] }) c).opens ≡ c.opens)) [ true ↦ (refl, refl) | false ↦ (refl, refl) ]
 
-joined-here : (cs : List Connection) (c : Connection) (q : ℕ) → connection_of cs q ≡ None → (c.seat == q) ≡ true → connection_of (cs ++ c ∷ []) q ≡ Some c
-joined-here [] c q e h = ap (λ (b : Bool). cond b (Some c) None) h
-joined-here (d ∷ ds) c q e h = by (d.seat == q) e (λ f. joined-here ds c q f h)
+pub open-heard : (table : HandleTable) (s : State) (change : Change) → AreOpen s table → AreOpen (tell_hosts change s) table
+open-heard table s change a = open-mapped s (told_change change) table (heard-keeps change) a
+
+-- ---- what connections wait for has nothing to do with handles
+
+pub open-silent : (table : HandleTable) (s : State) → AreOpen s table → AreOpen (record s { connections = map silent s.connections }) table
+open-silent table s a = open-mapped s silent table (λ c. (refl, refl)) a
+
+pub open-loud : (table : HandleTable) (s : State) → AreOpen (record s { connections = map silent s.connections }) table → AreOpen s table
+open-loud table s a = record {
+  limit = a.limit;
+  each = λ q. loud (open_on s.handles q) (connection_of s.connections q) (opened_on table.seats q)
+      (subst (λ (o : Option Connection). AreOpened (open_on s.handles q) o (opened_on table.seats q)) (silent-found s.connections q) (a.each q));
+}
   where
-    by : (b : Bool) → cond b (Some d) (connection_of ds q) ≡ None → (connection_of ds q ≡ None → connection_of (ds ++ c ∷ []) q ≡ Some c) → cond b (Some d) (connection_of (ds ++ c ∷ []) q) ≡ Some c
-    by true f more = absurd (cc)
-    by false f more = more f
+    loud : (hs : List (ℕ × Handle)) (o : Option Connection) (n : Option Opened) → AreOpened hs (option_map silent o) n → AreOpened hs o n
+    loud hs None None h = tt
+    loud hs None (Some n) h = h
+    loud hs (Some c) None h = h
+    loud hs (Some c) (Some n) h = record { last = h.last; handles = h.handles }
 
-joined-elsewhere : (cs : List Connection) (c : Connection) (q : ℕ) → (c.seat == q) ≡ false → connection_of (cs ++ c ∷ []) q ≡ connection_of cs q
-joined-elsewhere [] c q h = ap (λ (b : Bool). cond b (Some c) None) h
-joined-elsewhere (d ∷ ds) c q h = ap (λ (o : Option Connection). cond (d.seat == q) (Some d) o) (joined-elsewhere ds c q h)
+-- ---- a connection that begins
 
 -- a seat without a connection has nothing open
 none-open : (cs : List Connection) (seat : ℕ) (hs : List OpenHandle) → connection_of cs seat ≡ None → list_all (is_sound_handle cs) hs ≡ true → handles_of hs seat ≡ []
@@ -119,22 +135,6 @@ module _ (s : State) (seat : ℕ) (who : Who) (kind : Kind) (table after : Handl
 
 -- ---- a connection that ends
 
-left-here : (cs : List Connection) (seat : ℕ) → connection_of (of_others seat cs) seat ≡ None
-left-here [] seat = refl
-left-here (c ∷ cs) seat = by (c.seat == seat) refl (left-here cs seat)
-  where
-    by : (b : Bool) → (c.seat == seat) ≡ b → connection_of (of_others seat cs) seat ≡ None → connection_of (cond (not b) (c ∷ of_others seat cs) (of_others seat cs)) seat ≡ None
-    by true h more = more
-    by false h more = ap (λ (b : Bool). cond b (Some c) (connection_of (of_others seat cs) seat)) h ∙ more
-
-left-elsewhere : (cs : List Connection) (seat q : ℕ) → (seat == q) ≡ false → connection_of (of_others seat cs) q ≡ connection_of cs q
-left-elsewhere [] seat q h = refl
-left-elsewhere (c ∷ cs) seat q h = by (c.seat == seat) refl (left-elsewhere cs seat q h)
-  where
-    by : (b : Bool) → (c.seat == seat) ≡ b → connection_of (of_others seat cs) q ≡ connection_of cs q → connection_of (cond (not b) (c ∷ of_others seat cs) (of_others seat cs)) q ≡ cond (c.seat == q) (Some c) (connection_of cs q)
-    by true t more = more ∙ ap (λ (b : Bool). cond b (Some c) (connection_of cs q)) (sym (ap (λ (n : ℕ). n == q) (is-number c.seat seat t) ∙ h))
-    by false t more = ap (λ (o : Option Connection). cond (c.seat == q) (Some c) o) more
-
 handles-elsewhere : (hs : List OpenHandle) (seat q : ℕ) → (seat == q) ≡ false → handles_of (handles_of_others seat hs) q ≡ handles_of hs q
 handles-elsewhere [] seat q h = refl
 handles-elsewhere (x ∷ xs) seat q h = by (x.seat == seat) refl (handles-elsewhere xs seat q h)
@@ -172,10 +172,12 @@ entered-alike hs None (Some n) a = absurd a
 entered-alike hs (Some c) None a = absurd a
 entered-alike hs (Some c) (Some n) a = refl
 
-pub are-entered : (s : State) (cs : List Connection) (table : HandleTable) → s.connections ≡ cs → AreOpen s table → AreEntered cs table
-are-entered s cs table e a = λ q. entered-alike (open_on s.handles q) (connection_of s.connections q) (opened_on table.seats q) (a.each q) ∙ ap (λ (l : List Connection). is_some (connection_of l q)) e
+pub are-entered : (s : State) (cs : List Connection) (table : HandleTable) → map silent s.connections ≡ cs → AreOpen s table → AreEntered cs table
+are-entered s cs table e a = λ q.
+    entered-alike (open_on s.handles q) (connection_of s.connections q) (opened_on table.seats q) (a.each q)
+    ∙ (sym (some-silent (connection_of s.connections q)) ∙ (ap (λ (o : Option Connection). is_some o) (sym (silent-found s.connections q)) ∙ ap (λ (l : List Connection). is_some (connection_of l q)) e))
 
-pub not-entered : (s : State) (cs : List Connection) (table : HandleTable) (seat : ℕ) → s.connections ≡ cs → AreOpen s table → connection_of cs seat ≡ None → opened_on table.seats seat ≡ None
+pub not-entered : (s : State) (cs : List Connection) (table : HandleTable) (seat : ℕ) → map silent s.connections ≡ cs → AreOpen s table → connection_of cs seat ≡ None → opened_on table.seats seat ≡ None
 not-entered s cs table seat e a c = nothing (opened_on table.seats seat) (are-entered s cs table e a seat ∙ ap (λ (o : Option Connection). is_some o) c)
   where
     nothing : (n : Option Opened) → is_some n ≡ false → n ≡ None

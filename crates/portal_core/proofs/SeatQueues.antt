@@ -1,6 +1,6 @@
 -- The queue of the one connection of a seat, changed in its place.
 use Rattle.std.specs.Prelude.{IfOk}
-use Rattle.std.proofs.Common.{◌≡◌, Result, ℕ, ◌+◌, ◌<◌, ◌≤◌, ◌==◌, nat_eq, suc, List, [], ◌∷◌, length, map, get_or, set, Bool, true, false, not, cond, ltb, Option, Some, None, option_map, refl, sym, ap, subst, ◌∙◌, arith}
+use Rattle.std.proofs.Common.{◌≡◌, Result, ℕ, ◌+◌, ◌<◌, ◌≤◌, ◌==◌, nat_eq, zero, suc, List, [], ◌∷◌, length, map, get_or, set, Bool, true, false, not, cond, ltb, Option, Some, None, option_map, refl, sym, ap, subst, ◌∙◌, arith}
 use Rattle.std.specs.List.{AllByRecursion, IsDistinct, find, position, prefix_len}
 use Rattle.std.proofs.lemmas.Bool.Decides.{nat_tests}
 use Rattle.portal_model.specs.declared.state.Connection.{Connection}
@@ -16,8 +16,11 @@ use Rattle.document_calls.specs.declared.served.ServedCall.{ServedCall}
 use Rattle.portal_base.specs.declared.memory.WantOfMemory.{WantOfMemory}
 use Rattle.portal_model.specs.declared.request.Request.{Request}
 use Rattle.portal_model.specs.Step.{bus_of}
+use Rattle.portal_core.specs.Documents.{with_queues}
+use Rattle.portal_core.proofs.Boxes.{same-queues, silent-found}
 use Rattle.portal_core.proofs.ServedLists.{if_ok}
 use Rattle.portal_core.proofs.Steps.{bus_found}
+use Rattle.store_serving.specs.Waiting.{silent}
 
 -- ---- the first that passes a test
 
@@ -100,31 +103,64 @@ requeued-first seat queue (c ∷ cs) d = step (c.seat == seat) refl (requeued-fi
     step true e more = ap (λ (xs : List Connection). queued_so queue c ∷ xs) (sym (no-other seat c.seat queue cs e d.0))
     step false e more = ap (λ (xs : List Connection). c ∷ xs) more
 
-module _ (seat : ℕ) (cs : List Connection) (i : ℕ) (v c : Connection) (place_is : Some i ≡ position (has_seat seat) cs) (stands : v ≡ get_or cs i v) (found : connection_of cs seat ≡ Some c) where
+-- ---- the connections of the state may still wait for changes
+
+queue-silent : (o : Option Connection) → option_map (λ (e : Connection). e.queue) (option_map silent o) ≡ option_map (λ (e : Connection). e.queue) o
+queue-silent None = refl
+queue-silent (Some c) = refl
+
+seats-silent : (cs : List Connection) → map (λ (x : Connection). x.seat) (map silent cs) ≡ map (λ (x : Connection). x.seat) cs
+seats-silent [] = refl
+seats-silent (c ∷ cs) = ap (λ (xs : List ℕ). c.seat ∷ xs) (seats-silent cs)
+
+-- the queue of a seat set there is set here
+requeued-queues : (seat : ℕ) (queue : List (List ℕ)) (cs : List Connection) → with_queues cs (map (requeued seat (λ _. queue)) (map silent cs)) ≡ map (requeued seat (λ _. queue)) cs
+requeued-queues seat queue [] = refl
+requeued-queues seat queue (c ∷ cs) = λ i. one (c.seat == seat) i ∷ requeued-queues seat queue cs i
+  where
+    one : (b : Bool) → record c { queue = (cond b (record (silent c) { queue = queue }) (silent c)).queue } ≡ cond b (record c { queue = queue }) c
+    one true = refl
+    one false = refl
+
+-- where the queue of the connection at a place is set, no other queue changes
+set-queues : (i : ℕ) (queue : List (List ℕ)) (cs : List Connection) (v : Connection) → v ≡ get_or cs i v → with_queues cs (set cs i (queued_so queue v)) ≡ set cs i (queued_so queue v)
+set-queues i queue [] v e = refl
+set-queues zero queue (c ∷ cs) v e = λ j. queued_so queue (sym e j) ∷ same-queues cs j
+set-queues (suc i) queue (c ∷ cs) v e = ap (λ (xs : List Connection). c ∷ xs) (set-queues i queue cs v e)
+
+pub queues-set : (i : ℕ) (queue : List (List ℕ)) (cs cs' : List Connection) (v : Connection) → v ≡ get_or cs i v → cs' ≡ set cs i (queued_so queue v) → with_queues cs cs' ≡ cs'
+queues-set i queue cs cs' v e f = ap (with_queues cs) f ∙ (set-queues i queue cs v e ∙ sym f)
+
+module _ (seat : ℕ) (cs : List Connection) (i : ℕ) (v c : Connection) (place_is : Some i ≡ position (has_seat seat) cs) (stands : v ≡ get_or cs i v) (found : connection_of cs seat ≡ Some (silent c)) where
   some-is : (x y : Connection) → Some x ≡ Some y → x ≡ y
   some-is x y e = cc
 
   -- it is the one that stands there
-  pub connection-is : v ≡ c
-  connection-is = some-is v c (sym (found-first (has_seat seat) cs i v place_is stands) ∙ found)
+  pub connection-is : v ≡ silent c
+  connection-is = some-is v (silent c) (sym (found-first (has_seat seat) cs i v place_is stands) ∙ found)
 
   pub seat-is : c.seat ≡ seat
-  seat-is = nat_is c.seat seat (found_passes (has_seat seat) cs c found)
+  seat-is = nat_is c.seat seat (found_passes (has_seat seat) cs (silent c) found)
 
-  module _ (s : State) (valid : Valid s) (connected : s.connections ≡ cs) (most : ℕ) (limit : s.limits.queued ≡ most) where
+  module _ (s : State) (valid : Valid s) (connected : map silent s.connections ≡ cs) (most : ℕ) (limit : s.limits.queued ≡ most) where
     pub queue-is : IsQueue s c v.queue most
     queue-is = record {
       own = ap (λ (x : Connection). x.queue) (sym connection-is);
-      here = (λ j. option_map (λ (e : Connection). e.queue) (connection_of (connected j) (seat-is j)))
-          ∙ (ap (λ (x : Option Connection). option_map (λ (e : Connection). e.queue) x) found ∙ ap (λ (x : Connection). Some x.queue) (sym connection-is));
+      here = ap (λ (n : ℕ). option_map (λ (e : Connection). e.queue) (connection_of s.connections n)) seat-is
+          ∙ (sym (queue-silent (connection_of s.connections seat))
+          ∙ (ap (λ (x : Option Connection). option_map (λ (e : Connection). e.queue) x) (sym (silent-found s.connections seat) ∙ ap (λ (xs : List Connection). connection_of xs seat) connected)
+          ∙ (ap (λ (x : Option Connection). option_map (λ (e : Connection). e.queue) x) found ∙ ap (λ (x : Connection). Some x.queue) (sym connection-is))));
       limit = limit;
     }
 
-    pub queue-set : (queue : List (List ℕ)) → queue_set s c queue ≡ record s { connections = set cs i (queued_so queue v) }
+    pub queue-set : (queue : List (List ℕ)) → queue_set s c queue ≡ record s { connections = with_queues s.connections (set cs i (queued_so queue v)) }
     queue-set queue =
-        let differ : IsDistinct nat_eq (map (λ (x : Connection). x.seat) cs) = subst (λ (xs : List Connection). IsDistinct nat_eq (map (λ (x : Connection). x.seat) xs)) connected valid.seats_differ in
-        let set-is : set cs i (queued_so queue v) ≡ map (requeued seat (λ _. queue)) cs = first-changed (has_seat seat) (queued_so queue) cs i v place_is stands ∙ requeued-first seat queue cs differ in
-        (λ j. record s { connections = map (requeued (seat-is j) (λ _. queue)) (connected j) }) ∙ (λ j. record s { connections = sym set-is j })
+        let differ : IsDistinct nat_eq (map (λ (x : Connection). x.seat) cs) =
+        subst (λ (xs : List Connection). IsDistinct nat_eq (map (λ (x : Connection). x.seat) xs)) connected (subst (IsDistinct nat_eq) (sym (seats-silent s.connections)) valid.seats_differ) in
+        let set-is : set cs i (queued_so queue v) ≡ map (requeued seat (λ _. queue)) (map silent s.connections) =
+        first-changed (has_seat seat) (queued_so queue) cs i v place_is stands ∙ (requeued-first seat queue cs differ ∙ ap (map (requeued seat (λ _. queue))) (sym connected)) in
+        (λ j. record s { connections = map (requeued (seat-is j) (λ _. queue)) s.connections })
+        ∙ ((λ j. record s { connections = sym (requeued-queues seat queue s.connections) j }) ∙ (λ j. record s { connections = with_queues s.connections (sym set-is j) }))
 
 -- no connection is of the seat
 pub absent-bus : (seat : ℕ) (cs : List Connection) (c : Connection) → None ≡ position (has_seat seat) cs → bus_of (connection_of cs seat) ≡ Some c → ⊥
@@ -133,13 +169,13 @@ absent-bus seat cs c e h = let no : None ≡ Some c = sym (ap bus_of (missing-fi
 -- what a Present of its queue gives
 pub queue-serves : (seat : ℕ) (cs : List Connection) (i : ℕ) (v : Connection) → Some i ≡ position (has_seat seat) cs → v ≡ get_or cs i v → (most : ℕ) (path : List ℕ) (queue : List (List ℕ)) (cs' : List Connection) → cs' ≡ set cs i (queued_so queue v) →
     (r : Result ServedCall WantOfMemory) → IfOk r (λ served. (s : State) (c : Connection) → Valid s → IsQueue s c v.queue most → c.who ≡ v.who → Serves s c (Request.Present path) served.given (queue_set s c queue) served.answer) →
-    IfOk r (λ served. (s : State) (c : Connection) → Valid s → s.connections ≡ cs → s.limits.queued ≡ most → bus_of (connection_of cs seat) ≡ Some c → Serves s c (Request.Present path) served.given (record s { connections = cs' }) served.answer)
+    IfOk r (λ served. (s : State) (c : Connection) → Valid s → map silent s.connections ≡ cs → s.limits.queued ≡ most → bus_of (connection_of cs seat) ≡ Some (silent c) → Serves s c (Request.Present path) served.given (record s { connections = with_queues s.connections cs' }) served.answer)
 queue-serves seat cs i v place_is stands most path queue cs' e r =
     if_ok (λ served. (s : State) (c : Connection) → Valid s → IsQueue s c v.queue most → c.who ≡ v.who → Serves s c (Request.Present path) served.given (queue_set s c queue) served.answer)
-    (λ served. (s : State) (c : Connection) → Valid s → s.connections ≡ cs → s.limits.queued ≡ most → bus_of (connection_of cs seat) ≡ Some c → Serves s c (Request.Present path) served.given (record s { connections = cs' }) served.answer)
+    (λ served. (s : State) (c : Connection) → Valid s → map silent s.connections ≡ cs → s.limits.queued ≡ most → bus_of (connection_of cs seat) ≡ Some (silent c) → Serves s c (Request.Present path) served.given (record s { connections = with_queues s.connections cs' }) served.answer)
     r
     (λ served k. λ s c valid connected limit here.
-    let found : connection_of cs seat ≡ Some c = bus_found (connection_of cs seat) c here in
-    let set_is : queue_set s c queue ≡ record s { connections = cs' } = queue-set seat cs i v c place_is stands found s valid connected most limit queue ∙ (λ j. record s { connections = sym e j }) in
+    let found : connection_of cs seat ≡ Some (silent c) = bus_found (connection_of cs seat) (silent c) here in
+    let set_is : queue_set s c queue ≡ record s { connections = with_queues s.connections cs' } = queue-set seat cs i v c place_is stands found s valid connected most limit queue ∙ (λ j. record s { connections = with_queues s.connections (sym e j) }) in
     subst (λ (t : State). Serves s c (Request.Present path) served.given t served.answer) set_is
     (k s c valid (queue-is seat cs i v c place_is stands found s valid connected most limit) (ap (λ (x : Connection). x.who) (sym (connection-is seat cs i v c place_is stands found)))))

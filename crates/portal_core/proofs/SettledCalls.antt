@@ -1,5 +1,5 @@
 -- A request on documents that was served on a bus: the records stand for the state after, and a fault is told by a count.
-use Rattle.std.proofs.Common.{◌≡◌, Bool, true, false, cond, Option, Some, None, option_map, refl, sym, ap, subst, ◌∙◌, arith}
+use Rattle.std.proofs.Common.{◌≡◌, map, Bool, true, false, cond, Option, Some, None, option_map, refl, sym, ap, subst, ◌∙◌, arith}
 use Rattle.portal_base.specs.Outside.{HasRisen}
 use Rattle.portal_model.specs.declared.entry.Fault.{Fault}
 use Rattle.portal_model.specs.declared.entry.Given.{Given}
@@ -14,6 +14,7 @@ use Rattle.portal_model.specs.Errno.{eio}
 use Rattle.portal_model.specs.Kept.{records_of}
 use Rattle.portal_model.specs.Outside.{ChangesRecords, meets_limit, verdict_of}
 use Rattle.portal_model.specs.State.{State}
+use Rattle.portal_model.specs.Store.{record_of}
 use Rattle.portal_model.specs.Verdict.{Doing, Verdict, Refuses, Does}
 use Rattle.record_keeper.specs.Keepers.{KeeperIs, after_call}
 use Rattle.document_calls.specs.KeeperCalls.{KeeperCalled, KeeperWent, is_keeper}
@@ -75,7 +76,7 @@ module _ (s : State) (c : Connection) (request : Request) (given : Given) (after
   done-keeps d is within e true h =
       let documents = same_records-eq (records_of d.state).documents (records_of s).documents h in
       let entries : d.state.entries ≡ s.entries = ap (λ (t : State). t.entries) e ∙ same in
-      let records : records_of d.state ≡ records_of s = λ i. record { version = 1; documents = documents i; entries = entries i } in
+      let records : records_of d.state ≡ records_of s = λ i. record { version = 1; documents = documents i; entries = map record_of (entries i) } in
       uncalled-keeps s after old new (went.uncalled (λ changes. (subst (ChangesRecords s) is changes).1 records)) (ap records_of (sym e) ∙ records) keeps
   done-keeps d is within e false h =
       let changes : ChangesRecords s (Some (Does d)) = (within, λ r. same_records-not (records_of d.state).documents (records_of s).documents h (ap (λ (x : Records). x.documents) r)) in

@@ -13,6 +13,7 @@ use Rattle.portal_model.specs.State.{State, connection_of}
 use Rattle.portal_model.specs.Step.{all_told, bus_of}
 use Rattle.record_keeper.specs.Keepers.{KeeperIs}
 use Rattle.document_calls.specs.KeeperCalls.{KeeperWent}
+use Rattle.store_serving.specs.Serving.{may_change_entries}
 
 -- ---- the keeper
 
@@ -30,6 +31,7 @@ may_change_records (Request.Present path) = false
 may_change_records (Request.LookupDocument path) = false
 may_change_records (Request.Info doc) = false
 may_change_records (Request.ListDocuments app) = false
+may_change_records (Request.Store call) = may_change_entries call
 
 -- One call came exactly where the faultless step changes the records, and else none; on a seat
 -- without an open bus no step does.
@@ -58,6 +60,7 @@ may_draw (Request.DeleteDocument doc) = false
 may_draw (Request.LookupDocument path) = false
 may_draw (Request.Info doc) = false
 may_draw (Request.ListDocuments app) = false
+may_draw (Request.Store call) = false
 
 -- these words, in their order, are the first that were to come
 abbrev pub Drawn : Option (List ℕ) → List ℕ → Option (List ℕ) → Type 0
@@ -81,6 +84,7 @@ may_ask_tree_in_vain (Request.DeleteDocument doc) = false
 may_ask_tree_in_vain (Request.LookupDocument path) = false
 may_ask_tree_in_vain (Request.Info doc) = false
 may_ask_tree_in_vain (Request.ListDocuments app) = false
+may_ask_tree_in_vain (Request.Store call) = false
 
 -- the requests that may read the clock: a file may be changed or made by them
 abbrev pub may_read_clock : Request → Bool
@@ -96,6 +100,7 @@ may_read_clock (Request.DeleteDocument doc) = false
 may_read_clock (Request.LookupDocument path) = false
 may_read_clock (Request.Info doc) = false
 may_read_clock (Request.ListDocuments app) = false
+may_read_clock (Request.Store call) = false
 
 -- the requests that may ask a device in vain: a refusal of any other leaves all as it was
 abbrev pub may_ask_in_vain : Request → Bool

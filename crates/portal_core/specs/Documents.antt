@@ -1,5 +1,5 @@
 -- What the code makes of a request on documents, over the portal's lists and the keeper.
-use Rattle.std.specs.Prelude.{◌≡◌, ℕ, List, Bool, true, false, Option, Some, None}
+use Rattle.std.specs.Prelude.{◌≡◌, ℕ, List, [], ◌∷◌, map, Bool, true, false, Option, Some, None}
 use Rattle.document_records.specs.Documents.{DocumentList}
 use Rattle.portal_model.specs.declared.entry.Given.{Given}
 use Rattle.portal_model.specs.declared.reply.Answer.{Answer}
@@ -12,6 +12,7 @@ use Rattle.portal_model.specs.State.{State}
 use Rattle.record_keeper.specs.Keepers.{KeeperIs}
 use Rattle.document_calls.specs.Books.{IsBook}
 use Rattle.document_calls.specs.KeeperCalls.{ServesKept}
+use Rattle.store_serving.specs.Waiting.{silent}
 
 -- a request on documents, but for an Add, which alone asks the tree
 abbrev pub is_document_call : Request → Bool
@@ -27,13 +28,20 @@ is_document_call Request.Leave = false
 is_document_call Request.Collect = false
 is_document_call (Request.Add a) = false
 is_document_call (Request.Node r) = false
+is_document_call (Request.Store call) = false
 
--- the state has these documents and their limits, these rights, applications and connections, and
--- anything else
+-- the state has these documents and their limits, these rights, applications and connections, but
+-- for what the connections wait for, and anything else
 pub record HasLists (s : State) (documents : DocumentList) (rights : List Triple)
     (applications : List (List ℕ)) (connections : List Connection) : Type 0 where
   pub book : IsBook s documents rights applications
-  pub connected : s.connections ≡ connections
+  pub connected : map silent s.connections ≡ connections
+
+-- the connections with the queues that these have at their places
+abbrev pub with_queues : List Connection → List Connection → List Connection
+with_queues [] queued = []
+with_queues (c ∷ cs) [] = c ∷ cs
+with_queues (c ∷ cs) (q ∷ qs) = record c { queue = q.queue } ∷ with_queues cs qs
 
 -- the state with these in their place
 abbrev pub with_lists : State → DocumentList → List Triple → List (List ℕ) → List Connection → State
@@ -43,7 +51,7 @@ with_lists s documents rights applications connections =
       made = documents.made;
       rights = rights;
       applications = applications;
-      connections = connections;
+      connections = with_queues s.connections connections;
     }
 
 -- what a request on a bus comes to, or of a seat that has none

@@ -11,3 +11,4 @@ pub mod OpenFiles
 pub mod Chain
 pub mod Lending
 pub mod Borrowing
+pub mod Stored

@@ -12,8 +12,10 @@ use Rattle.portal_model.specs.declared.records.DocRecord.{DocRecord}
 use Rattle.portal_model.specs.declared.records.Records.{Records}
 use Rattle.portal_model.specs.declared.state.Triple.{Triple}
 use Rattle.portal_model.specs.Opening.{id_of, document_kept, rights_kept}
+use Rattle.portal_model.specs.Store.{Entries}
 use Rattle.portal_base.specs.Calls.{FailsAsTold}
 use Rattle.record_keeper.specs.BadRecords.{AreGood, IsWrong, applications_of}
+use Rattle.record_keeper.specs.KeptEntries.{KeepEntries}
 use Rattle.record_keeper.specs.Keepers.{KeeperIs, Loads, after_call}
 use Rattle.record_keeper.specs.declared.fault.RecordsFault.TheVariants as wrong
 use Rattle.record_keeper.specs.declared.keeper.KeeperLoad.TheVariants as load
@@ -27,17 +29,23 @@ use Rattle.portal_core.specs.declared.start.StartRefusal.{StartRefusal}
 abbrev pub document_loaded : DocRecord → OpeningDocument
 document_loaded d = record { kept = d; persistent = true }
 
--- The opening state that stands for records: no document was made but those that are kept, and the
--- applications are numbered as the records first name them. The tree tells the files.
-abbrev pub opening_loaded : Limits → Records → OpeningState
-opening_loaded limits records = record {
+-- The opening state that stands for records, with these entries: no document was made but those
+-- that are kept, and the applications are numbered as the records first name them. The tree tells
+-- the files.
+abbrev pub opening_loaded : Entries → Limits → Records → OpeningState
+opening_loaded entries limits records = record {
   limits = limits;
   documents = map document_loaded records.documents;
   made = map (λ d. id_of d.number) records.documents;
   applications = applications_of records.documents;
-  entries = records.entries;
+  entries = entries;
   files = [];
 }
+
+-- the state that records open with: its entries are those that the records keep
+pub record IsOpening (limits : Limits) (records : Records) (opening : OpeningState) : Type 0 where
+  pub whole : opening ≡ opening_loaded opening.entries limits records
+  pub entries : KeepEntries records.entries opening.entries
 
 -- the rights that grants give together
 abbrev pub given_by : List Grant → List Triple
@@ -53,7 +61,7 @@ pub record LoadsGood (limits : Limits) (old : KeeperIs) (opening : OpeningState)
   pub records : Records
   pub loads : Loads old (load.Got records) new
   pub good : AreGood limits records
-  pub opening_is : opening ≡ opening_loaded limits records
+  pub opening_is : IsOpening limits records opening
 
 -- Why no portal starts: the keeper failed, whose count rose; the records that were loaded have
 -- another version; one of them is bad, and this is the first; or there was no memory.
@@ -79,6 +87,7 @@ pub record AreLists (lists : Lists) : Type 0 where
   pub narrow : list_all is_narrow lists.opening.made ≡ true
   pub rights : lists.rights ≡ rights_kept lists.opening.documents
   pub applications : lists.applications ≡ lists.opening.applications
+  pub tables : lists.tables ≡ lists.opening.entries
 
 -- why records that were loaded make no portal
 abbrev pub AreBad : Limits → Records → StartError → Type 0

@@ -1,7 +1,7 @@
 //! Add, over the portal's lists and its devices: presented files of a seat's
 //! connection become documents.
 
-ghost use Rattle.std.specs.Prelude.{◌≡◌, length, IfOk, OnErr, Some};
+ghost use Rattle.std.specs.Prelude.{◌≡◌, length, IfOk, OnErr, Option, Some, option_map};
 ghost use Rattle.add_calls.specs.Placing.{Drew, HasDrawn};
 ghost use Rattle.add_calls.specs.Shown.{Asked};
 ghost use Rattle.add_serving.specs.Adds.{WasAsked};
@@ -14,7 +14,8 @@ ghost use Rattle.portal_model.specs.Outside.{files_told};
 ghost use Rattle.portal_model.specs.State.{State, connection_of as open_connection};
 ghost use Rattle.portal_model.specs.Step.{bus_of as open_bus};
 ghost use Rattle.portal_model.specs.Valid.{Valid};
-ghost use Rattle.portal_core.specs.Documents.{HasLists, ServedOn, with_lists};
+ghost use Rattle.portal_core.specs.Documents.{HasLists, ServedOn, with_lists, with_queues};
+ghost use Rattle.store_serving.specs.Waiting.{silent};
 
 use crate::lists::{bus_of, place_of};
 use add_serving::add;
@@ -47,13 +48,14 @@ pub fn serve_add<T: HostTree, K: Keeper, W: Words>(
     seat: u32,
     request: &AddRequest,
 ) -> Result<ServedCall, WantOfMemory>
-    ensures ok { IfOk result (λ served. (s : State) → Valid s →
+    ensures ok { IfOk result (λ served. (s : State) (o : Option Connection) → Valid s →
         HasLists s documents.old rights.old applications.old connections.old →
         files_told s ≡ (T.is tree.old).told →
+        option_map silent o ≡ open_bus (open_connection connections.old seat) →
         ServedOn s (Request.Add request.now) served.given
         (with_lists s documents.new rights.new applications.new connections.new) served.answer
-        (K.is keeper.old) (K.is keeper.new)
-        (open_bus (open_connection connections.old seat))) }
+        (K.is keeper.old) (K.is keeper.new) o) }
+    ensures queues { with_queues connections.old connections.new ≡ connections.new }
     ensures asked { IfOk result (λ served. Asked (T.is tree.old) (length served.given.looks)
         (is_tree served.given.fault) (T.is tree.new)) }
     ensures drew { IfOk result (λ served.
@@ -101,10 +103,11 @@ fn add_on<T: HostTree, K: Keeper, W: Words>(
     ensures ok { IfOk result (λ served. (s : State) (c : Connection) → Valid s →
         HasLists s documents.old rights.old applications.old connections.old →
         files_told s ≡ (T.is tree.old).told →
-        open_bus (open_connection connections.old seat) ≡ Some c →
+        open_bus (open_connection connections.old seat) ≡ Some (silent c) →
         ServesKept s c (Request.Add request.now) served.given
         (with_lists s documents.new rights.new applications.new connections.new) served.answer
         (K.is keeper.old) (K.is keeper.new)) }
+    ensures queues { with_queues connections.old connections.new ≡ connections.new }
     ensures asked { IfOk result (λ served. Asked (T.is tree.old) (length served.given.looks)
         (is_tree served.given.fault) (T.is tree.new)) }
     ensures drew { IfOk result (λ served.

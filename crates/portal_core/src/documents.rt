@@ -1,7 +1,7 @@
 //! The requests on documents that neither ask the tree nor draw a word: all but
 //! Add.
 
-ghost use Rattle.std.specs.Prelude.{◌≡◌, ◌<◌, ◌^◌, length, false, true, Some, IfOk, OnErr};
+ghost use Rattle.std.specs.Prelude.{◌≡◌, ◌<◌, ◌^◌, length, false, true, Option, Some, IfOk, OnErr, map, option_map};
 ghost use Rattle.document_calls.specs.Changes.{SameLimits};
 ghost use Rattle.document_calls.specs.KeeperCalls.{KeeperStays};
 ghost use Rattle.document_calls.specs.Serves.{Serves};
@@ -11,7 +11,8 @@ ghost use Rattle.portal_model.specs.State.{State, connection_of as open_connecti
 ghost use Rattle.portal_model.specs.Step.{bus_of as open_bus};
 ghost use Rattle.portal_model.specs.Valid.{Valid};
 ghost use Rattle.portal_core.specs.Devices.{may_change_records};
-ghost use Rattle.portal_core.specs.Documents.{HasLists, ServedOn, is_document_call, with_lists};
+ghost use Rattle.store_serving.specs.Waiting.{silent};
+ghost use Rattle.portal_core.specs.Documents.{HasLists, ServedOn, is_document_call, with_lists, with_queues};
 
 use crate::lists::{bus_of, place_of};
 use document_calls::{
@@ -46,13 +47,14 @@ pub fn serve<K: Keeper>(
 ) -> Result<ServedCall, WantOfMemory>
     requires queued { queued < 2 ^ 32 }
     requires call { is_document_call request.now ≡ true }
-    ensures ok { IfOk result (λ served. (s : State) → Valid s →
+    ensures ok { IfOk result (λ served. (s : State) (o : Option Connection) → Valid s →
         HasLists s documents.old rights.old applications.old connections.old →
         s.limits.queued ≡ queued →
+        option_map silent o ≡ open_bus (open_connection connections.old seat) →
         ServedOn s request.now served.given
         (with_lists s documents.new rights.new applications.new connections.new) served.answer
-        (K.is keeper.old) (K.is keeper.new)
-        (open_bus (open_connection connections.old seat))) }
+        (K.is keeper.old) (K.is keeper.new) o) }
+    ensures queues { with_queues connections.old connections.new ≡ connections.new }
     ensures limits { SameLimits documents.old documents.new }
     ensures count { length connections.new ≡ length connections.old }
     ensures unasked { may_change_records request.now ≡ false → keeper.new ≡ keeper.old }
@@ -96,10 +98,11 @@ fn present_on(
 ) -> Result<ServedCall, WantOfMemory>
     requires { queued < 2 ^ 32 }
     ensures ok { IfOk result (λ served. (s : State) (c : Connection) → Valid s →
-        s.connections ≡ connections.old → s.limits.queued ≡ queued →
-        open_bus (open_connection connections.old seat) ≡ Some c →
+        map silent s.connections ≡ connections.old → s.limits.queued ≡ queued →
+        open_bus (open_connection connections.old seat) ≡ Some (silent c) →
         Serves s c (Request.Present path.now) served.given
-        (record s { connections = connections.new }) served.answer) }
+        (record s { connections = with_queues s.connections connections.new }) served.answer) }
+    ensures queues { with_queues connections.old connections.new ≡ connections.new }
     ensures count { length connections.new ≡ length connections.old }
     ensures err { OnErr result (connections.new ≡ connections.old) }
 {

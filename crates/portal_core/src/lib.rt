@@ -4,7 +4,8 @@
 //! **It promises** that an answer is that of one step of the sequential portal, at
 //! the end of one legal history which grows by this one entry; that just the calls
 //! of its devices were made that the step reaches, and the keeper's records are
-//! those that stand for the state; that a refusal changes nothing but how often the
+//! those that stand for the state; that each connection of the host to the bus is told
+//! each change of the permission store once, in the order of the history; that a refusal changes nothing but how often the
 //! tree and the keeper were asked, whether the clock was read, and which words come
 //! next; and that the Leave of an open connection is never refused. An OPEN goes by the
 //! rights of its moment, and what goes by the number of a handle by the handle that was
@@ -22,6 +23,7 @@
 //! | `seats` | the connections of seats, each with its open handles |
 //! | `documents` | the requests on documents that neither ask the tree nor draw a word |
 //! | `additions` | Add |
+//! | `store` | the calls of the permission store |
 //!
 //! ```text
 //! let mut portal = Portal::start(alloc, tree, keeper, clock, words, limits)?;
@@ -37,4 +39,5 @@ mod opening;
 pub mod portal;
 mod seats;
 pub mod start;
+mod store;
 pub mod storied;

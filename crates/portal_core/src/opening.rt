@@ -8,9 +8,9 @@ ghost use Rattle.portal_model.specs.Opening.{document_kept, id_of, rights_kept, 
 ghost use Rattle.portal_model.specs.Rights.{are_in_order};
 ghost use Rattle.portal_model.specs.Valid.{applications_limit, is_made};
 ghost use Rattle.record_keeper.specs.BadRecords.{applications_of};
-ghost use Rattle.record_keeper.specs.SoundRecords.{IsSoundDocument};
+ghost use Rattle.record_keeper.specs.SoundRecords.{IsSoundDocument, IsValidEntry};
 ghost use Rattle.rights_rule.specs.Rights.{no_rights};
-ghost use Rattle.portal_core.specs.Started.{document_loaded, given_by, is_narrow, opening_loaded};
+ghost use Rattle.portal_core.specs.Started.{IsOpening, document_loaded, given_by, is_narrow};
 
 use document_records::{Applications, DocError, Documents, Grant, Grants};
 use portal_base::limits::Limits;
@@ -20,7 +20,7 @@ use portal_base::names::{AppId, DocId, HostPath, NameError};
 use portal_model::opening::{OpeningDocument, OpeningState};
 use portal_model::records::{DocRecord, GrantRecord, Records};
 use portal_model::state::Document;
-use record_keeper::Named;
+use record_keeper::{Named, kept_entries};
 use rights_rule::Rights;
 use std::alloc::Global;
 
@@ -30,8 +30,9 @@ pub fn opening_loaded(
     records: Records,
     limits: &Limits,
 ) -> Result<OpeningState, WantOfMemory>
-    requires { All IsSoundDocument records.documents }
-    ensures state { IfOk result (λ opening. opening ≡ opening_loaded limits.now records) }
+    requires documents { All IsSoundDocument records.documents }
+    requires entries { All IsValidEntry records.entries }
+    ensures state { IfOk result (IsOpening limits.now records) }
     ensures narrow { IfOk result (λ opening. list_all is_narrow opening.made ≡ true) }
 {
     let made = numbers_of(alloc, records.documents.as_slice())?;
@@ -46,7 +47,7 @@ pub fn opening_loaded(
         documents: persistent(alloc, documents)?,
         made,
         applications,
-        entries,
+        entries: kept_entries(alloc, entries)?,
         files: List::new(alloc),
     })
 }

@@ -14,12 +14,14 @@ ghost use Rattle.portal_core.specs.OpenFiles.{GoesByHandles, OpensByRights};
 ghost use Rattle.portal_core.specs.Served.{collect_answer as answer_of_bus, entry_of, node_entry};
 ghost use Rattle.portal_core.specs.Started.{HandsBack, Starts};
 ghost use Rattle.portal_core.specs.Story.{HasCause, cost_with, limit_of, state_first, state_now};
+ghost use Rattle.store_serving.specs.Serving.{may_change_entries};
 
 use crate::additions::serve_add;
 use crate::lists::{bus_of, connection_of, of_others};
 use crate::start::{Lists, StartRefusal, load};
-use crate::{documents, seats};
+use crate::{documents, seats, store};
 use app_view::ViewBook;
+use change_signals::Outboxes;
 use document_calls::ServedCall;
 use document_records::{Applications, Documents, Grants};
 use file_laws::laws::{no_open_after_a_revocation, older_handles_keep_their_rights};
@@ -27,6 +29,7 @@ use file_ops::{FileBook, NodeDone};
 use host_tree::HostTree;
 use inode_table::InodeTable;
 use open_handles::Handles;
+use permission_table::Tables;
 use portal_base::files::Look;
 use portal_base::limits::Limits;
 use portal_base::list::List;
@@ -39,6 +42,7 @@ use portal_model::opening::OpeningState;
 use portal_model::reply::{Answer, Code, Refused, Reply};
 use portal_model::request::{AddRequest, NodeRequest, Request};
 use portal_model::state::Connection;
+use portal_model::store::StoreCall;
 use record_keeper::Keeper;
 use std::alloc::Global;
 use std::marker::Model;
@@ -60,6 +64,8 @@ pub struct Portal<T: HostTree, K: Keeper, C: Clock, W: Words> {
     documents: Documents,
     rights: Grants,
     applications: Applications,
+    tables: Tables,
+    outboxes: Outboxes,
     connections: List<Connection>,
     handles: Handles,
     counts: InodeTable,
@@ -73,8 +79,13 @@ impl<T: HostTree, K: Keeper, C: Clock, W: Words> Model for Portal<T, K, C, W> {
     ghost use Rattle.portal_model.specs.History.{run};
     ghost use Rattle.portal_model.specs.Opening.{opened_over};
     ghost use Rattle.portal_core.specs.Story.{PortalIs};
+    ghost use Rattle.store_serving.specs.Serving.{HasStore};
+    ghost use Rattle.dbus_types.specs.contracts.types.Value as e;
+    ghost use Rattle.std.specs.Coded.{codes};
 
     ghost Value = { PortalIs T K C W };
+
+    ghost coded = { Prim.hlevel (codes, e.the_row.coded, T.code, K.code, C.code, W.code) };
 
     ghost view = { λ p. record {
       tree = p.tree;
@@ -93,7 +104,9 @@ impl<T: HostTree, K: Keeper, C: Clock, W: Words> Model for Portal<T, K, C, W> {
         p.documents p.rights p.applications p.connections p.handles (T.is p.tree).told
         × (length p.connections ≤ p.history.spare)
         × KeepsState (K.is p.keeper).told
-        (run (opened_over (T.is p.tree).began p.opening) p.history.entries) };
+        (run (opened_over (T.is p.tree).began p.opening) p.history.entries)
+        × HasStore (run (opened_over (T.is p.tree).began p.opening) p.history.entries)
+        p.tables p.outboxes };
 }
 
 impl<T: HostTree, K: Keeper, C: Clock, W: Words> Portal<T, K, C, W> {
@@ -126,6 +139,7 @@ impl<T: HostTree, K: Keeper, C: Clock, W: Words> Portal<T, K, C, W> {
                     documents,
                     rights,
                     applications,
+                    tables,
                 },
             ) => Ok(Portal {
                 tree,
@@ -136,6 +150,8 @@ impl<T: HostTree, K: Keeper, C: Clock, W: Words> Portal<T, K, C, W> {
                 documents,
                 rights,
                 applications,
+                tables,
+                outboxes: Outboxes::new(alloc),
                 connections: List::new(alloc),
                 handles: Handles::new(alloc, &limits),
                 counts: InodeTable::new(alloc),
@@ -191,7 +207,9 @@ impl<T: HostTree, K: Keeper, C: Clock, W: Words> Portal<T, K, C, W> {
     ///
     /// The reply is that of one step of the sequential portal, from the state
     /// after the history, which grows by this request; over a tree that doesn't
-    /// tell its files it is alike to that. Just the calls of the tree that the
+    /// tell its files it is alike to that. Ahead of its answer go the changes of
+    /// the permission store that a connection of the host to the bus was not told
+    /// yet. Just the calls of the tree that the
     /// step reaches are made, the clock is read where it changes or makes a file,
     /// words are drawn just for new documents, and the keeper is asked once where
     /// the step changes the records; EIO and Failed come only where such a call
@@ -282,6 +300,7 @@ impl<T: HostTree, K: Keeper, C: Clock, W: Words> Portal<T, K, C, W> {
             Request::ListDocuments { app } => {
                 Ok(self.document(alloc, seat, Request::ListDocuments { app })?)
             }
+            Request::Store(call) => Ok(self.store(alloc, seat, call)?),
         }
     }
 
@@ -336,6 +355,7 @@ impl<T: HostTree, K: Keeper, C: Clock, W: Words> Portal<T, K, C, W> {
         seats::enter(
             &mut self.connections,
             &mut self.handles,
+            &mut self.outboxes,
             opened_connection(alloc, seat, who, kind),
         )?;
         self.history.push(entry);
@@ -413,6 +433,7 @@ impl<T: HostTree, K: Keeper, C: Clock, W: Words> Portal<T, K, C, W> {
             → OnErr result (self.new ≡ self.old) }
     {
         self.history.reserve(self.connections.as_slice().len() + 1)?;
+        let signals = self.outboxes.take(seat)?;
         let served = documents::serve(
             alloc,
             &mut self.documents,
@@ -431,10 +452,11 @@ impl<T: HostTree, K: Keeper, C: Clock, W: Words> Portal<T, K, C, W> {
                     request,
                     given,
                 });
-                Ok(silent_reply(alloc, answer))
+                Ok(Reply { signals, answer })
             }
             Err(error) => {
                 drop(request);
+                self.outboxes.give_back(seat, signals);
                 Err(error)
             }
         }
@@ -453,6 +475,7 @@ impl<T: HostTree, K: Keeper, C: Clock, W: Words> Portal<T, K, C, W> {
             (Spends T.is K.is C.told W.told self.old (Request.Add add) self.new) }
     {
         self.history.reserve(self.connections.as_slice().len() + 1)?;
+        let signals = self.outboxes.take(seat)?;
         let served = serve_add(
             alloc,
             &mut self.documents,
@@ -472,10 +495,52 @@ impl<T: HostTree, K: Keeper, C: Clock, W: Words> Portal<T, K, C, W> {
                     request: Request::Add(add),
                     given,
                 });
-                Ok(silent_reply(alloc, answer))
+                Ok(Reply { signals, answer })
             }
             Err(error) => {
                 drop(add);
+                self.outboxes.give_back(seat, signals);
+                Err(error)
+            }
+        }
+    }
+
+    fn store(&mut self, alloc: Global, seat: u32, call: StoreCall) -> Result<Reply, WantOfMemory>
+        requires { cost_with self.old.story (Request.Store call) ≤ limit_of self.old.story }
+        ensures began { self.new.story.began ≡ self.old.story.began }
+        ensures opening { self.new.story.opening ≡ self.old.story.opening }
+        ensures ok { IfOk result
+            (Answers T.is K.is C.told W.told self.old self.new seat (Request.Store call)) }
+        ensures fault { IfOk result (TellsFault (T.is self.old.tree) (T.is self.new.tree)) }
+        ensures failure { IfOk result (TellsFailure (T.is self.old.tree) (T.is self.new.tree)
+            (K.is self.old.keeper) (K.is self.new.keeper)) }
+        ensures err { OnErr result
+            (Spends T.is K.is C.told W.told self.old (Request.Store call) self.new) }
+        ensures unasked { may_change_entries call ≡ false → OnErr result (self.new ≡ self.old) }
+    {
+        self.history.reserve(self.connections.as_slice().len() + 1)?;
+        let signals = self.outboxes.take(seat)?;
+        let served = store::serve(
+            alloc,
+            &mut self.tables,
+            &mut self.outboxes,
+            &mut self.keeper,
+            self.connections.as_slice(),
+            seat,
+            &call,
+        );
+        match served {
+            Ok(ServedCall { given, answer }) => {
+                self.history.push(Entry {
+                    seat,
+                    request: Request::Store(call),
+                    given,
+                });
+                Ok(Reply { signals, answer })
+            }
+            Err(error) => {
+                drop(call);
+                self.outboxes.give_back(seat, signals);
                 Err(error)
             }
         }
@@ -502,6 +567,7 @@ impl<T: HostTree, K: Keeper, C: Clock, W: Words> Portal<T, K, C, W> {
         self.connections = of_others(connections, seat);
         self.handles.leave(seat);
         self.counts.leave(seat);
+        self.outboxes.leave(seat);
         self.history.push(entry);
         Ok(silent_reply(alloc, Answer::Done))
     }
@@ -519,8 +585,9 @@ impl<T: HostTree, K: Keeper, C: Clock, W: Words> Portal<T, K, C, W> {
         let answer = collect_answer(bus_of(self.connections.as_slice(), seat));
         let entry = entry_made(alloc, seat, Request::Collect, List::new(alloc), Fault::None);
         self.history.reserve(self.connections.as_slice().len() + 1)?;
+        let signals = self.outboxes.take(seat)?;
         self.history.push(entry);
-        Ok(silent_reply(alloc, answer))
+        Ok(Reply { signals, answer })
     }
 }
 
@@ -548,8 +615,7 @@ fn check_caller(who: &Who)
     }
 }
 
-/// The answer to a Collect of a seat with this bus. Nothing waits to be told,
-/// since no request makes a change.
+/// The answer to a Collect of a seat with this bus.
 fn collect_answer(bus: Option<&Connection>) -> Answer
     ensures { result ≡ answer_of_bus (option_copied bus.entry) }
 {

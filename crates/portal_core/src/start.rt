@@ -1,15 +1,18 @@
 //! Starting a portal with the records that its keeper loads.
 
 ghost use Rattle.std.specs.Prelude.{◌≡◌, ◌<◌, ◌^◌, IfErr, IfOk};
-ghost use Rattle.portal_core.specs.Started.{AreLists, AreBad, LoadsBadly, LoadsGood, opening_loaded};
+ghost use Rattle.portal_core.specs.Started.{AreLists, AreBad, IsOpening, LoadsBadly, LoadsGood};
 ghost use Rattle.record_keeper.specs.BadRecords.{AreGood};
 
 use crate::opening;
 use document_records::{Applications, Documents, Grants};
+use permission_table::Tables;
+use permission_table::laws::valid_entries_are_held;
 use portal_base::limits::Limits;
-use portal_base::memory::WantOfMemory;
+use portal_base::memory::{Replica, WantOfMemory};
 use portal_model::opening::OpeningState;
 use portal_model::records::Records;
+use record_keeper::laws::good_records_keep_good_entries;
 use record_keeper::{Keeper, KeeperLoad, RecordsFault, records_fault};
 use std::alloc::Global;
 use thiserror::Error;
@@ -64,6 +67,8 @@ pub(crate) struct Lists {
     pub(crate) rights: Grants,
     /// The numbered applications.
     pub(crate) applications: Applications,
+    /// The tables of the permission store.
+    pub(crate) tables: Tables,
 }
 
 /// Loads the records of a keeper, which are to be good under the limits.
@@ -92,7 +97,7 @@ fn lists_of(alloc: Global, records: Records, limits: &Limits) -> Result<Lists, S
     requires made { limits.now.made < 2 ^ 32 }
     requires queued { limits.now.queued < 2 ^ 32 }
     ensures good { IfOk result (λ lists. AreGood limits.now records) }
-    ensures opening { IfOk result (λ lists. lists.opening ≡ opening_loaded limits.now records) }
+    ensures opening { IfOk result (λ lists. IsOpening limits.now records lists.opening) }
     ensures lists { IfOk result AreLists }
     ensures bad { IfErr result (AreBad limits.now records) }
 {
@@ -112,17 +117,22 @@ fn lists_of_good(alloc: Global, records: Records, limits: &Limits) -> Result<Lis
     requires good { AreGood limits.now records }
     requires made { limits.now.made < 2 ^ 32 }
     requires queued { limits.now.queued < 2 ^ 32 }
-    ensures opening { IfOk result (λ lists. lists.opening ≡ opening_loaded limits.now records) }
+    ensures opening { IfOk result (λ lists. IsOpening limits.now records lists.opening) }
     ensures lists { IfOk result AreLists }
 {
     let opening = opening::opening_loaded(alloc, records, limits)?;
     let documents = opening::documents(alloc, opening.documents.as_slice(), limits)?;
     let rights = opening::rights(alloc, opening.documents.as_slice())?;
     let applications = opening::applications(alloc, opening.applications.as_slice())?;
+    let entries = opening.entries.replica(alloc)?;
+    valid_entries_are_held();
+    good_records_keep_good_entries();
+    let tables = Tables::with_entries(alloc, entries);
     Ok(Lists {
         opening,
         documents,
         rights,
         applications,
+        tables,
     })
 }

@@ -28,10 +28,14 @@ pub struct History {
 
 impl Model for History {
     ghost use Rattle.std.specs.Prelude.{◌≡◌, ◌-◌, ◌≤◌, vec_len, vec_capacity};
+    ghost use Rattle.dbus_types.specs.contracts.types.Value as e;
+    ghost use Rattle.std.specs.Coded.{codes};
     ghost use Rattle.portal_history.specs.Stored.{Stored};
     ghost use Rattle.portal_model.specs.History.{cost as total_cost};
 
     ghost Value = { Stored };
+
+    ghost coded = { Prim.hlevel (codes, e.the_row.coded) };
 
     ghost view = { λ h. record {
       entries = h.entries.items;

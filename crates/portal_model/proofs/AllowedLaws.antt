@@ -1,5 +1,5 @@
 -- Refusals change nothing but queues, and what is allowed is done.
-use Rattle.std.proofs.Common.{◌≡◌, ℕ, List, [], ◌∷◌, ◌++◌, map, length, nat_lt, drop, Bool, true, false, not, ◌&&◌, ◌||◌, cond, Option, Some, None, refl, sym, ap, subst, ◌∙◌, inl, inr, ◌⊎◌, arith}
+use Rattle.std.proofs.Common.{◌≡◌, ℕ, List, [], ◌∷◌, ◌++◌, map, length, nat_lt, drop, Bool, true, false, not, ◌&&◌, ◌||◌, cond, Option, Some, None, is_some, Ok, Err, refl, sym, ap, subst, ◌∙◌, inl, inr, ◌⊎◌, arith}
 use Rattle.portal_base.specs.Names.{is_app_name, is_same}
 use Rattle.portal_base.specs.declared.files.File.{File}
 use Rattle.portal_base.specs.declared.files.Look.{Look}
@@ -17,9 +17,13 @@ use Rattle.portal_model.specs.declared.rights.Right.TheVariants.{Delete, GrantPe
 use Rattle.portal_model.specs.declared.state.Connection.{Connection}
 use Rattle.portal_model.specs.declared.state.Document.{Document}
 use Rattle.portal_model.specs.declared.state.Triple.{Triple}
+use Rattle.portal_model.specs.declared.store.StoreAnswer.{StoreAnswer}
+use Rattle.portal_model.specs.declared.store.StoreCall.{StoreCall}
+use Rattle.portal_model.specs.declared.store.StoredEntry.{StoredEntry}
+use Rattle.portal_model.specs.declared.store.StoreError.TheVariants.{NotFound, TooLong, Memory}
 use Rattle.portal_model.specs.Add.{add, add_allowed, add_looking, add_presented, added, added_files, are_of_kind, may_list_all}
 use Rattle.portal_model.specs.AddArguments.{are_add_arguments, are_presented, document_paths, paths_shown}
-use Rattle.portal_model.specs.Allowed.{has_place, is_allowed, is_live, is_refusal, may_add, may_delete_in, may_grant_in, may_revoke_in}
+use Rattle.portal_model.specs.Allowed.{has_place, is_allowed, is_live, is_refusal, is_too_long_for, may_add, may_delete_in, may_grant_in, may_revoke_in}
 use Rattle.portal_model.specs.Arguments.{ahead_of_end, document_named, if_reached, is_ended_path, reached}
 use Rattle.portal_model.specs.Bus.{bus_walk, is_tree, kept, moment_given, refused_state, settled, verdict_given}
 use Rattle.portal_model.specs.Content.{look_at}
@@ -34,7 +38,10 @@ use Rattle.portal_model.specs.Outside.{LawfulBus, files_told}
 use Rattle.portal_model.specs.Present.{may_present, present, present_path, queue_path, with_queue}
 use Rattle.portal_model.specs.Revoke.{may_revoke, names_itself, revoke_reached, revoked}
 use Rattle.portal_model.specs.Rights.{held_by}
+use Rattle.portal_model.specs.Rows.{permissions_of, stored_rows}
 use Rattle.portal_model.specs.State.{is_host, State, who_has}
+use Rattle.portal_model.specs.Store.{Entries, Outcome, becomes, becomes_if_told, can_be_told, change_of, entry_of, entry_to_set, has_row, store_call, with_entry, with_permissions, without_entry, without_permissions}
+use Rattle.portal_model.specs.StoreRequest.{are_store_arguments, has_entry_for, may_call, own_table, store_allowed, store_answered, store_request, store_too_long, store_verdict, table_of}
 use Rattle.portal_model.specs.Verdict.{Doing, Verdict, Refuses, Does, does, unless, walk_unless}
 use Rattle.portal_model.specs.Walk.{Walk, Answers, Gives, looks_at_all, walked}
 use Rattle.portal_model.proofs.BusLaws.{HoldsGiven, bus_walk-holds, walked-holds}
@@ -43,12 +50,12 @@ use Rattle.portal_model.proofs.BusLaws.{HoldsGiven, bus_walk-holds, walked-holds
 
 -- nothing that is done is answered by a refusal
 abbrev NoRefusal : Option Verdict → Type 0
-NoRefusal v = HoldsGiven (λ (t : State). Unit {0}) (λ t seat h. h) (λ t seat change h. h) (λ t ds made rights apps h. h) v
+NoRefusal v = HoldsGiven (λ (t : State). Unit {0}) (λ t seat h. h) (λ t seat change h. h) (λ t ds made rights apps h. h) (λ t es h. h) (λ t change h. h) v
 
 never_refused : (s : State) (c : Connection) (request : Request) (given : Given) → NoRefusal (verdict_given (bus_walk s c request given.numbers) given)
 never_refused s c request given =
-    walked-holds (λ (t : State). Unit {0}) (λ t seat h. h) (λ t seat change h. h) (λ t ds made rights apps h. h) (bus_walk s c request given.numbers) (moment_given given.now) given.looks (is_tree given.fault)
-    (bus_walk-holds (λ (t : State). Unit {0}) (λ t seat h. h) (λ t seat change h. h) (λ t ds made rights apps h. h) s c request given.numbers tt)
+    walked-holds (λ (t : State). Unit {0}) (λ t seat h. h) (λ t seat change h. h) (λ t ds made rights apps h. h) (λ t es h. h) (λ t change h. h) (bus_walk s c request given.numbers) (moment_given given.now) given.looks (is_tree given.fault)
+    (bus_walk-holds (λ (t : State). Unit {0}) (λ t seat h. h) (λ t seat change h. h) (λ t ds made rights apps h. h) (λ t es h. h) (λ t change h. h) s c request given.numbers tt)
 
 abbrev Keeps : State → State → Type 0
 Keeps s t = t ≡ record s { connections = t.connections }
@@ -224,6 +231,69 @@ list_done : (s : State) (who : Who) (app : List ℕ) → (is_host who && (is_sam
 list_done s (Who.App caller) app h = cc
 list_done s Who.Host app h = passes (is_same app [] || is_app_name app) Code.InvalidArgument (does s (Answer.Listed (documents_listed s app))) h refl
 
+-- ---- the permission store
+
+abbrev told_done : Outcome → Type 0
+told_done (Ok done) = Unit {0}
+told_done (Err NotFound) = ⊥
+told_done (Err TooLong) = ⊥
+told_done (Err Memory) = ⊥
+
+answered_done : (s : State) (call : StoreCall) (answer : StoreAnswer) → Done (store_answered s call answer)
+answered_done s call (StoreAnswer.Done change) = refl
+answered_done s call StoreAnswer.Kept = refl
+answered_done s call (StoreAnswer.Entry rows datum) = refl
+answered_done s call (StoreAnswer.Names names) = refl
+
+outcome_done : (s : State) (call : StoreCall) (outcome : Outcome) → told_done outcome → Done (store_verdict s call outcome)
+outcome_done s call (Ok (es, answer)) h = answered_done (record s { entries = es }) call answer
+outcome_done s call (Err NotFound) h = absurd h
+outcome_done s call (Err TooLong) h = absurd h
+outcome_done s call (Err Memory) h = absurd h
+
+-- what the entry of the call becomes can be told
+if_told : (b : Bool) (done : Outcome) → told_done done → not (store_too_long (cond b done (Err TooLong))) ≡ true → told_done (cond b done (Err TooLong))
+if_told true done h k = h
+if_told false done h k = cc
+
+set_done : (o : Option StoredEntry) (new : StoredEntry → StoredEntry) (es : Entries) → is_some o ≡ true →
+    not (store_too_long (with_entry o (λ e. becomes_if_told (new e) es))) ≡ true → told_done (with_entry o (λ e. becomes_if_told (new e) es))
+set_done None new es h k = cc
+set_done (Some e) new es h k = if_told (can_be_told (new e)) (becomes (new e) es) tt k
+
+row_done : (b : Bool) (e f : StoredEntry) (es : Entries) → told_done (cond b (becomes f es) (Ok (es, StoreAnswer.Kept)))
+row_done true e f es = tt
+row_done false e f es = tt
+
+there_done : (o : Option StoredEntry) (does : StoredEntry → Outcome) → ((e : StoredEntry) → told_done (does e)) → is_some o ≡ true → told_done (with_entry o does)
+there_done None does f h = cc
+there_done (Some e) does f h = f e
+
+call_done : (es : Entries) (call : StoreCall) → has_entry_for es call ≡ true → not (store_too_long (store_call call es)) ≡ true → told_done (store_call call es)
+call_done es (StoreCall.Lookup table id) h k = there_done (entry_of es table id) (λ e. Ok (es, StoreAnswer.Entry e.rows e.datum)) (λ e. tt) h
+call_done es (StoreCall.Set table create id rows datum) h k = set_done (entry_to_set es create table id) (λ e. record e { rows = stored_rows rows; datum = datum }) es h k
+call_done es (StoreCall.Delete table id) h k = there_done (entry_of es table id) (λ e. Ok (without_entry table id es, StoreAnswer.Done (change_of true e))) (λ e. tt) h
+call_done es (StoreCall.SetValue table create id datum) h k = set_done (entry_to_set es create table id) (λ e. record e { datum = datum }) es h k
+call_done es (StoreCall.SetPermission table create id app names) h k = set_done (entry_to_set es create table id) (with_permissions app names) es h k
+call_done es (StoreCall.DeletePermission table id app) h k =
+    there_done (entry_of es table id) (λ e. cond (has_row app e) (becomes (without_permissions app e) es) (Ok (es, StoreAnswer.Kept))) (λ e. row_done (has_row app e) e (without_permissions app e) es) h
+call_done es (StoreCall.GetPermission table id app) h k = there_done (entry_of es table id) (λ e. Ok (es, StoreAnswer.Names (permissions_of e.rows app))) (λ e. tt) h
+call_done es (StoreCall.List table) h k = tt
+
+-- behind a test that must fail
+fails_past : (b : Bool) (code : Code) (v : Verdict) → not b ≡ true → Done v → Done (unless b code v)
+fails_past true code v e h = cc
+fails_past false code v e h = h
+
+store_done : (s : State) (who : Who) (call : StoreCall) → (is_host who && may_call s call) ≡ true → not (is_too_long_for s call) ≡ true → Done (store_request s who call)
+store_done s (Who.App app) call h k = cc
+store_done s Who.Host call h k =
+    let first = both_true (are_store_arguments call) (not (is_same (table_of call) own_table) && has_entry_for s.entries call) h in
+    let second = both_true (not (is_same (table_of call) own_table)) (has_entry_for s.entries call) first.1 in
+    passes (are_store_arguments call) Code.InvalidArgument (store_allowed s call) first.0
+    (fails_past (is_same (table_of call) own_table) Code.NotAllowed (store_verdict s call (store_call call s.entries)) second.0
+    (outcome_done s call (store_call call s.entries) (call_done s.entries call second.1 k)))
+
 walk_done : (s : State) (c : Connection) (request : Request) (numbers : List DocId) (looks : List Look) (now : ℕ) → ToldFor s request → is_allowed s c request ≡ true → has_place s c request ≡ true →
     Gives (files_told s) (bus_walk s c request numbers) looks false → DoneGiven (walked (bus_walk s c request numbers) now looks false)
 walk_done s c (Request.Present path) numbers looks now t h k g = present_done s c path h k
@@ -242,6 +312,7 @@ walk_done s c (Request.DeleteDocument doc) numbers looks now t h k g = delete_do
 walk_done s c (Request.LookupDocument path) numbers looks now t h k g = lookup_done s c.who path h
 walk_done s c (Request.Info doc) numbers looks now t h k g = info_host s c.who doc h
 walk_done s c (Request.ListDocuments app) numbers looks now t h k g = list_done s c.who app h
+walk_done s c (Request.Store call) numbers looks now t h k g = store_done s c.who call h k
 walk_done s c Request.Collect numbers looks now t h k g = refl
 walk_done s c request numbers looks now t h k g = cc
 

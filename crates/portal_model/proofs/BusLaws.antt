@@ -1,5 +1,5 @@
--- What is true of a state after a request of a bus, where it doesn't depend on queues, documents, rights and applications.
-use Rattle.std.proofs.Common.{◌≡◌, ℕ, ◌==◌, List, [], ◌∷◌, ◌++◌, drop, fold, length, nat_lt, Bool, true, false, not, ◌||◌, cond, Option, Some, None, refl}
+-- What is true of a state after a request of a bus, where it doesn't depend on queues, on documents, rights and applications, on entries of the permission store and on what connections wait for.
+use Rattle.std.proofs.Common.{◌≡◌, ℕ, ◌==◌, List, [], ◌∷◌, ◌++◌, drop, fold, length, nat_lt, Bool, true, false, not, ◌||◌, cond, Option, Some, None, Ok, Err, refl}
 use Rattle.std.specs.List.{filter}
 use Rattle.portal_base.specs.Names.{is_app_name, is_same}
 use Rattle.portal_base.specs.declared.files.Look.{Look}
@@ -9,6 +9,7 @@ use Rattle.rights_rule.specs.Rights.{RightSet, rights_named}
 use Rattle.portal_model.specs.declared.entry.Fault.{Fault}
 use Rattle.portal_model.specs.declared.entry.Given.{Given}
 use Rattle.portal_model.specs.declared.reply.Answer.{Answer}
+use Rattle.portal_model.specs.declared.reply.Change.{Change}
 use Rattle.portal_model.specs.declared.reply.Code.{Code}
 use Rattle.portal_model.specs.declared.request.AddRequest.{AddRequest}
 use Rattle.portal_model.specs.declared.request.Request.{Request}
@@ -16,6 +17,9 @@ use Rattle.portal_model.specs.declared.request.RightsCall.{RightsCall}
 use Rattle.portal_model.specs.declared.state.Connection.{Connection}
 use Rattle.portal_model.specs.declared.state.Document.{Document}
 use Rattle.portal_model.specs.declared.state.Triple.{Triple}
+use Rattle.portal_model.specs.declared.store.StoreAnswer.{StoreAnswer}
+use Rattle.portal_model.specs.declared.store.StoreCall.{StoreCall}
+use Rattle.portal_model.specs.declared.store.StoredEntry.{StoredEntry}
 use Rattle.portal_model.specs.Allowed.{is_refusal}
 use Rattle.portal_model.specs.Add.{Added, add, add_allowed, add_file, add_looking, add_presented, add_shown, added, added_files, adding_rights, are_of_kind, caller_rights, first_number, may_list_all, new_document, taken_from_queue, use_document, used_again, with_new_document, with_rights_of}
 use Rattle.portal_model.specs.AddArguments.{are_add_arguments, are_presented, document_paths, is_left_out, names_nobody, paths_shown}
@@ -32,13 +36,17 @@ use Rattle.portal_model.specs.Revoke.{may_revoke, names_itself, revoke_reached, 
 use Rattle.portal_model.specs.Rights.{add_rights, forget_document, held_by, take_rights}
 use Rattle.portal_model.specs.State.{State}
 use Rattle.portal_model.specs.Step.{all_told, bus_step}
+use Rattle.portal_model.specs.Store.{Entries, Outcome, change_of, entry_of, store_call}
+use Rattle.portal_model.specs.StoreRequest.{are_store_arguments, identifier_of, own_table, store_allowed, store_answered, store_request, store_verdict, table_of, tell_hosts, tell_kept}
 use Rattle.portal_model.specs.Verdict.{Doing, Verdict, Refuses, Does, does, unless, walk_unless}
 use Rattle.portal_model.specs.Walk.{Walk, Answers, Looks, Ends, looks_at_all, walked}
 
 module _ (P : State → Type 0)
     (told : (s : State) (seat : ℕ) → P s → P (all_told seat s))
     (queue : (s : State) (seat : ℕ) (change : List (List ℕ) → List (List ℕ)) → P s → P (with_queue seat change s))
-    (lists : (s : State) (ds : List Document) (made : List DocId) (rights : List Triple) (apps : List (List ℕ)) → P s → P (record s { documents = ds; made = made; rights = rights; applications = apps })) where
+    (lists : (s : State) (ds : List Document) (made : List DocId) (rights : List Triple) (apps : List (List ℕ)) → P s → P (record s { documents = ds; made = made; rights = rights; applications = apps }))
+    (entries : (s : State) (es : Entries) → P s → P (record s { entries = es }))
+    (telling : (s : State) (change : Change) → P s → P (tell_hosts change s)) where
   abbrev pub Holds : Verdict → Type 0
   Holds (Refuses code) = Unit {0}
   Holds (Does d) = P d.state × (is_refusal d.answer ≡ false)
@@ -119,6 +127,29 @@ module _ (P : State → Type 0)
   list-holds s Who.Host app h =
       unless-holds (not (is_same app [] || is_app_name app)) Code.InvalidArgument (does s (Answer.Listed (documents_listed s app))) (h, refl)
 
+  -- ---- the permission store
+
+  kept_told-holds : (s : State) (o : Option StoredEntry) → P s → P (tell_kept o s)
+  kept_told-holds s None h = h
+  kept_told-holds s (Some e) h = telling s (change_of false e) h
+
+  answered-holds : (s : State) (call : StoreCall) (answer : StoreAnswer) → P s → Holds (store_answered s call answer)
+  answered-holds s call (StoreAnswer.Done change) h = (telling s change h, refl)
+  answered-holds s call StoreAnswer.Kept h = (kept_told-holds s (entry_of s.entries (table_of call) (identifier_of call)) h, refl)
+  answered-holds s call (StoreAnswer.Entry rows datum) h = (h, refl)
+  answered-holds s call (StoreAnswer.Names names) h = (h, refl)
+
+  outcome-holds : (s : State) (call : StoreCall) (outcome : Outcome) → P s → Holds (store_verdict s call outcome)
+  outcome-holds s call (Err error) h = tt
+  outcome-holds s call (Ok (es, answer)) h = answered-holds (record s { entries = es }) call answer (entries s es h)
+
+  store-holds : (s : State) (who : Who) (call : StoreCall) → P s → Holds (store_request s who call)
+  store-holds s (Who.App app) call h = tt
+  store-holds s Who.Host call h =
+      unless-holds (not (are_store_arguments call)) Code.InvalidArgument (store_allowed s call)
+      (unless-holds (is_same (table_of call) own_table) Code.NotAllowed (store_verdict s call (store_call call s.entries))
+      (outcome-holds s call (store_call call s.entries) h))
+
   -- ---- additions
 
   either : (b : Bool) (s t : State) → P s → P t → P (cond b s t)
@@ -187,6 +218,7 @@ module _ (P : State → Type 0)
   bus_walk-holds s c (Request.LookupDocument path) numbers h = lookup-holds s c.who path h
   bus_walk-holds s c (Request.Info doc) numbers h = info-holds s c.who doc h
   bus_walk-holds s c (Request.ListDocuments app) numbers h = list-holds s c.who app h
+  bus_walk-holds s c (Request.Store call) numbers h = store-holds s c.who call h
   bus_walk-holds s c request numbers h = (h, refl)
 
   pub refused-holds : (s : State) (c : Connection) (request : Request) → P s → P (refused_state s c request)

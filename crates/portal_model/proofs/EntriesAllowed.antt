@@ -116,6 +116,7 @@ step-done s seat (Request.DeleteDocument doc) given t h k l e f = on-bus s (Requ
 step-done s seat (Request.LookupDocument path) given t h k l e f = on-bus s (Request.LookupDocument path) given (bus_of (connection_of s.connections seat)) t h k l e f
 step-done s seat (Request.Info doc) given t h k l e f = on-bus s (Request.Info doc) given (bus_of (connection_of s.connections seat)) t h k l e f
 step-done s seat (Request.ListDocuments app) given t h k l e f = on-bus s (Request.ListDocuments app) given (bus_of (connection_of s.connections seat)) t h k l e f
+step-done s seat (Request.Store call) given t h k l e f = on-bus s (Request.Store call) given (bus_of (connection_of s.connections seat)) t h k l e f
 
 pub allowed-done : AllowedIsDone
 allowed-done = record {

@@ -6,8 +6,7 @@ use Rattle.std.specs.Str.{is_utf8, chars}
 use Rattle.portal_base.specs.Names.{is_host_path, is_app_name}
 use Rattle.portal_model.specs.Examples.{editor, other, a_text, read_write, of_other, of_nobody, AttributesOfGrantedFile, ForeignIsAsMissing, CostsOfRequests, AnswersOfSeats, LeaveAndCollect, FailedLook}
 use Rattle.portal_model.specs.Opening.{opened}
-use Rattle.portal_model.specs.Valid.{Valid, IsValidEntry}
-use Rattle.std.proofs.lemmas.List.Elements.{All-nil}
+use Rattle.portal_model.specs.Valid.{Valid}
 
 -- ---- the names in the examples are names
 
@@ -42,7 +41,7 @@ valid_read_write = record {
   handles_sound = refl;
   handles_within = refl;
   entries_differ = tt;
-  entries_sound = All-nil IsValidEntry;
+  entries_sound = refl;
   files_differ = (tt, tt);
   files_apart = refl;
   files_named = rw a_path refl;
@@ -71,7 +70,7 @@ valid_of_other = record {
   handles_sound = refl;
   handles_within = refl;
   entries_differ = tt;
-  entries_sound = All-nil IsValidEntry;
+  entries_sound = refl;
   files_differ = (tt, tt);
   files_apart = refl;
   files_named = rw a_path refl;
@@ -100,7 +99,7 @@ valid_of_nobody = record {
   handles_sound = refl;
   handles_within = refl;
   entries_differ = tt;
-  entries_sound = All-nil IsValidEntry;
+  entries_sound = refl;
   files_differ = (tt, tt);
   files_apart = refl;
   files_named = rw a_path refl;

@@ -2,7 +2,6 @@ pub mod ListLookups
 pub mod SoundParts
 pub mod BusLaws
 pub mod Histories
-pub mod NoChangeWaits
 pub mod StaysTold
 pub mod DistinctItems
 pub mod RisingLists
@@ -17,6 +16,14 @@ pub mod NodeValid
 pub mod NodeAllowed
 pub mod OwnFiles
 pub mod Queues
+pub mod WhoWaits
+pub mod EntriesKept
+pub mod RowTexts
+pub mod SpelledEnds
+pub mod FewerRows
+pub mod StoreValid
+pub mod TypeTexts
+pub mod DataLaws
 pub mod WalkDoings
 pub mod DrawnNumbers
 pub mod LiveDocuments
@@ -36,3 +43,4 @@ pub mod LooksTaken
 pub mod EntriesAllowed
 pub mod NodeLawsHold
 pub mod FileExampleProofs
+pub mod StoreExampleProofs

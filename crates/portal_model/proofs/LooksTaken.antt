@@ -92,6 +92,7 @@ given_taken s seat (Request.DeleteDocument doc) given t f l = bus_taken s (Reque
 given_taken s seat (Request.LookupDocument path) given t f l = bus_taken s (Request.LookupDocument path) given (bus_of (connection_of s.connections seat)) t f l
 given_taken s seat (Request.Info doc) given t f l = bus_taken s (Request.Info doc) given (bus_of (connection_of s.connections seat)) t f l
 given_taken s seat (Request.ListDocuments app) given t f l = bus_taken s (Request.ListDocuments app) given (bus_of (connection_of s.connections seat)) t f l
+given_taken s seat (Request.Store call) given t f l = bus_taken s (Request.Store call) given (bus_of (connection_of s.connections seat)) t f l
 
 pub looks-are-taken : LooksAreTaken
 looks-are-taken s e t l f = given_taken s e.seat e.request e.given t f l.given

@@ -19,4 +19,4 @@ allowed-is-done = node-done
 
 pub handles-stay : HandlesStayOnBuses
 handles-stay s request given o =
-    bus_step-holds (λ (t : State). t.handles ≡ s.handles) (λ t seat h. h) (λ t seat change h. h) (λ t ds made rights apps h. h) s request given o refl
+    bus_step-holds (λ (t : State). t.handles ≡ s.handles) (λ t seat h. h) (λ t seat change h. h) (λ t ds made rights apps h. h) (λ t es h. h) (λ t change h. h) s request given o refl

@@ -54,6 +54,7 @@ step_keeps s seat (Request.DeleteDocument doc) given code e = bus_keeps s (Reque
 step_keeps s seat (Request.LookupDocument path) given code e = bus_keeps s (Request.LookupDocument path) given (bus_of (connection_of s.connections seat)) code e
 step_keeps s seat (Request.Info doc) given code e = bus_keeps s (Request.Info doc) given (bus_of (connection_of s.connections seat)) code e
 step_keeps s seat (Request.ListDocuments app) given code e = bus_keeps s (Request.ListDocuments app) given (bus_of (connection_of s.connections seat)) code e
+step_keeps s seat (Request.Store call) given code e = bus_keeps s (Request.Store call) given (bus_of (connection_of s.connections seat)) code e
 
 pub refused-entries-keep : RefusedEntriesKeep
 refused-entries-keep s e code h = step_keeps s e.seat e.request e.given code h

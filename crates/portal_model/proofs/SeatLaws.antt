@@ -9,6 +9,7 @@ use Rattle.portal_base.specs.declared.who.Kind.{Kind}
 use Rattle.portal_base.specs.declared.who.Who.{Who}
 use Rattle.portal_model.specs.declared.entry.Entry.{Entry}
 use Rattle.portal_model.specs.declared.entry.Given.{Given}
+use Rattle.portal_model.specs.declared.reply.Change.{Change}
 use Rattle.portal_model.specs.declared.request.NodeRequest.{NodeRequest}
 use Rattle.portal_model.specs.declared.request.Request.{Request}
 use Rattle.portal_model.specs.declared.state.Connection.{Connection}
@@ -21,6 +22,8 @@ use Rattle.portal_model.specs.Present.{requeued}
 use Rattle.portal_model.specs.Seated.{BeginsWith, Binding, Exchange, binding_of, bound, bound_after, bound_by, exchange, exchanges, is_open}
 use Rattle.portal_model.specs.State.{State, connection_of}
 use Rattle.portal_model.specs.Step.{after, all_told, bus_of, bus_step, collect_step, mount_of, node_step, request_step, told_of}
+use Rattle.portal_model.specs.StoreRequest.{told_change}
+use Rattle.portal_model.specs.Valid.{is_host_bus}
 use Rattle.portal_model.proofs.BusLaws.{bus_step-holds}
 use Rattle.portal_model.proofs.ListLookups.{find-filter}
 
@@ -198,10 +201,27 @@ binding-requeued seat other change [] = refl
 binding-requeued seat other change (c ∷ cs) =
     requeued_first seat other change c (c.seat == other) (connection_of (map (requeued other change) cs) seat) (connection_of cs seat) (binding-requeued seat other change cs)
 
+told_change_first : (seat : ℕ) (change : Change) (c : Connection) (b : Bool) (o p : Option Connection) → option_map binding_of o ≡ option_map binding_of p →
+    option_map binding_of (cond ((cond b (record c { unsent = c.unsent ++ change ∷ [] }) c).seat == seat) (Some (cond b (record c { unsent = c.unsent ++ change ∷ [] }) c)) o) ≡ option_map binding_of (cond (c.seat == seat) (Some c) p)
+told_change_first seat change c true o p h = elim (c.seat == seat) as (λ m. option_map binding_of (cond m (Some (record c { unsent = c.unsent ++ change ∷ [] })) o) ≡ option_map binding_of (cond m (Some c) p)) [
+  | true ↦ refl
+  | false ↦ h
+]
+told_change_first seat change c false o p h = elim (c.seat == seat) as (λ m. option_map binding_of (cond m (Some c) o) ≡ option_map binding_of (cond m (Some c) p)) [
+  | true ↦ refl
+  | false ↦ h
+]
+
+-- a change that connections wait for ends none and binds none otherwise
+binding-changed : (seat : ℕ) (change : Change) (cs : List Connection) → binding (map (told_change change) cs) seat ≡ binding cs seat
+binding-changed seat change [] = refl
+binding-changed seat change (c ∷ cs) =
+    told_change_first seat change c (is_host_bus c.who c.kind) (connection_of (map (told_change change) cs) seat) (connection_of cs seat) (binding-changed seat change cs)
+
 bus_bound : (s : State) (request : Request) (given : Given) (o : Option Connection) (seat : ℕ) → bound (bus_step s request given o).0 seat ≡ bound s seat
 bus_bound s request given o seat =
     bus_step-holds (λ (t : State). bound t seat ≡ bound s seat) (λ t told h. binding-told seat told t.connections ∙ h)
-    (λ t other change h. binding-requeued seat other change t.connections ∙ h) (λ t ds made rights apps h. h) s request given o refl
+    (λ t other change h. binding-requeued seat other change t.connections ∙ h) (λ t ds made rights apps h. h) (λ t es h. h) (λ t change h. binding-changed seat change t.connections ∙ h) s request given o refl
 
 own_bound : (s : State) (seat : ℕ) (request : Request) (given : Given) → bound (request_step s seat request given).0 seat ≡ bound_after (bound s seat) request
 own_bound s seat (Request.Enter who kind) given = enter_bound seat who kind s.connections (connection_of s.connections seat) refl

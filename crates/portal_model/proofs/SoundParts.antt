@@ -1,7 +1,7 @@
 -- What is true of a valid state beside the limits of documents and applications, in two parts: its documents and rights,
 -- and all else. A change of one part leaves the other.
 use Rattle.std.proofs.Common.{◌≡◌, ℕ, ◌^◌, ◌<◌, ◌≤◌, nat_eq, nat_lt, length, List, [], map, Bool, true, false, not, ◌&&◌, ◌||◌, is_some, refl, arith}
-use Rattle.std.specs.List.{All, list_all, IsDistinct}
+use Rattle.std.specs.List.{list_all, IsDistinct}
 use Rattle.std.proofs.lemmas.Bool.Decides.{nat_tests}
 use Rattle.portal_base.specs.Names.{is_same, is_app_name, is_host_path}
 use Rattle.portal_base.specs.declared.files.File.{File}
@@ -10,11 +10,12 @@ use Rattle.portal_model.specs.declared.handle.OpenHandle.{OpenHandle}
 use Rattle.portal_model.specs.declared.state.Connection.{Connection}
 use Rattle.portal_model.specs.declared.state.Document.{Document}
 use Rattle.portal_model.specs.declared.state.Triple.{Triple}
+use Rattle.portal_model.specs.declared.store.StoredEntry.{StoredEntry}
 use Rattle.portal_model.specs.Content.{is_folder}
 use Rattle.portal_model.specs.Grant.{exceeds_limits}
 use Rattle.portal_model.specs.Rights.{are_in_order}
 use Rattle.portal_model.specs.State.{State, document_of}
-use Rattle.portal_model.specs.Valid.{Valid, applications_limit, has_identifier, is_made, is_numbered, is_sound_connection, is_sound_handle, opens_within, IsValidEntry, same_entry, same_handle}
+use Rattle.portal_model.specs.Valid.{Valid, applications_limit, has_identifier, is_made, is_numbered, is_sound_connection, is_sound_handle, opens_within, is_valid_entry, same_entry, same_handle}
 
 abbrev pub numbers : List Document → List ℕ
 numbers ds = map (λ (d : Document). d.id.number) ds
@@ -45,7 +46,7 @@ pub record Connected (s : State) : Type 0 where
   pub handles_sound : list_all (is_sound_handle s.connections) s.handles ≡ true
   pub handles_within : list_all (opens_within s.limits.handles s.handles) s.connections ≡ true
   pub entries_differ : IsDistinct same_entry s.entries
-  pub entries_sound : All IsValidEntry s.entries
+  pub entries_sound : list_all is_valid_entry s.entries ≡ true
   pub files_differ : IsDistinct is_same (map (λ (f : File). f.path) s.files)
   pub files_apart : list_all (λ (f : File). not (is_folder s.files f.path)) s.files ≡ true
   pub files_named : list_all (λ (f : File). is_host_path f.path) s.files ≡ true
@@ -240,3 +241,32 @@ Valid-open s cs hs files v k h f = record {
 
 pub Valid-connections : (s : State) (cs : List Connection) → Valid s → SoundConnections s.limits.queued cs → SoundHandles s.limits.handles cs s.handles → Valid (record s { connections = cs })
 Valid-connections s cs v k h = Valid-open s cs s.handles s.files v k h (valid-files s v)
+
+-- other entries of the permission store
+pub Valid-entries : (s : State) (entries : List StoredEntry) → Valid s → IsDistinct same_entry entries → list_all is_valid_entry entries ≡ true → Valid (record s { entries = entries })
+Valid-entries s entries v d e = record {
+  numbers_differ = v.numbers_differ;
+  numbers_made = v.numbers_made;
+  identifiers = v.identifiers;
+  paths = v.paths;
+  applications_differ = v.applications_differ;
+  names = v.names;
+  rights_in_order = v.rights_in_order;
+  rights_placed = v.rights_placed;
+  seats_differ = v.seats_differ;
+  connections_sound = v.connections_sound;
+  handles_differ = v.handles_differ;
+  handles_sound = v.handles_sound;
+  handles_within = v.handles_within;
+  entries_differ = d;
+  entries_sound = e;
+  files_differ = v.files_differ;
+  files_apart = v.files_apart;
+  files_named = v.files_named;
+  files_told = v.files_told;
+  documents_within = v.documents_within;
+  made_within = v.made_within;
+  applications_within = v.applications_within;
+  made_limit = v.made_limit;
+  queued_limit = v.queued_limit;
+}

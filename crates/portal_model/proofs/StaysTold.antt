@@ -25,7 +25,7 @@ collect_step-told s (Some c) = refl
 
 bus_step-told : (s : State) (request : Request) (given : Given) (o : Option Connection) → (bus_step s request given o).0.told ≡ s.told
 bus_step-told s request given o =
-    bus_step-holds (λ (t : State). t.told ≡ s.told) (λ t seat h. h) (λ t seat change h. h) (λ t ds made rights apps h. h) s request given o refl
+    bus_step-holds (λ (t : State). t.told ≡ s.told) (λ t seat h. h) (λ t seat change h. h) (λ t ds made rights apps h. h) (λ t es h. h) (λ t change h. h) s request given o refl
 
 -- a tree that tells goes on telling
 pub step_told : (s : State) (seat : ℕ) (request : Request) (given : Given) → (request_step s seat request given).0.told ≡ s.told

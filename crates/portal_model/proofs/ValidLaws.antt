@@ -49,6 +49,7 @@ use Rattle.portal_model.proofs.OpenHandles.{entered-handles, left-handles, reque
 use Rattle.portal_model.proofs.Queues.{caller_sound, dropped-connections, found_told, seats}
 use Rattle.portal_model.proofs.RevokeValid.{revoke-valid}
 use Rattle.portal_model.proofs.SoundParts.{SoundConnections, Valid-connections, Valid-open, valid-files, valid-handles}
+use Rattle.portal_model.proofs.StoreValid.{store-valid}
 
 -- ---- Enter
 
@@ -153,6 +154,7 @@ module _ (s : State) (c found : Connection) (numbers : List DocId) (f : connecti
   walk-valid (Request.LookupDocument path) = lookup-valid c.who path
   walk-valid (Request.Info doc) = info-valid c.who doc
   walk-valid (Request.ListDocuments app) = list-valid c.who app
+  walk-valid (Request.Store call) = store-valid P always s v c.who call
   walk-valid (Request.Enter who kind) = λ e l u. v
   walk-valid Request.Leave = λ e l u. v
   walk-valid Request.Collect = λ e l u. v
@@ -240,6 +242,7 @@ request_step-Valid s seat (Request.DeleteDocument doc) given l v = bus_step-Vali
 request_step-Valid s seat (Request.LookupDocument path) given l v = bus_step-Valid s seat (Request.LookupDocument path) given (bus_of (connection_of s.connections seat)) refl v l
 request_step-Valid s seat (Request.Info doc) given l v = bus_step-Valid s seat (Request.Info doc) given (bus_of (connection_of s.connections seat)) refl v l
 request_step-Valid s seat (Request.ListDocuments app) given l v = bus_step-Valid s seat (Request.ListDocuments app) given (bus_of (connection_of s.connections seat)) refl v l
+request_step-Valid s seat (Request.Store call) given l v = bus_step-Valid s seat (Request.Store call) given (bus_of (connection_of s.connections seat)) refl v l
 
 pub after-Valid : (s : State) (e : Entry) → Valid s → Lawful s e → Valid (after s e)
 after-Valid s e v l = request_step-Valid s e.seat e.request e.given l.given v

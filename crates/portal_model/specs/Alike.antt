@@ -39,6 +39,8 @@ ReadsAlike size (Answer.Place place) given = given ≡ Answer.Place place
 ReadsAlike size (Answer.Ids ids) given = given ≡ Answer.Ids ids
 ReadsAlike size (Answer.Info path rights) given = given ≡ Answer.Info path rights
 ReadsAlike size (Answer.Listed documents) given = given ≡ Answer.Listed documents
+ReadsAlike size (Answer.Entry rows datum) given = given ≡ Answer.Entry rows datum
+ReadsAlike size (Answer.Names names) given = given ≡ Answer.Names names
 
 -- the answers to a request on a node
 abbrev pub NodeAlike : NodeOp → Answer → Answer → Type 0
@@ -72,6 +74,7 @@ AnswersAlike (Request.Revoke call) stepped given = given ≡ stepped
 AnswersAlike (Request.DeleteDocument doc) stepped given = given ≡ stepped
 AnswersAlike (Request.LookupDocument path) stepped given = given ≡ stepped
 AnswersAlike (Request.Info doc) stepped given = given ≡ stepped
+AnswersAlike (Request.Store call) stepped given = given ≡ stepped
 AnswersAlike (Request.ListDocuments app) stepped given = given ≡ stepped
 
 -- by whether the tree tells its files, and the request: what the step replies, and what is given

@@ -16,6 +16,7 @@ use Rattle.portal_model.specs.declared.request.RightsCall.{RightsCall}
 use Rattle.portal_model.specs.declared.rights.Right.TheVariants.{Delete, GrantPermissions}
 use Rattle.portal_model.specs.declared.state.Connection.{Connection}
 use Rattle.portal_model.specs.declared.state.Document.{Document}
+use Rattle.portal_model.specs.declared.store.StoreCall.{StoreCall}
 use Rattle.portal_model.specs.Access.{executes, writes_to}
 use Rattle.portal_model.specs.Add.{are_of_kind, is_file, may_list_all}
 use Rattle.portal_model.specs.AddArguments.{are_add_arguments, are_presented, document_paths, paths_shown}
@@ -34,6 +35,8 @@ use Rattle.portal_model.specs.Revoke.{names_itself}
 use Rattle.portal_model.specs.Rights.{held_by}
 use Rattle.portal_model.specs.SetAttr.{sets_by_handle, sets_owner_or_mode, sets_size}
 use Rattle.portal_model.specs.State.{State, connection_of, handle_of, is_host, who_has}
+use Rattle.portal_model.specs.Store.{store_call}
+use Rattle.portal_model.specs.StoreRequest.{may_call, store_too_long}
 use Rattle.portal_model.specs.Step.{bus_of, mount_of}
 use Rattle.portal_model.specs.Valid.{is_none}
 use Rattle.portal_model.specs.Write.{write_limit}
@@ -70,8 +73,9 @@ abbrev pub is_live : Option Document → Bool
 is_live None = false
 is_live (Some d) = true
 
--- A request on documents of this connection, which is a bus. A Collect needs nothing more; an
--- Enter, a Leave and a request on a node have rules of their own, and are none here.
+-- A request of this connection, which is a bus: on documents, or of the permission store. A Collect
+-- needs nothing more; an Enter, a Leave and a request on a node have rules of their own, and are
+-- none here.
 abbrev pub is_allowed : State → Connection → Request → Bool
 is_allowed s c (Request.Present path) = is_ended_path path && may_present c.who (ahead_of_end path)
 is_allowed s c (Request.Add a) = may_add s c a
@@ -83,12 +87,17 @@ is_allowed s c (Request.DeleteDocument doc) = may_delete_in s c.who (document_na
 is_allowed s c (Request.LookupDocument path) = is_host c.who && is_ended_path path
 is_allowed s c (Request.Info doc) = is_host c.who && is_live (document_named s.documents doc)
 is_allowed s c (Request.ListDocuments app) = is_host c.who && (is_same app [] || is_app_name app)
+is_allowed s c (Request.Store call) = is_host c.who && may_call s call
 is_allowed s c Request.Collect = true
 is_allowed s c (Request.Enter who kind) = false
 is_allowed s c Request.Leave = false
 is_allowed s c (Request.Node r) = false
 
--- a queue has a place for one more file, where one is presented
+abbrev pub is_too_long_for : State → StoreCall → Bool
+is_too_long_for s call = store_too_long (store_call call s.entries)
+
+-- A queue has a place for one more file, where one is presented; and the signal that tells of an
+-- entry is no longer than a message may be.
 abbrev pub has_place : State → Connection → Request → Bool
 has_place s c (Request.Present path) = nat_lt (length c.queue) s.limits.queued
 has_place s c (Request.Add a) = true
@@ -98,6 +107,7 @@ has_place s c (Request.DeleteDocument doc) = true
 has_place s c (Request.LookupDocument path) = true
 has_place s c (Request.Info doc) = true
 has_place s c (Request.ListDocuments app) = true
+has_place s c (Request.Store call) = not (is_too_long_for s call)
 has_place s c Request.Collect = true
 has_place s c (Request.Enter who kind) = true
 has_place s c Request.Leave = true
@@ -280,8 +290,11 @@ allowed s seat (Request.Info doc) =
     allowed_on_bus s (Request.Info doc) (bus_of (connection_of s.connections seat))
 allowed s seat (Request.ListDocuments app) =
     allowed_on_bus s (Request.ListDocuments app) (bus_of (connection_of s.connections seat))
+allowed s seat (Request.Store call) =
+    allowed_on_bus s (Request.Store call) (bus_of (connection_of s.connections seat))
 
--- the queue of the seat's connection has a place for what is presented
+-- the queue of the seat's connection has a place for what is presented, and what an entry of the
+-- permission store becomes can be told
 abbrev pub place_on : State → Request → Option Connection → Bool
 place_on s request None = true
 place_on s request (Some c) = has_place s c request

@@ -16,11 +16,12 @@ use Rattle.portal_model.specs.LookupDocument.{lookup_document}
 use Rattle.portal_model.specs.Present.{present}
 use Rattle.portal_model.specs.Revoke.{revoke}
 use Rattle.portal_model.specs.State.{State}
+use Rattle.portal_model.specs.StoreRequest.{store_request}
 use Rattle.portal_model.specs.Verdict.{Doing, Verdict, Refuses, Does, answers}
 use Rattle.portal_model.specs.Walk.{Walk, Answers, walked}
 
--- Numbers are those that new documents get. Nothing comes of the requests that are none on
--- documents: their step doesn't ask this walk.
+-- Numbers are those that new documents get. Nothing comes of an Enter, a Leave, a Collect and a
+-- request on a node: their step doesn't ask this walk.
 abbrev pub bus_walk : State → Connection → Request → List DocId → Walk Verdict
 bus_walk s c (Request.Present path) numbers = Answers (present s c path)
 bus_walk s c (Request.Add a) numbers = add s c a numbers
@@ -30,6 +31,7 @@ bus_walk s c (Request.DeleteDocument doc) numbers = Answers (delete_document s c
 bus_walk s c (Request.LookupDocument path) numbers = Answers (lookup_document s c.who path)
 bus_walk s c (Request.Info doc) numbers = Answers (info s c.who doc)
 bus_walk s c (Request.ListDocuments app) numbers = Answers (list_documents s c.who app)
+bus_walk s c (Request.Store call) numbers = Answers (store_request s c.who call)
 bus_walk s c (Request.Enter who kind) numbers = answers s Answer.Done
 bus_walk s c Request.Leave numbers = answers s Answer.Done
 bus_walk s c Request.Collect numbers = answers s Answer.Done
@@ -45,6 +47,7 @@ refused_state s c (Request.DeleteDocument doc) = s
 refused_state s c (Request.LookupDocument path) = s
 refused_state s c (Request.Info doc) = s
 refused_state s c (Request.ListDocuments app) = s
+refused_state s c (Request.Store call) = s
 refused_state s c (Request.Enter who kind) = s
 refused_state s c Request.Leave = s
 refused_state s c Request.Collect = s

@@ -61,14 +61,15 @@ ToldFor s (Request.DeleteDocument doc) = Unit {0}
 ToldFor s (Request.LookupDocument path) = Unit {0}
 ToldFor s (Request.Info doc) = Unit {0}
 ToldFor s (Request.ListDocuments app) = Unit {0}
+ToldFor s (Request.Store call) = Unit {0}
 ToldFor s (Request.Enter who kind) = Unit {0}
 ToldFor s Request.Leave = Unit {0}
 ToldFor s Request.Collect = Unit {0}
 
 -- What is allowed is done, where no device fails, no limit of documents, applications, open handles
--- or a file's length is met, and the queue has a place: an Add and a CREATE over a tree that tells,
--- all else over any tree. It is so of each lawful entry, and of a request on documents of any
--- connection.
+-- or a file's length is met, the queue has a place, and the entry of a call of the permission store
+-- can be told: an Add and a CREATE over a tree that tells, all else over any tree. It is so of each
+-- lawful entry, and of a request of a bus of any connection.
 pub record AllowedIsDone : Type 0 where
   pub entry :
       (s : State) (e : Entry) → ToldFor s e.request →

@@ -2,6 +2,7 @@
 -- worked out by hand from the rules and from the fields of struct fuse_attr in
 -- include/uapi/linux/fuse.h.
 use Rattle.std.specs.Prelude.{◌≡◌, ℕ, List, [], ◌∷◌, true, false, None, codes, map}
+use Rattle.dbus_types.specs.declared.types.Value.TheVariants as V
 use Rattle.portal_base.specs.declared.files.Look.{Look}
 use Rattle.portal_base.specs.declared.limits.Limits.{Limits}
 use Rattle.portal_base.specs.declared.names.doc_id.DocId.{DocId}
@@ -202,7 +203,13 @@ abbrev pub collects : Entry
 collects = asks_alone 1 Request.Collect
 
 abbrev pub change : Change
-change = record { table = codes "devices"; id = codes "camera"; deleted = false }
+change = record {
+  table = codes "devices";
+  id = codes "camera";
+  deleted = false;
+  datum = V.Byte 0;
+  rows = record { app = codes "org.ed"; names = codes "yes" ∷ [] } ∷ [];
+}
 
 -- the host's bus waits for a change
 abbrev pub waiting_state : State

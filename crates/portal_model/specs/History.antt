@@ -1,6 +1,7 @@
 -- Histories: lists of entries from a state.
 use Rattle.std.specs.Prelude.{ℕ, ◌+◌, ◌*◌, ◌-◌, ◌^◌, ◌==◌, min, List, [], ◌∷◌, ◌++◌, length, Bool, false, Option, Some, None, cond}
 use Rattle.std.specs.List.{filter, sum_by}
+use Rattle.dbus_types.specs.declared.types.Value.{Value}
 use Rattle.portal_base.specs.declared.who.Who.{Who}
 use Rattle.portal_model.specs.declared.entry.Entry.{Entry}
 use Rattle.portal_model.specs.declared.reply.Reply.{Reply}
@@ -9,8 +10,11 @@ use Rattle.portal_model.specs.declared.request.NodeOp.{NodeOp}
 use Rattle.portal_model.specs.declared.request.Request.{Request}
 use Rattle.portal_model.specs.declared.request.RightsCall.{RightsCall}
 use Rattle.portal_model.specs.declared.state.Connection.{Connection}
+use Rattle.portal_model.specs.declared.store.StoreCall.{StoreCall}
+use Rattle.portal_model.specs.Data.{data_bytes}
 use Rattle.portal_model.specs.Lawful.{Lawful}
 use Rattle.portal_model.specs.State.{State, connection_of, is_app}
+use Rattle.portal_model.specs.StoreRequest.{data_of, texts_of}
 use Rattle.portal_model.specs.Step.{after, reply_at}
 use Rattle.portal_model.specs.Valid.{Valid}
 
@@ -64,6 +68,14 @@ add_bytes a = 4 * length a.handles + (length a.name + (length a.app + texts_byte
 abbrev pub rights_call_bytes : RightsCall → ℕ
 rights_call_bytes call = length call.doc + (length call.app + texts_bytes call.names)
 
+abbrev pub bytes_of_data : Option Value → ℕ
+bytes_of_data None = 0
+bytes_of_data (Some datum) = data_bytes datum
+
+-- the data counts as it is spelled, and not at all where it breaks a rule
+abbrev pub store_bytes : StoreCall → ℕ
+store_bytes call = texts_bytes (texts_of call) + bytes_of_data (data_of call)
+
 -- what a request that carries so many bytes costs: at most the greatest number that is counted
 abbrev pub cost_of_bytes : ℕ → ℕ
 cost_of_bytes count = min (128 + count) (2 ^ 64 - 1)
@@ -81,6 +93,7 @@ cost_of (Request.DeleteDocument doc) = cost_of_bytes (length doc)
 cost_of (Request.LookupDocument path) = cost_of_bytes (length path)
 cost_of (Request.Info doc) = cost_of_bytes (length doc)
 cost_of (Request.ListDocuments app) = cost_of_bytes (length app)
+cost_of (Request.Store call) = cost_of_bytes (store_bytes call)
 cost_of (Request.Node r) = cost_of_bytes (node_bytes r.op)
 
 abbrev pub cost : List Entry → ℕ

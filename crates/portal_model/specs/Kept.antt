@@ -11,6 +11,7 @@ use Rattle.portal_model.specs.declared.state.Document.{Document}
 use Rattle.portal_model.specs.declared.state.Triple.{Triple}
 use Rattle.portal_model.specs.Info.{holders}
 use Rattle.portal_model.specs.State.{State, bit_of, held_of}
+use Rattle.portal_model.specs.Store.{record_of}
 
 abbrev pub bit_if : Bool → Right → ℕ
 bit_if held right = cond held (bit_of right) 0
@@ -43,5 +44,5 @@ abbrev pub records_of : State → Records
 records_of s = record {
   version = records_version;
   documents = map (document_record s.rights) (filter (λ d. d.persistent) s.documents);
-  entries = s.entries;
+  entries = map record_of s.entries;
 }

@@ -39,7 +39,7 @@ abbrev pub LawfulOnNode : State → NodeRequest → Given → Option Connection 
 LawfulOnNode s r given None = given ≡ nothing_given
 LawfulOnNode s r given (Some c) = LawfulNode (all_told c.seat s) c r given
 
--- ---- what is given to a request on documents
+-- ---- what is given to a request of a bus
 
 -- Where the seat has no open bus, nothing is. Else it is as the state shows it in which the
 -- connection was told what it waited for, since that state is the one in which the request is
@@ -72,6 +72,8 @@ LawfulGiven s seat (Request.Info doc) given =
     LawfulOnBus s (Request.Info doc) given (bus_of (connection_of s.connections seat))
 LawfulGiven s seat (Request.ListDocuments app) given =
     LawfulOnBus s (Request.ListDocuments app) given (bus_of (connection_of s.connections seat))
+LawfulGiven s seat (Request.Store call) given =
+    LawfulOnBus s (Request.Store call) given (bus_of (connection_of s.connections seat))
 
 pub record Lawful (s : State) (e : Entry) : Type 0 where
   pub given : LawfulGiven s e.seat e.request e.given

@@ -1,12 +1,17 @@
 -- Laws over histories, which the public functions of src/laws.rt state.
-use Rattle.std.specs.Prelude.{◌≡◌, ℕ, ◌+◌, ◌≤◌, List, [], ◌∷◌, ◌++◌, length, take, map, Some, None, is_some}
+use Rattle.std.specs.Prelude.{◌≡◌, ℕ, ◌+◌, ◌≤◌, List, [], ◌∷◌, ◌++◌, length, take, map, true, Some, None, is_some}
+use Rattle.portal_base.specs.declared.who.Who.{Who}
 use Rattle.portal_model.specs.declared.entry.Entry.{Entry}
+use Rattle.portal_model.specs.declared.entry.Given.{Given}
+use Rattle.portal_model.specs.declared.request.NodeRequest.{NodeRequest}
+use Rattle.portal_model.specs.declared.state.Connection.{Connection}
 use Rattle.portal_model.specs.History.{run, Legal, cost, of_seat}
 use Rattle.portal_model.specs.Lawful.{Lawful}
+use Rattle.portal_model.specs.Node.{node_answer}
 use Rattle.portal_model.specs.Opening.{SoundOpening, ValidOpening, file_of}
-use Rattle.portal_model.specs.State.{State}
+use Rattle.portal_model.specs.State.{State, connection_of, is_mount}
 use Rattle.portal_model.specs.declared.opening.OpeningState.{OpeningState}
-use Rattle.portal_model.specs.Step.{after}
+use Rattle.portal_model.specs.Step.{after, node_step, with_signals}
 use Rattle.portal_model.specs.Seated.{BeginsWith, bound, bound_by, exchange, exchanges, is_open}
 use Rattle.portal_model.specs.Valid.{Valid}
 
@@ -70,3 +75,18 @@ pub record StaysValid : Type 0 where
 pub record OpeningsAreValid : Type 0 where
   pub told : (o : OpeningState) → SoundOpening o → ValidOpening (Some (map file_of o.files)) o
   pub quiet : (o : OpeningState) → SoundOpening o → ValidOpening None o
+
+-- Hosts alone wait for changes of the permission store: in a valid state nothing waits to be told on
+-- a mount, nor to an application. So a request on a node tells no change, and is answered in the
+-- state as it stands.
+pub record HostsAloneWait : Type 0 where
+  pub mount :
+      (s : State) (seat : ℕ) (c : Connection) → Valid s →
+      connection_of s.connections seat ≡ Some c → is_mount c.kind ≡ true → c.unsent ≡ []
+  pub application :
+      (s : State) (seat : ℕ) (c : Connection) (app : List ℕ) → Valid s →
+      connection_of s.connections seat ≡ Some c → c.who ≡ Who.App app → c.unsent ≡ []
+  pub on_node :
+      (s : State) (seat : ℕ) (c : Connection) (r : NodeRequest) (given : Given) → Valid s →
+      connection_of s.connections seat ≡ Some c → is_mount c.kind ≡ true →
+      node_step s r given (Some c) ≡ with_signals [] (node_answer s c r given)

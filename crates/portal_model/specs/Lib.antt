@@ -53,6 +53,8 @@ pub mod Opening
 pub mod RecordChanges
 pub mod Rows
 pub mod Store
+pub mod Data
+pub mod StoreRequest
 pub mod History
 pub mod Seated
 pub mod Laws
@@ -61,3 +63,5 @@ pub mod DocumentLaws
 pub mod DocumentExamples
 pub mod NodeLaws
 pub mod FileExamples
+pub mod StoreExamples
+pub mod StoreLaws

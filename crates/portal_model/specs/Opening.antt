@@ -1,6 +1,6 @@
 -- The state that an opening state of a portal stands for.
 use Rattle.std.specs.Prelude.{◌≡◌, ◌≤◌, ◌<◌, ◌^◌, ◌&&◌, length, nat_eq, nat_le, nat_lt, ℕ, ◌==◌, ◌/◌, ◌%◌, List, [], ◌∷◌, map, fold, not, Bool, true, false, Option, Some, None}
-use Rattle.std.specs.List.{All, filter, flat_map, list_all, IsDistinct}
+use Rattle.std.specs.List.{filter, flat_map, list_all, IsDistinct}
 use Rattle.portal_base.specs.Names.{is_same, is_app_name, is_host_path}
 use Rattle.portal_base.specs.declared.names.doc_id.DocId.{DocId}
 use Rattle.portal_model.specs.declared.opening.FileItem.{FileItem}
@@ -16,7 +16,7 @@ use Rattle.portal_model.specs.Content.{is_folder}
 use Rattle.portal_model.specs.Rights.{add_rights}
 use Rattle.portal_model.specs.State.{State, bit_of}
 use Rattle.rights_rule.specs.Rights.{RightSet}
-use Rattle.portal_model.specs.Valid.{Valid, applications_limit, IsValidEntry, same_entry}
+use Rattle.portal_model.specs.Valid.{Valid, applications_limit, is_valid_entry, same_entry}
 
 abbrev pub id_of : ℕ → DocId
 id_of number = record { number = number }
@@ -127,7 +127,7 @@ pub record SoundOpening (o : OpeningState) : Type 0 where
   pub grants : list_all has_grants o.documents ≡ true
   pub grants_differ : GrantsDiffer o.documents
   pub entries_differ : IsDistinct same_entry o.entries
-  pub entries_sound : All IsValidEntry o.entries
+  pub entries_sound : list_all is_valid_entry o.entries ≡ true
   pub files_differ : IsDistinct is_same (map (λ f. f.path) o.files)
   pub files_apart : list_all (λ f. not (is_folder (map file_of o.files) f.path)) o.files ≡ true
   pub files_named : list_all (λ f. is_host_path f.path) o.files ≡ true

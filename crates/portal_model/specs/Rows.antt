@@ -6,7 +6,7 @@ use Rattle.std.specs.List.{filter, find, list_all}
 use Rattle.portal_base.specs.Names.{is_same}
 use Rattle.portal_model.specs.declared.records.Row.{Row}
 use Rattle.portal_model.specs.Ordered.{bytes_less, put, put_all, is_rising}
-use Rattle.portal_model.specs.Valid.{is_none}
+use Rattle.portal_model.specs.State.{is_none}
 
 abbrev pub is_row_of : List ℕ → Row → Bool
 is_row_of app row = is_same row.app app

@@ -1,7 +1,7 @@
 -- The state of the sequential portal: plain lists, and what is looked up in them. The terms are
 -- those of the documentation of org.freedesktop.portal.Documents, where an application has
 -- permissions in documents.
-use Rattle.std.specs.Prelude.{ℕ, ◌==◌, ◌&&◌, List, length, Bool, true, false, Option, is_some, option_map}
+use Rattle.std.specs.Prelude.{ℕ, ◌==◌, ◌&&◌, List, [], ◌∷◌, Bool, true, false, Option, is_some, option_map}
 use Rattle.std.specs.List.{filter, find, list_any}
 use Rattle.portal_base.specs.Names.{is_same}
 use Rattle.rights_rule.specs.Rights.{RightSet}
@@ -11,13 +11,13 @@ use Rattle.portal_base.specs.declared.who.Kind.{Kind}
 use Rattle.portal_base.specs.declared.who.Who.{Who}
 use Rattle.portal_model.specs.declared.handle.Handle.{Handle}
 use Rattle.portal_model.specs.declared.handle.OpenHandle.{OpenHandle}
-use Rattle.portal_model.specs.declared.records.EntryRecord.{EntryRecord}
 use Rattle.portal_model.specs.declared.rights.Right.{Right}
 use Rattle.portal_model.specs.declared.rights.Right.TheVariants.{Read, Write, GrantPermissions, Delete}
 use Rattle.portal_model.specs.declared.state.Connection.{Connection}
 use Rattle.portal_model.specs.declared.state.Document.{Document}
 use Rattle.portal_base.specs.declared.files.File.{File}
 use Rattle.portal_model.specs.declared.state.Triple.{Triple}
+use Rattle.portal_model.specs.declared.store.StoredEntry.{StoredEntry}
 
 pub record State : Type 0 where
   pub limits : Limits
@@ -37,7 +37,11 @@ pub record State : Type 0 where
   pub told : Bool
   pub files : List File
   -- the entries of the permission store, in order of creation
-  pub entries : List EntryRecord
+  pub entries : List StoredEntry
+
+abbrev pub is_none : {X : Type 0} → List X → Bool
+is_none [] = true
+is_none (x ∷ xs) = false
 
 -- the number that a record of rights gives a right
 abbrev pub bit_of : Right → ℕ

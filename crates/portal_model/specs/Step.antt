@@ -90,6 +90,8 @@ request_step s seat (Request.Info doc) given =
     bus_step s (Request.Info doc) given (bus_of (connection_of s.connections seat))
 request_step s seat (Request.ListDocuments app) given =
     bus_step s (Request.ListDocuments app) given (bus_of (connection_of s.connections seat))
+request_step s seat (Request.Store call) given =
+    bus_step s (Request.Store call) given (bus_of (connection_of s.connections seat))
 
 -- the state after an entry, and the reply to it
 abbrev pub step : State → Entry → State × Reply
@@ -109,7 +111,7 @@ abbrev pub node_looks : State → NodeRequest → Option Connection → List Loo
 node_looks s r None = []
 node_looks s r (Some c) = looks_shown s.files (walk_on_node (all_told c.seat s) c r)
 
--- The looks of the walk: an Add's, and none of another request on documents. The numbers that new
+-- The looks of the walk: an Add's, and none of another request of a bus. The numbers that new
 -- documents get don't bear on them.
 abbrev pub bus_looks : State → Request → Option Connection → List Look
 bus_looks s request None = []
@@ -136,3 +138,5 @@ looks_taken s seat (Request.Info doc) =
     bus_looks s (Request.Info doc) (bus_of (connection_of s.connections seat))
 looks_taken s seat (Request.ListDocuments app) =
     bus_looks s (Request.ListDocuments app) (bus_of (connection_of s.connections seat))
+looks_taken s seat (Request.Store call) =
+    bus_looks s (Request.Store call) (bus_of (connection_of s.connections seat))

@@ -12,11 +12,11 @@ use Rattle.dbus_types.specs.Spelling.{spelling}
 use Rattle.portal_base.specs.Names.{is_same}
 use Rattle.portal_model.specs.declared.records.EntryRecord.{EntryRecord}
 use Rattle.portal_model.specs.declared.records.Row.{Row}
+use Rattle.portal_model.specs.declared.reply.Change.{Change}
 use Rattle.portal_model.specs.declared.store.StoreAnswer.{StoreAnswer}
 use Rattle.portal_model.specs.declared.store.StoreAnswer.TheVariants.{Done, Kept, Entry, Names}
 use Rattle.portal_model.specs.declared.store.StoreCall.{StoreCall}
 use Rattle.portal_model.specs.declared.store.StoreCall.TheVariants as Call
-use Rattle.portal_model.specs.declared.store.StoredChange.{StoredChange}
 use Rattle.portal_model.specs.declared.store.StoredEntry.{StoredEntry}
 use Rattle.portal_model.specs.declared.store.StoreError.{StoreError}
 use Rattle.portal_model.specs.declared.store.StoreError.TheVariants.{NotFound, TooLong}
@@ -69,7 +69,7 @@ record_of e = record {
 abbrev pub can_be_told : StoredEntry → Bool
 can_be_told e = nat_le (changed_length (record_of e) (V.Variant e.datum)) message_limit
 
-abbrev pub change_of : Bool → StoredEntry → StoredChange
+abbrev pub change_of : Bool → StoredEntry → Change
 change_of deleted e =
     record { table = e.table; id = e.id; deleted = deleted; datum = e.datum; rows = e.rows }
 

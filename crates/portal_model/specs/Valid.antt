@@ -1,23 +1,24 @@
 -- What is true of every state that a portal reaches.
-use Rattle.std.specs.Prelude.{◌≡◌, ℕ, ◌==◌, ◌^◌, ◌<◌, ◌≤◌, nat_eq, nat_le, nat_lt, List, [], ◌∷◌, length, map, Bool, true, false, not, ◌&&◌, ◌||◌, Option, Some, None, is_some}
-use Rattle.std.specs.List.{All, list_any, list_all, IsDistinct}
-use Rattle.dbus_types.specs.declared.types.Value.{Value}
+use Rattle.std.specs.Prelude.{◌≡◌, ℕ, ◌==◌, ◌^◌, ◌<◌, ◌≤◌, nat_eq, nat_le, nat_lt, List, [], length, map, Bool, true, false, not, ◌&&◌, ◌||◌, Option, Some, None, is_some}
+use Rattle.std.specs.List.{list_any, list_all, IsDistinct}
 use Rattle.portal_base.specs.Names.{is_same, is_app_name, is_host_path, is_byte_of_path}
 use Rattle.portal_base.specs.declared.names.doc_id.DocId.{DocId}
 use Rattle.portal_base.specs.declared.who.Kind.{Kind}
 use Rattle.portal_base.specs.declared.who.Who.{Who}
 use Rattle.portal_model.specs.declared.handle.Handle.{Handle}
 use Rattle.portal_model.specs.declared.handle.OpenHandle.{OpenHandle}
-use Rattle.portal_model.specs.declared.records.EntryRecord.{EntryRecord}
 use Rattle.portal_model.specs.declared.records.Row.{Row}
 use Rattle.portal_model.specs.declared.reply.Change.{Change}
 use Rattle.portal_model.specs.declared.state.Connection.{Connection}
 use Rattle.portal_model.specs.declared.state.Document.{Document}
 use Rattle.portal_model.specs.declared.state.Triple.{Triple}
-use Rattle.portal_model.specs.Changed.{HasDatum}
+use Rattle.portal_model.specs.declared.store.StoredEntry.{StoredEntry}
 use Rattle.portal_model.specs.Content.{is_folder}
+use Rattle.portal_model.specs.Data.{is_data}
 use Rattle.portal_model.specs.Rights.{are_in_order}
 use Rattle.portal_model.specs.State.{State, connection_of, document_of, handles_of, is_mount}
+use Rattle.portal_model.specs.Store.{can_be_told}
+pub use Rattle.portal_model.specs.State.{is_none}
 
 abbrev pub is_made : List DocId → ℕ → Bool
 is_made made number = list_any (λ id. id.number == number) made
@@ -38,49 +39,47 @@ is_host_bus Who.Host Kind.Bus = true
 is_host_bus Who.Host Kind.Mount = false
 is_host_bus (Who.App app) kind = false
 
-abbrev pub is_none : {X : Type 0} → List X → Bool
-is_none [] = true
-is_none (x ∷ xs) = false
-
--- no connection waits for a change, as long as no request makes one
-abbrev pub is_silent : List Connection → Bool
-is_silent connections = list_all (λ c. is_none c.unsent) connections
-
 abbrev pub is_text : List ℕ → Bool
 is_text t = list_all is_byte_of_path t
 
 abbrev pub has_texts : Row → Bool
 has_texts row = is_text row.app && list_all is_text row.names
 
--- a change has as yet no data and no rows, so its texts are all that there is to say of it
+-- ---- entries of the permission store
+
+abbrev pub same_entry : StoredEntry → StoredEntry → Bool
+same_entry a b = is_same a.table b.table && is_same a.id b.id
+
+abbrev pub has_entry_texts : StoredEntry → Bool
+has_entry_texts e = is_text e.table && (is_text e.id && list_all has_texts e.rows)
+
+-- The texts of the entry have no zero byte, its data as a variant keeps the rules of types and
+-- values and holds no handle, and the signal that tells of it is no longer than a message may be.
+abbrev pub is_valid_entry : StoredEntry → Bool
+is_valid_entry e = has_entry_texts e && (is_data e.datum && can_be_told e)
+
+-- the entry that a change tells of, as it is now or was before it went
+abbrev pub entry_told : Change → StoredEntry
+entry_told c = record { table = c.table; id = c.id; datum = c.datum; rows = c.rows }
+
+-- ---- connections
+
 abbrev pub is_sound_change : Change → Bool
-is_sound_change c = is_text c.table && is_text c.id
+is_sound_change c = is_valid_entry (entry_told c)
 
 -- the host, or an application by a name that applications have
 abbrev pub is_caller : Who → Bool
 is_caller Who.Host = true
 is_caller (Who.App app) = is_app_name app
 
--- A connection is bound to a caller. Only the host's buses wait for changes; the texts of these
--- have no zero byte.
+-- A connection is bound to a caller. Only the host's buses wait for changes; these tell of entries
+-- that are valid, or were.
 abbrev pub is_sound_connection : ℕ → Connection → Bool
 is_sound_connection queued c =
     is_caller c.who
     && ((is_none c.unsent || is_host_bus c.who c.kind)
     && (list_all is_sound_change c.unsent
     && (list_all is_host_path c.queue && nat_le (length c.queue) queued)))
-
-abbrev pub same_entry : EntryRecord → EntryRecord → Bool
-same_entry a b = is_same a.table b.table && is_same a.id b.id
-
-abbrev pub has_entry_texts : EntryRecord → Bool
-has_entry_texts e = is_text e.table && (is_text e.id && list_all has_texts e.rows)
-
--- The texts of the entry have no zero byte, and its data is a variant that keeps the rules of types
--- and values, holds no handle, and can be told in a message.
-pub record IsValidEntry (e : EntryRecord) : Type 0 where
-  pub texts : has_entry_texts e ≡ true
-  pub told : (datum : Value) × HasDatum e datum
 
 -- the greatest number of applications that may be numbered
 abbrev pub applications_limit : ℕ
@@ -128,7 +127,7 @@ pub record Valid (s : State) : Type 0 where
   pub handles_within :
       list_all (opens_within s.limits.handles s.handles) s.connections ≡ true
   pub entries_differ : IsDistinct same_entry s.entries
-  pub entries_sound : All IsValidEntry s.entries
+  pub entries_sound : list_all is_valid_entry s.entries ≡ true
   -- files differ in path, which is one on the host; none lies below a file, and none is the root
   pub files_differ : IsDistinct is_same (map (λ f. f.path) s.files)
   pub files_apart : list_all (λ f. not (is_folder s.files f.path)) s.files ≡ true

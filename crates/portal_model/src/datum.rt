@@ -81,7 +81,7 @@ impl Replica for Datum {
 
 /// A value equal to this one.
 #[cycle(value_copies)]
-fn copy_value(alloc: Global, value: &Value) -> Result<Value, WantOfMemory>
+pub(crate) fn copy_value(alloc: Global, value: &Value) -> Result<Value, WantOfMemory>
     ensures { IfOk result (λ copy. copy ≡ value.now) }
 {
     match value {

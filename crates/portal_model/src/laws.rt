@@ -6,6 +6,7 @@ ghost use Rattle.portal_model.specs.Laws.{
   Beginnings,
   CostsJoin,
   ExchangesJoin,
+  HostsAloneWait,
   LegalJoins,
   OpeningsAreValid,
   RunsJoin,
@@ -66,4 +67,10 @@ pub fn states_stay_valid()
 /// tells its files and over one that tells nothing.
 pub fn sound_openings_are_valid()
     ensures { OpeningsAreValid }
+{}
+
+/// Nothing waits to be told on a mount or to an application. So a request on a
+/// node tells no change of the permission store.
+pub fn hosts_alone_wait()
+    ensures { HostsAloneWait }
 {}

@@ -14,8 +14,8 @@
 //! | `opening`, `records` | what a run begins with, and the records that outlive it |
 //! | `store`, `datum` | the calls of the permission store, its entries and their data |
 //! | `errno` | the numbers of errors on nodes |
-//! | `laws`, `document_laws`, `node_laws` | laws of histories, of requests on documents, and of requests on nodes |
-//! | `examples`, `document_examples`, `file_examples` | cases that are worked out by hand, computed over the definitions |
+//! | `laws`, `document_laws`, `node_laws`, `store_laws` | laws of histories, of requests on documents and on nodes, and of data |
+//! | `examples`, `document_examples`, `file_examples`, `store_examples` | cases that are worked out by hand, computed over the definitions |
 //!
 //! ```text
 //! let asked = Request::Enter { who: Who::Host, kind: Kind::Bus };
@@ -44,3 +44,5 @@ pub mod request;
 pub mod rights;
 pub mod state;
 pub mod store;
+pub mod store_examples;
+pub mod store_laws;

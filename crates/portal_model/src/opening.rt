@@ -1,6 +1,7 @@
 //! The state that a portal opens with.
 
-use crate::records::{DocRecord, EntryRecord};
+use crate::records::DocRecord;
+use crate::store::StoredEntry;
 use portal_base::limits::Limits;
 use portal_base::list::{ByteList, List};
 use portal_base::memory::{Replica, WantOfMemory};
@@ -40,7 +41,7 @@ pub struct OpeningState {
     /// The numbered applications; application k is the k-th.
     pub applications: List<AppId>,
     /// The entries of the permission store, in order of creation.
-    pub entries: List<EntryRecord>,
+    pub entries: List<StoredEntry>,
     /// The files of the tree.
     pub files: List<FileItem>,
 }

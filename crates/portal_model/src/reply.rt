@@ -1,10 +1,12 @@
 //! What the portal answers.
 
+use crate::datum::Datum;
 use crate::records::Row;
 use portal_base::list::{ByteList, List};
-use portal_base::memory::WantOfMemory;
+use portal_base::memory::{Replica, WantOfMemory};
 use portal_base::names::doc_id::DocId;
 use portal_base::text::Text;
+use std::alloc::Global;
 
 /// Why a request is refused.
 #[derive(Clone, Copy, Debug, PartialEq, Eq)]
@@ -167,6 +169,15 @@ pub enum Answer {
     },
     /// Documents, in order of their identifiers.
     Listed(List<ListedDocument>),
+    /// An entry of the permission store.
+    Entry {
+        /// The rows, in byte order of the applications' keys.
+        rows: List<Row>,
+        /// The data.
+        datum: Datum,
+    },
+    /// Permissions in their order, or identifiers of entries in byte order.
+    Names(List<Text>),
     /// What a request on a node was answered.
     Node(NodeAnswer),
 }
@@ -180,6 +191,22 @@ pub struct Change {
     pub id: Text,
     /// Whether the entry is gone.
     pub deleted: bool,
+    /// The data that the entry has now, or had.
+    pub datum: Datum,
+    /// The rows that the entry has now, or had.
+    pub rows: List<Row>,
+}
+
+impl Replica for Change {
+    fn replica(&self, alloc: Global) -> Result<Change, WantOfMemory> {
+        Ok(Change {
+            table: self.table.replica(alloc)?,
+            id: self.id.replica(alloc)?,
+            deleted: self.deleted,
+            datum: self.datum.replica(alloc)?,
+            rows: self.rows.replica(alloc)?,
+        })
+    }
 }
 
 /// A reply: the changes that were not told yet, and the answer.

@@ -3,6 +3,7 @@
 ghost use Rattle.std.specs.Prelude.{◌≡◌};
 ghost use Rattle.portal_model.specs.GetAttr.{names_handle as is_by_handle};
 
+use crate::store::StoreCall;
 use portal_base::list::{ByteList, List};
 use portal_base::memory::{Replica, WantOfMemory};
 use portal_base::text::Text;
@@ -229,6 +230,8 @@ pub enum Request {
         /// The application, or nothing for all documents.
         app: ByteList,
     },
+    /// A call of the permission store.
+    Store(StoreCall),
     /// A request on a node.
     Node(NodeRequest),
 }
@@ -260,6 +263,7 @@ impl Replica for Request {
             Request::ListDocuments { app } => Ok(Request::ListDocuments {
                 app: app.replica(alloc)?,
             }),
+            Request::Store(call) => Ok(Request::Store(call.replica(alloc)?)),
             Request::Node(request) => Ok(Request::Node(request.replica(alloc)?)),
         }
     }

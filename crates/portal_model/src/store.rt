@@ -7,8 +7,9 @@
 //! Source: XDG Desktop Portal documentation,
 //! `org.freedesktop.impl.portal.PermissionStore`.
 
-use crate::datum::Datum;
+use crate::datum::{Datum, copy_value};
 use crate::records::Row;
+use crate::reply::Change;
 use dbus_types::types::Value;
 use portal_base::list::List;
 use portal_base::memory::{Replica, WantOfMemory};
@@ -117,26 +118,11 @@ pub enum StoreCall {
     },
 }
 
-/// A change of an entry, as the signal `Changed` tells it.
-#[derive(Debug, Drop)]
-pub struct StoredChange {
-    /// The table.
-    pub table: Text,
-    /// The identifier in the table.
-    pub id: Text,
-    /// Whether the entry is gone.
-    pub deleted: bool,
-    /// The data that the entry has now, or had.
-    pub datum: Datum,
-    /// The rows that the entry has now, or had.
-    pub rows: List<Row>,
-}
-
 /// What the tables answer.
 #[derive(Debug, Drop)]
 pub enum StoreAnswer {
     /// It was done, and the entry is now so, or was so before it went.
-    Done(StoredChange),
+    Done(Change),
     /// The row that was to go isn't there, and nothing changed. The caller is
     /// answered as if it were done, and the signal tells the entry as it stands.
     Kept,
@@ -181,5 +167,70 @@ impl Replica for StoredEntry {
             datum: self.datum.replica(alloc)?,
             rows: self.rows.replica(alloc)?,
         })
+    }
+}
+
+impl Replica for StoreCall {
+    fn replica(&self, alloc: Global) -> Result<StoreCall, WantOfMemory> {
+        match self {
+            StoreCall::Lookup { table, id } => Ok(StoreCall::Lookup {
+                table: table.replica(alloc)?,
+                id: id.replica(alloc)?,
+            }),
+            StoreCall::Set {
+                table,
+                create,
+                id,
+                rows,
+                datum,
+            } => Ok(StoreCall::Set {
+                table: table.replica(alloc)?,
+                create: *create,
+                id: id.replica(alloc)?,
+                rows: rows.replica(alloc)?,
+                datum: copy_value(alloc, datum)?,
+            }),
+            StoreCall::Delete { table, id } => Ok(StoreCall::Delete {
+                table: table.replica(alloc)?,
+                id: id.replica(alloc)?,
+            }),
+            StoreCall::SetValue {
+                table,
+                create,
+                id,
+                datum,
+            } => Ok(StoreCall::SetValue {
+                table: table.replica(alloc)?,
+                create: *create,
+                id: id.replica(alloc)?,
+                datum: copy_value(alloc, datum)?,
+            }),
+            StoreCall::SetPermission {
+                table,
+                create,
+                id,
+                app,
+                names,
+            } => Ok(StoreCall::SetPermission {
+                table: table.replica(alloc)?,
+                create: *create,
+                id: id.replica(alloc)?,
+                app: app.replica(alloc)?,
+                names: names.replica(alloc)?,
+            }),
+            StoreCall::DeletePermission { table, id, app } => Ok(StoreCall::DeletePermission {
+                table: table.replica(alloc)?,
+                id: id.replica(alloc)?,
+                app: app.replica(alloc)?,
+            }),
+            StoreCall::GetPermission { table, id, app } => Ok(StoreCall::GetPermission {
+                table: table.replica(alloc)?,
+                id: id.replica(alloc)?,
+                app: app.replica(alloc)?,
+            }),
+            StoreCall::List { table } => Ok(StoreCall::List {
+                table: table.replica(alloc)?,
+            }),
+        }
     }
 }

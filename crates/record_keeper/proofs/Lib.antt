@@ -7,3 +7,5 @@ pub mod NamingFacts
 pub mod OneIsWrong
 pub mod RisingNames
 pub mod StoppedReader
+pub mod HeldEntries
+pub mod KeptFacts

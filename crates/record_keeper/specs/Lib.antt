@@ -2,6 +2,7 @@ pub mod BadRecords
 pub mod Devices
 pub mod Earlier
 pub mod Keepers
+pub mod KeptEntries
 pub mod Laws
 pub mod NameOrder
 pub mod Naming

@@ -1,13 +1,17 @@
 -- Which records may be kept: what each of them keeps by itself. The terms are those of the
 -- documentation of org.freedesktop.impl.portal.PermissionStore, where an entry is of a table and an
 -- identifier.
-use Rattle.std.specs.Prelude.{◌≡◌, ℕ, ◌≤◌, false, true, Bool, List, [], ◌∷◌, map, codes, All}
-use Rattle.std.specs.List.{list_any}
+use Rattle.std.specs.Prelude.{◌≡◌, ℕ, ◌≤◌, false, true, Bool, ◌&&◌, List, [], ◌∷◌, map, All}
+use Rattle.std.specs.List.{list_all, list_any}
 use Rattle.std.specs.Cmp.Lexicographic.{slice_cmp}
 use Rattle.std.specs.Ordering.{nat_cmp}
 use Rattle.std.specs.declared.cmp.Ordering.TheVariants.{Less}
+use Rattle.dbus_types.specs.declared.types.Value.{Value}
 use Rattle.portal_base.specs.Names.{is_app_name, is_host_path, is_same}
-use Rattle.portal_model.specs.Valid.{IsValidEntry, is_none}
+use Rattle.portal_model.specs.Changed.{HasDatum}
+use Rattle.portal_model.specs.State.{is_none}
+use Rattle.portal_model.specs.StoreRequest.{own_table}
+use Rattle.portal_model.specs.Valid.{has_texts, is_text}
 use Rattle.portal_model.specs.declared.records.DocRecord.{DocRecord}
 use Rattle.portal_model.specs.declared.records.EntryRecord.{EntryRecord}
 use Rattle.portal_model.specs.declared.records.GrantRecord.{GrantRecord}
@@ -35,12 +39,17 @@ pub record IsSoundDocument (document : DocRecord) : Type 0 where
 
 -- ---- entries
 
--- the table that is the portal's own
-abbrev pub own_table : List ℕ
-own_table = codes "documents"
-
 abbrev pub is_empty_row : Row → Bool
 is_empty_row row = is_none row.names
+
+abbrev pub has_entry_texts : EntryRecord → Bool
+has_entry_texts e = is_text e.table && (is_text e.id && list_all has_texts e.rows)
+
+-- The texts of the entry have no zero byte, and its data is a variant that keeps the rules of types
+-- and values, holds no handle, and can be told in a message.
+pub record IsValidEntry (e : EntryRecord) : Type 0 where
+  pub texts : has_entry_texts e ≡ true
+  pub told : (datum : Value) × HasDatum e datum
 
 -- an entry that a portal may hold, with rows in the order of their applications' keys and none of
 -- them empty, and not of the portal's own table

@@ -6,7 +6,8 @@
 //! last, changed grants and an old entry stay in their place. `Failed` and
 //! `Memory` change nothing. An entry of the permission store is told to be sound
 //! exactly where it may be kept, as far as that depends on it alone. What is wrong
-//! with kept records is told exactly: their version, or the first that is bad.
+//! with kept records is told exactly: their version, or the first that is bad. The
+//! entries that records keep are read from them, and these alone have such records.
 //!
 //! | Room | Holds |
 //! |---|---|
@@ -14,6 +15,7 @@
 //! | `in_memory` | [`MemoryKeeper`], with its list of failing calls |
 //! | `changes` | what each change does to records |
 //! | `sound`, `datum` | which entries may be kept, and the value of one |
+//! | `entries` | the entries that records keep: [`kept_entries`] |
 //! | `changed_signal` | how long the message is that tells of an entry |
 //! | `sound_document` | which documents may be kept |
 //! | `fault` | what is wrong with kept records: [`records_fault`] |
@@ -33,6 +35,7 @@ mod changed_signal;
 mod changes;
 mod datum;
 mod earlier;
+mod entries;
 mod fault;
 mod in_memory;
 mod keeper;
@@ -44,6 +47,7 @@ mod sound;
 mod sound_document;
 
 pub use datum::{holds_handle, read_datum};
+pub use entries::kept_entries;
 pub use fault::{RECORDS_VERSION, RecordsFault, records_fault};
 pub use in_memory::MemoryKeeper;
 pub use keeper::{Keeper, KeeperDone, KeeperLoad};

@@ -4,8 +4,8 @@ ghost use Rattle.std.specs.Prelude.{◌≡◌, ◌↔◌, IfOk, IsTrue};
 ghost use Rattle.std.specs.List.{list_any, list_all};
 ghost use Rattle.dbus_types.specs.declared.types.Value.{Value as Value'};
 ghost use Rattle.portal_model.specs.Changed.{HasDatum};
-ghost use Rattle.portal_model.specs.Valid.{has_entry_texts as has_texts, has_texts as row_has_texts, is_text};
-ghost use Rattle.record_keeper.specs.SoundRecords.{IsSoundEntry, is_empty_row as is_empty};
+ghost use Rattle.portal_model.specs.Valid.{has_texts as row_has_texts, is_text};
+ghost use Rattle.record_keeper.specs.SoundRecords.{IsSoundEntry, has_entry_texts as has_texts, is_empty_row as is_empty};
 
 use crate::changed_signal::message_length;
 use crate::datum::read_datum;

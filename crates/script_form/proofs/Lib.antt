@@ -14,3 +14,4 @@ pub mod OneWay
 pub mod RecordsFacts
 pub mod WrittenFacts
 pub mod FilesPlaced
+pub mod OpeningFacts

@@ -85,7 +85,7 @@ stored_same table id [] = refl
 stored_same table id (Entry entry ∷ ls) = ap (λ (b : Bool). is_of_key table id entry || b) (stored_same table id ls)
 stored_same table id (line ∷ ls) = stored_same table id ls
 
-good_entries : (lines earlier : List ScriptLine) → StandBehind earlier lines → EachBehind IsGoodEntry (entries_of earlier) (entries_of lines)
+pub good_entries : (lines earlier : List ScriptLine) → StandBehind earlier lines → EachBehind IsGoodEntry (entries_of earlier) (entries_of lines)
 good_entries [] earlier all = tt
 good_entries (Entry entry ∷ ls) earlier all = (
   record { itself = all.0.itself.1; new = stored_same entry.table entry.id earlier ∙ entry_new earlier entry _ all.0.order },

@@ -1,4 +1,4 @@
--- The state that a script opens with is valid.
+-- What a script keeps is such as a valid state has.
 use Rattle.std.proofs.Common.{◌≡◌, ℕ, ◌+◌, ◌<◌, ◌≤◌, ◌==◌, ◌^◌, nat_eq, Bool, true, false, ◌&&◌, ◌||◌, not, List, [], ◌∷◌, ◌++◌, length, take, map, Some, Result, Ok, Err, refl, ap, ◌∙◌, arith, append_assoc, cond, Less, nat_cmp}
 use Rattle.std.specs.Prelude.{IfOk, count_by, nat_le, nat_lt}
 use Rattle.std.specs.Cmp.Lexicographic.{slice_cmp, nat_list_cmp_total}
@@ -19,12 +19,11 @@ use Rattle.portal_model.specs.declared.opening.OpeningDocument.{OpeningDocument}
 use Rattle.portal_model.specs.declared.records.GrantRecord.{GrantRecord}
 use Rattle.portal_model.specs.declared.opening.OpeningState.{OpeningState}
 use Rattle.portal_model.proofs.OpeningLaws.{sound-ValidOpening}
-use Rattle.portal_model.specs.Valid.{same_entry, IsValidEntry}
 use Rattle.portal_model.specs.declared.records.EntryRecord.{EntryRecord}
-use Rattle.record_keeper.specs.SoundRecords.{IsGrant, IsRising}
+use Rattle.record_keeper.specs.SoundRecords.{IsGrant, IsRising, IsValidEntry}
 use Rattle.script_form.specs.Lines.{is_script_path, is_plain}
 use Rattle.script_form.specs.Paths.{clash}
-use Rattle.script_form.specs.Opening.{opening, documents_of, entries_of, files_of, files_from, time_behind, applications_of, HoldsScripts}
+use Rattle.script_form.specs.Opening.{documents_of, entries_of, files_of, files_from, time_behind, applications_of, HoldsScripts}
 use Rattle.script_form.specs.Order.{StandBehind, IsScript, clashes, keeps, stores, is_doc, document_limit}
 use Rattle.script_form.specs.declared.script.ScriptLine.{ScriptLine}
 use Rattle.script_form.specs.declared.script.ScriptLine.TheVariants.{File, Doc, Entry}
@@ -68,7 +67,7 @@ later_numbers n (Doc id reusable path grants ∷ ls) earlier kept all = (
 )
 later_numbers n (line ∷ ls) earlier kept all = later_numbers n ls _ (still (keeps n) earlier _ kept) all.1
 
-numbers_differ : (lines earlier : List ScriptLine) → StandBehind earlier lines → IsDistinct nat_eq (numbers lines)
+pub numbers_differ : (lines earlier : List ScriptLine) → StandBehind earlier lines → IsDistinct nat_eq (numbers lines)
 unfolding IsDistinct
 numbers_differ [] earlier all = tt
 numbers_differ (Doc id reusable path grants ∷ ls) earlier all = (
@@ -83,7 +82,7 @@ path_is path h = (and_parts (is_host_path path) (list_all is_plain path) h).0
 both_true : (a b : Bool) → a ≡ true → b ≡ true → (a && b) ≡ true
 both_true a b ha hb = rw (ha, hb) refl
 
-paths_are : (lines earlier : List ScriptLine) → StandBehind earlier lines → list_all (λ (d : OpeningDocument). is_host_path d.kept.path) (documents_of lines) ≡ true
+pub paths_are : (lines earlier : List ScriptLine) → StandBehind earlier lines → list_all (λ (d : OpeningDocument). is_host_path d.kept.path) (documents_of lines) ≡ true
 paths_are [] earlier all = refl
 paths_are (Doc id reusable path grants ∷ ls) earlier all = both_true (is_host_path path) _ (path_is path all.0.itself.1) (paths_are ls _ all.1)
 paths_are (line ∷ ls) earlier all = paths_are ls _ all.1
@@ -92,7 +91,7 @@ grant_names : (gs : List GrantRecord) → All IsGrant gs → list_all is_app_nam
 grant_names [] all = refl
 grant_names (g ∷ gs) all = both_true (is_app_name g.app) _ (All-head IsGrant g gs all).name (grant_names gs (All-tail IsGrant g gs all))
 
-names_are : (lines earlier : List ScriptLine) → StandBehind earlier lines → list_all (λ (d : OpeningDocument). list_all is_app_name (names_kept d)) (documents_of lines) ≡ true
+pub names_are : (lines earlier : List ScriptLine) → StandBehind earlier lines → list_all (λ (d : OpeningDocument). list_all is_app_name (names_kept d)) (documents_of lines) ≡ true
 names_are [] earlier all = refl
 names_are (Doc id reusable path grants ∷ ls) earlier all = both_true (list_all is_app_name (map (λ (g : GrantRecord). g.app) grants)) _ (grant_names grants all.0.itself.2.grants) (names_are ls _ all.1)
 names_are (line ∷ ls) earlier all = names_are ls _ all.1
@@ -106,12 +105,12 @@ grants_right (g ∷ gs) all =
     right_one : (rights : ℕ) → 1 ≤ rights → rights ≤ 15 → (nat_le 1 rights && nat_le rights 15) ≡ true
     right_one rights some most = grind (arith, nat_tests)
 
-grants_are : (lines earlier : List ScriptLine) → StandBehind earlier lines → list_all has_grants (documents_of lines) ≡ true
+pub grants_are : (lines earlier : List ScriptLine) → StandBehind earlier lines → list_all has_grants (documents_of lines) ≡ true
 grants_are [] earlier all = refl
 grants_are (Doc id reusable path grants ∷ ls) earlier all = both_true (list_all is_grant grants) _ (grants_right grants all.0.itself.2.grants) (grants_are ls _ all.1)
 grants_are (line ∷ ls) earlier all = grants_are ls _ all.1
 
-identifiers_are : (lines earlier : List ScriptLine) → StandBehind earlier lines → list_all (λ (d : OpeningDocument). nat_lt d.kept.number (2 ^ 32)) (documents_of lines) ≡ true
+pub identifiers_are : (lines earlier : List ScriptLine) → StandBehind earlier lines → list_all (λ (d : OpeningDocument). nat_lt d.kept.number (2 ^ 32)) (documents_of lines) ≡ true
 identifiers_are [] earlier all = refl
 identifiers_are (Doc id reusable path grants ∷ ls) earlier all = both_true (nat_lt id.number (2 ^ 32)) _ (below id.number all.0.itself.0) (identifiers_are ls _ all.1)
   where
@@ -136,7 +135,7 @@ rising_differ [] rising = tt
 rising_differ (a ∷ []) rising = (tt, tt)
 rising_differ (a ∷ b ∷ names) rising = (below_all a b names rising.0 rising.1, rising_differ (b ∷ names) rising.1)
 
-grants_differ : (lines earlier : List ScriptLine) → StandBehind earlier lines → GrantsDiffer (documents_of lines)
+pub grants_differ : (lines earlier : List ScriptLine) → StandBehind earlier lines → GrantsDiffer (documents_of lines)
 grants_differ [] earlier all = tt
 grants_differ (Doc id reusable path grants ∷ ls) earlier all = (rising_differ (map (λ (g : GrantRecord). g.app) grants) all.0.itself.2.rising, grants_differ ls _ all.1)
 grants_differ (line ∷ ls) earlier all = grants_differ ls _ all.1
@@ -147,7 +146,7 @@ doc_room earlier b c h = ltb-true _ _ (and_parts c _ (and_parts b _ h).1).1
 count_push : (line : ScriptLine) (earlier : List ScriptLine) → count_by is_doc (earlier ++ (line ∷ [])) ≡ count_by is_doc earlier + count_by is_doc (line ∷ [])
 count_push line earlier = sum_by-append (λ (l : ScriptLine). cond (is_doc l) 1 0) earlier (line ∷ [])
 
-documents_few : (lines earlier : List ScriptLine) → count_by is_doc earlier ≤ 65536 → StandBehind earlier lines → length (documents_of lines) + count_by is_doc earlier ≤ 65536
+pub documents_few : (lines earlier : List ScriptLine) → count_by is_doc earlier ≤ 65536 → StandBehind earlier lines → length (documents_of lines) + count_by is_doc earlier ≤ 65536
 documents_few [] earlier few all = omega arith
 documents_few (Doc id reusable path grants ∷ ls) earlier few all =
     let e = count_push (Doc id reusable path grants) earlier in
@@ -157,38 +156,20 @@ documents_few (line ∷ ls) earlier few all =
     let e = count_push line earlier in
     let rest = documents_few ls (earlier ++ (line ∷ [])) (omega arith) all.1 in omega arith
 
-applications_few : (lines earlier : List ScriptLine) → length (applications_of earlier) ≤ applications_limit → StandBehind earlier lines
+pub applications_few : (lines earlier : List ScriptLine) → length (applications_of earlier) ≤ applications_limit → StandBehind earlier lines
     → length (applications_of (earlier ++ lines)) ≤ applications_limit
 applications_few [] earlier few all = rw append_nil few
 applications_few (line ∷ ls) earlier few all = rw (← append_assoc earlier (line ∷ []) ls) (applications_few ls (earlier ++ (line ∷ [])) all.0.applications all.1)
 
 -- ---- entries
 
--- each entry before is of the table and the identifier where this one is
-abbrev Stored : EntryRecord → List ScriptLine → Type 0
-Stored e earlier = (f : EntryRecord) → same_entry e f ≡ true → list_any (stores f.table f.id) earlier ≡ true
-
 pub entry_new : (earlier : List ScriptLine) (f : EntryRecord) (b : Bool) → (b && not (list_any (stores f.table f.id) earlier)) ≡ true → list_any (stores f.table f.id) earlier ≡ false
 entry_new earlier f b h = not_true _ (and_parts b _ h).1
 
-later_entries : (e : EntryRecord) (lines earlier : List ScriptLine) → Stored e earlier → StandBehind earlier lines → AllByRecursion (λ f. same_entry e f ≡ false) (entries_of lines)
-later_entries e [] earlier stored all = tt
-later_entries e (Entry f ∷ ls) earlier stored all = (
-  no_true (same_entry e f) (λ same. let one = stored f same in let new = entry_new earlier f _ all.0.order in cc (one, new)),
-  later_entries e ls _ (λ g same. still (stores g.table g.id) earlier (Entry f) (stored g same)) all.1,
-)
-later_entries e (line ∷ ls) earlier stored all = later_entries e ls _ (λ g same. still (stores g.table g.id) earlier _ (stored g same)) all.1
-
-entries_differ : (lines earlier : List ScriptLine) → StandBehind earlier lines → IsDistinct same_entry (entries_of lines)
-unfolding IsDistinct
-entries_differ [] earlier all = tt
-entries_differ (Entry e ∷ ls) earlier all = (later_entries e ls _ (λ f same. now (stores f.table f.id) earlier (Entry e) same) all.1, entries_differ ls _ all.1)
-entries_differ (line ∷ ls) earlier all = entries_differ ls _ all.1
-
-entries_sound : (lines earlier : List ScriptLine) → StandBehind earlier lines → All IsValidEntry (entries_of lines)
-entries_sound [] earlier all = All-nil IsValidEntry
-entries_sound (Entry e ∷ ls) earlier all = All-cons IsValidEntry e _ all.0.itself.1.valid (entries_sound ls _ all.1)
-entries_sound (line ∷ ls) earlier all = entries_sound ls _ all.1
+pub entries_valid : (lines earlier : List ScriptLine) → StandBehind earlier lines → All IsValidEntry (entries_of lines)
+entries_valid [] earlier all = All-nil IsValidEntry
+entries_valid (Entry e ∷ ls) earlier all = All-cons IsValidEntry e _ all.0.itself.1.valid (entries_valid ls _ all.1)
+entries_valid (line ∷ ls) earlier all = entries_valid ls _ all.1
 
 -- ---- files
 
@@ -231,7 +212,7 @@ no_root [] earlier time all = tt
 no_root (File p content ∷ ls) earlier time all = (no_true (is_same p root) (λ same. all.0.itself.1 (same_from_test p root same)), no_root ls _ time all.1)
 no_root (line ∷ ls) earlier time all = no_root ls _ (time_behind time line) all.1
 
-files_named : (lines earlier : List ScriptLine) (time : ℕ) → StandBehind earlier lines → list_all (λ (f : FileItem). is_host_path f.path) (files_from time lines) ≡ true
+pub files_named : (lines earlier : List ScriptLine) (time : ℕ) → StandBehind earlier lines → list_all (λ (f : FileItem). is_host_path f.path) (files_from time lines) ≡ true
 files_named [] earlier time all = refl
 files_named (File p content ∷ ls) earlier time all = both_true (is_host_path p) _ (path_is p all.0.itself.0) (files_named ls _ time all.1)
 files_named (line ∷ ls) earlier time all = files_named ls _ (time_behind time line) all.1
@@ -247,7 +228,7 @@ same_clear p (q ∷ qs) clear = (
   same_clear p qs clear.1,
 )
 
-clear_differ : (ps : List (List ℕ)) → AllClear ps → IsDistinct is_same ps
+pub clear_differ : (ps : List (List ℕ)) → AllClear ps → IsDistinct is_same ps
 unfolding IsDistinct
 clear_differ [] clear = tt
 clear_differ (p ∷ ps) clear = (same_clear p ps clear.0, clear_differ ps clear.1)
@@ -276,7 +257,7 @@ behind_none p (q ∷ qs) ws clear none = (
   behind_none p qs ws clear.1 none.1,
 )
 
-none_above : (ps : List (List ℕ)) → AllClear ps → AllByRecursion (λ p. list_any (is_above p) ps ≡ false) ps
+pub none_above : (ps : List (List ℕ)) → AllClear ps → AllByRecursion (λ p. list_any (is_above p) ps ≡ false) ps
 none_above [] clear = tt
 none_above (p ∷ ps) clear = (rw (above_itself p, above_none p ps clear.0) refl, behind_none p ps ps clear.0 (none_above ps clear.1))
 
@@ -284,46 +265,9 @@ any_paths : (p : List ℕ) (fs : List FileItem) → list_any (λ f. is_above p f
 any_paths p [] = refl
 any_paths p (f ∷ fs) = ap (λ (b : Bool). is_above p f.path || b) (any_paths p fs)
 
-files_apart : (fs whole : List FileItem) → AllByRecursion (λ p. is_same p root ≡ false) (map (λ (f : FileItem). f.path) fs)
+pub files_apart : (fs whole : List FileItem) → AllByRecursion (λ p. is_same p root ≡ false) (map (λ (f : FileItem). f.path) fs)
     → AllByRecursion (λ p. list_any (is_above p) (map (λ (f : FileItem). f.path) whole) ≡ false) (map (λ (f : FileItem). f.path) fs)
     → list_all (λ f. not (is_folder (map file_of whole) f.path)) fs ≡ true
 files_apart [] whole roots none = refl
 files_apart (f ∷ fs) whole roots none =
     both_true (not (is_folder (map file_of whole) f.path)) _ (rw (roots.0, any_paths f.path whole, none.0) refl) (files_apart fs whole roots.1 none.1)
-
-pub sound : (limits : Limits) (lines : List ScriptLine) → IsScript lines → HoldsScripts limits → SoundOpening (opening limits lines)
-unfolding IsDistinct
-sound limits lines good holds =
-    let few = documents_few lines [] (omega arith) good in
-    let documents = holds.documents in
-    let made = holds.made in
-    record {
-      made = refl;
-      applications = refl;
-      numbers_differ = numbers_differ lines [] good;
-      identifiers = identifiers_are lines [] good;
-      paths = paths_are lines [] good;
-      names = names_are lines [] good;
-      grants = grants_are lines [] good;
-      grants_differ = grants_differ lines [] good;
-      entries_differ = entries_differ lines [] good;
-      entries_sound = entries_sound lines [] good;
-      files_differ = clear_differ (paths 0 lines) (all_clear lines [] 0 good);
-      files_apart = files_apart (files_of lines) (files_of lines) (no_root lines [] 0 good) (none_above (paths 0 lines) (all_clear lines [] 0 good));
-      files_named = files_named lines [] 0 good;
-      documents_within = omega arith;
-      made_within = omega arith;
-      applications_within = applications_few lines [] (omega arith) good;
-      made_limit = holds.made_limit;
-      queued_limit = holds.queued_limit;
-    }
-
-pub opening_valid : (limits : Limits) (lines : List ScriptLine) (state : OpeningState) → IsScript lines → state ≡ opening limits lines → HoldsScripts limits
-    → ValidOpening (Some (map file_of state.files)) state
-opening_valid limits lines state good same holds = rw same (sound-ValidOpening (opening limits lines) (sound limits lines good holds))
-
-pub valid_result : {E : Type 0} (limits : Limits) (lines : List ScriptLine) (result : Result OpeningState E) → IsScript lines
-    → IfOk result (λ state. state ≡ opening limits lines) → HoldsScripts limits
-    → IfOk result (λ state. ValidOpening (Some (map file_of state.files)) state)
-valid_result limits lines (Ok state) good same holds = opening_valid limits lines state good same holds
-valid_result limits lines (Err error) good same holds = tt

@@ -3,7 +3,8 @@ use Rattle.std.specs.Prelude.{◌≡◌, ℕ, List}
 use Rattle.portal_base.specs.declared.limits.Limits.{Limits}
 use Rattle.record_keeper.specs.BadRecords.{AreGood}
 use Rattle.script_form.specs.Lines.{text_of}
-use Rattle.script_form.specs.Opening.{records_of, HoldsScripts}
+use Rattle.portal_model.specs.declared.opening.OpeningState.{OpeningState}
+use Rattle.script_form.specs.Opening.{records_of, HoldsScripts, IsOpening}
 use Rattle.script_form.specs.Order.{IsRead, IsFault, IsScript}
 use Rattle.script_form.specs.declared.script.ScriptLine.{ScriptLine}
 
@@ -30,3 +31,8 @@ ReadAgain = (lines : List ScriptLine) → IsScript lines → IsRead (text_of lin
 abbrev pub NeverBad : Type 0
 NeverBad = (limits : Limits) (lines : List ScriptLine) → IsScript lines → HoldsScripts limits
     → AreGood limits (records_of lines)
+
+-- a script opens with one state
+abbrev pub OpensInOneWay : Type 0
+OpensInOneWay = (limits : Limits) (lines : List ScriptLine) (one other : OpeningState)
+    → IsOpening limits lines one → IsOpening limits lines other → one ≡ other

@@ -1,5 +1,5 @@
 -- The state that a script opens with.
-use Rattle.std.specs.Prelude.{ℕ, ◌^◌, ◌<◌, ◌≤◌, true, List, [], ◌∷◌, ◌++◌, map}
+use Rattle.std.specs.Prelude.{◌≡◌, ℕ, ◌^◌, ◌<◌, ◌≤◌, true, List, [], ◌∷◌, ◌++◌, map}
 use Rattle.portal_base.specs.declared.limits.Limits.{Limits}
 use Rattle.portal_model.specs.Opening.{each, first_named, id_of, names_kept}
 use Rattle.portal_model.specs.declared.opening.FileItem.{FileItem}
@@ -8,6 +8,8 @@ use Rattle.portal_model.specs.declared.opening.OpeningState.{OpeningState}
 use Rattle.portal_model.specs.declared.records.EntryRecord.{EntryRecord}
 use Rattle.portal_model.specs.declared.records.Records.{Records}
 use Rattle.portal_model.specs.Kept.{records_version}
+use Rattle.portal_model.specs.Store.{Entries}
+use Rattle.record_keeper.specs.KeptEntries.{KeepEntries}
 use Rattle.script_form.specs.Lines.{kept_document}
 use Rattle.script_form.specs.declared.script.ScriptLine.{ScriptLine}
 use Rattle.script_form.specs.declared.script.ScriptLine.TheVariants.{File, Doc, Entry, Now}
@@ -52,17 +54,22 @@ files_of lines = files_from 0 lines
 abbrev pub applications_of : List ScriptLine → List (List ℕ)
 applications_of lines = first_named (each names_kept (documents_of lines))
 
--- the documents, the entries and the files of a script; each document persists, and no other was
--- made
-abbrev pub opening : Limits → List ScriptLine → OpeningState
-opening limits lines = record {
+-- the documents and the files of a script, and these entries; each document persists, and no other
+-- was made
+abbrev pub opening_with : Entries → Limits → List ScriptLine → OpeningState
+opening_with entries limits lines = record {
   limits = limits;
   documents = documents_of lines;
   made = map (λ d. id_of d.kept.number) (documents_of lines);
   applications = applications_of lines;
-  entries = entries_of lines;
+  entries = entries;
   files = files_of lines;
 }
+
+-- the state that a script opens with: its entries are those that the lines keep
+pub record IsOpening (limits : Limits) (lines : List ScriptLine) (state : OpeningState) : Type 0 where
+  pub whole : state ≡ opening_with state.entries limits lines
+  pub entries : KeepEntries (entries_of lines) state.entries
 
 -- the records that a script keeps
 abbrev pub records_of : List ScriptLine → Records

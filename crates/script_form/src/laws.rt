@@ -1,6 +1,6 @@
 //! What is true of every script.
 
-ghost use Rattle.script_form.specs.Laws.{ReadInOneWay, RefusedInOneWay, ReadOrRefused, ReadAgain, NeverBad};
+ghost use Rattle.script_form.specs.Laws.{ReadInOneWay, RefusedInOneWay, ReadOrRefused, ReadAgain, NeverBad, OpensInOneWay};
 
 /// A text is one script at most, or has one first line that is no line of a
 /// script, and not both.
@@ -19,4 +19,9 @@ pub fn scripts_are_read_again()
 /// records are.
 pub fn records_of_scripts_are_never_bad()
     ensures { NeverBad }
+{}
+
+/// A script opens with one state.
+pub fn scripts_open_in_one_way()
+    ensures { OpensInOneWay }
 {}

@@ -5,7 +5,7 @@ ghost use Rattle.std.specs.List.{All};
 ghost use Rattle.portal_model.specs.Opening.{each, names_kept, id_of, file_of, ValidOpening};
 ghost use Rattle.script_form.specs.Lines.{KeepsRules};
 ghost use Rattle.record_keeper.specs.Naming.{also_named};
-ghost use Rattle.script_form.specs.Opening.{opening, document_in, documents_of, entry_in, entries_of, file_in, files_of, time_behind as time_after, applications_of, HoldsScripts};
+ghost use Rattle.script_form.specs.Opening.{IsOpening, document_in, documents_of, entry_in, entries_of, file_in, files_of, time_behind as time_after, applications_of, HoldsScripts};
 ghost use Rattle.script_form.specs.Order.{IsScript};
 
 use crate::script::{Script, ScriptLine};
@@ -16,7 +16,7 @@ use portal_base::names::app_id::AppId;
 use portal_base::names::doc_id::DocId;
 use portal_model::opening::{FileItem, OpeningDocument, OpeningState};
 use portal_model::records::{DocRecord, EntryRecord};
-use record_keeper::Named;
+use record_keeper::{Named, kept_entries};
 use std::alloc::Global;
 
 /// The state that a script opens with: its documents, entries and files, each
@@ -31,7 +31,7 @@ pub fn opening_of(
     limits: Limits,
 ) -> Result<OpeningState, WantOfMemory>
     requires { IsScript script.now.lines }
-    ensures state { IfOk result (λ state. state ≡ opening limits script.now.lines) }
+    ensures state { IfOk result (IsOpening limits script.now.lines) }
     ensures valid { HoldsScripts limits
         → IfOk result (λ state. ValidOpening (Some (map file_of state.files)) state) }
 {
@@ -41,13 +41,14 @@ pub fn opening_of(
 /// The state that a script opens with.
 fn state_of(alloc: Global, script: &Script, limits: Limits) -> Result<OpeningState, WantOfMemory>
     requires { IsScript script.now.lines }
-    ensures { IfOk result (λ state. state ≡ opening limits script.now.lines) }
+    ensures { IfOk result (IsOpening limits script.now.lines) }
 {
     let lines = script.lines.as_slice();
     let documents = documents_in(alloc, lines)?;
     let made = numbers_of(alloc, documents.as_slice())?;
     let applications = applications_in(alloc, lines)?;
-    let entries = entries_in(alloc, lines)?;
+    let kept = entries_in(alloc, lines)?;
+    let entries = kept_entries(alloc, kept)?;
     let files = files_in(alloc, lines)?;
     Ok(OpeningState {
         limits,
@@ -113,7 +114,7 @@ fn numbers_of(alloc: Global, documents: &[OpeningDocument]) -> Result<List<DocId
     Ok(numbers)
 }
 
-/// The entries that lines keep.
+/// The records of the entries that lines keep.
 pub(crate) fn entries_in(
     alloc: Global,
     lines: &[ScriptLine],
@@ -127,7 +128,7 @@ pub(crate) fn entries_in(
     Ok(entries)
 }
 
-/// Adds the entry that a line keeps.
+/// Adds the record of the entry that a line keeps.
 fn add_entry(
     alloc: Global,
     entries: &mut List<EntryRecord>,

@@ -7,6 +7,7 @@ use portal_base::names::AppId;
 use portal_base::who::{Kind, Who};
 use portal_model::opening::{FileItem, OpeningDocument};
 use portal_model::records::{EntryRecord, GrantRecord};
+use portal_model::store::StoredEntry;
 use script_form::opening::opening_of;
 use script_form::outside::outside_of;
 use script_form::reader::read_script;
@@ -15,6 +16,7 @@ use script_form::writer::write_script;
 use std::alloc::Global;
 use vector_lines::error::{VectorError, bad, given};
 use vector_lines::notation::{self, debug, digits};
+use vector_lines::values;
 
 /// The most bytes that a script may have.
 const LONGEST: usize = 67_108_864;
@@ -177,7 +179,8 @@ fn shown_grants(alloc: Global, grants: &[GrantRecord]) -> Result<String, VectorE
 }
 
 /// `opening TEXT`: the state that the script opens with: its applications in
-/// the order of their numbers, its documents and its files.
+/// the order of their numbers, its documents, its files and its entries with
+/// their data.
 pub fn opening(alloc: Global, rest: &str) -> Result<String, VectorError> {
     let text = notation::text(alloc, rest)?;
     if text.len() > LONGEST {
@@ -191,6 +194,7 @@ pub fn opening(alloc: Global, rest: &str) -> Result<String, VectorError> {
     let made = opening.made.len();
     out.push_str(format!(in alloc; "; made {made}")?.as_str())?;
     put_files(alloc, &mut out, opening.files.as_slice())?;
+    put_entries(alloc, &mut out, opening.entries.as_slice())?;
     Ok(out)
 }
 
@@ -222,6 +226,20 @@ fn put_files(alloc: Global, out: &mut String, files: &[FileItem]) -> Result<(), 
         let content = digits(alloc, file.content.as_slice())?;
         let moment = file.moment;
         out.push_str(format!(in alloc; "; file {path} at {moment} of bytes {content}")?.as_str())?;
+    }
+    Ok(())
+}
+
+fn put_entries(
+    alloc: Global,
+    out: &mut String,
+    entries: &[StoredEntry],
+) -> Result<(), VectorError> {
+    for entry in entries {
+        let table = entry.table.as_str();
+        let id = entry.id.as_str();
+        let datum = values::value(alloc, entry.datum.value())?;
+        out.push_str(format!(in alloc; "; entry {id} of {table} holds {datum}")?.as_str())?;
     }
     Ok(())
 }

@@ -11,13 +11,14 @@ use Rattle.dbus_types.specs.declared.message.Message.{Message}
 use Rattle.dbus_types.specs.declared.message.OutMessage.{OutMessage}
 use Rattle.dbus_dispatch.specs.Errors.{error_to, refusal_of}
 use Rattle.dbus_dispatch.specs.Replies.{reply_of}
+use Rattle.dbus_dispatch.specs.Signals.{signal_of}
 use Rattle.session.specs.declared.act.Act.{Act}
 use Rattle.session.specs.declared.act.Act.TheVariants.{Nothing, Line, Call, Portal, Node, Local}
 use Rattle.session.specs.declared.act.Client.{Client}
 use Rattle.session.specs.declared.phase.Phase.{Phase}
 use Rattle.session.specs.declared.phase.Phase.TheVariants as due
 use Rattle.session.specs.declared.served.Stop.TheVariants as stop
-use Rattle.session.specs.Answers.{Answers, AreOf, Denied, Made, Outcome, frames_for, last_spoken, messages_of, pieces_of, reply_for, spoken, told_as}
+use Rattle.session.specs.Answers.{Answers, AreOf, Denied, Made, Outcome, frames_for, last_spoken, messages_of, pieces_of, signals_for, spoken, told_as, told_for}
 use Rattle.session.specs.Asked.{asked_by, reply_to, requests_of}
 use Rattle.session.specs.Cuts.{Cuts, no_item}
 use Rattle.session.specs.Frames.{answer_frames, refusal_frames}
@@ -91,19 +92,28 @@ told_frames unique [] = refl
 told_frames unique (Made x ∷ os) = ap (λ (z : List (List ℕ)). answer_frames unique x.reply.answer ++ z) (told_frames unique os)
 told_frames unique (Denied request why ∷ os) = ap (λ (z : List (List ℕ)). refusal_frames unique why ++ z) (told_frames unique os)
 
+abbrev signals_told : Result Reply Refused → List OutMessage
+signals_told (Ok reply) = map signal_of reply.signals
+signals_told (Err why) = []
+
+told_signals : (os : List Outcome) → flat_map signals_for os ≡ flat_map signals_told (map told_as os)
+told_signals [] = refl
+told_signals (Made x ∷ os) = ap (λ (z : List OutMessage). map signal_of x.reply.signals ++ z) (told_signals os)
+told_signals (Denied request why ∷ os) = told_signals os
+
 abbrev replies_told : Client → Message → Result Reply Refused → List OutMessage
-replies_told c call (Ok reply) = option_to_list (reply_to call (reply_of c.settings.mountpoint call reply.answer))
+replies_told c call (Ok reply) = map signal_of reply.signals ++ option_to_list (reply_to call (reply_of c.settings.mountpoint call reply.answer))
 replies_told c call (Err why) = option_to_list (reply_to call (error_to call (refusal_of why)))
 
-told_replies : (c : Client) (call : Message) (os : List Outcome) → flat_map (reply_for c call) os ≡ flat_map (replies_told c call) (map told_as os)
+told_replies : (c : Client) (call : Message) (os : List Outcome) → flat_map (told_for c call) os ≡ flat_map (replies_told c call) (map told_as os)
 told_replies c call [] = refl
-told_replies c call (Made x ∷ os) = ap (λ (z : List OutMessage). reply_for c call (Made x) ++ z) (told_replies c call os)
-told_replies c call (Denied request why ∷ os) = ap (λ (z : List OutMessage). reply_for c call (Denied request why) ++ z) (told_replies c call os)
+told_replies c call (Made x ∷ os) = ap (λ (z : List OutMessage). told_for c call (Made x) ++ z) (told_replies c call os)
+told_replies c call (Denied request why ∷ os) = ap (λ (z : List OutMessage). told_for c call (Denied request why) ++ z) (told_replies c call os)
 
 messages_alike : (c : Client) (act : Act) (os us : List Outcome) → map told_as os ≡ map told_as us → messages_of c act os ≡ messages_of c act us
 messages_alike c Nothing os us e = refl
 messages_alike c (Line reply) os us e = refl
-messages_alike c (Call reply collects) os us e = refl
+messages_alike c (Call reply collects) os us e = ap (λ (z : List OutMessage). z ++ option_to_list reply) (told_signals os ∙ (ap (flat_map signals_told) e ∙ sym (told_signals us)))
 messages_alike c (Portal call request) os us e = told_replies c call os ∙ (ap (flat_map (replies_told c call)) e ∙ sym (told_replies c call us))
 messages_alike c (Local unique told) os us e = refl
 messages_alike c (Node unique request) os us e = refl
@@ -111,7 +121,7 @@ messages_alike c (Node unique request) os us e = refl
 pieces_alike : (c : Client) (act : Act) (s : ℕ) (os us : List Outcome) → map told_as os ≡ map told_as us → pieces_of c act s os ≡ pieces_of c act s us
 pieces_alike c Nothing s os us e = refl
 pieces_alike c (Line reply) s os us e = refl
-pieces_alike c (Call reply collects) s os us e = refl
+pieces_alike c (Call reply collects) s os us e = ap (spoken s) (messages_alike c (Call reply collects) os us e)
 pieces_alike c (Portal call request) s os us e = ap (spoken s) (messages_alike c (Portal call request) os us e)
 pieces_alike c (Local unique told) s os us e = refl
 pieces_alike c (Node unique request) s os us e = told_frames unique os ∙ (ap (flat_map (frames_told unique)) e ∙ sym (told_frames unique us))

@@ -1,5 +1,6 @@
 -- What a bus asks on documents is answered by no refusal for want of an open connection.
-use Rattle.std.proofs.Common.{ℕ, List, [], ◌∷◌, ◌++◌, length, Bool, true, false, cond, map, not, Option, Some, None}
+use Rattle.std.proofs.Common.{ℕ, List, [], ◌∷◌, ◌++◌, length, Bool, true, false, cond, map, not, Option, Some, None, Ok, Err}
+use Rattle.dbus_types.specs.declared.types.Value.{Value}
 use Rattle.std.specs.Prelude.{◌≢◌, nat_lt, ◌||◌}
 use Rattle.portal_base.specs.Names.{is_app_name, is_same}
 use Rattle.portal_base.specs.declared.files.Look.{Look}
@@ -31,7 +32,14 @@ use Rattle.portal_model.specs.Documents.{first_of}
 use Rattle.portal_model.specs.Rights.{held_by}
 use Rattle.portal_model.specs.Present.{may_present, present, present_path, queue_path, with_queue}
 use Rattle.portal_model.specs.Revoke.{may_revoke, names_itself, revoke, revoke_reached, revoked}
+use Rattle.portal_model.specs.declared.store.StoreAnswer.{StoreAnswer}
+use Rattle.portal_model.specs.declared.store.StoreAnswer.TheVariants.{Done, Entry, Kept, Names}
+use Rattle.portal_model.specs.declared.store.StoreCall.{StoreCall}
+use Rattle.portal_model.specs.declared.store.StoreError.{StoreError}
+use Rattle.portal_model.specs.declared.store.StoreError.TheVariants.{Memory, NotFound, TooLong}
 use Rattle.portal_model.specs.State.{State}
+use Rattle.portal_model.specs.Store.{Outcome, store_call}
+use Rattle.portal_model.specs.StoreRequest.{are_store_arguments, code_of, own_table, store_allowed, store_answered, store_request, store_verdict, table_of}
 use Rattle.portal_model.specs.Verdict.{Doing, Verdict, Refuses, Does, does, unless, walk_unless}
 use Rattle.portal_model.specs.Walk.{Walk, Answers, Looks, Ends, walked, looks_at_all}
 
@@ -154,6 +162,38 @@ add_heard s c a numbers =
     (looks_heard (paths_shown c.queue a) (add_shown s c a numbers)
     (λ looks. unless_heard (not (are_of_kind a looks)) code.InvalidArgument (added s (added_files s c a numbers)) argument_said (ids_heard (added_files s c a numbers).ids)))))
 
+-- ---- the permission store
+
+entry_heard : (rows : List Row) (datum : Value) → IsHere (answer.Entry rows datum)
+entry_heard rows datum e = cc
+
+names_heard : (names : List (List ℕ)) → IsHere (answer.Names names)
+names_heard names e = cc
+
+access_said : IsSaid code.AccessDenied
+access_said e = cc
+
+error_said : (error : StoreError) → IsSaid (code_of error)
+error_said NotFound = none_said
+error_said TooLong = limits_said
+error_said Memory = failure_said
+
+answered_heard : (s : State) (call : StoreCall) (told : StoreAnswer) → VerdictHeard (store_answered s call told)
+answered_heard s call (Done change) = done_heard
+answered_heard s call Kept = done_heard
+answered_heard s call (Entry rows datum) = entry_heard rows datum
+answered_heard s call (Names names) = names_heard names
+
+outcome_heard : (s : State) (call : StoreCall) (outcome : Outcome) → VerdictHeard (store_verdict s call outcome)
+outcome_heard s call (Err error) = error_said error
+outcome_heard s call (Ok done) = answered_heard (record s { entries = done.0 }) call done.1
+
+store_heard : (s : State) (who : Who) (call : StoreCall) → VerdictHeard (store_request s who call)
+store_heard s (Who.App app) call = access_said
+store_heard s Who.Host call =
+    unless_heard (not (are_store_arguments call)) code.InvalidArgument (store_allowed s call) argument_said
+    (unless_heard (is_same (table_of call) own_table) code.NotAllowed (store_verdict s call (store_call call s.entries)) denial_said (outcome_heard s call (store_call call s.entries)))
+
 -- what a walk of a bus comes to; a request of another kind isn't asked so
 pub walk_heard : (s : State) (c : Connection) (r : Request) (numbers : List DocId) → WalkHeard (bus_walk s c r numbers)
 walk_heard s c (Request.Present path) numbers = present_heard s c path
@@ -164,6 +204,7 @@ walk_heard s c (Request.DeleteDocument doc) numbers = reached_delete s c.who (re
 walk_heard s c (Request.LookupDocument path) numbers = lookup_heard s c.who path
 walk_heard s c (Request.Info doc) numbers = info_heard s c.who doc
 walk_heard s c (Request.ListDocuments app) numbers = list_heard s c.who app
+walk_heard s c (Request.Store call) numbers = store_heard s c.who call
 walk_heard s c (Request.Enter who kind) numbers = done_heard
 walk_heard s c Request.Leave numbers = done_heard
 walk_heard s c Request.Collect numbers = done_heard

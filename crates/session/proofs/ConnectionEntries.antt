@@ -89,7 +89,6 @@ ends_connect c served.Ended read i j v w h = whole_connects c read _ _ v w h.1
 ends_connect c (served.Cut n) read i j v w h = whole_connects c read _ _ v w h.2.2
 ends_connect c (served.Malformed at rule) read i j v w h = whole_connects c read _ _ v w h.2
 ends_connect c (served.LineTooLong at) read i j v w h = whole_connects c read _ _ v w h.2
-ends_connect c (served.Unbuilt at) read i j v w h = whole_connects c read _ _ v w h.2
 ends_connect c served.ReadFault read i j v w h = whole_connects c read _ _ v w h.1.1
 ends_connect c served.WriteFault read i j v w h = half_connects c read v w h.1
 ends_connect c served.Spent read i j v w h = whole_connects c h.1.0 _ _ v w h.1.5

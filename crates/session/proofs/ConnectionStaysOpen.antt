@@ -11,8 +11,8 @@ use Rattle.portal_model.specs.declared.state.Connection.{Connection}
 use Rattle.portal_model.specs.Seated.{Binding, Exchange, Known, Seated, binding_of, bound, bound_after, bound_by, is_open, state_seen}
 use Rattle.portal_model.specs.State.{State, connection_of}
 use Rattle.portal_model.proofs.SeatLaws.{exchanges-entries, run-bound}
-use Rattle.call_laws.specs.Answers.{IsOnDocuments}
-use Rattle.call_laws.proofs.Calls.{calls_on_documents}
+use Rattle.call_laws.specs.Answers.{IsOnRecords}
+use Rattle.call_laws.proofs.Calls.{calls_on_records}
 use Rattle.session.specs.declared.act.Act.{Act}
 use Rattle.session.specs.declared.act.Act.TheVariants.{Nothing, Line, Call, Portal, Node, Local}
 use Rattle.session.specs.declared.act.Client.{Client}
@@ -55,25 +55,26 @@ collects_plain true = (tt, tt)
 collects_plain false = tt
 
 -- what calls ask leaves it
-documents_plain : (r : Request) → IsOnDocuments r → IsPlain r
-documents_plain (Request.Enter who kind) h = absurd h
-documents_plain Request.Leave h = absurd h
-documents_plain Request.Collect h = tt
-documents_plain (Request.Node r) h = tt
-documents_plain (Request.Present path) h = tt
-documents_plain (Request.Add a) h = tt
-documents_plain (Request.Grant call) h = tt
-documents_plain (Request.Revoke call) h = tt
-documents_plain (Request.DeleteDocument doc) h = tt
-documents_plain (Request.LookupDocument path) h = tt
-documents_plain (Request.Info doc) h = tt
-documents_plain (Request.ListDocuments app) h = tt
+records_plain : (r : Request) → IsOnRecords r → IsPlain r
+records_plain (Request.Enter who kind) h = absurd h
+records_plain Request.Leave h = absurd h
+records_plain Request.Collect h = tt
+records_plain (Request.Node r) h = tt
+records_plain (Request.Present path) h = tt
+records_plain (Request.Add a) h = tt
+records_plain (Request.Grant call) h = tt
+records_plain (Request.Revoke call) h = tt
+records_plain (Request.DeleteDocument doc) h = tt
+records_plain (Request.LookupDocument path) h = tt
+records_plain (Request.Info doc) h = tt
+records_plain (Request.ListDocuments app) h = tt
+records_plain (Request.Store call) h = tt
 
 act_plain : (c : Client) (act : Act) → AsksAsRead c act → ArePlain (asked_by act)
 act_plain c Nothing h = tt
 act_plain c (Line reply) h = tt
 act_plain c (Call reply collects) h = collects_plain collects
-act_plain c (Portal call request) h = (documents_plain request (calls_on_documents c.settings call request h), tt)
+act_plain c (Portal call request) h = (records_plain request (calls_on_records c.settings call request h), tt)
 act_plain c (Node unique request) h = (tt, tt)
 act_plain c (Local unique told) h = tt
 
@@ -153,7 +154,6 @@ takes_let what s v piece t w h = did_lets s.client s.stage t.stage v w h.taken h
 over_lets : (met : Served) (s : Standing) (v : World) (piece : List ℕ) (t : Standing) (w : World) → FeedsOver s v piece met t w → Lets v.seated w.seated
 over_lets (served.Malformed at rule) s v piece t w h = takes_let (stop.Bad rule) s v piece t w h.0
 over_lets (served.LineTooLong at) s v piece t w h = takes_let stop.TooLong s v piece t w h.0
-over_lets (served.Unbuilt at) s v piece t w h = takes_let stop.Unbuilt s v piece t w h.0
 over_lets served.Spent s v piece t w h = none_lets v w h.1
 over_lets served.Ended s v piece t w h = absurd h
 over_lets (served.Cut n) s v piece t w h = absurd h

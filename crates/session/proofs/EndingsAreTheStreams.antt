@@ -41,7 +41,6 @@ module _ (c : Client) (a b : Spring) (v w : World) (stream read more : List ℕ)
   of_stream (served.Cut n) told h = (h.2.0, h.2.1, subst (λ (z : List ℕ). Whole c z h.2.0 stop.More v w) (all_read told h.0) h.2.2)
   of_stream (served.Malformed at rule) told h = (h.0 ++ more, at_stream at h.0 h.1, over_stream h.0 (stop.Bad rule) tt h.2)
   of_stream (served.LineTooLong at) told h = (h.0 ++ more, at_stream at h.0 h.1, over_stream h.0 stop.TooLong tt h.2)
-  of_stream (served.Unbuilt at) told h = (h.0 ++ more, at_stream at h.0 h.1, over_stream h.0 stop.Unbuilt tt h.2)
   of_stream served.ReadFault told h = tt
   of_stream served.WriteFault told h = tt
   of_stream served.Spent told h = tt

@@ -11,7 +11,7 @@ use Rattle.portal_base.specs.declared.split.Split.{Split}
 use Rattle.portal_base.specs.declared.split.Split.TheVariants as split
 use Rattle.session.specs.declared.act.Client.{Client}
 use Rattle.session.specs.declared.act.ItemError.{ItemError}
-use Rattle.session.specs.declared.act.ItemError.TheVariants.{Breaks, Unbuilt}
+use Rattle.session.specs.declared.act.ItemError.TheVariants.{Breaks}
 use Rattle.session.specs.declared.phase.Phase.{Phase}
 use Rattle.session.specs.declared.phase.Phase.TheVariants as due
 use Rattle.session.specs.declared.served.Stop.{Stop}
@@ -114,7 +114,6 @@ rest_stays c p b more stop.More over h = absurd over
 rest_stays c p b more (stop.Bad rule) over (inl h) = inl (bad_stays p b more rule h)
 rest_stays c p b more (stop.Bad rule) over (inr h) = inr (nothing_stays c p b more (Breaks rule) h)
 rest_stays c p b more stop.TooLong over h = long_stays p b more h
-rest_stays c p b more stop.Unbuilt over h = nothing_stays c p b more Unbuilt h
 
 pub ends_stay : EndsStay
 ends_stay c p stream more items acts left what cut over = record {

@@ -121,7 +121,6 @@ module _ (c : Client) (u v w x : World) (entered leaving : Exchange) (encloses :
   over_into : (met : Served) (read : List ℕ) (s : Standing) (i j : Spring) → PumpsInto c met read v s w → CameLast c read → EndsAs c met read i j u x
   over_into (served.Malformed at rule) read s i j h last = at_byte read (stop.Bad rule) s at h.0 h.1 last
   over_into (served.LineTooLong at) read s i j h last = at_byte read stop.TooLong s at h.0 h.1 last
-  over_into (served.Unbuilt at) read s i j h last = at_byte read stop.Unbuilt s at h.0 h.1 last
   over_into served.Spent read s i j h last = (h.0, (h.1.0, h.1.1, h.1.2.rest, h.1.3, h.1.4, whole h.1.0 stop.More h.1.2 h.1.5))
   over_into served.Ended read s i j h last = absurd h
   over_into (served.Cut n) read s i j h last = absurd h
@@ -148,7 +147,6 @@ module _ (c : Client) (u v w x : World) (entered leaving : Exchange) (encloses :
   counts_none served.Spent i j e = e
   counts_none (served.Full cost limit) i j e = e
   counts_none served.Memory i j e = e
-  counts_none (served.Unbuilt at) i j e = e
 
   -- the pieces ended, or the session was over
   pub closed : (r : Pumped) (i j : Spring) (s : Standing) → r ≢ pumped.Fault → Pumps c r i j v s w → Serves c (ending s.fed s.rest) i j u x

@@ -35,4 +35,3 @@ pub feeds_rest : (what : Stop) (s : Standing) (v : World) (piece : List ℕ) (t 
 feeds_rest stop.More s v piece t w h e = (h, (e, h.client))
 feeds_rest (stop.Bad rule) s v piece t w h e = ((h, refl), (e, h.client))
 feeds_rest stop.TooLong s v piece t w h e = ((h, refl), (e, h.client))
-feeds_rest stop.Unbuilt s v piece t w h e = ((h, refl), (e, h.client))

@@ -89,6 +89,7 @@ fits_met s seat Kind.Bus (Request.DeleteDocument doc) given b h is f = bus_heard
 fits_met s seat Kind.Bus (Request.LookupDocument path) given b h is f = bus_heard s (Request.LookupDocument path) given (connection_of s.connections seat) b h is
 fits_met s seat Kind.Bus (Request.Info doc) given b h is f = bus_heard s (Request.Info doc) given (connection_of s.connections seat) b h is
 fits_met s seat Kind.Bus (Request.ListDocuments app) given b h is f = bus_heard s (Request.ListDocuments app) given (connection_of s.connections seat) b h is
+fits_met s seat Kind.Bus (Request.Store call) given b h is f = bus_heard s (Request.Store call) given (connection_of s.connections seat) b h is
 
 met_by : (c : Client) (s : State) (seat : ℕ) (request : Request) (given : Given) (o : Option Binding) → bound s seat ≡ o → IsAskedAt c o request → Meets request (request_step s seat request given).1.answer
 met_by c s seat request given None h a = subst (λ (r : Request). Meets r (request_step s seat r given).1.answer) (sym a) (enter_done (connection_of s.connections seat) h)

@@ -19,7 +19,7 @@ use Rattle.fuse_wire.specs.Frames.{split_of}
 use Rattle.session.specs.declared.act.Act.{Act}
 use Rattle.session.specs.declared.act.Act.TheVariants.{Nothing, Line, Call, Portal}
 use Rattle.session.specs.declared.act.Client.{Client}
-use Rattle.session.specs.declared.act.ItemError.TheVariants.{Breaks, Unbuilt}
+use Rattle.session.specs.declared.act.ItemError.TheVariants.{Breaks}
 use Rattle.session.specs.declared.phase.Phase.{Phase}
 use Rattle.session.specs.declared.phase.Phase.TheVariants as due
 use Rattle.session.specs.declared.served.Stop.{Stop}
@@ -42,24 +42,23 @@ a_cut due.Frames b = (cut_of (split_of b), refl)
 
 -- ---- a whole item means something
 
--- it asks something, breaks a rule, or asks for a part that isn't built
+-- it asks something, or breaks a rule
 abbrev HasMeaning : Client → Phase → List ℕ → Type 0
-HasMeaning c p item = ((act : Act) × Means c p item (Ok act)) ⊎ (((rule : ℕ) × Means c p item (Err (Breaks rule))) ⊎ Means c p item (Err Unbuilt))
+HasMeaning c p item = ((act : Act) × Means c p item (Ok act)) ⊎ ((rule : ℕ) × Means c p item (Err (Breaks rule)))
 
 line_means : (c : Client) (a : _) (item : List ℕ) (answer : AuthAnswer) → (step a (line_of item)).0 ≡ answer → HasMeaning c (due.Handshake a) item
 line_means c a item (Say reply) e = inl (Line reply, sym (ap line_act e))
 line_means c a item Begin e = inl (Nothing, sym (ap line_act e))
-line_means c a item Early e = inr (inl (13, sym (ap line_act e)))
+line_means c a item Early e = inr (13, sym (ap line_act e))
 
 message_means : (c : Client) (item : List ℕ) (m : Message) (x : Ask) → IsMessage item m → ask_of c.settings m ≡ x → HasMeaning c due.Messages item
 message_means c item m (ask.Local answer) is e = inl (Call (reply_to m answer) (is_host c.who), (m, is, sym (ap (act_of_ask c m) e)))
 message_means c item m ask.Ignore is e = inl (Nothing, (m, is, sym (ap (act_of_ask c m) e)))
 message_means c item m (ask.Portal request) is e = inl (Portal m request, (m, is, sym (ap (act_of_ask c m) e)))
-message_means c item m ask.Unbuilt is e = inr (inr (m, is, sym (ap (act_of_ask c m) e)))
 
 read_means : (c : Client) (item : List ℕ) → ((m : Message) × IsMessage item m) ⊎ ((rule : ℕ) × IsFirstBroken item rule) → HasMeaning c due.Messages item
 read_means c item (inl read) = message_means c item read.0 (ask_of c.settings read.0) read.1 refl
-read_means c item (inr broken) = inr (inl (broken.0, broken.1))
+read_means c item (inr broken) = inr (broken.0, broken.1)
 
 a_meaning : (c : Client) (p : Phase) (item : List ℕ) → All (λ b. b < 256) item → Cuts p item (whole_item (length item)) → HasMeaning c p item
 a_meaning c due.ZeroByte item fits h = inl (Nothing, refl)
@@ -99,10 +98,7 @@ found_at c p stream (Ok len) fits h next =
     let alone = whole_alone p stream len h in
     elim (a_meaning c p (take len stream) (All-take (λ b. b < 256) len stream fits) alone) as (λ _. Found c p stream) [
       | inl means ↦ found_one c p stream (take len stream) (drop len stream) means.0 (sym (take-append-drop len stream)) (alone, means.1) (next (next_phase c p (take len stream)) (drop len stream) (omega (arith, length-drop len stream, w.0, w.1)) (All-drop (λ b. b < 256) len stream fits))
-      | inr other ↦ elim other as (λ _. Found c p stream) [
-        | inl broken ↦ found_none c p stream (stop.Bad broken.0) (inr (len, h, broken.1))
-        | inr unbuilt ↦ found_none c p stream stop.Unbuilt (len, h, unbuilt)
-      ]
+      | inr broken ↦ found_none c p stream (stop.Bad broken.0) (inr (len, h, broken.1))
     ]
 
 found_in : (n : ℕ) (c : Client) (p : Phase) (stream : List ℕ) → length stream ≤ n → Fits stream → Found c p stream

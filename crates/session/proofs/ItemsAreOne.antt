@@ -11,7 +11,7 @@ use Rattle.dbus_message.proofs.ReadMessage.{one_first, refutes}
 use Rattle.session.specs.declared.act.Act.{Act}
 use Rattle.session.specs.declared.act.Client.{Client}
 use Rattle.session.specs.declared.act.ItemError.{ItemError}
-use Rattle.session.specs.declared.act.ItemError.TheVariants.{Breaks, Unbuilt, Memory}
+use Rattle.session.specs.declared.act.ItemError.TheVariants.{Breaks, Memory}
 use Rattle.session.specs.declared.phase.Phase.{Phase}
 use Rattle.session.specs.declared.phase.Phase.TheVariants as due
 use Rattle.session.specs.declared.served.Stop.{Stop}
@@ -39,22 +39,15 @@ Told found = Unit {0}
 told_is : (r expected : Result Act ItemError) → Told r → OrMemory r expected → r ≡ expected
 told_is (Ok act) expected t h = h
 told_is (Err (Breaks rule)) expected t h = h
-told_is (Err Unbuilt) expected t h = h
 told_is (Err Memory) expected t h = absurd t
 
 message_means : (c : Client) (item : List ℕ) (r s : Result Act ItemError) → Told r → Told s → MessageMeans c item r → MessageMeans c item s → r ≡ s
 message_means c item (Ok a) (Ok b) t u h k = h.2 ∙ (ap (λ (m : Message). act_of_message c m) (one_message item h.0 k.0 h.1 k.1) ∙ sym k.2)
 message_means c item (Ok a) (Err (Breaks rule)) t u h k = absurd (refutes item h.0 rule h.1 k)
-message_means c item (Ok a) (Err Unbuilt) t u h k = h.2 ∙ (ap (λ (m : Message). act_of_message c m) (one_message item h.0 k.0 h.1 k.1) ∙ sym k.2)
 message_means c item (Ok a) (Err Memory) t u h k = absurd u
 message_means c item (Err (Breaks rule)) (Ok b) t u h k = absurd (refutes item k.0 rule k.1 h)
 message_means c item (Err (Breaks rule)) (Err (Breaks other)) t u h k = ap (λ (n : ℕ). Err (Breaks n)) (one_first item rule other h k)
-message_means c item (Err (Breaks rule)) (Err Unbuilt) t u h k = absurd (refutes item k.0 rule k.1 h)
 message_means c item (Err (Breaks rule)) (Err Memory) t u h k = absurd u
-message_means c item (Err Unbuilt) (Ok b) t u h k = h.2 ∙ (ap (λ (m : Message). act_of_message c m) (one_message item h.0 k.0 h.1 k.1) ∙ sym k.2)
-message_means c item (Err Unbuilt) (Err (Breaks rule)) t u h k = absurd (refutes item h.0 rule h.1 k)
-message_means c item (Err Unbuilt) (Err Unbuilt) t u h k = refl
-message_means c item (Err Unbuilt) (Err Memory) t u h k = absurd u
 message_means c item (Err Memory) s t u h k = absurd t
 
 one_meaning : (c : Client) (p : Phase) (item : List ℕ) (r s : Result Act ItemError) → Told r → Told s → Means c p item r → Means c p item s → r ≡ s
@@ -72,7 +65,6 @@ abbrev rest_of : Cut ⊎ ItemError → Stop
 rest_of (inl (Ok len)) = stop.More
 rest_of (inl (Err what)) = what
 rest_of (inr (Breaks rule)) = stop.Bad rule
-rest_of (inr Unbuilt) = stop.Unbuilt
 rest_of (inr Memory) = stop.More
 
 abbrev IsPart : Cut → Type 0
@@ -88,7 +80,6 @@ stands c p b stop.More h = (inl (no_item stop.More), (tt, h), refl)
 stands c p b (stop.Bad rule) (inl h) = (inl (no_item (stop.Bad rule)), (tt, h), refl)
 stands c p b (stop.Bad rule) (inr h) = (inr (Breaks rule), (tt, h), refl)
 stands c p b stop.TooLong h = (inl (no_item stop.TooLong), (tt, h), refl)
-stands c p b stop.Unbuilt h = (inr Unbuilt, (tt, h), refl)
 
 part_whole : (found : Cut) (n : ℕ) → IsPart found → found ≡ whole_item n → ⊥
 part_whole (Ok len) n t e = t

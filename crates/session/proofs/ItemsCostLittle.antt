@@ -67,7 +67,6 @@ call_cost c i m (ask.Local answer) act read long is e = let most = same_costs ac
 call_cost c i m ask.Ignore act read long is e = let most = same_costs act Nothing e (omega arith) in omega arith
 call_cost c i m (ask.Portal r) act read long is e =
     subst (λ (a : Act). costs (asked_by a) ≤ 8 * length i) (sym (same_act act (Portal m r) e)) (one_cost r (8 * length i) (call_costs c.settings i m r read is))
-call_cost c i m ask.Unbuilt act read long is e = absurd (cc)
 
 -- a frame asks one request, which carries no more than the bytes behind its header
 frame_cost : (unique n : ℕ) (a : FuseAsk) (act : Act) → Carries n a → read_as act ≡ read_as (act_of_frame unique a) → costs (asked_by act) ≤ 128 + n

@@ -16,8 +16,8 @@ use Rattle.fuse_wire.specs.declared.request.FuseAsk.{FuseAsk}
 use Rattle.fuse_wire.specs.declared.request.FuseAsk.TheVariants as fuse
 use Rattle.fuse_wire.specs.Asks.{ask_of as frame_ask_of}
 use Rattle.fuse_wire.specs.Frames.{header_of}
-use Rattle.call_laws.specs.Answers.{IsOnDocuments}
-use Rattle.call_laws.proofs.Calls.{calls_on_documents}
+use Rattle.call_laws.specs.Answers.{IsOnRecords}
+use Rattle.call_laws.proofs.Calls.{calls_on_records}
 use Rattle.session.specs.declared.act.Act.{Act}
 use Rattle.session.specs.declared.act.Act.TheVariants.{Nothing, Line, Call, Portal, Node, Local}
 use Rattle.session.specs.declared.act.Client.{Client}
@@ -38,7 +38,7 @@ abbrev pub Fits : Kind → Request → Type 0
 Fits Kind.Mount (Request.Node r) = Unit {0}
 Fits Kind.Mount request = ⊥
 Fits Kind.Bus Request.Collect = Unit {0}
-Fits Kind.Bus request = IsOnDocuments request
+Fits Kind.Bus request = IsOnRecords request
 
 abbrev pub AllFit : Kind → List Request → Type 0
 AllFit kind [] = Unit {0}
@@ -106,26 +106,26 @@ line_fits Begin act e = nothing_fits Kind.Bus act e
 line_fits Early act e = absurd (cc)
 
 -- what a call asks fits a bus
-documents_fit : (r : Request) → IsOnDocuments r → Fits Kind.Bus r
-documents_fit Request.Collect h = tt
-documents_fit (Request.Enter who kind) h = h
-documents_fit Request.Leave h = h
-documents_fit (Request.Node r) h = h
-documents_fit (Request.Present path) h = tt
-documents_fit (Request.Add a) h = tt
-documents_fit (Request.Grant call) h = tt
-documents_fit (Request.Revoke call) h = tt
-documents_fit (Request.DeleteDocument doc) h = tt
-documents_fit (Request.LookupDocument path) h = tt
-documents_fit (Request.Info doc) h = tt
-documents_fit (Request.ListDocuments app) h = tt
+records_fit : (r : Request) → IsOnRecords r → Fits Kind.Bus r
+records_fit Request.Collect h = tt
+records_fit (Request.Enter who kind) h = h
+records_fit Request.Leave h = h
+records_fit (Request.Node r) h = h
+records_fit (Request.Present path) h = tt
+records_fit (Request.Add a) h = tt
+records_fit (Request.Grant call) h = tt
+records_fit (Request.Revoke call) h = tt
+records_fit (Request.DeleteDocument doc) h = tt
+records_fit (Request.LookupDocument path) h = tt
+records_fit (Request.Info doc) h = tt
+records_fit (Request.ListDocuments app) h = tt
+records_fit (Request.Store call) h = tt
 
 call_fits : (c : Client) (m : Message) (a : Ask) (act : Act) → ask_of c.settings m ≡ a → Ok act ≡ act_of_ask c m a → AllFit Kind.Bus (asked_by act)
 call_fits c m (ask.Local answer) act is e = subst (λ (a : Act). AllFit Kind.Bus (asked_by a)) (sym (same_act act (Call (reply_to m answer) (is_host c.who)) e)) (collects_fit (is_host c.who))
 call_fits c m ask.Ignore act is e = nothing_fits Kind.Bus act e
 call_fits c m (ask.Portal request) act is e =
-    subst (λ (a : Act). AllFit Kind.Bus (asked_by a)) (sym (same_act act (Portal m request) e)) (documents_fit request (calls_on_documents c.settings m request is), tt)
-call_fits c m ask.Unbuilt act is e = absurd (cc)
+    subst (λ (a : Act). AllFit Kind.Bus (asked_by a)) (sym (same_act act (Portal m request) e)) (records_fit request (calls_on_records c.settings m request is), tt)
 
 frame_fits : (unique : ℕ) (a : FuseAsk) (act : Act) → read_as act ≡ read_as (act_of_frame unique a) → AllFit Kind.Mount (asked_by act)
 frame_fits unique (fuse.Portal request) act e = subst (λ (a : Act). AllFit Kind.Mount (asked_by a)) (sym (same_act act (Node unique request) e)) (tt, tt)

@@ -1,6 +1,7 @@
 pub mod Grew
 pub mod ReadActs
 pub mod DidItems
+pub mod Speech
 pub mod ServeItem
 pub mod ServeCall
 pub mod NextCut

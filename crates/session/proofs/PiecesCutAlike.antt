@@ -63,7 +63,6 @@ some_at : (what : Stop) (c : Client) (p : Phase) (held piece : List ℕ) (pieces
 some_at stop.More c p held piece pieces items acts left cut next = (items ++ next.0, acts ++ next.1, next.2, next.3, next.4, inr (items, next.0, acts, next.1, left, refl, refl, cut, next.5))
 some_at (stop.Bad rule) c p held piece pieces items acts left cut next = (items, acts, left, stop.Bad rule, pieces, inl (cut, tt, refl))
 some_at stop.TooLong c p held piece pieces items acts left cut next = (items, acts, left, stop.TooLong, pieces, inl (cut, tt, refl))
-some_at stop.Unbuilt c p held piece pieces items acts left cut next = (items, acts, left, stop.Unbuilt, pieces, inl (cut, tt, refl))
 
 some_on : (pieces : List (List ℕ)) (c : Client) (p : Phase) (held : List ℕ) → Fits (held ++ joined pieces) → Cutting c p held pieces
 some_on [] c p held fits = ([], [], held, stop.More, [], (refl, refl, refl, refl, refl))

@@ -71,7 +71,6 @@ module _ (c : Client) (read piece : List ℕ) (v m w : World) (s t : Standing) (
   over_into : length piece ≤ longest_piece → (ending : Served) → FeedsOver s m piece ending t w → PumpsInto c ending (read ++ piece) v t w
   over_into few (served.Malformed at rule) h = (kept_on (stop.Bad rule) h.0, h.1)
   over_into few (served.LineTooLong at) h = (kept_on stop.TooLong h.0, h.1)
-  over_into few (served.Unbuilt at) h = (kept_on stop.Unbuilt h.0, h.1)
   over_into few served.Spent h = (
     (let a = k.before in let b = ap length k.bytes in omega (arith, length-append read piece, length-append k.taken s.rest, a, b, h.0)),
     (read, piece, s, refl, few, subst (λ (z : World). Kept c read stop.More v s z) (sym h.1) k),

@@ -47,7 +47,6 @@ call_asks : (c : Client) (m : Message) (a : Ask) (act : Act) → ask_of c.settin
 call_asks c m (ask.Local answer) act is e = by_act c act (Call (reply_to m answer) (is_host c.who)) e tt
 call_asks c m ask.Ignore act is e = by_act c act Nothing e tt
 call_asks c m (ask.Portal request) act is e = by_act c act (Portal m request) e is
-call_asks c m ask.Unbuilt act is e = absurd (cc)
 
 frame_asks : (c : Client) (unique : ℕ) (a : FuseAsk) (act : Act) → read_as act ≡ read_as (act_of_frame unique a) → AsksAsRead c act
 frame_asks c unique (fuse.Portal r) act e = by_act c act (Node unique r) e tt

@@ -1,13 +1,11 @@
 -- What one call of a desk or a sink comes to.
 use Rattle.std.proofs.Common.{◌≡◌, ℕ, ◌+◌, inl, inr, ◌≤◌, List, [], ◌∷◌, length, take, drop, Bool, true, false, cond, Option, Some, None, Result, Ok, Err, IfOk, refl, sym, ap, ◌∙◌, subst, arith}
 use Rattle.std.specs.Prelude.{◌≢◌, ◌==◌, option_to_list}
-use Rattle.std.proofs.lemmas.List.{length-drop, length-take-le}
+use Rattle.std.proofs.lemmas.List.{append-nil, length-drop, length-take-le}
 use Rattle.portal_model.specs.declared.reply.Refused.{Refused}
 use Rattle.portal_model.specs.declared.reply.Reply.{Reply}
 use Rattle.portal_model.specs.declared.request.Request.{Request}
 use Rattle.portal_model.specs.Seated.{Asks, Seated}
-use Rattle.dbus_types.specs.declared.message.OutMessage.{OutMessage}
-use Rattle.dbus_message.specs.Written.{message_bytes}
 use Rattle.session.specs.declared.act.Act.{Act}
 use Rattle.session.specs.declared.act.Client.{Client}
 use Rattle.session.specs.declared.phase.Phase.{Phase}
@@ -18,17 +16,25 @@ use Rattle.session.specs.declared.served.Stop.{Stop}
 use Rattle.session.specs.Asked.{Means}
 use Rattle.session.specs.Cuts.{Cuts, whole_item}
 use Rattle.session.specs.Items.{Remains}
-use Rattle.session.specs.Answers.{Made, Denied, last_spoken, serial_after, spoken}
+use Rattle.session.specs.Answers.{Made, Denied, serial_after}
 use Rattle.session.specs.Ledger.{ActEnds, Collected, Did, ItemEnds, Sends, Stops, World}
 use Rattle.session.specs.Standings.{stage}
-use Rattle.session.proofs.Grew.{asked_ok, asked_err, onto_none, risen_later}
+use Rattle.session.proofs.Grew.{asked_ok, asked_err, grew_none, onto_none, risen_later}
 use Rattle.session.proofs.NextCut.{whole_within}
 use Rattle.session.proofs.ServeItems.{began, broke, broke_unsaid, declined, stepped}
 
--- a request that is asked has one outcome
-pub asked_one : (v w : Seated) (request : Request) (r : Result Reply Refused) → Asks v request r w → Collected (request ∷ []) v w
-asked_one v w request (Ok reply) a = let k = asked_ok v w request reply a in (Made k.0 ∷ [], (Made k.0, [], refl, k.1, refl), k.3)
-asked_one v w request (Err why) a = (Denied request why ∷ [], (Denied request why, [], refl, refl, refl), asked_err v w request why a)
+-- a request that is asked has one outcome, and what wasn't told yet rides in its reply
+pub collected_ok : (v w : Seated) (request : Request) (reply : Reply) → Asks v request (Ok reply) w → Collected (request ∷ []) reply.signals v w
+collected_ok v w request reply a =
+    let k = asked_ok v w request reply a in
+    (Made k.0 ∷ [], (Made k.0, [], refl, k.1, refl), k.3, ap (λ (z : Reply). z.signals) (sym k.2) ∙ sym (append-nil k.0.reply.signals))
+
+pub collected_err : (v w : Seated) (request : Request) (why : Refused) → Asks v request (Err why) w → Collected (request ∷ []) [] v w
+collected_err v w request why a = (Denied request why ∷ [], (Denied request why, [], refl, refl, refl), asked_err v w request why a, refl)
+
+-- nothing is asked
+pub collected_none : (v : Seated) → Collected [] [] v v
+collected_none v = ([], refl, grew_none v, refl)
 
 -- nothing is to be written
 pub sends_all : {X : Type 0} (x : X) (o : Option (List (List ℕ))) (f : ℕ) → Sends [] (Ok x) o f o f
@@ -80,11 +86,3 @@ item_halts c s x v w item act (Over ending) means ends = absurd ends
 -- the stage is the same where its phase is
 pub stage_stays : (s : Stage) (p : Phase) → p ≡ s.phase → record { phase = p; serial = s.serial } ≡ s
 stage_stays s p e = ap (λ (z : Phase). stage z s.serial) e
-
--- a message that is there is one piece, with the next serial
-pub spoken_one : {X : Type 0} (m : Option OutMessage) (message : OutMessage) (s next : ℕ) (piece : List ℕ) (r : Result X Fed) (o p : Option (List (List ℕ))) (f g : ℕ) → m ≡ Some message → next ≡ serial_after s → piece ≡ message_bytes message next
-    → Sends (piece ∷ []) r o f p g → Sends (spoken s (option_to_list m)) r o f p g
-spoken_one m message s next piece r o p f g is e b h = rw is (subst (λ (z : List ℕ). Sends (z ∷ []) r o f p g) (b ∙ ap (message_bytes message) e) h)
-
-pub spoken_last : (m : Option OutMessage) (message : OutMessage) (s next : ℕ) (r : Result ℕ Fed) → m ≡ Some message → next ≡ serial_after s → IfOk r (λ last. last ≡ next) → IfOk r (λ last. last ≡ last_spoken s (option_to_list m))
-spoken_last m message s next r is e h = rw is (subst (λ (z : ℕ). IfOk r (λ last. last ≡ z)) e h)

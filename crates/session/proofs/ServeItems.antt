@@ -21,44 +21,17 @@ use Rattle.session.proofs.DidItems.{did_on, did_one}
 
 -- ---- what is cut in an item's place
 
-no_unbuilt_byte : (b : List ℕ) → no_item stop.Unbuilt ≡ zero_byte_cut b → ⊥
-no_unbuilt_byte [] h = absurd (cc)
-no_unbuilt_byte (x ∷ xs) h = no_unbuilt_bit (x == 0) h
-  where
-    no_unbuilt_bit : (t : Bool) → no_item stop.Unbuilt ≡ cond t (whole_item 1) (no_item (stop.Bad 12)) → ⊥
-    no_unbuilt_bit true h = absurd (cc)
-    no_unbuilt_bit false h = absurd (cc)
-
-no_unbuilt_line : (o : Option ℕ) (t : Bool) → no_item stop.Unbuilt ≡ line_cut_of o t → ⊥
-no_unbuilt_line None true h = absurd (cc)
-no_unbuilt_line None false h = absurd (cc)
-no_unbuilt_line (Some len) t h = absurd (cc)
-
-no_unbuilt_split : (s : Split) → no_item stop.Unbuilt ≡ cut_of s → ⊥
-no_unbuilt_split split.More h = absurd (cc)
-no_unbuilt_split (split.Whole len) h = absurd (cc)
-no_unbuilt_split (split.Bad rule) h = absurd (cc)
-
--- that a part isn't built is told of whole items alone
-no_unbuilt : (p : Phase) (b : List ℕ) → Cuts p b (no_item stop.Unbuilt) → ⊥
-no_unbuilt due.ZeroByte b h = no_unbuilt_byte b h
-no_unbuilt (due.Handshake a) b h = no_unbuilt_line (line_len (take 1024 b)) (nat_lt (length b) 1024) h
-no_unbuilt due.Messages b h = no_unbuilt_split h.0 h.2
-no_unbuilt due.Frames b h = no_unbuilt_split (split_of b) h
-
 -- what is cut in an item's place is what stands behind the items
 pub remains_cut : (c : Client) (p : Phase) (b : List ℕ) (what : Stop) → Cuts p b (no_item what) → Remains c p b what
 remains_cut c p b stop.More h = h
 remains_cut c p b (stop.Bad rule) h = inl h
 remains_cut c p b stop.TooLong h = h
-remains_cut c p b stop.Unbuilt h = absurd (no_unbuilt p b h)
 
 -- an item that asks nothing is what stands behind the items
 pub declined : (c : Client) (p : Phase) (b : List ℕ) (n : ℕ) (what : Stop) → Cuts p b (whole_item n) → Declines c p (take n b) what → Remains c p b what
 declined c p b n stop.More is h = absurd h
 declined c p b n (stop.Bad rule) is h = inr (n, is, h)
 declined c p b n stop.TooLong is h = absurd h
-declined c p b n stop.Unbuilt is h = (n, is, h)
 
 module _ (c : Client) (s t : Stage) (v m w : World) (bytes : List ℕ) (used n : ℕ) (did : Did c s v (take used bytes) t m) (is : Cuts t.phase (drop used bytes) (whole_item n)) where
   item : List ℕ

@@ -1,8 +1,11 @@
 -- What items are answered. A call that dispatch answers itself is answered so, whatever the portal
--- was asked; a call that asks the portal is told the reply to its entry, or the refusal.
-use Rattle.std.specs.Prelude.{◌≡◌, ℕ, ◌+◌, ◌==◌, List, [], ◌∷◌, ◌++◌, if◌then◌else◌, option_to_list}
+-- was asked; a call that asks the portal is told the reply to its entry, or the refusal. Ahead of
+-- either stand the signals of what a host wasn't told yet (XDG Desktop Portal documentation,
+-- "org.freedesktop.impl.portal.PermissionStore": Changed).
+use Rattle.std.specs.Prelude.{◌≡◌, ℕ, ◌+◌, ◌==◌, List, [], ◌∷◌, ◌++◌, map, if◌then◌else◌, option_to_list}
 use Rattle.std.specs.Prelude.{Result, Ok, Err}
 use Rattle.std.specs.List.{flat_map}
+use Rattle.portal_model.specs.declared.reply.Change.{Change}
 use Rattle.portal_model.specs.declared.reply.Refused.{Refused}
 use Rattle.portal_model.specs.declared.reply.Reply.{Reply}
 use Rattle.portal_model.specs.declared.request.Request.{Request}
@@ -11,6 +14,7 @@ use Rattle.dbus_types.specs.declared.message.Message.{Message}
 use Rattle.dbus_types.specs.declared.message.OutMessage.{OutMessage}
 use Rattle.dbus_dispatch.specs.Errors.{error_to, refusal_of}
 use Rattle.dbus_dispatch.specs.Replies.{reply_of}
+use Rattle.dbus_dispatch.specs.Signals.{signal_of}
 use Rattle.dbus_message.specs.Written.{message_bytes}
 use Rattle.session.specs.declared.act.Act.{Act}
 use Rattle.session.specs.declared.act.Act.TheVariants.{Nothing, Line, Call, Portal, Node, Local}
@@ -81,13 +85,27 @@ answer_for c call (Denied request why) = error_to call (refusal_of why)
 abbrev pub reply_for : Client → Message → Outcome → List OutMessage
 reply_for c call outcome = option_to_list (reply_to call (answer_for c call outcome))
 
--- The messages that an item is answered with, where what it asks has these outcomes. What a host
--- wasn't told yet, the signals of its replies, is nothing until the permission store is built.
+-- what the host wasn't told yet, which rides in the reply
+abbrev pub signals_in : Outcome → List Change
+signals_in (Made x) = x.reply.signals
+signals_in (Denied request why) = []
+
+-- the signals that tell it, in the order of the history
+abbrev pub signals_for : Outcome → List OutMessage
+signals_for outcome = map signal_of (signals_in outcome)
+
+-- what a call is answered: the signals, and behind them the reply
+abbrev pub told_for : Client → Message → Outcome → List OutMessage
+told_for c call outcome = signals_for outcome ++ reply_for c call outcome
+
+-- The messages that an item is answered with, where what it asks has these outcomes. The signals
+-- stand ahead of the answer; they are told also where no reply is expected.
 abbrev pub messages_of : Client → Act → List Outcome → List OutMessage
 messages_of c Nothing outcomes = []
 messages_of c (Line reply) outcomes = []
-messages_of c (Call reply collects) outcomes = option_to_list reply
-messages_of c (Portal call request) outcomes = flat_map (reply_for c call) outcomes
+messages_of c (Call reply collects) outcomes =
+    flat_map signals_for outcomes ++ option_to_list reply
+messages_of c (Portal call request) outcomes = flat_map (told_for c call) outcomes
 messages_of c (Node unique request) outcomes = []
 messages_of c (Local unique told) outcomes = []
 

@@ -24,7 +24,7 @@ use Rattle.session.specs.declared.act.Act.{Act}
 use Rattle.session.specs.declared.act.Act.TheVariants.{Nothing, Line, Call, Portal, Node, Local}
 use Rattle.session.specs.declared.act.Client.{Client}
 use Rattle.session.specs.declared.act.ItemError.{ItemError}
-use Rattle.session.specs.declared.act.ItemError.TheVariants.{Breaks, Unbuilt, Memory}
+use Rattle.session.specs.declared.act.ItemError.TheVariants.{Breaks, Memory}
 use Rattle.session.specs.declared.phase.Phase.{Phase}
 use Rattle.session.specs.declared.phase.Phase.TheVariants as due
 use Rattle.session.specs.Cuts.{line_of}
@@ -55,7 +55,6 @@ abbrev pub act_of_ask : Client → Message → Ask → Result Act ItemError
 act_of_ask c message (ask.Local answer) = Ok (Call (reply_to message answer) (is_host c.who))
 act_of_ask c message ask.Ignore = Ok Nothing
 act_of_ask c message (ask.Portal request) = Ok (Portal message request)
-act_of_ask c message ask.Unbuilt = Err Unbuilt
 
 abbrev pub act_of_message : Client → Message → Result Act ItemError
 act_of_message c message = act_of_ask c message (ask_of c.settings message)
@@ -81,8 +80,6 @@ abbrev pub MessageMeans : Client → List ℕ → Result Act ItemError → Type 
 MessageMeans c item (Ok act) =
     (message : Message) × IsMessage item message × (Ok act ≡ act_of_message c message)
 MessageMeans c item (Err (Breaks rule)) = IsFirstBroken item rule
-MessageMeans c item (Err Unbuilt) =
-    (message : Message) × IsMessage item message × (Err Unbuilt ≡ act_of_message c message)
 MessageMeans c item (Err Memory) = Unit {0}
 
 -- What is read of a whole item, where this is due.

@@ -115,9 +115,6 @@ EndsAs c (served.Malformed at rule) read a b v w = (left : List ℕ)
 -- the line at this byte is too long
 EndsAs c (served.LineTooLong at) read a b v w = (left : List ℕ) × (at + length left ≡ length read)
     × Whole c read left stop.TooLong v w × CameLast c read
--- the item at this byte asks for a part that isn't built
-EndsAs c (served.Unbuilt at) read a b v w = (left : List ℕ) × (at + length left ≡ length read)
-    × Whole c read left stop.Unbuilt v w × CameLast c read
 -- a read failed, and all that was whole by then is answered
 EndsAs c served.ReadFault read a b v w =
     HasRisen a.faults b.faults × ((left : List ℕ) × Whole c read left stop.More v w)
@@ -146,7 +143,6 @@ CountsReads served.WriteFault a b = b.faults ≡ a.faults
 CountsReads served.Spent a b = b.faults ≡ a.faults
 CountsReads (served.Full cost limit) a b = b.faults ≡ a.faults
 CountsReads served.Memory a b = b.faults ≡ a.faults
-CountsReads (served.Unbuilt at) a b = b.faults ≡ a.faults
 
 -- What was read stood ahead of what is left, and the ending means what it says of it.
 abbrev pub Serves : Client → Served → Spring → Spring → World → World → Type 0

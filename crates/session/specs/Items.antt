@@ -3,7 +3,7 @@ use Rattle.std.specs.Prelude.{◌≡◌, ◌⊎◌, ℕ, List, [], ◌∷◌, �
 use Rattle.session.specs.declared.act.Act.{Act}
 use Rattle.session.specs.declared.act.Client.{Client}
 use Rattle.session.specs.declared.act.ItemError.{ItemError}
-use Rattle.session.specs.declared.act.ItemError.TheVariants.{Breaks, Unbuilt}
+use Rattle.session.specs.declared.act.ItemError.TheVariants.{Breaks}
 use Rattle.session.specs.declared.phase.Phase.{Phase}
 use Rattle.session.specs.declared.served.Stop.{Stop}
 use Rattle.session.specs.declared.served.Stop.TheVariants as stop
@@ -34,14 +34,13 @@ abbrev pub AsksNothing : Client → Phase → List ℕ → ItemError → Type 0
 AsksNothing c p bytes error =
     (len : ℕ) × Cuts p bytes (whole_item len) × Means c p (take len bytes) (Err error)
 
--- No item stands at the front: too few bytes for one, a rule that is broken, a line that is too
--- long, or a request that isn't built.
+-- No item stands at the front: too few bytes for one, a rule that is broken, or a line that is too
+-- long.
 abbrev pub Remains : Client → Phase → List ℕ → Stop → Type 0
 Remains c p bytes stop.More = Cuts p bytes (no_item stop.More)
 Remains c p bytes (stop.Bad rule) =
     Cuts p bytes (no_item (stop.Bad rule)) ⊎ AsksNothing c p bytes (Breaks rule)
 Remains c p bytes stop.TooLong = Cuts p bytes (no_item stop.TooLong)
-Remains c p bytes stop.Unbuilt = AsksNothing c p bytes Unbuilt
 
 -- The whole items from the front of a stream with what they ask, and the rest, which is this.
 pub record Items (c : Client) (p : Phase) (stream : List ℕ) (items : List (List ℕ))

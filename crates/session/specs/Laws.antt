@@ -58,10 +58,8 @@ abbrev pub IsOver : Stop → Type 0
 IsOver stop.More = ⊥
 IsOver (stop.Bad rule) = Unit {0}
 IsOver stop.TooLong = Unit {0}
-IsOver stop.Unbuilt = Unit {0}
 
--- Items that end in a broken rule, a line that is too long, or a request that isn't built stay the
--- same whatever follows.
+-- Items that end in a broken rule or a line that is too long stay the same whatever follows.
 abbrev pub EndsStay : Type 0
 EndsStay = (c : Client) (p : Phase) (stream more : List ℕ) (items : List (List ℕ)) (acts : List Act)
     (left : List ℕ) (what : Stop) → Items c p stream items acts left what → IsOver what
@@ -150,8 +148,6 @@ OfStream c (served.Malformed at rule) stream v w =
     (left : List ℕ) × (at + length left ≡ length stream) × Whole c stream left (stop.Bad rule) v w
 OfStream c (served.LineTooLong at) stream v w =
     (left : List ℕ) × (at + length left ≡ length stream) × Whole c stream left stop.TooLong v w
-OfStream c (served.Unbuilt at) stream v w =
-    (left : List ℕ) × (at + length left ≡ length stream) × Whole c stream left stop.Unbuilt v w
 OfStream c served.ReadFault stream v w = Unit {0}
 OfStream c served.WriteFault stream v w = Unit {0}
 OfStream c served.Spent stream v w = Unit {0}

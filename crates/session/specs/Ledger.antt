@@ -1,7 +1,9 @@
 -- What is done of a stream at a desk and a sink.
 use Rattle.std.specs.Prelude.{◌≡◌, ◌⊎◌, ℕ, ◌+◌, ◌<◌, ◌≤◌, List, [], ◌∷◌, ◌++◌, length, take, drop}
 use Rattle.std.specs.Prelude.{Bool, Option, Some, None, Result, Ok, Err}
+use Rattle.std.specs.List.{flat_map}
 use Rattle.portal_base.specs.Outside.{onto, HasRisen, Short}
+use Rattle.portal_model.specs.declared.reply.Change.{Change}
 use Rattle.portal_model.specs.declared.reply.Refused.{Refused}
 use Rattle.portal_model.specs.declared.reply.Refused.TheVariants as refused
 use Rattle.portal_model.specs.declared.request.Request.{Request}
@@ -10,7 +12,7 @@ use Rattle.portal_model.specs.History.{cost, cost_of}
 use Rattle.portal_model.specs.Seated.{Exchange, Seated, Moved, rises_by}
 use Rattle.session.specs.declared.act.Act.{Act}
 use Rattle.session.specs.declared.act.Client.{Client}
-use Rattle.session.specs.declared.act.ItemError.TheVariants.{Breaks, Unbuilt}
+use Rattle.session.specs.declared.act.ItemError.TheVariants.{Breaks}
 use Rattle.session.specs.declared.phase.Phase.{Phase}
 use Rattle.session.specs.declared.serve.Run.{Run}
 use Rattle.session.specs.declared.serve.Stage.{Stage}
@@ -21,7 +23,7 @@ use Rattle.session.specs.declared.served.Stop.TheVariants as stop
 use Rattle.session.specs.Cuts.{next_phase}
 use Rattle.session.specs.Asked.{Means}
 use Rattle.session.specs.Items.{IsItem, AreItems, Remains, joined, phase_after}
-use Rattle.session.specs.Answers.{Outcome, Made, Denied, kept, denied, AreOf, Gives, Answers}
+use Rattle.session.specs.Answers.{Outcome, Made, Denied, kept, denied, signals_in, AreOf, Gives, Answers}
 
 -- ---- the desk and the sink
 
@@ -92,9 +94,10 @@ abbrev pub Sends : {X : Type 0} → List (List ℕ) → Result X Fed → Option 
 Sends pieces (Ok x) told faults told' faults' = (told' ≡ onto told pieces) × (faults' ≡ faults)
 Sends pieces (Err halt) told faults told' faults' = SendsPart pieces halt told faults told' faults'
 
--- these requests, and no others, were asked at a desk
-abbrev pub Collected : List Request → Seated → Seated → Type 0
-Collected requests v w = (outcomes : List Outcome) × AreOf requests outcomes × Grew v outcomes w
+-- these requests, and no others, were asked at a desk, and these changes ride in their replies
+abbrev pub Collected : List Request → List Change → Seated → Seated → Type 0
+Collected requests changes v w = (outcomes : List Outcome) × AreOf requests outcomes
+    × Grew v outcomes w × (changes ≡ flat_map signals_in outcomes)
 
 -- ---- one item
 
@@ -127,7 +130,6 @@ abbrev pub Declines : Client → Phase → List ℕ → Stop → Type 0
 Declines c p item stop.More = ⊥
 Declines c p item (stop.Bad rule) = Means c p item (Err (Breaks rule))
 Declines c p item stop.TooLong = ⊥
-Declines c p item stop.Unbuilt = Means c p item (Err Unbuilt)
 
 -- an item was read, and then asking and answering it ended so
 abbrev pub HaltsAt : Client → Fed → Stage → World → List ℕ → World → Type 0

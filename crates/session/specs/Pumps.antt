@@ -61,7 +61,6 @@ abbrev pub PumpsInto : Client → Served → List ℕ → World → Standing →
 PumpsInto c (served.Malformed at rule) read v s w =
     Kept c read (stop.Bad rule) v s w × (at ≡ s.before)
 PumpsInto c (served.LineTooLong at) read v s w = Kept c read stop.TooLong v s w × (at ≡ s.before)
-PumpsInto c (served.Unbuilt at) read v s w = Kept c read stop.Unbuilt v s w × (at ≡ s.before)
 PumpsInto c served.Spent read v s w = IsSpent c read v w
 PumpsInto c served.Ended read v s w = ⊥
 PumpsInto c (served.Cut n) read v s w = ⊥

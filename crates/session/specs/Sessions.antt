@@ -77,7 +77,6 @@ FeedsOver s v piece (served.Malformed at rule) t w =
     TakesUpTo (stop.Bad rule) s v piece t w × (at ≡ t.before)
 FeedsOver s v piece (served.LineTooLong at) t w =
     TakesUpTo stop.TooLong s v piece t w × (at ≡ t.before)
-FeedsOver s v piece (served.Unbuilt at) t w = TakesUpTo stop.Unbuilt s v piece t w × (at ≡ t.before)
 FeedsOver s v piece served.Spent t w =
     (longest < s.before + length s.rest + length piece) × (w ≡ v) × StaysAt s t
 FeedsOver s v piece served.Ended t w = ⊥
@@ -118,7 +117,6 @@ abbrev pub fed_of : ℕ → Stop → Fed
 fed_of at stop.More = fed.More
 fed_of at (stop.Bad rule) = fed.Over (served.Malformed at rule)
 fed_of at stop.TooLong = fed.Over (served.LineTooLong at)
-fed_of at stop.Unbuilt = fed.Over (served.Unbuilt at)
 
 -- ---- end
 

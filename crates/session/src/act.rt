@@ -69,9 +69,6 @@ pub enum ItemError {
         /// The number of the rule.
         rule: u32,
     },
-    /// It asks for a part that isn't built.
-    #[error("the item asks for a part that isn't built")]
-    Unbuilt,
     /// There was no memory to read it.
     #[error("there is no memory for the item")]
     Memory,

@@ -84,6 +84,8 @@ fn told_of(answer: Answer) -> Option<NodeAnswer>
         | Answer::Place(_)
         | Answer::Ids(_)
         | Answer::Info { .. }
-        | Answer::Listed(_) => None,
+        | Answer::Listed(_)
+        | Answer::Entry { .. }
+        | Answer::Names(_) => None,
     }
 }

@@ -101,7 +101,6 @@ fn call_act(alloc: Global, client: &Client, message: Message) -> Result<Act, Ite
             call: message,
             request,
         }),
-        Ask::Unbuilt => Err(ItemError::Unbuilt),
     }
 }
 

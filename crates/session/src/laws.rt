@@ -25,8 +25,8 @@ pub fn items_come_first()
     ensures { ItemsComeFirst }
 {}
 
-/// Items that end in a broken rule, a line that is too long or a request that
-/// isn't built stay the same whatever follows them.
+/// Items that end in a broken rule or a line that is too long stay the same
+/// whatever follows them.
 pub fn ends_stay()
     ensures { EndsStay }
 {}
@@ -40,9 +40,9 @@ pub fn pieces_cut_alike()
     ensures { AreCutAlike }
 {}
 
-/// Where the input ended, an item breaks a rule, a line is too long or a
-/// request isn't built, the connection ends as its whole stream says, also where
-/// not all its bytes were read.
+/// Where the input ended, an item breaks a rule or a line is too long, the
+/// connection ends as its whole stream says, also where not all its bytes were
+/// read.
 pub fn endings_are_the_streams()
     ensures { EndingsAreTheStreams }
 {}

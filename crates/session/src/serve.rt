@@ -3,13 +3,16 @@
 //! An error is what the client's piece comes to then: `Fed::WriteFault` or
 //! `Fed::Memory`, and no other.
 
-ghost use Rattle.std.specs.Prelude.{◌≡◌, ℕ, List, ◌≤◌, ◌∷◌, [], length, take, drop, option_to_list};
-ghost use Rattle.std.specs.Prelude.{IfOk, IfSome};
+ghost use Rattle.std.specs.Prelude.{◌≡◌, ℕ, List, ◌≤◌, ◌∷◌, [], ◌++◌, length, map, take, drop};
+ghost use Rattle.std.specs.Prelude.{IfOk, IfSome, option_to_list, true};
+ghost use Rattle.std.specs.List.{list_all};
+ghost use Rattle.dbus_dispatch.specs.Signals.{signal_of};
 ghost use Rattle.dbus_dispatch.specs.Writable.{IsWritable};
 ghost use Rattle.dbus_types.specs.declared.message.OutMessage.{OutMessage as AnOutMessage};
 ghost use Rattle.session.specs.declared.act.Client.{Client as AClient};
 ghost use Rattle.session.specs.Asked.{collect_requests, reply_to as message_to, MayAnswer};
-ghost use Rattle.session.specs.Answers.{last_spoken, serial_after, spoken};
+ghost use Rattle.portal_model.specs.Valid.{is_sound_change};
+ghost use Rattle.session.specs.Answers.{last_spoken, spoken};
 ghost use Rattle.session.specs.Cuts.{Cuts, whole_item};
 ghost use Rattle.session.specs.Ledger.{world, Sends, ActEnds, Collected, ItemEnds, Stops};
 
@@ -18,14 +21,15 @@ use crate::frame::{answer_frame, refusal_frame, told_frame};
 use crate::item::{read_item, reply_to};
 use crate::phase::{Phase, next_cut};
 use crate::served::{Fed, Stop};
+use crate::speech::spoken;
 use dbus_dispatch::refused::refused_message;
 use dbus_dispatch::reply::reply_message;
-use dbus_message::write::write_message;
 use dbus_types::message::{Message, OutMessage};
-use portal_base::list::ByteList;
+use portal_base::list::{ByteList, List};
 use portal_base::memory::WantOfMemory;
 use portal_base::outside::{Sink, WriteAnswer};
 use portal_desk::Desk;
+use portal_model::reply::Change;
 use portal_model::request::{NodeRequest, Request};
 use std::alloc::Global;
 
@@ -45,14 +49,6 @@ pub struct Run {
     pub len: usize,
     /// Why no item behind them is taken.
     pub stop: Stop,
-}
-
-/// The serial of the message behind one with this serial (D-Bus Specification,
-/// "Message Format": a serial isn't 0).
-pub fn serial_after(serial: u32) -> u32
-    ensures { result ≡ serial_after serial }
-{
-    if serial == u32::MAX { 1 } else { serial + 1 }
 }
 
 /// Writes one piece, and answers this serial.
@@ -88,63 +84,103 @@ fn send_frame<K: Sink>(
     send(sink, frame.as_slice(), serial)
 }
 
-/// Writes a message with the next serial as one piece, where there is one, and
-/// answers the last serial.
-fn send_message<K: Sink>(
+/// Writes pieces, one after another, and answers this serial.
+fn send_each<K: Sink>(sink: &mut K, pieces: &[ByteList], serial: u32) -> Result<u32, Fed>
+    ensures sends { Sends pieces.now result (K.told sink.old) (K.faults sink.old)
+        (K.told sink.new) (K.faults sink.new) }
+    ensures last { IfOk result (λ last. last ≡ serial) }
+{
+    for piece in pieces {
+        match sink.write(piece.as_slice()) {
+            WriteAnswer::Done => {}
+            WriteAnswer::Failed => return Err(Fed::WriteFault),
+        }
+    }
+    Ok(serial)
+}
+
+/// Writes the signals that tell of changes, and behind them a message where
+/// there is one, each with the next serial as one piece, and answers the last
+/// serial. Where there is no memory for all of them none is written.
+fn send_messages<K: Sink>(
     alloc: Global,
     serial: u32,
+    changes: &[Change],
     message: &Option<OutMessage>,
     sink: &mut K,
 ) -> Result<u32, Fed>
-    requires { IfSome message.now IsWritable }
-    ensures sends { Sends (spoken serial (option_to_list message.now)) result (K.told sink.old)
-        (K.faults sink.old) (K.told sink.new) (K.faults sink.new) }
-    ensures last { IfOk result (λ last. last ≡ last_spoken serial (option_to_list message.now)) }
+    requires sound { list_all is_sound_change changes.now ≡ true }
+    requires writable { IfSome message.now IsWritable }
+    ensures sends { Sends (spoken serial (map signal_of changes.now
+        ++ option_to_list message.now)) result (K.told sink.old) (K.faults sink.old)
+        (K.told sink.new) (K.faults sink.new) }
+    ensures last { IfOk result (λ last. last ≡ last_spoken serial (map signal_of changes.now
+        ++ option_to_list message.now)) }
 {
-    let Some(message) = message else {
-        return Ok(serial);
-    };
-    let next = serial_after(serial);
-    let Ok(bytes) = write_message(alloc, message, next) else {
-        return Err(Fed::Memory);
-    };
-    send(sink, bytes.as_slice(), next)
-}
-
-/// Writes the answer to a call with the next serial as one piece, where the call
-/// expects one, and answers the last serial.
-fn send_answer<K: Sink>(
-    alloc: Global,
-    serial: u32,
-    call: &Message,
-    answer: Result<OutMessage, WantOfMemory>,
-    sink: &mut K,
-) -> Result<u32, Fed>
-    requires { IfOk answer IsWritable }
-    ensures sends { (message : AnOutMessage) → IfOk answer (λ a. a ≡ message)
-        → Sends (spoken serial (option_to_list (message_to call.now message))) result
-        (K.told sink.old) (K.faults sink.old) (K.told sink.new) (K.faults sink.new) }
-    ensures last { (message : AnOutMessage) → IfOk answer (λ a. a ≡ message)
-        → IfOk result (λ last.
-        last ≡ last_spoken serial (option_to_list (message_to call.now message))) }
-{
-    match answer {
-        Ok(message) => send_message(alloc, serial, &reply_to(call, message), sink),
+    match spoken(alloc, serial, changes, message) {
+        Ok(speech) => send_each(sink, speech.pieces.as_slice(), speech.serial),
         Err(_) => Err(Fed::Memory),
     }
 }
 
-/// Asks for what the host was not told yet. A refusal leaves it untold.
-fn collect<D: Desk>(alloc: Global, collects: bool, desk: &mut D)
-    ensures asked { Collected (collect_requests collects) (D.seated desk.old) (D.seated desk.new) }
-    ensures goes { D.goes desk.old desk.new }
+/// Writes the signals that tell of changes, and behind them the answer to a
+/// call, where the call expects one, and answers the last serial.
+fn send_answer<K: Sink>(
+    alloc: Global,
+    serial: u32,
+    changes: &[Change],
+    call: &Message,
+    answer: Result<OutMessage, WantOfMemory>,
+    sink: &mut K,
+) -> Result<u32, Fed>
+    requires sound { list_all is_sound_change changes.now ≡ true }
+    requires writable { IfOk answer IsWritable }
+    ensures sends { (message : AnOutMessage) → IfOk answer (λ a. a ≡ message)
+        → Sends (spoken serial (map signal_of changes.now
+        ++ option_to_list (message_to call.now message))) result (K.told sink.old)
+        (K.faults sink.old) (K.told sink.new) (K.faults sink.new) }
+    ensures last { (message : AnOutMessage) → IfOk answer (λ a. a ≡ message)
+        → IfOk result (λ last. last ≡ last_spoken serial (map signal_of changes.now
+        ++ option_to_list (message_to call.now message))) }
 {
-    if collects {
-        let _ = desk.ask(alloc, Request::Collect);
+    match answer {
+        Ok(message) => { send_messages(alloc, serial, changes, &reply_to(call, message), sink) }
+        Err(_) => Err(Fed::Memory),
     }
 }
 
-/// Asks what a call asks, and answers the call where it expects a reply.
+/// Asks for what the host was not told yet, which is answered. A refusal leaves
+/// it untold.
+fn ask_untold<D: Desk>(alloc: Global, desk: &mut D) -> List<Change>
+    ensures asked { Collected (Request.Collect ∷ []) result (D.seated desk.old)
+        (D.seated desk.new) }
+    ensures sound { list_all is_sound_change result ≡ true }
+    ensures goes { D.goes desk.old desk.new }
+{
+    match desk.ask(alloc, Request::Collect) {
+        Ok(reply) => {
+            desk.known();
+            reply.signals
+        }
+        Err(_) => List::new(alloc),
+    }
+}
+
+/// The same, where it is to be asked.
+fn collect<D: Desk>(alloc: Global, collects: bool, desk: &mut D) -> List<Change>
+    ensures asked { Collected (collect_requests collects) result (D.seated desk.old)
+        (D.seated desk.new) }
+    ensures sound { list_all is_sound_change result ≡ true }
+    ensures goes { D.goes desk.old desk.new }
+{
+    if collects {
+        return ask_untold(alloc, desk);
+    }
+    List::new(alloc)
+}
+
+/// Asks what a call asks, tells what the host was not told yet, and answers the
+/// call where it expects a reply.
 fn serve_call<D: Desk, K: Sink>(
     alloc: Global,
     client: &Client,
@@ -164,11 +200,11 @@ fn serve_call<D: Desk, K: Sink>(
         Ok(reply) => {
             desk.known();
             let answer = reply_message(alloc, &reply.answer, call, &client.settings);
-            send_answer(alloc, serial, call, answer, sink)
+            send_answer(alloc, serial, reply.signals.as_slice(), call, answer, sink)
         }
         Err(refused) => {
             let answer = refused_message(alloc, &refused, call);
-            send_answer(alloc, serial, call, answer, sink)
+            send_answer(alloc, serial, &[], call, answer, sink)
         }
     }
 }
@@ -213,8 +249,8 @@ pub fn serve_act<D: Desk, K: Sink>(
         Act::Nothing => Ok(serial),
         Act::Line { reply } => send(sink, reply.as_slice(), serial),
         Act::Call { reply, collects } => {
-            collect(alloc, collects, desk);
-            send_message(alloc, serial, &reply, sink)
+            let changes = collect(alloc, collects, desk);
+            send_messages(alloc, serial, changes.as_slice(), &reply, sink)
         }
         Act::Portal { call, request } => {
             serve_call(alloc, client, &call, request, serial, desk, sink)
@@ -267,7 +303,6 @@ fn serve_item<D: Desk, K: Sink>(
             Err(halt) => Err(halt),
         },
         Err(ItemError::Breaks { rule }) => Ok(Some(Stop::Bad { rule })),
-        Err(ItemError::Unbuilt) => Ok(Some(Stop::Unbuilt)),
         Err(ItemError::Memory) => Err(Fed::Memory),
     }
 }

@@ -39,11 +39,6 @@ pub enum Served {
     },
     /// There was no memory.
     Memory,
-    /// An item asks for a part that isn't built. Nothing of it was asked.
-    Unbuilt {
-        /// The byte of the stream at which it begins.
-        at: u64,
-    },
 }
 
 /// What a piece came to.
@@ -51,8 +46,8 @@ pub enum Served {
 pub enum Fed {
     /// All whole items are answered; more may come.
     More,
-    /// The connection is over: it is malformed, has a line that is too long,
-    /// has too many bytes, or asks for a part that isn't built.
+    /// The connection is over: it is malformed, has a line that is too long, or
+    /// has too many bytes.
     Over(Served),
     /// A write failed.
     WriteFault,
@@ -72,6 +67,4 @@ pub enum Stop {
     },
     /// A line of the handshake that is too long.
     TooLong,
-    /// An item that asks for a part that isn't built.
-    Unbuilt,
 }

@@ -225,7 +225,6 @@ fn fed_of(at: u64, stop: Stop) -> Fed
         Stop::More => Fed::More,
         Stop::Bad { rule } => Fed::Over(Served::Malformed { at, rule }),
         Stop::TooLong => Fed::Over(Served::LineTooLong { at }),
-        Stop::Unbuilt => Fed::Over(Served::Unbuilt { at }),
     }
 }
 

@@ -6,6 +6,7 @@ use dbus_types::message::OutMessage;
 use portal_base::list::{ByteList, List};
 use portal_base::names::doc_id::DocId;
 use portal_base::text::Text;
+use portal_model::datum::Datum;
 use portal_model::records::Row;
 use portal_model::reply::{Answer, Code, ListedDocument};
 use std::alloc::Global;
@@ -24,7 +25,8 @@ pub fn told(alloc: Global, rest: &str) -> Result<String, LineError> {
 }
 
 /// `done`, `place N`, `ids TEXT ..` (`-` is the empty text),
-/// `info PATH APP=NAME+NAME ..`, `listed ID=PATH ..` or `refused CODE`.
+/// `info PATH APP=NAME+NAME ..`, `listed ID=PATH ..`, `entry APP=NAME+NAME ..`
+/// with the byte 0 as data, `names TEXT ..` or `refused CODE`.
 fn answer_of(alloc: Global, words: &str) -> Result<Answer, LineError> {
     let (kind, rest) = cut(words);
     match kind {
@@ -33,6 +35,11 @@ fn answer_of(alloc: Global, words: &str) -> Result<Answer, LineError> {
         "ids" => Ok(Answer::Ids(texts(alloc, rest)?)),
         "info" => info(alloc, rest),
         "listed" => listed(alloc, rest),
+        "entry" => Ok(Answer::Entry {
+            rows: rows(alloc, rest)?,
+            datum: Datum::zero(),
+        }),
+        "names" => Ok(Answer::Names(texts(alloc, rest)?)),
         "refused" => Ok(Answer::Refused(code(rest)?)),
         _ => Err(LineError::BadLine),
     }
@@ -51,7 +58,7 @@ fn code(word: &str) -> Result<Code, LineError> {
     }
 }
 
-fn text(alloc: Global, word: &str) -> Result<Text, LineError> {
+pub(crate) fn text(alloc: Global, word: &str) -> Result<Text, LineError> {
     match word {
         "-" => Ok(Text::new(alloc)),
         _ => Ok(Text::copied(alloc, word)?),
@@ -78,7 +85,7 @@ fn info(alloc: Global, words: &str) -> Result<Answer, LineError> {
     })
 }
 
-fn rows(alloc: Global, words: &str) -> Result<List<Row>, LineError> {
+pub(crate) fn rows(alloc: Global, words: &str) -> Result<List<Row>, LineError> {
     let mut rows = List::new(alloc);
     for word in words.split_whitespace() {
         rows.push(row(alloc, word)?)?;

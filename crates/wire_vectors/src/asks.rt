@@ -3,6 +3,7 @@
 ghost use Rattle.dbus_message.specs.Rules.{IsWhole};
 
 use crate::calls::{settings, shown_ask};
+use crate::store::shown_store;
 use dbus_dispatch::ask::request_of;
 use dbus_message::read::read_message;
 use dbus_message::split::split;
@@ -46,6 +47,7 @@ pub fn shown_request(alloc: Global, request: &Request) -> Result<String, LineErr
         Request::LookupDocument { path } => named(alloc, "LookupDocument", path.as_slice()),
         Request::Info { doc } => named(alloc, "Info", doc.as_slice()),
         Request::ListDocuments { app } => named(alloc, "ListDocuments", app.as_slice()),
+        Request::Store(call) => shown_store(alloc, call),
         _ => Ok(String::from_str(alloc, "another request")?),
     }
 }
@@ -75,7 +77,7 @@ fn shown_add(alloc: Global, add: &AddRequest) -> Result<String, LineError> {
     Ok(format!(in alloc; "{files}, {rest}")?)
 }
 
-fn shown_texts(alloc: Global, texts: &List<Text>) -> Result<String, LineError> {
+pub(crate) fn shown_texts(alloc: Global, texts: &List<Text>) -> Result<String, LineError> {
     let mut out = String::new(alloc);
     for text in texts.as_slice() {
         if !out.is_empty() {

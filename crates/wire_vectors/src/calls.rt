@@ -8,6 +8,7 @@ use dbus_message::write::write_message;
 use dbus_types::message::{Message, OutMessage};
 use dbus_types::signature::read_signature;
 use dbus_types::types::{Endian, Value, WireType};
+use portal_base::boxed::Boxed;
 use portal_base::limits::{Limits, Settings};
 use portal_base::list::List;
 use portal_base::names::host_path::HostPath;
@@ -173,7 +174,8 @@ fn values_of(alloc: Global, signature: &Text, words: &str) -> Result<List<Value>
     blanks(alloc, kinds.as_slice())
 }
 
-/// For each type its first value: an empty text or array, 0 or false.
+/// For each type its first value: an empty text or array, 0 or false, and in a
+/// variant the byte 0.
 fn blanks(alloc: Global, kinds: &[WireType]) -> Result<List<Value>, LineError> {
     let mut values = List::new(alloc);
     for kind in kinds {
@@ -188,6 +190,7 @@ fn blank(alloc: Global, kind: &WireType) -> Result<Value, LineError> {
         WireType::U32 => Ok(Value::U32(0)),
         WireType::Handle => Ok(Value::Handle(0)),
         WireType::Str => Ok(Value::Str(Text::new(alloc))),
+        WireType::Variant => Ok(Value::Variant(Boxed::new(alloc, Value::Byte(0))?)),
         WireType::Array(element) => Ok(Value::Array {
             element: element.share()?,
             items: List::new(alloc),
@@ -201,7 +204,6 @@ pub(crate) fn shown_ask(alloc: Global, ask: &Ask) -> Result<String, LineError> {
         Ask::Local(message) => shown_message(alloc, message),
         Ask::Ignore => Ok(String::from_str(alloc, "ignored")?),
         Ask::Portal(request) => asks::shown_request(alloc, request),
-        Ask::Unbuilt => Ok(String::from_str(alloc, "not built")?),
     }
 }
 

@@ -11,6 +11,7 @@ mod asks;
 mod calls;
 mod frames;
 mod handshake;
+mod store;
 
 use std::alloc::Global;
 use std::io;
@@ -38,6 +39,7 @@ fn answer_of_kind(alloc: Global, line: &str) -> Result<String, LineError> {
         "asks" => asks::asks(alloc, rest),
         "told" => answers::told(alloc, rest),
         "long" => answers::long(alloc, rest),
+        "signal" => store::signal(alloc, rest),
         "ping" => calls::ping(alloc, rest),
         "error" => calls::error(alloc, rest),
         "refused" => calls::refused(alloc, rest),

@@ -1,4 +1,4 @@
-use Rattle.app_world.proofs.KindLaws.{additions, collects, deletions, enters, grants, informations, leaves, listings, lookups, node_requests, presentations, revocations}
+use Rattle.app_world.proofs.KindLaws.{additions, collects, deletions, enters, grants, informations, leaves, listings, lookups, node_requests, presentations, revocations, store_calls}
 use Rattle.app_world.proofs.laws.each_kind_is_seen.Goals as goal
 
 pub returns : goal.returns
@@ -14,5 +14,6 @@ returns c = record {
   lookups = lookups;
   informations = informations;
   listings = listings;
+  store_calls = store_calls;
   node_requests = node_requests;
 }

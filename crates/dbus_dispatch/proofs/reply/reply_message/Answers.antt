@@ -7,4 +7,5 @@ use Rattle.dbus_dispatch.proofs.reply.reply_message.Goals as goal
 pub returns-clause-writable : goal.returns-clause-writable
 returns-clause-writable c =
     reply_writes c.args.settings.now.mountpoint c.args.call.now c.as_bytes-mountpoint.ensures.rule c.fits.ensures c.reply_of.result c.args.answer.now
-    (subst (λ (path : List ℕ). IfOk c.reply_of.result (λ reply. reply ≡ reply_of path c.args.call.now c.args.answer.now)) c.as_bytes-mountpoint.ensures.bytes c.reply_of.ensures)
+    (subst (λ (path : List ℕ). IfOk c.reply_of.result (λ reply. reply ≡ reply_of path c.args.call.now c.args.answer.now)) c.as_bytes-mountpoint.ensures.bytes c.reply_of.ensures.told)
+    c.reply_of.ensures.utf8

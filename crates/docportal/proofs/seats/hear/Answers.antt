@@ -3,7 +3,7 @@ use Rattle.portal_base.specs.Devices.{SinkState}
 use Rattle.session.specs.declared.served.Fed.{Fed}
 use Rattle.session.specs.Sessions.{Feeds}
 use Rattle.docportal.specs.Seats.{known_at, sunk}
-use Rattle.docportal.proofs.Hear.{heard_last, heard_more, unheard_last, wants_request, wants_room}
+use Rattle.docportal.proofs.Hear.{heard_last, heard_more, wants_request, wants_room}
 use Rattle.docportal.proofs.RoomToHear.{unfilled_at}
 use Rattle.docportal.proofs.seats.hear.Goals as goal
 
@@ -84,14 +84,6 @@ pub returns-in-Over-clause-ok : goal.returns-in-Over-clause-ok
 returns-in-Over-clause-ok c =
     let e = c.feed-fed.ensures in
     heard_last c.args.portal.now c.feed-fed.new.portal c.args.seat c.feed-fed.result.refusals c.args.session.now c.feed-fed.new.session c.args.bytes.now c.new-written.result c.feed-fed.new.written
-    (ap (λ (z : SinkState). z.pieces) c.new-written.ensures) e.opening e.own e.legal (omega arith) c.requires.told c.requires.goes_on c.in-Over.served
-    (subst (λ (r : Fed). Feeds c.args.session.now.fed c.args.session.now (sunk (known_at c.args.portal.now c.args.seat 0) c.new-written.result) c.args.bytes.now r c.feed-fed.new.session (sunk (known_at c.feed-fed.new.portal c.args.seat c.feed-fed.result.refusals) c.feed-fed.new.written)) c.in-Over.is c.feed-fed.ensures.feeds)
-    c.heard_last.result c.heard_last.ensures.ok
-
-pub returns-in-Over-clause-err : goal.returns-in-Over-clause-err
-returns-in-Over-clause-err c =
-    let e = c.feed-fed.ensures in
-    unheard_last c.args.portal.now c.feed-fed.new.portal c.args.seat c.feed-fed.result.refusals c.args.session.now c.feed-fed.new.session c.args.bytes.now c.new-written.result c.feed-fed.new.written
     (ap (λ (z : SinkState). z.pieces) c.new-written.ensures) e.opening e.own e.legal (omega arith) c.requires.told c.requires.goes_on c.in-Over.served c.requires.space
     (subst (λ (r : Fed). Feeds c.args.session.now.fed c.args.session.now (sunk (known_at c.args.portal.now c.args.seat 0) c.new-written.result) c.args.bytes.now r c.feed-fed.new.session (sunk (known_at c.feed-fed.new.portal c.args.seat c.feed-fed.result.refusals) c.feed-fed.new.written)) c.in-Over.is c.feed-fed.ensures.feeds)
-    c.heard_last.result c.heard_last.ensures.err
+    c.heard_last.result c.heard_last.ensures.written c.heard_last.ensures.over

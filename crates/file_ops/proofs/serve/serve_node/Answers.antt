@@ -47,3 +47,7 @@ returns-in-Read-clause-ok g c = c.read.ensures.ok c.in-Read.is c.args.book.now
 pub returns-in-Read-clause-err : goal.returns-in-Read-clause-err
 returns-in-Read-clause-err g c =
     on_err_weaker c.read.result (λ called. record { handles = λ s h. h; calls = (called.0, called.2) }) c.read.ensures.err
+
+pub returns-in-Access-clause-ok : goal.returns-in-Access-clause-ok
+returns-in-Access-clause-ok g c =
+    IfOk-weaker c.access.result _ _ (λ done h. tells-does c.args.book.now c.args.call.now c.args.handles.now (g.T.HostTree.is c.args.tree.now) done (g.T.HostTree.is c.access.new.tree) (subst IsExact (sym c.in-Access.is) tt) h) (c.access.ensures.ok c.in-Access.is)

@@ -3,7 +3,7 @@ use Rattle.std.specs.List.{position, slice_get}
 use Rattle.std.proofs.lemmas.Option.{slice_get-get_or}
 use Rattle.portal_model.specs.Store.{is_entry_of}
 use Rattle.portal_model.specs.declared.store.StoredEntry.{StoredEntry}
-use Rattle.permission_table.specs.Tables.{is_same_entry}
+use Rattle.portal_model.specs.Valid.{same_entry}
 use Rattle.permission_table.proofs.KeptEntries.{not-found, not-there, found-at, removed-at, place-within, of-one}
 use Rattle.permission_table.proofs.entries.take_entry.Goals as goal
 
@@ -33,4 +33,4 @@ returns-clause-rest c =
     let test = is_entry_of c.args.table.now c.args.id.now in
     let items = c.args.entries.now.items in
     let at : position test items ≡ Some c.in_ok-at.at = ap (λ (es : List StoredEntry). position test es) (sym c.deref.ensures.value) ∙ (sym c.place_of.ensures ∙ c.in_ok-at.was) in
-    c.remove.ensures.items ∙ removed-at test is_same_entry (of-one c.args.table.now c.args.id.now) items c.in_ok-at.at c.requires.differ at
+    c.remove.ensures.items ∙ removed-at test same_entry (of-one c.args.table.now c.args.id.now) items c.in_ok-at.at c.requires.differ at

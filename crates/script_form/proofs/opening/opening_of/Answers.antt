@@ -1,4 +1,4 @@
-use Rattle.script_form.proofs.SoundFacts.{valid_result}
+use Rattle.script_form.proofs.OpeningFacts.{valid_result}
 use Rattle.script_form.proofs.opening.opening_of.Goals as goal
 
 pub returns-clause-valid : goal.returns-clause-valid

@@ -1,7 +1,8 @@
-use Rattle.portal_model.specs.declared.request.Request.{Request}
-use Rattle.session.proofs.ServeItem.{asked_one}
+use Rattle.session.proofs.ServeItem.{collected_none}
 use Rattle.session.proofs.serve.collect.Goals as goal
 
 pub returns-then-collects-clause-asked : goal.returns-then-collects-clause-asked
-returns-then-collects-clause-asked g c =
-    rw c.if-collects.true (asked_one (g.D.Desk.seated c.args.desk.now) (g.D.Desk.seated c.ask.new.self) Request.Collect c.ask.result c.ask.ensures.asks)
+returns-then-collects-clause-asked g c = rw c.if-collects.true c.ask_untold.ensures.asked
+
+pub returns-clause-asked : goal.returns-clause-asked
+returns-clause-asked g c = rw c.if-collects.false (collected_none (g.D.Desk.seated c.args.desk.now))

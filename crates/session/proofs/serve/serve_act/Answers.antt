@@ -1,11 +1,16 @@
-use Rattle.std.proofs.Common.{ℕ, List, [], ◌∷◌, Ok, ap, refl}
+use Rattle.std.proofs.Common.{◌≡◌, ℕ, List, [], ◌∷◌, ◌++◌, map, Ok, IfOk, ap, refl, ◌∙◌, subst}
 use Rattle.std.specs.Prelude.{option_to_list}
+use Rattle.std.specs.List.{flat_map}
+use Rattle.portal_model.specs.declared.reply.Change.{Change}
+use Rattle.dbus_types.specs.declared.message.OutMessage.{OutMessage}
+use Rattle.dbus_dispatch.specs.Signals.{signal_of}
 use Rattle.session.specs.declared.act.Act.TheVariants.{Nothing, Line, Call, Local}
-use Rattle.session.specs.Answers.{spoken}
+use Rattle.session.specs.Answers.{last_spoken, signals_for, spoken}
 use Rattle.session.specs.Frames.{frames_of}
 use Rattle.session.proofs.Grew.{grew_none}
 use Rattle.session.proofs.DidItems.{act_ends}
 use Rattle.session.proofs.ServeItem.{sends_all}
+use Rattle.session.proofs.Speech.{signals_each}
 use Rattle.session.proofs.serve.serve_act.Goals as goal
 
 pub returns-in-Nothing-clause-ends : goal.returns-in-Nothing-clause-ends
@@ -20,9 +25,13 @@ pub returns-in-Call-clause-ends : goal.returns-in-Call-clause-ends
 returns-in-Call-clause-ends g c =
     let n = c.args.serial in
     let reply = c.in-Call.reply in
-    let k = c.collect.ensures.asked in
-    let f = c.send_message in
-    rw c.in-Call.is (act_ends c.args.client.now (Call reply c.in-Call.collects) n k.0 _ _ k.2 _ _ _ _ f.result (spoken n (option_to_list reply)) k.1 refl f.ensures.sends f.ensures.last)
+    let k = c.collect-changes.ensures.asked in
+    let f = c.send_messages in
+    let changes : List Change = c.as_slice-in-Call.result.now in
+    let told : map signal_of changes ≡ flat_map signals_for k.0 = ap (map signal_of) (c.as_slice-in-Call.ensures ∙ k.3) ∙ signals_each k.0 in
+    let messages : map signal_of changes ++ option_to_list reply ≡ flat_map signals_for k.0 ++ option_to_list reply = ap (λ (z : List OutMessage). z ++ option_to_list reply) told in
+    let last = subst (λ (z : List OutMessage). IfOk f.result (λ l. l ≡ last_spoken n z)) messages f.ensures.last in
+    rw c.in-Call.is (act_ends c.args.client.now (Call reply c.in-Call.collects) n k.0 _ _ k.2 _ _ _ _ f.result (spoken n (map signal_of changes ++ option_to_list reply)) k.1 (ap (spoken n) messages) f.ensures.sends last)
 
 pub returns-in-Node-clause-ends : goal.returns-in-Node-clause-ends
 returns-in-Node-clause-ends g c = rw c.in-Node.is (c.serve_node.ensures.ends c.args.client.now)

@@ -2,7 +2,7 @@ use Rattle.std.proofs.Common.{◌≡◌, ◌∙◌, ap, sym, subst, Some}
 use Rattle.portal_model.specs.Store.{Entries, entry_of}
 use Rattle.permission_table.specs.Tables.{IsHeld}
 use Rattle.permission_table.proofs.KeptEntries.{held-found}
-use Rattle.permission_table.proofs.Shorter.{fewer-held}
+use Rattle.permission_table.proofs.SoundEntries.{fewer-held}
 use Rattle.permission_table.proofs.tables.Tables.delete_permission.Goals as goal
 
 pub put-requires : goal.put-requires

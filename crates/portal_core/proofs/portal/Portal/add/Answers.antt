@@ -1,5 +1,4 @@
 use Rattle.std.proofs.Common.{◌≡◌, ◌≤◌, ◌+◌, ◌∷◌, ◌++◌, [], length, None, ap, arith, refl, rules, sym, ◌∙◌}
-use Rattle.portal_model.specs.declared.reply.Reply.{Reply}
 use Rattle.portal_model.specs.declared.request.Request.TheVariants as Request
 use Rattle.portal_model.specs.Bus.{is_tree}
 use Rattle.portal_model.specs.History.{cost, cost_of, run}
@@ -13,7 +12,9 @@ use Rattle.portal_core.specs.TreeCalls.{entry_calls}
 use Rattle.portal_core.proofs.BusCalls.{add-calls, bus-moment, listed}
 use Rattle.portal_core.proofs.NodeSteps.{alike-same}
 use Rattle.portal_core.proofs.AskedCalls.{asked-keeps, was-asked-keeps}
-use Rattle.portal_core.proofs.CallSteps.{comes_added, entry_with, failed_device, keeping_over, keeping_run, keeps_run, stands_over, stands_served, stays_told}
+use Rattle.portal_core.proofs.CallSteps.{comes_added, entry_with, failed_device, keeping_over, keeping_run, keeps_run, stands_over, stands_served, stays_told, stored_over, stored_served}
+use Rattle.portal_core.proofs.Boxes.{taken-empty}
+use Rattle.portal_core.proofs.Steps.{signals-now, stored_back}
 use Rattle.portal_core.proofs.WentDevices.{spends-add, went-add}
 use Rattle.portal_core.proofs.portal.Portal.add.Goals as goal
 
@@ -26,19 +27,25 @@ invariant_of-self-in-Ok g c =
     let after = g.T.HostTree.is served.tree in
     let given = c.in-Ok.field-0.given in
     let answer = c.in-Ok.field-0.answer in
-    let came = comes_added began k.opening k.history.entries k.history.limit k.documents k.rights k.applications k.connections k.handles tree.told c.self.invariant.0 served.documents served.rights served.applications served.connections c.args.seat (Request.Add c.args.add) given answer (g.K.Keeper.is k.keeper) (g.K.Keeper.is served.keeper) c.args.add refl tree.told refl c.self.invariant.2 c.in-Ok.ensures.ok in
+    let sent = signals-now began k.opening k.history.entries k.history.limit k.documents k.rights k.applications k.connections k.handles tree.told c.self.invariant.0 c.args.seat k.tables k.outboxes c.in_ok-signals.signals c.self.invariant.3 c.in_ok-signals.ensures.signals in
+    let came = comes_added began k.opening k.history.entries k.history.limit k.documents k.rights k.applications k.connections k.handles tree.told c.self.invariant.0 served.documents served.rights served.applications served.connections c.args.seat (Request.Add c.args.add) given c.in_ok-signals.signals answer (g.K.Keeper.is k.keeper) (g.K.Keeper.is served.keeper) c.args.add refl tree.told refl sent c.self.invariant.2 c.in-Ok.ensures.ok in
     let room = rw (c.as_slice.ensures) at c.in_ok-reserve.ensures.ok in
     let count = c.serve_add-served.ensures.count in
     let fits : cost k.history.entries + cost_of (Request.Add c.args.add) ≤ k.opening.limits.history = rw (← c.self.view_is) at c.requires in
-    let stands = stands_served began k.opening k.history.entries k.history.limit k.documents k.rights k.applications k.connections k.handles tree.told c.self.invariant.0 served.documents served.rights served.applications served.connections c.args.seat (Request.Add c.args.add) given answer (g.K.Keeper.is k.keeper) (g.K.Keeper.is served.keeper) refl came c.serve_add-served.ensures.limits fits in
+    let stands = stands_served began k.opening k.history.entries k.history.limit k.documents k.rights k.applications k.connections k.handles tree.told c.self.invariant.0 served.documents served.rights served.applications served.connections c.args.seat (Request.Add c.args.add) given c.in_ok-signals.signals answer (g.K.Keeper.is k.keeper) (g.K.Keeper.is served.keeper) refl c.serve_add-served.ensures.queues came c.serve_add-served.ensures.limits fits in
     let kept = asked-keeps (length given.looks) (is_tree given.fault) tree after c.in-Ok.ensures.asked in
-    let keeps = keeps_run began k.opening k.history.entries k.history.limit k.documents k.rights k.applications k.connections k.handles tree.told c.self.invariant.0 served.documents served.rights served.applications served.connections c.args.seat (Request.Add c.args.add) given answer (g.K.Keeper.is k.keeper) (g.K.Keeper.is served.keeper) came in
+    let keeps = keeps_run began k.opening k.history.entries k.history.limit k.documents k.rights k.applications k.connections k.handles tree.told c.self.invariant.0 served.documents served.rights served.applications served.connections c.args.seat (Request.Add c.args.add) given c.in_ok-signals.signals answer (g.K.Keeper.is k.keeper) (g.K.Keeper.is served.keeper) came in
     let both = stands_over began after.began k.opening (k.history.entries ++ entry_with c.args.seat (Request.Add c.args.add) given ∷ []) k.history.limit served.documents served.rights served.applications served.connections k.handles tree.told after.told (g.K.Keeper.is served.keeper).told kept.0 kept.1 stands keeps in
+    let stored = stored_served began k.opening k.history.entries k.history.limit k.documents k.rights k.applications k.connections k.handles tree.told c.self.invariant.0 served.documents served.rights served.applications served.connections c.args.seat (Request.Add c.args.add) given c.in_ok-signals.signals answer (g.K.Keeper.is k.keeper) (g.K.Keeper.is served.keeper) k.tables k.outboxes c.take-signals.new.self came c.take-signals.ensures.rest c.self.invariant.3 in
     rw (c.push.ensures, c.in_ok-reserve.ensures.entries, c.in_ok-reserve.ensures.limit) (
       both.0,
       omega (arith, room, count),
       both.1,
+      stored_over began after.began k.opening (k.history.entries ++ entry_with c.args.seat (Request.Add c.args.add) given ∷ []) k.tables c.take-signals.new.self kept.0 stored,
     )
+
+pub give_back-requires : goal.give_back-requires
+give_back-requires g c = taken-empty c.args.seat c.self.inside.outboxes c.take-signals.new.self c.take-signals.new.self c.take-signals.ensures.rest (λ s. refl)
 
 pub invariant_of-self-in-Err : goal.invariant_of-self-in-Err
 invariant_of-self-in-Err g c =
@@ -54,6 +61,9 @@ invariant_of-self-in-Err g c =
       both.0,
       omega (arith, room),
       both.1,
+      stored_over tree.began after.began k.opening k.history.entries k.tables c.give_back.new.self kept.0
+          (stored_back tree.began k.opening k.history.entries k.history.limit k.documents k.rights k.applications k.connections k.handles tree.told c.self.invariant.0 c.args.seat k.tables k.outboxes c.take-signals.new.self c.take-signals.new.self c.give_back.new.self c.in_ok-signals.signals
+          c.take-signals.ensures.rest (λ s. refl) c.in_ok-signals.ensures.signals c.give_back.ensures c.self.invariant.3),
     )
 
 pub returns-in-Ok-clause-began : goal.returns-in-Ok-clause-began
@@ -75,13 +85,14 @@ returns-in-Ok-clause-ok g c =
     let after = g.T.HostTree.is served.tree in
     let given = c.in-Ok.field-0.given in
     let answer = c.in-Ok.field-0.answer in
-    let came = comes_added began k.opening k.history.entries k.history.limit k.documents k.rights k.applications k.connections k.handles tree.told c.self.invariant.0 served.documents served.rights served.applications served.connections c.args.seat (Request.Add c.args.add) given answer (g.K.Keeper.is k.keeper) (g.K.Keeper.is served.keeper) c.args.add refl tree.told refl c.self.invariant.2 c.in-Ok.ensures.ok in
+    let sent = signals-now began k.opening k.history.entries k.history.limit k.documents k.rights k.applications k.connections k.handles tree.told c.self.invariant.0 c.args.seat k.tables k.outboxes c.in_ok-signals.signals c.self.invariant.3 c.in_ok-signals.ensures.signals in
+    let came = comes_added began k.opening k.history.entries k.history.limit k.documents k.rights k.applications k.connections k.handles tree.told c.self.invariant.0 served.documents served.rights served.applications served.connections c.args.seat (Request.Add c.args.add) given c.in_ok-signals.signals answer (g.K.Keeper.is k.keeper) (g.K.Keeper.is served.keeper) c.args.add refl tree.told refl sent c.self.invariant.2 c.in-Ok.ensures.ok in
     let entry = entry_with c.args.seat (Request.Add c.args.add) given in
     let kept = asked-keeps (length given.looks) (is_tree given.fault) tree after c.in-Ok.ensures.asked in
     let lawful : Lawful (state_now c.args.self.now.story) entry = rw (← c.self.view_is) came.lawful in
-    let replied : reply_with [] answer ≡ reply_at (state_now c.args.self.now.story) entry = rw (← c.self.view_is) came.reply_is in
+    let replied : reply_with c.in_ok-signals.signals answer ≡ reply_at (state_now c.args.self.now.story) entry = rw (← c.self.view_is) came.reply_is in
     let keeping : Keeping (state_now c.args.self.now.story) entry (run (opened_over after.began k.opening) (k.history.entries ++ entry ∷ [])) (g.K.Keeper.is c.args.self.now.keeper) (g.K.Keeper.is served.keeper) =
-    rw (← c.self.view_is) (keeping_over began after.began k.opening (k.history.entries ++ entry ∷ []) (run (opened_over began k.opening) k.history.entries) entry (g.K.Keeper.is k.keeper) (g.K.Keeper.is served.keeper) kept.0 (keeping_run began k.opening k.history.entries k.history.limit k.documents k.rights k.applications k.connections k.handles tree.told c.self.invariant.0 served.documents served.rights served.applications served.connections c.args.seat (Request.Add c.args.add) given answer (g.K.Keeper.is k.keeper) (g.K.Keeper.is served.keeper) came)) in
+    rw (← c.self.view_is) (keeping_over began after.began k.opening (k.history.entries ++ entry ∷ []) (run (opened_over began k.opening) k.history.entries) entry (g.K.Keeper.is k.keeper) (g.K.Keeper.is served.keeper) kept.0 (keeping_run began k.opening k.history.entries k.history.limit k.documents k.rights k.applications k.connections k.handles tree.told c.self.invariant.0 served.documents served.rights served.applications served.connections c.args.seat (Request.Add c.args.add) given c.in_ok-signals.signals answer (g.K.Keeper.is k.keeper) (g.K.Keeper.is served.keeper) came)) in
     let at = run (opened_over began k.opening) k.history.entries in
     let moment : given.now ≡ None = bus-moment at (Request.Add c.args.add) given (bus_of (connection_of at.connections c.args.seat)) came.lawful.given in
     let called : entry_calls (state_now c.args.self.now.story) entry ≡ listed (length given.looks) (is_tree given.fault) =
@@ -92,7 +103,7 @@ returns-in-Ok-clause-ok g c =
       seat_is = refl;
       request_is = refl;
       lawful = lawful;
-      reply_is = alike-same _ (Request.Add c.args.add) _ _ refl (c.silent_reply.ensures ∙ replied);
+      reply_is = alike-same _ (Request.Add c.args.add) _ _ refl replied;
       went = went-add _ _ _ _ _ _ _ (rw (← c.self.view_is) kept.0) (search rules) (search rules) refl refl called (rw (← c.self.view_is) c.in-Ok.ensures.asked) (rw (c.push.ensures, c.in_ok-reserve.ensures.entries) keeping) moment (search rules) (rw (← c.self.view_is) c.in-Ok.ensures.drew);
     }
 
@@ -105,8 +116,9 @@ returns-in-Ok-clause-fault g c =
     let after = g.T.HostTree.is served.tree in
     let given = c.in-Ok.field-0.given in
     let answer = c.in-Ok.field-0.answer in
-    let came = comes_added began k.opening k.history.entries k.history.limit k.documents k.rights k.applications k.connections k.handles tree.told c.self.invariant.0 served.documents served.rights served.applications served.connections c.args.seat (Request.Add c.args.add) given answer (g.K.Keeper.is k.keeper) (g.K.Keeper.is served.keeper) c.args.add refl tree.told refl c.self.invariant.2 c.in-Ok.ensures.ok in
-    λ h. absurd (came.settles.no_errno (sym (ap (λ (r : Reply). r.answer) c.silent_reply.ensures) ∙ h))
+    let sent = signals-now began k.opening k.history.entries k.history.limit k.documents k.rights k.applications k.connections k.handles tree.told c.self.invariant.0 c.args.seat k.tables k.outboxes c.in_ok-signals.signals c.self.invariant.3 c.in_ok-signals.ensures.signals in
+    let came = comes_added began k.opening k.history.entries k.history.limit k.documents k.rights k.applications k.connections k.handles tree.told c.self.invariant.0 served.documents served.rights served.applications served.connections c.args.seat (Request.Add c.args.add) given c.in_ok-signals.signals answer (g.K.Keeper.is k.keeper) (g.K.Keeper.is served.keeper) c.args.add refl tree.told refl sent c.self.invariant.2 c.in-Ok.ensures.ok in
+    λ h. absurd (came.settles.no_errno h)
 
 pub returns-in-Ok-clause-failure : goal.returns-in-Ok-clause-failure
 returns-in-Ok-clause-failure g c =
@@ -117,8 +129,9 @@ returns-in-Ok-clause-failure g c =
     let after = g.T.HostTree.is served.tree in
     let given = c.in-Ok.field-0.given in
     let answer = c.in-Ok.field-0.answer in
-    let came = comes_added began k.opening k.history.entries k.history.limit k.documents k.rights k.applications k.connections k.handles tree.told c.self.invariant.0 served.documents served.rights served.applications served.connections c.args.seat (Request.Add c.args.add) given answer (g.K.Keeper.is k.keeper) (g.K.Keeper.is served.keeper) c.args.add refl tree.told refl c.self.invariant.2 c.in-Ok.ensures.ok in
-    λ h. rw (← c.self.view_is) (failed_device tree after (length given.looks) given.fault _ answer (g.K.Keeper.is k.keeper) (g.K.Keeper.is served.keeper) c.in-Ok.ensures.asked came.settles (sym (ap (λ (r : Reply). r.answer) c.silent_reply.ensures) ∙ h))
+    let sent = signals-now began k.opening k.history.entries k.history.limit k.documents k.rights k.applications k.connections k.handles tree.told c.self.invariant.0 c.args.seat k.tables k.outboxes c.in_ok-signals.signals c.self.invariant.3 c.in_ok-signals.ensures.signals in
+    let came = comes_added began k.opening k.history.entries k.history.limit k.documents k.rights k.applications k.connections k.handles tree.told c.self.invariant.0 served.documents served.rights served.applications served.connections c.args.seat (Request.Add c.args.add) given c.in_ok-signals.signals answer (g.K.Keeper.is k.keeper) (g.K.Keeper.is served.keeper) c.args.add refl tree.told refl sent c.self.invariant.2 c.in-Ok.ensures.ok in
+    λ h. rw (← c.self.view_is) (failed_device tree after (length given.looks) given.fault _ answer (g.K.Keeper.is k.keeper) (g.K.Keeper.is served.keeper) c.in-Ok.ensures.asked came.settles h)
 
 pub returns-in-Err-clause-err : goal.returns-in-Err-clause-err
 returns-in-Err-clause-err g c =

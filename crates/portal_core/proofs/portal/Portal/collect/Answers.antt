@@ -5,7 +5,7 @@ use Rattle.portal_model.specs.State.{connection_of}
 use Rattle.portal_model.specs.Step.{bus_of, reply_at, reply_with}
 use Rattle.portal_core.specs.Served.{collect_answer, entry_of}
 use Rattle.portal_core.specs.Story.{state_now}
-use Rattle.portal_core.proofs.Steps.{collect_answered, keeps-collected, stands_collected}
+use Rattle.portal_core.proofs.Steps.{collect_answered, keeps-collected, stands_collected, stored_collected}
 use Rattle.portal_core.proofs.NodeSteps.{alike-same}
 use Rattle.portal_core.proofs.WentDevices.{went-plain}
 use Rattle.portal_core.proofs.portal.Portal.collect.Goals as goal
@@ -18,12 +18,13 @@ invariant_of-self-2 g c =
           c.args.seat (rw (← c.self.view_is) at c.requires),
       omega (arith, room),
       keeps-collected (g.T.HostTree.is c.self.inside.tree).began c.self.inside.opening c.self.inside.history.entries c.self.inside.history.limit c.self.inside.documents c.self.inside.rights c.self.inside.applications c.self.inside.connections c.self.inside.handles (g.T.HostTree.is c.self.inside.tree).told c.self.invariant.0 c.args.seat (g.K.Keeper.is c.self.inside.keeper).told c.self.invariant.2,
+      stored_collected (g.T.HostTree.is c.self.inside.tree).began c.self.inside.opening c.self.inside.history.entries c.self.inside.history.limit c.self.inside.documents c.self.inside.rights c.self.inside.applications c.self.inside.connections c.self.inside.handles (g.T.HostTree.is c.self.inside.tree).told c.self.invariant.0 c.args.seat c.self.inside.tables c.self.inside.outboxes c.take-signals.new.self c.take-signals.ensures.rest c.self.invariant.3,
     )
 
 pub returns-clause-ok : goal.returns-clause-ok
 returns-clause-ok g c =
-    let replied : reply_with [] (collect_answer (bus_of (connection_of c.self.inside.connections c.args.seat))) ≡ reply_at (state_now c.args.self.now.story) (entry_of c.args.seat Request.Collect [] Fault.None) =
-    rw (← c.self.view_is) (collect_answered (g.T.HostTree.is c.self.inside.tree).began c.self.inside.opening c.self.inside.history.entries c.self.inside.history.limit c.self.inside.documents c.self.inside.rights c.self.inside.applications c.self.inside.connections c.self.inside.handles (g.T.HostTree.is c.self.inside.tree).told c.self.invariant.0 c.args.seat) in
+    let replied : reply_with c.in_ok-signals.signals (collect_answer (bus_of (connection_of c.self.inside.connections c.args.seat))) ≡ reply_at (state_now c.args.self.now.story) (entry_of c.args.seat Request.Collect [] Fault.None) =
+    rw (← c.self.view_is) (collect_answered (g.T.HostTree.is c.self.inside.tree).began c.self.inside.opening c.self.inside.history.entries c.self.inside.history.limit c.self.inside.documents c.self.inside.rights c.self.inside.applications c.self.inside.connections c.self.inside.handles (g.T.HostTree.is c.self.inside.tree).told c.self.invariant.0 c.args.seat c.self.inside.tables c.self.inside.outboxes c.in_ok-signals.signals c.self.invariant.3 c.in_ok-signals.ensures.signals) in
     let answered : c.collect_answer-answer.result ≡ collect_answer (bus_of (connection_of c.self.inside.connections c.args.seat)) =
     rw (c.collect_answer-answer.ensures, c.bus_of.ensures, c.as_slice.ensures) refl in
     record {
@@ -33,5 +34,5 @@ returns-clause-ok g c =
       request_is = search rules;
       lawful = search rules;
       went = went-plain _ _ _ _ _ _ _ (search rules) (search rules) (search rules) (search rules) (search rules) (search rules) (search rules) (search rules) (search rules) (search rules) (search rules) (search rules);
-      reply_is = alike-same _ _ _ _ refl (c.silent_reply.ensures ∙ ap (reply_with []) answered ∙ rw (c.entry_made-entry.ensures) replied);
+      reply_is = alike-same _ _ _ _ refl (ap (reply_with c.in_ok-signals.signals) answered ∙ rw (c.entry_made-entry.ensures) replied);
     }

@@ -1,5 +1,4 @@
 use Rattle.std.proofs.Common.{◌≡◌, ◌≤◌, ◌+◌, ◌∷◌, ◌++◌, [], ap, arith, inr, refl, rules, sym, ◌∙◌}
-use Rattle.portal_model.specs.declared.reply.Reply.{Reply}
 use Rattle.portal_model.specs.History.{cost, cost_of, run}
 use Rattle.portal_model.specs.Lawful.{Lawful}
 use Rattle.portal_model.specs.Opening.{opened_over}
@@ -9,9 +8,11 @@ use Rattle.portal_core.specs.Devices.{Keeping}
 use Rattle.portal_core.specs.Story.{state_now}
 use Rattle.portal_core.specs.TreeCalls.{entry_calls}
 use Rattle.portal_core.proofs.BusCalls.{call-calls, on-bus}
-use Rattle.portal_core.proofs.CallSteps.{comes, entry_with, keeping_run, keeps_run, stands_served, untreed}
+use Rattle.portal_core.proofs.CallSteps.{comes, entry_with, keeping_run, keeps_run, stands_served, stays_told, stored_served, untreed}
 use Rattle.portal_core.proofs.CallVerdicts.{call-on-bus}
 use Rattle.portal_core.proofs.NodeSteps.{alike-same, call-off-nodes}
+use Rattle.portal_core.proofs.Boxes.{taken-empty}
+use Rattle.portal_core.proofs.Steps.{signals-now, stored_back}
 use Rattle.portal_core.proofs.WentDevices.{went-call}
 use Rattle.portal_core.proofs.portal.Portal.document.Goals as goal
 
@@ -24,15 +25,36 @@ invariant_of-self-in-Ok g c =
     let room = rw (c.as_slice.ensures) at c.in_ok-reserve.ensures.ok in
     let count = c.serve-served.ensures.count in
     let fits : cost k.history.entries + cost_of c.args.request ≤ k.opening.limits.history = rw (← c.self.view_is) at c.requires.fits in
-    let came = comes began k.opening k.history.entries k.history.limit k.documents k.rights k.applications k.connections k.handles told c.self.invariant.0 served.documents served.rights served.applications served.connections c.args.seat c.args.request c.in-Ok.field-0.given c.in-Ok.field-0.answer
-    (g.K.Keeper.is k.keeper) (g.K.Keeper.is served.keeper) c.requires.call c.self.invariant.2 c.in-Ok.ensures.ok in
-    let stands = stands_served began k.opening k.history.entries k.history.limit k.documents k.rights k.applications k.connections k.handles told c.self.invariant.0 served.documents served.rights served.applications served.connections c.args.seat c.args.request c.in-Ok.field-0.given c.in-Ok.field-0.answer
-    (g.K.Keeper.is k.keeper) (g.K.Keeper.is served.keeper) (call-on-bus c.args.request c.requires.call) came c.serve-served.ensures.limits fits in
+    let sent = signals-now began k.opening k.history.entries k.history.limit k.documents k.rights k.applications k.connections k.handles told c.self.invariant.0 c.args.seat k.tables k.outboxes c.in_ok-signals.signals c.self.invariant.3 c.in_ok-signals.ensures.signals in
+    let came = comes began k.opening k.history.entries k.history.limit k.documents k.rights k.applications k.connections k.handles told c.self.invariant.0 served.documents served.rights served.applications served.connections c.args.seat c.args.request c.in-Ok.field-0.given c.in_ok-signals.signals c.in-Ok.field-0.answer
+    (g.K.Keeper.is k.keeper) (g.K.Keeper.is served.keeper) c.requires.call sent c.self.invariant.2 c.in-Ok.ensures.ok in
+    let stands = stands_served began k.opening k.history.entries k.history.limit k.documents k.rights k.applications k.connections k.handles told c.self.invariant.0 served.documents served.rights served.applications served.connections c.args.seat c.args.request c.in-Ok.field-0.given c.in_ok-signals.signals c.in-Ok.field-0.answer
+    (g.K.Keeper.is k.keeper) (g.K.Keeper.is served.keeper) (call-on-bus c.args.request c.requires.call) c.serve-served.ensures.queues came c.serve-served.ensures.limits fits in
     rw (c.push.ensures, c.in_ok-reserve.ensures.entries, c.in_ok-reserve.ensures.limit) (
       stands,
       omega (arith, room, count),
-      keeps_run began k.opening k.history.entries k.history.limit k.documents k.rights k.applications k.connections k.handles told c.self.invariant.0 served.documents served.rights served.applications served.connections c.args.seat c.args.request c.in-Ok.field-0.given c.in-Ok.field-0.answer
+      keeps_run began k.opening k.history.entries k.history.limit k.documents k.rights k.applications k.connections k.handles told c.self.invariant.0 served.documents served.rights served.applications served.connections c.args.seat c.args.request c.in-Ok.field-0.given c.in_ok-signals.signals c.in-Ok.field-0.answer
           (g.K.Keeper.is k.keeper) (g.K.Keeper.is served.keeper) came,
+      stored_served began k.opening k.history.entries k.history.limit k.documents k.rights k.applications k.connections k.handles told c.self.invariant.0 served.documents served.rights served.applications served.connections c.args.seat c.args.request c.in-Ok.field-0.given c.in_ok-signals.signals c.in-Ok.field-0.answer
+          (g.K.Keeper.is k.keeper) (g.K.Keeper.is served.keeper) k.tables k.outboxes c.take-signals.new.self came c.take-signals.ensures.rest c.self.invariant.3,
+    )
+
+pub give_back-requires : goal.give_back-requires
+give_back-requires g c = taken-empty c.args.seat c.self.inside.outboxes c.take-signals.new.self c.take-signals.new.self c.take-signals.ensures.rest (λ s. refl)
+
+pub invariant_of-self-in-Err : goal.invariant_of-self-in-Err
+invariant_of-self-in-Err g c =
+    let k = c.self.inside in
+    let tree = g.T.HostTree.is k.tree in
+    let served = c.serve-served.new in
+    let room = rw (c.as_slice.ensures) at c.in_ok-reserve.ensures.ok in
+    let told = stays_told (g.K.Keeper.is k.keeper) (g.K.Keeper.is served.keeper) c.in-Err.ensures.keeper in
+    rw (c.in-Err.ensures.documents, c.in-Err.ensures.rights, c.in-Err.ensures.applications, c.in-Err.ensures.connections, c.in_ok-reserve.ensures.entries, c.in_ok-reserve.ensures.limit, told) (
+      c.self.invariant.0,
+      omega (arith, room),
+      c.self.invariant.2,
+      stored_back tree.began k.opening k.history.entries k.history.limit k.documents k.rights k.applications k.connections k.handles tree.told c.self.invariant.0 c.args.seat k.tables k.outboxes c.take-signals.new.self c.take-signals.new.self c.give_back.new.self c.in_ok-signals.signals
+          c.take-signals.ensures.rest (λ s. refl) c.in_ok-signals.ensures.signals c.give_back.ensures c.self.invariant.3,
     )
 
 pub returns-in-Ok-clause-ok : goal.returns-in-Ok-clause-ok
@@ -42,16 +64,17 @@ returns-in-Ok-clause-ok g c =
     let told = (g.T.HostTree.is k.tree).told in
     let served = c.serve-served.new in
     let entry = entry_with c.args.seat c.args.request c.in-Ok.field-0.given in
-    let came = comes began k.opening k.history.entries k.history.limit k.documents k.rights k.applications k.connections k.handles told c.self.invariant.0 served.documents served.rights served.applications served.connections c.args.seat c.args.request c.in-Ok.field-0.given c.in-Ok.field-0.answer
-    (g.K.Keeper.is k.keeper) (g.K.Keeper.is served.keeper) c.requires.call c.self.invariant.2 c.in-Ok.ensures.ok in
-    let plain = untreed began k.opening k.history.entries k.history.limit k.documents k.rights k.applications k.connections k.handles told c.self.invariant.0 served.documents served.rights served.applications served.connections c.args.seat c.args.request c.in-Ok.field-0.given c.in-Ok.field-0.answer
+    let sent = signals-now began k.opening k.history.entries k.history.limit k.documents k.rights k.applications k.connections k.handles told c.self.invariant.0 c.args.seat k.tables k.outboxes c.in_ok-signals.signals c.self.invariant.3 c.in_ok-signals.ensures.signals in
+    let came = comes began k.opening k.history.entries k.history.limit k.documents k.rights k.applications k.connections k.handles told c.self.invariant.0 served.documents served.rights served.applications served.connections c.args.seat c.args.request c.in-Ok.field-0.given c.in_ok-signals.signals c.in-Ok.field-0.answer
+    (g.K.Keeper.is k.keeper) (g.K.Keeper.is served.keeper) c.requires.call sent c.self.invariant.2 c.in-Ok.ensures.ok in
+    let plain = untreed began k.opening k.history.entries k.history.limit k.documents k.rights k.applications k.connections k.handles told c.self.invariant.0 served.documents served.rights served.applications served.connections c.args.seat c.args.request c.in-Ok.field-0.given c.in_ok-signals.signals c.in-Ok.field-0.answer
     (g.K.Keeper.is k.keeper) (g.K.Keeper.is served.keeper) c.requires.call c.in-Ok.ensures.ok in
     let lawful : Lawful (state_now c.args.self.now.story) entry =
     rw (← c.self.view_is) came.lawful in
-    let replied : reply_with [] c.in-Ok.field-0.answer ≡ reply_at (state_now c.args.self.now.story) entry =
+    let replied : reply_with c.in_ok-signals.signals c.in-Ok.field-0.answer ≡ reply_at (state_now c.args.self.now.story) entry =
     rw (← c.self.view_is) came.reply_is in
     let keeping : Keeping (state_now c.args.self.now.story) entry (run (opened_over began k.opening) (k.history.entries ++ entry ∷ [])) (g.K.Keeper.is c.args.self.now.keeper) (g.K.Keeper.is served.keeper) =
-    rw (← c.self.view_is) (keeping_run began k.opening k.history.entries k.history.limit k.documents k.rights k.applications k.connections k.handles told c.self.invariant.0 served.documents served.rights served.applications served.connections c.args.seat c.args.request c.in-Ok.field-0.given c.in-Ok.field-0.answer
+    rw (← c.self.view_is) (keeping_run began k.opening k.history.entries k.history.limit k.documents k.rights k.applications k.connections k.handles told c.self.invariant.0 served.documents served.rights served.applications served.connections c.args.seat c.args.request c.in-Ok.field-0.given c.in_ok-signals.signals c.in-Ok.field-0.answer
     (g.K.Keeper.is k.keeper) (g.K.Keeper.is served.keeper) came) in
     let at = run (opened_over began k.opening) k.history.entries in
     let called : entry_calls (state_now c.args.self.now.story) entry ≡ [] =
@@ -63,7 +86,7 @@ returns-in-Ok-clause-ok g c =
       seat_is = refl;
       request_is = refl;
       lawful = lawful;
-      reply_is = alike-same _ c.args.request _ _ (call-off-nodes c.args.request c.requires.call) (c.silent_reply.ensures ∙ replied);
+      reply_is = alike-same _ c.args.request _ _ (call-off-nodes c.args.request c.requires.call) replied;
       went = went-call _ _ _ _ _ _ _ (search rules) (search rules) (search rules) (search rules) called (rw (c.push.ensures, c.in_ok-reserve.ensures.entries) keeping) plain.moment (search rules) plain.words (search rules)
           (λ h. (plain.unkept h, rw (← c.self.view_is) (c.serve-served.ensures.unasked h)));
     }
@@ -74,9 +97,10 @@ returns-in-Ok-clause-fault g c =
     let began = (g.T.HostTree.is k.tree).began in
     let told = (g.T.HostTree.is k.tree).told in
     let served = c.serve-served.new in
-    let came = comes began k.opening k.history.entries k.history.limit k.documents k.rights k.applications k.connections k.handles told c.self.invariant.0 served.documents served.rights served.applications served.connections c.args.seat c.args.request c.in-Ok.field-0.given c.in-Ok.field-0.answer
-    (g.K.Keeper.is k.keeper) (g.K.Keeper.is served.keeper) c.requires.call c.self.invariant.2 c.in-Ok.ensures.ok in
-    λ h. absurd (came.settles.no_errno (sym (ap (λ (r : Reply). r.answer) c.silent_reply.ensures) ∙ h))
+    let sent = signals-now began k.opening k.history.entries k.history.limit k.documents k.rights k.applications k.connections k.handles told c.self.invariant.0 c.args.seat k.tables k.outboxes c.in_ok-signals.signals c.self.invariant.3 c.in_ok-signals.ensures.signals in
+    let came = comes began k.opening k.history.entries k.history.limit k.documents k.rights k.applications k.connections k.handles told c.self.invariant.0 served.documents served.rights served.applications served.connections c.args.seat c.args.request c.in-Ok.field-0.given c.in_ok-signals.signals c.in-Ok.field-0.answer
+    (g.K.Keeper.is k.keeper) (g.K.Keeper.is served.keeper) c.requires.call sent c.self.invariant.2 c.in-Ok.ensures.ok in
+    λ h. absurd (came.settles.no_errno h)
 
 pub returns-in-Ok-clause-failure : goal.returns-in-Ok-clause-failure
 returns-in-Ok-clause-failure g c =
@@ -84,8 +108,9 @@ returns-in-Ok-clause-failure g c =
     let began = (g.T.HostTree.is k.tree).began in
     let told = (g.T.HostTree.is k.tree).told in
     let served = c.serve-served.new in
-    let came = comes began k.opening k.history.entries k.history.limit k.documents k.rights k.applications k.connections k.handles told c.self.invariant.0 served.documents served.rights served.applications served.connections c.args.seat c.args.request c.in-Ok.field-0.given c.in-Ok.field-0.answer
-    (g.K.Keeper.is k.keeper) (g.K.Keeper.is served.keeper) c.requires.call c.self.invariant.2 c.in-Ok.ensures.ok in
-    let plain = untreed began k.opening k.history.entries k.history.limit k.documents k.rights k.applications k.connections k.handles told c.self.invariant.0 served.documents served.rights served.applications served.connections c.args.seat c.args.request c.in-Ok.field-0.given c.in-Ok.field-0.answer
+    let sent = signals-now began k.opening k.history.entries k.history.limit k.documents k.rights k.applications k.connections k.handles told c.self.invariant.0 c.args.seat k.tables k.outboxes c.in_ok-signals.signals c.self.invariant.3 c.in_ok-signals.ensures.signals in
+    let came = comes began k.opening k.history.entries k.history.limit k.documents k.rights k.applications k.connections k.handles told c.self.invariant.0 served.documents served.rights served.applications served.connections c.args.seat c.args.request c.in-Ok.field-0.given c.in_ok-signals.signals c.in-Ok.field-0.answer
+    (g.K.Keeper.is k.keeper) (g.K.Keeper.is served.keeper) c.requires.call sent c.self.invariant.2 c.in-Ok.ensures.ok in
+    let plain = untreed began k.opening k.history.entries k.history.limit k.documents k.rights k.applications k.connections k.handles told c.self.invariant.0 served.documents served.rights served.applications served.connections c.args.seat c.args.request c.in-Ok.field-0.given c.in_ok-signals.signals c.in-Ok.field-0.answer
     (g.K.Keeper.is k.keeper) (g.K.Keeper.is served.keeper) c.requires.call c.in-Ok.ensures.ok in
-    λ h. inr (rw (← c.self.view_is) (came.settles.failed plain.untreed (sym (ap (λ (r : Reply). r.answer) c.silent_reply.ensures) ∙ h)))
+    λ h. inr (rw (← c.self.view_is) (came.settles.failed plain.untreed h))

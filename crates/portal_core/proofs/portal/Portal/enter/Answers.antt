@@ -1,6 +1,7 @@
-use Rattle.std.proofs.Common.{[], ◌∷◌, arith, length-append, rules, refl}
+use Rattle.std.proofs.Common.{◌≡◌, [], ◌∷◌, arith, false, is_some, length-append, rules, refl, ◌∙◌}
+use Rattle.portal_model.specs.State.{connection_of}
 use Rattle.portal_model.specs.Enter.{new_connection}
-use Rattle.portal_core.proofs.Steps.{keeps-entered, stands_new, stands_there}
+use Rattle.portal_core.proofs.Steps.{closed, keeps-entered, stands_new, stands_there, stored_new, stored_there, unheard}
 use Rattle.portal_core.proofs.NodeSteps.{alike-same}
 use Rattle.portal_core.proofs.WentDevices.{went-plain}
 use Rattle.portal_core.proofs.portal.Portal.enter.Goals as goal
@@ -13,6 +14,7 @@ invariant_of-self-then-is_here g c =
           c.args.seat c.args.who c.args.kind c.check_caller.ensures (search rules) (rw (← c.self.view_is) at c.requires),
       omega (arith, room),
       keeps-entered (g.T.HostTree.is c.self.inside.tree).began c.self.inside.opening c.self.inside.history.entries c.self.inside.history.limit c.self.inside.documents c.self.inside.rights c.self.inside.applications c.self.inside.connections c.self.inside.handles (g.T.HostTree.is c.self.inside.tree).told c.self.invariant.0 c.args.seat c.args.who c.args.kind (g.K.Keeper.is c.self.inside.keeper).told c.self.invariant.2,
+      stored_there (g.T.HostTree.is c.self.inside.tree).began c.self.inside.opening c.self.inside.history.entries c.self.inside.history.limit c.self.inside.documents c.self.inside.rights c.self.inside.applications c.self.inside.connections c.self.inside.handles (g.T.HostTree.is c.self.inside.tree).told c.self.invariant.0 c.args.seat c.args.who c.args.kind c.self.inside.tables c.self.inside.outboxes (search rules) c.self.invariant.3,
     )
 
 pub invariant_of-self-2 : goal.invariant_of-self-2
@@ -23,6 +25,29 @@ invariant_of-self-2 g c =
           c.args.seat c.args.who c.args.kind c.enter.new.handles c.check_caller.ensures (search rules) (search rules) (search rules) (rw (← c.self.view_is) at c.requires),
       rw (length-append c.self.inside.connections (new_connection c.args.seat c.args.who c.args.kind ∷ [])) (omega (arith, room)),
       keeps-entered (g.T.HostTree.is c.self.inside.tree).began c.self.inside.opening c.self.inside.history.entries c.self.inside.history.limit c.self.inside.documents c.self.inside.rights c.self.inside.applications c.self.inside.connections c.self.inside.handles (g.T.HostTree.is c.self.inside.tree).told c.self.invariant.0 c.args.seat c.args.who c.args.kind (g.K.Keeper.is c.self.inside.keeper).told c.self.invariant.2,
+      stored_new (g.T.HostTree.is c.self.inside.tree).began c.self.inside.opening c.self.inside.history.entries c.self.inside.history.limit c.self.inside.documents c.self.inside.rights c.self.inside.applications c.self.inside.connections c.self.inside.handles (g.T.HostTree.is c.self.inside.tree).told c.self.invariant.0 c.args.seat c.args.who c.args.kind c.self.inside.tables c.self.inside.outboxes c.enter.new.outboxes (search rules) (rw (c.opened_connection.ensures) at c.in_ok-enter.ensures.heard) c.self.invariant.3,
+    )
+
+pub enter-requires-clause-outboxes : goal.enter-requires-clause-outboxes
+enter-requires-clause-outboxes g c =
+    let free : is_some (connection_of c.self.inside.connections c.args.seat) ≡ false = search rules in
+    rw (c.opened_connection.ensures) (unheard (g.T.HostTree.is c.self.inside.tree).began c.self.inside.opening c.self.inside.history.entries c.self.inside.history.limit c.self.inside.documents c.self.inside.rights c.self.inside.applications c.self.inside.connections c.self.inside.handles (g.T.HostTree.is c.self.inside.tree).told c.self.invariant.0 c.args.seat c.self.inside.tables c.self.inside.outboxes free c.self.invariant.3)
+
+pub enter-requires-clause-handles : goal.enter-requires-clause-handles
+enter-requires-clause-handles g c =
+    let free : is_some (connection_of c.self.inside.connections c.args.seat) ≡ false = search rules in
+    rw (c.opened_connection.ensures) (closed (g.T.HostTree.is c.self.inside.tree).began c.self.inside.opening c.self.inside.history.entries c.self.inside.history.limit c.self.inside.documents c.self.inside.rights c.self.inside.applications c.self.inside.connections c.self.inside.handles (g.T.HostTree.is c.self.inside.tree).told c.self.invariant.0 c.args.seat free)
+
+pub invariant_of-self-in_err-enter : goal.invariant_of-self-in_err-enter
+invariant_of-self-in_err-enter g c =
+    let room = rw (c.as_slice-2.ensures) at c.in_ok-reserve.ensures.ok in
+    let boxes = c.in_err-enter.ensures.outboxes in
+    let st = c.self.invariant.3 in
+    rw (c.in_err-enter.ensures.connections, c.in_ok-reserve.ensures.entries, c.in_ok-reserve.ensures.limit) (
+      search rules,
+      omega (arith, room),
+      c.self.invariant.2,
+      record { stored = st.stored; waiting = λ q. boxes q ∙ st.waiting q },
     )
 
 pub returns-then-is_here-clause-ok : goal.returns-then-is_here-clause-ok

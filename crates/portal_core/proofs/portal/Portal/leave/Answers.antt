@@ -1,7 +1,7 @@
 use Rattle.std.proofs.Common.{◌≡◌, ◌<◌, length, is_some, arith, rules, true, refl}
 use Rattle.portal_model.specs.Leave.{of_others}
 use Rattle.portal_model.specs.State.{connection_of}
-use Rattle.portal_core.proofs.Steps.{fewer_others, keeps-left, stands_absent, stands_left}
+use Rattle.portal_core.proofs.Steps.{fewer_others, keeps-left, stands_absent, stands_left, stored_absent, stored_left}
 use Rattle.portal_core.proofs.NodeSteps.{alike-same}
 use Rattle.portal_core.proofs.WentDevices.{went-plain}
 use Rattle.portal_core.proofs.portal.Portal.leave.Goals as goal
@@ -14,6 +14,7 @@ invariant_of-self-then-not-is_here g c =
           c.args.seat (search rules),
       omega (arith, room),
       keeps-left (g.T.HostTree.is c.self.inside.tree).began c.self.inside.opening c.self.inside.history.entries c.self.inside.history.limit c.self.inside.documents c.self.inside.rights c.self.inside.applications c.self.inside.connections c.self.inside.handles (g.T.HostTree.is c.self.inside.tree).told c.self.invariant.0 c.args.seat (g.K.Keeper.is c.self.inside.keeper).told c.self.invariant.2,
+      stored_absent (g.T.HostTree.is c.self.inside.tree).began c.self.inside.opening c.self.inside.history.entries c.self.inside.history.limit c.self.inside.documents c.self.inside.rights c.self.inside.applications c.self.inside.connections c.self.inside.handles (g.T.HostTree.is c.self.inside.tree).told c.self.invariant.0 c.args.seat c.self.inside.tables c.self.inside.outboxes (search rules) c.self.invariant.3,
     )
 
 pub invariant_of-self-2 : goal.invariant_of-self-2
@@ -24,6 +25,7 @@ invariant_of-self-2 g c =
       stands_left (g.T.HostTree.is c.self.inside.tree).began c.self.inside.opening c.self.inside.history.entries c.self.inside.history.limit c.self.inside.documents c.self.inside.rights c.self.inside.applications c.self.inside.connections c.self.inside.handles (g.T.HostTree.is c.self.inside.tree).told c.self.invariant.0 c.args.seat c.leave.new.self here c.leave.ensures.limit c.leave.ensures.rest,
       omega (arith, c.self.invariant.1),
       keeps-left (g.T.HostTree.is c.self.inside.tree).began c.self.inside.opening c.self.inside.history.entries c.self.inside.history.limit c.self.inside.documents c.self.inside.rights c.self.inside.applications c.self.inside.connections c.self.inside.handles (g.T.HostTree.is c.self.inside.tree).told c.self.invariant.0 c.args.seat (g.K.Keeper.is c.self.inside.keeper).told c.self.invariant.2,
+      stored_left (g.T.HostTree.is c.self.inside.tree).began c.self.inside.opening c.self.inside.history.entries c.self.inside.history.limit c.self.inside.documents c.self.inside.rights c.self.inside.applications c.self.inside.connections c.self.inside.handles (g.T.HostTree.is c.self.inside.tree).told c.self.invariant.0 c.args.seat c.self.inside.tables c.self.inside.outboxes c.leave-3.new.self here c.leave-3.ensures c.self.invariant.3,
     )
 
 pub returns-then-not-is_here-clause-ok : goal.returns-then-not-is_here-clause-ok

@@ -1,7 +1,7 @@
 use Rattle.std.proofs.Common.{◌≡◌, ◌≢◌, ◌≤◌, ◌+◌, ◌∷◌, ◌++◌, [], ap, arith, refl, rules, sym, ◌∙◌}
 use Rattle.file_ops.specs.Done.{Reads}
 use Rattle.file_ops.specs.Served.{given_to}
-use Rattle.node_serving.specs.Seats.{seat_calls}
+use Rattle.node_serving.specs.Seats.{seat_calls, seat_step}
 use Rattle.portal_model.specs.declared.entry.Entry.{Entry}
 use Rattle.portal_model.specs.declared.entry.Fault.TheVariants as Fault
 use Rattle.portal_model.specs.declared.reply.Answer.{Answer}
@@ -15,9 +15,10 @@ use Rattle.portal_model.specs.Step.{reply_at, reply_with}
 use Rattle.portal_core.specs.Served.{node_entry}
 use Rattle.portal_core.specs.Story.{state_first, state_now}
 use Rattle.portal_core.specs.TreeCalls.{Calling, entry_calls}
-use Rattle.portal_core.proofs.CallSteps.{stands_over}
+use Rattle.portal_core.proofs.CallSteps.{stands_over, stored_over}
 use Rattle.portal_core.proofs.NodeSteps.{calls-keep, never-kept, replied-node, still-file, told-on, was-called-keeps}
-use Rattle.portal_core.proofs.Steps.{keeps-node, lawful_node, served_in, stands_node, stands_wanting}
+use Rattle.portal_core.proofs.QuietNodes.{quiet}
+use Rattle.portal_core.proofs.Steps.{keeps-node, lawful_node, loud-served, served_in, stands_node, stands_wanting, stored_node}
 use Rattle.portal_core.proofs.WentDevices.{same-portal, spends-node, went-node}
 use Rattle.portal_core.proofs.portal.Portal.node.Goals as goal
 
@@ -31,16 +32,18 @@ invariant_of-self-in-Ok g c =
     let room = rw (c.as_slice.ensures) at c.in_ok-reserve.ensures.ok in
     let count = c.serve-served.ensures.count in
     let at = run (opened_over tree.began k.opening) k.history.entries in
-    let s = c.in-Ok.ensures.ok at (served_in tree.began k.opening k.history.entries k.history.limit k.documents k.rights k.applications k.connections k.handles tree.told c.self.invariant.0 _ refl refl refl refl) in
+    let s = c.in-Ok.ensures.ok (quiet at) (served_in tree.began k.opening k.history.entries k.history.limit k.documents k.rights k.applications k.connections k.handles tree.told c.self.invariant.0 _ refl refl refl refl) in
     let fits : cost k.history.entries + cost_of (Request.Node c.args.request) ≤ k.opening.limits.history = rw (← c.self.view_is) at c.requires in
     let stands = stands_node tree.began k.opening k.history.entries k.history.limit k.documents k.rights k.applications k.connections k.handles tree.told c.self.invariant.0 c.args.seat c.args.request tree done new.connections new.handles after s fits in
     let keeps = keeps-node tree.began k.opening k.history.entries k.history.limit k.documents k.rights k.applications k.connections k.handles tree.told c.self.invariant.0 c.args.seat c.args.request tree done new.connections new.handles after s (g.K.Keeper.is k.keeper).told c.self.invariant.2 in
-    let kept = calls-keep tree (seat_calls at c.args.seat c.args.request (given_to done)) after.told after s.calls in
+    let kept = calls-keep tree (seat_calls (quiet at) c.args.seat c.args.request (given_to done)) after.told after s.calls in
     let both = stands_over tree.began after.began k.opening (k.history.entries ++ node_entry c.args.seat c.args.request done ∷ []) k.history.limit k.documents k.rights k.applications new.connections new.handles after.told after.told (g.K.Keeper.is k.keeper).told kept refl stands keeps in
     rw (c.push.ensures, c.in_ok-reserve.ensures.entries, c.in_ok-reserve.ensures.limit, c.node_entry-entry.ensures) (
       both.0,
       omega (arith, room, count),
       both.1,
+      stored_over tree.began after.began k.opening (k.history.entries ++ node_entry c.args.seat c.args.request done ∷ []) k.tables k.outboxes kept
+          (stored_node tree.began k.opening k.history.entries k.history.limit k.documents k.rights k.applications k.connections k.handles tree.told c.self.invariant.0 c.args.seat c.args.request tree done new.connections new.handles after s k.tables k.outboxes c.self.invariant.3),
     )
 
 pub invariant_of-self-in-Err : goal.invariant_of-self-in-Err
@@ -56,6 +59,7 @@ invariant_of-self-in-Err g c =
       both.0,
       omega (arith, room),
       both.1,
+      stored_over tree.began after.began k.opening k.history.entries k.tables k.outboxes kept.0 c.self.invariant.3,
     )
 
 pub returns-in-Ok-clause-ok : goal.returns-in-Ok-clause-ok
@@ -66,8 +70,9 @@ returns-in-Ok-clause-ok g c =
     let after = g.T.HostTree.is new.tree in
     let done = c.in-Ok.done in
     let at = run (opened_over tree.began k.opening) k.history.entries in
-    let s = c.in-Ok.ensures.ok at (served_in tree.began k.opening k.history.entries k.history.limit k.documents k.rights k.applications k.connections k.handles tree.told c.self.invariant.0 _ refl refl refl refl) in
-    let kept = calls-keep tree (seat_calls at c.args.seat c.args.request (given_to done)) after.told after s.calls in
+    let s = c.in-Ok.ensures.ok (quiet at) (served_in tree.began k.opening k.history.entries k.history.limit k.documents k.rights k.applications k.connections k.handles tree.told c.self.invariant.0 _ refl refl refl refl) in
+    let kept = calls-keep tree (seat_calls (quiet at) c.args.seat c.args.request (given_to done)) after.told after s.calls in
+    let loud = loud-served tree.began k.opening k.history.entries k.history.limit k.documents k.rights k.applications k.connections k.handles tree.told c.self.invariant.0 c.args.seat c.args.request tree done new.connections new.handles after s in
     let made : Entry = node_entry c.args.seat c.args.request done in
     let entry_is : c.node_entry-entry.result.0 ≡ made = ap (λ (x : Entry × Answer). x.0) c.node_entry-entry.ensures in
     let answer_is : done.answer ≡ c.node_entry-entry.result.1 = sym (ap (λ (x : Entry × Answer). x.1) c.node_entry-entry.ensures) in
@@ -75,9 +80,9 @@ returns-in-Ok-clause-ok g c =
     let lawful : Lawful (state_now c.args.self.now.story) made =
     rw (← c.self.view_is) (lawful_node tree.began k.opening k.history.entries k.history.limit k.documents k.rights k.applications k.connections k.handles tree.told c.self.invariant.0 c.args.seat c.args.request tree done new.connections new.handles after s) in
     let replied : Alike (state_first c.args.self.now.story).told (Request.Node c.args.request) (reply_at (state_now c.args.self.now.story) made) (reply_with [] done.answer) =
-    rw (← c.self.view_is) (replied-node (opened_over tree.began k.opening).told at c.args.seat c.args.request tree done new.connections new.handles after (told-on k.history.entries (opened_over tree.began k.opening)) s) in
-    let calling : Calling (g.T.HostTree.is c.args.self.now.tree) (entry_calls (state_now c.args.self.now.story) made) after.told after = rw (← c.self.view_is) s.calls in
-    let kept_not : made.given.fault ≢ Fault.Keeper = never-kept _ c.args.request made.given _ s.lawful in
+    rw (← c.self.view_is) (replied-node (opened_over tree.began k.opening).told at c.args.seat c.args.request tree done (seat_step at c.args.seat c.args.request (given_to done)).0.connections new.handles after (told-on k.history.entries (opened_over tree.began k.opening)) loud.serves) in
+    let calling : Calling (g.T.HostTree.is c.args.self.now.tree) (entry_calls (state_now c.args.self.now.story) made) after.told after = rw (← c.self.view_is) loud.serves.calls in
+    let kept_not : made.given.fault ≢ Fault.Keeper = never-kept _ c.args.request made.given _ loud.serves.lawful in
     let moment : Reads g.C.Clock.told c.args.self.now.clock made.given.now new.clock = rw (← c.self.view_is) c.in-Ok.ensures.clock in
     record {
       entry = c.node_entry-entry.result.0;
@@ -95,8 +100,8 @@ returns-in-Ok-clause-began g c =
     let tree = g.T.HostTree.is k.tree in
     let after = g.T.HostTree.is c.serve-served.new.tree in
     let at = run (opened_over tree.began k.opening) k.history.entries in
-    let s = c.in-Ok.ensures.ok at (served_in tree.began k.opening k.history.entries k.history.limit k.documents k.rights k.applications k.connections k.handles tree.told c.self.invariant.0 _ refl refl refl refl) in
-    rw (← c.self.view_is) (calls-keep tree (seat_calls at c.args.seat c.args.request (given_to c.in-Ok.done)) after.told after s.calls)
+    let s = c.in-Ok.ensures.ok (quiet at) (served_in tree.began k.opening k.history.entries k.history.limit k.documents k.rights k.applications k.connections k.handles tree.told c.self.invariant.0 _ refl refl refl refl) in
+    rw (← c.self.view_is) (calls-keep tree (seat_calls (quiet at) c.args.seat c.args.request (given_to c.in-Ok.done)) after.told after s.calls)
 
 pub returns-in-Err-clause-began : goal.returns-in-Err-clause-began
 returns-in-Err-clause-began g c =
@@ -106,7 +111,7 @@ pub returns-in-Ok-clause-fault : goal.returns-in-Ok-clause-fault
 returns-in-Ok-clause-fault g c =
     let k = c.self.inside in
     let tree = g.T.HostTree.is k.tree in
-    let s = c.in-Ok.ensures.ok _ (served_in tree.began k.opening k.history.entries k.history.limit k.documents k.rights k.applications k.connections k.handles tree.told c.self.invariant.0 _ refl refl refl refl) in
+    let s = c.in-Ok.ensures.ok (quiet (run (opened_over tree.began k.opening) k.history.entries)) (served_in tree.began k.opening k.history.entries k.history.limit k.documents k.rights k.applications k.connections k.handles tree.told c.self.invariant.0 _ refl refl refl refl) in
     let answer_is : c.node_entry-entry.result.1 ≡ c.in-Ok.done.answer = ap (λ (x : Entry × Answer). x.1) c.node_entry-entry.ensures in
     λ h. rw (← c.self.view_is) (s.fault (sym answer_is ∙ (sym (ap (λ (r : Reply). r.answer) c.silent_reply.ensures) ∙ h)))
 
@@ -114,7 +119,7 @@ pub returns-in-Ok-clause-failure : goal.returns-in-Ok-clause-failure
 returns-in-Ok-clause-failure g c =
     let k = c.self.inside in
     let tree = g.T.HostTree.is k.tree in
-    let s = c.in-Ok.ensures.ok _ (served_in tree.began k.opening k.history.entries k.history.limit k.documents k.rights k.applications k.connections k.handles tree.told c.self.invariant.0 _ refl refl refl refl) in
+    let s = c.in-Ok.ensures.ok (quiet (run (opened_over tree.began k.opening) k.history.entries)) (served_in tree.began k.opening k.history.entries k.history.limit k.documents k.rights k.applications k.connections k.handles tree.told c.self.invariant.0 _ refl refl refl refl) in
     let answer_is : c.node_entry-entry.result.1 ≡ c.in-Ok.done.answer = ap (λ (x : Entry × Answer). x.1) c.node_entry-entry.ensures in
     λ h. absurd (s.failure (sym answer_is ∙ (sym (ap (λ (r : Reply). r.answer) c.silent_reply.ensures) ∙ h)))
 

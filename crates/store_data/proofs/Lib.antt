@@ -1,0 +1,4 @@
+pub mod EightAlignments
+pub mod WalkedLeaves
+pub mod WalkedParts
+pub mod SpelledData

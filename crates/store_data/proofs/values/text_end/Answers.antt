@@ -1,0 +1,14 @@
+use Rattle.std.proofs.Common.{◌≡◌, ◌+◌, arith}
+use Rattle.std.proofs.lemmas.Bool.Decides.{nat_tests}
+use Rattle.dbus_types.specs.Spells.{gap}
+use Rattle.store_data.proofs.WalkedLeaves.{assoc, long, short, stands-at}
+use Rattle.store_data.proofs.values.text_end.Goals as goal
+
+pub returns-then-count-gt-LONGEST_TEXT : goal.returns-then-count-gt-LONGEST_TEXT
+returns-then-count-gt-LONGEST_TEXT c passed at h = long c.args.count (omega arith)
+
+pub returns : goal.returns
+returns c passed at h =
+    let ahead = gap 4 at in
+    let n = 4 + c.args.count + 1 in
+    (short c.args.count (omega arith), stands-at ((passed + ahead) + n) (passed + (ahead + n)) ((at + ahead) + n) (at + (ahead + n)) c.passing.result (assoc passed ahead n) (assoc at ahead n) (c.passing.ensures (passed + ahead) (at + ahead) (c.padded.ensures passed at h)))

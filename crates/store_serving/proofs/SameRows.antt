@@ -1,0 +1,71 @@
+-- Rows that pass the test of sameness are the same, and the other way round.
+use Rattle.std.proofs.Common.{◌≡◌, ℕ, ◌==◌, suc, List, [], ◌∷◌, length, Bool, true, false, ◌&&◌, Option, Some, None, refl, sym, ap, ◌∙◌, arith}
+use Rattle.std.specs.Cmp.Lexicographic.{pointwise}
+use Rattle.std.specs.List.{list_all, zip}
+use Rattle.std.proofs.lemmas.Bool.Decides.{nat_tests}
+use Rattle.portal_base.specs.Names.{is_same}
+use Rattle.portal_model.specs.declared.records.EntryRecord.{EntryRecord}
+use Rattle.portal_model.specs.declared.records.Row.{Row}
+use Rattle.portal_model.proofs.DocumentChanges.{both, first_of_both, second_of_both}
+use Rattle.portal_model.proofs.ListLookups.{is_same-eq, is_same-refl}
+use Rattle.store_serving.specs.Records.{same_pair, same_row, same_rows}
+
+same_texts-eq : (a b : List (List ℕ)) → pointwise is_same a b ≡ true → a ≡ b
+same_texts-eq [] [] h = refl
+same_texts-eq [] (y ∷ ys) h = cc
+same_texts-eq (x ∷ xs) [] h = cc
+same_texts-eq (x ∷ xs) (y ∷ ys) h = λ i. is_same-eq x y (first_of_both (is_same x y) (pointwise is_same xs ys) h) i ∷ same_texts-eq xs ys (second_of_both (is_same x y) (pointwise is_same xs ys) h) i
+
+same_texts-refl : (a : List (List ℕ)) → pointwise is_same a a ≡ true
+same_texts-refl [] = refl
+same_texts-refl (x ∷ xs) = both (is_same x x) (pointwise is_same xs xs) (is_same-refl x) (same_texts-refl xs)
+
+same_row-eq : (a b : Row) → same_row a b ≡ true → a ≡ b
+same_row-eq a b h =
+    let app = is_same-eq a.app b.app (first_of_both (is_same a.app b.app) (pointwise is_same a.names b.names) h) in
+    let names = same_texts-eq a.names b.names (second_of_both (is_same a.app b.app) (pointwise is_same a.names b.names) h) in
+    λ i. record { app = app i; names = names i }
+
+same_row-refl : (a : Row) → same_row a a ≡ true
+same_row-refl a = both (is_same a.app a.app) (pointwise is_same a.names a.names) (is_same-refl a.app) (same_texts-refl a.names)
+
+next-length : (n m : ℕ) → (suc n == suc m) ≡ true → (n == m) ≡ true
+next-length n m h = grind (arith, nat_tests)
+
+by-length : (a b : List Row) → (length a == length b) ≡ true → list_all same_pair (zip a b) ≡ true → a ≡ b
+by-length [] [] h k = refl
+by-length [] (y ∷ ys) h k = absurd (grind (arith, nat_tests))
+by-length (x ∷ xs) [] h k = absurd (grind (arith, nat_tests))
+by-length (x ∷ xs) (y ∷ ys) h k =
+    λ i. same_row-eq x y (first_of_both (same_row x y) (list_all same_pair (zip xs ys)) k) i
+    ∷ by-length xs ys (next-length (length xs) (length ys) h) (second_of_both (same_row x y) (list_all same_pair (zip xs ys)) k) i
+
+pub same_rows-eq : (a b : List Row) → same_rows a b ≡ true → a ≡ b
+same_rows-eq a b h = by-length a b (first_of_both (length a == length b) (list_all same_pair (zip a b)) h) (second_of_both (length a == length b) (list_all same_pair (zip a b)) h)
+
+pairs-refl : (a : List Row) → list_all same_pair (zip a a) ≡ true
+pairs-refl [] = refl
+pairs-refl (x ∷ xs) = both (same_row x x) (list_all same_pair (zip xs xs)) (same_row-refl x) (pairs-refl xs)
+
+itself : (n : ℕ) → (n == n) ≡ true
+itself n = grind (arith, nat_tests)
+
+pub same_rows-refl : (a : List Row) → same_rows a a ≡ true
+same_rows-refl a = both (length a == length a) (list_all same_pair (zip a a)) (itself (length a)) (pairs-refl a)
+
+-- ---- records that are the same
+
+pub same-record : (table id : List ℕ) (a b : List Row) (d e : List ℕ) → a ≡ b → d ≡ e → (let r : EntryRecord = record { table = table; id = id; datum = d; rows = a } in let o : EntryRecord = record { table = table; id = id; datum = e; rows = b } in r ≡ o)
+same-record table id a b d e s t = λ i. record { table = table; id = id; datum = t i; rows = s i }
+
+-- what differs in rows or data is no such record
+pub other-record : (r o : EntryRecord) → (same_rows r.rows o.rows && is_same r.datum o.datum) ≡ false → Some r ≡ Some o → ⊥
+other-record r o h e =
+    let same : r ≡ o = some-is r o e in
+    let rows : same_rows r.rows o.rows ≡ true = ap (λ (x : EntryRecord). same_rows r.rows x.rows) (sym same) ∙ same_rows-refl r.rows in
+    let datum : is_same r.datum o.datum ≡ true = ap (λ (x : EntryRecord). is_same r.datum x.datum) (sym same) ∙ is_same-refl r.datum in
+    let no : true ≡ false = sym (both (same_rows r.rows o.rows) (is_same r.datum o.datum) rows datum) ∙ h in
+    cc
+  where
+    some-is : (a b : EntryRecord) → Some a ≡ Some b → a ≡ b
+    some-is a b e = cc

@@ -1,0 +1,4 @@
+pub mod Refusals
+pub mod Waiting
+pub mod Records
+pub mod Serving
