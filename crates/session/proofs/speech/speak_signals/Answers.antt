@@ -4,7 +4,7 @@ use Rattle.portal_model.specs.declared.reply.Change.{Change}
 use Rattle.dbus_types.specs.declared.message.OutMessage.{OutMessage}
 use Rattle.dbus_dispatch.specs.Signals.{signal_of}
 use Rattle.session.specs.Answers.{last_spoken, spoken}
-use Rattle.session.proofs.Speech.{pieces_behind, serial_behind, signals_more, sound_at}
+use Rattle.session.proofs.Messages.{pieces_behind, serial_behind, signals_more, sound_at}
 use Rattle.session.proofs.speech.speak_signals.Goals as goal
 
 pub loop-change-init : goal.loop-change-init
