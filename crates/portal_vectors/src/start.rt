@@ -54,10 +54,20 @@ fn started(alloc: Global, keeper: MemoryKeeper) -> Result<String, VectorError> {
 fn opened(alloc: Global, portal: ScriptPortal) -> Result<String, VectorError> {
     let mut portal = portal;
     let opening = opening(alloc, portal.opening())?;
-    let before = portal.clock_mut().now();
-    portal.clock_mut().set(9);
-    let after = portal.clock_mut().now();
+    let before = moment(&mut portal);
+    set_clock(&mut portal, 9);
+    let after = moment(&mut portal);
     Ok(format!(in alloc; "{opening}; clock {before} {after}")?)
+}
+
+/// What the clock of a portal shows.
+fn moment(portal: &mut ScriptPortal) -> u64 {
+    portal.clock_mut().now()
+}
+
+/// Sets the clock of a portal.
+fn set_clock(portal: &mut ScriptPortal, moment: u64) {
+    portal.clock_mut().set(moment);
 }
 
 /// The live documents, the made ones and the applications.
