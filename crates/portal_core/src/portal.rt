@@ -277,11 +277,20 @@ impl<T: HostTree, K: Keeper, C: Clock, W: Words> Portal<T, K, C, W> {
         ensures leave { request ≡ Request.Leave → is_open (state_now self.old.story) seat ≡ true
             → IsOk result }
     {
-        self.check_cost(&request)?;
+        if let Err(error) = self.check_cost(&request) {
+            drop(request);
+            return Err(error);
+        }
         match request {
             Request::Enter { who, kind } => Ok(self.enter(alloc, seat, who, kind)?),
-            Request::Leave => Ok(self.leave(alloc, seat)?),
-            Request::Collect => Ok(self.collect(alloc, seat)?),
+            Request::Leave => {
+                drop(request);
+                Ok(self.leave(alloc, seat)?)
+            }
+            Request::Collect => {
+                drop(request);
+                Ok(self.collect(alloc, seat)?)
+            }
             Request::Node(node) => Ok(self.node(alloc, seat, node)?),
             Request::Add(add) => Ok(self.add(alloc, seat, add)?),
             Request::Present { path } => {
