@@ -7,7 +7,7 @@ use Rattle.portal_model.specs.declared.records.Row.{Row}
 use Rattle.portal_model.specs.declared.store.StoreCall.TheVariants as Call
 use Rattle.portal_model.specs.Changed.{holds_handle}
 use Rattle.portal_model.specs.Data.{is_data, is_spelled}
-use Rattle.portal_model.specs.StoreRequest.{are_data, are_store_arguments, data_of, texts_of, texts_of_row}
+use Rattle.portal_model.specs.StoreRequest.{are_store_arguments, texts_of_row}
 use Rattle.portal_model.specs.Valid.{has_texts, is_text}
 use Rattle.portal_model.proofs.DocumentChanges.{both, first_of_both, second_of_both}
 use Rattle.permission_table.specs.Tables.{have_texts}

@@ -1,6 +1,6 @@
 use Rattle.std.proofs.Common.{◌≡◌, ◌∙◌, true, false, ap, sym}
 use Rattle.std.specs.List.{list_all}
-use Rattle.portal_model.specs.Valid.{has_texts, is_text}
+use Rattle.portal_model.specs.Valid.{has_texts}
 use Rattle.store_serving.proofs.AskedTexts.{rows-asked, set-asked}
 use Rattle.store_serving.proofs.arguments.have_texts_of.Goals as goal
 use Rattle.store_serving.proofs.arguments.have_texts_of.Goals.{then-is_text-2, else-is_text-2}

@@ -1,8 +1,4 @@
-use Rattle.std.proofs.Common.{◌≡◌, ◌∙◌, ap, subst, sym, true}
-use Rattle.dbus_types.specs.declared.types.Value.{Value}
-use Rattle.portal_model.specs.Data.{is_data}
-use Rattle.portal_model.specs.StoreRequest.{data_of}
-use Rattle.store_serving.proofs.CallArguments.{copy-is, permission-arguments, set-arguments, value-arguments}
+use Rattle.store_serving.proofs.CallArguments.{permission-arguments, set-arguments}
 use Rattle.store_serving.proofs.calls.ask.Goals as goal
 
 pub set-requires-clause-table : goal.set-requires-clause-table
