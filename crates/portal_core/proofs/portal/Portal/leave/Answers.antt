@@ -64,4 +64,4 @@ returns-clause-ok g c =
     }
 
 pub returns-in_err-reserve-clause-here : goal.returns-in_err-reserve-clause-here
-returns-in_err-reserve-clause-here g c = λ h. absent_closed (g.T.HostTree.is c.self.inside.tree).began c.self.inside.opening c.self.inside.history.entries c.self.inside.history.limit c.self.inside.documents c.self.inside.rights c.self.inside.applications c.self.inside.connections c.self.inside.handles (g.T.HostTree.is c.self.inside.tree).told c.self.invariant.0 c.args.seat (search rules) (rw (← c.self.view_is) at h)
+returns-in_err-reserve-clause-here g c = λ h. absurd (absent_closed (g.T.HostTree.is c.self.inside.tree).began c.self.inside.opening c.self.inside.history.entries c.self.inside.history.limit c.self.inside.documents c.self.inside.rights c.self.inside.applications c.self.inside.connections c.self.inside.handles (g.T.HostTree.is c.self.inside.tree).told c.self.invariant.0 c.args.seat (search rules) (rw (← c.self.view_is) at h))
