@@ -1,4 +1,4 @@
-use Rattle.std.proofs.Common.{◌≡◌, ◌≤◌, ◌+◌, ◌∷◌, ◌++◌, [], length, None, ap, arith, refl, rules, sym, ◌∙◌}
+use Rattle.std.proofs.Common.{◌≡◌, ◌≤◌, ◌+◌, ◌∷◌, ◌++◌, [], length, None, arith, refl, rules}
 use Rattle.portal_model.specs.declared.request.Request.TheVariants as Request
 use Rattle.portal_model.specs.Bus.{is_tree}
 use Rattle.portal_model.specs.History.{cost, cost_of, run}
