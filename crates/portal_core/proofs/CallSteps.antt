@@ -1,5 +1,5 @@
 -- A request on documents at a portal, an Add among them: it is one step of the state that the portal's lists are.
-use Rattle.std.proofs.Common.{◌≡◌, ◌≢◌, ◌+◌, ◌<◌, ◌≤◌, ◌^◌, ℕ, List, [], ◌∷◌, ◌++◌, length, Bool, true, false, cond, Option, Some, None, option_map, inl, inr, ◌⊎◌, refl, sym, ap, subst, ◌∙◌, arith}
+use Rattle.std.proofs.Common.{◌≡◌, ◌≢◌, ◌+◌, ◌≤◌, ℕ, List, [], ◌∷◌, ◌++◌, length, Bool, true, false, cond, Option, Some, None, option_map, inl, inr, ◌⊎◌, refl, sym, ap, subst, ◌∙◌, arith}
 use Rattle.change_signals.specs.Unsent.{AtSeat as BoxAtSeat, Boxes, holding}
 use Rattle.document_records.specs.Documents.{DocumentList}
 use Rattle.portal_base.specs.Outside.{HasRisen}
