@@ -278,6 +278,7 @@ impl<T: HostTree, K: Keeper, C: Clock, W: Words> Portal<T, K, C, W> {
         ensures leave { request ≡ Request.Leave → is_open (state_now self.old.story) seat ≡ true
             → IsOk result }
     {
+        // Dropped by hand here and below: what goes by itself costs a long proof.
         if let Err(error) = self.check_cost(&request) {
             drop(request);
             return Err(error);
