@@ -1,5 +1,5 @@
 -- The calls of the tree that a request on documents makes: one for each look, and none but looks; and no moment is read for it.
-use Rattle.std.proofs.Common.{◌≡◌, ℕ, zero, suc, List, [], ◌∷◌, length, replicate, Bool, true, false, not, cond, Option, Some, None, is_some, refl, sym, ap, subst, ◌∙◌}
+use Rattle.std.proofs.Common.{◌≡◌, ℕ, zero, suc, List, [], ◌∷◌, length, replicate, Bool, true, false, not, Option, Some, None, is_some, refl, sym, ap, ◌∙◌}
 use Rattle.file_ops.specs.TreeCalls.{calls_of}
 use Rattle.portal_base.specs.declared.files.File.{File}
 use Rattle.portal_base.specs.declared.files.Look.{Look}
@@ -13,7 +13,7 @@ use Rattle.portal_model.specs.declared.store.StoreCall.{StoreCall}
 use Rattle.portal_model.specs.Add.{add, add_allowed, add_looking, add_presented, add_shown, may_list_all}
 use Rattle.portal_model.specs.AddArguments.{are_add_arguments, are_presented, document_paths, paths_shown}
 use Rattle.portal_model.specs.Bus.{bus_walk, is_tree}
-use Rattle.portal_model.specs.Lawful.{LawfulOnBus, nothing_given}
+use Rattle.portal_model.specs.Lawful.{LawfulOnBus}
 use Rattle.portal_model.specs.Outside.{files_told}
 use Rattle.portal_model.specs.State.{State}
 use Rattle.portal_model.specs.Step.{all_told}

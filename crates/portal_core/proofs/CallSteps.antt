@@ -1,5 +1,5 @@
 -- A request on documents at a portal, an Add among them: it is one step of the state that the portal's lists are.
-use Rattle.std.proofs.Common.{◌≡◌, ◌≢◌, ◌+◌, ◌<◌, ◌≤◌, ◌^◌, ℕ, List, [], ◌∷◌, ◌++◌, length, Bool, true, false, cond, Option, Some, None, option_map, inl, inr, ◌⊎◌, refl, sym, ap, subst, ◌∙◌, arith}
+use Rattle.std.proofs.Common.{◌≡◌, ◌≢◌, ◌+◌, ◌≤◌, ℕ, List, [], ◌∷◌, ◌++◌, length, Bool, true, false, cond, Option, Some, None, option_map, inl, inr, ◌⊎◌, refl, sym, ap, subst, ◌∙◌, arith}
 use Rattle.change_signals.specs.Unsent.{AtSeat as BoxAtSeat, Boxes, holding}
 use Rattle.document_records.specs.Documents.{DocumentList}
 use Rattle.portal_base.specs.Outside.{HasRisen}
@@ -311,9 +311,9 @@ keeping_over began began' o h s e old new b k = subst (λ (x : Option (List File
 -- Failed tells of the device that failed
 pub failed_device : (tree tree_after : TreeIs) (n : ℕ) (fault : Fault) (then : State) (answer : Answer) (old new : KeeperIs) → Asked tree n (is_tree fault) tree_after → Settles then fault answer old new → answer ≡ Answer.Refused Code.Failed →
     HasRisen tree.faults tree_after.faults ⊎ HasRisen old.faults new.faults
-failed_device tree tree_after n Fault.None then answer old new asked s h = inr (s.failed refl h)
-failed_device tree tree_after n Fault.Tree then answer old new asked s h = inl (asked-risen n true tree tree_after asked refl)
-failed_device tree tree_after n Fault.Keeper then answer old new asked s h = inr (s.failed refl h)
+failed_device tree tree_after n Fault.None then answer old new calls s h = inr (s.failed refl h)
+failed_device tree tree_after n Fault.Tree then answer old new calls s h = inl (asked-risen n true tree tree_after calls refl)
+failed_device tree tree_after n Fault.Keeper then answer old new calls s h = inr (s.failed refl h)
 
 -- want of memory leaves the keeper's records
 pub stays_told : (old new : KeeperIs) → KeeperStays old new → new.told ≡ old.told

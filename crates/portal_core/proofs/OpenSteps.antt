@@ -1,10 +1,10 @@
 -- The table of open handles goes with the state, as connections begin, change and end.
 use Rattle.std.proofs.Common.{◌≡◌, ℕ, ◌==◌, List, [], ◌∷◌, ◌++◌, map, Bool, true, false, not, ◌&&◌, cond, Option, Some, None, is_some, option_map, refl, sym, ap, subst, ◌∙◌, arith}
-use Rattle.std.specs.List.{filter, list_all}
+use Rattle.std.specs.List.{list_all}
 use Rattle.std.proofs.lemmas.Bool.Decides.{nat_tests}
-use Rattle.file_ops.specs.OpenHandles.{AreOpen, AreOpened, IsOpened, numbered, open_on}
+use Rattle.file_ops.specs.OpenHandles.{AreOpen, AreOpened, numbered, open_on}
 use Rattle.node_serving.specs.Seats.{AreEntered}
-use Rattle.open_handles.specs.Opened.{AtSeat, Enters, HandleTable, IsFresh, Leaves, Opened, opened_on}
+use Rattle.open_handles.specs.Opened.{AtSeat, Enters, HandleTable, Leaves, Opened, opened_on}
 use Rattle.portal_base.specs.declared.who.Kind.{Kind}
 use Rattle.portal_base.specs.declared.who.Who.{Who}
 use Rattle.portal_model.specs.declared.handle.Handle.{Handle}
@@ -14,7 +14,7 @@ use Rattle.portal_model.specs.declared.state.Connection.{Connection}
 use Rattle.portal_model.specs.Enter.{new_connection}
 use Rattle.portal_model.specs.Leave.{handles_of_others, of_others}
 use Rattle.portal_model.specs.Present.{requeued, with_queue}
-use Rattle.portal_model.specs.State.{State, connection_of, handles_of, is_mount}
+use Rattle.portal_model.specs.State.{State, connection_of, handles_of}
 use Rattle.portal_model.specs.Step.{all_told, told_of}
 use Rattle.portal_model.specs.StoreRequest.{tell_hosts, told_change}
 use Rattle.portal_model.specs.Valid.{has_host_path, is_host_bus, is_sound_handle, opened_here}

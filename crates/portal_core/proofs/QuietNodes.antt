@@ -22,7 +22,7 @@ use Rattle.portal_model.specs.Alike.{Alike}
 use Rattle.portal_model.specs.Bus.{is_tree}
 use Rattle.portal_model.specs.Lawful.{LawfulOnNode}
 use Rattle.portal_model.specs.Node.{bytes_named, connections_after, counted, files_after, handles_after, node_answer, node_given, node_walk, room_of, settled_on_node, walk_on_node}
-use Rattle.portal_model.specs.NodeVerdict.{HandleChange, HandlesStay, Opens, Closes, NodeDoing, NodeVerdict, Errs, Yields}
+use Rattle.portal_model.specs.NodeVerdict.{HandleChange, HandlesStay, Opens, Closes, NodeVerdict, Errs, Yields}
 use Rattle.portal_model.specs.Outside.{files_told}
 use Rattle.portal_model.specs.Place.{Sight, place_named, sight_at}
 use Rattle.portal_model.specs.State.{State, connection_of, handle_of, is_mount}

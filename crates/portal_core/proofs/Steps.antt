@@ -3,11 +3,10 @@ use Rattle.std.proofs.Common.{◌≡◌, ◌+◌, ◌<◌, ◌≤◌, ◌^◌, �
 use Rattle.change_signals.specs.Unsent.{AtSeat as BoxAtSeat, Boxes, IsSame, holding, left as left_box, unsent_on}
 use Rattle.document_records.specs.Documents.{DocumentList}
 use Rattle.file_ops.specs.OpenHandles.{AreOpen}
-use Rattle.file_ops.specs.Served.{given_to}
 use Rattle.file_ops.specs.declared.served.FileBook.{FileBook}
 use Rattle.file_ops.specs.declared.served.NodeDone.{NodeDone}
 use Rattle.host_tree.specs.Trees.{TreeIs}
-use Rattle.node_serving.specs.Seats.{AreEntered, IsServedIn, ServesSeat, seat_step}
+use Rattle.node_serving.specs.Seats.{AreEntered, IsServedIn, ServesSeat}
 use Rattle.open_handles.specs.Opened.{AtSeat, Enters, HandleTable, Leaves, opened_on}
 use Rattle.portal_base.specs.declared.files.File.{File}
 use Rattle.portal_base.specs.declared.limits.Limits.{Limits}

@@ -5,7 +5,6 @@ use Rattle.change_signals.specs.Unsent.{AtSeat as BoxAtSeat, Boxes, holding}
 use Rattle.document_calls.specs.KeeperCalls.{fault_if}
 use Rattle.document_calls.specs.declared.served.ServedCall.{ServedCall}
 use Rattle.document_records.specs.Documents.{DocumentList}
-use Rattle.file_ops.specs.OpenHandles.{AreOpen}
 use Rattle.open_handles.specs.Opened.{HandleTable}
 use Rattle.portal_base.specs.declared.files.File.{File}
 use Rattle.portal_base.specs.declared.memory.WantOfMemory.{WantOfMemory}

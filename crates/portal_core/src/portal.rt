@@ -278,6 +278,7 @@ impl<T: HostTree, K: Keeper, C: Clock, W: Words> Portal<T, K, C, W> {
         ensures leave { request ≡ Request.Leave → is_open (state_now self.old.story) seat ≡ true
             → IsOk result }
     {
+        // Dropped by hand here and below: what goes by itself costs a long proof.
         if let Err(error) = self.check_cost(&request) {
             drop(request);
             return Err(error);
@@ -489,8 +490,16 @@ impl<T: HostTree, K: Keeper, C: Clock, W: Words> Portal<T, K, C, W> {
         ensures err { OnErr result
             (Spends T.is K.is C.told W.told self.old (Request.Add add) self.new) }
     {
-        self.history.reserve(self.connections.as_slice().len() + 1)?;
-        let signals = self.outboxes.take(seat)?;
+        let taken = taken(
+            &mut self.history,
+            &mut self.outboxes,
+            self.connections.as_slice(),
+            seat,
+        );
+        let Ok(signals) = taken else {
+            drop(add);
+            return Err(WantOfMemory);
+        };
         let served = serve_add(
             alloc,
             &mut self.documents,
@@ -533,8 +542,16 @@ impl<T: HostTree, K: Keeper, C: Clock, W: Words> Portal<T, K, C, W> {
             (Spends T.is K.is C.told W.told self.old (Request.Store call) self.new) }
         ensures unasked { may_change_entries call ≡ false → OnErr result (self.new ≡ self.old) }
     {
-        self.history.reserve(self.connections.as_slice().len() + 1)?;
-        let signals = self.outboxes.take(seat)?;
+        let taken = taken(
+            &mut self.history,
+            &mut self.outboxes,
+            self.connections.as_slice(),
+            seat,
+        );
+        let Ok(signals) = taken else {
+            drop(call);
+            return Err(WantOfMemory);
+        };
         let served = store::serve(
             alloc,
             &mut self.tables,
@@ -598,8 +615,12 @@ impl<T: HostTree, K: Keeper, C: Clock, W: Words> Portal<T, K, C, W> {
             (K.is self.old.keeper) (K.is self.new.keeper)) }
         ensures err { OnErr result (self.new ≡ self.old) }
     {
-        self.history.reserve(self.connections.as_slice().len() + 1)?;
-        let signals = self.outboxes.take(seat)?;
+        let signals = taken(
+            &mut self.history,
+            &mut self.outboxes,
+            self.connections.as_slice(),
+            seat,
+        )?;
         let answer = collect_answer(bus_of(self.connections.as_slice(), seat));
         let entry = entry_made(alloc, seat, Request::Collect);
         self.history.push(entry);

@@ -1,4 +1,4 @@
-use Rattle.std.proofs.Common.{◌≡◌, ap, refl, subst, sym, ◌∙◌}
+use Rattle.std.proofs.Common.{sym}
 use Rattle.portal_core.proofs.StoredCalls.{stored-nowhere, stored-somewhere}
 use Rattle.portal_core.proofs.store.serve.Goals as goal
 

@@ -1,4 +1,4 @@
-use Rattle.std.proofs.Common.{◌≡◌, ◌≤◌, ◌+◌, ◌∷◌, ◌++◌, [], length, None, ap, arith, refl, rules, sym, ◌∙◌}
+use Rattle.std.proofs.Common.{◌≡◌, ◌≤◌, ◌+◌, ◌∷◌, ◌++◌, [], length, None, arith, refl, rules}
 use Rattle.portal_model.specs.declared.request.Request.TheVariants as Request
 use Rattle.portal_model.specs.Bus.{is_tree}
 use Rattle.portal_model.specs.History.{cost, cost_of, run}
@@ -18,34 +18,34 @@ use Rattle.portal_core.proofs.Steps.{signals-now, stored_back}
 use Rattle.portal_core.proofs.WentDevices.{spends-add, went-add}
 use Rattle.portal_core.proofs.portal.Portal.add.Goals as goal
 
-pub invariant_of-self-in-Ok : goal.invariant_of-self-in-Ok
-invariant_of-self-in-Ok g c =
+pub invariant_of-self-in-Ok-served : goal.invariant_of-self-in-Ok-served
+invariant_of-self-in-Ok-served g c =
     let k = c.self.inside in
     let tree = g.T.HostTree.is k.tree in
     let began = tree.began in
     let served = c.serve_add-served.new in
     let after = g.T.HostTree.is served.tree in
-    let given = c.in-Ok.field-0.given in
-    let answer = c.in-Ok.field-0.answer in
-    let sent = signals-now began k.opening k.history.entries k.history.limit k.documents k.rights k.applications k.connections k.handles tree.told c.self.invariant.0 c.args.seat k.tables k.outboxes c.in_ok-signals.signals c.self.invariant.3 c.in_ok-signals.ensures.signals in
-    let came = comes_added began k.opening k.history.entries k.history.limit k.documents k.rights k.applications k.connections k.handles tree.told c.self.invariant.0 served.documents served.rights served.applications served.connections c.args.seat (Request.Add c.args.add) given c.in_ok-signals.signals answer (g.K.Keeper.is k.keeper) (g.K.Keeper.is served.keeper) c.args.add refl tree.told refl sent c.self.invariant.2 c.in-Ok.ensures.ok in
-    let room = rw (c.as_slice.ensures) at c.in_ok-reserve.ensures.ok in
+    let given = c.in-Ok-served.field-0.given in
+    let answer = c.in-Ok-served.field-0.answer in
+    let sent = signals-now began k.opening k.history.entries k.history.limit k.documents k.rights k.applications k.connections k.handles tree.told c.self.invariant.0 c.args.seat k.tables k.outboxes c.in-Ok.signals c.self.invariant.3 c.in-Ok.ensures.signals in
+    let came = comes_added began k.opening k.history.entries k.history.limit k.documents k.rights k.applications k.connections k.handles tree.told c.self.invariant.0 served.documents served.rights served.applications served.connections c.args.seat (Request.Add c.args.add) given c.in-Ok.signals answer (g.K.Keeper.is k.keeper) (g.K.Keeper.is served.keeper) c.args.add refl tree.told refl sent c.self.invariant.2 c.in-Ok-served.ensures.ok in
+    let room = rw (c.as_slice.ensures) at c.in-Ok.ensures.room in
     let count = c.serve_add-served.ensures.count in
     let fits : cost k.history.entries + cost_of (Request.Add c.args.add) ≤ k.opening.limits.history = rw (← c.self.view_is) at c.requires in
-    let stands = stands_served began k.opening k.history.entries k.history.limit k.documents k.rights k.applications k.connections k.handles tree.told c.self.invariant.0 served.documents served.rights served.applications served.connections c.args.seat (Request.Add c.args.add) given c.in_ok-signals.signals answer (g.K.Keeper.is k.keeper) (g.K.Keeper.is served.keeper) refl c.serve_add-served.ensures.queues came c.serve_add-served.ensures.limits fits in
-    let kept = asked-keeps (length given.looks) (is_tree given.fault) tree after c.in-Ok.ensures.asked in
-    let keeps = keeps_run began k.opening k.history.entries k.history.limit k.documents k.rights k.applications k.connections k.handles tree.told c.self.invariant.0 served.documents served.rights served.applications served.connections c.args.seat (Request.Add c.args.add) given c.in_ok-signals.signals answer (g.K.Keeper.is k.keeper) (g.K.Keeper.is served.keeper) came in
+    let stands = stands_served began k.opening k.history.entries k.history.limit k.documents k.rights k.applications k.connections k.handles tree.told c.self.invariant.0 served.documents served.rights served.applications served.connections c.args.seat (Request.Add c.args.add) given c.in-Ok.signals answer (g.K.Keeper.is k.keeper) (g.K.Keeper.is served.keeper) refl c.serve_add-served.ensures.queues came c.serve_add-served.ensures.limits fits in
+    let kept = asked-keeps (length given.looks) (is_tree given.fault) tree after c.in-Ok-served.ensures.asked in
+    let keeps = keeps_run began k.opening k.history.entries k.history.limit k.documents k.rights k.applications k.connections k.handles tree.told c.self.invariant.0 served.documents served.rights served.applications served.connections c.args.seat (Request.Add c.args.add) given c.in-Ok.signals answer (g.K.Keeper.is k.keeper) (g.K.Keeper.is served.keeper) came in
     let both = stands_over began after.began k.opening (k.history.entries ++ entry_with c.args.seat (Request.Add c.args.add) given ∷ []) k.history.limit served.documents served.rights served.applications served.connections k.handles tree.told after.told (g.K.Keeper.is served.keeper).told kept.0 kept.1 stands keeps in
-    let stored = stored_served began k.opening k.history.entries k.history.limit k.documents k.rights k.applications k.connections k.handles tree.told c.self.invariant.0 served.documents served.rights served.applications served.connections c.args.seat (Request.Add c.args.add) given c.in_ok-signals.signals answer (g.K.Keeper.is k.keeper) (g.K.Keeper.is served.keeper) k.tables k.outboxes c.take.new.self came c.take.ensures.rest c.self.invariant.3 in
-    rw (c.push.ensures, c.in_ok-reserve.ensures.entries, c.in_ok-reserve.ensures.limit) (
+    let stored = stored_served began k.opening k.history.entries k.history.limit k.documents k.rights k.applications k.connections k.handles tree.told c.self.invariant.0 served.documents served.rights served.applications served.connections c.args.seat (Request.Add c.args.add) given c.in-Ok.signals answer (g.K.Keeper.is k.keeper) (g.K.Keeper.is served.keeper) k.tables k.outboxes c.taken-taken.new.outboxes came c.in-Ok.ensures.rest c.self.invariant.3 in
+    rw (c.push.ensures, c.taken-taken.ensures.entries, c.taken-taken.ensures.limit) (
       both.0,
       omega (arith, room, count),
       both.1,
-      stored_over began after.began k.opening (k.history.entries ++ entry_with c.args.seat (Request.Add c.args.add) given ∷ []) k.tables c.take.new.self kept.0 stored,
+      stored_over began after.began k.opening (k.history.entries ++ entry_with c.args.seat (Request.Add c.args.add) given ∷ []) k.tables c.taken-taken.new.outboxes kept.0 stored,
     )
 
 pub give_back-requires : goal.give_back-requires
-give_back-requires g c = taken-empty c.args.seat c.self.inside.outboxes c.take.new.self c.take.new.self c.take.ensures.rest (λ s. refl)
+give_back-requires g c = taken-empty c.args.seat c.self.inside.outboxes c.taken-taken.new.outboxes c.taken-taken.new.outboxes c.in-Ok.ensures.rest (λ s. refl)
 
 pub invariant_of-self-in-Err : goal.invariant_of-self-in-Err
 invariant_of-self-in-Err g c =
@@ -53,22 +53,22 @@ invariant_of-self-in-Err g c =
     let tree = g.T.HostTree.is k.tree in
     let served = c.serve_add-served.new in
     let after = g.T.HostTree.is served.tree in
-    let room = rw (c.as_slice.ensures) at c.in_ok-reserve.ensures.ok in
+    let room = rw (c.as_slice.ensures) at c.in-Ok.ensures.room in
     let kept = was-asked-keeps tree after c.in-Err.ensures.tree in
     let told = stays_told (g.K.Keeper.is k.keeper) (g.K.Keeper.is served.keeper) c.in-Err.ensures.keeper in
     let both = stands_over tree.began after.began k.opening k.history.entries k.history.limit k.documents k.rights k.applications k.connections k.handles tree.told after.told (g.K.Keeper.is k.keeper).told kept.0 kept.1 c.self.invariant.0 c.self.invariant.2 in
-    rw (c.in-Err.ensures.documents, c.in-Err.ensures.rights, c.in-Err.ensures.applications, c.in-Err.ensures.connections, c.in_ok-reserve.ensures.entries, c.in_ok-reserve.ensures.limit, told) (
+    rw (c.in-Err.ensures.documents, c.in-Err.ensures.rights, c.in-Err.ensures.applications, c.in-Err.ensures.connections, c.taken-taken.ensures.entries, c.taken-taken.ensures.limit, told) (
       both.0,
       omega (arith, room),
       both.1,
       stored_over tree.began after.began k.opening k.history.entries k.tables c.give_back.new.self kept.0
-          (stored_back tree.began k.opening k.history.entries k.history.limit k.documents k.rights k.applications k.connections k.handles tree.told c.self.invariant.0 c.args.seat k.tables k.outboxes c.take.new.self c.take.new.self c.give_back.new.self c.in_ok-signals.signals
-          c.take.ensures.rest (λ s. refl) c.in_ok-signals.ensures.signals c.give_back.ensures c.self.invariant.3),
+          (stored_back tree.began k.opening k.history.entries k.history.limit k.documents k.rights k.applications k.connections k.handles tree.told c.self.invariant.0 c.args.seat k.tables k.outboxes c.taken-taken.new.outboxes c.taken-taken.new.outboxes c.give_back.new.self c.in-Ok.signals
+          c.in-Ok.ensures.rest (λ s. refl) c.in-Ok.ensures.signals c.give_back.ensures c.self.invariant.3),
     )
 
-pub returns-in-Ok-clause-began : goal.returns-in-Ok-clause-began
-returns-in-Ok-clause-began g c =
-    let kept = asked-keeps (length c.in-Ok.field-0.given.looks) (is_tree c.in-Ok.field-0.given.fault) (g.T.HostTree.is c.self.inside.tree) (g.T.HostTree.is c.serve_add-served.new.tree) c.in-Ok.ensures.asked in
+pub returns-in-Ok-served-clause-began : goal.returns-in-Ok-served-clause-began
+returns-in-Ok-served-clause-began g c =
+    let kept = asked-keeps (length c.in-Ok-served.field-0.given.looks) (is_tree c.in-Ok-served.field-0.given.fault) (g.T.HostTree.is c.self.inside.tree) (g.T.HostTree.is c.serve_add-served.new.tree) c.in-Ok-served.ensures.asked in
     rw (← c.self.view_is) kept.0
 
 pub returns-in-Err-clause-began : goal.returns-in-Err-clause-began
@@ -76,23 +76,23 @@ returns-in-Err-clause-began g c =
     let kept = was-asked-keeps (g.T.HostTree.is c.self.inside.tree) (g.T.HostTree.is c.serve_add-served.new.tree) c.in-Err.ensures.tree in
     rw (← c.self.view_is) kept.0
 
-pub returns-in-Ok-clause-ok : goal.returns-in-Ok-clause-ok
-returns-in-Ok-clause-ok g c =
+pub returns-in-Ok-served-clause-ok : goal.returns-in-Ok-served-clause-ok
+returns-in-Ok-served-clause-ok g c =
     let k = c.self.inside in
     let tree = g.T.HostTree.is k.tree in
     let began = tree.began in
     let served = c.serve_add-served.new in
     let after = g.T.HostTree.is served.tree in
-    let given = c.in-Ok.field-0.given in
-    let answer = c.in-Ok.field-0.answer in
-    let sent = signals-now began k.opening k.history.entries k.history.limit k.documents k.rights k.applications k.connections k.handles tree.told c.self.invariant.0 c.args.seat k.tables k.outboxes c.in_ok-signals.signals c.self.invariant.3 c.in_ok-signals.ensures.signals in
-    let came = comes_added began k.opening k.history.entries k.history.limit k.documents k.rights k.applications k.connections k.handles tree.told c.self.invariant.0 served.documents served.rights served.applications served.connections c.args.seat (Request.Add c.args.add) given c.in_ok-signals.signals answer (g.K.Keeper.is k.keeper) (g.K.Keeper.is served.keeper) c.args.add refl tree.told refl sent c.self.invariant.2 c.in-Ok.ensures.ok in
+    let given = c.in-Ok-served.field-0.given in
+    let answer = c.in-Ok-served.field-0.answer in
+    let sent = signals-now began k.opening k.history.entries k.history.limit k.documents k.rights k.applications k.connections k.handles tree.told c.self.invariant.0 c.args.seat k.tables k.outboxes c.in-Ok.signals c.self.invariant.3 c.in-Ok.ensures.signals in
+    let came = comes_added began k.opening k.history.entries k.history.limit k.documents k.rights k.applications k.connections k.handles tree.told c.self.invariant.0 served.documents served.rights served.applications served.connections c.args.seat (Request.Add c.args.add) given c.in-Ok.signals answer (g.K.Keeper.is k.keeper) (g.K.Keeper.is served.keeper) c.args.add refl tree.told refl sent c.self.invariant.2 c.in-Ok-served.ensures.ok in
     let entry = entry_with c.args.seat (Request.Add c.args.add) given in
-    let kept = asked-keeps (length given.looks) (is_tree given.fault) tree after c.in-Ok.ensures.asked in
+    let kept = asked-keeps (length given.looks) (is_tree given.fault) tree after c.in-Ok-served.ensures.asked in
     let lawful : Lawful (state_now c.args.self.now.story) entry = rw (← c.self.view_is) came.lawful in
-    let replied : reply_with c.in_ok-signals.signals answer ≡ reply_at (state_now c.args.self.now.story) entry = rw (← c.self.view_is) came.reply_is in
+    let replied : reply_with c.in-Ok.signals answer ≡ reply_at (state_now c.args.self.now.story) entry = rw (← c.self.view_is) came.reply_is in
     let keeping : Keeping (state_now c.args.self.now.story) entry (run (opened_over after.began k.opening) (k.history.entries ++ entry ∷ [])) (g.K.Keeper.is c.args.self.now.keeper) (g.K.Keeper.is served.keeper) =
-    rw (← c.self.view_is) (keeping_over began after.began k.opening (k.history.entries ++ entry ∷ []) (run (opened_over began k.opening) k.history.entries) entry (g.K.Keeper.is k.keeper) (g.K.Keeper.is served.keeper) kept.0 (keeping_run began k.opening k.history.entries k.history.limit k.documents k.rights k.applications k.connections k.handles tree.told c.self.invariant.0 served.documents served.rights served.applications served.connections c.args.seat (Request.Add c.args.add) given c.in_ok-signals.signals answer (g.K.Keeper.is k.keeper) (g.K.Keeper.is served.keeper) came)) in
+    rw (← c.self.view_is) (keeping_over began after.began k.opening (k.history.entries ++ entry ∷ []) (run (opened_over began k.opening) k.history.entries) entry (g.K.Keeper.is k.keeper) (g.K.Keeper.is served.keeper) kept.0 (keeping_run began k.opening k.history.entries k.history.limit k.documents k.rights k.applications k.connections k.handles tree.told c.self.invariant.0 served.documents served.rights served.applications served.connections c.args.seat (Request.Add c.args.add) given c.in-Ok.signals answer (g.K.Keeper.is k.keeper) (g.K.Keeper.is served.keeper) came)) in
     let at = run (opened_over began k.opening) k.history.entries in
     let moment : given.now ≡ None = bus-moment at (Request.Add c.args.add) given (bus_of (connection_of at.connections c.args.seat)) came.lawful.given in
     let called : entry_calls (state_now c.args.self.now.story) entry ≡ listed (length given.looks) (is_tree given.fault) =
@@ -104,34 +104,34 @@ returns-in-Ok-clause-ok g c =
       request_is = refl;
       lawful = lawful;
       reply_is = alike-same _ (Request.Add c.args.add) _ _ refl replied;
-      went = went-add _ _ _ _ _ _ _ (rw (← c.self.view_is) kept.0) (search rules) (search rules) refl refl called (rw (← c.self.view_is) c.in-Ok.ensures.asked) (rw (c.push.ensures, c.in_ok-reserve.ensures.entries) keeping) moment (search rules) (rw (← c.self.view_is) c.in-Ok.ensures.drew);
+      went = went-add _ _ _ _ _ _ _ (rw (← c.self.view_is) kept.0) (search rules) (search rules) refl refl called (rw (← c.self.view_is) c.in-Ok-served.ensures.asked) (rw (c.push.ensures, c.taken-taken.ensures.entries) keeping) moment (search rules) (rw (← c.self.view_is) c.in-Ok-served.ensures.drew);
     }
 
-pub returns-in-Ok-clause-fault : goal.returns-in-Ok-clause-fault
-returns-in-Ok-clause-fault g c =
+pub returns-in-Ok-served-clause-fault : goal.returns-in-Ok-served-clause-fault
+returns-in-Ok-served-clause-fault g c =
     let k = c.self.inside in
     let tree = g.T.HostTree.is k.tree in
     let began = tree.began in
     let served = c.serve_add-served.new in
     let after = g.T.HostTree.is served.tree in
-    let given = c.in-Ok.field-0.given in
-    let answer = c.in-Ok.field-0.answer in
-    let sent = signals-now began k.opening k.history.entries k.history.limit k.documents k.rights k.applications k.connections k.handles tree.told c.self.invariant.0 c.args.seat k.tables k.outboxes c.in_ok-signals.signals c.self.invariant.3 c.in_ok-signals.ensures.signals in
-    let came = comes_added began k.opening k.history.entries k.history.limit k.documents k.rights k.applications k.connections k.handles tree.told c.self.invariant.0 served.documents served.rights served.applications served.connections c.args.seat (Request.Add c.args.add) given c.in_ok-signals.signals answer (g.K.Keeper.is k.keeper) (g.K.Keeper.is served.keeper) c.args.add refl tree.told refl sent c.self.invariant.2 c.in-Ok.ensures.ok in
+    let given = c.in-Ok-served.field-0.given in
+    let answer = c.in-Ok-served.field-0.answer in
+    let sent = signals-now began k.opening k.history.entries k.history.limit k.documents k.rights k.applications k.connections k.handles tree.told c.self.invariant.0 c.args.seat k.tables k.outboxes c.in-Ok.signals c.self.invariant.3 c.in-Ok.ensures.signals in
+    let came = comes_added began k.opening k.history.entries k.history.limit k.documents k.rights k.applications k.connections k.handles tree.told c.self.invariant.0 served.documents served.rights served.applications served.connections c.args.seat (Request.Add c.args.add) given c.in-Ok.signals answer (g.K.Keeper.is k.keeper) (g.K.Keeper.is served.keeper) c.args.add refl tree.told refl sent c.self.invariant.2 c.in-Ok-served.ensures.ok in
     λ h. absurd (came.settles.no_errno h)
 
-pub returns-in-Ok-clause-failure : goal.returns-in-Ok-clause-failure
-returns-in-Ok-clause-failure g c =
+pub returns-in-Ok-served-clause-failure : goal.returns-in-Ok-served-clause-failure
+returns-in-Ok-served-clause-failure g c =
     let k = c.self.inside in
     let tree = g.T.HostTree.is k.tree in
     let began = tree.began in
     let served = c.serve_add-served.new in
     let after = g.T.HostTree.is served.tree in
-    let given = c.in-Ok.field-0.given in
-    let answer = c.in-Ok.field-0.answer in
-    let sent = signals-now began k.opening k.history.entries k.history.limit k.documents k.rights k.applications k.connections k.handles tree.told c.self.invariant.0 c.args.seat k.tables k.outboxes c.in_ok-signals.signals c.self.invariant.3 c.in_ok-signals.ensures.signals in
-    let came = comes_added began k.opening k.history.entries k.history.limit k.documents k.rights k.applications k.connections k.handles tree.told c.self.invariant.0 served.documents served.rights served.applications served.connections c.args.seat (Request.Add c.args.add) given c.in_ok-signals.signals answer (g.K.Keeper.is k.keeper) (g.K.Keeper.is served.keeper) c.args.add refl tree.told refl sent c.self.invariant.2 c.in-Ok.ensures.ok in
-    λ h. rw (← c.self.view_is) (failed_device tree after (length given.looks) given.fault _ answer (g.K.Keeper.is k.keeper) (g.K.Keeper.is served.keeper) c.in-Ok.ensures.asked came.settles h)
+    let given = c.in-Ok-served.field-0.given in
+    let answer = c.in-Ok-served.field-0.answer in
+    let sent = signals-now began k.opening k.history.entries k.history.limit k.documents k.rights k.applications k.connections k.handles tree.told c.self.invariant.0 c.args.seat k.tables k.outboxes c.in-Ok.signals c.self.invariant.3 c.in-Ok.ensures.signals in
+    let came = comes_added began k.opening k.history.entries k.history.limit k.documents k.rights k.applications k.connections k.handles tree.told c.self.invariant.0 served.documents served.rights served.applications served.connections c.args.seat (Request.Add c.args.add) given c.in-Ok.signals answer (g.K.Keeper.is k.keeper) (g.K.Keeper.is served.keeper) c.args.add refl tree.told refl sent c.self.invariant.2 c.in-Ok-served.ensures.ok in
+    λ h. rw (← c.self.view_is) (failed_device tree after (length given.looks) given.fault _ answer (g.K.Keeper.is k.keeper) (g.K.Keeper.is served.keeper) c.in-Ok-served.ensures.asked came.settles h)
 
 pub returns-in-Err-clause-err : goal.returns-in-Err-clause-err
 returns-in-Err-clause-err g c =

@@ -1,14 +1,14 @@
 use Rattle.std.proofs.Common.{◌≡◌, [], ◌<◌, length, is_some, arith, rules, true, refl, ◌∙◌}
-use Rattle.portal_model.specs.Leave.{of_others}
-use Rattle.portal_model.specs.State.{connection_of}
 use Rattle.portal_model.specs.declared.entry.Fault.TheVariants as Fault
 use Rattle.portal_model.specs.declared.reply.Answer.{Answer}
 use Rattle.portal_model.specs.declared.reply.Code.TheVariants as Code
 use Rattle.portal_model.specs.declared.request.Request.TheVariants as Request
+use Rattle.portal_model.specs.Leave.{of_others}
+use Rattle.portal_model.specs.State.{connection_of}
 use Rattle.portal_model.specs.Step.{reply_at, reply_with}
 use Rattle.portal_core.specs.Served.{entry_of}
 use Rattle.portal_core.specs.Story.{state_now}
-use Rattle.portal_core.proofs.Steps.{fewer_others, keeps-left, stands_absent, stands_left, stored_absent, stored_left, absent_closed, absent_replied, left_replied}
+use Rattle.portal_core.proofs.Steps.{absent_closed, absent_replied, fewer_others, keeps-left, left_replied, stands_absent, stands_left, stored_absent, stored_left}
 use Rattle.portal_core.proofs.NodeSteps.{alike-same}
 use Rattle.portal_core.proofs.WentDevices.{went-plain}
 use Rattle.portal_core.proofs.portal.Portal.leave.Goals as goal

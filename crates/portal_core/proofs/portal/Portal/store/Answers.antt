@@ -17,8 +17,8 @@ use Rattle.portal_core.proofs.StoredCalls.{keeping_stored, keeps_stored, stands_
 use Rattle.portal_core.proofs.WentDevices.{went-call}
 use Rattle.portal_core.proofs.portal.Portal.store.Goals as goal
 
-pub invariant_of-self-in-Ok : goal.invariant_of-self-in-Ok
-invariant_of-self-in-Ok g c =
+pub invariant_of-self-in-Ok-served : goal.invariant_of-self-in-Ok-served
+invariant_of-self-in-Ok-served g c =
     let k = c.self.inside in
     let tree = g.T.HostTree.is k.tree in
     let began = tree.began in
@@ -26,15 +26,15 @@ invariant_of-self-in-Ok g c =
     let new = c.serve-served.new in
     let old_keeper = g.K.Keeper.is k.keeper in
     let new_keeper = g.K.Keeper.is new.keeper in
-    let signals = c.in_ok-signals.signals in
-    let taken = c.take.new.self in
-    let served = c.in-Ok.field-0 in
-    let sent = signals-now began k.opening k.history.entries k.history.limit k.documents k.rights k.applications k.connections k.handles told c.self.invariant.0 c.args.seat k.tables k.outboxes signals c.self.invariant.3 c.in_ok-signals.ensures.signals in
+    let signals = c.in-Ok.signals in
+    let taken = c.taken-taken.new.outboxes in
+    let served = c.in-Ok-served.field-0 in
+    let sent = signals-now began k.opening k.history.entries k.history.limit k.documents k.rights k.applications k.connections k.handles told c.self.invariant.0 c.args.seat k.tables k.outboxes signals c.self.invariant.3 c.in-Ok.ensures.signals in
     let came = stores began k.opening k.history.entries k.history.limit k.documents k.rights k.applications k.connections k.handles told c.self.invariant.0 c.args.seat c.args.call k.tables new.tables k.outboxes taken new.outboxes signals old_keeper new_keeper served
-    sent c.take.ensures.rest c.self.invariant.2 c.self.invariant.3 (rw (c.as_slice-2.ensures) at c.in-Ok.ensures.ok) in
-    let room = rw (c.as_slice.ensures) at c.in_ok-reserve.ensures.ok in
+    sent c.in-Ok.ensures.rest c.self.invariant.2 c.self.invariant.3 (rw (c.as_slice-2.ensures) at c.in-Ok-served.ensures.ok) in
+    let room = rw (c.as_slice.ensures) at c.in-Ok.ensures.room in
     let fits : cost k.history.entries + cost_of (Request.Store c.args.call) ≤ k.opening.limits.history = rw (← c.self.view_is) at c.requires in
-    rw (c.push.ensures, c.in_ok-reserve.ensures.entries, c.in_ok-reserve.ensures.limit) (
+    rw (c.push.ensures, c.taken-taken.ensures.entries, c.taken-taken.ensures.limit) (
       stands_stored began k.opening k.history.entries k.history.limit k.documents k.rights k.applications k.connections k.handles told c.self.invariant.0 c.args.seat c.args.call k.tables new.tables k.outboxes taken new.outboxes signals old_keeper new_keeper served came fits,
       omega (arith, room),
       keeps_stored began k.opening k.history.entries k.history.limit k.documents k.rights k.applications k.connections k.handles told c.self.invariant.0 c.args.seat c.args.call k.tables new.tables k.outboxes taken new.outboxes signals old_keeper new_keeper served came,
@@ -42,25 +42,25 @@ invariant_of-self-in-Ok g c =
     )
 
 pub give_back-requires : goal.give_back-requires
-give_back-requires g c = taken-empty c.args.seat c.self.inside.outboxes c.take.new.self c.serve-served.new.outboxes c.take.ensures.rest c.in-Err.ensures.outboxes
+give_back-requires g c = taken-empty c.args.seat c.self.inside.outboxes c.taken-taken.new.outboxes c.serve-served.new.outboxes c.in-Ok.ensures.rest c.in-Err.ensures.outboxes
 
 pub invariant_of-self-in-Err : goal.invariant_of-self-in-Err
 invariant_of-self-in-Err g c =
     let k = c.self.inside in
     let tree = g.T.HostTree.is k.tree in
     let new = c.serve-served.new in
-    let room = rw (c.as_slice.ensures) at c.in_ok-reserve.ensures.ok in
+    let room = rw (c.as_slice.ensures) at c.in-Ok.ensures.room in
     let told = stays_told (g.K.Keeper.is k.keeper) (g.K.Keeper.is new.keeper) c.in-Err.ensures.keeper in
-    rw (c.in-Err.ensures.tables, c.in_ok-reserve.ensures.entries, c.in_ok-reserve.ensures.limit, told) (
+    rw (c.in-Err.ensures.tables, c.taken-taken.ensures.entries, c.taken-taken.ensures.limit, told) (
       c.self.invariant.0,
       omega (arith, room),
       c.self.invariant.2,
-      stored_back tree.began k.opening k.history.entries k.history.limit k.documents k.rights k.applications k.connections k.handles tree.told c.self.invariant.0 c.args.seat k.tables k.outboxes c.take.new.self new.outboxes c.give_back.new.self c.in_ok-signals.signals
-          c.take.ensures.rest c.in-Err.ensures.outboxes c.in_ok-signals.ensures.signals c.give_back.ensures c.self.invariant.3,
+      stored_back tree.began k.opening k.history.entries k.history.limit k.documents k.rights k.applications k.connections k.handles tree.told c.self.invariant.0 c.args.seat k.tables k.outboxes c.taken-taken.new.outboxes new.outboxes c.give_back.new.self c.in-Ok.signals
+          c.in-Ok.ensures.rest c.in-Err.ensures.outboxes c.in-Ok.ensures.signals c.give_back.ensures c.self.invariant.3,
     )
 
-pub returns-in-Ok-clause-ok : goal.returns-in-Ok-clause-ok
-returns-in-Ok-clause-ok g c =
+pub returns-in-Ok-served-clause-ok : goal.returns-in-Ok-served-clause-ok
+returns-in-Ok-served-clause-ok g c =
     let k = c.self.inside in
     let tree = g.T.HostTree.is k.tree in
     let began = tree.began in
@@ -68,12 +68,12 @@ returns-in-Ok-clause-ok g c =
     let new = c.serve-served.new in
     let old_keeper = g.K.Keeper.is k.keeper in
     let new_keeper = g.K.Keeper.is new.keeper in
-    let signals = c.in_ok-signals.signals in
-    let taken = c.take.new.self in
-    let served = c.in-Ok.field-0 in
-    let sent = signals-now began k.opening k.history.entries k.history.limit k.documents k.rights k.applications k.connections k.handles told c.self.invariant.0 c.args.seat k.tables k.outboxes signals c.self.invariant.3 c.in_ok-signals.ensures.signals in
+    let signals = c.in-Ok.signals in
+    let taken = c.taken-taken.new.outboxes in
+    let served = c.in-Ok-served.field-0 in
+    let sent = signals-now began k.opening k.history.entries k.history.limit k.documents k.rights k.applications k.connections k.handles told c.self.invariant.0 c.args.seat k.tables k.outboxes signals c.self.invariant.3 c.in-Ok.ensures.signals in
     let came = stores began k.opening k.history.entries k.history.limit k.documents k.rights k.applications k.connections k.handles told c.self.invariant.0 c.args.seat c.args.call k.tables new.tables k.outboxes taken new.outboxes signals old_keeper new_keeper served
-    sent c.take.ensures.rest c.self.invariant.2 c.self.invariant.3 (rw (c.as_slice-2.ensures) at c.in-Ok.ensures.ok) in
+    sent c.in-Ok.ensures.rest c.self.invariant.2 c.self.invariant.3 (rw (c.as_slice-2.ensures) at c.in-Ok-served.ensures.ok) in
     let entry = entry_with c.args.seat (Request.Store c.args.call) served.given in
     let lawful : Lawful (state_now c.args.self.now.story) entry = rw (← c.self.view_is) came.comes.lawful in
     let replied : reply_with signals served.answer ≡ reply_at (state_now c.args.self.now.story) entry = rw (← c.self.view_is) came.comes.reply_is in
@@ -89,12 +89,12 @@ returns-in-Ok-clause-ok g c =
       request_is = refl;
       lawful = lawful;
       reply_is = alike-same _ (Request.Store c.args.call) _ _ refl replied;
-      went = went-call _ _ _ _ _ _ _ (search rules) (search rules) (search rules) (search rules) called (rw (c.push.ensures, c.in_ok-reserve.ensures.entries) keeping) came.untreed.moment (search rules) came.untreed.words (search rules)
+      went = went-call _ _ _ _ _ _ _ (search rules) (search rules) (search rules) (search rules) called (rw (c.push.ensures, c.taken-taken.ensures.entries) keeping) came.untreed.moment (search rules) came.untreed.words (search rules)
           (λ h. (came.untreed.unkept h, rw (← c.self.view_is) (c.serve-served.ensures.unasked h)));
     }
 
-pub returns-in-Ok-clause-fault : goal.returns-in-Ok-clause-fault
-returns-in-Ok-clause-fault g c =
+pub returns-in-Ok-served-clause-fault : goal.returns-in-Ok-served-clause-fault
+returns-in-Ok-served-clause-fault g c =
     let k = c.self.inside in
     let tree = g.T.HostTree.is k.tree in
     let began = tree.began in
@@ -102,16 +102,16 @@ returns-in-Ok-clause-fault g c =
     let new = c.serve-served.new in
     let old_keeper = g.K.Keeper.is k.keeper in
     let new_keeper = g.K.Keeper.is new.keeper in
-    let signals = c.in_ok-signals.signals in
-    let taken = c.take.new.self in
-    let served = c.in-Ok.field-0 in
-    let sent = signals-now began k.opening k.history.entries k.history.limit k.documents k.rights k.applications k.connections k.handles told c.self.invariant.0 c.args.seat k.tables k.outboxes signals c.self.invariant.3 c.in_ok-signals.ensures.signals in
+    let signals = c.in-Ok.signals in
+    let taken = c.taken-taken.new.outboxes in
+    let served = c.in-Ok-served.field-0 in
+    let sent = signals-now began k.opening k.history.entries k.history.limit k.documents k.rights k.applications k.connections k.handles told c.self.invariant.0 c.args.seat k.tables k.outboxes signals c.self.invariant.3 c.in-Ok.ensures.signals in
     let came = stores began k.opening k.history.entries k.history.limit k.documents k.rights k.applications k.connections k.handles told c.self.invariant.0 c.args.seat c.args.call k.tables new.tables k.outboxes taken new.outboxes signals old_keeper new_keeper served
-    sent c.take.ensures.rest c.self.invariant.2 c.self.invariant.3 (rw (c.as_slice-2.ensures) at c.in-Ok.ensures.ok) in
+    sent c.in-Ok.ensures.rest c.self.invariant.2 c.self.invariant.3 (rw (c.as_slice-2.ensures) at c.in-Ok-served.ensures.ok) in
     λ h. absurd (came.comes.settles.no_errno h)
 
-pub returns-in-Ok-clause-failure : goal.returns-in-Ok-clause-failure
-returns-in-Ok-clause-failure g c =
+pub returns-in-Ok-served-clause-failure : goal.returns-in-Ok-served-clause-failure
+returns-in-Ok-served-clause-failure g c =
     let k = c.self.inside in
     let tree = g.T.HostTree.is k.tree in
     let began = tree.began in
@@ -119,10 +119,10 @@ returns-in-Ok-clause-failure g c =
     let new = c.serve-served.new in
     let old_keeper = g.K.Keeper.is k.keeper in
     let new_keeper = g.K.Keeper.is new.keeper in
-    let signals = c.in_ok-signals.signals in
-    let taken = c.take.new.self in
-    let served = c.in-Ok.field-0 in
-    let sent = signals-now began k.opening k.history.entries k.history.limit k.documents k.rights k.applications k.connections k.handles told c.self.invariant.0 c.args.seat k.tables k.outboxes signals c.self.invariant.3 c.in_ok-signals.ensures.signals in
+    let signals = c.in-Ok.signals in
+    let taken = c.taken-taken.new.outboxes in
+    let served = c.in-Ok-served.field-0 in
+    let sent = signals-now began k.opening k.history.entries k.history.limit k.documents k.rights k.applications k.connections k.handles told c.self.invariant.0 c.args.seat k.tables k.outboxes signals c.self.invariant.3 c.in-Ok.ensures.signals in
     let came = stores began k.opening k.history.entries k.history.limit k.documents k.rights k.applications k.connections k.handles told c.self.invariant.0 c.args.seat c.args.call k.tables new.tables k.outboxes taken new.outboxes signals old_keeper new_keeper served
-    sent c.take.ensures.rest c.self.invariant.2 c.self.invariant.3 (rw (c.as_slice-2.ensures) at c.in-Ok.ensures.ok) in
+    sent c.in-Ok.ensures.rest c.self.invariant.2 c.self.invariant.3 (rw (c.as_slice-2.ensures) at c.in-Ok-served.ensures.ok) in
     λ h. inr (rw (← c.self.view_is) (came.comes.settles.failed came.untreed.untreed h))
