@@ -1,6 +1,6 @@
 -- What a session is fed at a desk that has a portal alone.
-use Rattle.std.proofs.Common.{◌≡◌, inl, inr, ℕ, ◌+◌, ◌<◌, ◌≤◌, List, [], ◌∷◌, ◌++◌, length, Some, Bool, true, false, Result, Ok, Err, refl, sym, ap, ◌∙◌, subst, arith}
-use Rattle.std.specs.Prelude.{IfErr, IfOk, ◌⊎◌}
+use Rattle.std.proofs.Common.{◌≡◌, inl, inr, ℕ, ◌+◌, ◌<◌, ◌≤◌, List, [], ◌∷◌, ◌++◌, length, Some, Bool, true, false, refl, sym, ap, ◌∙◌, subst, arith}
+use Rattle.std.specs.Prelude.{◌⊎◌}
 use Rattle.portal_base.specs.Devices.{SinkState}
 use Rattle.portal_core.specs.Story.{state_first, state_now}
 use Rattle.portal_model.specs.History.{Legal}
@@ -21,13 +21,11 @@ use Rattle.session.specs.Sessions.{Feeds, FeedsOpen, FeedsOver, TakesUpTo, fed_o
 use Rattle.session.specs.Standings.{Standing, longest}
 use Rattle.session.proofs.AnswersAsked.{answer_asked}
 use Rattle.session.proofs.Grew.{told_alike}
-use Rattle.docportal.specs.declared.error.LineError.{LineError}
-use Rattle.docportal.specs.declared.error.LineError.TheVariants as not_run
 use Rattle.docportal.specs.declared.seats.Heard.{Heard}
 use Rattle.docportal.specs.Entries.{made_of}
 use Rattle.docportal.specs.Lines.{DataIsUnbuilt, IsUnbuiltStop}
 use Rattle.docportal.specs.Scenes.{ScriptPortal, outside_at}
-use Rattle.docportal.specs.Seats.{Alone, HeardAs, HearsAt, HearsNot, IsMet, WantsMemory, known_at, sunk}
+use Rattle.docportal.specs.Seats.{Alone, HeardAs, HearsAt, IsMet, WantsMemory, known_at, sunk}
 use Rattle.docportal.proofs.MadeAlone.{asked_alone}
 
 some_is : (x y : List (List ℕ)) → Some x ≡ Some y → x ≡ y

@@ -7,13 +7,15 @@ ghost use Rattle.script_form.specs.Order.{IsScript};
 ghost use Rattle.docportal.specs.Commands.{replay_words};
 ghost use Rattle.docportal.specs.Inputs.{script_limit};
 ghost use Rattle.docportal.specs.Runs.{Ran, Replays, Risen};
+ghost use Rattle.docportal.specs.Started.{StartsScript};
 
 use crate::command::{Command, command_of};
 use crate::input::{InputError, read_to_end};
 use crate::replay::run_lines;
 use crate::settings::settings;
-use crate::start::start;
+use crate::start::{ScriptPortal, start};
 use crate::status::Status;
+use portal_base::memory::WantOfMemory;
 use portal_base::outside::{Sink, Source};
 use portal_base::text::Text;
 use script_form::error::ScriptError;
@@ -82,13 +84,48 @@ fn replay_script<K: Sink>(alloc: Global, script: &Script, sink: &mut K) -> Statu
         × Replays (text_of script.now.lines) pieces result }
     ensures risen { Risen result 0 0 (K.faults sink.old) (K.faults sink.new) }
 {
-    let Ok(mut portal) = start(alloc, script) else {
-        return Status::Memory;
-    };
+    match start(alloc, script) {
+        Ok(portal) => replay_once(alloc, portal, script, sink),
+        Err(WantOfMemory) => Status::Memory,
+    }
+}
+
+/// Runs a script over the portal that it opens, which is gone then.
+fn replay_once<K: Sink>(
+    alloc: Global,
+    portal: ScriptPortal,
+    script: &Script,
+    sink: &mut K,
+) -> Status
+    requires starts { StartsScript script.now.lines portal }
+    requires script { IsScript script.now.lines }
+    requires short { length (text_of script.now.lines) ≤ script_limit }
+    ensures replays { (pieces : List (List ℕ)) × (K.told sink.new ≡ onto (K.told sink.old) pieces)
+        × Replays (text_of script.now.lines) pieces result }
+    ensures risen { Risen result 0 0 (K.faults sink.old) (K.faults sink.new) }
+{
+    let mut portal = portal;
+    replay_over(alloc, &mut portal, script, sink)
+}
+
+/// Runs a script over the portal that it opens.
+fn replay_over<K: Sink>(
+    alloc: Global,
+    portal: &mut ScriptPortal,
+    script: &Script,
+    sink: &mut K,
+) -> Status
+    requires starts { StartsScript script.now.lines portal.old }
+    requires script { IsScript script.now.lines }
+    requires short { length (text_of script.now.lines) ≤ script_limit }
+    ensures replays { (pieces : List (List ℕ)) × (K.told sink.new ≡ onto (K.told sink.old) pieces)
+        × Replays (text_of script.now.lines) pieces result }
+    ensures risen { Risen result 0 0 (K.faults sink.old) (K.faults sink.new) }
+{
     let Ok(settings) = settings(alloc) else {
         return Status::Memory;
     };
-    match run_lines(alloc, &mut portal, &settings, script.lines.as_slice(), sink) {
+    match run_lines(alloc, portal, &settings, script.lines.as_slice(), sink) {
         Ok(()) => Status::Done,
         Err(status) => status,
     }
