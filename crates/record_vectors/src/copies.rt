@@ -182,17 +182,29 @@ fn documents(alloc: Global) -> Result<(), VectorError> {
 }
 
 fn requests(alloc: Global) -> Result<(), VectorError> {
+    copied_request(alloc, entering(alloc)?)?;
+    copied_request(alloc, Request::Leave)?;
+    copied_request(alloc, Request::Collect)?;
+    copied_request(alloc, asking())
+}
+
+/// Makes a copy of a request, which is let go here alone.
+fn copied_request(alloc: Global, request: Request) -> Result<(), VectorError> {
+    copied(alloc, &request)
+}
+
+fn entering(alloc: Global) -> Result<Request, VectorError> {
     let who = Who::App(given(alloc, AppId::read(alloc, b"org.ed"))?);
     let kind = Kind::Mount;
-    copied(alloc, &Request::Enter { who, kind })?;
-    copied(alloc, &Request::Leave)?;
-    copied(alloc, &Request::Collect)?;
+    Ok(Request::Enter { who, kind })
+}
+
+fn asking() -> Request {
     let op = NodeOp::GetAttr { flags: 0, fh: 0 };
-    let node = NodeRequest {
+    Request::Node(NodeRequest {
         node: 8_589_934_602,
         uid: 1000,
         gid: 1000,
         op,
-    };
-    copied(alloc, &Request::Node(node))
+    })
 }
