@@ -4,6 +4,7 @@ use crate::answers::{rows, text};
 use crate::asks::shown_texts;
 use dbus_dispatch::signal::signal_message;
 use dbus_types::message::OutMessage;
+use dbus_types::types::Value;
 use portal_base::list::List;
 use portal_base::text::Text;
 use portal_model::datum::Datum;
@@ -44,36 +45,63 @@ fn shown_setting(alloc: Global, call: &StoreCall) -> Result<String, LineError> {
             id,
             rows,
             datum,
-        } => {
-            let entry = shown_place(alloc, table, *create, id)?;
-            let rows = shown_rows(alloc, rows)?;
-            let datum = values::value(alloc, datum)?;
-            Ok(format!(in alloc; "Set({entry} [{rows}] {datum})")?)
-        }
+        } => shown_set(
+            alloc,
+            shown_place(alloc, table, *create, id)?.as_str(),
+            rows,
+            datum,
+        ),
         StoreCall::SetValue {
             table,
             create,
             id,
             datum,
-        } => {
-            let entry = shown_place(alloc, table, *create, id)?;
-            let datum = values::value(alloc, datum)?;
-            Ok(format!(in alloc; "SetValue({entry} {datum})")?)
-        }
+        } => shown_value(
+            alloc,
+            shown_place(alloc, table, *create, id)?.as_str(),
+            datum,
+        ),
         StoreCall::SetPermission {
             table,
             create,
             id,
             app,
             names,
-        } => {
-            let entry = shown_place(alloc, table, *create, id)?;
-            let app = quoted(alloc, app)?;
-            let names = shown_texts(alloc, names)?;
-            Ok(format!(in alloc; "SetPermission({entry} {app} {names})")?)
-        }
+        } => shown_permission(
+            alloc,
+            shown_place(alloc, table, *create, id)?.as_str(),
+            app,
+            names,
+        ),
         _ => Ok(String::from_str(alloc, "another call")?),
     }
+}
+
+fn shown_set(
+    alloc: Global,
+    entry: &str,
+    rows: &List<Row>,
+    datum: &Value,
+) -> Result<String, LineError> {
+    let rows = shown_rows(alloc, rows)?;
+    let datum = values::value(alloc, datum)?;
+    Ok(format!(in alloc; "Set({entry} [{rows}] {datum})")?)
+}
+
+fn shown_value(alloc: Global, entry: &str, datum: &Value) -> Result<String, LineError> {
+    let datum = values::value(alloc, datum)?;
+    Ok(format!(in alloc; "SetValue({entry} {datum})")?)
+}
+
+fn shown_permission(
+    alloc: Global,
+    entry: &str,
+    app: &Text,
+    names: &List<Text>,
+) -> Result<String, LineError> {
+    let app = quoted(alloc, app)?;
+    let names = shown_texts(alloc, names)?;
+    Ok(format!(in alloc; "SetPermission({entry} {app} {names})")?)
 }
 
 fn quoted(alloc: Global, text: &Text) -> Result<String, LineError> {
@@ -125,14 +153,25 @@ pub fn signal(alloc: Global, rest: &str) -> Result<String, LineError> {
     let (table, rest) = cut(rest);
     let (id, rest) = cut(rest);
     let (gone, rest) = cut(rest);
-    let change = Change {
-        table: text(alloc, table)?,
-        id: text(alloc, id)?,
-        deleted: gone == "true",
-        datum: Datum::zero(),
-        rows: rows(alloc, rest)?,
-    };
-    shown_signal(alloc, &signal_message(alloc, &change)?)
+    let table = text(alloc, table)?;
+    let id = text(alloc, id)?;
+    let rows = rows(alloc, rest)?;
+    shown_change(
+        alloc,
+        Change {
+            table,
+            id,
+            deleted: gone == "true",
+            datum: Datum::zero(),
+            rows,
+        },
+    )
+}
+
+/// What a host is told of a change.
+fn shown_change(alloc: Global, change: Change) -> Result<String, LineError> {
+    let message = signal_message(alloc, &change)?;
+    shown_signal(alloc, &message)
 }
 
 /// A signal with its path, its name, and the values that it carries.
