@@ -1,0 +1,10 @@
+pub mod Names
+pub mod Ranges
+pub mod Identifiers
+pub mod CallLaid
+pub mod RequestLines
+pub mod Spellings
+pub mod Bytes
+pub mod Scripts
+pub mod Lengths
+pub mod ReadFrames
