@@ -2,7 +2,6 @@
 use Rattle.std.proofs.Common.{◌≡◌, ℕ, ◌+◌, ◌-◌, ◌^◌, ◌<◌, ◌≤◌, List, [], ◌∷◌, ◌++◌, length, Bool, true, false, cond, refl, sym, ap, ◌∙◌, subst, arith, length-append}
 use Rattle.std.specs.Prelude.{not, ◌&&◌}
 use Rattle.portal_core.specs.Growth.{GrowsBy}
-use Rattle.portal_core.specs.Story.{Story, state_first}
 use Rattle.portal_model.specs.Alike.{Alike}
 use Rattle.portal_model.specs.declared.entry.Entry.{Entry}
 use Rattle.portal_model.specs.declared.reply.Reply.{Reply}
@@ -59,51 +58,51 @@ one_more count before now all history e same few short step =
     let stepped = step (omega arith) in
     omega arith
 
-module _ (says : Entry → Type 0) (old new : Story) (done refused done' refused' seat : ℕ) (request : Request) (reply : Reply) (enters refuses : Bool)
-    (counted : AreCounted old done refused) (same : state_first new ≡ state_first old) (grows : GrowsBy says (state_first old) old.history new.history seat request reply) (short : length new.history < 2 ^ 64)
+module _ (says : Entry → Type 0) (s s' : State) (h h' : List Entry) (done refused done' refused' seat : ℕ) (request : Request) (reply : Reply) (enters refuses : Bool)
+    (counted : AreCounted s h done refused) (same : s' ≡ s) (grows : GrowsBy says s h h' seat request reply) (short : length h' < 2 ^ 64)
     (enters_is : enters ≡ is_enter request) (refuses_is : refuses ≡ is_code reply.answer) where
-  short_grown : length (old.history ++ grows.entry ∷ []) < 2 ^ 64
-  short_grown = subst (λ (h : List Entry). length h < 2 ^ 64) grows.grown short
+  short_grown : length (h ++ grows.entry ∷ []) < 2 ^ 64
+  short_grown = subst (λ (z : List Entry). length z < 2 ^ 64) grows.grown short
 
-  module _ (told : (state_first new).told ≡ true) where
-    was : (state_first old).told ≡ true
+  module _ (told : s'.told ≡ true) where
+    was : s.told ≡ true
     was = ap (λ (z : State). z.told) (sym same) ∙ told
 
-    reply_is : reply ≡ reply_at (run (state_first old) old.history) grows.entry
-    reply_is = told_reply (state_first old).told request (reply_at (run (state_first old) old.history) grows.entry) reply was grows.reply_is
+    reply_is : reply ≡ reply_at (run s h) grows.entry
+    reply_is = told_reply s.told request (reply_at (run s h) grows.entry) reply was grows.reply_is
 
-    refuses_at : refuses ≡ is_code (reply_at (run (state_first old) old.history) grows.entry).answer
+    refuses_at : refuses ≡ is_code (reply_at (run s h) grows.entry).answer
     refuses_at = refuses_is ∙ ap (λ (z : Reply). is_code z.answer) reply_is
 
     enters_at : enters ≡ is_enter grows.entry.request
     enters_at = enters_is ∙ ap is_enter (sym grows.request_is)
 
-    one_done : one (not enters && not refuses) ≡ one (is_done grows.entry.request (reply_at (run (state_first old) old.history) grows.entry))
+    one_done : one (not enters && not refuses) ≡ one (is_done grows.entry.request (reply_at (run s h) grows.entry))
     one_done = ap (λ (z : Bool). one (not z && not refuses)) enters_at ∙ ap (λ (z : Bool). one (not (is_enter grows.entry.request) && not z)) refuses_at
 
-    one_refused : one (not enters && refuses) ≡ one (is_refused grows.entry.request (reply_at (run (state_first old) old.history) grows.entry))
+    one_refused : one (not enters && refuses) ≡ one (is_refused grows.entry.request (reply_at (run s h) grows.entry))
     one_refused = ap (λ (z : Bool). one (not z && refuses)) enters_at ∙ ap (λ (z : Bool). one (not (is_enter grows.entry.request) && z)) refuses_at
 
-    done_on : (done < 2 ^ 64 - 1 → done' ≡ done + one (not enters && not refuses)) → done' ≡ done_in (state_first new) new.history
+    done_on : (done < 2 ^ 64 - 1 → done' ≡ done + one (not enters && not refuses)) → done' ≡ done_in s' h'
     done_on step =
-        one_more done (done_in (state_first old) old.history) done' (one (not enters && not refuses)) old.history grows.entry (counted.done_all was) (done_few old.history (state_first old)) short_grown step
-        ∙ (ap (λ (z : ℕ). done_in (state_first old) old.history + z) one_done
-        ∙ (sym (done_more old.history (state_first old) grows.entry)
-        ∙ (ap (done_in (state_first old)) (sym grows.grown) ∙ ap (λ (z : State). done_in z new.history) (sym same))))
+        one_more done (done_in s h) done' (one (not enters && not refuses)) h grows.entry (counted.done_all was) (done_few h s) short_grown step
+        ∙ (ap (λ (z : ℕ). done_in s h + z) one_done
+        ∙ (sym (done_more h s grows.entry)
+        ∙ (ap (done_in s) (sym grows.grown) ∙ ap (λ (z : State). done_in z h') (sym same))))
 
-    refused_on : (refused < 2 ^ 64 - 1 → refused' ≡ refused + one (not enters && refuses)) → refused' ≡ refused_in (state_first new) new.history
+    refused_on : (refused < 2 ^ 64 - 1 → refused' ≡ refused + one (not enters && refuses)) → refused' ≡ refused_in s' h'
     refused_on step =
-        one_more refused (refused_in (state_first old) old.history) refused' (one (not enters && refuses)) old.history grows.entry (counted.refused_all was) (refused_few old.history (state_first old)) short_grown step
-        ∙ (ap (λ (z : ℕ). refused_in (state_first old) old.history + z) one_refused
-        ∙ (sym (refused_more old.history (state_first old) grows.entry)
-        ∙ (ap (refused_in (state_first old)) (sym grows.grown) ∙ ap (λ (z : State). refused_in z new.history) (sym same))))
+        one_more refused (refused_in s h) refused' (one (not enters && refuses)) h grows.entry (counted.refused_all was) (refused_few h s) short_grown step
+        ∙ (ap (λ (z : ℕ). refused_in s h + z) one_refused
+        ∙ (sym (refused_more h s grows.entry)
+        ∙ (ap (refused_in s) (sym grows.grown) ∙ ap (λ (z : State). refused_in z h') (sym same))))
 
-  pub counted_on : (done < 2 ^ 64 - 1 → done' ≡ done + one (not enters && not refuses)) → (refused < 2 ^ 64 - 1 → refused' ≡ refused + one (not enters && refuses)) → AreCounted new done' refused'
+  pub counted_on : (done < 2 ^ 64 - 1 → done' ≡ done + one (not enters && not refuses)) → (refused < 2 ^ 64 - 1 → refused' ≡ refused + one (not enters && refuses)) → AreCounted s' h' done' refused'
   counted_on step step' = record { done_all = λ told. done_on told step; refused_all = λ told. refused_on told step' }
 
 -- a refusal that leaves the history leaves the counts
-pub counted_still : (old new : Story) (done refused : ℕ) → AreCounted old done refused → state_first new ≡ state_first old → new.history ≡ old.history → AreCounted new done refused
-counted_still old new done refused counted same history = record {
-  done_all = λ told. counted.done_all (ap (λ (z : State). z.told) (sym same) ∙ told) ∙ (ap (done_in (state_first old)) (sym history) ∙ ap (λ (z : State). done_in z new.history) (sym same));
-  refused_all = λ told. counted.refused_all (ap (λ (z : State). z.told) (sym same) ∙ told) ∙ (ap (refused_in (state_first old)) (sym history) ∙ ap (λ (z : State). refused_in z new.history) (sym same));
+pub counted_still : (s s' : State) (h h' : List Entry) (done refused : ℕ) → AreCounted s h done refused → s' ≡ s → h' ≡ h → AreCounted s' h' done refused
+counted_still s s' h h' done refused counted same history = record {
+  done_all = λ told. counted.done_all (ap (λ (z : State). z.told) (sym same) ∙ told) ∙ (ap (done_in s) (sym history) ∙ ap (λ (z : State). done_in z h') (sym same));
+  refused_all = λ told. counted.refused_all (ap (λ (z : State). z.told) (sym same) ∙ told) ∙ (ap (refused_in s) (sym history) ∙ ap (λ (z : State). refused_in z h') (sym same));
 }

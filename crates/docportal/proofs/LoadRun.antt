@@ -5,7 +5,8 @@ use Rattle.std.proofs.lemmas.List.{append-nil, take-append-drop, take_all}
 use Rattle.portal_base.specs.declared.outside.WriteAnswer.TheVariants.{Failed}
 use Rattle.portal_base.specs.Outside.{HasRisen, Short, WriteCounts, Writes, onto}
 use Rattle.portal_core.specs.Story.{state_first}
-use Rattle.portal_load.specs.Lines.{most_requests}
+use Rattle.portal_load.specs.declared.load.Load.{Load}
+use Rattle.portal_load.specs.Lines.{load_of, most_requests}
 use Rattle.portal_load.proofs.Lengths.{are_short}
 use Rattle.portal_load.proofs.Scripts.{are_scripts}
 use Rattle.portal_model.specs.declared.entry.Entry.{Entry}
@@ -106,6 +107,23 @@ nothing_risen count faults (ScriptFault line) k = absurd k
 nothing_risen count faults ReadFault k = absurd k
 nothing_risen count faults WriteFault k = absurd k
 nothing_risen count faults TooLong k = absurd k
+
+pub nothing_for_memory : (count : ℕ) (told : Option (List (List ℕ))) → Generated count told told Memory
+nothing_for_memory count told = ([], onto_none told, refl)
+
+-- the tree of a load's portal tells its files
+pub load_tells : (count : ℕ) (p : ScriptPortal) → RanLoad count p → (state_first p.story).told ≡ true
+load_tells count p ran = ap (λ (z : State). z.told) ran.first
+
+-- a load has the lines of as many requests as it says
+pub load_lines_are : (load : Load) (count : ℕ) → load ≡ load_of count → load.script.lines ≡ lines_of_load load.requests
+load_lines_are load count e = ap (λ (z : Load). z.script.lines) e ∙ ap lines_of_load (sym (ap (λ (z : Load). z.requests) e))
+
+pub load_short : (load : Load) (count : ℕ) → load ≡ load_of count → count ≤ most_requests → load.requests ≤ most_requests
+load_short load count e h = let same : load.requests ≡ count = ap (λ (z : Load). z.requests) e in omega arith
+
+pub generated_as : (load : Load) (count : ℕ) (told told' : Option (List (List ℕ))) (status : Status) → load ≡ load_of count → Generated load.requests told told' status → Generated count told told' status
+generated_as load count told told' status e g = subst (λ (z : ℕ). Generated z told told' status) (ap (λ (z : Load). z.requests) e) g
 
 module _ (count : ℕ) (p : ScriptPortal) (ran : RanLoad count p) (lines slice : List (List ℕ)) (told told' : Option (List (List ℕ))) (faults faults' : ℕ) (made : lines ≡ load_lines_at count p.story) (is : slice ≡ lines) where
   said : slice ≡ load_lines count (opening_state ran.replay.entries (lines_of_load count)) p.story.history

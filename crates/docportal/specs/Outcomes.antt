@@ -1,6 +1,5 @@
 -- What became of the requests of a history. To open a connection counts for none.
 use Rattle.std.specs.Prelude.{◌≡◌, ℕ, ◌+◌, List, [], ◌∷◌, Bool, true, false, ◌&&◌, not, cond}
-use Rattle.portal_core.specs.Story.{Story, state_first}
 use Rattle.portal_model.specs.declared.entry.Entry.{Entry}
 use Rattle.portal_model.specs.declared.reply.Answer.{Answer}
 use Rattle.portal_model.specs.declared.reply.Answer.TheVariants.{Refused}
@@ -35,8 +34,8 @@ abbrev pub done_in : State → List Entry → ℕ
 done_in s [] = 0
 done_in s (e ∷ es) = cond (is_done e.request (reply_at s e)) 1 0 + done_in (after s e) es
 
--- The counts of a portal are those of its history. Over a tree that doesn't tell its files a reply
--- is only alike to the step's, so nothing is said there.
-pub record AreCounted (p : Story) (done refused : ℕ) : Type 0 where
-  pub done_all : (state_first p).told ≡ true → done ≡ done_in (state_first p) p.history
-  pub refused_all : (state_first p).told ≡ true → refused ≡ refused_in (state_first p) p.history
+-- These are the counts of a history from a state. Over a tree that doesn't tell its files a reply is
+-- only alike to the step's, so nothing is said there.
+pub record AreCounted (s : State) (h : List Entry) (done refused : ℕ) : Type 0 where
+  pub done_all : s.told ≡ true → done ≡ done_in s h
+  pub refused_all : s.told ≡ true → refused ≡ refused_in s h

@@ -50,13 +50,13 @@ fn command_of_two(first: &[u8], second: &[u8]) -> Option<Command>
     if first == b"worlds".as_slice() && AppId::is_name(second) {
         return Some(Command::Worlds);
     }
-    if first != b"generate".as_slice() {
-        return None;
+    if first == b"generate".as_slice() {
+        return match read_count(second) {
+            Some(count) => Some(Command::Generate { count }),
+            None => None,
+        };
     }
-    match read_count(second) {
-        Some(count) => Some(Command::Generate { count }),
-        None => None,
-    }
+    None
 }
 
 /// The number from 1 to 100,000 that a word is.

@@ -28,6 +28,7 @@ pub struct CountedPortal {
 }
 
 impl Model for CountedPortal {
+    ghost use Rattle.portal_core.specs.Story.{state_first};
     ghost use Rattle.docportal.specs.Outcomes.{AreCounted};
     ghost use Rattle.docportal.specs.Scenes.{ScriptPortal as PortalOfScript};
 
@@ -35,7 +36,8 @@ impl Model for CountedPortal {
 
     ghost view = { λ c. c.portal };
 
-    ghost invariant = { λ c. AreCounted c.portal.story c.done c.refused };
+    ghost invariant = { λ c. AreCounted (state_first c.portal.story) c.portal.story.history c.done
+        c.refused };
 }
 
 impl CountedPortal {
@@ -102,8 +104,10 @@ impl Storied for CountedPortal {
         match Storied::ask(&mut self.portal, alloc, seat, request) {
             Ok(reply) => {
                 let refuses = is_code(&reply.answer);
-                self.done = more(self.done, enters, !refuses);
-                self.refused = more(self.refused, enters, refuses);
+                let done = more(self.done, enters, !refuses);
+                let refused = more(self.refused, enters, refuses);
+                self.done = done;
+                self.refused = refused;
                 Ok(reply)
             }
             Err(refused) => Err(refused),
@@ -115,7 +119,7 @@ impl Storied for CountedPortal {
     }
 
     fn known(&self) {
-        self.portal.known();
+        Storied::known(&self.portal);
     }
 }
 

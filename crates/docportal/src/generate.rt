@@ -1,7 +1,8 @@
 //! Running a generated load.
 
-ghost use Rattle.std.specs.Prelude.{◌≡◌, ◌≤◌, ℕ, List, None, IfErr, IfOk};
+ghost use Rattle.std.specs.Prelude.{◌≡◌, ◌≤◌, ℕ, List, None, true, IfErr, IfOk};
 ghost use Rattle.portal_base.specs.Outside.{onto};
+ghost use Rattle.portal_core.specs.Story.{state_first};
 ghost use Rattle.portal_load.specs.Lines.{most_requests};
 ghost use Rattle.docportal.specs.Generated.{Generates, RanLoad, StopsLoad, WritesLines};
 ghost use Rattle.docportal.specs.Generated.{count_line as line_of_count, lines_of_load, load_lines_at};
@@ -42,21 +43,31 @@ pub fn generate<K: Sink>(alloc: Global, count: u32, sink: &mut K) -> Status
         × Generates count pieces result }
     ensures risen { Risen result 0 0 (K.faults sink.old) (K.faults sink.new) }
 {
-    let Ok(load) = load_of(alloc, count) else {
-        return Status::Memory;
-    };
-    let portal = match run_load(alloc, &load) {
+    match load_of(alloc, count) {
+        Ok(load) => run_and_tell(alloc, &load, sink),
+        Err(_) => Status::Memory,
+    }
+}
+
+/// Runs a load, and writes the five lines.
+fn run_and_tell<K: Sink>(alloc: Global, load: &Load, sink: &mut K) -> Status
+    requires load { load.now.script.lines ≡ lines_of_load load.now.requests }
+    requires most { load.now.requests ≤ most_requests }
+    ensures generates { (pieces : List (List ℕ)) × (K.told sink.new ≡ onto (K.told sink.old) pieces)
+        × Generates load.now.requests pieces result }
+    ensures risen { Risen result 0 0 (K.faults sink.old) (K.faults sink.new) }
+{
+    let portal = match run_load(alloc, load) {
         Ok(portal) => portal,
         Err(status) => return status,
     };
-    let Ok(lines) = load_lines(alloc, count, &portal) else {
+    let Ok(lines) = load_lines(alloc, load.requests, &portal) else {
         return Status::Memory;
     };
     if write_lines(lines.as_slice(), sink) {
-        Status::Done
-    } else {
-        Status::WriteFault
+        return Status::Done;
     }
+    Status::WriteFault
 }
 
 /// The portal at which a load was run.
@@ -86,7 +97,7 @@ fn load_lines(
     count: u32,
     portal: &CountedPortal,
 ) -> Result<List<ByteList>, WantOfMemory>
-    requires { RanLoad count portal.now }
+    requires { (state_first portal.now.story).told ≡ true }
     ensures { IfOk result (λ lines. lines ≡ load_lines_at count portal.now.story) }
 {
     let mut lines = List::new(alloc);

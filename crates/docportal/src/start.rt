@@ -32,7 +32,8 @@ pub fn start(alloc: Global, script: &Script) -> Result<ScriptPortal, WantOfMemor
     match Portal::start(alloc, tree, keeper, clock, words, limits()) {
         Ok(portal) => {
             portal.known();
-            Ok(CountedPortal::new(portal))
+            let counted = CountedPortal::new(portal);
+            Ok(counted)
         }
         Err(refusal) => match refusal.error {
             StartError::Memory => Err(WantOfMemory),
