@@ -52,8 +52,11 @@ counted : (b : Bool) (m : ℕ) → cond b m 0 ≤ m
 counted true m = omega arith
 counted false m = omega arith
 
+one_text_more : (t : List ℕ) (ts : List (List ℕ)) → texts_bytes (t ∷ ts) ≡ length t + texts_bytes ts
+one_text_more t ts = omega (arith, texts_append Little (t ∷ []) ts)
+
 named_within : (o : Option (List ℕ)) (p : Option (List Value)) (j k n : ℕ) → TextWithin o j → ItemsWithin p k → j + k ≤ n → RowWithin (row_named o p) n
-named_within (Some app) (Some names) j k n h i le = omega (arith, h, i.2, le)
+named_within (Some app) (Some names) j k n h i le = omega (arith, one_text_more app (texts_in names), h, i.2, le)
 named_within (Some app) None j k n h i le = tt
 named_within None p j k n h i le = tt
 
@@ -74,7 +77,9 @@ delete_of_within (Some t) None j k n p q le = tt
 delete_of_within None i j k n p q le = tt
 
 set_of_within : (t : Option (List ℕ)) (b : Option Bool) (i : Option (List ℕ)) (rows : Option (List Value)) (d : Option Value) (j k l m n : ℕ) → TextWithin t j → TextWithin i k → RowsWithin rows l → DataWithin d m → j + k + l + m ≤ n → StoreWithin (set_of t b i rows d) n
-set_of_within (Some t) (Some b) (Some i) (Some rows) (Some d) j k l m n p q r s le = omega (arith, p, q, r, s, le)
+set_of_within (Some t) (Some b) (Some i) (Some rows) (Some d) j k l m n p q r s le =
+    let others : List (List ℕ) = flat_map texts_of_row (rows_in rows) in
+    omega (arith, one_text_more t (i ∷ others), one_text_more i others, p, q, r, s, le)
 set_of_within (Some t) (Some b) (Some i) (Some rows) None j k l m n p q r s le = tt
 set_of_within (Some t) (Some b) (Some i) None d j k l m n p q r s le = tt
 set_of_within (Some t) (Some b) None rows d j k l m n p q r s le = tt
@@ -89,7 +94,9 @@ set_value_of_within (Some t) None i d j k m n p q s le = tt
 set_value_of_within None b i d j k m n p q s le = tt
 
 set_permission_of_within : (t : Option (List ℕ)) (b : Option Bool) (i a : Option (List ℕ)) (names : Option (List Value)) (j k l m n : ℕ) → TextWithin t j → TextWithin i k → TextWithin a l → ItemsWithin names m → j + k + l + m ≤ n → StoreWithin (set_permission_of t b i a names) n
-set_permission_of_within (Some t) (Some b) (Some i) (Some a) (Some names) j k l m n p q r s le = omega (arith, p, q, r, s.2, le)
+set_permission_of_within (Some t) (Some b) (Some i) (Some a) (Some names) j k l m n p q r s le =
+    let others : List (List ℕ) = texts_in names in
+    omega (arith, one_text_more t (i ∷ a ∷ others), one_text_more i (a ∷ others), one_text_more a others, p, q, r, s.2, le)
 set_permission_of_within (Some t) (Some b) (Some i) (Some a) None j k l m n p q r s le = tt
 set_permission_of_within (Some t) (Some b) (Some i) None names j k l m n p q r s le = tt
 set_permission_of_within (Some t) (Some b) None a names j k l m n p q r s le = tt

@@ -220,6 +220,7 @@ module _ (s : State) (o : Outside) (seat : ℕ) (g h : Given) (left also : Outsi
   request_one (Request.LookupDocument path) x y = call_one (Request.LookupDocument path) x y x.tree y.tree x.lawful.given y.lawful.given
   request_one (Request.Info doc) x y = call_one (Request.Info doc) x y x.tree y.tree x.lawful.given y.lawful.given
   request_one (Request.ListDocuments app) x y = call_one (Request.ListDocuments app) x y x.tree y.tree x.lawful.given y.lawful.given
+  request_one (Request.Store call) x y = call_one (Request.Store call) x y x.tree y.tree x.lawful.given y.lawful.given
 
 -- ---- what is left
 

@@ -12,6 +12,7 @@ use Rattle.portal_core.specs.Story.{limit_of, state_first, state_now}
 use Rattle.script_form.specs.declared.script.ScriptLine.{ScriptLine}
 use Rattle.script_form.specs.Lines.{text_of}
 use Rattle.record_keeper.specs.KeptEntries.{KeepEntries}
+use Rattle.record_keeper.proofs.KeptFacts.{kept_in_one_way}
 use Rattle.script_form.specs.Opening.{entries_of}
 use Rattle.script_form.specs.Outside.{Outside}
 use Rattle.script_form.specs.Order.{IsRead, IsFault, IsScript, StandBehind}
@@ -51,7 +52,9 @@ is_replay entries text lines front later history out last kept short script ahea
   entries = entries;
   kept = kept;
   plays = plays;
-  only = λ h o b p. plays_one front (first_scene entries lines) b last h history o out refl p plays;
+  only = λ held h o b k p.
+      let same = kept_in_one_way (entries_of lines) held entries k kept in
+      plays_one front (first_scene entries lines) b last h history o out refl (subst (λ (z : Entries). Plays (first_scene z lines) front h o b) same p) plays;
   sound = sound entries lines front history out last valid plays;
   room = λ later e. front_room entries text lines front later history out last short script plays e;
 }

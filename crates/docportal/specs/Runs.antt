@@ -35,8 +35,9 @@ pub record IsReplay (lines front : List ScriptLine) (history : List Entry) (out 
   pub entries : Entries
   pub kept : KeepEntries (entries_of lines) entries
   pub plays : Plays (first_scene entries lines) front history out last
-  pub only : (h : List Entry) (o : List (List ℕ)) (b : Scene)
-      → Plays (first_scene entries lines) front h o b → (h ≡ history) × (o ≡ out) × (b ≡ last)
+  pub only : (held : Entries) (h : List Entry) (o : List (List ℕ)) (b : Scene)
+      → KeepEntries (entries_of lines) held → Plays (first_scene held lines) front h o b
+      → (h ≡ history) × (o ≡ out) × (b ≡ last)
   pub sound : IsSound entries lines history
   pub room : (later : List ScriptLine) → lines ≡ front ++ later
       → cost history + 8 * length (text_of later) ≤ run_limits.history

@@ -121,7 +121,8 @@ fn feed(
 }
 
 /// Feeds bytes to a session that goes on. Where the bytes end inside an item
-/// they aren't built. The history has room for what they ask, so a request that is refused wants memory.
+/// they aren't built. The history has room for what they ask, so a request
+/// that is refused wants memory.
 pub fn hear(
     alloc: Global,
     portal: &mut ScriptPortal,

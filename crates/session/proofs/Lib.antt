@@ -1,7 +1,7 @@
 pub mod Grew
 pub mod ReadActs
 pub mod DidItems
-pub mod Speech
+pub mod Messages
 pub mod ServeItem
 pub mod ServeCall
 pub mod NextCut

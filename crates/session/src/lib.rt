@@ -7,15 +7,16 @@
 //!
 //! **Promise**: every whole item of what came is asked and answered once, in
 //! order, and the items are the same in whatever pieces the stream comes. What a
-//! host wasn't told yet is told ahead of the next answer. Each ending says what was read, asked and written. Over a tree that tells its
-//! files, what an application is replied is a function of its trace.
+//! host wasn't told yet is told ahead of the next answer. Each ending says what
+//! was read, asked and written. Over a tree that tells its files, what an
+//! application is replied is a function of its trace.
 //!
 //! **Rooms**, from the bytes inwards: [`phase`] says what is due and cuts the next
 //! item, [`item`] reads it, [`act`] is what it asks, [`frame`] has the frames and
-//! [`speech`] the messages that answer it, and [`serve`] asks and writes. [`session`] is one connection that is
-//! fed piece by piece, [`connection`] serves one over a source to its end, and
-//! [`served`] has the answers of both. [`laws`] are the laws of streams and of
-//! answers, for the crates above.
+//! [`speech`] the messages that answer it, and [`serve`] asks and writes.
+//! [`session`] is one connection that is fed piece by piece, [`connection`]
+//! serves one over a source to its end, and [`served`] has the answers of both.
+//! [`laws`] are the laws of streams and of answers, for the crates above.
 //!
 //! ```ignore
 //! let mut session = Session::begin(alloc, &mut desk, &who, Kind::Mount, &settings)?;

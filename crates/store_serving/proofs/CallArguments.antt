@@ -1,12 +1,13 @@
 -- What the arguments of a call that passed keep.
-use Rattle.std.proofs.Common.{◌≡◌, ℕ, List, [], ◌∷◌, Bool, true, ◌&&◌, Some, refl, sym, ◌∙◌}
+use Rattle.std.proofs.Common.{◌≡◌, ℕ, List, [], ◌∷◌, Bool, true, false, not, ◌&&◌, Some, refl, sym, ◌∙◌}
 use Rattle.std.specs.List.{flat_map, list_all}
 use Rattle.std.proofs.lemmas.List.Folds.{list_all-append}
 use Rattle.dbus_types.specs.declared.types.Value.{Value}
 use Rattle.portal_model.specs.declared.records.Row.{Row}
 use Rattle.portal_model.specs.declared.store.StoreCall.TheVariants as Call
-use Rattle.portal_model.specs.Data.{is_data}
-use Rattle.portal_model.specs.StoreRequest.{are_data, are_store_arguments, data_of, texts_of, texts_of_row}
+use Rattle.portal_model.specs.Changed.{holds_handle}
+use Rattle.portal_model.specs.Data.{is_data, is_spelled}
+use Rattle.portal_model.specs.StoreRequest.{are_store_arguments, texts_of_row}
 use Rattle.portal_model.specs.Valid.{has_texts, is_text}
 use Rattle.portal_model.proofs.DocumentChanges.{both, first_of_both, second_of_both}
 use Rattle.permission_table.specs.Tables.{have_texts}
@@ -65,3 +66,15 @@ permission-arguments table id create app names h =
       app_is = first_of_both (is_text app) named last;
       names_are = second_of_both (is_text app) named last;
     }
+
+-- data holds no handle
+pub no-handle : (datum : Value) → is_data datum ≡ true → holds_handle datum ≡ false
+no-handle datum h = none_held (holds_handle datum) (second_of_both (is_spelled datum) (not (holds_handle datum)) h)
+  where
+    none_held : (b : Bool) → not b ≡ true → b ≡ false
+    none_held true h = cc
+    none_held false h = refl
+
+-- the copy of a call's data
+pub copy-is : (datum copy : Value) → Some datum ≡ Some copy → copy ≡ datum
+copy-is datum copy e = cc

@@ -1,13 +1,13 @@
 -- What the tables make of a call: which entry is put, and that a call which reads answers what it read.
-use Rattle.std.proofs.Common.{◌≡◌, ℕ, List, Bool, true, false, cond, Option, Some, None, option_map, Result, Ok, Err, refl, sym, ap, subst, ◌∙◌}
-use Rattle.permission_table.specs.Tables.{Gives, content_of, former_of, put_back, with_content}
+use Rattle.std.specs.Prelude.{is_some}
+use Rattle.std.proofs.Common.{◌≡◌, ℕ, List, Bool, true, false, cond, Option, Some, None, option_map, Ok, Err, refl, sym, ap, subst, ◌∙◌}
+use Rattle.permission_table.specs.Tables.{content_of, former_of, put_back, with_content}
 use Rattle.permission_table.proofs.TakenBack.{taken-back}
 use Rattle.portal_model.specs.declared.store.StoreAnswer.{StoreAnswer}
 use Rattle.portal_model.specs.declared.store.StoreAnswer.TheVariants.{Done, Kept, Entry, Names}
 use Rattle.portal_model.specs.declared.store.StoreCall.{StoreCall}
 use Rattle.portal_model.specs.declared.store.StoreCall.TheVariants as Call
 use Rattle.portal_model.specs.declared.store.StoredEntry.{StoredEntry}
-use Rattle.portal_model.specs.declared.store.StoreError.{StoreError}
 use Rattle.portal_model.specs.declared.store.StoreError.TheVariants.{TooLong}
 use Rattle.portal_model.specs.declared.store.TableEntry.{TableEntry}
 use Rattle.portal_model.specs.Rows.{permissions_of, stored_rows}
@@ -131,3 +131,12 @@ call-reads (Call.SetValue table create id datum) before after answer k m = absur
 call-reads (Call.SetPermission table create id app names) before after answer k m = absurd (cc)
 call-reads (Call.DeletePermission table id app) before after answer k m = absurd (cc)
 call-reads (Call.Delete table id) before after answer k m = absurd (cc)
+
+-- ---- an entry that is there
+
+pub former-there : (former : TableEntry) (before : Entries) (table id : List ℕ) → Some former ≡ former_of before table id → is_some (entry_of before table id) ≡ true
+former-there former before table id f = step (entry_of before table id) f
+  where
+    step : (o : Option StoredEntry) → Some former ≡ option_map content_of o → is_some o ≡ true
+    step None f = cc
+    step (Some e) f = refl

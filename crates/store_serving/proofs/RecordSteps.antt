@@ -4,11 +4,10 @@ use Rattle.std.proofs.Common.{◌≡◌, ℕ, List, [], ◌∷◌, ◌++◌, map
 use Rattle.std.specs.List.{filter, find, list_any}
 use Rattle.permission_table.specs.Tables.{former_of, with_content}
 use Rattle.permission_table.proofs.HeldRecords.{gone-record, put-record}
-use Rattle.portal_base.specs.Names.{is_same}
 use Rattle.portal_base.specs.Outside.{HasRisen}
 use Rattle.portal_model.specs.declared.records.EntryRecord.{EntryRecord}
 use Rattle.portal_model.specs.declared.records.RecordChange.{RecordChange}
-use Rattle.portal_model.specs.declared.records.RecordChange.TheVariants.{RemoveEntry, SetEntry}
+use Rattle.portal_model.specs.declared.records.RecordChange.TheVariants.{RemoveEntry}
 use Rattle.portal_model.specs.declared.records.Records.{Records}
 use Rattle.portal_model.specs.declared.reply.Answer.{Answer}
 use Rattle.portal_model.specs.declared.reply.Change.{Change}
@@ -17,7 +16,7 @@ use Rattle.portal_model.specs.declared.store.TableEntry.{TableEntry}
 use Rattle.portal_model.specs.Kept.{records_of}
 use Rattle.portal_model.specs.RecordChanges.{change_first, changed, changed_by, is_of_key, is_other_key, set_entry}
 use Rattle.portal_model.specs.State.{State}
-use Rattle.portal_model.specs.Store.{Entries, entry_of, is_entry_of, put_entry, record_of, without_entry}
+use Rattle.portal_model.specs.Store.{Entries, entry_of, put_entry, record_of, without_entry}
 use Rattle.portal_model.specs.StoreRequest.{tell_hosts}
 use Rattle.portal_model.specs.Verdict.{does}
 use Rattle.portal_model.proofs.ListLookups.{find-map, is_same-refl}

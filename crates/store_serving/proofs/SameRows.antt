@@ -3,12 +3,20 @@ use Rattle.std.proofs.Common.{◌≡◌, ℕ, ◌==◌, suc, List, [], ◌∷◌
 use Rattle.std.specs.Cmp.Lexicographic.{pointwise}
 use Rattle.std.specs.List.{list_all, zip}
 use Rattle.std.proofs.lemmas.Bool.Decides.{nat_tests}
+use Rattle.dbus_types.specs.declared.types.Endian.TheVariants.{Little}
+use Rattle.dbus_types.specs.declared.types.Value.TheVariants as V
+use Rattle.dbus_types.specs.Spelling.{spelling}
+use Rattle.permission_table.specs.Tables.{with_content}
 use Rattle.portal_base.specs.Names.{is_same}
 use Rattle.portal_model.specs.declared.records.EntryRecord.{EntryRecord}
 use Rattle.portal_model.specs.declared.records.Row.{Row}
+use Rattle.portal_model.specs.declared.reply.Change.{Change}
+use Rattle.portal_model.specs.declared.store.TableEntry.{TableEntry}
+use Rattle.portal_model.specs.Store.{record_of}
+use Rattle.portal_model.specs.Valid.{entry_told}
 use Rattle.portal_model.proofs.DocumentChanges.{both, first_of_both, second_of_both}
 use Rattle.portal_model.proofs.ListLookups.{is_same-eq, is_same-refl}
-use Rattle.store_serving.specs.Records.{same_pair, same_row, same_rows}
+use Rattle.store_serving.specs.Records.{former_record, is_kept, same_pair, same_row, same_rows}
 
 same_texts-eq : (a b : List (List ℕ)) → pointwise is_same a b ≡ true → a ≡ b
 same_texts-eq [] [] h = refl
@@ -69,3 +77,26 @@ other-record r o h e =
   where
     some-is : (a b : EntryRecord) → Some a ≡ Some b → a ≡ b
     some-is a b e = cc
+
+-- ---- the record of an entry that is told
+
+abbrev spelled_datum : Change → List ℕ
+spelled_datum change = spelling Little 0 (V.Variant change.datum)
+
+pub kept-before : (former : Option TableEntry) (change : Change) → is_kept former change.rows (spelled_datum change) ≡ true → former_record change.table change.id former ≡ Some (record_of (entry_told change))
+kept-before None change h = cc
+kept-before (Some f) change h =
+    let before = spelling Little 0 (V.Variant f.datum) in
+    let rows = same_rows-eq f.rows change.rows (first_of_both (same_rows f.rows change.rows) (is_same before (spelled_datum change)) h) in
+    let datum = is_same-eq before (spelled_datum change) (second_of_both (same_rows f.rows change.rows) (is_same before (spelled_datum change)) h) in
+    λ i. Some (record { table = change.table; id = change.id; datum = datum i; rows = rows i })
+
+pub other-before : (former : Option TableEntry) (change : Change) → is_kept former change.rows (spelled_datum change) ≡ false → former_record change.table change.id former ≡ Some (record_of (entry_told change)) → ⊥
+other-before None change h e = cc
+other-before (Some f) change h e = other-record (record_of (with_content change.table change.id f)) (record_of (entry_told change)) h e
+
+-- rows of one number that are the same pair by pair
+pub pairs-same : (a b : List Row) (found : Bool) → length a ≡ length b → found ≡ list_all same_pair (zip a b) → found ≡ same_rows a b
+pairs-same a b found e f =
+    let long : (length a == length b) ≡ true = grind (arith, nat_tests) in
+    f ∙ (λ i. sym long i && list_all same_pair (zip a b))

@@ -1,6 +1,6 @@
 -- Facts on results, for the calls of the store.
 use Rattle.std.specs.Prelude.{IfOk, OnErr}
-use Rattle.std.proofs.Common.{◌≡◌, Result, Ok, Err, refl, ap}
+use Rattle.std.proofs.Common.{◌≡◌, Result, Ok, Err, ap}
 use Rattle.change_signals.specs.Unsent.{Boxes, IsSame, unsent_on}
 
 -- each of them, where there is a result

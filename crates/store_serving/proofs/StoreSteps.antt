@@ -3,14 +3,12 @@ use Rattle.std.specs.Prelude.{IfOk, MatchBool, OnErr}
 use Rattle.std.proofs.Common.{◌≡◌, ℕ, List, [], map, Bool, true, false, cond, Option, Some, None, option_map, Result, Ok, Err, refl, sym, ap, subst, ◌∙◌}
 use Rattle.change_signals.specs.Unsent.{AtEach, Boxes, IsSame, told}
 use Rattle.document_calls.specs.Changes.{done_with}
-use Rattle.document_calls.specs.KeeperCalls.{AppliedIf, KeeperWent, KeepsRecords, ServesKept, fault_if}
-use Rattle.document_calls.specs.Serves.{given_with}
+use Rattle.document_calls.specs.KeeperCalls.{AppliedIf}
 use Rattle.document_calls.specs.declared.served.ServedCall.{ServedCall}
 use Rattle.document_calls.proofs.ServedSteps.{change-follows, change-went, done-serves, refused-follows}
 use Rattle.permission_table.specs.Tables.{Gives, content_of, former_of, put_back, with_content}
 use Rattle.portal_base.specs.declared.memory.WantOfMemory.{WantOfMemory}
 use Rattle.portal_base.specs.declared.who.Who.{Who}
-use Rattle.portal_model.specs.declared.entry.Fault.{Fault}
 use Rattle.portal_model.specs.declared.records.RecordChange.{RecordChange}
 use Rattle.portal_model.specs.declared.records.RecordChange.TheVariants.{RemoveEntry}
 use Rattle.portal_model.specs.declared.reply.Answer.{Answer}
@@ -19,7 +17,6 @@ use Rattle.portal_model.specs.declared.reply.Code.{Code}
 use Rattle.portal_model.specs.declared.request.Request.{Request}
 use Rattle.portal_model.specs.declared.state.Connection.{Connection}
 use Rattle.portal_model.specs.declared.store.StoreAnswer.{StoreAnswer}
-use Rattle.portal_model.specs.declared.store.StoreAnswer.TheVariants as StoreAnswer
 use Rattle.portal_model.specs.declared.store.StoreCall.{StoreCall}
 use Rattle.portal_model.specs.declared.store.StoredEntry.{StoredEntry}
 use Rattle.portal_model.specs.declared.store.StoreError.{StoreError}
@@ -31,7 +28,7 @@ use Rattle.portal_model.specs.Errno.{eio}
 use Rattle.portal_model.specs.Kept.{records_of}
 use Rattle.portal_model.specs.State.{State}
 use Rattle.portal_model.specs.Store.{Entries, Outcome, change_of, entry_of, record_of, store_call, with_entry, without_entry}
-use Rattle.portal_model.specs.StoreRequest.{identifier_of, store_verdict, table_of, tell_hosts, tell_kept, told_change}
+use Rattle.portal_model.specs.StoreRequest.{identifier_of, store_verdict, table_of, tell_hosts, tell_kept}
 use Rattle.portal_model.specs.Valid.{entry_told}
 use Rattle.portal_model.specs.Verdict.{Verdict, Refuses, does}
 use Rattle.portal_model.specs.Walk.{Answers}
@@ -39,7 +36,6 @@ use Rattle.record_keeper.specs.Keepers.{KeeperIs}
 use Rattle.store_serving.specs.Records.{SetsRecord, former_record}
 use Rattle.store_serving.specs.Refusals.{refusal_of}
 use Rattle.store_serving.specs.Serving.{GivesStore, HasStore, IsMadeOf, ServesStore, StoreServed, ToldIfThere, answered_call, changes_an_entry, entry_with, may_change_entries, read_call, refused_call}
-use Rattle.store_serving.specs.Waiting.{AreWaiting, silent}
 use Rattle.store_serving.proofs.EntrySteps.{Puts, Tells, call-puts, call-reads, former-entry, put-back}
 use Rattle.store_serving.proofs.Passed.{is_fault_code, passed-is, refused-is, refused-plain}
 use Rattle.store_serving.proofs.RecordSteps.{Changes, change-kept, change-risen, changes-match, gone-changes, set-changes}

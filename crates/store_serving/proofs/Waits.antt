@@ -1,6 +1,6 @@
 -- What connections wait for, and the boxes that hold it, as a change is told.
 use Rattle.std.proofs.Common.{◌≡◌, ℕ, ◌==◌, List, [], ◌∷◌, ◌++◌, map, Bool, true, false, cond, Option, Some, None, option_map, refl, sym, ap, ◌∙◌}
-use Rattle.change_signals.specs.Unsent.{AtEach, Boxes, IsSame, told, unsent_on, with_last}
+use Rattle.change_signals.specs.Unsent.{AtEach, Boxes, IsSame, told, with_last}
 use Rattle.portal_model.specs.declared.reply.Change.{Change}
 use Rattle.portal_model.specs.declared.state.Connection.{Connection}
 use Rattle.portal_model.specs.State.{connection_of}

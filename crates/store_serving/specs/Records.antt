@@ -1,7 +1,10 @@
 -- The change of the records with which an entry of the permission store is set.
-use Rattle.std.specs.Prelude.{◌≡◌, ℕ, ◌==◌, List, length, Bool, ◌&&◌, Option, Some, None, option_map}
+use Rattle.std.specs.Prelude.{◌≡◌, ℕ, ◌==◌, List, length, Bool, false, ◌&&◌, Option, Some, None, option_map}
 use Rattle.std.specs.Cmp.Lexicographic.{pointwise}
 use Rattle.std.specs.List.{list_all, zip}
+use Rattle.dbus_types.specs.declared.types.Endian.TheVariants.{Little}
+use Rattle.dbus_types.specs.declared.types.Value.TheVariants as V
+use Rattle.dbus_types.specs.Spelling.{spelling}
 use Rattle.permission_table.specs.Tables.{with_content}
 use Rattle.portal_base.specs.Names.{is_same}
 use Rattle.portal_model.specs.declared.records.EntryRecord.{EntryRecord}
@@ -31,3 +34,9 @@ same_pair p = same_row p.0 p.1
 
 abbrev pub same_rows : List Row → List Row → Bool
 same_rows a b = (length a == length b) && list_all same_pair (zip a b)
+
+-- the entry was there with these rows and this spelled data
+abbrev pub is_kept : Option TableEntry → List Row → List ℕ → Bool
+is_kept None rows datum = false
+is_kept (Some f) rows datum =
+    same_rows f.rows rows && is_same (spelling Little 0 (V.Variant f.datum)) datum

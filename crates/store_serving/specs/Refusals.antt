@@ -1,7 +1,7 @@
 -- Why a call of the permission store is refused ahead of its tables. That the host alone may call,
 -- which texts and data are taken, and that the table `documents` is the portal's own, are this
 -- project's own.
-use Rattle.std.specs.Prelude.{ℕ, List, not, Option, Some, None, cond}
+use Rattle.std.specs.Prelude.{not, Option, Some, None, cond}
 use Rattle.portal_base.specs.Names.{is_same}
 use Rattle.portal_base.specs.declared.who.Who.{Who}
 use Rattle.portal_model.specs.declared.reply.Code.{Code}

@@ -1,7 +1,7 @@
 -- A call of the permission store that was served, over the entries of its tables and over what each
 -- connection waits for. The terms are those of the documentation of
 -- org.freedesktop.impl.portal.PermissionStore.
-use Rattle.std.specs.Prelude.{◌≡◌, ℕ, List, [], map, Bool, true, false, Option, Some, None, option_map, Result, Ok, Err}
+use Rattle.std.specs.Prelude.{◌≡◌, ℕ, List, map, Bool, true, false, Option, Some, None, option_map, Result, Ok, Err}
 use Rattle.change_signals.specs.Unsent.{AtEach, Boxes, IsSame, told}
 use Rattle.document_calls.specs.Changes.{refused_with}
 use Rattle.document_calls.specs.KeeperCalls.{KeepsRecords, ServesKept, fault_if}

@@ -7,6 +7,7 @@ ghost use Rattle.permission_table.specs.Tables.{Gives};
 ghost use Rattle.portal_model.specs.State.{State};
 ghost use Rattle.portal_model.specs.Store.{entry_of, store_call, without_entry};
 ghost use Rattle.portal_model.specs.StoreRequest.{are_data, are_store_arguments, data_of, identifier_of, table_of};
+ghost use Rattle.portal_model.specs.declared.records.RecordChange.TheVariants.{RemoveEntry};
 ghost use Rattle.portal_model.specs.declared.state.Connection.{Connection};
 ghost use Rattle.portal_model.specs.declared.store.StoreCall.TheVariants as StoreCall;
 ghost use Rattle.store_serving.specs.Serving.{HasStore, ServesStore, StoreServed, changes_an_entry, may_change_entries};
@@ -131,13 +132,19 @@ fn ask(alloc: Global, tables: &mut Tables, call: &StoreCall) -> Result<StoreAnsw
             id,
             rows,
             ..
-        } => tables.set(table, *create, id, rows, &datum_of(alloc, call)?),
+        } => {
+            let datum = datum_of(alloc, call)?;
+            tables.set(table, *create, id, rows, &datum)
+        }
         StoreCall::SetValue {
             table,
             create,
             id,
             ..
-        } => tables.set_value(table, *create, id, &datum_of(alloc, call)?),
+        } => {
+            let datum = datum_of(alloc, call)?;
+            tables.set_value(table, *create, id, &datum)
+        }
         StoreCall::SetPermission {
             table,
             create,
@@ -156,9 +163,18 @@ fn datum_of(alloc: Global, call: &StoreCall) -> Result<Datum, WantOfMemory>
     requires data { are_data (data_of call.now) ≡ true }
     ensures { IfOk result (λ copy. data_of call.now ≡ Some copy) }
 {
-    match call.replica(alloc)? {
-        StoreCall::Set { datum, .. } => Ok(Datum::new(datum)),
-        StoreCall::SetValue { datum, .. } => Ok(Datum::new(datum)),
+    Ok(datum_brought(call.replica(alloc)?))
+}
+
+/// The data of a call that brings some.
+fn datum_brought(call: StoreCall) -> Datum
+    requires some { is_some (data_of call) ≡ true }
+    requires data { are_data (data_of call) ≡ true }
+    ensures { data_of call ≡ Some result }
+{
+    match call {
+        StoreCall::Set { datum, .. } => Datum::new(datum),
+        StoreCall::SetValue { datum, .. } => Datum::new(datum),
         _ => unreachable!(),
     }
 }
@@ -183,15 +199,23 @@ fn delete<K: Keeper>(
         return Ok(answered(alloc, Answer::Refused(Code::NotFound)));
     };
     let change = change_of(alloc, true, table, id, former)?;
-    let made = RecordChange::RemoveEntry {
-        table: table.replica(alloc)?,
-        id: id.replica(alloc)?,
-    };
-    if keep_told(alloc, outboxes, keeper, Some(made), change)? {
-        return Ok(done(alloc, true));
+    let made = removal(alloc, table, id)?;
+    let failed = keep_told(alloc, outboxes, keeper, Some(made), change)?;
+    if failed {
+        return Ok(done(alloc, failed));
     }
     forget(tables, table, id);
-    Ok(done(alloc, false))
+    Ok(done(alloc, failed))
+}
+
+/// The change of the records with which an entry goes.
+fn removal(alloc: Global, table: &Text, id: &Text) -> Result<RecordChange, WantOfMemory>
+    ensures { IfOk result (λ made. made ≡ RemoveEntry table.now id.now) }
+{
+    Ok(RecordChange::RemoveEntry {
+        table: table.replica(alloc)?,
+        id: id.replica(alloc)?,
+    })
 }
 
 /// Takes the entry of a table and an identifier out.

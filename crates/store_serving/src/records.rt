@@ -8,7 +8,7 @@ ghost use Rattle.dbus_types.specs.declared.types.Value.TheVariants as V;
 ghost use Rattle.dbus_types.specs.Spelling.{spelling};
 ghost use Rattle.portal_model.specs.Store.{record_of};
 ghost use Rattle.portal_model.specs.Valid.{entry_told};
-ghost use Rattle.store_serving.specs.Records.{SetsRecord, former_record, same_row, same_rows};
+ghost use Rattle.store_serving.specs.Records.{SetsRecord, former_record, is_kept, same_row, same_rows};
 
 use dbus_marshal::write::write_value;
 use dbus_types::types::Value;
@@ -33,11 +33,9 @@ pub(crate) fn record_change(
         (record_of (entry_told change.now))) }
 {
     let datum = spelled(alloc, &change.datum)?;
-    if let Some(former) = former {
-        let spelled_before = spelled(alloc, &former.datum)?;
-        if same_rows(former.rows.as_slice(), change.rows.as_slice()) && spelled_before == datum {
-            return Ok(None);
-        }
+    let kept = is_kept(alloc, former, change, &datum)?;
+    if kept {
+        return Ok(None);
     }
     Ok(Some(RecordChange::SetEntry(EntryRecord {
         table: change.table.replica(alloc)?,
@@ -45,6 +43,24 @@ pub(crate) fn record_change(
         datum,
         rows: change.rows.replica(alloc)?,
     })))
+}
+
+/// Says whether an entry was there with the rows of the change and this spelled data.
+fn is_kept(
+    alloc: Global,
+    former: &Option<TableEntry>,
+    change: &Change,
+    datum: &ByteList,
+) -> Result<bool, WantOfMemory>
+    ensures { IfOk result (λ kept. kept ≡ is_kept former.now change.now.rows datum.now) }
+{
+    match former {
+        None => Ok(false),
+        Some(former) => {
+            let before = spelled(alloc, &former.datum)?;
+            Ok(same_rows(former.rows.as_slice(), change.rows.as_slice()) && before == *datum)
+        }
+    }
 }
 
 /// The spelling of data as a variant, with the lowest byte of each number first.

@@ -10,7 +10,7 @@ use portal_base::list::List;
 use portal_base::text::{Text, has_no_zero};
 use portal_model::datum::Datum;
 use portal_model::records::Row;
-use record_keeper::{holds_handle, read_datum};
+use record_keeper::read_datum;
 use std::alloc::Global;
 use vector_lines::error::{LineError, VectorError};
 use vector_lines::notation::bytes;
@@ -74,16 +74,13 @@ pub fn datum(alloc: Global, written: &str) -> Result<Datum, VectorError>
     ensures { IfOk result IsSoundDatum }
 {
     let spelled = bytes(alloc, written)?;
-    match read_datum(alloc, spelled.as_slice())? {
-        Some(Value::Variant(inner)) => {
-            let value = inner.into_inner();
-            if holds_handle(&value) {
-                return no_datum(alloc);
-            }
-            Ok(Datum::new(value))
-        }
-        _ => no_datum(alloc),
-    }
+    let Some(variant) = read_datum(alloc, spelled.as_slice())? else {
+        return no_datum(alloc);
+    };
+    let Value::Variant(inside) = variant else {
+        return no_datum(alloc);
+    };
+    Ok(Datum::new(inside.into_inner()))
 }
 
 fn no_datum(alloc: Global) -> Result<Datum, VectorError>

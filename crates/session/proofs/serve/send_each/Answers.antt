@@ -2,7 +2,7 @@ use Rattle.std.proofs.Common.{◌≡◌, ◌++◌, ℕ, List, Option, refl, ap, 
 use Rattle.std.proofs.lemmas.List.{take_all}
 use Rattle.portal_base.specs.Outside.{onto}
 use Rattle.session.proofs.Grew.{onto_none, onto_onto}
-use Rattle.session.proofs.Speech.{piece_more, short_at}
+use Rattle.session.proofs.Messages.{piece_more, short_at}
 use Rattle.session.proofs.serve.send_each.Goals as goal
 
 pub loop-piece-init : goal.loop-piece-init

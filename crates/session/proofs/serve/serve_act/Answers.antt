@@ -10,7 +10,7 @@ use Rattle.session.specs.Frames.{frames_of}
 use Rattle.session.proofs.Grew.{grew_none}
 use Rattle.session.proofs.DidItems.{act_ends}
 use Rattle.session.proofs.ServeItem.{sends_all}
-use Rattle.session.proofs.Speech.{signals_each}
+use Rattle.session.proofs.Messages.{signals_each}
 use Rattle.session.proofs.serve.serve_act.Goals as goal
 
 pub returns-in-Nothing-clause-ends : goal.returns-in-Nothing-clause-ends

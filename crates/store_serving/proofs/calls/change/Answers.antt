@@ -2,6 +2,7 @@ use Rattle.std.proofs.Common.{◌≡◌, inl, refl}
 use Rattle.portal_model.specs.Store.{Entries}
 use Rattle.portal_model.specs.declared.store.StoreCall.{StoreCall}
 use Rattle.store_serving.specs.Serving.{IsMadeOf}
+use Rattle.store_serving.proofs.Settled.{always-err}
 use Rattle.store_serving.proofs.StoreSteps.{if_err, if_ok}
 use Rattle.store_serving.proofs.calls.change.Goals as goal
 
@@ -29,7 +30,7 @@ returns-clause-tables g c =
     (c.settle.new.tables ≡ c.args.tables.now) c.settle.result (λ k. k c.args.call.now c.args.tables.now made) c.settle.ensures.tables
 
 pub returns-in_err-former-clause-outboxes : goal.returns-in_err-former-clause-outboxes
-returns-in_err-former-clause-outboxes g c = λ s. refl
+returns-in_err-former-clause-outboxes g c = always-err _ c.from_residual.result (λ s. refl)
 
 pub returns-in_err-former-clause-keeper : goal.returns-in_err-former-clause-keeper
-returns-in_err-former-clause-keeper g c = inl refl
+returns-in_err-former-clause-keeper g c = always-err _ c.from_residual.result (inl refl)

@@ -3,7 +3,6 @@ use Rattle.document_calls.specs.declared.served.ServedCall.{ServedCall}
 use Rattle.portal_model.specs.Store.{Entries}
 use Rattle.portal_model.specs.declared.reply.Answer.TheVariants as Answer
 use Rattle.portal_model.specs.declared.store.StoreAnswer.{StoreAnswer}
-use Rattle.portal_model.specs.declared.store.StoreAnswer.TheVariants as StoreAnswer
 use Rattle.portal_model.specs.declared.store.StoreCall.{StoreCall}
 use Rattle.store_serving.specs.Serving.{IsMadeOf, StoreServed, ToldIfThere, answered_call, entry_with}
 use Rattle.store_serving.proofs.Settled.{always-err, ok-by}
