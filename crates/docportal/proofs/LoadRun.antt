@@ -47,10 +47,10 @@ module _ (count : ℕ) (slice : List ScriptLine) (p : ScriptPortal) (few : count
       is_replay h.entries (text_of (lines_of_load count)) (lines_of_load count) front later history out last h.kept size script ahead h.valid (subst (λ (z : Scene). Plays z front history out last) begins plays)
 
   pub ran_load : (q : ScriptPortal) → state_first q.story ≡ state_first p.story → PlaysAll p q slice None None → RanLoad count q
+  unfolding is_replay
   ran_load q same k =
       let grown : q.story.history ≡ k.history = k.stored ∙ ap (λ (z : List Entry). z ++ k.history) h.history in
       let plays : Plays (scene p []) (lines_of_load count) k.history k.out k.last = subst (λ (x : List ScriptLine). Plays (scene p []) x k.history k.out k.last) is k.plays in
-      let replayed = front_replayed (lines_of_load count) [] k.history k.out k.last (sym (append-nil (lines_of_load count))) plays in
       let moved : IsReplay (lines_of_load count) (lines_of_load count) q.story.history k.out k.last =
           is_replay h.entries (text_of (lines_of_load count)) (lines_of_load count) (lines_of_load count) [] q.story.history k.out k.last h.kept size script (sym (append-nil (lines_of_load count))) h.valid
           (subst (λ (z : List Entry). Plays (first_scene h.entries (lines_of_load count)) (lines_of_load count) z k.out k.last) (sym grown) (subst (λ (z : Scene). Plays z (lines_of_load count) k.history k.out k.last) begins plays)) in
@@ -68,7 +68,7 @@ module _ (count : ℕ) (slice : List ScriptLine) (p : ScriptPortal) (few : count
 
   -- the sink takes all, so no write fails
   none_risen : HasRisen 0 0 → ⊥
-  none_risen r = omega arith
+  none_risen r = omega (arith, r)
 
   stops : (status : Status) → PlayStops (scene p []) (lines_of_load count) None 0 None 0 status → StopsLoad count status
   stops Done k = absurd k
@@ -126,17 +126,17 @@ pub generated_as : (load : Load) (count : ℕ) (told told' : Option (List (List 
 generated_as load count told told' status e g = subst (λ (z : ℕ). Generated z told told' status) (ap (λ (z : Load). z.requests) e) g
 
 module _ (count : ℕ) (p : ScriptPortal) (ran : RanLoad count p) (lines slice : List (List ℕ)) (told told' : Option (List (List ℕ))) (faults faults' : ℕ) (made : lines ≡ load_lines_at count p.story) (is : slice ≡ lines) where
-  said : slice ≡ load_lines count (opening_state ran.replay.entries (lines_of_load count)) p.story.history
-  said = is ∙ (made ∙ ap (λ (z : State). load_lines count z p.story.history) ran.first)
+  said_is : slice ≡ load_lines count (opening_state ran.replay.entries (lines_of_load count)) p.story.history
+  said_is = is ∙ (made ∙ ap (λ (z : State). load_lines count z p.story.history) ran.first)
 
   pub all_said : WritesLines slice told faults told' faults' true → Generated count told told' Done
-  all_said w = (slice, w.1, record { history = p.story.history; out = ran.out; last = ran.last; replay = ran.replay; said = said })
+  all_said w = (slice, w.1, record { history = p.story.history; out = ran.out; last = ran.last; replay = ran.replay; said = said_is })
 
   pub part_said : WritesLines slice told faults told' faults' false → Generated count told told' WriteFault
   part_said w = (
     w.1.0,
     w.1.2,
-    record { history = p.story.history; out = ran.out; last = ran.last; replay = ran.replay; said = subst (Short w.1.0) said w.1.1 },
+    record { history = p.story.history; out = ran.out; last = ran.last; replay = ran.replay; said = subst (Short w.1.0) said_is w.1.1 },
   )
 
 -- ---- writing lines

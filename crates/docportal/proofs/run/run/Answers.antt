@@ -15,3 +15,9 @@ returns-in-Some-Generate-clause-risen g c = risen_load _ _ _ _ _ _ _ c.generate.
 
 pub returns-in-None-clause-ran : goal.returns-in-None-clause-ran
 returns-in-None-clause-ran g c = any_unknown c.args.words.now _ _ c.in-None.ensures
+
+pub generate-requires-clause-some : goal.generate-requires-clause-some
+generate-requires-clause-some g c = let asked = rw c.in-Some-Generate.field-0-is at c.in-Some-Generate.ensures in asked.2.some
+
+pub generate-requires-clause-most : goal.generate-requires-clause-most
+generate-requires-clause-most g c = let asked = rw c.in-Some-Generate.field-0-is at c.in-Some-Generate.ensures in asked.2.most
