@@ -52,8 +52,8 @@ module _ (count : ℕ) (slice : List ScriptLine) (p : ScriptPortal) (few : count
       let grown : q.story.history ≡ k.history = k.stored ∙ ap (λ (z : List Entry). z ++ k.history) h.history in
       let plays : Plays (scene p []) (lines_of_load count) k.history k.out k.last = subst (λ (x : List ScriptLine). Plays (scene p []) x k.history k.out k.last) is k.plays in
       let moved : IsReplay (lines_of_load count) (lines_of_load count) q.story.history k.out k.last =
-          is_replay h.entries (text_of (lines_of_load count)) (lines_of_load count) (lines_of_load count) [] q.story.history k.out k.last h.kept size script (sym (append-nil (lines_of_load count))) h.valid
-          (subst (λ (z : List Entry). Plays (first_scene h.entries (lines_of_load count)) (lines_of_load count) z k.out k.last) (sym grown) (subst (λ (z : Scene). Plays z (lines_of_load count) k.history k.out k.last) begins plays)) in
+      is_replay h.entries (text_of (lines_of_load count)) (lines_of_load count) (lines_of_load count) [] q.story.history k.out k.last h.kept size script (sym (append-nil (lines_of_load count))) h.valid
+      (subst (λ (z : List Entry). Plays (first_scene h.entries (lines_of_load count)) (lines_of_load count) z k.out k.last) (sym grown) (subst (λ (z : Scene). Plays z (lines_of_load count) k.history k.out k.last) begins plays)) in
       record { out = k.out; last = k.last; replay = moved; first = same ∙ h.state }
 
   unbuilt : (number : ℕ) → PlaysUpTo (scene p []) (lines_of_load count) number None None → StopsLoad count (Unbuilt number)
