@@ -1,9 +1,9 @@
 -- What the requests to the permission store come to can be told.
-use Rattle.std.proofs.Common.{◌≡◌, ℕ, Bool, true, false, cond, not, List, [], ◌∷◌, map, Option, Some, None, Result, Ok, Err, refl}
-use Rattle.std.specs.Prelude.{All, ◌&&◌, ◌==◌}
+use Rattle.std.proofs.Common.{◌≡◌, ℕ, Bool, true, false, cond, not, List, [], ◌∷◌, map, Option, Some, None, Ok, Err, refl}
+use Rattle.std.specs.Prelude.{All, ◌&&◌}
 use Rattle.std.specs.List.{filter, list_all}
 use Rattle.std.proofs.lemmas.Bool.{and_parts}
-use Rattle.std.proofs.lemmas.List.Elements.{All-nil, All-cons, All-head, All-tail, All-filter, All-map, All-weaker}
+use Rattle.std.proofs.lemmas.List.Elements.{All-nil, All-cons, All-head, All-tail, All-filter, All-map}
 use Rattle.portal_base.specs.Names.{is_same}
 use Rattle.portal_base.specs.declared.who.Who.{Who}
 use Rattle.portal_model.specs.declared.records.Row.{Row}
@@ -15,10 +15,10 @@ use Rattle.portal_model.specs.declared.store.StoreCall.TheVariants as Call
 use Rattle.portal_model.specs.declared.store.StoredEntry.{StoredEntry}
 use Rattle.portal_model.specs.declared.store.StoreError.TheVariants.{TooLong}
 use Rattle.portal_model.specs.Data.{is_data}
-use Rattle.portal_model.specs.Ordered.{bytes_less, put_all}
+use Rattle.portal_model.specs.Ordered.{bytes_less}
 use Rattle.portal_model.specs.Rows.{is_row_of, permissions_of, row_of, stored_rows}
 use Rattle.portal_model.specs.State.{State}
-use Rattle.portal_model.specs.Store.{Entries, Outcome, becomes, becomes_if_told, can_be_told, change_of, entry_of, entry_to_set, has_row, ids_of, is_entry_of, is_in_table, lookup, get_permission, store_call, with_entry, with_permissions, without_entry, without_permissions}
+use Rattle.portal_model.specs.Store.{Entries, Outcome, becomes, becomes_if_told, can_be_told, change_of, entry_of, entry_to_set, has_row, ids_of, is_entry_of, is_in_table, store_call, with_entry, with_permissions, without_entry, without_permissions}
 use Rattle.portal_model.specs.StoreRequest.{are_store_arguments, own_table, store_allowed, store_answered, store_request, store_verdict, table_of}
 use Rattle.portal_model.specs.Valid.{Valid, has_entry_texts, has_texts, is_text, is_valid_entry}
 use Rattle.portal_model.proofs.ListLookups.{found_in_all}

@@ -1,6 +1,6 @@
 -- What is told of a change can be written, where the entry that it tells of is as entries are.
-use Rattle.std.proofs.Common.{◌≡◌, ◌≢◌, ℕ, suc, ◌+◌, ◌<◌, ◌≤◌, ◌^◌, Bool, true, false, nat_le, List, [], ◌∷◌, ◌++◌, length, map, Result, Ok, Err, refl, sym, ap, subst, ◌∙◌, arith}
-use Rattle.std.specs.Prelude.{All, IfOk, IsTrue, ◌&&◌, codes}
+use Rattle.std.proofs.Common.{◌≡◌, ℕ, suc, ◌+◌, Bool, true, false, List, [], ◌∷◌, ◌++◌, length, map, Result, Ok, Err, refl, sym, ap, subst, ◌∙◌, arith}
+use Rattle.std.specs.Prelude.{IfOk, ◌&&◌, codes}
 use Rattle.std.specs.Int.{w32}
 use Rattle.std.specs.List.{list_all}
 use Rattle.std.proofs.lemmas.Bool.{and_parts, leb-true}
@@ -20,7 +20,7 @@ use Rattle.dbus_types.specs.Spelling.{Spelled, spelling, spellings, spelled_leng
 use Rattle.dbus_types.proofs.OneSpelling.{roll_bool}
 use Rattle.dbus_types.proofs.TypeLayers.{text_array, text_entry}
 use Rattle.dbus_message.specs.Fields.{field_type, signal_kind}
-use Rattle.dbus_message.specs.Written.{IsGoodBody, body_out, field, fields_out, message_bytes}
+use Rattle.dbus_message.specs.Written.{IsGoodBody, field, fields_out, message_bytes}
 use Rattle.dbus_message.proofs.WriteMessage.{whole_len}
 use Rattle.portal_model.specs.declared.reply.Change.{Change}
 use Rattle.portal_model.specs.declared.store.StoredEntry.{StoredEntry}
@@ -34,7 +34,7 @@ use Rattle.dbus_dispatch.specs.Tables.{changed}
 use Rattle.dbus_dispatch.specs.Writable.{IsChangeInUtf8, IsWritable}
 use Rattle.dbus_dispatch.proofs.Bodies.{text_str, text_variant, type_array, type_str, type_variant}
 use Rattle.dbus_dispatch.proofs.StoredTexts.{stored_rows_texts, stored_text}
-use Rattle.dbus_dispatch.proofs.Told.{Facts, Good, good, good_rows, good_str, good_variant}
+use Rattle.dbus_dispatch.proofs.Told.{Good, good, good_rows, good_str, good_variant}
 
 -- ---- the signature of what it carries
 

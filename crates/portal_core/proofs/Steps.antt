@@ -25,14 +25,15 @@ use Rattle.portal_model.specs.declared.request.Request.TheVariants as Request
 use Rattle.portal_model.specs.declared.records.Records.{Records}
 use Rattle.portal_model.specs.declared.state.Connection.{Connection}
 use Rattle.portal_model.specs.declared.state.Triple.{Triple}
-use Rattle.portal_model.specs.Enter.{entered, new_connection}
+use Rattle.portal_model.specs.Enter.{enter_answer, entered, new_connection}
 use Rattle.portal_model.specs.History.{run, cost, cost_of}
 use Rattle.portal_model.specs.Lawful.{Lawful}
 use Rattle.portal_model.specs.Kept.{records_of}
-use Rattle.portal_model.specs.Leave.{handles_left, handles_of_others, left, of_others}
+use Rattle.portal_model.specs.Leave.{handles_left, handles_of_others, leave_answer, left, of_others}
 use Rattle.portal_model.specs.Opening.{opened_over}
 use Rattle.portal_model.specs.State.{State, connection_of}
-use Rattle.portal_model.specs.Step.{after, all_told, bus_of, collect_step, is_mount, reply_with}
+use Rattle.portal_model.specs.Seated.{is_open}
+use Rattle.portal_model.specs.Step.{after, all_told, bus_of, collect_step, is_mount, reply_at, reply_with}
 use Rattle.portal_model.specs.Store.{Entries}
 use Rattle.portal_model.specs.Valid.{Valid, is_caller, is_host_bus}
 use Rattle.portal_model.proofs.Histories.{run-append, Legal-append, cost-append}
@@ -165,6 +166,13 @@ module _ (began : Option (List File)) (o : OpeningState) (h : List Entry) (limit
   pub stored_there : (seat : ℕ) (who : Who) (kind : Kind) (entries : Entries) (boxes : Boxes) → is_some (connection_of cs seat) ≡ true → HasStore now entries boxes → HasStore (run (opened_over began o) (h ++ entry_of seat (Request.Enter who kind) [] Fault.None ∷ [])) entries boxes
   stored_there seat who kind entries boxes t k = stored_stays (entry_of seat (Request.Enter who kind) [] Fault.None) entries boxes (there_stays seat who kind t) k
 
+  there_answered : (c : Option Connection) → is_some c ≡ true → Answer.Refused Code.NotHere ≡ enter_answer c
+  there_answered None e = absurd (cc)
+  there_answered (Some c) e = refl
+
+  pub there_replied : (seat : ℕ) (who : Who) (kind : Kind) → is_some (connection_of cs seat) ≡ true → reply_with [] (Answer.Refused Code.NotHere) ≡ reply_at now (entry_of seat (Request.Enter who kind) [] Fault.None)
+  there_replied seat who kind t = ap (reply_with []) (there_answered (connection_of now.connections seat) (some-now seat ∙ t))
+
   no_connection : (c : Option Connection) → is_some c ≡ false → c ≡ None
   no_connection None e = refl
   no_connection (Some c) e = cc
@@ -175,6 +183,13 @@ module _ (began : Option (List File)) (o : OpeningState) (h : List Entry) (limit
   -- the seat has no box
   pub unheard : (seat : ℕ) (entries : Entries) (boxes : Boxes) → is_some (connection_of cs seat) ≡ false → HasStore now entries boxes → unsent_on boxes seat ≡ None
   unheard seat entries boxes t k = k.waiting seat ∙ ap box_on (free_now seat t)
+
+  new_answered : (c : Option Connection) → c ≡ None → Answer.Done ≡ enter_answer c
+  new_answered None e = refl
+  new_answered (Some c) e = absurd (cc)
+
+  pub new_replied : (seat : ℕ) (who : Who) (kind : Kind) → is_some (connection_of cs seat) ≡ false → reply_with [] Answer.Done ≡ reply_at now (entry_of seat (Request.Enter who kind) [] Fault.None)
+  new_replied seat who kind t = ap (reply_with []) (new_answered (connection_of now.connections seat) (free_now seat t))
 
   new_joins : (seat : ℕ) (who : Who) (kind : Kind) → is_some (connection_of cs seat) ≡ false → after now (entry_of seat (Request.Enter who kind) [] Fault.None) ≡ record now { connections = now.connections ++ new_connection seat who kind ∷ [] }
   new_joins seat who kind t = λ i. record now { connections = entered_new seat who kind now.connections (connection_of now.connections seat) (free_now seat t) i }
@@ -215,6 +230,17 @@ module _ (began : Option (List File)) (o : OpeningState) (h : List Entry) (limit
   absent_stays : (seat : ℕ) → is_some (connection_of cs seat) ≡ false → after now (entry_of seat Request.Leave [] Fault.None) ≡ now
   absent_stays seat t = left_absent seat (connection_of now.connections seat) (free_now seat t)
 
+  absent_answered : (c : Option Connection) → c ≡ None → Answer.Refused Code.NotHere ≡ leave_answer c
+  absent_answered None e = refl
+  absent_answered (Some c) e = absurd (cc)
+
+  pub absent_replied : (seat : ℕ) → is_some (connection_of cs seat) ≡ false → reply_with [] (Answer.Refused Code.NotHere) ≡ reply_at now (entry_of seat Request.Leave [] Fault.None)
+  absent_replied seat t = ap (reply_with []) (absent_answered (connection_of now.connections seat) (free_now seat t))
+
+  -- a seat whose connection the portal has not is not open
+  pub absent_closed : (seat : ℕ) → is_some (connection_of cs seat) ≡ false → is_open now seat ≡ true → ⊥
+  absent_closed seat t here = let no : true ≡ false = sym here ∙ (some-now seat ∙ t) in cc
+
   pub stands_absent : (seat : ℕ) → is_some (connection_of cs seat) ≡ false → Stands began o (h ++ entry_of seat Request.Leave [] Fault.None ∷ []) limit ds rs apps cs table told
   stands_absent seat t = stays (entry_of seat Request.Leave [] Fault.None) (leave_lawful seat) (absent_stays seat t) (omega (arith, p.within))
 
@@ -223,6 +249,13 @@ module _ (began : Option (List File)) (o : OpeningState) (h : List Entry) (limit
 
   here_leaves : (seat : ℕ) → is_some (connection_of cs seat) ≡ true → after now (entry_of seat Request.Leave [] Fault.None) ≡ record now { connections = of_others seat now.connections; handles = handles_of_others seat now.handles }
   here_leaves seat t = left_here seat (connection_of now.connections seat) (some-now seat ∙ t)
+
+  left_answered : (c : Option Connection) → is_some c ≡ true → Answer.Done ≡ leave_answer c
+  left_answered None e = absurd (cc)
+  left_answered (Some c) e = refl
+
+  pub left_replied : (seat : ℕ) → is_some (connection_of cs seat) ≡ true → reply_with [] Answer.Done ≡ reply_at now (entry_of seat Request.Leave [] Fault.None)
+  left_replied seat t = ap (reply_with []) (left_answered (connection_of now.connections seat) (some-now seat ∙ t))
 
   pub stands_left : (seat : ℕ) (table' : HandleTable) → is_some (connection_of cs seat) ≡ true → table'.most ≡ table.most → AtSeat Leaves table.seats table'.seats seat → Stands began o (h ++ entry_of seat Request.Leave [] Fault.None ∷ []) limit ds rs apps (of_others seat cs) table' told
   stands_left seat table' t most leaves =

@@ -30,7 +30,6 @@ use host_tree::HostTree;
 use inode_table::InodeTable;
 use open_handles::Handles;
 use permission_table::Tables;
-use portal_base::files::Look;
 use portal_base::limits::Limits;
 use portal_base::list::List;
 use portal_base::memory::{Replica, WantOfMemory};
@@ -340,16 +339,13 @@ impl<T: HostTree, K: Keeper, C: Clock, W: Words> Portal<T, K, C, W> {
     {
         check_caller(&who);
         let is_here = connection_of(self.connections.as_slice(), seat).is_some();
-        let request = Request::Enter {
-            who: who.replica(alloc)?,
-            kind,
-        };
-        let entry = entry_made(alloc, seat, request, List::new(alloc), Fault::None);
+        let name = who.replica(alloc)?;
         // Besides the Leaves of the connections that are there, for this entry
         // and for the Leave of the new one.
         self.history.reserve(self.connections.as_slice().len() + 2)?;
         if is_here {
-            self.history.push(entry);
+            let refused = entry_made(alloc, seat, Request::Enter { who: name, kind });
+            self.history.push(refused);
             return Ok(silent_reply(alloc, Answer::Refused(Code::NotHere)));
         }
         seats::enter(
@@ -358,6 +354,7 @@ impl<T: HostTree, K: Keeper, C: Clock, W: Words> Portal<T, K, C, W> {
             &mut self.outboxes,
             opened_connection(alloc, seat, who, kind),
         )?;
+        let entry = entry_made(alloc, seat, Request::Enter { who: name, kind });
         self.history.push(entry);
         Ok(silent_reply(alloc, Answer::Done))
     }
@@ -557,10 +554,10 @@ impl<T: HostTree, K: Keeper, C: Clock, W: Words> Portal<T, K, C, W> {
         ensures here { is_open (state_now self.old.story) seat ≡ true → IsOk result }
     {
         let is_here = connection_of(self.connections.as_slice(), seat).is_some();
-        let entry = entry_made(alloc, seat, Request::Leave, List::new(alloc), Fault::None);
         if !is_here {
             self.history.reserve(self.connections.as_slice().len() + 1)?;
-            self.history.push(entry);
+            let refused = entry_made(alloc, seat, Request::Leave);
+            self.history.push(refused);
             return Ok(silent_reply(alloc, Answer::Refused(Code::NotHere)));
         }
         let connections = mem::replace(&mut self.connections, List::new(alloc));
@@ -568,6 +565,7 @@ impl<T: HostTree, K: Keeper, C: Clock, W: Words> Portal<T, K, C, W> {
         self.handles.leave(seat);
         self.counts.leave(seat);
         self.outboxes.leave(seat);
+        let entry = entry_made(alloc, seat, Request::Leave);
         self.history.push(entry);
         Ok(silent_reply(alloc, Answer::Done))
     }
@@ -582,10 +580,10 @@ impl<T: HostTree, K: Keeper, C: Clock, W: Words> Portal<T, K, C, W> {
             (K.is self.old.keeper) (K.is self.new.keeper)) }
         ensures err { OnErr result (self.new ≡ self.old) }
     {
-        let answer = collect_answer(bus_of(self.connections.as_slice(), seat));
-        let entry = entry_made(alloc, seat, Request::Collect, List::new(alloc), Fault::None);
         self.history.reserve(self.connections.as_slice().len() + 1)?;
         let signals = self.outboxes.take(seat)?;
+        let answer = collect_answer(bus_of(self.connections.as_slice(), seat));
+        let entry = entry_made(alloc, seat, Request::Collect);
         self.history.push(entry);
         Ok(Reply { signals, answer })
     }
@@ -654,10 +652,9 @@ fn node_entry(alloc: Global, seat: u32, request: NodeRequest, done: NodeDone) ->
     )
 }
 
-/// The entry of a request for which the tree showed these looks alone, or
-/// failed.
-fn entry_made(alloc: Global, seat: u32, request: Request, looks: List<Look>, fault: Fault) -> Entry
-    ensures { result ≡ entry_of seat request looks fault }
+/// The entry of a request for which nothing outside was asked.
+fn entry_made(alloc: Global, seat: u32, request: Request) -> Entry
+    ensures { result ≡ entry_of seat request [] Fault.None }
 {
     Entry {
         seat,
@@ -666,9 +663,9 @@ fn entry_made(alloc: Global, seat: u32, request: Request, looks: List<Look>, fau
             now: None,
             words: List::new(alloc),
             numbers: List::new(alloc),
-            looks,
+            looks: List::new(alloc),
             full: false,
-            fault,
+            fault: Fault::None,
         },
     }
 }

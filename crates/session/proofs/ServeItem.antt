@@ -2,6 +2,7 @@
 use Rattle.std.proofs.Common.{◌≡◌, ℕ, ◌+◌, inl, inr, ◌≤◌, List, [], ◌∷◌, length, take, drop, Bool, true, false, cond, Option, Some, None, Result, Ok, Err, IfOk, refl, sym, ap, ◌∙◌, subst, arith}
 use Rattle.std.specs.Prelude.{◌≢◌, ◌==◌, option_to_list}
 use Rattle.std.proofs.lemmas.List.{append-nil, length-drop, length-take-le}
+use Rattle.portal_model.specs.declared.reply.Change.{Change}
 use Rattle.portal_model.specs.declared.reply.Refused.{Refused}
 use Rattle.portal_model.specs.declared.reply.Reply.{Reply}
 use Rattle.portal_model.specs.declared.request.Request.{Request}
@@ -29,12 +30,12 @@ collected_ok v w request reply a =
     let k = asked_ok v w request reply a in
     (Made k.0 ∷ [], (Made k.0, [], refl, k.1, refl), k.3, ap (λ (z : Reply). z.signals) (sym k.2) ∙ sym (append-nil k.0.reply.signals))
 
-pub collected_err : (v w : Seated) (request : Request) (why : Refused) → Asks v request (Err why) w → Collected (request ∷ []) [] v w
-collected_err v w request why a = (Denied request why ∷ [], (Denied request why, [], refl, refl, refl), asked_err v w request why a, refl)
+pub collected_err : (v w : Seated) (request : Request) (why : Refused) (changes : List Change) → Asks v request (Err why) w → changes ≡ [] → Collected (request ∷ []) changes v w
+collected_err v w request why changes a none = (Denied request why ∷ [], (Denied request why, [], refl, refl, refl), asked_err v w request why a, none)
 
 -- nothing is asked
-pub collected_none : (v : Seated) → Collected [] [] v v
-collected_none v = ([], refl, grew_none v, refl)
+pub collected_none : (v : Seated) (changes : List Change) → changes ≡ [] → Collected [] changes v v
+collected_none v changes none = ([], refl, grew_none v, none)
 
 -- nothing is to be written
 pub sends_all : {X : Type 0} (x : X) (o : Option (List (List ℕ))) (f : ℕ) → Sends [] (Ok x) o f o f

@@ -1,6 +1,5 @@
 use Rattle.std.proofs.Common.{subst}
 use Rattle.std.specs.Prelude.{All, IsUtf8}
-use Rattle.dbus_dispatch.specs.Writable.{IsInUtf8}
 use Rattle.dbus_dispatch.proofs.Walked.{any_ok}
 use Rattle.dbus_dispatch.proofs.body.body_of.Goals as goal
 

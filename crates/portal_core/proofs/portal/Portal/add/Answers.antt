@@ -36,16 +36,16 @@ invariant_of-self-in-Ok g c =
     let kept = asked-keeps (length given.looks) (is_tree given.fault) tree after c.in-Ok.ensures.asked in
     let keeps = keeps_run began k.opening k.history.entries k.history.limit k.documents k.rights k.applications k.connections k.handles tree.told c.self.invariant.0 served.documents served.rights served.applications served.connections c.args.seat (Request.Add c.args.add) given c.in_ok-signals.signals answer (g.K.Keeper.is k.keeper) (g.K.Keeper.is served.keeper) came in
     let both = stands_over began after.began k.opening (k.history.entries ++ entry_with c.args.seat (Request.Add c.args.add) given ∷ []) k.history.limit served.documents served.rights served.applications served.connections k.handles tree.told after.told (g.K.Keeper.is served.keeper).told kept.0 kept.1 stands keeps in
-    let stored = stored_served began k.opening k.history.entries k.history.limit k.documents k.rights k.applications k.connections k.handles tree.told c.self.invariant.0 served.documents served.rights served.applications served.connections c.args.seat (Request.Add c.args.add) given c.in_ok-signals.signals answer (g.K.Keeper.is k.keeper) (g.K.Keeper.is served.keeper) k.tables k.outboxes c.take-signals.new.self came c.take-signals.ensures.rest c.self.invariant.3 in
+    let stored = stored_served began k.opening k.history.entries k.history.limit k.documents k.rights k.applications k.connections k.handles tree.told c.self.invariant.0 served.documents served.rights served.applications served.connections c.args.seat (Request.Add c.args.add) given c.in_ok-signals.signals answer (g.K.Keeper.is k.keeper) (g.K.Keeper.is served.keeper) k.tables k.outboxes c.take.new.self came c.take.ensures.rest c.self.invariant.3 in
     rw (c.push.ensures, c.in_ok-reserve.ensures.entries, c.in_ok-reserve.ensures.limit) (
       both.0,
       omega (arith, room, count),
       both.1,
-      stored_over began after.began k.opening (k.history.entries ++ entry_with c.args.seat (Request.Add c.args.add) given ∷ []) k.tables c.take-signals.new.self kept.0 stored,
+      stored_over began after.began k.opening (k.history.entries ++ entry_with c.args.seat (Request.Add c.args.add) given ∷ []) k.tables c.take.new.self kept.0 stored,
     )
 
 pub give_back-requires : goal.give_back-requires
-give_back-requires g c = taken-empty c.args.seat c.self.inside.outboxes c.take-signals.new.self c.take-signals.new.self c.take-signals.ensures.rest (λ s. refl)
+give_back-requires g c = taken-empty c.args.seat c.self.inside.outboxes c.take.new.self c.take.new.self c.take.ensures.rest (λ s. refl)
 
 pub invariant_of-self-in-Err : goal.invariant_of-self-in-Err
 invariant_of-self-in-Err g c =
@@ -62,8 +62,8 @@ invariant_of-self-in-Err g c =
       omega (arith, room),
       both.1,
       stored_over tree.began after.began k.opening k.history.entries k.tables c.give_back.new.self kept.0
-          (stored_back tree.began k.opening k.history.entries k.history.limit k.documents k.rights k.applications k.connections k.handles tree.told c.self.invariant.0 c.args.seat k.tables k.outboxes c.take-signals.new.self c.take-signals.new.self c.give_back.new.self c.in_ok-signals.signals
-          c.take-signals.ensures.rest (λ s. refl) c.in_ok-signals.ensures.signals c.give_back.ensures c.self.invariant.3),
+          (stored_back tree.began k.opening k.history.entries k.history.limit k.documents k.rights k.applications k.connections k.handles tree.told c.self.invariant.0 c.args.seat k.tables k.outboxes c.take.new.self c.take.new.self c.give_back.new.self c.in_ok-signals.signals
+          c.take.ensures.rest (λ s. refl) c.in_ok-signals.ensures.signals c.give_back.ensures c.self.invariant.3),
     )
 
 pub returns-in-Ok-clause-began : goal.returns-in-Ok-clause-began

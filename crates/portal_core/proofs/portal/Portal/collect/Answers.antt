@@ -12,13 +12,13 @@ use Rattle.portal_core.proofs.portal.Portal.collect.Goals as goal
 
 pub invariant_of-self-2 : goal.invariant_of-self-2
 invariant_of-self-2 g c =
-    let room = rw (c.as_slice-2.ensures) at c.in_ok-reserve.ensures.ok in
-    rw (c.push.ensures, c.in_ok-reserve.ensures.entries, c.in_ok-reserve.ensures.limit, c.entry_made-entry.ensures, c.new.ensures) (
+    let room = rw (c.as_slice.ensures) at c.in_ok-reserve.ensures.ok in
+    rw (c.push.ensures, c.in_ok-reserve.ensures.entries, c.in_ok-reserve.ensures.limit, c.entry_made-entry.ensures) (
       stands_collected (g.T.HostTree.is c.self.inside.tree).began c.self.inside.opening c.self.inside.history.entries c.self.inside.history.limit c.self.inside.documents c.self.inside.rights c.self.inside.applications c.self.inside.connections c.self.inside.handles (g.T.HostTree.is c.self.inside.tree).told c.self.invariant.0
           c.args.seat (rw (← c.self.view_is) at c.requires),
       omega (arith, room),
       keeps-collected (g.T.HostTree.is c.self.inside.tree).began c.self.inside.opening c.self.inside.history.entries c.self.inside.history.limit c.self.inside.documents c.self.inside.rights c.self.inside.applications c.self.inside.connections c.self.inside.handles (g.T.HostTree.is c.self.inside.tree).told c.self.invariant.0 c.args.seat (g.K.Keeper.is c.self.inside.keeper).told c.self.invariant.2,
-      stored_collected (g.T.HostTree.is c.self.inside.tree).began c.self.inside.opening c.self.inside.history.entries c.self.inside.history.limit c.self.inside.documents c.self.inside.rights c.self.inside.applications c.self.inside.connections c.self.inside.handles (g.T.HostTree.is c.self.inside.tree).told c.self.invariant.0 c.args.seat c.self.inside.tables c.self.inside.outboxes c.take-signals.new.self c.take-signals.ensures.rest c.self.invariant.3,
+      stored_collected (g.T.HostTree.is c.self.inside.tree).began c.self.inside.opening c.self.inside.history.entries c.self.inside.history.limit c.self.inside.documents c.self.inside.rights c.self.inside.applications c.self.inside.connections c.self.inside.handles (g.T.HostTree.is c.self.inside.tree).told c.self.invariant.0 c.args.seat c.self.inside.tables c.self.inside.outboxes c.take.new.self c.take.ensures.rest c.self.invariant.3,
     )
 
 pub returns-clause-ok : goal.returns-clause-ok
@@ -26,7 +26,7 @@ returns-clause-ok g c =
     let replied : reply_with c.in_ok-signals.signals (collect_answer (bus_of (connection_of c.self.inside.connections c.args.seat))) ≡ reply_at (state_now c.args.self.now.story) (entry_of c.args.seat Request.Collect [] Fault.None) =
     rw (← c.self.view_is) (collect_answered (g.T.HostTree.is c.self.inside.tree).began c.self.inside.opening c.self.inside.history.entries c.self.inside.history.limit c.self.inside.documents c.self.inside.rights c.self.inside.applications c.self.inside.connections c.self.inside.handles (g.T.HostTree.is c.self.inside.tree).told c.self.invariant.0 c.args.seat c.self.inside.tables c.self.inside.outboxes c.in_ok-signals.signals c.self.invariant.3 c.in_ok-signals.ensures.signals) in
     let answered : c.collect_answer-answer.result ≡ collect_answer (bus_of (connection_of c.self.inside.connections c.args.seat)) =
-    rw (c.collect_answer-answer.ensures, c.bus_of.ensures, c.as_slice.ensures) refl in
+    rw (c.collect_answer-answer.ensures, c.bus_of.ensures, c.as_slice-2.ensures) refl in
     record {
       entry = c.entry_made-entry.result;
       grown = search rules;

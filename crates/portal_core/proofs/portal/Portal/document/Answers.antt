@@ -36,11 +36,11 @@ invariant_of-self-in-Ok g c =
       keeps_run began k.opening k.history.entries k.history.limit k.documents k.rights k.applications k.connections k.handles told c.self.invariant.0 served.documents served.rights served.applications served.connections c.args.seat c.args.request c.in-Ok.field-0.given c.in_ok-signals.signals c.in-Ok.field-0.answer
           (g.K.Keeper.is k.keeper) (g.K.Keeper.is served.keeper) came,
       stored_served began k.opening k.history.entries k.history.limit k.documents k.rights k.applications k.connections k.handles told c.self.invariant.0 served.documents served.rights served.applications served.connections c.args.seat c.args.request c.in-Ok.field-0.given c.in_ok-signals.signals c.in-Ok.field-0.answer
-          (g.K.Keeper.is k.keeper) (g.K.Keeper.is served.keeper) k.tables k.outboxes c.take-signals.new.self came c.take-signals.ensures.rest c.self.invariant.3,
+          (g.K.Keeper.is k.keeper) (g.K.Keeper.is served.keeper) k.tables k.outboxes c.take.new.self came c.take.ensures.rest c.self.invariant.3,
     )
 
 pub give_back-requires : goal.give_back-requires
-give_back-requires g c = taken-empty c.args.seat c.self.inside.outboxes c.take-signals.new.self c.take-signals.new.self c.take-signals.ensures.rest (λ s. refl)
+give_back-requires g c = taken-empty c.args.seat c.self.inside.outboxes c.take.new.self c.take.new.self c.take.ensures.rest (λ s. refl)
 
 pub invariant_of-self-in-Err : goal.invariant_of-self-in-Err
 invariant_of-self-in-Err g c =
@@ -53,8 +53,8 @@ invariant_of-self-in-Err g c =
       c.self.invariant.0,
       omega (arith, room),
       c.self.invariant.2,
-      stored_back tree.began k.opening k.history.entries k.history.limit k.documents k.rights k.applications k.connections k.handles tree.told c.self.invariant.0 c.args.seat k.tables k.outboxes c.take-signals.new.self c.take-signals.new.self c.give_back.new.self c.in_ok-signals.signals
-          c.take-signals.ensures.rest (λ s. refl) c.in_ok-signals.ensures.signals c.give_back.ensures c.self.invariant.3,
+      stored_back tree.began k.opening k.history.entries k.history.limit k.documents k.rights k.applications k.connections k.handles tree.told c.self.invariant.0 c.args.seat k.tables k.outboxes c.take.new.self c.take.new.self c.give_back.new.self c.in_ok-signals.signals
+          c.take.ensures.rest (λ s. refl) c.in_ok-signals.ensures.signals c.give_back.ensures c.self.invariant.3,
     )
 
 pub returns-in-Ok-clause-ok : goal.returns-in-Ok-clause-ok

@@ -1,7 +1,14 @@
 use Rattle.std.proofs.Common.{◌≡◌, [], ◌∷◌, arith, false, is_some, length-append, rules, refl, ◌∙◌}
 use Rattle.portal_model.specs.State.{connection_of}
 use Rattle.portal_model.specs.Enter.{new_connection}
-use Rattle.portal_core.proofs.Steps.{closed, keeps-entered, stands_new, stands_there, stored_new, stored_there, unheard}
+use Rattle.portal_model.specs.declared.entry.Fault.TheVariants as Fault
+use Rattle.portal_model.specs.declared.reply.Answer.{Answer}
+use Rattle.portal_model.specs.declared.reply.Code.TheVariants as Code
+use Rattle.portal_model.specs.declared.request.Request.TheVariants as Request
+use Rattle.portal_model.specs.Step.{reply_at, reply_with}
+use Rattle.portal_core.specs.Served.{entry_of}
+use Rattle.portal_core.specs.Story.{state_now}
+use Rattle.portal_core.proofs.Steps.{closed, keeps-entered, stands_new, stands_there, stored_new, stored_there, unheard, new_replied, there_replied}
 use Rattle.portal_core.proofs.NodeSteps.{alike-same}
 use Rattle.portal_core.proofs.WentDevices.{went-plain}
 use Rattle.portal_core.proofs.portal.Portal.enter.Goals as goal
@@ -9,7 +16,7 @@ use Rattle.portal_core.proofs.portal.Portal.enter.Goals as goal
 pub invariant_of-self-then-is_here : goal.invariant_of-self-then-is_here
 invariant_of-self-then-is_here g c =
     let room = rw (c.as_slice-2.ensures) at c.in_ok-reserve.ensures.ok in
-    rw (c.push.ensures, c.in_ok-reserve.ensures.entries, c.in_ok-reserve.ensures.limit, c.entry_made-entry.ensures, c.new.ensures, c.in_ok-replica.ensures) (
+    rw (c.push.ensures, c.in_ok-reserve.ensures.entries, c.in_ok-reserve.ensures.limit, c.entry_made-refused.ensures, c.in_ok-name.ensures) (
       stands_there (g.T.HostTree.is c.self.inside.tree).began c.self.inside.opening c.self.inside.history.entries c.self.inside.history.limit c.self.inside.documents c.self.inside.rights c.self.inside.applications c.self.inside.connections c.self.inside.handles (g.T.HostTree.is c.self.inside.tree).told c.self.invariant.0
           c.args.seat c.args.who c.args.kind c.check_caller.ensures (search rules) (rw (← c.self.view_is) at c.requires),
       omega (arith, room),
@@ -20,7 +27,7 @@ invariant_of-self-then-is_here g c =
 pub invariant_of-self-2 : goal.invariant_of-self-2
 invariant_of-self-2 g c =
     let room = rw (c.as_slice-2.ensures) at c.in_ok-reserve.ensures.ok in
-    rw (c.push-2.ensures, c.in_ok-reserve.ensures.entries, c.in_ok-reserve.ensures.limit, c.in_ok-enter.ensures.connected, c.opened_connection.ensures, c.entry_made-entry.ensures, c.new.ensures, c.in_ok-replica.ensures) (
+    rw (c.push-2.ensures, c.in_ok-reserve.ensures.entries, c.in_ok-reserve.ensures.limit, c.in_ok-enter.ensures.connected, c.opened_connection.ensures, c.entry_made-entry.ensures, c.in_ok-name.ensures) (
       stands_new (g.T.HostTree.is c.self.inside.tree).began c.self.inside.opening c.self.inside.history.entries c.self.inside.history.limit c.self.inside.documents c.self.inside.rights c.self.inside.applications c.self.inside.connections c.self.inside.handles (g.T.HostTree.is c.self.inside.tree).told c.self.invariant.0
           c.args.seat c.args.who c.args.kind c.enter.new.handles c.check_caller.ensures (search rules) (search rules) (search rules) (rw (← c.self.view_is) at c.requires),
       rw (length-append c.self.inside.connections (new_connection c.args.seat c.args.who c.args.kind ∷ [])) (omega (arith, room)),
@@ -52,24 +59,28 @@ invariant_of-self-in_err-enter g c =
 
 pub returns-then-is_here-clause-ok : goal.returns-then-is_here-clause-ok
 returns-then-is_here-clause-ok g c =
+    let replied : reply_with [] (Answer.Refused Code.NotHere) ≡ reply_at (state_now c.args.self.now.story) (entry_of c.args.seat (Request.Enter c.args.who c.args.kind) [] Fault.None) =
+    rw (← c.self.view_is) (there_replied (g.T.HostTree.is c.self.inside.tree).began c.self.inside.opening c.self.inside.history.entries c.self.inside.history.limit c.self.inside.documents c.self.inside.rights c.self.inside.applications c.self.inside.connections c.self.inside.handles (g.T.HostTree.is c.self.inside.tree).told c.self.invariant.0 c.args.seat c.args.who c.args.kind (search rules)) in
     record {
-      entry = c.entry_made-entry.result;
+      entry = c.entry_made-refused.result;
       grown = search rules;
       seat_is = search rules;
       request_is = search rules;
       lawful = search rules;
-      reply_is = alike-same _ _ _ _ refl (search rules);
+      reply_is = alike-same _ _ _ _ refl (c.silent_reply.ensures ∙ rw (c.entry_made-refused.ensures, c.in_ok-name.ensures) replied);
       went = went-plain _ _ _ _ _ _ _ (search rules) (search rules) (search rules) (search rules) (search rules) (search rules) (search rules) (search rules) (search rules) (search rules) (search rules) (search rules);
     }
 
 pub returns-clause-ok : goal.returns-clause-ok
 returns-clause-ok g c =
+    let replied : reply_with [] Answer.Done ≡ reply_at (state_now c.args.self.now.story) (entry_of c.args.seat (Request.Enter c.args.who c.args.kind) [] Fault.None) =
+    rw (← c.self.view_is) (new_replied (g.T.HostTree.is c.self.inside.tree).began c.self.inside.opening c.self.inside.history.entries c.self.inside.history.limit c.self.inside.documents c.self.inside.rights c.self.inside.applications c.self.inside.connections c.self.inside.handles (g.T.HostTree.is c.self.inside.tree).told c.self.invariant.0 c.args.seat c.args.who c.args.kind (search rules)) in
     record {
       entry = c.entry_made-entry.result;
       grown = search rules;
       seat_is = search rules;
       request_is = search rules;
       lawful = search rules;
-      reply_is = alike-same _ _ _ _ refl (search rules);
+      reply_is = alike-same _ _ _ _ refl (c.silent_reply-2.ensures ∙ rw (c.entry_made-entry.ensures, c.in_ok-name.ensures) replied);
       went = went-plain _ _ _ _ _ _ _ (search rules) (search rules) (search rules) (search rules) (search rules) (search rules) (search rules) (search rules) (search rules) (search rules) (search rules) (search rules);
     }

@@ -1,7 +1,14 @@
-use Rattle.std.proofs.Common.{◌≡◌, ◌<◌, length, is_some, arith, rules, true, refl}
+use Rattle.std.proofs.Common.{◌≡◌, [], ◌<◌, length, is_some, arith, rules, true, refl, ◌∙◌}
 use Rattle.portal_model.specs.Leave.{of_others}
 use Rattle.portal_model.specs.State.{connection_of}
-use Rattle.portal_core.proofs.Steps.{fewer_others, keeps-left, stands_absent, stands_left, stored_absent, stored_left}
+use Rattle.portal_model.specs.declared.entry.Fault.TheVariants as Fault
+use Rattle.portal_model.specs.declared.reply.Answer.{Answer}
+use Rattle.portal_model.specs.declared.reply.Code.TheVariants as Code
+use Rattle.portal_model.specs.declared.request.Request.TheVariants as Request
+use Rattle.portal_model.specs.Step.{reply_at, reply_with}
+use Rattle.portal_core.specs.Served.{entry_of}
+use Rattle.portal_core.specs.Story.{state_now}
+use Rattle.portal_core.proofs.Steps.{fewer_others, keeps-left, stands_absent, stands_left, stored_absent, stored_left, absent_replied, left_replied}
 use Rattle.portal_core.proofs.NodeSteps.{alike-same}
 use Rattle.portal_core.proofs.WentDevices.{went-plain}
 use Rattle.portal_core.proofs.portal.Portal.leave.Goals as goal
@@ -9,7 +16,7 @@ use Rattle.portal_core.proofs.portal.Portal.leave.Goals as goal
 pub invariant_of-self-then-not-is_here : goal.invariant_of-self-then-not-is_here
 invariant_of-self-then-not-is_here g c =
     let room = rw (c.as_slice-then-not-is_here.ensures) at c.in_ok-reserve.ensures.ok in
-    rw (c.push.ensures, c.in_ok-reserve.ensures.entries, c.in_ok-reserve.ensures.limit, c.entry_made-entry.ensures, c.new.ensures) (
+    rw (c.push.ensures, c.in_ok-reserve.ensures.entries, c.in_ok-reserve.ensures.limit, c.entry_made-refused.ensures) (
       stands_absent (g.T.HostTree.is c.self.inside.tree).began c.self.inside.opening c.self.inside.history.entries c.self.inside.history.limit c.self.inside.documents c.self.inside.rights c.self.inside.applications c.self.inside.connections c.self.inside.handles (g.T.HostTree.is c.self.inside.tree).told c.self.invariant.0
           c.args.seat (search rules),
       omega (arith, room),
@@ -21,7 +28,7 @@ pub invariant_of-self-2 : goal.invariant_of-self-2
 invariant_of-self-2 g c =
     let here : is_some (connection_of c.self.inside.connections c.args.seat) ≡ true = search rules in
     let fewer : length (of_others c.args.seat c.self.inside.connections) < length c.self.inside.connections = fewer_others c.args.seat c.self.inside.connections here in
-    rw (c.push-2.ensures, c.of_others.ensures, c.replace-connections.ensures.value, c.entry_made-entry.ensures, c.new.ensures) (
+    rw (c.push-2.ensures, c.of_others.ensures, c.replace-connections.ensures.value, c.entry_made-entry.ensures) (
       stands_left (g.T.HostTree.is c.self.inside.tree).began c.self.inside.opening c.self.inside.history.entries c.self.inside.history.limit c.self.inside.documents c.self.inside.rights c.self.inside.applications c.self.inside.connections c.self.inside.handles (g.T.HostTree.is c.self.inside.tree).told c.self.invariant.0 c.args.seat c.leave.new.self here c.leave.ensures.limit c.leave.ensures.rest,
       omega (arith, c.self.invariant.1),
       keeps-left (g.T.HostTree.is c.self.inside.tree).began c.self.inside.opening c.self.inside.history.entries c.self.inside.history.limit c.self.inside.documents c.self.inside.rights c.self.inside.applications c.self.inside.connections c.self.inside.handles (g.T.HostTree.is c.self.inside.tree).told c.self.invariant.0 c.args.seat (g.K.Keeper.is c.self.inside.keeper).told c.self.invariant.2,
@@ -30,24 +37,28 @@ invariant_of-self-2 g c =
 
 pub returns-then-not-is_here-clause-ok : goal.returns-then-not-is_here-clause-ok
 returns-then-not-is_here-clause-ok g c =
+    let replied : reply_with [] (Answer.Refused Code.NotHere) ≡ reply_at (state_now c.args.self.now.story) (entry_of c.args.seat Request.Leave [] Fault.None) =
+    rw (← c.self.view_is) (absent_replied (g.T.HostTree.is c.self.inside.tree).began c.self.inside.opening c.self.inside.history.entries c.self.inside.history.limit c.self.inside.documents c.self.inside.rights c.self.inside.applications c.self.inside.connections c.self.inside.handles (g.T.HostTree.is c.self.inside.tree).told c.self.invariant.0 c.args.seat (search rules)) in
     record {
-      entry = c.entry_made-entry.result;
+      entry = c.entry_made-refused.result;
       grown = search rules;
       seat_is = search rules;
       request_is = search rules;
       lawful = search rules;
-      reply_is = alike-same _ _ _ _ refl (search rules);
+      reply_is = alike-same _ _ _ _ refl (c.silent_reply.ensures ∙ rw (c.entry_made-refused.ensures) replied);
       went = went-plain _ _ _ _ _ _ _ (search rules) (search rules) (search rules) (search rules) (search rules) (search rules) (search rules) (search rules) (search rules) (search rules) (search rules) (search rules);
     }
 
 pub returns-clause-ok : goal.returns-clause-ok
 returns-clause-ok g c =
+    let replied : reply_with [] Answer.Done ≡ reply_at (state_now c.args.self.now.story) (entry_of c.args.seat Request.Leave [] Fault.None) =
+    rw (← c.self.view_is) (left_replied (g.T.HostTree.is c.self.inside.tree).began c.self.inside.opening c.self.inside.history.entries c.self.inside.history.limit c.self.inside.documents c.self.inside.rights c.self.inside.applications c.self.inside.connections c.self.inside.handles (g.T.HostTree.is c.self.inside.tree).told c.self.invariant.0 c.args.seat (search rules)) in
     record {
       entry = c.entry_made-entry.result;
       grown = search rules;
       seat_is = search rules;
       request_is = search rules;
       lawful = search rules;
-      reply_is = alike-same _ _ _ _ refl (search rules);
+      reply_is = alike-same _ _ _ _ refl (c.silent_reply-2.ensures ∙ rw (c.entry_made-entry.ensures) replied);
       went = went-plain _ _ _ _ _ _ _ (search rules) (search rules) (search rules) (search rules) (search rules) (search rules) (search rules) (search rules) (search rules) (search rules) (search rules) (search rules);
     }

@@ -27,11 +27,11 @@ invariant_of-self-in-Ok g c =
     let old_keeper = g.K.Keeper.is k.keeper in
     let new_keeper = g.K.Keeper.is new.keeper in
     let signals = c.in_ok-signals.signals in
-    let taken = c.take-signals.new.self in
+    let taken = c.take.new.self in
     let served = c.in-Ok.field-0 in
     let sent = signals-now began k.opening k.history.entries k.history.limit k.documents k.rights k.applications k.connections k.handles told c.self.invariant.0 c.args.seat k.tables k.outboxes signals c.self.invariant.3 c.in_ok-signals.ensures.signals in
     let came = stores began k.opening k.history.entries k.history.limit k.documents k.rights k.applications k.connections k.handles told c.self.invariant.0 c.args.seat c.args.call k.tables new.tables k.outboxes taken new.outboxes signals old_keeper new_keeper served
-    sent c.take-signals.ensures.rest c.self.invariant.2 c.self.invariant.3 (rw (c.as_slice-2.ensures) at c.in-Ok.ensures.ok) in
+    sent c.take.ensures.rest c.self.invariant.2 c.self.invariant.3 (rw (c.as_slice-2.ensures) at c.in-Ok.ensures.ok) in
     let room = rw (c.as_slice.ensures) at c.in_ok-reserve.ensures.ok in
     let fits : cost k.history.entries + cost_of (Request.Store c.args.call) ≤ k.opening.limits.history = rw (← c.self.view_is) at c.requires in
     rw (c.push.ensures, c.in_ok-reserve.ensures.entries, c.in_ok-reserve.ensures.limit) (
@@ -42,7 +42,7 @@ invariant_of-self-in-Ok g c =
     )
 
 pub give_back-requires : goal.give_back-requires
-give_back-requires g c = taken-empty c.args.seat c.self.inside.outboxes c.take-signals.new.self c.serve-served.new.outboxes c.take-signals.ensures.rest c.in-Err.ensures.outboxes
+give_back-requires g c = taken-empty c.args.seat c.self.inside.outboxes c.take.new.self c.serve-served.new.outboxes c.take.ensures.rest c.in-Err.ensures.outboxes
 
 pub invariant_of-self-in-Err : goal.invariant_of-self-in-Err
 invariant_of-self-in-Err g c =
@@ -55,8 +55,8 @@ invariant_of-self-in-Err g c =
       c.self.invariant.0,
       omega (arith, room),
       c.self.invariant.2,
-      stored_back tree.began k.opening k.history.entries k.history.limit k.documents k.rights k.applications k.connections k.handles tree.told c.self.invariant.0 c.args.seat k.tables k.outboxes c.take-signals.new.self new.outboxes c.give_back.new.self c.in_ok-signals.signals
-          c.take-signals.ensures.rest c.in-Err.ensures.outboxes c.in_ok-signals.ensures.signals c.give_back.ensures c.self.invariant.3,
+      stored_back tree.began k.opening k.history.entries k.history.limit k.documents k.rights k.applications k.connections k.handles tree.told c.self.invariant.0 c.args.seat k.tables k.outboxes c.take.new.self new.outboxes c.give_back.new.self c.in_ok-signals.signals
+          c.take.ensures.rest c.in-Err.ensures.outboxes c.in_ok-signals.ensures.signals c.give_back.ensures c.self.invariant.3,
     )
 
 pub returns-in-Ok-clause-ok : goal.returns-in-Ok-clause-ok
@@ -69,11 +69,11 @@ returns-in-Ok-clause-ok g c =
     let old_keeper = g.K.Keeper.is k.keeper in
     let new_keeper = g.K.Keeper.is new.keeper in
     let signals = c.in_ok-signals.signals in
-    let taken = c.take-signals.new.self in
+    let taken = c.take.new.self in
     let served = c.in-Ok.field-0 in
     let sent = signals-now began k.opening k.history.entries k.history.limit k.documents k.rights k.applications k.connections k.handles told c.self.invariant.0 c.args.seat k.tables k.outboxes signals c.self.invariant.3 c.in_ok-signals.ensures.signals in
     let came = stores began k.opening k.history.entries k.history.limit k.documents k.rights k.applications k.connections k.handles told c.self.invariant.0 c.args.seat c.args.call k.tables new.tables k.outboxes taken new.outboxes signals old_keeper new_keeper served
-    sent c.take-signals.ensures.rest c.self.invariant.2 c.self.invariant.3 (rw (c.as_slice-2.ensures) at c.in-Ok.ensures.ok) in
+    sent c.take.ensures.rest c.self.invariant.2 c.self.invariant.3 (rw (c.as_slice-2.ensures) at c.in-Ok.ensures.ok) in
     let entry = entry_with c.args.seat (Request.Store c.args.call) served.given in
     let lawful : Lawful (state_now c.args.self.now.story) entry = rw (← c.self.view_is) came.comes.lawful in
     let replied : reply_with signals served.answer ≡ reply_at (state_now c.args.self.now.story) entry = rw (← c.self.view_is) came.comes.reply_is in
@@ -103,11 +103,11 @@ returns-in-Ok-clause-fault g c =
     let old_keeper = g.K.Keeper.is k.keeper in
     let new_keeper = g.K.Keeper.is new.keeper in
     let signals = c.in_ok-signals.signals in
-    let taken = c.take-signals.new.self in
+    let taken = c.take.new.self in
     let served = c.in-Ok.field-0 in
     let sent = signals-now began k.opening k.history.entries k.history.limit k.documents k.rights k.applications k.connections k.handles told c.self.invariant.0 c.args.seat k.tables k.outboxes signals c.self.invariant.3 c.in_ok-signals.ensures.signals in
     let came = stores began k.opening k.history.entries k.history.limit k.documents k.rights k.applications k.connections k.handles told c.self.invariant.0 c.args.seat c.args.call k.tables new.tables k.outboxes taken new.outboxes signals old_keeper new_keeper served
-    sent c.take-signals.ensures.rest c.self.invariant.2 c.self.invariant.3 (rw (c.as_slice-2.ensures) at c.in-Ok.ensures.ok) in
+    sent c.take.ensures.rest c.self.invariant.2 c.self.invariant.3 (rw (c.as_slice-2.ensures) at c.in-Ok.ensures.ok) in
     λ h. absurd (came.comes.settles.no_errno h)
 
 pub returns-in-Ok-clause-failure : goal.returns-in-Ok-clause-failure
@@ -120,9 +120,9 @@ returns-in-Ok-clause-failure g c =
     let old_keeper = g.K.Keeper.is k.keeper in
     let new_keeper = g.K.Keeper.is new.keeper in
     let signals = c.in_ok-signals.signals in
-    let taken = c.take-signals.new.self in
+    let taken = c.take.new.self in
     let served = c.in-Ok.field-0 in
     let sent = signals-now began k.opening k.history.entries k.history.limit k.documents k.rights k.applications k.connections k.handles told c.self.invariant.0 c.args.seat k.tables k.outboxes signals c.self.invariant.3 c.in_ok-signals.ensures.signals in
     let came = stores began k.opening k.history.entries k.history.limit k.documents k.rights k.applications k.connections k.handles told c.self.invariant.0 c.args.seat c.args.call k.tables new.tables k.outboxes taken new.outboxes signals old_keeper new_keeper served
-    sent c.take-signals.ensures.rest c.self.invariant.2 c.self.invariant.3 (rw (c.as_slice-2.ensures) at c.in-Ok.ensures.ok) in
+    sent c.take.ensures.rest c.self.invariant.2 c.self.invariant.3 (rw (c.as_slice-2.ensures) at c.in-Ok.ensures.ok) in
     λ h. inr (rw (← c.self.view_is) (came.comes.settles.failed came.untreed.untreed h))
