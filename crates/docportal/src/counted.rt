@@ -31,8 +31,12 @@ impl Model for CountedPortal {
     ghost use Rattle.portal_core.specs.Story.{state_first};
     ghost use Rattle.docportal.specs.Outcomes.{AreCounted};
     ghost use Rattle.docportal.specs.Scenes.{ScriptPortal as PortalOfScript};
+    ghost use Rattle.dbus_types.specs.contracts.types.Value as e;
+    ghost use Rattle.std.specs.Coded.{codes};
 
     ghost Value = { PortalOfScript };
+
+    ghost coded = { Prim.hlevel (codes, e.the_row.coded) };
 
     ghost view = { λ c. c.portal };
 
