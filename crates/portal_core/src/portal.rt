@@ -1,6 +1,7 @@
 //! The portal.
 
-ghost use Rattle.std.specs.Prelude.{◌≡◌, ◌<◌, ◌≤◌, ◌^◌, [], length, false, true, IfErr, IfOk, IsOk, OnErr, OnOk, Some, None, option_copied};
+ghost use Rattle.std.specs.Prelude.{◌≡◌, ◌+◌, ◌<◌, ◌≤◌, ◌^◌, [], length, false, true, IfErr, IfOk, IsOk, OnErr, OnOk, Some, None, option_copied, unwrap_or};
+ghost use Rattle.change_signals.specs.Unsent.{AtSeat, holding, unsent_on};
 ghost use Rattle.portal_model.specs.History.{Legal, cost};
 ghost use Rattle.portal_model.specs.Enter.{new_connection};
 ghost use Rattle.portal_model.specs.Seated.{is_open};
@@ -38,7 +39,7 @@ use portal_base::who::{Kind, Who};
 use portal_history::{History, cost_of};
 use portal_model::entry::{Entry, Fault, Given};
 use portal_model::opening::OpeningState;
-use portal_model::reply::{Answer, Code, Refused, Reply};
+use portal_model::reply::{Answer, Change, Code, Refused, Reply};
 use portal_model::request::{AddRequest, NodeRequest, Request};
 use portal_model::state::Connection;
 use portal_model::store::StoreCall;
@@ -277,11 +278,20 @@ impl<T: HostTree, K: Keeper, C: Clock, W: Words> Portal<T, K, C, W> {
         ensures leave { request ≡ Request.Leave → is_open (state_now self.old.story) seat ≡ true
             → IsOk result }
     {
-        self.check_cost(&request)?;
+        if let Err(error) = self.check_cost(&request) {
+            drop(request);
+            return Err(error);
+        }
         match request {
             Request::Enter { who, kind } => Ok(self.enter(alloc, seat, who, kind)?),
-            Request::Leave => Ok(self.leave(alloc, seat)?),
-            Request::Collect => Ok(self.collect(alloc, seat)?),
+            Request::Leave => {
+                drop(request);
+                Ok(self.leave(alloc, seat)?)
+            }
+            Request::Collect => {
+                drop(request);
+                Ok(self.collect(alloc, seat)?)
+            }
             Request::Node(node) => Ok(self.node(alloc, seat, node)?),
             Request::Add(add) => Ok(self.add(alloc, seat, add)?),
             Request::Present { path } => {
@@ -429,8 +439,16 @@ impl<T: HostTree, K: Keeper, C: Clock, W: Words> Portal<T, K, C, W> {
         ensures unasked { may_change_records request ≡ false
             → OnErr result (self.new ≡ self.old) }
     {
-        self.history.reserve(self.connections.as_slice().len() + 1)?;
-        let signals = self.outboxes.take(seat)?;
+        let taken = taken(
+            &mut self.history,
+            &mut self.outboxes,
+            self.connections.as_slice(),
+            seat,
+        );
+        let Ok(signals) = taken else {
+            drop(request);
+            return Err(WantOfMemory);
+        };
         let served = documents::serve(
             alloc,
             &mut self.documents,
@@ -602,6 +620,27 @@ impl<T: HostTree, K: Keeper, C: Clock, W: Words> Portal<T, K, C, W> {
     {
         &mut self.clock
     }
+}
+
+/// Takes room for an entry and for the Leaves of these connections behind it, and
+/// what the connection of a seat waits for. Want of memory takes nothing.
+fn taken(
+    history: &mut History,
+    outboxes: &mut Outboxes,
+    connections: &[Connection],
+    seat: u32,
+) -> Result<List<Change>, WantOfMemory>
+    ensures room { OnOk result (length connections.now + 1 ≤ history.new.spare) }
+    ensures signals { IfOk result (λ signals. signals
+        ≡ unwrap_or (unsent_on outboxes.old seat) []) }
+    ensures rest { OnOk result (AtSeat (holding []) outboxes.old outboxes.new seat) }
+    ensures entries { history.new.entries ≡ history.old.entries }
+    ensures limit { history.new.limit ≡ history.old.limit }
+    ensures history { OnErr result (history.new ≡ history.old) }
+    ensures outboxes { OnErr result (outboxes.new ≡ outboxes.old) }
+{
+    history.reserve(connections.len() + 1)?;
+    Ok(outboxes.take(seat)?)
 }
 
 /// Nothing to do: an application's name keeps the rule of names by its type.

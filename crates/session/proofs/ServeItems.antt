@@ -1,19 +1,14 @@
 -- A run over bytes, one item further.
-use Rattle.std.proofs.Common.{◌≡◌, inl, inr, ℕ, ◌+◌, List, [], ◌∷◌, ◌++◌, length, take, drop, Bool, true, false, cond, Option, Some, None, Ok, sym, ap, ◌∙◌, subst, take-add}
-use Rattle.std.specs.Prelude.{nat_lt, ◌==◌}
+use Rattle.std.proofs.Common.{◌≡◌, inl, inr, ℕ, ◌+◌, List, ◌++◌, take, drop, None, Ok, sym, ap, ◌∙◌, subst, take-add}
 use Rattle.std.proofs.lemmas.List.{take-append-drop}
-use Rattle.fuse_wire.specs.Frames.{split_of}
-use Rattle.portal_base.specs.declared.split.Split.{Split}
-use Rattle.portal_base.specs.declared.split.Split.TheVariants as split
 use Rattle.session.specs.declared.act.Act.{Act}
 use Rattle.session.specs.declared.act.Client.{Client}
 use Rattle.session.specs.declared.phase.Phase.{Phase}
-use Rattle.session.specs.declared.phase.Phase.TheVariants as due
 use Rattle.session.specs.declared.serve.Stage.{Stage}
 use Rattle.session.specs.declared.served.Stop.{Stop}
 use Rattle.session.specs.declared.served.Stop.TheVariants as stop
 use Rattle.session.specs.Asked.{Means}
-use Rattle.session.specs.Cuts.{Cuts, cut_of, line_cut_of, line_len, no_item, whole_item, zero_byte_cut}
+use Rattle.session.specs.Cuts.{Cuts, no_item, whole_item}
 use Rattle.session.specs.Items.{Remains}
 use Rattle.session.specs.Ledger.{Began, Broke, BrokeUnsaid, Declines, Did, Halted, ItemEnds, Unsaid, World}
 use Rattle.session.proofs.NextCut.{whole_alone}

@@ -1,5 +1,5 @@
 -- What the arguments of a call that passed keep.
-use Rattle.std.proofs.Common.{◌≡◌, ℕ, List, [], ◌∷◌, Bool, true, false, not, ◌&&◌, Some, refl, sym, ◌∙◌}
+use Rattle.std.proofs.Common.{◌≡◌, ℕ, List, [], ◌∷◌, Bool, true, false, not, ◌&&◌, refl, sym, ◌∙◌}
 use Rattle.std.specs.List.{flat_map, list_all}
 use Rattle.std.proofs.lemmas.List.Folds.{list_all-append}
 use Rattle.dbus_types.specs.declared.types.Value.{Value}
@@ -13,7 +13,7 @@ use Rattle.portal_model.proofs.DocumentChanges.{both, first_of_both, second_of_b
 use Rattle.permission_table.specs.Tables.{have_texts}
 
 -- the rows that a call brings
-pub rows-brought : (rows : List Row) → list_all is_text (flat_map texts_of_row rows) ≡ true → have_texts rows ≡ true
+rows-brought : (rows : List Row) → list_all is_text (flat_map texts_of_row rows) ≡ true → have_texts rows ≡ true
 rows-brought [] h = refl
 rows-brought (r ∷ rows) h =
     let parts : (list_all is_text (texts_of_row r) && list_all is_text (flat_map texts_of_row rows)) ≡ true = sym (list_all-append is_text (texts_of_row r) (flat_map texts_of_row rows)) ∙ h in
@@ -36,16 +36,6 @@ set-arguments table id create rows datum h =
       id_is = first_of_both (is_text id) brought more;
       rows_are = rows-brought rows (second_of_both (is_text id) brought more);
       data_is = second_of_both (is_text table && (is_text id && brought)) (is_data datum) h;
-    }
-
-pub value-arguments : (table id : List ℕ) (create : Bool) (datum : Value) → are_store_arguments (Call.SetValue table create id datum) ≡ true → SetArguments table id [] datum
-value-arguments table id create datum h =
-    let texts : (is_text table && (is_text id && true)) ≡ true = first_of_both (is_text table && (is_text id && true)) (is_data datum) h in
-    record {
-      table_is = first_of_both (is_text table) (is_text id && true) texts;
-      id_is = first_of_both (is_text id) true (second_of_both (is_text table) (is_text id && true) texts);
-      rows_are = refl;
-      data_is = second_of_both (is_text table && (is_text id && true)) (is_data datum) h;
     }
 
 pub record PermissionArguments (table id app : List ℕ) (names : List (List ℕ)) : Type 0 where
@@ -74,7 +64,3 @@ no-handle datum h = none_held (holds_handle datum) (second_of_both (is_spelled d
     none_held : (b : Bool) → not b ≡ true → b ≡ false
     none_held true h = cc
     none_held false h = refl
-
--- the copy of a call's data
-pub copy-is : (datum copy : Value) → Some datum ≡ Some copy → copy ≡ datum
-copy-is datum copy e = cc

@@ -48,7 +48,7 @@ by-length (x ∷ xs) (y ∷ ys) h k =
     λ i. same_row-eq x y (first_of_both (same_row x y) (list_all same_pair (zip xs ys)) k) i
     ∷ by-length xs ys (next-length (length xs) (length ys) h) (second_of_both (same_row x y) (list_all same_pair (zip xs ys)) k) i
 
-pub same_rows-eq : (a b : List Row) → same_rows a b ≡ true → a ≡ b
+same_rows-eq : (a b : List Row) → same_rows a b ≡ true → a ≡ b
 same_rows-eq a b h = by-length a b (first_of_both (length a == length b) (list_all same_pair (zip a b)) h) (second_of_both (length a == length b) (list_all same_pair (zip a b)) h)
 
 pairs-refl : (a : List Row) → list_all same_pair (zip a a) ≡ true
@@ -58,16 +58,13 @@ pairs-refl (x ∷ xs) = both (same_row x x) (list_all same_pair (zip xs xs)) (sa
 itself : (n : ℕ) → (n == n) ≡ true
 itself n = grind (arith, nat_tests)
 
-pub same_rows-refl : (a : List Row) → same_rows a a ≡ true
+same_rows-refl : (a : List Row) → same_rows a a ≡ true
 same_rows-refl a = both (length a == length a) (list_all same_pair (zip a a)) (itself (length a)) (pairs-refl a)
 
 -- ---- records that are the same
 
-pub same-record : (table id : List ℕ) (a b : List Row) (d e : List ℕ) → a ≡ b → d ≡ e → (let r : EntryRecord = record { table = table; id = id; datum = d; rows = a } in let o : EntryRecord = record { table = table; id = id; datum = e; rows = b } in r ≡ o)
-same-record table id a b d e s t = λ i. record { table = table; id = id; datum = t i; rows = s i }
-
 -- what differs in rows or data is no such record
-pub other-record : (r o : EntryRecord) → (same_rows r.rows o.rows && is_same r.datum o.datum) ≡ false → Some r ≡ Some o → ⊥
+other-record : (r o : EntryRecord) → (same_rows r.rows o.rows && is_same r.datum o.datum) ≡ false → Some r ≡ Some o → ⊥
 other-record r o h e =
     let same : r ≡ o = some-is r o e in
     let rows : same_rows r.rows o.rows ≡ true = ap (λ (x : EntryRecord). same_rows r.rows x.rows) (sym same) ∙ same_rows-refl r.rows in

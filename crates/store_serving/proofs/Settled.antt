@@ -13,10 +13,6 @@ pub ok-by : {X E : Type 0} (P Q R : X → Type 0) (r : Result X E) → ((x : X) 
 ok-by P Q R (Ok x) f p q = f x p q
 ok-by P Q R (Err e) f p q = tt
 
-pub always-ok : {X E : Type 0} (P : X → Type 0) (r : Result X E) → ((x : X) → P x) → IfOk r P
-always-ok P (Ok x) f = f x
-always-ok P (Err e) f = tt
-
 pub always-err : {X E : Type 0} (P : Type 0) (r : Result X E) → P → OnErr r P
 always-err P (Ok x) p = tt
 always-err P (Err e) p = p

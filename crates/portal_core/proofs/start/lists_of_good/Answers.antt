@@ -13,8 +13,8 @@ opening_loaded-requires-clause-documents c = all_sound c.args.limits.now c.args.
 pub opening_loaded-requires-clause-entries : goal.opening_loaded-requires-clause-entries
 opening_loaded-requires-clause-entries c = entries_right c.args.records.entries [] c.requires.good.entries
 
-pub with_entries-requires : goal.with_entries-requires
-with_entries-requires c =
+pub with_entries-tables-requires : goal.with_entries-tables-requires
+with_entries-tables-requires c =
     let entries = c.in_ok-opening.opening.entries in
     let kept = c.in_ok-opening.ensures.state.entries in
     let good = c.requires.good.entries in

@@ -67,7 +67,7 @@ returns-then-is_here-clause-ok g c =
       seat_is = search rules;
       request_is = search rules;
       lawful = search rules;
-      reply_is = alike-same _ _ _ _ refl (c.silent_reply.ensures ∙ rw (c.entry_made-refused.ensures, c.in_ok-name.ensures) replied);
+      reply_is = alike-same _ _ _ _ refl (c.silent_reply.ensures ∙ rw (c.entry_made-refused.ensures) replied);
       went = went-plain _ _ _ _ _ _ _ (search rules) (search rules) (search rules) (search rules) (search rules) (search rules) (search rules) (search rules) (search rules) (search rules) (search rules) (search rules);
     }
 
@@ -81,6 +81,6 @@ returns-clause-ok g c =
       seat_is = search rules;
       request_is = search rules;
       lawful = search rules;
-      reply_is = alike-same _ _ _ _ refl (c.silent_reply-2.ensures ∙ rw (c.entry_made-entry.ensures, c.in_ok-name.ensures) replied);
+      reply_is = alike-same _ _ _ _ refl (c.silent_reply-2.ensures ∙ rw (c.entry_made-entry.ensures) replied);
       went = went-plain _ _ _ _ _ _ _ (search rules) (search rules) (search rules) (search rules) (search rules) (search rules) (search rules) (search rules) (search rules) (search rules) (search rules) (search rules);
     }

@@ -8,7 +8,7 @@ use Rattle.portal_model.specs.declared.request.Request.TheVariants as Request
 use Rattle.portal_model.specs.Step.{reply_at, reply_with}
 use Rattle.portal_core.specs.Served.{entry_of}
 use Rattle.portal_core.specs.Story.{state_now}
-use Rattle.portal_core.proofs.Steps.{fewer_others, keeps-left, stands_absent, stands_left, stored_absent, stored_left, absent_replied, left_replied}
+use Rattle.portal_core.proofs.Steps.{fewer_others, keeps-left, stands_absent, stands_left, stored_absent, stored_left, absent_closed, absent_replied, left_replied}
 use Rattle.portal_core.proofs.NodeSteps.{alike-same}
 use Rattle.portal_core.proofs.WentDevices.{went-plain}
 use Rattle.portal_core.proofs.portal.Portal.leave.Goals as goal
@@ -62,3 +62,6 @@ returns-clause-ok g c =
       reply_is = alike-same _ _ _ _ refl (c.silent_reply-2.ensures ∙ rw (c.entry_made-entry.ensures) replied);
       went = went-plain _ _ _ _ _ _ _ (search rules) (search rules) (search rules) (search rules) (search rules) (search rules) (search rules) (search rules) (search rules) (search rules) (search rules) (search rules);
     }
+
+pub returns-in_err-reserve-clause-here : goal.returns-in_err-reserve-clause-here
+returns-in_err-reserve-clause-here g c = λ h. absurd (absent_closed (g.T.HostTree.is c.self.inside.tree).began c.self.inside.opening c.self.inside.history.entries c.self.inside.history.limit c.self.inside.documents c.self.inside.rights c.self.inside.applications c.self.inside.connections c.self.inside.handles (g.T.HostTree.is c.self.inside.tree).told c.self.invariant.0 c.args.seat (search rules) (rw (← c.self.view_is) at h))

@@ -18,9 +18,15 @@ use Rattle.portal_core.specs.TreeCalls.{Calling, entry_calls}
 use Rattle.portal_core.proofs.CallSteps.{stands_over, stored_over}
 use Rattle.portal_core.proofs.NodeSteps.{calls-keep, never-kept, replied-node, still-file, told-on, was-called-keeps}
 use Rattle.portal_core.proofs.QuietNodes.{quiet}
-use Rattle.portal_core.proofs.Steps.{keeps-node, lawful_node, loud-served, served_in, stands_node, stands_wanting, stored_node}
+use Rattle.portal_core.proofs.Steps.{entered-now, keeps-node, lawful_node, loud-served, served_in, stands_node, stands_wanting, stored_node}
 use Rattle.portal_core.proofs.WentDevices.{same-portal, spends-node, went-node}
 use Rattle.portal_core.proofs.portal.Portal.node.Goals as goal
+
+pub serve-served-requires : goal.serve-served-requires
+serve-served-requires g c =
+    let k = c.self.inside in
+    let tree = g.T.HostTree.is k.tree in
+    entered-now tree.began k.opening k.history.entries k.history.limit k.documents k.rights k.applications k.connections k.handles tree.told c.self.invariant.0
 
 pub invariant_of-self-in-Ok : goal.invariant_of-self-in-Ok
 invariant_of-self-in-Ok g c =
