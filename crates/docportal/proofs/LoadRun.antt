@@ -10,13 +10,15 @@ use Rattle.portal_load.specs.Lines.{load_of, most_requests}
 use Rattle.portal_load.proofs.Lengths.{are_short}
 use Rattle.portal_load.proofs.Scripts.{are_scripts}
 use Rattle.portal_model.specs.declared.entry.Entry.{Entry}
+use Rattle.portal_model.specs.History.{cost}
 use Rattle.portal_model.specs.State.{State}
 use Rattle.script_form.specs.declared.script.ScriptLine.{ScriptLine}
 use Rattle.script_form.specs.Lines.{text_of}
 use Rattle.script_form.specs.Order.{IsRead}
 use Rattle.docportal.specs.declared.status.Status.{Status}
 use Rattle.docportal.specs.declared.status.Status.TheVariants.{Done, Usage, ScriptFault, ReadFault, WriteFault, Memory, TooLong, Unbuilt}
-use Rattle.docportal.specs.Generated.{Generates, RanLoad, StopsLoad, WritesLines, lines_of_load, load_lines, load_lines_at}
+use Rattle.docportal.specs.Outcomes.{done_in, refused_in}
+use Rattle.docportal.specs.Generated.{five_lines, Generates, RanLoad, StopsLoad, WritesLines, lines_of_load, load_lines, load_lines_at}
 use Rattle.docportal.specs.Inputs.{script_limit}
 use Rattle.docportal.specs.Plays.{Plays, PlaysAll, PlaysUpTo, PlayStops}
 use Rattle.docportal.specs.Runs.{IsReplay, Risen}
@@ -182,3 +184,26 @@ module _ (lines : List (List ℕ)) (told : Option (List (List ℕ))) (faults ind
 
 pub all_written : (lines : List (List ℕ)) (told : Option (List (List ℕ))) (faults index : ℕ) (told' : Option (List (List ℕ))) (faults' : ℕ) → length lines ≤ index → Written lines told faults index told' faults' → WritesLines lines told faults told' faults' true
 all_written lines told faults index told' faults' all w = (w.faults_are, w.told_is ∙ ap (onto told) (take_all index lines all))
+
+-- ---- the five lines
+
+-- five lines, each put behind those ahead of it
+pub five_added : (l l1 l2 l3 l4 l5 : List (List ℕ)) (a b c d e : List ℕ) → l ≡ [] → l1 ≡ l ++ a ∷ [] → l2 ≡ l1 ++ b ∷ [] → l3 ≡ l2 ++ c ∷ [] → l4 ≡ l3 ++ d ∷ [] → l5 ≡ l4 ++ e ∷ [] → l5 ≡ a ∷ b ∷ c ∷ d ∷ e ∷ []
+five_added l l1 l2 l3 l4 l5 a b c d e none one two three four five =
+    five
+    ∙ ap (λ (z : List (List ℕ)). z ++ e ∷ []) (four
+    ∙ ap (λ (z : List (List ℕ)). z ++ d ∷ []) (three
+    ∙ ap (λ (z : List (List ℕ)). z ++ c ∷ []) (two
+    ∙ ap (λ (z : List (List ℕ)). z ++ b ∷ []) (one
+    ∙ ap (λ (z : List (List ℕ)). z ++ a ∷ []) none))))
+
+-- those of a portal's counts
+pub five_of : (count : ℕ) (s : State) (h : List Entry) (lines : List (List ℕ)) (requests done refused entries cost_now : ℕ) → lines ≡ five_lines requests done refused entries cost_now
+    → requests ≡ count → done ≡ done_in s h → refused ≡ refused_in s h → entries ≡ length h → cost_now ≡ cost h → lines ≡ load_lines count s h
+five_of count s h lines requests done refused entries cost_now made r d f n k =
+    made
+    ∙ (ap (λ (z : ℕ). five_lines z done refused entries cost_now) r
+    ∙ (ap (λ (z : ℕ). five_lines count z refused entries cost_now) d
+    ∙ (ap (λ (z : ℕ). five_lines count (done_in s h) z entries cost_now) f
+    ∙ (ap (λ (z : ℕ). five_lines count (done_in s h) (refused_in s h) z cost_now) n
+    ∙ ap (λ (z : ℕ). five_lines count (done_in s h) (refused_in s h) (length h) z) k))))

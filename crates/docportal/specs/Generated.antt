@@ -24,17 +24,21 @@ use Rattle.docportal.specs.Texts.{line_feed, space}
 abbrev pub count_line : List ℕ → ℕ → List ℕ
 count_line word count = word ++ (space ∷ (decimal count ++ line_feed ∷ []))
 
--- what is said of a load of so many requests with this history from this state: how many requests
--- there are, how many were done and how many refused, how many entries the history has and what it
--- costs
+-- how many requests there are, how many were done and how many refused, how many entries the history
+-- has and what it costs
+abbrev pub five_lines : ℕ → ℕ → ℕ → ℕ → ℕ → List (List ℕ)
+five_lines requests done refused entries cost_now =
+    count_line (codes "requests") requests
+    ∷ count_line (codes "done") done
+    ∷ count_line (codes "refused") refused
+    ∷ count_line (codes "history") entries
+    ∷ count_line (codes "cost") cost_now
+    ∷ []
+
+-- what is said of a load of so many requests with this history from this state
 abbrev pub load_lines : ℕ → State → List Entry → List (List ℕ)
 load_lines count s history =
-    count_line (codes "requests") count
-    ∷ count_line (codes "done") (done_in s history)
-    ∷ count_line (codes "refused") (refused_in s history)
-    ∷ count_line (codes "history") (length history)
-    ∷ count_line (codes "cost") (cost history)
-    ∷ []
+    five_lines count (done_in s history) (refused_in s history) (length history) (cost history)
 
 -- ---- the load
 

@@ -1,11 +1,11 @@
 //! Running a generated load.
 
-ghost use Rattle.std.specs.Prelude.{◌≡◌, ◌≤◌, ℕ, List, None, true, IfErr, IfOk};
+ghost use Rattle.std.specs.Prelude.{◌≡◌, ◌≤◌, ◌++◌, ◌∷◌, [], ℕ, List, None, true, IfErr, IfOk, OnOk};
 ghost use Rattle.portal_base.specs.Outside.{onto};
 ghost use Rattle.portal_core.specs.Story.{state_first};
 ghost use Rattle.portal_load.specs.Lines.{most_requests};
 ghost use Rattle.docportal.specs.Generated.{Generates, RanLoad, StopsLoad, WritesLines};
-ghost use Rattle.docportal.specs.Generated.{count_line as line_of_count, lines_of_load, load_lines_at};
+ghost use Rattle.docportal.specs.Generated.{count_line as line_of_count, five_lines, lines_of_load, load_lines_at};
 ghost use Rattle.docportal.specs.Runs.{Risen};
 
 use crate::counted::CountedPortal;
@@ -100,13 +100,48 @@ fn load_lines(
     requires { (state_first portal.now.story).told ≡ true }
     ensures { IfOk result (λ lines. lines ≡ load_lines_at count portal.now.story) }
 {
+    five_lines(
+        alloc,
+        u64::from(count),
+        portal.done(),
+        portal.refused(),
+        portal.entry_count(),
+        portal.cost(),
+    )
+}
+
+/// The five lines that say these numbers.
+fn five_lines(
+    alloc: Global,
+    requests: u64,
+    done: u64,
+    refused: u64,
+    entries: u64,
+    cost: u64,
+) -> Result<List<ByteList>, WantOfMemory>
+    ensures { IfOk result (λ lines. lines ≡ five_lines requests done refused entries cost) }
+{
     let mut lines = List::new(alloc);
-    lines.push(count_line(alloc, b"requests", u64::from(count))?)?;
-    lines.push(count_line(alloc, b"done", portal.done())?)?;
-    lines.push(count_line(alloc, b"refused", portal.refused())?)?;
-    lines.push(count_line(alloc, b"history", portal.entry_count())?)?;
-    lines.push(count_line(alloc, b"cost", portal.cost())?)?;
+    add_line(alloc, &mut lines, b"requests", requests)?;
+    add_line(alloc, &mut lines, b"done", done)?;
+    add_line(alloc, &mut lines, b"refused", refused)?;
+    add_line(alloc, &mut lines, b"history", entries)?;
+    add_line(alloc, &mut lines, b"cost", cost)?;
     Ok(lines)
+}
+
+/// Puts the line `WORD N` behind lines.
+fn add_line(
+    alloc: Global,
+    lines: &mut List<ByteList>,
+    word: &[u8],
+    number: u64,
+) -> Result<(), WantOfMemory>
+    ensures { OnOk result (lines.new ≡ lines.old ++ line_of_count word.now number ∷ []) }
+{
+    let line = count_line(alloc, word, number)?;
+    lines.push(line)?;
+    Ok(())
 }
 
 /// The line `WORD N`.
