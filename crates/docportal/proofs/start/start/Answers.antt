@@ -1,6 +1,6 @@
 use Rattle.std.proofs.Common.{subst, sym}
 use Rattle.docportal.specs.Started.{StartsScript}
-use Rattle.docportal.proofs.StartedScript.{only_memory, starts_script}
+use Rattle.docportal.proofs.StartedScript.{only_memory, starts_script, told_began}
 use Rattle.docportal.proofs.start.start.Goals as goal
 
 pub unreachable-requires : goal.unreachable-requires
@@ -9,6 +9,14 @@ unreachable-requires c =
     let e = c.in_ok-tree.ensures in
     let memory = only_memory c.args.script.now.lines d.tree d.keeper d.words c.new-clock.result c.limits.result c.requires e.tree e.keeper e.words c.new-clock.ensures c.limits.ensures c.in-Err.refusal.error _ c.in-Err.ensures.err.cause in
     let other = c.in-KeeperFault.is in
+    cc (memory, other)
+
+pub unreachable-requires-in-BadVersion : goal.unreachable-requires-in-BadVersion
+unreachable-requires-in-BadVersion c =
+    let d = c.in_ok-tree.field-0 in
+    let e = c.in_ok-tree.ensures in
+    let memory = only_memory c.args.script.now.lines d.tree d.keeper d.words c.new-clock.result c.limits.result c.requires e.tree e.keeper e.words c.new-clock.ensures c.limits.ensures c.in-Err.refusal.error _ c.in-Err.ensures.err.cause in
+    let other = c.in-BadVersion.is in
     cc (memory, other)
 
 pub unreachable-requires-in-BadRecord : goal.unreachable-requires-in-BadRecord
@@ -25,3 +33,9 @@ returns-in-Ok c =
     let e = c.in_ok-tree.ensures in
     subst (StartsScript c.args.script.now.lines) (sym c.new-counted.ensures)
     (starts_script c.args.script.now.lines d.tree d.keeper d.words c.new-clock.result c.limits.result c.requires e.tree e.keeper e.words c.new-clock.ensures c.limits.ensures c.in-Ok.portal c.in-Ok.ensures.ok c.known.ensures.valid)
+
+pub start-requires-clause-told : goal.start-requires-clause-told
+start-requires-clause-told c =
+    let d = c.in_ok-tree.field-0 in
+    let e = c.in_ok-tree.ensures in
+    told_began c.args.script.now.lines d.tree d.keeper d.words c.new-clock.result c.limits.result c.requires e.tree e.keeper e.words c.new-clock.ensures c.limits.ensures
