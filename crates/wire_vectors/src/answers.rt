@@ -2,7 +2,7 @@
 
 use crate::calls::{call_of, settings, shown_message};
 use dbus_dispatch::reply::reply_message;
-use dbus_types::message::OutMessage;
+use dbus_types::message::{Message, OutMessage};
 use portal_base::list::{ByteList, List};
 use portal_base::names::doc_id::DocId;
 use portal_base::text::Text;
@@ -19,9 +19,24 @@ pub fn told(alloc: Global, rest: &str) -> Result<String, LineError> {
     let (path, rest) = cut(rest);
     let (member, rest) = cut(rest);
     let call = call_of(alloc, format!(in alloc; "{path} - {member} -")?.as_str())?;
-    let answer = answer_of(alloc, rest)?;
-    let reply = reply_message(alloc, &answer, &call, &settings(alloc)?)?;
+    told_to(alloc, &call, rest)
+}
+
+/// What a call is told with this answer.
+fn told_to(alloc: Global, call: &Message, words: &str) -> Result<String, LineError> {
+    let answer = answer_of(alloc, words)?;
+    shown_reply(alloc, call, &answer)
+}
+
+fn shown_reply(alloc: Global, call: &Message, answer: &Answer) -> Result<String, LineError> {
+    let reply = reply_to(alloc, call, answer)?;
     shown_message(alloc, &reply)
+}
+
+/// The reply to a call with this answer.
+fn reply_to(alloc: Global, call: &Message, answer: &Answer) -> Result<OutMessage, LineError> {
+    let settings = settings(alloc)?;
+    Ok(reply_message(alloc, answer, call, &settings)?)
 }
 
 /// `done`, `place N`, `ids TEXT ..` (`-` is the empty text),
@@ -124,12 +139,27 @@ fn document(alloc: Global, word: &str) -> Result<ListedDocument, LineError> {
 /// `long N`: what an identifier of N letters is told as, in the reply to a
 /// Lookup: `returns`, or the error in its place.
 pub fn long(alloc: Global, rest: &str) -> Result<String, LineError> {
+    let answer = long_answer(alloc, small_number(rest)?)?;
+    long_reply(alloc, &answer)
+}
+
+/// An identifier of so many letters.
+fn long_answer(alloc: Global, count: u32) -> Result<Answer, LineError> {
     let mut ids = List::new(alloc);
-    ids.push(Text::from_string(letters(alloc, small_number(rest)?)?))?;
+    ids.push(Text::from_string(letters(alloc, count)?))?;
+    Ok(Answer::Ids(ids))
+}
+
+fn long_reply(alloc: Global, answer: &Answer) -> Result<String, LineError> {
     let call = call_of(alloc, "/org/freedesktop/portal/documents - Lookup -")?;
-    match reply_message(alloc, &Answer::Ids(ids), &call, &settings(alloc)?)? {
+    let reply = reply_to(alloc, &call, answer)?;
+    returns(alloc, &reply)
+}
+
+fn returns(alloc: Global, reply: &OutMessage) -> Result<String, LineError> {
+    match reply {
         OutMessage::Return { .. } => Ok(String::from_str(alloc, "returns")?),
-        reply => shown_message(alloc, &reply),
+        reply => shown_message(alloc, reply),
     }
 }
 

@@ -2,9 +2,8 @@
 
 ghost use Rattle.dbus_message.specs.Rules.{IsWhole};
 
-use crate::calls::{settings, shown_ask};
+use crate::calls::asked;
 use crate::store::shown_store;
-use dbus_dispatch::ask::request_of;
 use dbus_message::read::read_message;
 use dbus_message::split::split;
 use portal_base::list::List;
@@ -31,8 +30,7 @@ fn asked_by(alloc: Global, bytes: &[u8]) -> Result<String, LineError>
     let Ok(message) = read_message(alloc, bytes) else {
         return Err(LineError::BadLine);
     };
-    let ask = request_of(alloc, &message, &settings(alloc)?)?;
-    shown_ask(alloc, &ask)
+    asked(alloc, &message)
 }
 
 /// The request with its name; byte lists by their digits, texts between

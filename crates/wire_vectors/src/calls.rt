@@ -1,5 +1,8 @@
 //! Calls, and what they are answered without the portal.
 
+ghost use Rattle.std.specs.Prelude.{◌≢◌, IfOk};
+ghost use Rattle.dbus_dispatch.specs.Writable.{CanBeAnswered};
+
 use crate::asks;
 use dbus_dispatch::ask::{Ask, expects_reply, request_of};
 use dbus_dispatch::error_name::ErrorName;
@@ -28,9 +31,17 @@ pub fn call(alloc: Global, rest: &str) -> Result<String, LineError> {
 }
 
 /// What a message asks.
-fn asked(alloc: Global, message: &Message) -> Result<String, LineError> {
-    let ask = request_of(alloc, message, &settings(alloc)?)?;
+pub(crate) fn asked(alloc: Global, message: &Message) -> Result<String, LineError> {
+    let ask = ask_of(alloc, message)?;
     shown_ask(alloc, &ask)
+}
+
+/// What a message asks, by the settings of these lines.
+pub(crate) fn ask_of(alloc: Global, message: &Message) -> Result<Ask, LineError>
+    ensures { IfOk result CanBeAnswered }
+{
+    let settings = settings(alloc)?;
+    Ok(request_of(alloc, message, &settings)?)
 }
 
 /// `reply SERIAL PATH INTERFACE MEMBER SIGNATURE ARGUMENT ..`: the bytes of
@@ -38,16 +49,32 @@ fn asked(alloc: Global, message: &Message) -> Result<String, LineError> {
 pub fn reply(alloc: Global, rest: &str) -> Result<String, LineError> {
     let (serial, rest) = cut(rest);
     let serial = small_number(serial)?;
-    let call = call_of(alloc, rest)?;
     if serial == 0 {
         return Err(LineError::BadLine);
     }
-    match request_of(alloc, &call, &settings(alloc)?)? {
+    let call = call_of(alloc, rest)?;
+    answered(alloc, &call, serial)
+}
+
+/// The bytes of the answer to a call with this serial.
+fn answered(alloc: Global, call: &Message, serial: u32) -> Result<String, LineError>
+    requires { serial ≢ 0 }
+{
+    let ask = ask_of(alloc, call)?;
+    answered_with(alloc, &ask, serial)
+}
+
+/// The bytes of what is answered without the portal, with this serial.
+fn answered_with(alloc: Global, ask: &Ask, serial: u32) -> Result<String, LineError>
+    requires answers { CanBeAnswered ask.now }
+    requires serial { serial ≢ 0 }
+{
+    match ask {
         Ask::Local(message) => {
-            let bytes = write_message(alloc, &message, serial)?;
+            let bytes = write_message(alloc, message, serial)?;
             Ok(digits(alloc, bytes.as_slice())?)
         }
-        ask => shown_ask(alloc, &ask),
+        ask => shown_ask(alloc, ask),
     }
 }
 
