@@ -53,10 +53,14 @@ fn started(alloc: Global, keeper: MemoryKeeper) -> Result<String, VectorError> {
 /// What a portal opened with, and what its clock shows before and after it is set.
 fn opened(alloc: Global, portal: ScriptPortal) -> Result<String, VectorError> {
     let mut portal = portal;
+    shown_opening(alloc, &mut portal)
+}
+
+fn shown_opening(alloc: Global, portal: &mut ScriptPortal) -> Result<String, VectorError> {
     let opening = opening(alloc, portal.opening())?;
-    let before = moment(&mut portal);
-    set_clock(&mut portal, 9);
-    let after = moment(&mut portal);
+    let before = moment(portal);
+    set_clock(portal, 9);
+    let after = moment(portal);
     Ok(format!(in alloc; "{opening}; clock {before} {after}")?)
 }
 
