@@ -18,3 +18,6 @@ pub mod RunLine
 pub mod ReplayScript
 pub mod Counts
 pub mod StartedScript
+pub mod CountedAnswers
+pub mod LoadRun
+pub mod AnyRun
