@@ -31,7 +31,6 @@ mod arguments;
 pub mod ask;
 mod body;
 pub mod call;
-mod copies;
 pub mod error_name;
 pub mod interface;
 pub mod laws;

@@ -9,7 +9,6 @@ ghost use Rattle.portal_model.specs.declared.request.Request.{Request as AReques
 ghost use Rattle.dbus_dispatch.specs.Arguments.{lookup_call, set_call, delete_call, list_call, set_value_call, set_permission_call, delete_permission_call, get_permission_call};
 
 use crate::arguments::{flag_of, inside_of, items_of, rows_in, text_alone, text_of, texts_in};
-use crate::copies::copy_value;
 use dbus_types::types::Value;
 use portal_base::memory::{Replica, WantOfMemory};
 use portal_model::request::Request;
@@ -55,7 +54,7 @@ pub(crate) fn set_entry(alloc: Global, arguments: &[Value]) -> Result<Option<Req
                 create,
                 id: id.replica(alloc)?,
                 rows: rows_in(alloc, rows.as_slice())?,
-                datum: copy_value(alloc, datum)?,
+                datum: datum.replica(alloc)?,
             })))
         }
         _ => Ok(None),
@@ -99,7 +98,7 @@ pub(crate) fn set_value(alloc: Global, arguments: &[Value]) -> Result<Option<Req
                 table: table.replica(alloc)?,
                 create,
                 id: id.replica(alloc)?,
-                datum: copy_value(alloc, datum)?,
+                datum: datum.replica(alloc)?,
             })))
         }
         _ => Ok(None),

@@ -113,7 +113,7 @@ fn types_brackets_within(values: &[Value], limit: u32) -> bool
 
 /// How many of so many bytes the text of a type leaves.
 #[cycle(text)]
-fn text_leaves(kind: &WireType, limit: u32) -> Option<u32>
+fn text_leaves(kind: &WireType, limit: u64) -> Option<u64>
     ensures { MatchOption result (limit < length (type_text kind.now))
         (λ left. left + length (type_text kind.now) ≡ limit) }
 {
@@ -129,7 +129,7 @@ fn text_leaves(kind: &WireType, limit: u32) -> Option<u32>
 }
 
 #[cycle(text)]
-fn texts_leave(kinds: &[WireType], limit: u32) -> Option<u32>
+fn texts_leave(kinds: &[WireType], limit: u64) -> Option<u64>
     ensures { MatchOption result (limit < length (types_text kinds.now))
         (λ left. left + length (types_text kinds.now) ≡ limit) }
 {
@@ -145,7 +145,7 @@ fn texts_leave(kinds: &[WireType], limit: u32) -> Option<u32>
 
 /// How many of so many bytes the text of a value's type leaves.
 #[cycle(type_text)]
-fn type_leaves(value: &Value, limit: u32) -> Option<u32>
+pub fn type_leaves(value: &Value, limit: u64) -> Option<u64>
     ensures { MatchOption result (limit < length (type_text (type_of value.now)))
         (λ left. left + length (type_text (type_of value.now)) ≡ limit) }
 {
@@ -161,7 +161,7 @@ fn type_leaves(value: &Value, limit: u32) -> Option<u32>
 }
 
 #[cycle(type_text)]
-fn types_leave(values: &[Value], limit: u32) -> Option<u32>
+fn types_leave(values: &[Value], limit: u64) -> Option<u64>
     ensures { MatchOption result (limit < length (types_text (map type_of values.now)))
         (λ left. left + length (types_text (map type_of values.now)) ≡ limit) }
 {
@@ -188,7 +188,7 @@ fn has_valid_type(value: &Value) -> bool
 fn has_variant_type(value: &Value) -> bool
     ensures { IsTrue result ↔ IsVariantType (type_of value.now) }
 {
-    has_valid_type(value) && type_leaves(value, LONGEST as u32).is_some()
+    has_valid_type(value) && type_leaves(value, LONGEST as u64).is_some()
 }
 
 /// Says whether a text has no zero byte.

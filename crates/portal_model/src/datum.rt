@@ -1,11 +1,10 @@
 //! The data of an entry of the permission store.
 
-ghost use Rattle.std.specs.Prelude.{◌≡◌, IfOk, false};
-ghost use Rattle.portal_model.specs.Changed.{holds_handle};
+ghost use Rattle.std.specs.Prelude.{◌≡◌, false, map};
+ghost use Rattle.std.specs.List.{list_any};
+ghost use Rattle.portal_model.specs.Changed.{holds_handle as holds_handle_in};
 
 use dbus_types::types::Value;
-use portal_base::boxed::Boxed;
-use portal_base::list::List;
 use portal_base::memory::{Replica, WantOfMemory};
 use std::alloc::Global;
 use std::marker::Model;
@@ -36,7 +35,7 @@ impl Model for Datum {
 impl Datum {
     /// A value that holds no handle.
     pub fn new(value: Value) -> Datum
-        requires { holds_handle value ≡ false }
+        requires { holds_handle_in value ≡ false }
         ensures { result ≡ value }
     {
         Datum { value }
@@ -54,7 +53,7 @@ impl Datum {
     /// The value, which holds no handle.
     pub fn value(&self) -> &Value
         ensures value { result.now ≡ self.now }
-        ensures sound { holds_handle self.now ≡ false }
+        ensures sound { holds_handle_in self.now ≡ false }
     {
         &self.value
     }
@@ -62,7 +61,7 @@ impl Datum {
     /// The value itself, which holds no handle.
     pub fn into_value(self) -> Value
         ensures value { result ≡ self }
-        ensures sound { holds_handle self ≡ false }
+        ensures sound { holds_handle_in self ≡ false }
     {
         let Datum { value } = self;
         value
@@ -74,64 +73,36 @@ ghost use Rattle.dbus_types.specs.declared.types.Value.TheVariants as V;
 impl Replica for Datum {
     fn replica(&self, alloc: Global) -> Result<Datum, WantOfMemory> {
         Ok(Datum {
-            value: copy_value(alloc, &self.value)?,
+            value: self.value.replica(alloc)?,
         })
     }
 }
 
-/// A value equal to this one.
-#[cycle(value_copies)]
-pub(crate) fn copy_value(alloc: Global, value: &Value) -> Result<Value, WantOfMemory>
-    ensures { IfOk result (λ copy. copy ≡ value.now) }
+/// Whether a value of type `h` stands in a value, or it is one. An empty array
+/// of `h` holds none.
+#[cycle(handles)]
+pub fn holds_handle(value: &Value) -> bool
+    ensures { result ≡ holds_handle_in value.now }
 {
     match value {
-        Value::Byte(number) => Ok(Value::Byte(*number)),
-        Value::Bool(truth) => Ok(Value::Bool(*truth)),
-        Value::I16(number) => Ok(Value::I16(*number)),
-        Value::U16(number) => Ok(Value::U16(*number)),
-        Value::I32(number) => Ok(Value::I32(*number)),
-        Value::U32(number) => Ok(Value::U32(*number)),
-        Value::I64(number) => Ok(Value::I64(*number)),
-        Value::U64(number) => Ok(Value::U64(*number)),
-        Value::Double(bits) => Ok(Value::Double(*bits)),
-        Value::Str(text) => Ok(Value::Str(text.replica(alloc)?)),
-        Value::ObjectPath(text) => Ok(Value::ObjectPath(text.replica(alloc)?)),
-        Value::Signature(text) => Ok(Value::Signature(text.replica(alloc)?)),
-        Value::Handle(index) => Ok(Value::Handle(*index)),
-        Value::Variant(inner) => {
-            let inner = copy_value(alloc, inner.get())?;
-            Ok(Value::Variant(Boxed::new(alloc, inner)?))
-        }
-        Value::Array { element, items } => {
-            let items = copy_values(alloc, items.as_slice())?;
-            Ok(Value::Array {
-                element: element.share()?,
-                items,
-            })
-        }
-        Value::Struct(members) => {
-            let members = copy_values(alloc, members.as_slice())?;
-            Ok(Value::Struct(members))
-        }
-        Value::DictEntry { key, value } => {
-            let key = copy_value(alloc, key.get())?;
-            let value = copy_value(alloc, value.get())?;
-            Ok(Value::DictEntry {
-                key: Boxed::new(alloc, key)?,
-                value: Boxed::new(alloc, value)?,
-            })
-        }
+        Value::Handle(_) => true,
+        Value::Variant(inner) => holds_handle(inner.get()),
+        Value::Array { items, .. } => one_holds_handle(items.as_slice()),
+        Value::Struct(members) => one_holds_handle(members.as_slice()),
+        Value::DictEntry { key, value } => holds_handle(key.get()) || holds_handle(value.get()),
+        _ => false,
     }
 }
 
-/// Values equal to these.
-#[cycle(value_copies)]
-fn copy_values(alloc: Global, values: &[Value]) -> Result<List<Value>, WantOfMemory>
-    ensures { IfOk result (λ copies. copies ≡ values.now) }
+/// Whether one of several values holds a handle.
+#[cycle(handles)]
+fn one_holds_handle(values: &[Value]) -> bool
+    ensures { result ≡ list_any (λ b. b) (map holds_handle_in values.now) }
 {
-    let mut copies = List::new(alloc);
     for value in values {
-        copies.push(copy_value(alloc, value)?)?;
+        if holds_handle(value) {
+            return true;
+        }
     }
-    Ok(copies)
+    false
 }

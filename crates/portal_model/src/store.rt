@@ -7,7 +7,7 @@
 //! Source: XDG Desktop Portal documentation,
 //! `org.freedesktop.impl.portal.PermissionStore`.
 
-use crate::datum::{Datum, copy_value};
+use crate::datum::Datum;
 use crate::records::Row;
 use crate::reply::Change;
 use dbus_types::types::Value;
@@ -188,7 +188,7 @@ impl Replica for StoreCall {
                 create: *create,
                 id: id.replica(alloc)?,
                 rows: rows.replica(alloc)?,
-                datum: copy_value(alloc, datum)?,
+                datum: datum.replica(alloc)?,
             }),
             StoreCall::Delete { table, id } => Ok(StoreCall::Delete {
                 table: table.replica(alloc)?,
@@ -203,7 +203,7 @@ impl Replica for StoreCall {
                 table: table.replica(alloc)?,
                 create: *create,
                 id: id.replica(alloc)?,
-                datum: copy_value(alloc, datum)?,
+                datum: datum.replica(alloc)?,
             }),
             StoreCall::SetPermission {
                 table,

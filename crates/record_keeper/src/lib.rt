@@ -46,7 +46,7 @@ mod naming;
 mod sound;
 mod sound_document;
 
-pub use datum::{holds_handle, read_datum};
+pub use datum::read_datum;
 pub use entries::kept_entries;
 pub use fault::{RECORDS_VERSION, RecordsFault, records_fault};
 pub use in_memory::MemoryKeeper;

@@ -6,12 +6,12 @@ ghost use Rattle.dbus_types.specs.declared.types.Value.TheVariants as V;
 ghost use Rattle.dbus_types.specs.Spelling.{spelling};
 ghost use Rattle.portal_model.specs.Data.{data_bytes as bytes_of_data, is_data as may_be_data, is_spelled};
 
-use crate::handles::holds_handle;
 use crate::values::{signature_end, value_end};
 use crate::walk::Walk;
 use dbus_types::keeping::keeps_rules;
 use dbus_types::nesting::{MOST_NESTED, nesting};
 use dbus_types::types::Value;
+use portal_model::datum::holds_handle;
 
 /// Whether a value may be the data of an entry: it keeps the rules of values and of
 /// their spelling, as a variant, and holds no handle.

@@ -8,9 +8,7 @@
 //! | Room | Holds |
 //! |---|---|
 //! | `data` | [`is_data`] and [`data_bytes`] |
-//! | `handles` | [`holds_handle`] |
 //! | `values`, `walk` | the walk over a spelling, which counts its bytes and ends where a rule is broken |
-//! | `kinds` | how long the text of a type is |
 //!
 //! ```text
 //! if is_data(&value) {
@@ -23,10 +21,7 @@
 #![tactic(auto)]
 
 mod data;
-mod handles;
-mod kinds;
 mod values;
 mod walk;
 
 pub use data::{data_bytes, is_data};
-pub use handles::holds_handle;

@@ -13,8 +13,8 @@ ghost use Rattle.dbus_types.specs.Values.{LeafKeeps, type_of};
 ghost use Rattle.portal_model.specs.Data.{all_keep, is_variant_type, judged};
 ghost use Rattle.store_data.specs.Walks.{Keeps, Passes, Stands, ahead_of_elements};
 
-use crate::kinds::type_leaves;
 use crate::walk::{Walk, from_here, padded, passing};
+use dbus_types::keeping::type_leaves;
 use dbus_types::layout::alignment_of;
 use dbus_types::types::{Value, WireType};
 
