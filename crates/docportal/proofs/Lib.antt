@@ -19,5 +19,7 @@ pub mod ReplayScript
 pub mod Counts
 pub mod StartedScript
 pub mod CountedAnswers
+pub mod WholeCalls
+pub mod LoadLines
 pub mod LoadRun
 pub mod AnyRun

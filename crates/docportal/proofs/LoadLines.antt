@@ -14,6 +14,7 @@ use Rattle.portal_base.specs.declared.who.Kind.TheVariants as kind
 use Rattle.portal_base.specs.declared.who.Who.TheVariants as who
 use Rattle.portal_model.specs.declared.entry.Entry.{Entry}
 use Rattle.portal_model.specs.declared.request.Request.{Request}
+use Rattle.portal_model.specs.Store.{Entries}
 use Rattle.script_form.specs.declared.script.ScriptLine.{ScriptLine}
 use Rattle.script_form.specs.declared.script.ScriptLine.TheVariants.{File, Doc, Fail, Word, Now}
 use Rattle.script_form.specs.declared.script.ScriptLine.TheVariants.{Open, Data, Close}
@@ -38,10 +39,10 @@ use Rattle.portal_load.specs.Draws.{drawn}
 use Rattle.portal_load.specs.Lines.{bytes_of, doc_line, doc_lines, file_line, file_lines, handshake, handshake_line, host_seat, lines_ahead, mount_line, most_requests, open_lines, request_line, request_lines, seat_of}
 use Rattle.portal_load.proofs.Ranges.{all_append, all_made}
 use Rattle.portal_load.proofs.ReadFrames.{are_read}
-use Rattle.docportal.specs.Generated.{LoadStops, lines_of_load}
+use Rattle.docportal.specs.Generated.{lines_of_load}
 use Rattle.docportal.specs.Lines.{Comes, DataDoes, DataIsUnbuilt, Does, Goes, IsUnbuilt}
-use Rattle.docportal.specs.Plays.{Plays}
-use Rattle.docportal.specs.Scenes.{Scene, placed, run_settings}
+use Rattle.docportal.specs.Plays.{Plays, StopsAt}
+use Rattle.docportal.specs.Scenes.{Scene, first_scene, placed, run_settings}
 use Rattle.docportal.proofs.WholeCalls.{call_begins, call_whole}
 
 -- ---- a piece that is one item
@@ -348,9 +349,8 @@ front_all : (front : List ScriptLine) (one : ScriptLine) (later : List ScriptLin
 front_all [] one later all = (tt, all.0)
 front_all (x ∷ front) one later all = let rest = front_all front one later all.1 in ((all.0, rest.0), rest.1)
 
-pub load_is_built : (count number : ℕ) → count ≤ most_requests → LoadStops count number → ⊥
-load_is_built count number few stops =
-    let front = stops.front in
-    let one = stops.first.0 in
-    let parts = front_all front one stops.first.1 (subst (AllByRecursion IsLoadLine) stops.first.2 (load_is count few)) in
-    built stops.last one parts.1 (lines_ready front _ stops.last stops.history stops.out parts.0 (λ n. tt) stops.replay.plays) stops.first.3
+pub load_is_built : (count : ℕ) (entries : Entries) (front : List ScriptLine) (history : List Entry) (out : List (List ℕ)) (last : Scene) (number : ℕ) → count ≤ most_requests
+    → Plays (first_scene entries (lines_of_load count)) front history out last → StopsAt (lines_of_load count) front last number → ⊥
+load_is_built count entries front history out last number few plays stops =
+    let parts = front_all front stops.0 stops.1 (subst (AllByRecursion IsLoadLine) stops.2 (load_is count few)) in
+    built last stops.0 parts.1 (lines_ready front (first_scene entries (lines_of_load count)) last history out parts.0 (λ n. tt) plays) stops.3

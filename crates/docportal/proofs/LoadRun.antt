@@ -18,13 +18,14 @@ use Rattle.script_form.specs.Order.{IsRead}
 use Rattle.docportal.specs.declared.status.Status.{Status}
 use Rattle.docportal.specs.declared.status.Status.TheVariants.{Done, Usage, ScriptFault, ReadFault, WriteFault, Memory, TooLong, Unbuilt}
 use Rattle.docportal.specs.Outcomes.{done_in, refused_in}
-use Rattle.docportal.specs.Generated.{five_lines, Generates, RanLoad, StopsLoad, WritesLines, lines_of_load, load_lines, load_lines_at}
+use Rattle.docportal.specs.Generated.{five_lines, Generates, RanLoad, WritesLines, lines_of_load, load_lines, load_lines_at}
 use Rattle.docportal.specs.Inputs.{script_limit}
-use Rattle.docportal.specs.Plays.{Plays, PlaysAll, PlaysUpTo, PlayStops}
+use Rattle.docportal.specs.Plays.{Plays, PlaysAll, PlayStops}
 use Rattle.docportal.specs.Runs.{IsReplay, Risen}
 use Rattle.docportal.specs.Scenes.{Scene, ScriptPortal, first_scene, opening_state}
 use Rattle.docportal.specs.Started.{StartsScript}
 use Rattle.docportal.specs.Steps.{MayPlay, scene}
+use Rattle.docportal.proofs.LoadLines.{load_is_built}
 use Rattle.docportal.proofs.ReplayScript.{is_replay, itself, may_replay, scene_is}
 use Rattle.docportal.proofs.RunLines.{onto_more, onto_none, short_front}
 
@@ -43,11 +44,6 @@ module _ (count : ℕ) (slice : List ScriptLine) (p : ScriptPortal) (few : count
   begins : scene p [] ≡ first_scene h.entries (lines_of_load count)
   begins = scene_is (text_of (lines_of_load count)) (lines_of_load count) slice p size script is h
 
-  front_replayed : (front later : List ScriptLine) (history : List Entry) (out : List (List ℕ)) (last : Scene) → lines_of_load count ≡ front ++ later → Plays (scene p []) front history out last
-      → IsReplay (lines_of_load count) front history out last
-  front_replayed front later history out last ahead plays =
-      is_replay h.entries (text_of (lines_of_load count)) (lines_of_load count) front later history out last h.kept size script ahead h.valid (subst (λ (z : Scene). Plays z front history out last) begins plays)
-
   pub ran_load : (q : ScriptPortal) → state_first q.story ≡ state_first p.story → PlaysAll p q slice None None → RanLoad count q
   unfolding is_replay
   ran_load q same k =
@@ -58,60 +54,36 @@ module _ (count : ℕ) (slice : List ScriptLine) (p : ScriptPortal) (few : count
       (subst (λ (z : List Entry). Plays (first_scene h.entries (lines_of_load count)) (lines_of_load count) z k.out k.last) (sym grown) (subst (λ (z : Scene). Plays z (lines_of_load count) k.history k.out k.last) begins plays)) in
       record { out = k.out; last = k.last; replay = moved; first = same ∙ h.state }
 
-  unbuilt : (number : ℕ) → PlaysUpTo (scene p []) (lines_of_load count) number None None → StopsLoad count (Unbuilt number)
-  unbuilt number k = record {
-    front = k.front;
-    history = k.history;
-    out = k.out;
-    last = k.last;
-    replay = front_replayed k.front (k.stops.0 ∷ k.stops.1) k.history k.out k.last k.stops.2 k.plays;
-    first = k.stops;
-  }
-
   -- the sink takes all, so no write fails
   none_risen : HasRisen 0 0 → ⊥
   none_risen r = omega (arith, r)
 
-  stops : (status : Status) → PlayStops (scene p []) (lines_of_load count) None 0 None 0 status → StopsLoad count status
+  stops : (status : Status) → PlayStops (first_scene h.entries (lines_of_load count)) (lines_of_load count) None 0 None 0 status → status ≡ Memory
   stops Done k = absurd k
   stops Usage k = absurd k
   stops (ScriptFault line) k = absurd k
   stops ReadFault k = absurd k
   stops WriteFault k = absurd (none_risen k.0)
-  stops Memory k = tt
+  stops Memory k = refl
   stops TooLong k = absurd k
-  stops (Unbuilt number) k = unbuilt number k.1
+  stops (Unbuilt number) k = absurd (load_is_built count h.entries k.1.front k.1.history k.1.out k.1.last number few k.1.plays k.1.stops)
 
-  pub load_stops : (status : Status) → PlayStops (scene p []) slice None 0 None 0 status → StopsLoad count status
-  load_stops status k = stops status (subst (λ (x : List ScriptLine). PlayStops (scene p []) x None 0 None 0 status) is k)
+  pub load_stops : (status : Status) → PlayStops (scene p []) slice None 0 None 0 status → status ≡ Memory
+  load_stops status k = stops status (subst (λ (z : Scene). PlayStops z (lines_of_load count) None 0 None 0 status) begins (subst (λ (x : List ScriptLine). PlayStops (scene p []) x None 0 None 0 status) is k))
 
 -- ---- what is written
 
 abbrev pub Generated : ℕ → Option (List (List ℕ)) → Option (List (List ℕ)) → Status → Type 0
 Generated count told told' status = (pieces : List (List ℕ)) × (told' ≡ onto told pieces) × Generates count pieces status
 
-pub nothing_said : (count : ℕ) (told : Option (List (List ℕ))) (status : Status) → StopsLoad count status → Generated count told told status
-nothing_said count told Memory k = ([], onto_none told, refl)
-nothing_said count told (Unbuilt number) k = ([], onto_none told, (k, refl))
-nothing_said count told Done k = absurd k
-nothing_said count told Usage k = absurd k
-nothing_said count told (ScriptFault line) k = absurd k
-nothing_said count told ReadFault k = absurd k
-nothing_said count told WriteFault k = absurd k
-nothing_said count told TooLong k = absurd k
-
-pub nothing_risen : (count faults : ℕ) (status : Status) → StopsLoad count status → Risen status 0 0 faults faults
-nothing_risen count faults Memory k = (refl, refl)
-nothing_risen count faults (Unbuilt number) k = (refl, refl)
-nothing_risen count faults Done k = absurd k
-nothing_risen count faults Usage k = absurd k
-nothing_risen count faults (ScriptFault line) k = absurd k
-nothing_risen count faults ReadFault k = absurd k
-nothing_risen count faults WriteFault k = absurd k
-nothing_risen count faults TooLong k = absurd k
-
 pub nothing_for_memory : (count : ℕ) (told : Option (List (List ℕ))) → Generated count told told Memory
 nothing_for_memory count told = ([], onto_none told, refl)
+
+pub nothing_said : (count : ℕ) (told : Option (List (List ℕ))) (status : Status) → status ≡ Memory → Generated count told told status
+nothing_said count told status is = subst (Generated count told told) (sym is) (nothing_for_memory count told)
+
+pub nothing_risen : (faults : ℕ) (status : Status) → status ≡ Memory → Risen status 0 0 faults faults
+nothing_risen faults status is = subst (λ (s : Status). Risen s 0 0 faults faults) (sym is) (refl, refl)
 
 -- the tree of a load's portal tells its files
 pub load_tells : (count : ℕ) (p : ScriptPortal) → RanLoad count p → (state_first p.story).told ≡ true

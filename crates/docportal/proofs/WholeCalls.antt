@@ -32,10 +32,16 @@ module _ (serial : ℕ) (fields body : List ℕ) (some : 1 ≤ serial) (fits : s
   abbrev bytes : List ℕ
   bytes = laid serial (numbered fields) body
 
+  numbered_len : 12 + length (numbered fields) ≡ 16 + length fields
+  numbered_len = omega arith
+
+  padded : bytes ≡ 108 ∷ 1 ∷ 0 ∷ 1 ∷ (number Little w32 (length body) ++ (number Little w32 serial ++ (numbered fields ++ (replicate (gap 8 (16 + length fields)) 0 ++ body))))
+  padded = ap (λ (n : ℕ). 108 ∷ 1 ∷ 0 ∷ 1 ∷ (number Little w32 (length body) ++ (number Little w32 serial ++ (numbered fields ++ (replicate (gap 8 n) 0 ++ body))))) numbered_len
+
   whole_len : length bytes ≡ 16 + length fields + gap 8 (16 + length fields) + length body
   whole_len =
       let padding : List ℕ = replicate (gap 8 (16 + length fields)) 0 in
-      omega (arith, length-append fields (padding ++ body), length-append padding body, length-replicate {A = ℕ} (gap 8 (16 + length fields)) 0)
+      omega (arith, ap length padded, length-append fields (padding ++ body), length-append padding body, length-replicate {A = ℕ} (gap 8 (16 + length fields)) 0)
 
   body_is : body_len bytes ≡ length body
   body_is = let whole = whole_len in from_le_bytes-to_le_bytes_4 (length body) (omega arith)

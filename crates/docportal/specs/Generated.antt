@@ -13,7 +13,6 @@ use Rattle.docportal.specs.declared.status.Status.{Status}
 use Rattle.docportal.specs.declared.status.Status.TheVariants.{Done, Usage, ScriptFault, ReadFault, WriteFault, Memory, TooLong, Unbuilt}
 use Rattle.docportal.specs.Commands.{IsCommand}
 use Rattle.docportal.specs.Outcomes.{done_in, refused_in}
-use Rattle.docportal.specs.Plays.{StopsAt}
 use Rattle.docportal.specs.Runs.{IsReplay, Ran}
 use Rattle.docportal.specs.Scenes.{Scene, ScriptPortal, opening_state}
 use Rattle.docportal.specs.Texts.{line_feed, space}
@@ -56,26 +55,6 @@ pub record RanLoad (count : ℕ) (p : ScriptPortal) : Type 0 where
 abbrev pub load_lines_at : ℕ → Story → List (List ℕ)
 load_lines_at count p = load_lines count (state_first p) p.history
 
--- a line of the load needs a part that isn't built, and has this number
-pub record LoadStops (count number : ℕ) : Type 0 where
-  pub front : List ScriptLine
-  pub history : List Entry
-  pub out : List (List ℕ)
-  pub last : Scene
-  pub replay : IsReplay (lines_of_load count) front history out last
-  pub first : StopsAt (lines_of_load count) front last number
-
--- why a load isn't run to its end
-abbrev pub StopsLoad : ℕ → Status → Type 0
-StopsLoad count Memory = Unit {0}
-StopsLoad count (Unbuilt number) = LoadStops count number
-StopsLoad count Done = ⊥
-StopsLoad count Usage = ⊥
-StopsLoad count (ScriptFault line) = ⊥
-StopsLoad count ReadFault = ⊥
-StopsLoad count WriteFault = ⊥
-StopsLoad count TooLong = ⊥
-
 -- ---- what is written
 
 -- the load has this history, of which such a part is said
@@ -92,8 +71,9 @@ pub record SaysPart (IsPart : List (List ℕ) → List (List ℕ) → Type 0) (c
 abbrev pub AreAll : List (List ℕ) → List (List ℕ) → Type 0
 AreAll pieces lines = pieces ≡ lines
 
--- how the load of so many requests is run, with these pieces written: all five lines behind the
--- whole load; at a fault of writing a part of them; or nothing
+-- How the load of so many requests is run, with these pieces written: all five lines behind the
+-- whole load; at a fault of writing a part of them; at want of memory nothing. It ends in no other
+-- way.
 abbrev pub Generates : ℕ → List (List ℕ) → Status → Type 0
 Generates count pieces Done = SaysPart AreAll count pieces
 Generates count pieces Usage = ⊥
@@ -102,7 +82,7 @@ Generates count pieces ReadFault = ⊥
 Generates count pieces WriteFault = SaysPart Short count pieces
 Generates count pieces Memory = pieces ≡ []
 Generates count pieces TooLong = ⊥
-Generates count pieces (Unbuilt number) = LoadStops count number × (pieces ≡ [])
+Generates count pieces (Unbuilt number) = ⊥
 
 -- lines were written, or broke off at a fault, which is counted
 abbrev pub WritesLines : List (List ℕ) → Option (List (List ℕ)) → ℕ → Option (List (List ℕ)) → ℕ

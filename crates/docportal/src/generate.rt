@@ -4,9 +4,10 @@ ghost use Rattle.std.specs.Prelude.{◌≡◌, ◌≤◌, ◌++◌, ◌∷◌, [
 ghost use Rattle.portal_base.specs.Outside.{onto};
 ghost use Rattle.portal_core.specs.Story.{state_first};
 ghost use Rattle.portal_load.specs.Lines.{most_requests};
-ghost use Rattle.docportal.specs.Generated.{Generates, RanLoad, StopsLoad, WritesLines};
+ghost use Rattle.docportal.specs.Generated.{Generates, RanLoad, WritesLines};
 ghost use Rattle.docportal.specs.Generated.{count_line as line_of_count, five_lines, lines_of_load, load_lines_at};
 ghost use Rattle.docportal.specs.Runs.{Risen};
+ghost use Rattle.docportal.specs.Started.{StartsScript};
 
 use crate::counted::CountedPortal;
 use crate::replay::run_lines;
@@ -57,38 +58,75 @@ fn run_and_tell<K: Sink>(alloc: Global, load: &Load, sink: &mut K) -> Status
         × Generates load.now.requests pieces result }
     ensures risen { Risen result 0 0 (K.faults sink.old) (K.faults sink.new) }
 {
-    let portal = match run_load(alloc, load) {
-        Ok(portal) => portal,
-        Err(status) => return status,
+    match start(alloc, &load.script) {
+        Ok(portal) => run_once(alloc, portal, load, sink),
+        Err(WantOfMemory) => Status::Memory,
+    }
+}
+
+/// Runs a load over the portal that its script opens, which is gone then.
+fn run_once<K: Sink>(alloc: Global, portal: CountedPortal, load: &Load, sink: &mut K) -> Status
+    requires starts { StartsScript load.now.script.lines portal }
+    requires load { load.now.script.lines ≡ lines_of_load load.now.requests }
+    requires most { load.now.requests ≤ most_requests }
+    ensures generates { (pieces : List (List ℕ)) × (K.told sink.new ≡ onto (K.told sink.old) pieces)
+        × Generates load.now.requests pieces result }
+    ensures risen { Risen result 0 0 (K.faults sink.old) (K.faults sink.new) }
+{
+    let mut portal = portal;
+    run_over(alloc, &mut portal, load, sink)
+}
+
+/// Runs a load over the portal that its script opens.
+fn run_over<K: Sink>(
+    alloc: Global,
+    portal: &mut CountedPortal,
+    load: &Load,
+    sink: &mut K,
+) -> Status
+    requires starts { StartsScript load.now.script.lines portal.old }
+    requires load { load.now.script.lines ≡ lines_of_load load.now.requests }
+    requires most { load.now.requests ≤ most_requests }
+    ensures generates { (pieces : List (List ℕ)) × (K.told sink.new ≡ onto (K.told sink.old) pieces)
+        × Generates load.now.requests pieces result }
+    ensures risen { Risen result 0 0 (K.faults sink.old) (K.faults sink.new) }
+{
+    match run_load(alloc, portal, load) {
+        Ok(()) => tell(alloc, load.requests, portal, sink),
+        Err(status) => status,
+    }
+}
+
+/// Runs the lines of a load. None of them needs a part that isn't built, so
+/// where they aren't run to their end there was no memory.
+fn run_load(alloc: Global, portal: &mut CountedPortal, load: &Load) -> Result<(), Status>
+    requires starts { StartsScript load.now.script.lines portal.old }
+    requires load { load.now.script.lines ≡ lines_of_load load.now.requests }
+    requires most { load.now.requests ≤ most_requests }
+    ensures ran { OnOk result (RanLoad load.now.requests portal.new) }
+    ensures err { IfErr result (λ status. status ≡ Status.Memory) }
+{
+    let Ok(settings) = settings(alloc) else {
+        return Err(Status::Memory);
     };
-    let Ok(lines) = load_lines(alloc, load.requests, &portal) else {
+    let mut sink = NoSink;
+    run_lines(alloc, portal, &settings, load.script.lines.as_slice(), &mut sink)
+}
+
+/// Writes the five lines that say what became of the requests of a load.
+fn tell<K: Sink>(alloc: Global, count: u32, portal: &CountedPortal, sink: &mut K) -> Status
+    requires { RanLoad count portal.now }
+    ensures generates { (pieces : List (List ℕ)) × (K.told sink.new ≡ onto (K.told sink.old) pieces)
+        × Generates count pieces result }
+    ensures risen { Risen result 0 0 (K.faults sink.old) (K.faults sink.new) }
+{
+    let Ok(lines) = load_lines(alloc, count, portal) else {
         return Status::Memory;
     };
     if write_lines(lines.as_slice(), sink) {
         return Status::Done;
     }
     Status::WriteFault
-}
-
-/// The portal at which a load was run.
-fn run_load(alloc: Global, load: &Load) -> Result<CountedPortal, Status>
-    requires load { load.now.script.lines ≡ lines_of_load load.now.requests }
-    requires most { load.now.requests ≤ most_requests }
-    ensures ran { IfOk result (RanLoad load.now.requests) }
-    ensures err { IfErr result (StopsLoad load.now.requests) }
-{
-    let Ok(mut portal) = start(alloc, &load.script) else {
-        return Err(Status::Memory);
-    };
-    let Ok(settings) = settings(alloc) else {
-        return Err(Status::Memory);
-    };
-    let lines = load.script.lines.as_slice();
-    let mut sink = NoSink;
-    match run_lines(alloc, &mut portal, &settings, lines, &mut sink) {
-        Ok(()) => Ok(portal),
-        Err(status) => Err(status),
-    }
 }
 
 /// The five lines that say what became of the requests of a load.
