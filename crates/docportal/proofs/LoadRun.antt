@@ -12,6 +12,7 @@ use Rattle.portal_load.proofs.Scripts.{are_scripts}
 use Rattle.portal_model.specs.declared.entry.Entry.{Entry}
 use Rattle.portal_model.specs.History.{cost}
 use Rattle.portal_model.specs.State.{State}
+use Rattle.portal_model.specs.Store.{Entries}
 use Rattle.script_form.specs.declared.script.ScriptLine.{ScriptLine}
 use Rattle.script_form.specs.Lines.{text_of}
 use Rattle.script_form.specs.Order.{IsRead}
@@ -26,7 +27,7 @@ use Rattle.docportal.specs.Scenes.{Scene, ScriptPortal, first_scene, opening_sta
 use Rattle.docportal.specs.Started.{StartsScript}
 use Rattle.docportal.specs.Steps.{MayPlay, scene}
 use Rattle.docportal.proofs.LoadLines.{load_is_built}
-use Rattle.docportal.proofs.ReplayScript.{is_replay, itself, may_replay, scene_is}
+use Rattle.docportal.proofs.ReplayScript.{is_replay_with, itself, may_replay, scene_is}
 use Rattle.docportal.proofs.RunLines.{onto_more, onto_none, short_front}
 
 -- ---- at the portal that the load's script opens
@@ -45,14 +46,13 @@ module _ (count : ℕ) (slice : List ScriptLine) (p : ScriptPortal) (few : count
   begins = scene_is (text_of (lines_of_load count)) (lines_of_load count) slice p size script is h
 
   pub ran_load : (q : ScriptPortal) → state_first q.story ≡ state_first p.story → PlaysAll p q slice None None → RanLoad count q
-  unfolding is_replay
   ran_load q same k =
+      let lines : List ScriptLine = lines_of_load count in
       let grown : q.story.history ≡ k.history = k.stored ∙ ap (λ (z : List Entry). z ++ k.history) h.history in
-      let plays : Plays (scene p []) (lines_of_load count) k.history k.out k.last = subst (λ (x : List ScriptLine). Plays (scene p []) x k.history k.out k.last) is k.plays in
-      let moved : IsReplay (lines_of_load count) (lines_of_load count) q.story.history k.out k.last =
-      is_replay h.entries (text_of (lines_of_load count)) (lines_of_load count) (lines_of_load count) [] q.story.history k.out k.last h.kept size script (sym (append-nil (lines_of_load count))) h.valid
-      (subst (λ (z : List Entry). Plays (first_scene h.entries (lines_of_load count)) (lines_of_load count) z k.out k.last) (sym grown) (subst (λ (z : Scene). Plays z (lines_of_load count) k.history k.out k.last) begins plays)) in
-      record { out = k.out; last = k.last; replay = moved; first = same ∙ h.state }
+      let plays : Plays (scene p []) lines k.history k.out k.last = subst (λ (x : List ScriptLine). Plays (scene p []) x k.history k.out k.last) is k.plays in
+      let replay = is_replay_with h.entries (text_of lines) lines lines [] q.story.history k.out k.last h.kept size script (sym (append-nil lines)) h.valid
+      (subst (λ (z : List Entry). Plays (first_scene h.entries lines) lines z k.out k.last) (sym grown) (subst (λ (z : Scene). Plays z lines k.history k.out k.last) begins plays)) in
+      record { out = k.out; last = k.last; replay = replay.0; first = same ∙ (h.state ∙ ap (λ (z : Entries). opening_state z lines) (sym replay.1)) }
 
   -- the sink takes all, so no write fails
   none_risen : HasRisen 0 0 → ⊥
