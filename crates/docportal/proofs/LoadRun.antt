@@ -15,7 +15,7 @@ use Rattle.portal_model.specs.State.{State}
 use Rattle.portal_model.specs.Store.{Entries}
 use Rattle.script_form.specs.declared.script.ScriptLine.{ScriptLine}
 use Rattle.script_form.specs.Lines.{text_of}
-use Rattle.script_form.specs.Order.{IsRead}
+use Rattle.script_form.specs.Order.{IsRead, IsScript}
 use Rattle.docportal.specs.declared.status.Status.{Status}
 use Rattle.docportal.specs.declared.status.Status.TheVariants.{Done, Usage, ScriptFault, ReadFault, WriteFault, Memory, TooLong, Unbuilt}
 use Rattle.docportal.specs.Outcomes.{done_in, refused_in}
@@ -70,6 +70,10 @@ module _ (count : ℕ) (slice : List ScriptLine) (p : ScriptPortal) (few : count
 
   pub load_stops : (status : Status) → PlayStops (scene p []) slice None 0 None 0 status → status ≡ Memory
   load_stops status k = stops status (subst (λ (z : Scene). PlayStops z (lines_of_load count) None 0 None 0 status) begins (subst (λ (x : List ScriptLine). PlayStops (scene p []) x None 0 None 0 status) is k))
+
+-- its lines are a script
+pub load_is_script : (lines : List ScriptLine) (count : ℕ) → lines ≡ lines_of_load count → IsScript lines
+load_is_script lines count is = subst IsScript (sym is) (are_scripts count)
 
 -- ---- what is written
 

@@ -11,4 +11,4 @@ pub returns-in-Ok-clause-generates : goal.returns-in-Ok-clause-generates
 returns-in-Ok-clause-generates g c = generated_as c.in-Ok.load c.args.count _ _ _ c.in-Ok.ensures c.run_and_tell.ensures.generates
 
 pub returns-in-Err-clause-generates : goal.returns-in-Err-clause-generates
-returns-in-Err-clause-generates g c = nothing_for_memory _ _
+returns-in-Err-clause-generates g c = nothing_for_memory c.args.count _
