@@ -10,8 +10,8 @@
 //! | `command`, `settings` | the words of the program, and what a run is set to |
 //! | `input`, `output` | the input, read to its end; the lines of the output |
 //! | `run`, `status` | the whole of a run, and how it ends |
-//! | `start` | the portal that a script opens, over devices in memory |
-//! | `replay` | a script's lines, one after another |
+//! | `start`, `counted` | the portal that a script opens, over devices in memory, and what became of its requests |
+//! | `replay`, `generate` | a script's lines, one after another; a load of requests |
 //! | `line`, `error` | one line, and why it isn't run |
 //! | `seats`, `connections` | the sessions of a script, each at its seat of the portal |
 //!
@@ -24,7 +24,9 @@
 
 mod command;
 mod connections;
+mod counted;
 mod error;
+mod generate;
 mod input;
 mod line;
 mod output;
