@@ -78,12 +78,7 @@ fn run_once<K: Sink>(alloc: Global, portal: CountedPortal, load: &Load, sink: &m
 }
 
 /// Runs a load over the portal that its script opens.
-fn run_over<K: Sink>(
-    alloc: Global,
-    portal: &mut CountedPortal,
-    load: &Load,
-    sink: &mut K,
-) -> Status
+fn run_over<K: Sink>(alloc: Global, portal: &mut CountedPortal, load: &Load, sink: &mut K) -> Status
     requires starts { StartsScript load.now.script.lines portal.old }
     requires load { load.now.script.lines ≡ lines_of_load load.now.requests }
     requires most { load.now.requests ≤ most_requests }
@@ -110,7 +105,13 @@ fn run_load(alloc: Global, portal: &mut CountedPortal, load: &Load) -> Result<()
         return Err(Status::Memory);
     };
     let mut sink = NoSink;
-    run_lines(alloc, portal, &settings, load.script.lines.as_slice(), &mut sink)
+    run_lines(
+        alloc,
+        portal,
+        &settings,
+        load.script.lines.as_slice(),
+        &mut sink,
+    )
 }
 
 /// Writes the five lines that say what became of the requests of a load.
