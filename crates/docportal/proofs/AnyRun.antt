@@ -4,7 +4,7 @@ use Rattle.docportal.specs.declared.command.Command.TheVariants.{Generate}
 use Rattle.docportal.specs.declared.status.Status.{Status}
 use Rattle.docportal.specs.declared.status.Status.TheVariants.{Done, Usage, ScriptFault, ReadFault, WriteFault, Memory, TooLong, Unbuilt}
 use Rattle.docportal.specs.Commands.{IsCommand, IsNoCommand, IsUnbuiltCommand, replay_words}
-use Rattle.docportal.specs.Generated.{Generates, RanAny}
+use Rattle.docportal.specs.Generated.{RanAny}
 use Rattle.docportal.specs.Runs.{Ran, Risen}
 use Rattle.docportal.proofs.LoadRun.{Generated}
 use Rattle.docportal.proofs.ReplayScript.{ran_unbuilt, ran_unknown}

@@ -1,5 +1,5 @@
 -- The lines of a load end between items: none of them needs a part that isn't built.
-use Rattle.std.proofs.Common.{◌≡◌, ℕ, zero, suc, ◌+◌, ◌<◌, ◌≤◌, ◌^◌, ◌==◌, Bool, true, false, Option, Some, None, List, [], ◌∷◌, ◌++◌, length, map, take, refl, sym, ap, subst, ◌∙◌, inl, inr, append_assoc, arith}
+use Rattle.std.proofs.Common.{◌≡◌, ℕ, zero, suc, ◌+◌, ◌<◌, ◌≤◌, ◌^◌, ◌==◌, Bool, true, false, Option, Some, None, List, [], ◌∷◌, ◌++◌, length, map, refl, sym, ap, subst, ◌∙◌, inl, inr, append_assoc, arith}
 use Rattle.std.specs.Prelude.{◌≢◌, ◌⊎◌, IfSome, codes}
 use Rattle.std.specs.List.{AllByRecursion, range_with_len}
 use Rattle.std.proofs.lemmas.Bool.Decides.{nat_tests}
@@ -24,7 +24,6 @@ use Rattle.session.specs.declared.act.Act.TheVariants.{Nothing, Line}
 use Rattle.session.specs.declared.act.Client.{Client}
 use Rattle.session.specs.declared.phase.Phase.{Phase}
 use Rattle.session.specs.declared.phase.Phase.TheVariants as due
-use Rattle.session.specs.declared.served.Stop.{Stop}
 use Rattle.session.specs.declared.served.Stop.TheVariants as stop
 use Rattle.session.specs.Cuts.{Cut, Cuts, cut_of, no_item, whole_item}
 use Rattle.session.specs.Items.{AreItems, Items, Remains, joined, phase_after}
@@ -40,7 +39,7 @@ use Rattle.portal_load.specs.Lines.{bytes_of, doc_line, doc_lines, file_line, fi
 use Rattle.portal_load.proofs.Ranges.{all_append, all_made}
 use Rattle.portal_load.proofs.ReadFrames.{are_read}
 use Rattle.docportal.specs.Generated.{lines_of_load}
-use Rattle.docportal.specs.Lines.{Comes, DataDoes, DataIsUnbuilt, Does, Goes, IsUnbuilt}
+use Rattle.docportal.specs.Lines.{Comes, DataDoes, DataIsUnbuilt, Does, IsUnbuilt}
 use Rattle.docportal.specs.Plays.{Plays, StopsAt}
 use Rattle.docportal.specs.Scenes.{Scene, first_scene, placed, run_settings}
 use Rattle.docportal.proofs.WholeCalls.{call_begins, call_whole}

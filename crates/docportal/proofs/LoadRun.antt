@@ -1,5 +1,5 @@
 -- A load, run at the portal that its script opens, and what is written of it.
-use Rattle.std.proofs.Common.{◌≡◌, ℕ, ◌+◌, ◌*◌, ◌^◌, ◌<◌, ◌≤◌, List, [], ◌∷◌, ◌++◌, length, take, drop, get_or, Option, None, Bool, true, false, refl, sym, ap, ◌∙◌, subst, add-one, arith}
+use Rattle.std.proofs.Common.{◌≡◌, ℕ, ◌+◌, ◌<◌, ◌≤◌, List, [], ◌∷◌, ◌++◌, length, take, drop, get_or, Option, None, true, false, refl, sym, ap, ◌∙◌, subst, add-one, arith}
 use Rattle.std.proofs.Math.Seq.{take-suc}
 use Rattle.std.proofs.lemmas.List.{append-nil, take-append-drop, take_all}
 use Rattle.portal_base.specs.declared.outside.WriteAnswer.TheVariants.{Failed}
@@ -22,7 +22,7 @@ use Rattle.docportal.specs.Outcomes.{done_in, refused_in}
 use Rattle.docportal.specs.Generated.{five_lines, Generates, RanLoad, WritesLines, lines_of_load, load_lines, load_lines_at}
 use Rattle.docportal.specs.Inputs.{script_limit}
 use Rattle.docportal.specs.Plays.{Plays, PlaysAll, PlayStops}
-use Rattle.docportal.specs.Runs.{IsReplay, Risen}
+use Rattle.docportal.specs.Runs.{Risen}
 use Rattle.docportal.specs.Scenes.{Scene, ScriptPortal, first_scene, opening_state}
 use Rattle.docportal.specs.Started.{StartsScript}
 use Rattle.docportal.specs.Steps.{MayPlay, scene}

@@ -2,7 +2,8 @@
 //!
 //! **It promises** (`run`) that at `Done` the output is the one that the script
 //! has, over one legal history, and that the replies to each application are those
-//! of its own machine over its trace; and that each other status but want of memory
+//! of its own machine over its trace; that of a generated load it is five lines over
+//! the history of the load's script; and that each other status but want of memory
 //! has its cause.
 //!
 //! | Room | Holds |

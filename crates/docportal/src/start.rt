@@ -14,7 +14,7 @@ use script_form::devices::{ScriptDevices, devices_of};
 use script_form::script::Script;
 use std::alloc::Global;
 
-/// A portal over devices in memory.
+/// The portal of a script: over devices in memory, and its requests are counted.
 pub type ScriptPortal = CountedPortal;
 
 /// The portal that a script opens: over a tree of its files, a keeper of its

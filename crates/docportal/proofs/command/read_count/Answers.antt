@@ -1,4 +1,4 @@
-use Rattle.std.proofs.Common.{inl, inr, arith}
+use Rattle.std.proofs.Common.{inl, inr}
 use Rattle.docportal.proofs.Counts.{no_count, no_count_of}
 use Rattle.docportal.proofs.command.read_count.Goals as goal
 
