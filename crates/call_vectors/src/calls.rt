@@ -3,8 +3,9 @@
 use crate::scene::Scene;
 use crate::shown;
 use document_calls::{
-    delete_document, grant, info, list_documents, lookup_document, present, revoke,
+    ServedCall, delete_document, grant, info, list_documents, lookup_document, present, revoke,
 };
+use portal_base::memory::WantOfMemory;
 use record_lines::{rights_call, who};
 use std::alloc::Global;
 use vector_lines::error::VectorError;
@@ -13,93 +14,98 @@ use vector_lines::notation::{cut, text};
 /// `present WHO PATH`: a Present.
 pub fn present_file(alloc: Global, scene: &mut Scene, rest: &str) -> Result<String, VectorError> {
     let (caller, path) = cut(rest);
+    let who = who(alloc, caller)?;
+    let path = text(alloc, path)?;
     let served = present(
         alloc,
         &mut scene.queue,
         u64::from(scene.limit),
-        &who(alloc, caller)?,
-        text(alloc, path)?.as_slice(),
-    )?;
-    shown::served(alloc, &served)
+        &who,
+        path.as_slice(),
+    );
+    told(alloc, served)
 }
 
 /// `lookup WHO PATH`: a Lookup.
 pub fn look_up(alloc: Global, scene: &mut Scene, rest: &str) -> Result<String, VectorError> {
     let (caller, path) = cut(rest);
-    let served = lookup_document(
-        alloc,
-        &scene.documents,
-        &who(alloc, caller)?,
-        text(alloc, path)?.as_slice(),
-    )?;
-    shown::served(alloc, &served)
+    let who = who(alloc, caller)?;
+    let path = text(alloc, path)?;
+    let served = lookup_document(alloc, &scene.documents, &who, path.as_slice());
+    told(alloc, served)
 }
 
 /// `info WHO ID`: an Info.
 pub fn tell(alloc: Global, scene: &mut Scene, rest: &str) -> Result<String, VectorError> {
     let (caller, doc) = cut(rest);
-    let served = info(
-        alloc,
-        &scene.documents,
-        &scene.grants,
-        &who(alloc, caller)?,
-        text(alloc, doc)?.as_slice(),
-    )?;
-    shown::served(alloc, &served)
+    let who = who(alloc, caller)?;
+    let doc = text(alloc, doc)?;
+    let served = info(alloc, &scene.documents, &scene.grants, &who, doc.as_slice());
+    told(alloc, served)
 }
 
 /// `list WHO APP`: a List, of all documents where there is no name.
 pub fn list(alloc: Global, scene: &mut Scene, rest: &str) -> Result<String, VectorError> {
     let (caller, app) = cut(rest);
-    let served = list_documents(
-        alloc,
-        &scene.documents,
-        &scene.grants,
-        &who(alloc, caller)?,
-        text(alloc, app)?.as_slice(),
-    )?;
-    shown::served(alloc, &served)
+    let who = who(alloc, caller)?;
+    let app = text(alloc, app)?;
+    let served = list_documents(alloc, &scene.documents, &scene.grants, &who, app.as_slice());
+    told(alloc, served)
 }
 
 /// `grant WHO doc=ID app=NAME names=NAME,..`: a GrantPermissions.
 pub fn give(alloc: Global, scene: &mut Scene, rest: &str) -> Result<String, VectorError> {
     let (caller, words) = cut(rest);
+    let who = who(alloc, caller)?;
+    let call = rights_call(alloc, words)?;
     let served = grant(
         alloc,
         &scene.documents,
         &mut scene.grants,
         &mut scene.applications,
         &mut scene.keeper,
-        &who(alloc, caller)?,
-        &rights_call(alloc, words)?,
-    )?;
-    shown::served(alloc, &served)
+        &who,
+        &call,
+    );
+    told(alloc, served)
 }
 
 /// `revoke WHO doc=ID app=NAME names=NAME,..`: a RevokePermissions.
 pub fn take(alloc: Global, scene: &mut Scene, rest: &str) -> Result<String, VectorError> {
     let (caller, words) = cut(rest);
+    let who = who(alloc, caller)?;
+    let call = rights_call(alloc, words)?;
     let served = revoke(
         alloc,
         &scene.documents,
         &mut scene.grants,
         &mut scene.keeper,
-        &who(alloc, caller)?,
-        &rights_call(alloc, words)?,
-    )?;
-    shown::served(alloc, &served)
+        &who,
+        &call,
+    );
+    told(alloc, served)
 }
 
 /// `delete WHO ID`: a Delete.
 pub fn delete(alloc: Global, scene: &mut Scene, rest: &str) -> Result<String, VectorError> {
     let (caller, doc) = cut(rest);
+    let who = who(alloc, caller)?;
+    let doc = text(alloc, doc)?;
     let served = delete_document(
         alloc,
         &mut scene.documents,
         &mut scene.grants,
         &mut scene.keeper,
-        &who(alloc, caller)?,
-        text(alloc, doc)?.as_slice(),
-    )?;
-    shown::served(alloc, &served)
+        &who,
+        doc.as_slice(),
+    );
+    told(alloc, served)
+}
+
+/// What a call is answered.
+fn told(alloc: Global, served: Result<ServedCall, WantOfMemory>) -> Result<String, VectorError> {
+    let served = served?;
+    let answer = shown::served(alloc, &served);
+    drop(served);
+    answer
 }

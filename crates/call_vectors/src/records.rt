@@ -50,9 +50,16 @@ pub fn apps(alloc: Global, scene: &Scene) -> Result<String, VectorError> {
 
 /// `kept`: what the keeper loads.
 pub fn kept(alloc: Global, scene: &mut Scene) -> Result<String, VectorError> {
-    match scene.keeper.load() {
-        KeeperLoad::Got(records) => shown::kept(alloc, &records),
-        answer => Ok(debug(alloc, &answer)?),
+    let load = scene.keeper.load();
+    let told = loaded(alloc, &load);
+    drop(load);
+    told
+}
+
+fn loaded(alloc: Global, load: &KeeperLoad) -> Result<String, VectorError> {
+    match load {
+        KeeperLoad::Got(records) => shown::kept(alloc, records),
+        answer => Ok(debug(alloc, answer)?),
     }
 }
 

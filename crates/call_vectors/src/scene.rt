@@ -3,7 +3,7 @@
 ghost use Rattle.std.specs.Prelude.{◌≢◌};
 ghost use Rattle.portal_base.specs.Names.{root};
 
-use document_records::{Applications, Documents, Grants};
+use document_records::{Applications, Document, Documents, Grants};
 use host_tree::{HostTree, MemoryTree};
 use portal_base::list::List;
 use portal_base::names::HostPath;
@@ -47,34 +47,101 @@ pub struct Scene {
 /// `queued=N`, which are limits; `keeper=N,..` and `tree=N,..`, the calls of each
 /// that fail.
 pub fn scene_of(alloc: Global, words: &str) -> Result<Scene, VectorError> {
+    let lists = lists_of(alloc, words)?;
+    match devices_of(alloc, words, &lists) {
+        Ok(devices) => Ok(scene_with(alloc, lists, devices)),
+        Err(error) => {
+            drop(lists);
+            Err(error)
+        }
+    }
+}
+
+/// The lists of a scene.
+#[derive(Drop)]
+struct Lists {
+    documents: Documents,
+    grants: Grants,
+    applications: Applications,
+}
+
+/// The devices of a scene, and how many files may be presented.
+#[derive(Drop)]
+struct Devices {
+    limit: u32,
+    keeper: MemoryKeeper,
+    tree: MemoryTree,
+    words: ListWords,
+}
+
+/// A scene without presented files.
+fn scene_with(alloc: Global, lists: Lists, devices: Devices) -> Scene {
+    Scene {
+        documents: lists.documents,
+        grants: lists.grants,
+        applications: lists.applications,
+        queue: List::new(alloc),
+        limit: devices.limit,
+        keeper: devices.keeper,
+        tree: devices.tree,
+        words: devices.words,
+    }
+}
+
+fn lists_of(alloc: Global, words: &str) -> Result<Lists, VectorError> {
     let documents = documents(alloc, words)?;
     let grants = grants(alloc, words)?;
-    let records = records(alloc, &documents, &grants)?;
-    Ok(Scene {
+    let applications = applications(alloc, words)?;
+    Ok(Lists {
         documents,
         grants,
-        applications: applications(alloc, words)?,
-        queue: List::new(alloc),
-        limit: number_or(words, "queued=", 16)?,
-        keeper: MemoryKeeper::new(alloc, records, fails(alloc, words, "keeper=")?)?,
-        tree: tree(alloc, words)?,
-        words: ListWords::new(small_numbers(alloc, words, "words=")?),
+        applications,
     })
+}
+
+fn devices_of(alloc: Global, words: &str, lists: &Lists) -> Result<Devices, VectorError> {
+    let limit = number_or(words, "queued=", 16)?;
+    let keeper = keeper(alloc, words, lists)?;
+    let tree = tree(alloc, words)?;
+    let words = ListWords::new(small_numbers(alloc, words, "words=")?);
+    Ok(Devices {
+        limit,
+        keeper,
+        tree,
+        words,
+    })
+}
+
+/// A keeper of what persists.
+fn keeper(alloc: Global, words: &str, lists: &Lists) -> Result<MemoryKeeper, VectorError> {
+    let fails = fails(alloc, words, "keeper=")?;
+    let records = records(alloc, &lists.documents, &lists.grants)?;
+    Ok(MemoryKeeper::new(alloc, records, fails)?)
 }
 
 /// The applications of the rights, in the order in which these name them.
 fn applications(alloc: Global, words: &str) -> Result<Applications, VectorError> {
     let mut applications = Applications::new(alloc);
     for word in words.split_whitespace() {
-        if let Some(rest) = word.strip_prefix("right:") {
-            let (app, _rest) = parted(rest);
-            let app = app_of(alloc, app)?;
-            if applications.len() < APPLICATIONS {
-                applications.number(&app)?;
-            }
+        if let Some(right) = word.strip_prefix("right:") {
+            number_app(alloc, &mut applications, right)?;
         }
     }
     Ok(applications)
+}
+
+/// Numbers the application of a right.
+fn number_app(
+    alloc: Global,
+    applications: &mut Applications,
+    right: &str,
+) -> Result<(), VectorError> {
+    let (app, _rest) = parted(right);
+    let app = app_of(alloc, app)?;
+    if applications.len() < APPLICATIONS {
+        applications.number(&app)?;
+    }
+    Ok(())
 }
 
 /// The records of the documents that persist, and of the rights in them.
@@ -82,18 +149,25 @@ fn records(alloc: Global, documents: &Documents, grants: &Grants) -> Result<Reco
     let mut kept = List::new(alloc);
     for document in documents.live() {
         if document.persistent {
-            kept.push(DocRecord {
-                number: document.id.number,
-                path: List::copied(alloc, document.path.as_bytes())?,
-                reusable: document.reusable,
-                grants: grants.records(document.id)?,
-            })?;
+            kept.push(record(alloc, document, grants)?)?;
         }
     }
     Ok(Records {
         version: 1,
         documents: kept,
         entries: List::new(alloc),
+    })
+}
+
+/// The record of a document, and of the rights in it.
+fn record(alloc: Global, document: &Document, grants: &Grants) -> Result<DocRecord, VectorError> {
+    let path = List::copied(alloc, document.path.as_bytes())?;
+    let grants = grants.records(document.id)?;
+    Ok(DocRecord {
+        number: document.id.number,
+        path,
+        reusable: document.reusable,
+        grants,
     })
 }
 

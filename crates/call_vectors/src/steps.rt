@@ -9,14 +9,21 @@ use vector_lines::notation::cut;
 /// `calls WORD .. | CALL | CALL ..`: what each call is answered, over the lists and
 /// devices that the words make.
 pub fn calls(alloc: Global, rest: &str) -> Result<String, VectorError> {
-    let mut parts = rest.split('|');
-    let mut scene = scene_of(alloc, parts.next().unwrap_or(""))?;
+    let words = rest.split('|').next().unwrap_or("");
+    let mut scene = scene_of(alloc, words)?;
+    let answers = all_told(alloc, &mut scene, rest);
+    drop(scene);
+    answers
+}
+
+/// What each call behind the words is answered.
+fn all_told(alloc: Global, scene: &mut Scene, rest: &str) -> Result<String, VectorError> {
     let mut out = String::new(alloc);
-    for (index, part) in parts.enumerate() {
+    for (index, part) in rest.split('|').skip(1).enumerate() {
         if index > 0 {
             out.push_str("; ")?;
         }
-        out.push_str(told(alloc, &mut scene, part.trim())?.as_str())?;
+        out.push_str(told(alloc, scene, part.trim())?.as_str())?;
     }
     Ok(out)
 }

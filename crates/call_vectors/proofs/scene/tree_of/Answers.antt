@@ -2,7 +2,7 @@ use Rattle.std.proofs.Common.{◌≡◌, ℕ, List, [], ◌∷◌, Bool, true, f
 use Rattle.std.specs.List.Sorted.{IsStrictlySortedBy}
 use Rattle.portal_base.specs.Names.{is_same, root}
 use Rattle.portal_base.specs.PathOrder.{path_order}
-use Rattle.portal_base.specs.Content.{ArePlaced, paths_of, is_above}
+use Rattle.portal_base.specs.Content.{ArePlaced, paths_of}
 use Rattle.portal_base.specs.declared.files.File.{File}
 use Rattle.host_tree.specs.Trees.{put_file}
 use Rattle.portal_base.proofs.PathsAbove.{above_longer}
