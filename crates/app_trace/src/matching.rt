@@ -1,11 +1,11 @@
 //! Whether two traces are the same.
 
-ghost use Rattle.std.specs.Prelude.{◌≡◌, ◌≤◌, ◌<◌, IfNone, IfSome, length, slice_get, take};
-ghost use Rattle.app_trace.specs.Matches.{Matches};
+ghost use Rattle.std.specs.Prelude.{◌≡◌, ◌≤◌, IfNone, IfSome, length, slice_get, take};
+ghost use Rattle.app_trace.specs.Matches.{DifferFirst, Matches};
 ghost use Rattle.app_trace.specs.Told.{trace_told};
 
 use crate::same::Same;
-use crate::trace::{Trace, TraceItem};
+use crate::trace::Trace;
 
 /// How two traces compare.
 #[derive(Clone, Copy, Debug, PartialEq, Eq)]
@@ -32,25 +32,25 @@ pub fn same_trace(first: &Trace, second: &Trace) -> TraceMatch
         return TraceMatch::Opening;
     }
     match first_difference(first.items.as_slice(), second.items.as_slice()) {
-        Some(place) => TraceMatch::At(place as u64 + 1),
+        Some(place) => TraceMatch::At(place),
         None => TraceMatch::Same,
     }
 }
 
-/// The first place at which two lists of items don't have the same item.
-fn first_difference(first: &[TraceItem], second: &[TraceItem]) -> Option<usize>
+/// The first place, from 1, at which two lists don't have the same item.
+fn first_difference<T: Same>(first: &[T], second: &[T]) -> Option<u64>
     ensures same { IfNone result (first.now ≡ second.now) }
-    ensures differ { IfSome result (DiffersAt first.now second.now) }
+    ensures differ { IfSome result (DifferFirst first.now second.now) }
 {
     let both = first.len().min(second.len());
     for place in 0..both {
         if !first[place].is_same(&second[place]) {
-            return Some(place);
+            return Some(place as u64 + 1);
         }
     }
     if first.len() == second.len() {
         None
     } else {
-        Some(both)
+        Some(both as u64 + 1)
     }
 }
