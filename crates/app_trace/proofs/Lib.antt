@@ -5,3 +5,6 @@ pub mod Loops
 pub mod NameLemmas
 pub mod ValidNames
 pub mod OpeningRights
+pub mod HeldInOrder
+pub mod ContentsInOrder
+pub mod ViewedParts

@@ -1,13 +1,13 @@
 //! What the tree of files has at paths.
 
-ghost use Rattle.std.specs.Prelude.{◌≡◌, ◌+◌, ◌<◌, [], None, get_or, length, map, option_copied, slice_get, IfOk};
+ghost use Rattle.std.specs.Prelude.{◌≡◌, ◌++◌, ◌∷◌, [], None, cond, map, option_copied, IfOk, OnOk};
 ghost use Rattle.std.specs.Cmp.Lexicographic.{slice_cmp};
-ghost use Rattle.std.specs.List.{find};
+ghost use Rattle.std.specs.List.{find, list_any};
 ghost use Rattle.std.specs.List.Sorted.{IsPermutation, IsSortedBy};
 ghost use Rattle.std.specs.Ordering.{nat_cmp};
 ghost use Rattle.app_world.specs.View.{contents_at as contents_of_view, path_content as content_of_path};
 ghost use Rattle.portal_base.specs.Names.{is_same, parent_of};
-ghost use Rattle.portal_model.specs.Content.{content_at as content_of_tree, content_of, is_folder as is_folder_of_tree};
+ghost use Rattle.portal_model.specs.Content.{OfFile, content_at as content_of_tree, content_of, is_above, is_folder as is_folder_of_tree};
 ghost use Rattle.portal_model.specs.Opening.{file_of};
 ghost use Rattle.app_trace.specs.Contents.{comes_again, once_each, path_held, path_less};
 ghost use Rattle.app_trace.specs.Told.{content_told, path_told};
@@ -64,7 +64,7 @@ fn byte_order(first: &HostPath, second: &HostPath) -> Ordering
     first.as_bytes().cmp(second.as_bytes())
 }
 
-/// What is at each of the paths, which stand in order.
+/// What is at each of the paths, of which equal ones stand together.
 fn contents_at(
     alloc: Global,
     files: &[FileItem],
@@ -75,20 +75,36 @@ fn contents_at(
 {
     let mut contents = List::new(alloc);
     for index in 0..paths.len() {
-        if !comes_again(paths, index) {
-            contents.push(path_content(alloc, files, &paths[index])?)?;
-        }
+        let path = &paths[index];
+        let again = comes_again(path, paths.get(index + 1));
+        push_content(alloc, &mut contents, files, path, again)?;
     }
     Ok(contents)
 }
 
-/// Says whether the path behind the one of a place is the same.
-fn comes_again(paths: &[HostPath], index: usize) -> bool
-    requires { index < length paths.now }
-    ensures { result ≡ comes_again (get_or paths.now index []) (slice_get paths.now (index + 1)) }
+/// Adds what is at a path, unless the path comes again.
+fn push_content(
+    alloc: Global,
+    contents: &mut List<PathContent>,
+    files: &[FileItem],
+    path: &HostPath,
+    again: bool,
+) -> Result<(), WantOfMemory>
+    ensures { OnOk result (map path_told contents.new ≡ map path_told contents.old
+        ++ cond again [] (content_of_path (map file_of files.now) path.now ∷ [])) }
 {
-    match paths.get(index + 1) {
-        Some(next) => *next == paths[index],
+    if again {
+        return Ok(());
+    }
+    contents.push(path_content(alloc, files, path)?)
+}
+
+/// Says whether the path that comes next is the same.
+fn comes_again(path: &HostPath, next: Option<&HostPath>) -> bool
+    ensures { result ≡ comes_again path.now (option_copied next.entry) }
+{
+    match next {
+        Some(next) => *next == *path,
         None => false,
     }
 }
@@ -114,13 +130,21 @@ fn content_at(alloc: Global, files: &[FileItem], path: &HostPath) -> Result<Cont
         (λ content. content_told content ≡ content_of_tree (map file_of files.now) path.now) }
 {
     match file_at(files, path.as_bytes()) {
-        Some(file) => Ok(Content::File {
-            generation: 0,
-            bytes: file.content.replica(alloc)?,
-            moment: file.moment,
-        }),
+        Some(file) => file_content(alloc, file),
         None => content_without_file(alloc, files, path),
     }
+}
+
+/// What a file is, which is the first that its path has.
+fn file_content(alloc: Global, file: &FileItem) -> Result<Content, WantOfMemory>
+    ensures { IfOk result
+        (λ content. content_told content ≡ OfFile 0 file.now.content file.now.moment) }
+{
+    Ok(Content::File {
+        generation: 0,
+        bytes: file.content.replica(alloc)?,
+        moment: file.moment,
+    })
 }
 
 /// The file of a path.
@@ -153,5 +177,14 @@ fn content_without_file(
 fn is_folder(files: &[FileItem], path: &[u8]) -> bool
     ensures { result ≡ is_folder_of_tree (map file_of files.now) path.now }
 {
-    is_root(path) || files.iter().any(|file| lies_above(path, file.path.as_slice()))
+    is_root(path) || has_file_below(files, path)
+}
+
+/// Says whether a file lies below a path.
+fn has_file_below(files: &[FileItem], path: &[u8]) -> bool
+    ensures { result ≡ list_any (λ f. is_above path.now f.path) files.now }
+{
+    files
+        .iter()
+        .any(|file| lies_above(path, file.path.as_slice()))
 }
