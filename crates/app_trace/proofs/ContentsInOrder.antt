@@ -12,7 +12,7 @@ use Rattle.portal_base.specs.declared.files.File.{File}
 use Rattle.portal_model.specs.declared.opening.FileItem.{FileItem}
 use Rattle.portal_model.specs.Content.{content_at, content_of, has_room, is_above, is_folder}
 use Rattle.portal_model.specs.Opening.{file_of}
-use Rattle.portal_model.specs.Ordered.{bytes_less, is_rising, put_all}
+use Rattle.portal_model.specs.Ordered.{bytes_less, is_rising}
 use Rattle.portal_model.proofs.ListLookups.{find-map}
 use Rattle.portal_model.proofs.RisingLists.{put_all-rising}
 use Rattle.portal_model.proofs.TripleOrder.{bytes-through, bytes-total, is_same-eq, is_same-refl}

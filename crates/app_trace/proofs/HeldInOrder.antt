@@ -1,6 +1,6 @@
 -- The documents in which an application has a right, sorted by number, are those of its view.
-use Rattle.std.proofs.Common.{◌≡◌, ◌==◌, ◌≤◌, ◌<◌, ℕ, zero, suc, length, get_or, List, [], ◌∷◌, ◌++◌, map, find, filter, All, Bool, true, false, cond, nat_eq, nat_lt, Option, Some, None, option_map, refl, sym, ap, subst, ◌∙◌, arith}
-use Rattle.std.specs.List.{flat_map, list_all, list_any, IsDistinct, AllByRecursion}
+use Rattle.std.proofs.Common.{◌≡◌, ◌==◌, ◌≤◌, ◌<◌, ℕ, suc, length, get_or, List, [], ◌∷◌, ◌++◌, map, find, filter, All, Bool, true, false, cond, nat_eq, nat_lt, Option, Some, None, option_map, refl, sym, ap, subst, ◌∙◌, arith}
+use Rattle.std.specs.List.{list_all, list_any, IsDistinct, AllByRecursion}
 use Rattle.std.specs.List.Sorted.{IsPermutation, IsSortedBy}
 use Rattle.std.specs.Ordering.{nat_cmp, is_lt}
 use Rattle.std.proofs.lemmas.Bool.Decides.{nat_tests}
@@ -21,7 +21,7 @@ use Rattle.app_world.proofs.DocumentLaws.{documents-are, documents-found}
 use Rattle.app_world.proofs.Found.{find-put_all}
 use Rattle.app_world.proofs.Orders.{numbers}
 use Rattle.app_trace.specs.declared.view.HeldDocument.{HeldDocument}
-use Rattle.app_trace.specs.Held.{held_among, held_here, held_if, number_less}
+use Rattle.app_trace.specs.Held.{held_among, number_less}
 use Rattle.app_trace.specs.Told.{held_told}
 
 -- ---- what is found does not depend on the order, where at most one item passes

@@ -3,7 +3,7 @@ use Rattle.std.proofs.Common.{◌≡◌, ℕ, ◌<◌, refl, ap, arith}
 use Rattle.app_world.specs.World.{Trace}
 use Rattle.app_trace.specs.declared.matching.TraceMatch.{TraceMatch}
 use Rattle.app_trace.specs.declared.matching.TraceMatch.TheVariants.{Same, Opening, At}
-use Rattle.app_trace.specs.Matches.{DifferFirst, Matches}
+use Rattle.app_trace.specs.Matches.{Matches}
 use Rattle.app_trace.proofs.FirstDifferences.{differ-once, same-nowhere}
 
 one_place : (j k : ℕ) → (j < k → ⊥) → (k < j → ⊥) → j ≡ k

@@ -5,7 +5,6 @@ use Rattle.portal_model.specs.declared.state.Document.{Document}
 use Rattle.rights_rule.specs.Rights.{RightSet}
 use Rattle.app_world.specs.Own as own
 use Rattle.app_world.specs.TraceItem as item
-use Rattle.app_trace.specs.declared.trace.Trace.{Trace}
 use Rattle.app_trace.specs.declared.trace.TraceItem.{TraceItem}
 use Rattle.app_trace.specs.declared.trace.TraceItem.TheVariants.{Own, Gained, Lost, Gone, Bytes}
 use Rattle.app_trace.specs.declared.view.AppView.{AppView}

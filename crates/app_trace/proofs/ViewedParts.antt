@@ -1,5 +1,5 @@
 -- The parts of what an application holds of an opening state.
-use Rattle.std.proofs.Common.{◌≡◌, ℕ, List, [], ◌∷◌, ◌++◌, map, refl, sym, ap, ◌∙◌}
+use Rattle.std.proofs.Common.{◌≡◌, ℕ, List, [], ◌∷◌, map, refl, ap, ◌∙◌}
 use Rattle.portal_base.specs.declared.files.File.{File}
 use Rattle.portal_model.specs.declared.opening.OpeningDocument.{OpeningDocument}
 use Rattle.portal_model.specs.declared.opening.OpeningState.{OpeningState}
@@ -8,7 +8,6 @@ use Rattle.portal_model.specs.Opening.{document_kept, file_of, opened, rights_ke
 use Rattle.portal_model.specs.State.{held_of}
 use Rattle.app_world.specs.View as world
 use Rattle.app_world.specs.View.{contents_at, held_documents, named_paths, view}
-use Rattle.app_trace.specs.declared.view.AppView.{AppView}
 use Rattle.app_trace.specs.declared.view.HeldDocument.{HeldDocument}
 use Rattle.app_trace.specs.declared.view.OwnConnection.{OwnConnection}
 use Rattle.app_trace.specs.declared.view.PathContent.{PathContent}

@@ -1,6 +1,6 @@
 //! What the tree of files has at paths.
 
-ghost use Rattle.std.specs.Prelude.{◌≡◌, ◌++◌, ◌∷◌, [], None, cond, map, option_copied, IfOk, OnOk};
+ghost use Rattle.std.specs.Prelude.{◌≡◌, ◌+◌, ◌<◌, ◌++◌, ◌∷◌, [], None, cond, length, map, option_copied, slice_get, IfOk, OnOk};
 ghost use Rattle.std.specs.Cmp.Lexicographic.{slice_cmp};
 ghost use Rattle.std.specs.List.{find, list_any};
 ghost use Rattle.std.specs.List.Sorted.{IsPermutation, IsSortedBy};
@@ -76,7 +76,7 @@ fn contents_at(
     let mut contents = List::new(alloc);
     for index in 0..paths.len() {
         let path = &paths[index];
-        let again = comes_again(path, paths.get(index + 1));
+        let again = comes_again(path, next_of(paths, index));
         push_content(alloc, &mut contents, files, path, again)?;
     }
     Ok(contents)
@@ -97,6 +97,14 @@ fn push_content(
         return Ok(());
     }
     contents.push(path_content(alloc, files, path)?)
+}
+
+/// The path behind the one of a place.
+fn next_of(paths: &[HostPath], index: usize) -> Option<&HostPath>
+    requires { index < length paths.now }
+    ensures { option_copied result ≡ slice_get paths.now (index + 1) }
+{
+    paths.get(index + 1)
 }
 
 /// Says whether the path that comes next is the same.

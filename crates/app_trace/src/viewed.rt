@@ -19,11 +19,7 @@ use std::alloc::Global;
 /// What an application holds of the state that a portal opens with, in which
 /// no connection is open: the limits that it meets, the documents in which it
 /// has a right, and what is at their paths.
-pub fn view_of(
-    alloc: Global,
-    opening: &OpeningState,
-    app: &AppId,
-) -> Result<AppView, WantOfMemory>
+pub fn view_of(alloc: Global, opening: &OpeningState, app: &AppId) -> Result<AppView, WantOfMemory>
     requires { Valid (opened opening.now) }
     ensures { IfOk result (λ held. view_told held ≡ view (opened opening.now) app.now) }
 {

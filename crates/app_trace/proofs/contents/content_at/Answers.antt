@@ -1,5 +1,4 @@
-use Rattle.std.proofs.Common.{ℕ, List, None, Option, Some, ap, find, ◌∙◌}
-use Rattle.portal_model.specs.declared.opening.FileItem.{FileItem}
+use Rattle.std.proofs.Common.{ℕ, List, None, Some, ap, find, ◌∙◌}
 use Rattle.app_trace.proofs.ContentsInOrder.{has_path, with-file}
 use Rattle.app_trace.proofs.contents.content_at.Goals as goal
 

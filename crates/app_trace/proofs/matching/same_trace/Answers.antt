@@ -1,6 +1,5 @@
-use Rattle.std.proofs.Common.{◌≡◌, ap, map}
+use Rattle.std.proofs.Common.{◌≡◌, ap}
 use Rattle.app_trace.specs.declared.matching.TraceMatch.TheVariants.{Opening, At}
-use Rattle.app_trace.specs.declared.view.AppView.{AppView}
 use Rattle.app_trace.specs.Told.{item_told, trace_told, view_told}
 use Rattle.app_trace.proofs.FirstDifferences.{differ-told}
 use Rattle.app_trace.proofs.Matched.{matched-once}

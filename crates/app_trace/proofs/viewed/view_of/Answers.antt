@@ -24,11 +24,11 @@ returns c =
     let o = c.args.opening.now in
     let app = c.args.app.now in
     let documents =
-        c.in_ok-documents.ensures
-        ∙ (ap (λ (rights : List Triple). held_documents (held_of rights app) (map document_kept c.as_slice-items.result.now)) c.in_ok-rights.ensures
-        ∙ ap (λ (items : List OpeningDocument). held_documents (held_of (rights_kept items) app) (map document_kept items)) c.as_slice-items.ensures) in
+    c.in_ok-documents.ensures
+    ∙ (ap (λ (rights : List Triple). held_documents (held_of rights app) (map document_kept c.as_slice-items.result.now)) c.in_ok-rights.ensures
+    ∙ ap (λ (items : List OpeningDocument). held_documents (held_of (rights_kept items) app) (map document_kept items)) c.as_slice-items.ensures) in
     let contents =
-        c.in_ok-contents.ensures
-        ∙ (ap (λ (files : List FileItem). contents_at (map file_of files) (map path_held c.as_slice-2.result.now)) c.as_slice.ensures
-        ∙ ap (λ (held : List HeldDocument). contents_at (map file_of o.files) (map path_held held)) c.as_slice-2.ensures) in
+    c.in_ok-contents.ensures
+    ∙ (ap (λ (files : List FileItem). contents_at (map file_of files) (map path_held c.as_slice-2.result.now)) c.as_slice.ensures
+    ∙ ap (λ (held : List HeldDocument). contents_at (map file_of o.files) (map path_held held)) c.as_slice-2.ensures) in
     viewed o app c.in_ok-documents.documents c.new.result c.in_ok-contents.contents documents c.new.ensures contents
