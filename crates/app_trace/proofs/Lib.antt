@@ -1,0 +1,10 @@
+pub mod FirstDifferences
+pub mod Told
+pub mod Matched
+pub mod Loops
+pub mod NameLemmas
+pub mod ValidNames
+pub mod OpeningRights
+pub mod HeldInOrder
+pub mod ContentsInOrder
+pub mod ViewedParts

@@ -1,0 +1,28 @@
+-- Paths of which none is repeated, where equal ones stand together.
+use Rattle.std.specs.Prelude.{ℕ, List, [], ◌∷◌, Bool, false, cond, Option, Some, None}
+use Rattle.std.specs.Cmp.Lexicographic.{slice_cmp}
+use Rattle.std.specs.Ordering.{is_lt, nat_cmp}
+use Rattle.portal_base.specs.Names.{is_same}
+use Rattle.app_trace.specs.declared.view.HeldDocument.{HeldDocument}
+
+abbrev pub first_of : List (List ℕ) → Option (List ℕ)
+first_of [] = None
+first_of (path ∷ paths) = Some path
+
+-- the path that comes next is the same
+abbrev pub comes_again : List ℕ → Option (List ℕ) → Bool
+comes_again path None = false
+comes_again path (Some next) = is_same next path
+
+-- of equal ones the last stays
+abbrev pub once_each : List (List ℕ) → List (List ℕ)
+once_each [] = []
+once_each (path ∷ paths) =
+    cond (comes_again path (first_of paths)) (once_each paths) (path ∷ once_each paths)
+
+-- the order of paths by their bytes, as texts are compared
+abbrev pub path_less : List ℕ → List ℕ → Bool
+path_less a b = is_lt (slice_cmp nat_cmp a b)
+
+abbrev pub path_held : HeldDocument → List ℕ
+path_held d = d.document.path

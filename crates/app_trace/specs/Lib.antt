@@ -1,0 +1,4 @@
+pub mod Told
+pub mod Matches
+pub mod Held
+pub mod Contents

@@ -1,0 +1,198 @@
+//! What the tree of files has at paths.
+
+ghost use Rattle.std.specs.Prelude.{◌≡◌, ◌+◌, ◌<◌, ◌++◌, ◌∷◌, [], None, cond, length, map, option_copied, slice_get, IfOk, OnOk};
+ghost use Rattle.std.specs.Cmp.Lexicographic.{slice_cmp};
+ghost use Rattle.std.specs.List.{find, list_any};
+ghost use Rattle.std.specs.List.Sorted.{IsPermutation, IsSortedBy};
+ghost use Rattle.std.specs.Ordering.{nat_cmp};
+ghost use Rattle.app_world.specs.View.{contents_at as contents_of_view, path_content as content_of_path};
+ghost use Rattle.portal_base.specs.Names.{is_same, parent_of};
+ghost use Rattle.portal_model.specs.Content.{OfFile, content_at as content_of_tree, content_of, is_above, is_folder as is_folder_of_tree};
+ghost use Rattle.portal_model.specs.Opening.{file_of};
+ghost use Rattle.app_trace.specs.Contents.{comes_again, once_each, path_held, path_less};
+ghost use Rattle.app_trace.specs.Told.{content_told, path_told};
+
+use crate::view::{Content, HeldDocument, PathContent};
+use portal_base::list::List;
+use portal_base::memory::{Replica, WantOfMemory};
+use portal_base::names::HostPath;
+use portal_base::names::host_path::{is_root, lies_above};
+use portal_model::opening::FileItem;
+use std::alloc::Global;
+use std::cmp::Ordering;
+
+/// What is at the path of each document, in byte order of the paths, of which
+/// none is repeated. For each path the files are looked through.
+pub(crate) fn contents_of(
+    alloc: Global,
+    files: &[FileItem],
+    held: &[HeldDocument],
+) -> Result<List<PathContent>, WantOfMemory>
+    ensures { IfOk result (λ contents. map path_told contents
+        ≡ contents_of_view (map file_of files.now) (map path_held held.now)) }
+{
+    let paths = paths_held(alloc, held)?;
+    let paths = by_bytes(paths);
+    contents_at(alloc, files, paths.as_slice())
+}
+
+/// The paths of documents.
+fn paths_held(alloc: Global, held: &[HeldDocument]) -> Result<List<HostPath>, WantOfMemory>
+    ensures { IfOk result (λ paths. paths ≡ map path_held held.now) }
+{
+    let mut paths = List::new(alloc);
+    for item in held {
+        paths.push(item.document.path.replica(alloc)?)?;
+    }
+    Ok(paths)
+}
+
+/// Paths in byte order.
+fn by_bytes(paths: List<HostPath>) -> List<HostPath>
+    ensures same { IsPermutation paths result }
+    ensures order { IsSortedBy path_less result }
+{
+    let mut paths = paths.into_vec();
+    paths.sort_unstable_by(|first, second| byte_order(first, second));
+    List::from_vec(paths)
+}
+
+/// Which of two paths has its place first.
+fn byte_order(first: &HostPath, second: &HostPath) -> Ordering
+    ensures { result ≡ slice_cmp nat_cmp first.now second.now }
+{
+    first.as_bytes().cmp(second.as_bytes())
+}
+
+/// What is at each of the paths, of which equal ones stand together.
+fn contents_at(
+    alloc: Global,
+    files: &[FileItem],
+    paths: &[HostPath],
+) -> Result<List<PathContent>, WantOfMemory>
+    ensures { IfOk result (λ contents. map path_told contents
+        ≡ map (content_of_path (map file_of files.now)) (once_each paths.now)) }
+{
+    let mut contents = List::new(alloc);
+    for index in 0..paths.len() {
+        let path = &paths[index];
+        let again = comes_again(path, next_of(paths, index));
+        push_content(alloc, &mut contents, files, path, again)?;
+    }
+    Ok(contents)
+}
+
+/// Adds what is at a path, unless the path comes again.
+fn push_content(
+    alloc: Global,
+    contents: &mut List<PathContent>,
+    files: &[FileItem],
+    path: &HostPath,
+    again: bool,
+) -> Result<(), WantOfMemory>
+    ensures { OnOk result (map path_told contents.new ≡ map path_told contents.old
+        ++ cond again [] (content_of_path (map file_of files.now) path.now ∷ [])) }
+{
+    if again {
+        return Ok(());
+    }
+    contents.push(path_content(alloc, files, path)?)
+}
+
+/// The path behind the one of a place.
+fn next_of(paths: &[HostPath], index: usize) -> Option<&HostPath>
+    requires { index < length paths.now }
+    ensures { option_copied result ≡ slice_get paths.now (index + 1) }
+{
+    paths.get(index + 1)
+}
+
+/// Says whether the path that comes next is the same.
+fn comes_again(path: &HostPath, next: Option<&HostPath>) -> bool
+    ensures { result ≡ comes_again path.now (option_copied next.entry) }
+{
+    match next {
+        Some(next) => *next == *path,
+        None => false,
+    }
+}
+
+/// A path, and what is there.
+fn path_content(
+    alloc: Global,
+    files: &[FileItem],
+    path: &HostPath,
+) -> Result<PathContent, WantOfMemory>
+    ensures { IfOk result
+        (λ content. path_told content ≡ content_of_path (map file_of files.now) path.now) }
+{
+    Ok(PathContent {
+        content: content_at(alloc, files, path)?,
+        path: path.replica(alloc)?,
+    })
+}
+
+/// What is at a path.
+fn content_at(alloc: Global, files: &[FileItem], path: &HostPath) -> Result<Content, WantOfMemory>
+    ensures { IfOk result
+        (λ content. content_told content ≡ content_of_tree (map file_of files.now) path.now) }
+{
+    match file_at(files, path.as_bytes()) {
+        Some(file) => file_content(alloc, file),
+        None => content_without_file(alloc, files, path),
+    }
+}
+
+/// What a file is, which is the first that its path has.
+fn file_content(alloc: Global, file: &FileItem) -> Result<Content, WantOfMemory>
+    ensures { IfOk result
+        (λ content. content_told content ≡ OfFile 0 file.now.content file.now.moment) }
+{
+    Ok(Content::File {
+        generation: 0,
+        bytes: file.content.replica(alloc)?,
+        moment: file.moment,
+    })
+}
+
+/// The file of a path.
+fn file_at<'a>(files: &'a [FileItem], path: &[u8]) -> Option<&'a FileItem>
+    ensures { option_copied result ≡ find (λ f. is_same f.path path.now) files.now }
+{
+    files.iter().find(|file| file.path.as_slice() == path)
+}
+
+/// What is at a path that has no file.
+fn content_without_file(
+    alloc: Global,
+    files: &[FileItem],
+    path: &HostPath,
+) -> Result<Content, WantOfMemory>
+    ensures { IfOk result (λ content. content_told content
+        ≡ content_of None (is_folder_of_tree (map file_of files.now) path.now)
+        (is_folder_of_tree (map file_of files.now) (parent_of path.now))) }
+{
+    if is_folder(files, path.as_bytes()) {
+        return Ok(Content::Folder);
+    }
+    let parent = path.parent(alloc)?;
+    Ok(Content::Missing {
+        room: is_folder(files, parent.as_bytes()),
+    })
+}
+
+/// Says whether a path is a folder: the root, and each path above a file.
+fn is_folder(files: &[FileItem], path: &[u8]) -> bool
+    ensures { result ≡ is_folder_of_tree (map file_of files.now) path.now }
+{
+    is_root(path) || has_file_below(files, path)
+}
+
+/// Says whether a file lies below a path.
+fn has_file_below(files: &[FileItem], path: &[u8]) -> bool
+    ensures { result ≡ list_any (λ f. is_above path.now f.path) files.now }
+{
+    files
+        .iter()
+        .any(|file| lies_above(path, file.path.as_slice()))
+}

@@ -1,0 +1,212 @@
+//! Whether two views, or two items of traces, are the same.
+
+ghost use Rattle.std.specs.Prelude.{◌≡◌, IsTrue, ◌↔◌};
+
+use crate::same::Same;
+use crate::trace::TraceItem;
+use crate::view::{AppView, Content, HeldDocument, OwnConnection, OwnHandle, PathContent};
+use portal_base::files::FileName;
+use portal_model::entry::Fault;
+use portal_model::handle::Handle;
+use portal_model::reply::DirName;
+use portal_model::state::Document;
+use rights_rule::Rights;
+
+impl Same for Rights {
+    fn is_same(&self, other: &Rights) -> bool {
+        *self == *other
+    }
+}
+
+impl Same for Fault {
+    fn is_same(&self, other: &Fault) -> bool {
+        match self {
+            Fault::None => matches!(other, Fault::None),
+            Fault::Tree => matches!(other, Fault::Tree),
+            Fault::Keeper => matches!(other, Fault::Keeper),
+        }
+    }
+}
+
+impl Same for Document {
+    fn is_same(&self, other: &Document) -> bool {
+        self.id.is_same(&other.id)
+            && self.path.is_same(&other.path)
+            && self.persistent == other.persistent
+            && self.reusable == other.reusable
+    }
+}
+
+impl Same for FileName {
+    fn is_same(&self, other: &FileName) -> bool {
+        self.path.is_same(&other.path) && self.generation == other.generation
+    }
+}
+
+impl Same for DirName {
+    fn is_same(&self, other: &DirName) -> bool {
+        self.node == other.node && self.name.is_same(&other.name) && self.folder == other.folder
+    }
+}
+
+impl Same for Handle {
+    fn is_same(&self, other: &Handle) -> bool {
+        match self {
+            Handle::File {
+                name,
+                node,
+                read,
+                write,
+            } => match other {
+                Handle::File {
+                    name: n,
+                    node: o,
+                    read: r,
+                    write: w,
+                } => name.is_same(n) && *node == *o && *read == *r && *write == *w,
+                Handle::Folder { .. } => false,
+            },
+            Handle::Folder { node, names } => match other {
+                Handle::Folder { node: o, names: n } => *node == *o && names.is_same(n),
+                Handle::File { .. } => false,
+            },
+        }
+    }
+}
+
+impl Same for Content {
+    fn is_same(&self, other: &Content) -> bool {
+        match self {
+            Content::File {
+                generation,
+                bytes,
+                moment,
+            } => match other {
+                Content::File {
+                    generation: g,
+                    bytes: b,
+                    moment: m,
+                } => *generation == *g && bytes.is_same(b) && *moment == *m,
+                _ => false,
+            },
+            Content::Folder => matches!(other, Content::Folder),
+            Content::Missing { room } => match other {
+                Content::Missing { room: r } => *room == *r,
+                _ => false,
+            },
+        }
+    }
+}
+
+impl Same for HeldDocument {
+    fn is_same(&self, other: &HeldDocument) -> bool {
+        self.document.is_same(&other.document) && self.rights.is_same(&other.rights)
+    }
+}
+
+impl Same for OwnHandle {
+    fn is_same(&self, other: &OwnHandle) -> bool {
+        self.fh == other.fh && self.handle.is_same(&other.handle)
+    }
+}
+
+impl Same for OwnConnection {
+    fn is_same(&self, other: &OwnConnection) -> bool {
+        self.seat == other.seat
+            && self.app.is_same(&other.app)
+            && self.kind.is_same(&other.kind)
+            && self.queue.is_same(&other.queue)
+            && self.opens == other.opens
+            && self.handles.is_same(&other.handles)
+    }
+}
+
+impl Same for PathContent {
+    fn is_same(&self, other: &PathContent) -> bool {
+        self.path.is_same(&other.path) && self.content.is_same(&other.content)
+    }
+}
+
+impl Same for AppView {
+    fn is_same(&self, other: &AppView) -> bool {
+        self.handles == other.handles
+            && self.queued == other.queued
+            && self.file_bytes == other.file_bytes
+            && self.documents.is_same(&other.documents)
+            && self.connections.is_same(&other.connections)
+            && self.contents.is_same(&other.contents)
+    }
+}
+
+impl Same for TraceItem {
+    fn is_same(&self, other: &TraceItem) -> bool {
+        match self {
+            TraceItem::Own {
+                seat,
+                request,
+                now,
+                numbers,
+                shown,
+                reused,
+                looks,
+                full,
+                fault,
+            } => match other {
+                TraceItem::Own {
+                    seat: other_seat,
+                    request: other_request,
+                    now: other_now,
+                    numbers: other_numbers,
+                    shown: other_shown,
+                    reused: other_reused,
+                    looks: other_looks,
+                    full: other_full,
+                    fault: other_fault,
+                } => {
+                    *seat == *other_seat
+                        && request.is_same(other_request)
+                        && now.is_same(other_now)
+                        && numbers.is_same(other_numbers)
+                        && shown.is_same(other_shown)
+                        && reused.is_same(other_reused)
+                        && *looks == *other_looks
+                        && *full == *other_full
+                        && fault.is_same(other_fault)
+                }
+                _ => false,
+            },
+            TraceItem::Gained {
+                document,
+                rights,
+                content,
+            } => match other {
+                TraceItem::Gained {
+                    document: d,
+                    rights: r,
+                    content: c,
+                } => document.is_same(d) && rights.is_same(r) && content.is_same(c),
+                _ => false,
+            },
+            TraceItem::Lost { id, rights } => match other {
+                TraceItem::Lost { id: i, rights: r } => id.is_same(i) && rights.is_same(r),
+                _ => false,
+            },
+            TraceItem::Gone { id } => match other {
+                TraceItem::Gone { id: i } => id.is_same(i),
+                _ => false,
+            },
+            TraceItem::Bytes {
+                path,
+                generation,
+                content,
+            } => match other {
+                TraceItem::Bytes {
+                    path: p,
+                    generation: g,
+                    content: c,
+                } => path.is_same(p) && *generation == *g && content.is_same(c),
+                _ => false,
+            },
+        }
+    }
+}

@@ -1,0 +1,93 @@
+//! What an application holds of a state of the portal.
+
+use portal_base::list::{ByteList, List};
+use portal_base::names::app_id::AppId;
+use portal_base::names::host_path::HostPath;
+use portal_base::who::Kind;
+use portal_model::handle::Handle;
+use portal_model::state::Document;
+use rights_rule::Rights;
+
+/// What the tree of files has at a path.
+#[derive(Debug, Drop)]
+pub enum Content {
+    /// A file.
+    File {
+        /// Which of the files that the path has had.
+        generation: u64,
+        /// Its bytes.
+        bytes: ByteList,
+        /// When it changed last, in seconds.
+        moment: u64,
+    },
+    /// A folder.
+    Folder,
+    /// Nothing.
+    Missing {
+        /// Whether a file may be made there, which is where the parent is a
+        /// folder.
+        room: bool,
+    },
+}
+
+/// A document in which the application has a right.
+#[derive(Debug, Drop)]
+pub struct HeldDocument {
+    /// The document.
+    pub document: Document,
+    /// The rights that the application has in it.
+    pub rights: Rights,
+}
+
+/// An open handle of an own connection.
+#[derive(Debug, Drop)]
+pub struct OwnHandle {
+    /// Its number, which no other handle of the connection ever has.
+    pub fh: u64,
+    /// What it stands for.
+    pub handle: Handle,
+}
+
+/// A connection that is bound to the application.
+#[derive(Debug, Drop)]
+pub struct OwnConnection {
+    /// Its seat.
+    pub seat: u32,
+    /// The application.
+    pub app: AppId,
+    /// What it speaks.
+    pub kind: Kind,
+    /// The presented files that wait.
+    pub queue: List<HostPath>,
+    /// How many handles were opened on it.
+    pub opens: u64,
+    /// What it has open, in order of opening.
+    pub handles: List<OwnHandle>,
+}
+
+/// What the tree has at a path that a document or an open file names.
+#[derive(Debug, Drop)]
+pub struct PathContent {
+    /// The path.
+    pub path: HostPath,
+    /// What is there.
+    pub content: Content,
+}
+
+/// What an application holds.
+#[derive(Debug, Drop)]
+pub struct AppView {
+    /// The limit of the handles that a connection has open.
+    pub handles: u64,
+    /// The limit of the presented files that wait on a connection.
+    pub queued: u64,
+    /// The limit of a file's length, in bytes.
+    pub file_bytes: u64,
+    /// The documents in which it has a right, in rising order of their
+    /// numbers.
+    pub documents: List<HeldDocument>,
+    /// Its connections, in the order in which they were opened.
+    pub connections: List<OwnConnection>,
+    /// What is at each path that these name, in byte order of the paths.
+    pub contents: List<PathContent>,
+}
