@@ -1,6 +1,7 @@
 //! Requests of the portal, one after another.
 
-ghost use Rattle.std.specs.Prelude.{◌<◌, ◌^◌, IfOk};
+ghost use Rattle.std.specs.Prelude.{◌≡◌, ◌<◌, ◌^◌, [], IfOk};
+ghost use Rattle.portal_model.specs.declared.request.Request.TheVariants.{Collect};
 
 use crate::requests::{request_of, shown};
 use portal_base::limits::Limits;
@@ -10,6 +11,7 @@ use portal_desk::Desk;
 use portal_history::History;
 use portal_lines::{DOCUMENTS, LONGEST, ScriptPortal, limits, opened_by};
 use portal_model::entry::{Entry, Fault, Given};
+use portal_model::reply::{Refused, Reply};
 use portal_model::request::Request;
 use std::alloc::Global;
 use vector_lines::error::{LineError, VectorError, bad};
@@ -31,7 +33,9 @@ use vector_lines::notation::{self, cut, number, small_number};
 pub fn portal(alloc: Global, rest: &str) -> Result<String, VectorError> {
     let (words, rest) = cut(rest);
     let mut portal = opened_in(alloc, rest, limits_of(words)?)?;
-    answered(alloc, &mut portal, rest)
+    let answer = answered(alloc, &mut portal, rest);
+    drop(portal);
+    answer
 }
 
 /// What each request behind the script is answered, and the history then.
@@ -97,7 +101,10 @@ fn asked(alloc: Global, portal: &mut ScriptPortal, part: &str) -> Result<String,
         return bad();
     }
     let request = request_of(alloc, words)?;
-    shown(alloc, portal.ask(alloc, seat, request))
+    let reply = portal.ask(alloc, seat, request);
+    let shown = shown(alloc, &reply);
+    drop(reply);
+    shown
 }
 
 /// What each request of a desk is answered, and how many the desk refused by then.
@@ -112,12 +119,20 @@ fn asked_at_desk(
         return bad();
     }
     let mut desk = LocalDesk::new(portal, seat);
+    asked_each(alloc, &mut desk, requests)
+}
+
+fn asked_each(
+    alloc: Global,
+    desk: &mut LocalDesk<ScriptPortal>,
+    requests: &str,
+) -> Result<String, VectorError> {
     let mut out = String::new(alloc);
     for (index, words) in requests.split(", ").enumerate() {
         if index > 0 {
             out.push_str(", ")?;
         }
-        out.push_str(asked_once(alloc, &mut desk, words)?.as_str())?;
+        out.push_str(asked_once(alloc, desk, words)?.as_str())?;
     }
     Ok(out)
 }
@@ -128,8 +143,19 @@ fn asked_once(
     desk: &mut LocalDesk<ScriptPortal>,
     words: &str,
 ) -> Result<String, VectorError> {
-    let reply = desk.ask(alloc, request_of(alloc, words)?);
-    let refusals = desk.refusals();
+    let request = request_of(alloc, words)?;
+    let reply = desk.ask(alloc, request);
+    let shown = shown_by_desk(alloc, &reply, desk.refusals());
+    drop(reply);
+    shown
+}
+
+/// What a request is answered, and how many the desk refused by then.
+fn shown_by_desk(
+    alloc: Global,
+    reply: &Result<Reply, Refused>,
+    refusals: u64,
+) -> Result<String, VectorError> {
     let shown = shown(alloc, reply)?;
     Ok(format!(in alloc; "{shown} refused {refusals}")?)
 }
@@ -152,8 +178,26 @@ const ONE_COLLECT: Limits = Limits {
 /// went into room that was taken for it; their cost, and the limit.
 pub fn history(alloc: Global) -> Result<String, VectorError> {
     let mut history = History::new(alloc, &ONE_COLLECT);
+    let shown = filled(alloc, &mut history);
+    drop(history);
+    shown
+}
+
+/// What is told of a history without an entry, once it has that of a Collect.
+fn filled(alloc: Global, history: &mut History) -> Result<String, VectorError>
+    requires entries { history.old.entries ≡ [] }
+    requires limit { history.old.limit ≡ 128 }
+{
     history.reserve(1)?;
-    history.push(Entry {
+    history.push(collect(alloc));
+    measured(alloc, history)
+}
+
+/// The entry of a Collect.
+fn collect(alloc: Global) -> Entry
+    ensures { result.request ≡ Collect }
+{
+    Entry {
         seat: 7,
         request: Request::Collect,
         given: Given {
@@ -164,7 +208,11 @@ pub fn history(alloc: Global) -> Result<String, VectorError> {
             full: false,
             fault: Fault::None,
         },
-    });
+    }
+}
+
+/// How many entries a history has, their cost, and its limit.
+fn measured(alloc: Global, history: &History) -> Result<String, VectorError> {
     let entries = history.len();
     let cost = history.cost();
     let limit = history.limit();

@@ -68,22 +68,28 @@ fn add(alloc: Global, words: &str, full: bool) -> Result<AddRequest, VectorError
 fn rights_call(alloc: Global, rest: &str) -> Result<RightsCall, VectorError> {
     let (doc, rest) = cut(rest);
     let (app, names) = cut(rest);
-    let mut listed = List::new(alloc);
-    for name in names.split(',') {
-        listed.push(Text::copied(alloc, name)?)?;
-    }
+    let names = names_of(alloc, names)?;
     Ok(RightsCall {
         doc: text(alloc, doc)?,
         app: text(alloc, app)?,
-        names: listed,
+        names,
     })
 }
 
+/// Texts between commas.
+fn names_of(alloc: Global, words: &str) -> Result<List<Text>, VectorError> {
+    let mut names = List::new(alloc);
+    for name in words.split(',') {
+        names.push(Text::copied(alloc, name)?)?;
+    }
+    Ok(names)
+}
+
 /// What a request is answered.
-pub fn shown(alloc: Global, reply: Result<Reply, Refused>) -> Result<String, VectorError> {
+pub fn shown(alloc: Global, reply: &Result<Reply, Refused>) -> Result<String, VectorError> {
     match reply {
         Ok(reply) => answer(alloc, &reply.answer),
-        Err(refused) => Ok(debug(alloc, &refused)?),
+        Err(refused) => Ok(debug(alloc, refused)?),
     }
 }
 

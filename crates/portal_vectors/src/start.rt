@@ -23,25 +23,33 @@ type Refusal = StartRefusal<MemoryTree, MemoryKeeper, SetClock, ListWords>;
 /// Where it doesn't start, why, and what the devices give that come back: the clock,
 /// the words, of which the first is 7, and the keeper.
 pub fn start(alloc: Global, rest: &str) -> Result<String, VectorError> {
-    let mut parts = rest.split('|');
-    let (version, fails) = cut(parts.next().unwrap_or("").trim());
+    let (version, fails) = cut(rest.split('|').next().unwrap_or("").trim());
     let fails = numbers(alloc, fails)?;
+    let words = words(alloc)?;
+    let records = records(alloc, small_number(version)?, rest)?;
+    started(alloc, MemoryKeeper::new(alloc, records, fails)?, words)
+}
+
+/// The records of this version, of the documents behind the first `|`.
+fn records(alloc: Global, version: u32, rest: &str) -> Result<Records, VectorError> {
     let mut documents = List::new(alloc);
-    let version = small_number(version)?;
-    for part in parts {
+    for part in rest.split('|').skip(1) {
         documents.push(document(alloc, part.trim())?)?;
     }
-    let records = Records {
+    Ok(Records {
         version,
         documents,
         entries: List::new(alloc),
-    };
-    started(alloc, MemoryKeeper::new(alloc, records, fails)?)
+    })
+}
+
+/// The words of a portal.
+fn words(alloc: Global) -> Result<ListWords, VectorError> {
+    Ok(ListWords::new(List::copied(alloc, [7].as_slice())?))
 }
 
 /// What a portal starts with over a keeper.
-fn started(alloc: Global, keeper: MemoryKeeper) -> Result<String, VectorError> {
-    let words = ListWords::new(List::copied(alloc, [7].as_slice())?);
+fn started(alloc: Global, keeper: MemoryKeeper, words: ListWords) -> Result<String, VectorError> {
     let tree = MemoryTree::new(alloc, List::new(alloc));
     let clock = SetClock::new(5);
     match Portal::start(alloc, tree, keeper, clock, words, limits(DOCUMENTS, PLENTY)) {
@@ -53,7 +61,9 @@ fn started(alloc: Global, keeper: MemoryKeeper) -> Result<String, VectorError> {
 /// What a portal opened with, and what its clock shows before and after it is set.
 fn opened(alloc: Global, portal: ScriptPortal) -> Result<String, VectorError> {
     let mut portal = portal;
-    shown_opening(alloc, &mut portal)
+    let shown = shown_opening(alloc, &mut portal);
+    drop(portal);
+    shown
 }
 
 fn shown_opening(alloc: Global, portal: &mut ScriptPortal) -> Result<String, VectorError> {
@@ -95,29 +105,35 @@ fn opening(alloc: Global, opening: &OpeningState) -> Result<String, VectorError>
 
 /// Why no portal starts, and what the devices give then.
 fn handed_back(alloc: Global, refusal: Refusal) -> Result<String, VectorError> {
-    let StartRefusal {
-        error,
-        keeper,
-        clock,
-        words,
-        ..
-    } = refusal;
-    let (mut keeper, mut clock, mut words) = (keeper, clock, words);
-    let error = debug(alloc, &error)?;
-    let moment = clock.now();
-    let word = words.next();
-    let load = loaded(alloc, &mut keeper)?;
+    let mut refusal = refusal;
+    let shown = shown_refusal(alloc, &mut refusal);
+    drop(refusal);
+    shown
+}
+
+fn shown_refusal(alloc: Global, refusal: &mut Refusal) -> Result<String, VectorError> {
+    let error = debug(alloc, &refusal.error)?;
+    let moment = refusal.clock.now();
+    let word = refusal.words.next();
+    let load = loaded(alloc, &mut refusal.keeper)?;
     Ok(format!(in alloc; "{error}; clock {moment}, word {word}, keeper {load}")?)
 }
 
 /// How many documents a keeper loads.
 fn loaded(alloc: Global, keeper: &mut MemoryKeeper) -> Result<String, VectorError> {
-    match keeper.load() {
+    let load = keeper.load();
+    let shown = shown_load(alloc, &load);
+    drop(load);
+    shown
+}
+
+fn shown_load(alloc: Global, load: &KeeperLoad) -> Result<String, VectorError> {
+    match load {
         KeeperLoad::Got(records) => {
             let documents = records.documents.len();
             Ok(format!(in alloc; "{documents}")?)
         }
-        answer => Ok(debug(alloc, &answer)?),
+        load => Ok(debug(alloc, load)?),
     }
 }
 
