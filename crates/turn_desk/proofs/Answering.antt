@@ -1,8 +1,10 @@
 -- What a seat knows after each answer.
-use Rattle.std.proofs.Common.{◌≡◌, ◌≢◌, ℕ, ◌+◌, ◌<◌, ◌≤◌, List, [], ◌∷◌, ◌++◌, true, false, is_some, refl, sym, ap, ◌∙◌, subst, arith}
+use Rattle.std.proofs.Common.{◌≡◌, ◌≢◌, ℕ, ◌+◌, ◌<◌, ◌≤◌, List, [], ◌∷◌, ◌++◌, true, false, Option, None, Err, is_some, refl, sym, ap, ◌∙◌, subst, arith}
 use Rattle.std.proofs.lemmas.List.{append_assoc}
+use Rattle.std.specs.Prelude.{IsOk}
 use Rattle.atomic_table.specs.Seated.{TableId}
-use Rattle.portal_core.specs.Growth.{RefusedFor}
+use Rattle.atomic_table.specs.Table.{Me}
+use Rattle.portal_core.specs.Growth.{GrowsBy, RefusedFor}
 use Rattle.portal_model.specs.declared.entry.Entry.{Entry}
 use Rattle.portal_model.specs.declared.reply.Refused.{Refused}
 use Rattle.portal_model.specs.declared.reply.Refused.TheVariants.{Memory, Full}
@@ -15,10 +17,11 @@ use Rattle.portal_model.specs.State.{State}
 use Rattle.portal_model.specs.Step.{reply_at}
 use Rattle.portal_model.proofs.SeatLaws.{begins-itself, exchanges-own, run-open}
 use Rattle.turn_desk.specs.declared.asked.Asked.TheVariants as Asked
-use Rattle.turn_desk.specs.declared.view.View.{View}
+use Rattle.turn_desk.specs.Knowing.{View}
 use Rattle.turn_desk.specs.Asking.{Looks, Tries}
 use Rattle.turn_desk.specs.Sights.{Sight, seated_of}
-use Rattle.turn_desk.specs.Views.{Rests, freed, fresh, holding, looked, lost, wrote}
+use Rattle.turn_desk.specs.Knowing.{fresh}
+use Rattle.turn_desk.specs.Views.{Rests, freed, holding, looked, lost, wrote}
 use Rattle.turn_desk.proofs.Fronts.{begins-longer, entries-same}
 
 abbrev pub sight : TableId → View → ℕ → Sight
@@ -135,7 +138,43 @@ is_refused t t' v w r r' log request why rests table is legal within own begins 
   within = within;
   moved = record { opening = refl; seat = refl; begins = begins };
   told = (
-    record { refusals = count; mine = refl; cause = has_cause t' v log r' request why cause; no_leave = λ leave open. no_leave leave (open_same v log rests own open) },
+    record { refusals = count; mine = refl; cause = has_cause t' v log r' request why cause; no_leave = λ leave is_here. no_leave leave (open_same v log rests own is_here) },
     refl,
   );
 })
+
+-- ---- the same of a call: from what it found when it took the turn, and what it gave back
+
+module _ {S : Type 0} (t t' : TableId) (v : View) (r : ℕ) (o o' : State) (log log' : List Entry) (m m' : Me (Option S) View) (rests : Rests v) (table : t' ≡ t) (took : m ≡ (holding v log, (0, None) ∷ [])) (opening : o ≡ v.opening) (begins : BeginsWith log v.seen) (own : exchanges v.number v.opening log ≡ v.mine) (same : o' ≡ o) (legal : Legal o' log') (within : cost log' ≤ o'.limits.history) where
+  pub record Answers (request : Request) (reply : Reply) : Type 0 where
+    pub carried : m'.1 ≡ []
+    pub number : v.number ≡ m'.0.number
+    pub rest : Rests m'.0
+    pub tries : Tries (sight t v r) request (Asked.Answered reply) (sight t' m'.0 r)
+
+  pub answers : (number : ℕ) (request : Request) (reply : Reply) (says : Entry → Type 0) → number ≡ v.number → GrowsBy says o log log' number request reply → ((z : Entry) → log' ≡ m.0.found ++ z ∷ [] → m' ≡ (freed (wrote m.0 z), [])) → Answers request reply
+  answers number request reply says num g gave =
+      let e : Entry = g.entry in
+      let after : m' ≡ (written v log e, []) =
+          gave e (g.grown ∙ sym (ap (λ (z : Me (Option S) View). z.0.found ++ e ∷ []) took)) ∙ ap (λ (z : Me (Option S) View). (freed (wrote z.0 e), [])) took in
+      let seat : e.seat ≡ v.number = g.seat_is ∙ num in
+      let legal' : Legal v.opening (log ++ e ∷ []) = subst (λ (h : List Entry). Legal v.opening h) g.grown (subst (λ (s : State). Legal s log') (same ∙ opening) legal) in
+      let within' : cost (log ++ e ∷ []) ≤ v.opening.limits.history = subst (λ (h : List Entry). cost h ≤ v.opening.limits.history) g.grown (subst (λ (s : State). cost log' ≤ s.limits.history) (same ∙ opening) within) in
+      let alike : Alike v.opening.told request (reply_at (run v.opening log) e) reply = subst (λ (s : State). Alike s.told request (reply_at (run s log) e) reply) opening g.reply_is in
+      let is : m'.0 ≡ written v log e = ap (λ (z : Me (Option S) View). z.0) after in
+      record {
+        carried = ap (λ (z : Me (Option S) View). z.1) after;
+        number = sym (ap (λ (z : View). z.number) is);
+        rest = subst Rests (sym is) (rests_written v log e rests legal' within' own seat);
+        tries = is_answered v log e request reply begins seat g.request_is alike t t' m'.0 r rests table is legal' within' own;
+      }
+
+  pub refuses : (request : Request) (why : Refused) (r' : ℕ) (number : ℕ) → number ≡ v.number → log' ≡ log → RefusedFor o log request why → (request ≡ Request.Leave → is_open (run o log) number ≡ true → IsOk {T = Reply} (Err why)) → r' ≡ rises_by r 1 → m' ≡ (freed m.0, [])
+      → Tries (sight t v r) request (Asked.Refused why) (sight t' m'.0 r')
+  refuses request why r' number num kept cause leave count gave =
+      let is : m'.0 ≡ unwritten v log = ap (λ (z : Me (Option S) View). z.0) gave ∙ ap (λ (z : Me (Option S) View). freed z.0) took in
+      let legal' : Legal v.opening log = subst (λ (h : List Entry). Legal v.opening h) kept (subst (λ (s : State). Legal s log') (same ∙ opening) legal) in
+      let within' : cost log ≤ v.opening.limits.history = subst (λ (h : List Entry). cost h ≤ v.opening.limits.history) kept (subst (λ (s : State). cost log' ≤ s.limits.history) (same ∙ opening) within) in
+      let cause' : RefusedFor v.opening log request why = subst (λ (s : State). RefusedFor s log request why) opening cause in
+      let leave' : request ≡ Request.Leave → is_open (run v.opening log) v.number ≡ true → ⊥ = λ l h. leave l (subst (λ (n : ℕ). is_open (run o log) n ≡ true) (sym num) (subst (λ (s : State). is_open (run s log) v.number ≡ true) (sym opening) h)) in
+      is_refused t t' v m'.0 r r' log request why rests table is legal' within' own begins cause' leave' count

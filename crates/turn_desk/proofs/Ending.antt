@@ -6,8 +6,8 @@ use Rattle.std.proofs.Common.{add-one, length-append, length-take, zero, suc}
 use mathlib.Core.Option.{some}
 use lib.ListN.{get_elem?}
 use Rattle.atomic_table.proofs.Lists.{at_longer, at_last}
-use Rattle.turn_desk.specs.declared.view.View.{View}
-use Rattle.turn_desk.specs.Joined.{Done}
+use Rattle.turn_desk.specs.Knowing.{View}
+use Rattle.turn_desk.specs.Knowing.{Done}
 use Rattle.turn_desk.specs.Views.{IsKept, joined, done}
 use Rattle.turn_desk.specs.Rules.{Covers, FitsDone}
 use Rattle.turn_desk.specs.Deals.{Stands}

@@ -18,9 +18,9 @@ use Rattle.portal_model.specs.Seated.{BeginsWith, Exchange, exchange, exchanges}
 use Rattle.portal_model.specs.State.{State}
 use Rattle.portal_model.proofs.SeatLaws.{begins-itself, begins-lengths, begins-between, exchanges-own, exchanges-other}
 use Rattle.turn_desk.proofs.Fronts.{begins-longer, begins-both, exchanges-between}
-use Rattle.turn_desk.specs.Joined.{Done}
-use Rattle.turn_desk.specs.declared.view.View.{View}
-use Rattle.turn_desk.specs.Views.{fresh, spent, gave, given, longer, done, joined, lost, holding, wrote, freed, looked, Sits}
+use Rattle.turn_desk.specs.Knowing.{Done, View}
+use Rattle.turn_desk.specs.Knowing.{fresh, spent}
+use Rattle.turn_desk.specs.Views.{gave, given, longer, done, joined, lost, holding, wrote, freed, looked, Sits}
 use Rattle.turn_desk.specs.Rules.{Covers, FitsDone, FitsLive, FitsHolder, FitsView, Rule, Keeps, Ends}
 use Rattle.turn_desk.specs.Plays.{Took}
 use Rattle.turn_desk.specs.Plays as plays
@@ -198,9 +198,6 @@ module _ {S : Type 0} (op : S → State) (es : S → List Entry) (key : S) where
         },
         subst (λ (n : ℕ). then n (r.0, carried_after me.1 r.1)) (sym is) r.4,
       )
-
-  fits_at : (t n : ℕ) (h : maybe.Option (Option S)) (vs : List View) (r : Rule op es key t n h vs) → ℕ → View → Type 0
-  fits_at t n h vs r j u = FitsView t r.made (op key) r.log base (op key) u
 
   wins : (id num : ℕ) (v : View) → num ≡ v.number → Sits v → (n : ℕ) (h : maybe.Option (Option S)) (vs : List View) → Rule op es key 0 n h vs → get_elem? vs id ≡ some v
       → (w : View) × (a : Act (Option S)) × Valid (h ∷ []) [] a

@@ -4,9 +4,9 @@ use Rattle.atomic_table.specs.Seated.{TableId}
 use Rattle.portal_model.specs.declared.entry.Entry.{Entry}
 use Rattle.portal_model.specs.Seated.{BeginsWith, exchanges}
 use Rattle.portal_model.specs.State.{State}
-use Rattle.turn_desk.specs.declared.view.View.{View}
+use Rattle.turn_desk.specs.Knowing.{View}
 use Rattle.turn_desk.specs.Sights.{Sight}
-use Rattle.turn_desk.specs.Views.{fresh}
+use Rattle.turn_desk.specs.Knowing.{fresh}
 
 -- the pass of this number, as it was given
 pub record IsDealt (z : TableId) (o : State) (base : List Entry) (made number : ℕ) (p : Sight)

@@ -1,4 +1,4 @@
-pub mod Joined
+pub mod Knowing
 pub mod Views
 pub mod Rules
 pub mod Plays

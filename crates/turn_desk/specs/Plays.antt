@@ -4,7 +4,7 @@ use Rattle.atomic_table.specs.Table.{Me, Step}
 use Rattle.portal_model.specs.declared.entry.Entry.{Entry}
 use Rattle.portal_model.specs.Seated.{BeginsWith, exchanges}
 use Rattle.portal_model.specs.State.{State}
-use Rattle.turn_desk.specs.declared.view.View.{View}
+use Rattle.turn_desk.specs.Knowing.{View}
 use Rattle.turn_desk.specs.Views.{lost, holding, wrote, freed, looked}
 
 module _ {S : Type 0} (opening : S → State) (entries : S → List Entry) where

@@ -11,8 +11,7 @@ use Rattle.atomic_table.specs.Table.{State as TableState}
 use Rattle.portal_model.specs.declared.entry.Entry.{Entry}
 use Rattle.portal_model.specs.Seated.{BeginsWith, exchanges}
 use Rattle.portal_model.specs.State.{State}
-use Rattle.turn_desk.specs.Joined.{Done}
-use Rattle.turn_desk.specs.declared.view.View.{View}
+use Rattle.turn_desk.specs.Knowing.{Done, View}
 
 -- the number is the view's, or that of a view joined into it
 abbrev pub Covers : View → ℕ → Type 0

@@ -2,7 +2,7 @@
 use Rattle.std.specs.Prelude.{◌≡◌, ℕ}
 use Rattle.atomic_table.specs.Seated.{TableId}
 use Rattle.portal_model.specs.Seated.{Seated}
-use Rattle.turn_desk.specs.declared.view.View.{View}
+use Rattle.turn_desk.specs.Knowing.{View}
 use Rattle.turn_desk.specs.Views.{SameSeat}
 
 -- which turn it is, what it was started with, and for how many seats

@@ -2,57 +2,10 @@
 use Rattle.std.specs.Prelude.{◌≡◌, ℕ, ◌+◌, ◌<◌, ◌≤◌, List, [], ◌∷◌, ◌++◌, length, Bool, true, false, nat_lt, if◌then◌else◌}
 use mathlib.Core.Option.{some}
 use lib.ListN.{get_elem?}
-use Rattle.portal_base.specs.declared.limits.Limits.{Limits}
 use Rattle.portal_model.specs.declared.entry.Entry.{Entry}
 use Rattle.portal_model.specs.History.{Legal, cost, run}
 use Rattle.portal_model.specs.Seated.{exchange, exchanges}
-use Rattle.portal_model.specs.State.{State}
-use Rattle.turn_desk.specs.Joined.{Done}
-use Rattle.turn_desk.specs.declared.view.View.{View}
-
--- a seat of this number that has seen the history at the start, and of it knows its own entries
-abbrev pub fresh : ℕ → State → List Entry → ℕ → View
-fresh n o base made = record {
-  number = n;
-  opening = o;
-  base = base;
-  seen = base;
-  mine = exchanges n o base;
-  holds = false;
-  found = [];
-  losses = 0;
-  holder = 0;
-  loads = 0;
-  known = 0;
-  made = made;
-  kept = [];
-}
-
--- a state of nobody's, with which a view is left that knows nothing
-abbrev pub nowhere : State
-nowhere = record {
-  limits = record {
-    documents = 0;
-    made = 0;
-    history = 0;
-    handles = 0;
-    queued = 0;
-    file_bytes = 0;
-  };
-  documents = [];
-  made = [];
-  rights = [];
-  applications = [];
-  connections = [];
-  handles = [];
-  told = false;
-  files = [];
-  entries = [];
-}
-
--- what is left of a view that was joined into another
-abbrev pub spent : View
-spent = fresh 0 nowhere [] 0
+use Rattle.turn_desk.specs.Knowing.{Done, View, fresh}
 
 -- the first seat's view once it gave one more number, and the new seat's
 abbrev pub gave : View → View

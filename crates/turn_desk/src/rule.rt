@@ -12,7 +12,7 @@ pub struct Turning;
 
 impl<S: Storied> TableRule<Option<S>, View, Snapshot<S>> for Turning {
     ghost use Rattle.turn_desk.specs.Rules.{Keeps};
-    ghost use Rattle.turn_desk.specs.Views.{fresh};
+    ghost use Rattle.turn_desk.specs.Knowing.{fresh};
 
     ghost holds = { λ key. Keeps S.opening S.entries key.value };
 
@@ -70,7 +70,8 @@ impl Split<View> for Numbers {
 pub(crate) struct Gathers;
 
 impl Join<View> for Gathers {
-    ghost use Rattle.turn_desk.specs.Views.{joined, spent};
+    ghost use Rattle.turn_desk.specs.Knowing.{spent};
+    ghost use Rattle.turn_desk.specs.Views.{joined};
 
     ghost both = { joined };
 

@@ -51,10 +51,14 @@ pub struct Pass<S: Storied> {
 
 impl<S: Storied> Model for Pass<S> {
     ghost use Rattle.std.specs.Prelude.{◌≡◌, []};
+    ghost use Rattle.dbus_types.specs.contracts.types.Value as e;
+    ghost use Rattle.std.specs.Coded.{codes};
     ghost use Rattle.turn_desk.specs.Sights.{Sight};
     ghost use Rattle.turn_desk.specs.Views.{Rests};
 
     ghost Value = { Sight };
+
+    ghost coded = { Prim.hlevel (codes, e.the_row.coded) };
 
     ghost view = { λ p. record {
         table = p.place.table_id;
@@ -80,10 +84,14 @@ pub struct Seat<'a, S: Storied> {
 
 impl<'a, S: Storied> Model for Seat<'a, S> {
     ghost use Rattle.std.specs.Prelude.{◌≡◌, []};
+    ghost use Rattle.dbus_types.specs.contracts.types.Value as e;
+    ghost use Rattle.std.specs.Coded.{codes};
     ghost use Rattle.turn_desk.specs.Sights.{Sight};
     ghost use Rattle.turn_desk.specs.Views.{Rests};
 
     ghost Value = { Sight };
+
+    ghost coded = { Prim.hlevel (codes, e.the_row.coded) };
 
     ghost view = { λ s. record {
         table = s.place.table_id;

@@ -4,7 +4,7 @@ ghost use Rattle.std.specs.Prelude.{◌≡◌, ℕ, ◌+◌, ◌≤◌, [], Some
 ghost use Rattle.portal_model.specs.History.{Legal, cost};
 ghost use Rattle.turn_desk.specs.declared.start.TurnError.TheVariants as TurnError;
 ghost use Rattle.turn_desk.specs.Deals.{IsDealt};
-ghost use Rattle.turn_desk.specs.Views.{fresh};
+ghost use Rattle.turn_desk.specs.Knowing.{fresh};
 
 use crate::rule::{Place, Top};
 use crate::seats::{Pass, Turn};

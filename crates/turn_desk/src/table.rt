@@ -3,7 +3,8 @@
 
 ghost use Rattle.std.specs.Prelude.{◌≡◌, ℕ, ◌+◌, ◌<◌, ◌≤◌, [], MatchResult, false};
 ghost use Rattle.turn_desk.specs.Rules.{Covers, Ends};
-ghost use Rattle.turn_desk.specs.Views.{Sits, fresh, gave, given, joined};
+ghost use Rattle.turn_desk.specs.Knowing.{fresh};
+ghost use Rattle.turn_desk.specs.Views.{Sits, gave, given, joined};
 
 use crate::rule::{Board, Gathers, Numbers, Place, Top};
 use atomic_table::{Refused, Table};

@@ -22,9 +22,13 @@ pub struct WaitingSeat<'a, R: Wait, S: Storied> {
 }
 
 impl<'a, R: Wait, S: Storied> Model for WaitingSeat<'a, R, S> {
+    ghost use Rattle.dbus_types.specs.contracts.types.Value as e;
+    ghost use Rattle.std.specs.Coded.{codes};
     ghost use Rattle.turn_desk.specs.Sights.{Sight};
 
     ghost Value = { Sight };
+
+    ghost coded = { Prim.hlevel (codes, e.the_row.coded) };
 
     ghost view = { λ w. w.seat };
 }

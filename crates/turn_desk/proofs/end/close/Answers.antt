@@ -1,9 +1,11 @@
 use Rattle.std.proofs.Common.{rules, arith, ◌≡◌, ◌⊎◌, ◌+◌, ◌<◌, ◌≤◌, ◌++◌, List, [], ◌∷◌, Some, take, drop, length, vec_len, refl, sym, ap, ◌∙◌, subst, inl, inr}
 use Rattle.std.specs.Prelude.{slice_get}
 use Rattle.turn_desk.proofs.Ending.{turned_out, covers_all, all_stand, next_at}
-use Rattle.story.specs.History.{of}
 use Rattle.turn_desk.specs.Sights.{Sight}
+use Rattle.turn_desk.specs.Deals.{Stands}
 use Rattle.turn_desk.specs.Views.{IsKept}
+use Rattle.turn_desk.proofs.Fronts.{entries-same}
+use Rattle.portal_model.specs.History.{of_seat}
 use Rattle.turn_desk.proofs.end.close.Goals as goal
 
 pub gather-root-requires-clause-table : goal.gather-root-requires-clause-table
@@ -44,7 +46,8 @@ returns-clause-seats g c =
     let popped : c.rotate_left.new.self.items ≡ c.pop.new.self.items ++ c.unwrap-first.result ∷ [] = search rules in
     let is : c.args.passes.items ≡ c.unwrap-first.result ∷ c.pop.new.self.items = turned_out c.args.passes.items c.pop.new.self.items c.unwrap-first.result (search rules) (sym c.rotate_left.ensures.items ∙ popped) in
     let f = c.finish.ensures in
-    all_stand (λ p. p.knows) _ (g.S.Storied.entries c.finish.result) c.args.passes.items c.pop.new.self.items c.unwrap-first.result c.gather-root.result.me.0 is f.seen f.mine f.known f.kept (vec_len c.pop.new.self ≡ 0) (subst (λ (z : Sight). ((c.gather-root.result.me.0 ≡ z.knows) × (vec_len c.pop.new.self ≡ 0)) ⊎ IsKept c.gather-root.result.me.0 z.knows) c.first.view_is c.gather-root.ensures.kept) c.gather-root.ensures.others
+    let stand = all_stand (λ p. p.knows) _ (g.S.Storied.opening c.turn.inside.board.shared.key.value) (g.S.Storied.entries c.finish.result) c.args.passes.items c.pop.new.self.items c.unwrap-first.result c.gather-root.result.me.0 is f.seen f.mine f.known f.kept (vec_len c.pop.new.self ≡ 0) (subst (λ (z : Sight). ((c.gather-root.result.me.0 ≡ z.knows) × (vec_len c.pop.new.self ≡ 0)) ⊎ IsKept c.gather-root.result.me.0 z.knows) c.first.view_is c.gather-root.ensures.kept) c.gather-root.ensures.others in
+    λ k p e. subst (λ t. Stands (g.S.Storied.opening t.start) (g.S.Storied.entries c.finish.result) p.knows) c.turn.view_is (stand k p e)
 
 pub returns-clause-others : goal.returns-clause-others
 returns-clause-others g c =
@@ -52,4 +55,5 @@ returns-clause-others g c =
     let is : c.args.passes.items ≡ c.unwrap-first.result ∷ c.pop.new.self.items = turned_out c.args.passes.items c.pop.new.self.items c.unwrap-first.result (search rules) (sym c.rotate_left.ensures.items ∙ popped) in
     let first = c.requires.passes 0 c.unwrap-first.result (ap (λ l. slice_get l 0) is) in
     let made : c.gather-root.result.me.0.made ≡ c.args.turn.seats = c.gather-root.ensures.root.1 ∙ (ap (λ s. s.knows.made) c.first.view_is ∙ first.all_given refl) in
-    λ n z. c.finish.ensures.unmade n (subst (λ k. (n ≡ 0) ⊎ (k < n)) (sym made) z) ∙ ap (λ t. of n (g.S.Storied.entries t.start)) c.turn.view_is
+    let key = c.turn.inside.board.shared.key.value in
+    λ n z. entries-same n (g.S.Storied.opening key) (g.S.Storied.entries c.finish.result) (g.S.Storied.entries key) (c.finish.ensures.unmade n (subst (λ k. (n ≡ 0) ⊎ (k < n)) (sym made) z)) ∙ ap (λ t. of_seat n (g.S.Storied.entries t.start)) c.turn.view_is

@@ -1,6 +1,6 @@
 use Rattle.std.proofs.Common.{rules, arith, ◌≡◌, ◌+◌, ◌-◌, ◌<◌, ◌≤◌, [], ◌∷◌, Some, take, get_or, length, vec_len, refl, sym, ap, ◌∙◌, subst, inl, inr}
 use native.Mathlib.Decide.{ℕ_discrete}
-use Rattle.turn_desk.specs.declared.view.View.{View}
+use Rattle.turn_desk.specs.Knowing.{View}
 use Rattle.turn_desk.specs.Views.{IsKept, joined}
 use Rattle.turn_desk.proofs.Ending.{kept_old, kept_root, kept_other, kept_first, popped}
 use Rattle.std.specs.Prelude.{slice_get}

@@ -1,6 +1,6 @@
 use Rattle.std.proofs.Common.{◌≡◌, ℕ, ◌+◌, ◌<◌, ◌≤◌, [], ◌∷◌, Some, length, vec_len, vec_capacity}
 use Rattle.std.specs.Prelude.{slice_get}
-use Rattle.turn_desk.specs.Views.{fresh}
+use Rattle.turn_desk.specs.Knowing.{fresh}
 use Rattle.turn_desk.specs.Deals.{IsDealt}
 use Rattle.turn_desk.proofs.start.spread.Given as goal
 

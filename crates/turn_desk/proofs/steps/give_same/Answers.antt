@@ -7,7 +7,7 @@ swap-requires g c =
     let m = c.put.ensures.2 in (
       search rules,
       search rules,
-      frees_from g.S.Storied.opening g.S.Storied.entries _ _ _ _ c.args.value
+      frees_from g.S.Storied.opening g.S.Storied.entries _ _ _ _ c.args.portal
           (ap (λ z. z.0.holds) m ∙ c.requires.seat.1)
           (ap (λ z. z.1) m)
           (c.requires.same ∙ sym (ap (λ z. z.0.found) m))

@@ -8,7 +8,7 @@ fetch_add-requires g c =
     let e = c.requires.entry in (
       search rules,
       search rules,
-      adds_to g.S.Storied.opening g.S.Storied.entries _ _ _ _ c.args.value e.0
+      adds_to g.S.Storied.opening g.S.Storied.entries _ _ _ _ c.args.portal e.0
           (ap (λ z. z.0.holds) m ∙ c.requires.seat.1)
           (ap (λ z. z.1) m)
           (e.1 ∙ sym (ap (λ z. z.0.found ++ e.0 ∷ []) m))
@@ -20,10 +20,10 @@ pub swap-requires : goal.swap-requires
 swap-requires g c =
     let m = c.put.ensures.2 in
     let e = c.requires.entry in
-    let w = c.fetch_add.ensures.2 c.args.value e.0 (ap (λ z. z.1) m) (e.1 ∙ sym (ap (λ z. z.0.found ++ e.0 ∷ []) m)) in (
+    let w = c.fetch_add.ensures.2 c.args.portal e.0 (ap (λ z. z.1) m) (e.1 ∙ sym (ap (λ z. z.0.found ++ e.0 ∷ []) m)) in (
       search rules,
       search rules,
-      frees_from g.S.Storied.opening g.S.Storied.entries _ _ _ _ c.args.value
+      frees_from g.S.Storied.opening g.S.Storied.entries _ _ _ _ c.args.portal
           (ap (λ z. z.0.holds) w ∙ (ap (λ z. z.0.holds) m ∙ c.requires.seat.1))
           (ap (λ z. z.1) w ∙ ap (λ z. z.1) m)
           (e.1 ∙ (sym (ap (λ z. z.0.found ++ e.0 ∷ []) m) ∙ sym (ap (λ z. z.0.found) w)))
