@@ -1,5 +1,5 @@
 -- What a seat knows after each answer.
-use Rattle.std.proofs.Common.{◌≡◌, ◌≢◌, ℕ, ◌+◌, ◌<◌, ◌≤◌, List, [], ◌∷◌, ◌++◌, true, false, Option, None, Err, is_some, refl, sym, ap, ◌∙◌, subst, arith}
+use Rattle.std.proofs.Common.{◌≡◌, ◌≢◌, ℕ, ◌+◌, ◌<◌, ◌≤◌, List, [], ◌∷◌, ◌++◌, true, false, true≢false, Option, None, Err, is_some, refl, sym, ap, ◌∙◌, subst, arith}
 use Rattle.std.proofs.lemmas.List.{append_assoc}
 use Rattle.std.specs.Prelude.{IsOk}
 use Rattle.atomic_table.specs.Seated.{TableId}
@@ -176,5 +176,5 @@ module _ {S : Type 0} (t t' : TableId) (v : View) (r : ℕ) (o o' : State) (log 
       let legal' : Legal v.opening log = subst (λ (h : List Entry). Legal v.opening h) kept (subst (λ (s : State). Legal s log') (same ∙ opening) legal) in
       let within' : cost log ≤ v.opening.limits.history = subst (λ (h : List Entry). cost h ≤ v.opening.limits.history) kept (subst (λ (s : State). cost log' ≤ s.limits.history) (same ∙ opening) within) in
       let cause' : RefusedFor v.opening log request why = subst (λ (s : State). RefusedFor s log request why) opening cause in
-      let leave' : request ≡ Request.Leave → is_open (run v.opening log) v.number ≡ true → ⊥ = λ l h. leave l (subst (λ (n : ℕ). is_open (run o log) n ≡ true) (sym num) (subst (λ (s : State). is_open (run s log) v.number ≡ true) (sym opening) h)) in
+      let leave' : request ≡ Request.Leave → is_open (run v.opening log) v.number ≡ true → ⊥ = λ l h. true≢false (sym (leave l (subst (λ (n : ℕ). is_open (run o log) n ≡ true) (sym num) (subst (λ (s : State). is_open (run s log) v.number ≡ true) (sym opening) h)))) in
       is_refused t t' v m'.0 r r' log request why rests table is legal' within' own begins cause' leave' count

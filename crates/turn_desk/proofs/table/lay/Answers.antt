@@ -6,6 +6,6 @@ pub new-requires : goal.new-requires
 new-requires g c =
     let about = c.of-about.ensures in
     let items : c.push.new.self.items ≡ Some c.args.portal ∷ [] = search rules in
-    starts_from g.S.Storied.opening g.S.Storied.entries c.of-about.result.value c.count-served.result c.push.new.self.items
-    (ap (λ x. length (g.S.Storied.entries x)) about ∙ sym c.count-served.ensures.count)
+    starts_from g.S.Storied.opening g.S.Storied.entries c.of-about.result.value c.entry_count-served.result c.push.new.self.items
+    (ap (λ x. length (g.S.Storied.entries x)) about ∙ sym c.entry_count-served.ensures)
     (items ∙ ap (λ x. Some x ∷ []) (sym about))
