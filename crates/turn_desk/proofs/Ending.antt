@@ -38,46 +38,53 @@ popped (x ∷ xs) (z ∷ zs) q (suc n) e le =
     let r = popped xs zs q n rest (omega arith) in
     (ap (λ l. z ∷ l) r.0 ∙ ap (λ y. y ∷ take (length zs) xs) same, omega (arith, r.1), r.2)
 
-pub snoc_parts : {X : Type 0} (xs ys : List X) (x y : X) → xs ++ x ∷ [] ≡ ys ++ y ∷ [] → (xs ≡ ys) × (x ≡ y)
-snoc_parts [] [] x y e = (refl, cc)
-snoc_parts [] (z ∷ ys) x y e = let a = ap length e in absurd (omega (arith, a, length-append ys (y ∷ [])))
-snoc_parts (z ∷ xs) [] x y e = let a = ap length e in absurd (omega (arith, a, length-append xs (x ∷ [])))
-snoc_parts (z ∷ xs) (w ∷ ys) x y e = let tails : xs ++ x ∷ [] ≡ ys ++ y ∷ [] = cc in let heads : z ≡ w = cc in let r = snoc_parts xs ys x y tails in (ap (λ l. z ∷ l) r.0 ∙ ap (λ (h : _). h ∷ ys) heads, r.1)
+-- without one of its items a list has all others, and nothing else
+pub still_there : {X : Type 0} (xs : List X) (i k : ℕ) (q p : X) → slice_get xs i ≡ Some q → slice_get xs k ≡ Some p → (p ≡ q) ⊎ ((j : ℕ) × (slice_get (take i xs ++ drop (suc i) xs) j ≡ Some p))
+still_there [] i k q p e f = absurd (cc)
+still_there (x ∷ xs) zero zero q p e f = inl (cc)
+still_there (x ∷ xs) zero (suc k) q p e f = inr (k, f)
+still_there (x ∷ xs) (suc i) zero q p e f = inr (0, f)
+still_there (x ∷ xs) (suc i) (suc k) q p e f = ⊎_elim (λ same. inl same) (λ (r : (j : ℕ) × (slice_get (take i xs ++ drop (suc i) xs) j ≡ Some p)). inr (suc r.0, r.1)) (still_there xs i k q p e f)
 
--- the first one was turned to the end, and popped
-pub turned_out : {X : Type 0} (xs rest : List X) (q : X) → 0 < length xs → drop 1 xs ++ take 1 xs ≡ rest ++ q ∷ [] → xs ≡ q ∷ rest
-turned_out [] rest q some_there e = absurd (omega arith)
-turned_out (x ∷ xs) rest q some_there e = let r = snoc_parts xs rest x q e in ap (λ l. x ∷ l) r.0 ∙ ap (λ (h : _). h ∷ rest) r.1
+pub was_there : {X : Type 0} (xs : List X) (i j : ℕ) (p : X) → slice_get (take i xs ++ drop (suc i) xs) j ≡ Some p → (k : ℕ) × (slice_get xs k ≡ Some p)
+was_there [] zero j p e = absurd (cc)
+was_there [] (suc i) j p e = absurd (cc)
+was_there (x ∷ xs) zero j p e = (suc j, e)
+was_there (x ∷ xs) (suc i) zero p e = (0, e)
+was_there (x ∷ xs) (suc i) (suc j) p e = let r = was_there xs i j p e in (suc r.0, r.1)
 
-pub at_of : {X : Type 0} (xs : List X) (k : ℕ) → k < length xs → (p : X) × (slice_get xs k ≡ Some p)
-at_of [] k lt = absurd (omega arith)
-at_of (x ∷ xs) zero lt = (x, refl)
-at_of (x ∷ xs) (suc k) lt = at_of xs k (omega arith)
+-- each item of a list is the one that was taken out, or one that is left
+abbrev pub Parts : {X : Type 0} → List X → List X → X → Type 0
+Parts {X = X} xs rest q = (k : ℕ) (p : X) → slice_get xs k ≡ Some p → (p ≡ q) ⊎ ((j : ℕ) × (slice_get rest j ≡ Some p))
 
-pub covers_all : {X : Type 0} (view : X → View) (rest : List X) (root : View) (seats : ℕ) → root.number ≡ 1 → root.made ≡ seats → length rest + 1 ≡ seats
-    → ((k : ℕ) (p : X) → slice_get rest k ≡ Some p → (view p).number ≡ k + 2) → ((k : ℕ) (p : X) → slice_get rest k ≡ Some p → IsKept root (view p)) → (m : ℕ) → 0 < m → m ≤ root.made → Covers root m
-covers_all view rest root seats one made len numbers kept zero pos le = absurd (omega arith)
-covers_all view rest root seats one made len numbers kept (suc zero) pos le = inl (omega arith, one)
-covers_all view rest root seats one made len numbers kept (suc (suc k)) pos le =
-    let a = at_of rest k (omega arith) in
-    let i = kept k a.0 a.1 in
-    let n = numbers k a.0 a.1 in
-    inr (i.0, done (view a.0), i.1, omega arith)
+pub taken : {X : Type 0} (xs rest : List X) (i : ℕ) (q p : X) → slice_get xs i ≡ Some p → q ≡ get_or xs i q → rest ≡ take i xs ++ drop (i + 1) xs → (q ≡ p) × Parts xs rest q
+taken {X = X} xs rest i q p at value items =
+    let same : q ≡ p = value ∙ get_or_from_slice_get xs i p q at in
+    let is : rest ≡ take i xs ++ drop (suc i) xs = items ∙ ap (λ (n : ℕ). take i xs ++ drop n xs) (add-one i) in (
+      same,
+      λ k x e. subst (λ (l : List X). (x ≡ q) ⊎ ((j : ℕ) × (slice_get l j ≡ Some x))) (sym is) (still_there xs i k q x (at ∙ ap (λ (y : X). Some y) (sym same)) e),
+    )
+
+-- where each number has a pass, the first seat with all others joined into it covers each number
+pub covers_all : {X : Type 0} (view : X → View) (xs rest : List X) (q : X) (root : View) (seats : ℕ) → Parts xs rest q → (view q).number ≡ 1 → root.number ≡ 1 → root.made ≡ seats
+    → ((n : ℕ) → 1 ≤ n → n ≤ seats → (k : ℕ) × (p : X) × (slice_get xs k ≡ Some p) × ((view p).number ≡ n)) → ((j : ℕ) (p : X) → slice_get rest j ≡ Some p → IsKept root (view p)) → (m : ℕ) → 0 < m → m ≤ root.made → Covers root m
+covers_all view xs rest q root seats parts first one made all kept m pos le =
+    let a = all m (omega arith) (omega arith) in
+    ⊎_elim
+        (λ (e : a.1 ≡ q). inl (omega arith, one ∙ (sym first ∙ (ap (λ x. (view x).number) (sym e) ∙ a.3))))
+        (λ (r : (j : ℕ) × (slice_get rest j ≡ Some a.1)). let i = kept r.0 a.1 r.1 in inr (i.0, done (view a.1), i.1, a.3))
+        (parts a.0 a.1 a.2)
 
 pub stands_kept : (made : ℕ) (o : State) (log : List Entry) (root u : View) → ((k : ℕ) (d : Done) → get_elem? root.kept k ≡ some d → FitsDone made o log d) → IsKept root u → Stands o log u
 stands_kept made o log root u fits k = let f = fits k.0 (done u) k.1 in record { seen = f.seen; mine = sym f.mine; known = f.known }
 
-pub all_stand : {X : Type 0} (view : X → View) (made : ℕ) (o : State) (log : List Entry) (xs rest : List X) (q : X) (root : View) → xs ≡ q ∷ rest
+pub all_stand : {X : Type 0} (view : X → View) (made : ℕ) (o : State) (log : List Entry) (xs rest : List X) (q : X) (root : View) → Parts xs rest q
     → BeginsWith log root.seen → root.mine ≡ exchanges root.number o log → root.known ≤ length log → ((k : ℕ) (d : Done) → get_elem? root.kept k ≡ some d → FitsDone made o log d)
-    → (Y : Type 0) → (((root ≡ view q) × Y) ⊎ IsKept root (view q)) → ((k : ℕ) (p : X) → slice_get rest k ≡ Some p → IsKept root (view p)) → (k : ℕ) (p : X) → slice_get xs k ≡ Some p → Stands o log (view p)
-all_stand {X = X} view made o log xs rest q root is seen mine known fits Y first others k p at = at_both k (ap (λ (l : List X). slice_get l k) (sym is) ∙ at)
-  where
-    at_both : (k : ℕ) → slice_get (q ∷ rest) k ≡ Some p → Stands o log (view p)
-    at_both zero e = let same : q ≡ p = cc in subst (λ (z : X). Stands o log (view z)) same (⊎_elim
-        (λ (h : (root ≡ view q) × Y). subst (Stands o log) h.0 (record { seen = seen; mine = sym mine; known = known }))
-        (λ h. stands_kept made o log root (view q) fits h)
-        first)
-    at_both (suc k) e = stands_kept made o log root (view p) fits (others k p e)
-
-pub next_at : {X : Type 0} (q : X) (rest : List X) (k : ℕ) → slice_get (q ∷ rest) (k + 1) ≡ slice_get rest k
-next_at q rest k = ap (slice_get (q ∷ rest)) (add-one k)
+    → (Y : Type 0) → (((root ≡ view q) × Y) ⊎ IsKept root (view q)) → ((j : ℕ) (p : X) → slice_get rest j ≡ Some p → IsKept root (view p)) → (k : ℕ) (p : X) → slice_get xs k ≡ Some p → Stands o log (view p)
+all_stand view made o log xs rest q root parts seen mine known fits Y first others k p at = ⊎_elim
+    (λ (e : p ≡ q). subst (λ x. Stands o log (view x)) (sym e) (⊎_elim
+    (λ (h : (root ≡ view q) × Y). subst (Stands o log) h.0 (record { seen = seen; mine = sym mine; known = known }))
+    (λ h. stands_kept made o log root (view q) fits h)
+    first))
+    (λ (r : (j : ℕ) × (slice_get rest j ≡ Some p)). stands_kept made o log root (view p) fits (others r.0 p r.1))
+    (parts k p at)

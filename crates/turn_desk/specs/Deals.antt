@@ -14,11 +14,16 @@ pub record IsDealt (z : TableId) (o : State) (base : List Entry) (made number : 
   pub table_is : p.table ≡ z
   pub view_is : p.knows ≡ fresh number o base made
 
--- a pass of this turn, of this number: the first seat knows how many numbers were given
-pub record IsPassOf (z : TableId) (seats number : ℕ) (p : Sight) : Type 0 where
+-- a pass of this turn: the first seat's knows how many numbers were given
+pub record IsPassOf (z : TableId) (seats : ℕ) (p : Sight) : Type 0 where
   pub table_is : p.table ≡ z
-  pub number_is : p.knows.number ≡ number
-  pub all_given : number ≡ 1 → p.knows.made ≡ seats
+  pub all_given : p.knows.number ≡ 1 → p.knows.made ≡ seats
+
+-- these are all passes of this turn: each is one, and each number has one
+pub record AreAll (z : TableId) (seats : ℕ) (passes : List Sight) : Type 0 where
+  pub each : (k : ℕ) (p : Sight) → slice_get passes k ≡ Some p → IsPassOf z seats p
+  pub all : (n : ℕ) → 1 ≤ n → n ≤ seats
+      → (k : ℕ) × (p : Sight) × (slice_get passes k ≡ Some p) × (p.knows.number ≡ n)
 
 -- what stands of a seat in a history: it begins with what the seat has seen, all its entries of the
 -- seat are those that the seat knows, and it is no shorter than the seat once read

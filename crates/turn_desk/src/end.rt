@@ -1,9 +1,9 @@
 //! How a turn ends.
 
-ghost use Rattle.std.specs.Prelude.{◌≡◌, ◌⊎◌, ℕ, ◌+◌, ◌<◌, ◌≤◌, [], Some, vec_len, slice_get, false};
+ghost use Rattle.std.specs.Prelude.{◌≡◌, ◌≢◌, ◌⊎◌, ℕ, ◌<◌, [], Some, IfSome, IfNone, vec_len, slice_get, false};
 ghost use Rattle.portal_model.specs.History.{of_seat};
 ghost use Rattle.portal_model.specs.Seated.{BeginsWith};
-ghost use Rattle.turn_desk.specs.Deals.{IsPassOf, Stands};
+ghost use Rattle.turn_desk.specs.Deals.{AreAll, Stands};
 ghost use Rattle.turn_desk.specs.Views.{IsKept};
 
 use crate::rule::{Place, Top};
@@ -35,17 +35,30 @@ fn gather<S: Storied>(top: &Top<S>, root: Place<S>, mut passes: Vec<Pass<S>>) ->
     root
 }
 
-/// Takes the portal back from a turn, given all its passes, in the order of
-/// their numbers. It takes no memory.
+/// Where the pass of the first seat lies.
+fn place_of_first<S: Storied>(passes: &[Pass<S>]) -> Option<usize>
+    ensures found { IfSome result
+        (λ k. (p : _) × (slice_get passes.now k ≡ Some p) × (p.knows.number ≡ 1)) }
+    ensures none { IfNone result
+        ((k : ℕ) (p : _) → slice_get passes.now k ≡ Some p → p.knows.number ≢ 1) }
+{
+    for at in 0..passes.len() {
+        if passes[at].number() == 1 {
+            return Some(at);
+        }
+    }
+    None
+}
+
+/// Takes the portal back from a turn, given all its passes, in whatever order.
+/// It takes no memory.
 ///
 /// The portal's history goes on from that at the start. Of each seat it begins
 /// with what the seat has seen, has just the entries that the seat knows for
 /// its own, and is as long as the seat once read; of numbers without a pass it
 /// has no entries but those from before the start.
 pub fn close<S: Storied>(turn: Turn<S>, passes: Vec<Pass<S>>) -> S
-    requires count { (vec_len passes ≡ turn.seats) × (1 ≤ turn.seats) }
-    requires passes { (k : ℕ) (p : _) → slice_get passes.items k ≡ Some p
-        → IsPassOf turn.table turn.seats (k + 1) p }
+    requires { AreAll turn.table turn.seats passes.items }
     ensures opening { S.opening result ≡ S.opening turn.start }
     ensures begins { BeginsWith (S.entries result) (S.entries turn.start) }
     ensures seats { (k : ℕ) (p : _) → slice_get passes.items k ≡ Some p
@@ -54,10 +67,12 @@ pub fn close<S: Storied>(turn: Turn<S>, passes: Vec<Pass<S>>) -> S
         → of_seat n (S.entries result) ≡ of_seat n (S.entries turn.start) }
 {
     let mut passes = passes;
-    passes.rotate_left(1);
-    let first = passes.pop().unwrap();
-    let Pass { place, number: _ } = first;
     let Turn { board, seats: _ } = turn;
+    let Some(at) = place_of_first(passes.as_slice()) else {
+        unreachable!()
+    };
+    let first = passes.remove(at);
+    let Pass { place, number: _ } = first;
     let root = gather(&board.shared, place, passes);
     finish(board, root)
 }

@@ -24,7 +24,7 @@ pub struct Turn<S: Storied> {
 }
 
 impl<S: Storied> Model for Turn<S> {
-    ghost use Rattle.std.specs.Prelude.{◌≡◌};
+    ghost use Rattle.std.specs.Prelude.{◌≡◌, ◌≤◌};
     ghost use Rattle.turn_desk.specs.Sights.{Turned};
 
     ghost Value = { Turned S };
@@ -36,7 +36,7 @@ impl<S: Storied> Model for Turn<S> {
     } };
 
     ghost invariant = { λ t. (t.board.shared.table_id.words ≡ 2)
-        × (t.board.shared.table_id.slots ≡ 1) };
+        × (t.board.shared.table_id.slots ≡ 1) × (1 ≤ t.seats) };
 }
 
 /// The right to one seat of a turn. It goes from thread to thread, and all of
@@ -104,6 +104,13 @@ impl<'a, S: Storied> Model for Seat<'a, S> {
 }
 
 impl<S: Storied> Pass<S> {
+    /// The number of its seat, from 1.
+    pub fn number(&self) -> u32
+        ensures { result ≡ self.now.knows.number }
+    {
+        self.number
+    }
+
     /// Sits down at the turn, which is the pass's own.
     pub fn sit<'a>(self, turn: &'a Turn<S>) -> Seat<'a, S>
         requires { self.table ≡ turn.now.table }
