@@ -18,6 +18,7 @@ use std::marker::Model;
 ///
 /// Contracts see which turn it is, the portal that it was started with, and
 /// for how many seats.
+#[derive(Drop)]
 pub struct Turn<S: Storied> {
     pub(crate) board: Board<S>,
     pub(crate) seats: u32,

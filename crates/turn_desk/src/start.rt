@@ -13,6 +13,7 @@ use portal_core::storied::Storied;
 use std::alloc::Global;
 
 /// A turn, and a pass for each of its seats, in the order of their numbers.
+#[derive(Drop)]
 pub struct Started<S: Storied> {
     /// The turn.
     pub turn: Turn<S>,
@@ -22,6 +23,7 @@ pub struct Started<S: Storied> {
 }
 
 /// Why a turn isn't started.
+#[derive(Drop)]
 pub enum TurnError<S> {
     /// There was no memory.
     Memory {
