@@ -1,5 +1,5 @@
 -- What a seat knows after each answer.
-use Rattle.std.proofs.Common.{◌≡◌, ◌≢◌, ℕ, ◌+◌, ◌<◌, ◌≤◌, List, [], ◌∷◌, ◌++◌, true, false, true≢false, Option, None, Err, is_some, refl, sym, ap, ◌∙◌, subst, arith}
+use Rattle.std.proofs.Common.{◌≡◌, ◌≢◌, ℕ, ◌<◌, ◌≤◌, List, [], ◌∷◌, ◌++◌, true, true≢false, Option, None, Err, is_some, refl, sym, ap, ◌∙◌, subst, arith}
 use Rattle.std.proofs.lemmas.List.{append_assoc}
 use Rattle.std.specs.Prelude.{IsOk}
 use Rattle.atomic_table.specs.Seated.{TableId}
@@ -11,8 +11,8 @@ use Rattle.portal_model.specs.declared.reply.Refused.TheVariants.{Memory, Full}
 use Rattle.portal_model.specs.declared.reply.Reply.{Reply}
 use Rattle.portal_model.specs.declared.request.Request.{Request}
 use Rattle.portal_model.specs.Alike.{Alike}
-use Rattle.portal_model.specs.History.{Legal, cost, cost_of, of_seat, run}
-use Rattle.portal_model.specs.Seated.{BeginsWith, Denied, Exchange, HasCause, Made, bound, bound_by, exchange, exchanges, is_open, rises_by}
+use Rattle.portal_model.specs.History.{Legal, cost, of_seat, run}
+use Rattle.portal_model.specs.Seated.{BeginsWith, Exchange, HasCause, Made, bound, bound_by, exchange, exchanges, is_open, rises_by}
 use Rattle.portal_model.specs.State.{State}
 use Rattle.portal_model.specs.Step.{reply_at}
 use Rattle.portal_model.proofs.SeatLaws.{begins-itself, exchanges-own, run-open}
@@ -156,7 +156,7 @@ module _ {S : Type 0} (t t' : TableId) (v : View) (r : ℕ) (o o' : State) (log 
   answers number request reply says num g gave =
       let e : Entry = g.entry in
       let after : m' ≡ (written v log e, []) =
-          gave e (g.grown ∙ sym (ap (λ (z : Me (Option S) View). z.0.found ++ e ∷ []) took)) ∙ ap (λ (z : Me (Option S) View). (freed (wrote z.0 e), [])) took in
+      gave e (g.grown ∙ sym (ap (λ (z : Me (Option S) View). z.0.found ++ e ∷ []) took)) ∙ ap (λ (z : Me (Option S) View). (freed (wrote z.0 e), [])) took in
       let seat : e.seat ≡ v.number = g.seat_is ∙ num in
       let legal' : Legal v.opening (log ++ e ∷ []) = subst (λ (h : List Entry). Legal v.opening h) g.grown (subst (λ (s : State). Legal s log') (same ∙ opening) legal) in
       let within' : cost (log ++ e ∷ []) ≤ v.opening.limits.history = subst (λ (h : List Entry). cost h ≤ v.opening.limits.history) g.grown (subst (λ (s : State). cost log' ≤ s.limits.history) (same ∙ opening) within) in

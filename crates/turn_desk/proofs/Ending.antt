@@ -1,5 +1,5 @@
 -- What a join keeps of the views.
-use Rattle.std.proofs.Common.{◌≡◌, ◌≢◌, ◌⊎◌, ℕ, ◌+◌, ◌-◌, ◌<◌, ◌≤◌, List, [], ◌∷◌, ◌++◌, length, take, drop, get_or, Some, refl, sym, ap, ◌∙◌, subst, inl, inr, ⊎_elim, arith}
+use Rattle.std.proofs.Common.{◌≡◌, ◌⊎◌, ℕ, ◌+◌, ◌<◌, ◌≤◌, List, [], ◌∷◌, ◌++◌, length, take, drop, get_or, Some, refl, sym, ap, ◌∙◌, subst, inl, inr, ⊎_elim, arith}
 use Rattle.std.specs.Prelude.{slice_get}
 use Rattle.std.proofs.lemmas.Option.{get_or_from_slice_get}
 use Rattle.std.proofs.Common.{add-one, length-append, length-take, zero, suc}
@@ -71,9 +71,9 @@ pub covers_all : {X : Type 0} (view : X → View) (xs rest : List X) (q : X) (ro
 covers_all view xs rest q root seats parts first one made all kept m pos le =
     let a = all m (omega arith) (omega arith) in
     ⊎_elim
-        (λ (e : a.1 ≡ q). inl (omega arith, one ∙ (sym first ∙ (ap (λ x. (view x).number) (sym e) ∙ a.3))))
-        (λ (r : (j : ℕ) × (slice_get rest j ≡ Some a.1)). let i = kept r.0 a.1 r.1 in inr (i.0, done (view a.1), i.1, a.3))
-        (parts a.0 a.1 a.2)
+    (λ (e : a.1 ≡ q). inl (omega arith, one ∙ (sym first ∙ (ap (λ x. (view x).number) (sym e) ∙ a.3))))
+    (λ (r : (j : ℕ) × (slice_get rest j ≡ Some a.1)). let i = kept r.0 a.1 r.1 in inr (i.0, done (view a.1), i.1, a.3))
+    (parts a.0 a.1 a.2)
 
 pub stands_kept : (made : ℕ) (o : State) (log : List Entry) (root u : View) → ((k : ℕ) (d : Done) → get_elem? root.kept k ≡ some d → FitsDone made o log d) → IsKept root u → Stands o log u
 stands_kept made o log root u fits k = let f = fits k.0 (done u) k.1 in record { seen = f.seen; mine = sym f.mine; known = f.known }

@@ -1,5 +1,5 @@
 -- Fronts of one history, and the exchanges of a seat in them.
-use Rattle.std.proofs.Common.{◌≡◌, ℕ, ◌≤◌, List, [], ◌∷◌, ◌++◌, length, map, refl, sym, ap, ◌∙◌}
+use Rattle.std.proofs.Common.{◌≡◌, ℕ, List, [], ◌∷◌, ◌++◌, map, refl, sym, ap, ◌∙◌}
 use Rattle.std.proofs.lemmas.List.{append_assoc, append-nil, append_cancel_left}
 use Rattle.portal_model.specs.declared.entry.Entry.{Entry}
 use Rattle.portal_model.specs.History.{run, of_seat}
@@ -28,7 +28,7 @@ exchanges-between n o log x y p q same =
     let parts : exchanges n o log ≡ exchanges n o y ++ exchanges n (run o y) (q.0 ++ p.0) = ap (exchanges n o) whole ∙ exchanges-append n y (q.0 ++ p.0) o in
     let none : exchanges n (run o y) (q.0 ++ p.0) ≡ [] = no_more (exchanges n o y) (exchanges n (run o y) (q.0 ++ p.0)) (same ∙ parts) in
     let none' : exchanges n (run o y) q.0 ≡ [] =
-        front_empty (exchanges n (run o y) q.0) (exchanges n (run (run o y) q.0) p.0) (sym (exchanges-append n q.0 p.0 (run o y)) ∙ none) in
+    front_empty (exchanges n (run o y) q.0) (exchanges n (run (run o y) q.0) p.0) (sym (exchanges-append n q.0 p.0 (run o y)) ∙ none) in
     ap (exchanges n o) q.1 ∙ (exchanges-append n y q.0 o ∙ (ap (λ (z : List Exchange). exchanges n o y ++ z) none' ∙ (append-nil (exchanges n o y) ∙ same)))
 
 -- where the exchanges of a seat are the same in two histories, so are its entries

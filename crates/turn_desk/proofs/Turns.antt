@@ -1,17 +1,16 @@
 -- Each step keeps the rule.
-use Rattle.std.proofs.Common.{◌≡◌, ◌≢◌, ◌⊎◌, ℕ, zero, suc, ◌+◌, ◌%◌, ◌^◌, ◌<◌, ◌≤◌, List, [], ◌∷◌, ◌++◌, length, set, Bool, true, false, Option, Some, eqb, cond, eq-eqb, ne_eqb, refl, sym, ap, ◌∙◌, subst, inl, inr, ⊎_elim, arith, length-append, true≢false}
+use Rattle.std.proofs.Common.{◌≡◌, ◌≢◌, ◌⊎◌, ℕ, zero, suc, ◌+◌, ◌%◌, ◌<◌, ◌≤◌, List, [], ◌∷◌, ◌++◌, length, set, Bool, true, false, Option, Some, eqb, cond, eq-eqb, ne_eqb, refl, sym, ap, ◌∙◌, subst, inl, inr, ⊎_elim, arith, length-append, true≢false}
 use Rattle.std.proofs.lemmas.List.{append_cancel_left}
 use Rattle.std.proofs.lemmas.Bool.Decides.{nat_tests}
 use Rattle.std.proofs.Common.{ltb}
 use Rattle.std.specs.Prelude.{slice_index, slice_set}
 use mathlib.Core.Option.{some, none, some-ne-none, some-injective}
 use mathlib.Core.Option as maybe
-use mathlib.Core.Logic.{dite}
 use native.Mathlib.Decide.{ℕ_discrete}
 use prog.Atomic.{either}
 use lib.ListN.{get_elem?}
-use Rattle.atomic_table.specs.Table.{State as TableState, Me, Step, step, Act, keeps, takes, gives, Valid, homes_after, carried_after, stepped, Allows, opening, Splits, Joins}
-use Rattle.atomic_table.proofs.Lists.{at_set, at_snoc, at_longer, set_here, set_else, set_again, exchanged}
+use Rattle.atomic_table.specs.Table.{State as TableState, Me, step, Act, keeps, takes, gives, Valid, homes_after, carried_after, Allows, opening, Splits, Joins}
+use Rattle.atomic_table.proofs.Lists.{at_set, at_snoc, at_longer, set_else, exchanged}
 use Rattle.portal_model.specs.declared.entry.Entry.{Entry}
 use Rattle.portal_model.specs.History.{run}
 use Rattle.portal_model.specs.Seated.{BeginsWith, Exchange, exchange, exchanges}
@@ -21,7 +20,7 @@ use Rattle.turn_desk.proofs.Fronts.{begins-longer, begins-both, exchanges-betwee
 use Rattle.turn_desk.specs.Knowing.{Done, View}
 use Rattle.turn_desk.specs.Knowing.{fresh, spent}
 use Rattle.turn_desk.specs.Views.{gave, given, longer, done, joined, lost, holding, wrote, freed, looked, Sits}
-use Rattle.turn_desk.specs.Rules.{Covers, FitsDone, FitsLive, FitsHolder, FitsView, Rule, Keeps, Ends}
+use Rattle.turn_desk.specs.Rules.{Covers, FitsDone, FitsLive, FitsView, Rule, Keeps, Ends}
 use Rattle.turn_desk.specs.Plays.{Took}
 use Rattle.turn_desk.specs.Plays as plays
 

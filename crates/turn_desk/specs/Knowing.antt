@@ -1,6 +1,5 @@
 -- What the rule of the turn knows of a seat.
 use Rattle.std.specs.Prelude.{ℕ, List, [], Bool, false}
-use Rattle.portal_base.specs.declared.limits.Limits.{Limits}
 use Rattle.portal_model.specs.declared.entry.Entry.{Entry}
 use Rattle.portal_model.specs.Seated.{Exchange, exchanges}
 use Rattle.portal_model.specs.State.{State}

@@ -31,9 +31,9 @@ impl<S: Storied> Model for Turn<S> {
     ghost Value = { Turned S };
 
     ghost view = { λ t. record {
-        table = t.board.shared.table_id;
-        start = t.board.shared.key.value;
-        seats = t.seats
+      table = t.board.shared.table_id;
+      start = t.board.shared.key.value;
+      seats = t.seats;
     } };
 
     ghost invariant = { λ t. (t.board.shared.table_id.words ≡ 2)
@@ -62,9 +62,9 @@ impl<S: Storied> Model for Pass<S> {
     ghost coded = { Prim.hlevel (codes, e.the_row.coded) };
 
     ghost view = { λ p. record {
-        table = p.place.table_id;
-        knows = p.place.me.0;
-        refusals = 0
+      table = p.place.table_id;
+      knows = p.place.me.0;
+      refusals = 0;
     } };
 
     ghost invariant = { λ p. (p.place.me.1 ≡ []) × (p.number ≡ p.place.me.0.number)
@@ -95,9 +95,9 @@ impl<'a, S: Storied> Model for Seat<'a, S> {
     ghost coded = { Prim.hlevel (codes, e.the_row.coded) };
 
     ghost view = { λ s. record {
-        table = s.place.table_id;
-        knows = s.place.me.0;
-        refusals = s.refusals
+      table = s.place.table_id;
+      knows = s.place.me.0;
+      refusals = s.refusals;
     } };
 
     ghost invariant = { λ s. (s.place.table_id ≡ s.turn.now.table) × (s.place.me.1 ≡ [])

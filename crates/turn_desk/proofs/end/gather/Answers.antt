@@ -1,8 +1,8 @@
-use Rattle.std.proofs.Common.{rules, arith, ◌≡◌, ◌+◌, ◌-◌, ◌<◌, ◌≤◌, [], ◌∷◌, Some, take, get_or, length, vec_len, refl, sym, ap, ◌∙◌, subst, inl, inr}
+use Rattle.std.proofs.Common.{rules, arith, ◌≡◌, Some, take, length, vec_len, sym, ap, ◌∙◌, subst, inr}
 use native.Mathlib.Decide.{ℕ_discrete}
 use Rattle.turn_desk.specs.Knowing.{View}
 use Rattle.turn_desk.specs.Views.{IsKept, joined}
-use Rattle.turn_desk.proofs.Ending.{kept_old, kept_root, kept_other, kept_first, popped}
+use Rattle.turn_desk.proofs.Ending.{kept_old, kept_other, kept_first, popped}
 use Rattle.std.specs.Prelude.{slice_get}
 use Rattle.turn_desk.proofs.end.gather.Goals as goal
 

@@ -1,4 +1,4 @@
-use Rattle.std.proofs.Common.{◌≡◌, ◌⊎◌, ℕ, ◌+◌, ◌<◌, ◌≤◌, [], ◌∷◌, Some, length, vec_len, false, take}
+use Rattle.std.proofs.Common.{◌≡◌, ◌⊎◌, ℕ, ◌≤◌, [], Some, length, vec_len, false, take}
 use Rattle.std.specs.Prelude.{slice_get}
 use Rattle.turn_desk.specs.Views.{IsKept}
 use Rattle.turn_desk.proofs.end.gather.Given as goal

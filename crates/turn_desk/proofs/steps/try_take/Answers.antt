@@ -1,4 +1,4 @@
-use Rattle.std.proofs.Common.{rules, ap, sym, ◌∙◌, ◌≡◌, ◌∷◌, [], Some, arith}
+use Rattle.std.proofs.Common.{rules, ap, sym, ◌∙◌, ◌∷◌, Some}
 use Rattle.atomic_table.specs.Table.{rest}
 use Rattle.turn_desk.proofs.Turns.{tries_as}
 use Rattle.turn_desk.proofs.steps.try_take.Goals as goal

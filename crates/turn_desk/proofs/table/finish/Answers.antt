@@ -1,6 +1,5 @@
-use Rattle.std.proofs.Common.{rules, ◌≡◌, Some, ap, sym, ◌∙◌, subst}
+use Rattle.std.proofs.Common.{rules, ◌≡◌, Some, sym, ◌∙◌, subst}
 use mathlib.Core.Option.{some-injective}
-use Rattle.std.specs.Option.{IsSome}
 use Rattle.turn_desk.specs.Rules.{Ends}
 use Rattle.turn_desk.proofs.Turns.{ends}
 use Rattle.turn_desk.proofs.table.finish.Goals as goal

@@ -1,4 +1,4 @@
-use Rattle.std.proofs.Common.{◌≡◌, ℕ, ◌+◌, ◌<◌, ◌≤◌, ◌-◌, ◌*◌, length}
+use Rattle.std.proofs.Common.{◌≡◌}
 use Rattle.turn_desk.specs.Sights.{Stays}
 use Rattle.turn_desk.proofs.waiting.WaitingSeatDesk.ask.Given as goal
 
