@@ -18,3 +18,8 @@ pub mod RunLine
 pub mod ReplayScript
 pub mod Counts
 pub mod StartedScript
+pub mod CountedAnswers
+pub mod WholeCalls
+pub mod LoadLines
+pub mod LoadRun
+pub mod AnyRun

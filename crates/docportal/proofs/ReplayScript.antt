@@ -45,7 +45,7 @@ front_room entries text lines front later history out last short script plays e 
     let both : length (text_of lines) ≡ length (text_of front) + length (text_of later) = ap (λ (z : List ScriptLine). length (text_of z)) e ∙ text_joined front later in
     omega arith
 
-is_replay : (entries : Entries) (text : List ℕ) (lines front later : List ScriptLine) (history : List Entry) (out : List (List ℕ)) (last : Scene) → KeepEntries (entries_of lines) entries → length text ≤ script_limit → IsRead text lines → lines ≡ front ++ later → Valid (opening_state entries lines)
+pub is_replay : (entries : Entries) (text : List ℕ) (lines front later : List ScriptLine) (history : List Entry) (out : List (List ℕ)) (last : Scene) → KeepEntries (entries_of lines) entries → length text ≤ script_limit → IsRead text lines → lines ≡ front ++ later → Valid (opening_state entries lines)
     → Plays (first_scene entries lines) front history out last → IsReplay lines front history out last
 is_replay entries text lines front later history out last kept short script ahead valid plays = record {
   entries = entries;
@@ -57,6 +57,12 @@ is_replay entries text lines front later history out last kept short script ahea
   sound = sound entries lines front history out last valid plays;
   room = λ later e. front_room entries text lines front later history out last short script plays e;
 }
+
+-- and it is the one with these entries
+pub is_replay_with : (entries : Entries) (text : List ℕ) (lines front later : List ScriptLine) (history : List Entry) (out : List (List ℕ)) (last : Scene) → KeepEntries (entries_of lines) entries → length text ≤ script_limit → IsRead text lines → lines ≡ front ++ later → Valid (opening_state entries lines)
+    → Plays (first_scene entries lines) front history out last → (replay : IsReplay lines front history out last) × (replay.entries ≡ entries)
+unfolding is_replay
+is_replay_with entries text lines front later history out last kept short script ahead valid plays = (is_replay entries text lines front later history out last kept short script ahead valid plays, refl)
 
 -- a text of these lines, whose opening is valid, and a portal that opened so
 module _ (text : List ℕ) (lines : List ScriptLine) (entries : Entries) (kept : KeepEntries (entries_of lines) entries) (size : length text ≤ script_limit) (script : IsRead text lines) (valid : Valid (opening_state entries lines)) (told told' : Option (List (List ℕ))) where
@@ -135,7 +141,7 @@ module _ (text : List ℕ) (lines slice : List ScriptLine) (p : ScriptPortal) (s
   none : state_now p.story ≡ opening_state h.entries lines
   none = ap (run (state_first p.story)) h.history ∙ h.state
 
-  scene_is : scene p [] ≡ first_scene h.entries lines
+  pub scene_is : scene p [] ≡ first_scene h.entries lines
   scene_is =
       ap (λ (z : State). record { portal = z; outside = outside_at p; sessions = sessions_of [] }) none
       ∙ ap (λ (z : Outside). record { portal = opening_state h.entries lines; outside = z; sessions = sessions_of [] }) h.outside

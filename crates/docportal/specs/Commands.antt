@@ -1,5 +1,5 @@
 -- The words of the program.
-use Rattle.std.specs.Prelude.{◌≡◌, ◌⊎◌, ℕ, ◌≤◌, true, List, [], ◌∷◌, Option, MatchOption, codes}
+use Rattle.std.specs.Prelude.{◌≡◌, ℕ, ◌≤◌, true, List, [], ◌∷◌, Option, MatchOption, codes}
 use Rattle.std.specs.Fmt.{decimal}
 use Rattle.portal_base.specs.Names.{is_app_name}
 use Rattle.docportal.specs.declared.command.Command.{Command}
@@ -9,9 +9,15 @@ use Rattle.docportal.specs.declared.command.Command.TheVariants.{Replay, Worlds,
 abbrev pub replay_words : List (List ℕ)
 replay_words = codes "replay" ∷ []
 
--- the word is a number from 1 to 100,000, in decimal digits without leading zeros
-abbrev pub IsCount : List ℕ → Type 0
-IsCount word = (n : ℕ) × (word ≡ decimal n) × (1 ≤ n) × (n ≤ 100000)
+-- the word is this number from 1 to 100,000, in decimal digits without leading zeros
+pub record IsCount (word : List ℕ) (n : ℕ) : Type 0 where
+  pub digits : word ≡ decimal n
+  pub some : 1 ≤ n
+  pub most : n ≤ 100000
+
+-- it is none
+abbrev pub IsNoCount : List ℕ → Type 0
+IsNoCount word = (n : ℕ) → IsCount word n → ⊥
 
 -- the words ask for this command: "replay", "worlds" and an application's name, or "generate" and a
 -- count
@@ -19,8 +25,8 @@ abbrev pub IsCommand : List (List ℕ) → Command → Type 0
 IsCommand words Replay = words ≡ replay_words
 IsCommand words Worlds = (app : List ℕ) × (words ≡ codes "worlds" ∷ app ∷ [])
     × (is_app_name app ≡ true)
-IsCommand words Generate = (count : List ℕ) × (words ≡ codes "generate" ∷ count ∷ [])
-    × IsCount count
+IsCommand words (Generate count) = (word : List ℕ) × (words ≡ codes "generate" ∷ word ∷ [])
+    × IsCount word count
 
 -- they ask for none
 abbrev pub IsNoCommand : List (List ℕ) → Type 0
@@ -28,7 +34,7 @@ IsNoCommand words = (command : Command) → IsCommand words command → ⊥
 
 -- they ask for one that isn't built
 abbrev pub IsUnbuiltCommand : List (List ℕ) → Type 0
-IsUnbuiltCommand words = IsCommand words Worlds ⊎ IsCommand words Generate
+IsUnbuiltCommand words = IsCommand words Worlds
 
 -- what was read of the words
 abbrev pub ReadsCommand : List (List ℕ) → Option Command → Type 0

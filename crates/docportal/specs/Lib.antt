@@ -9,4 +9,6 @@ pub mod Steps
 pub mod Started
 pub mod Plays
 pub mod Runs
+pub mod Outcomes
+pub mod Generated
 pub mod Statuses

@@ -1,7 +1,7 @@
 //! The words of the program.
 
-ghost use Rattle.std.specs.Prelude.{◌≡◌, ◌≢◌, ◌↔◌, ◌∷◌, [], IsTrue, MatchOption, codes};
-ghost use Rattle.docportal.specs.Commands.{IsCount, ReadsCommand};
+ghost use Rattle.std.specs.Prelude.{◌≡◌, ◌≢◌, ◌∷◌, [], MatchOption, codes};
+ghost use Rattle.docportal.specs.Commands.{IsCount, IsNoCount, ReadsCommand};
 
 use portal_base::names::AppId;
 use portal_base::text::Text;
@@ -15,7 +15,10 @@ pub enum Command {
     /// `worlds APP`: two scripts are compared as an application sees them.
     Worlds,
     /// `generate N`: a load of so many requests is run.
-    Generate,
+    Generate {
+        /// How many.
+        count: u32,
+    },
 }
 
 /// The greatest number of requests that may be generated.
@@ -47,24 +50,27 @@ fn command_of_two(first: &[u8], second: &[u8]) -> Option<Command>
     if first == b"worlds".as_slice() && AppId::is_name(second) {
         return Some(Command::Worlds);
     }
-    if first == b"generate".as_slice() && is_count(second) {
-        return Some(Command::Generate);
+    if first == b"generate".as_slice() {
+        return match read_count(second) {
+            Some(count) => Some(Command::Generate { count }),
+            None => None,
+        };
     }
     None
 }
 
-/// Whether a word is a number from 1 to 100,000.
-fn is_count(word: &[u8]) -> bool
-    ensures { IsTrue result ↔ IsCount word.now }
+/// The number from 1 to 100,000 that a word is.
+fn read_count(word: &[u8]) -> Option<u32>
+    ensures { MatchOption result (IsNoCount word.now) (IsCount word.now) }
 {
     let Some(number) = read_number(word) else {
-        return false;
+        return None;
     };
     if number == 0 {
-        return false;
+        return None;
     }
     if number > MOST_REQUESTS {
-        return false;
+        return None;
     }
-    true
+    Some(number as u32)
 }

@@ -51,7 +51,7 @@ pub fn run_line<K: Sink>(
         ScriptLine::Fail { .. } => Ok(()),
         ScriptLine::Word { .. } => Ok(()),
         ScriptLine::Now { moment } => {
-            portal.clock_mut().set(*moment);
+            portal.set_clock(*moment);
             Ok(())
         }
         ScriptLine::Open { seat, kind, who } => {

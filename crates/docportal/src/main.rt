@@ -2,16 +2,18 @@
 //!
 //! **It promises** (`run`) that at `Done` the output is the one that the script
 //! has, over one legal history, and that the replies to each application are those
-//! of its own machine over its trace; and that each other status but want of memory
+//! of its own machine over its trace; that of a generated load it is five lines over
+//! the history of the load's script; and that each other status but want of memory
 //! has its cause.
 //!
 //! | Room | Holds |
 //! |---|---|
+//! | `about` | what `--help` and `--version` print |
 //! | `command`, `settings` | the words of the program, and what a run is set to |
 //! | `input`, `output` | the input, read to its end; the lines of the output |
 //! | `run`, `status` | the whole of a run, and how it ends |
-//! | `start` | the portal that a script opens, over devices in memory |
-//! | `replay` | a script's lines, one after another |
+//! | `start`, `counted` | the portal that a script opens, over devices in memory, and what became of its requests |
+//! | `replay`, `generate` | a script's lines, one after another; a load of requests |
 //! | `line`, `error` | one line, and why it isn't run |
 //! | `seats`, `connections` | the sessions of a script, each at its seat of the portal |
 //!
@@ -22,9 +24,12 @@
 //! `docs/scripts.md` says what it reads and prints, `docs/statuses.md` how it ends.
 #![tactic(auto)]
 
+mod about;
 mod command;
 mod connections;
+mod counted;
 mod error;
+mod generate;
 mod input;
 mod line;
 mod output;
@@ -38,22 +43,32 @@ mod status;
 use crate::run::run;
 use crate::status::Status;
 use portal_base::list::List;
-use portal_base::outside::{StdSink, StdSource};
+use portal_base::outside::{Sink, StdSink, StdSource, WriteAnswer};
 use portal_base::text::Text;
 use std::process::ExitCode;
 use std::{env, io};
 
 fn main(rt: HostRuntime) -> ExitCode {
     let status = match words_of(&rt) {
-        Ok(words) => {
-            let mut source = StdSource::new(rt.stdin());
-            let mut sink = StdSink::new(rt.stdout());
-            run(rt.alloc(), words.as_slice(), &mut source, &mut sink)
-        }
+        Ok(words) => answer(&rt, words.as_slice()),
         Err(status) => status,
     };
     let _ = tell(&rt, status);
     ExitCode::from(status.number())
+}
+
+/// Prints what the words ask the program to tell of itself, or else runs what they
+/// ask for.
+fn answer(rt: &HostRuntime, words: &[Text]) -> Status {
+    let mut sink = StdSink::new(rt.stdout());
+    if let Some(text) = about::told_to(words) {
+        return match sink.write(text.as_bytes()) {
+            WriteAnswer::Done => Status::Done,
+            WriteAnswer::Failed => Status::WriteFault,
+        };
+    }
+    let mut source = StdSource::new(rt.stdin());
+    run(rt.alloc(), words, &mut source, &mut sink)
 }
 
 /// The words behind the program's name. One that isn't UTF-8 is in none of the

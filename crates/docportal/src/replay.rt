@@ -1,6 +1,7 @@
 //! Running a script.
 
 ghost use Rattle.std.specs.Prelude.{◌≡◌, ◌<◌, ◌-◌, ◌^◌, [], IfErr, OnOk};
+ghost use Rattle.portal_core.specs.Story.{state_first};
 ghost use Rattle.docportal.specs.Plays.{PlaysAll, PlayStops, status_at};
 ghost use Rattle.docportal.specs.Scenes.{run_settings};
 ghost use Rattle.docportal.specs.Steps.{MayPlay, scene};
@@ -26,6 +27,7 @@ pub fn run_lines<K: Sink>(
 ) -> Result<(), Status>
     requires may { MayPlay [] portal.old [] lines.now }
     requires settings { settings.now ≡ run_settings }
+    ensures opening { state_first portal.new.story ≡ state_first portal.old.story }
     ensures ok { OnOk result (PlaysAll portal.old portal.new lines.now (K.told sink.old)
         (K.told sink.new)) }
     ensures counts { OnOk result (K.faults sink.new ≡ K.faults sink.old) }

@@ -5,11 +5,13 @@ ghost use Rattle.portal_base.specs.Outside.{onto};
 ghost use Rattle.script_form.specs.Lines.{text_of};
 ghost use Rattle.script_form.specs.Order.{IsScript};
 ghost use Rattle.docportal.specs.Commands.{replay_words};
+ghost use Rattle.docportal.specs.Generated.{RanAny};
 ghost use Rattle.docportal.specs.Inputs.{script_limit};
 ghost use Rattle.docportal.specs.Runs.{Ran, Replays, Risen};
 ghost use Rattle.docportal.specs.Started.{StartsScript};
 
 use crate::command::{Command, command_of};
+use crate::generate::generate;
 use crate::input::{InputError, read_to_end};
 use crate::replay::run_lines;
 use crate::settings::settings;
@@ -27,14 +29,16 @@ use std::alloc::Global;
 ///
 /// With `replay` the source's script is run, and its output goes to the sink.
 /// The source is read to its end, and the whole of it is found to be a script,
-/// before the first line is run. `worlds APP` and `generate N` aren't built.
+/// before the first line is run. With `generate N` the load of so many requests
+/// is run, nothing is read, and five lines say what became of them. `worlds APP`
+/// isn't built.
 pub fn run<S: Source, K: Sink>(
     alloc: Global,
     words: &[Text],
     source: &mut S,
     sink: &mut K,
 ) -> Status
-    ensures ran { Ran words.now (S.left source.old) (S.left source.new) (K.told sink.old)
+    ensures ran { RanAny words.now (S.left source.old) (S.left source.new) (K.told sink.old)
         (K.told sink.new) result }
     ensures risen { Risen result (S.faults source.old) (S.faults source.new) (K.faults sink.old)
         (K.faults sink.new) }
@@ -42,7 +46,7 @@ pub fn run<S: Source, K: Sink>(
     match command_of(words) {
         Some(Command::Replay) => replay_source(alloc, source, sink),
         Some(Command::Worlds) => Status::Unbuilt { line: 0 },
-        Some(Command::Generate) => Status::Unbuilt { line: 0 },
+        Some(Command::Generate { count }) => generate(alloc, count, sink),
         None => Status::Usage,
     }
 }

@@ -4,19 +4,18 @@ ghost use Rattle.std.specs.Prelude.{IfOk};
 ghost use Rattle.script_form.specs.Order.{IsScript};
 ghost use Rattle.docportal.specs.Started.{StartsScript};
 
+use crate::counted::CountedPortal;
 use crate::settings::limits;
-use host_tree::MemoryTree;
 use portal_base::memory::WantOfMemory;
-use portal_base::outside::{ListWords, SetClock};
+use portal_base::outside::SetClock;
 use portal_core::portal::Portal;
 use portal_core::start::StartError;
-use record_keeper::MemoryKeeper;
 use script_form::devices::{ScriptDevices, devices_of};
 use script_form::script::Script;
 use std::alloc::Global;
 
-/// A portal over devices in memory.
-pub type ScriptPortal = Portal<MemoryTree, MemoryKeeper, SetClock, ListWords>;
+/// The portal of a script: over devices in memory, and its requests are counted.
+pub type ScriptPortal = CountedPortal;
 
 /// The portal that a script opens: over a tree of its files, a keeper of its
 /// records, a clock that shows 0, and its words.
@@ -33,7 +32,8 @@ pub fn start(alloc: Global, script: &Script) -> Result<ScriptPortal, WantOfMemor
     match Portal::start(alloc, tree, keeper, clock, words, limits()) {
         Ok(portal) => {
             portal.known();
-            Ok(portal)
+            let counted = CountedPortal::new(portal);
+            Ok(counted)
         }
         Err(refusal) => match refusal.error {
             StartError::Memory => Err(WantOfMemory),

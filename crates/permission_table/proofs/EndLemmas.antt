@@ -1,20 +1,18 @@
 -- Where the pieces of a spelling end.
-use Rattle.std.proofs.Common.{◌≡◌, ℕ, ◌+◌, ◌<◌, ◌≤◌, List, [], ◌∷◌, ◌++◌, length, map, replicate, Option, None, refl, sym, ap, subst, ◌∙◌, arith}
+use Rattle.std.proofs.Common.{◌≡◌, ℕ, ◌+◌, ◌<◌, ◌≤◌, List, [], ◌∷◌, ◌++◌, length, Option, None, refl, sym, ap, subst, ◌∙◌, arith}
 use Rattle.std.specs.Int.{w8, w16, w32, w64, to_le_bytes}
-use Rattle.std.proofs.lemmas.List.{length-append, length-replicate}
+use Rattle.std.proofs.lemmas.List.{length-append}
 use Rattle.dbus_types.specs.declared.types.Endian.TheVariants.{Little}
-use Rattle.dbus_types.specs.declared.types.WireType.{WireType, the_lemmas as type_lemmas}
-use Rattle.dbus_types.specs.declared.types.WireType.TheVariants as W
+use Rattle.dbus_types.specs.declared.types.WireType.{WireType}
 use Rattle.dbus_types.specs.declared.types.Value.{Value}
 use Rattle.dbus_types.specs.declared.types.Value.TheVariants as V
-use Rattle.dbus_types.specs.Types.{alignment, type_text}
+use Rattle.dbus_types.specs.Types.{type_text}
 use Rattle.dbus_types.specs.Values.{type_of}
-use Rattle.dbus_types.specs.Spells.{gap, number}
-use Rattle.dbus_types.specs.Spelling.{Spelled, aligned, in_row, text_body, array_body, signature_body, variant_body, spelled, spelling, spelled_length, spelled_lengths}
-use Rattle.dbus_types.proofs.OneSpelling.{roll_struct, roll_entry, roll_variant, roll_array}
+use Rattle.dbus_types.specs.Spells.{number}
+use Rattle.dbus_types.specs.Spelling.{Spelled, text_body, signature_body, variant_body, spelled, spelling, spelled_length}
+use Rattle.dbus_types.proofs.OneSpelling.{roll_variant}
 use Rattle.dbus_types.proofs.SpelledType.{spelled_kind}
-use Rattle.portal_model.specs.Changed.{message_limit, row_value, rows_value, texts_value}
-use Rattle.portal_model.specs.declared.records.Row.{Row}
+use Rattle.portal_model.specs.Changed.{message_limit}
 pub use Rattle.portal_model.proofs.SpelledEnds.{array-end, behind, entry-end, number_32, on, rows-end, struct-end, texts-end}
 use Rattle.permission_table.specs.Ends.{Ends, inside_at}
 

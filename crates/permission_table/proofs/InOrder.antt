@@ -15,10 +15,10 @@ bytes = record { eq = is_same-eq; itself = is_same-refl; irreflexive = bytes-irr
 not-back : (a b : List ℕ) → bytes_less a b ≡ true → bytes_less b a ≡ false
 not-back a b l = grind (arith, bytes-through a b a, bytes-irreflexive a)
 
-same-way : (a b : List ℕ) → a ≡ b → is_same b a ≡ true
+pub same-way : (a b : List ℕ) → a ≡ b → is_same b a ≡ true
 same-way a b e = ap (is_same b) e ∙ is_same-refl b
 
-ahead : (a b : List ℕ) → is_same b a ≡ false → bytes_less b a ≡ false → bytes_less a b ≡ true
+pub ahead : (a b : List ℕ) → is_same b a ≡ false → bytes_less b a ≡ false → bytes_less a b ≡ true
 ahead a b k l = grind (arith, bytes-total a b, same-way a b)
 
 not-ahead : (a b : List ℕ) → is_same b a ≡ true → bytes_less a b ≡ false

@@ -1,4 +1,5 @@
 pub mod InOrder
+pub mod SortedIds
 pub mod FirstPassing
 pub mod KeptEntries
 pub mod RowLemmas

@@ -1,5 +1,5 @@
 -- What an entry keeps by itself, as a call sets its rows and data.
-use Rattle.std.proofs.Common.{◌≡◌, ℕ, ◌+◌, List, [], ◌∷◌, ◌++◌, length, reverse, Bool, true, false, ◌&&◌, not, cond, Option, Some, None, refl, sym, ap, subst, ◌∙◌, arith}
+use Rattle.std.proofs.Common.{◌≡◌, ℕ, List, [], Bool, true, false, ◌&&◌, Option, Some, None, refl, subst}
 use Rattle.std.specs.List.{list_all}
 use Rattle.dbus_types.specs.declared.types.Value.{Value}
 use Rattle.portal_model.specs.Rows.{stored_rows, with_row, without_row}

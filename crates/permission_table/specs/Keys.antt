@@ -1,5 +1,11 @@
--- What stands at a place of a list.
-use Rattle.std.specs.Prelude.{Bool, false, Option, Some, None}
+-- The order of keys, and what stands at a place of a list.
+use Rattle.std.specs.Prelude.{ℕ, List, Bool, false, Option, Some, None}
+use Rattle.std.specs.Cmp.Lexicographic.{slice_cmp}
+use Rattle.std.specs.Ordering.{is_lt, nat_cmp}
+
+-- as texts are compared, byte by byte
+abbrev pub key_less : List ℕ → List ℕ → Bool
+key_less a b = is_lt (slice_cmp nat_cmp a b)
 
 -- it is there, and passes the test
 abbrev pub is_at_place : {X : Type 0} → (X → Bool) → Option X → Bool

@@ -1,7 +1,7 @@
 -- What tables keep, and what a call of theirs gives. The terms are those of the documentation of
 -- org.freedesktop.impl.portal.PermissionStore.
-use Rattle.std.specs.Prelude.{◌≡◌, ℕ, List, Bool, true, Option, Some, None, option_map, Result, Ok, Err}
-use Rattle.std.specs.List.{All, list_all, IsDistinct}
+use Rattle.std.specs.Prelude.{◌≡◌, ℕ, List, map, Bool, true, Option, Some, None, option_map, Result, Ok, Err}
+use Rattle.std.specs.List.{All, filter, list_all, IsDistinct}
 use Rattle.dbus_types.specs.declared.types.Value.{Value}
 use Rattle.portal_model.specs.declared.records.Row.{Row}
 use Rattle.portal_model.specs.declared.store.StoreAnswer.{StoreAnswer}
@@ -12,7 +12,7 @@ use Rattle.portal_model.specs.declared.store.TableEntry.{TableEntry}
 use Rattle.portal_model.specs.Data.{is_data}
 use Rattle.portal_model.specs.RecordChanges.{change_first}
 use Rattle.portal_model.specs.Rows.{are_rows}
-use Rattle.portal_model.specs.Store.{Entries, Outcome, can_be_told, is_entry_of, entry_of}
+use Rattle.portal_model.specs.Store.{Entries, Outcome, can_be_told, is_entry_of, is_in_table, entry_of}
 use Rattle.portal_model.specs.Store.{without_entry}
 use Rattle.portal_model.specs.Valid.{has_entry_texts, has_texts, same_entry}
 
@@ -42,6 +42,10 @@ pub record AreEntries (entries : Entries) : Type 0 where
   -- entries differ in table or identifier
   pub differ : IsDistinct same_entry entries
   pub held : All IsHeld entries
+
+-- the identifiers of a table, in order of creation
+abbrev pub ids_in_table : List ℕ → Entries → List (List ℕ)
+ids_in_table table entries = map (λ e. e.id) (filter (is_in_table table) entries)
 
 -- what its definition says, or want of memory; a refusal changes nothing
 abbrev pub Gives : Outcome → Entries → Entries → Result StoreAnswer StoreError → Type 0

@@ -6,9 +6,9 @@ ghost use Rattle.portal_model.specs.Store.{is_entry_of, entry_of, is_in_table, i
 ghost use Rattle.portal_model.specs.Ordered.{is_rising};
 ghost use Rattle.portal_model.specs.Rows.{row_less};
 ghost use Rattle.portal_model.specs.declared.store.StoreAnswer.TheVariants.{Entry};
-ghost use Rattle.permission_table.specs.Tables.{AreEntries, content_of, restored};
+ghost use Rattle.permission_table.specs.Tables.{AreEntries, content_of, ids_in_table, restored};
 
-use crate::ordered::put_in_order;
+use crate::ordered::sort;
 use crate::rows::{row_of, with_row, without_row};
 use portal_base::list::List;
 use portal_base::memory::{Replica, WantOfMemory};
@@ -46,24 +46,42 @@ fn is_entry_of(entry: &StoredEntry, table: &Text, id: &Text) -> bool
     entry.table == *table && entry.id == *id
 }
 
-/// The identifiers of a table, in byte order.
+/// The identifiers of a table, in byte order: of n entries in about n log n steps.
 pub(crate) fn ids_of(
     alloc: Global,
     entries: &[StoredEntry],
     table: &Text,
 ) -> Result<List<Text>, WantOfMemory>
+    requires { AreEntries entries.now }
     ensures { IfOk result (λ ids. ids ≡ ids_of table.now entries.now) }
 {
+    let mut ids = ids_in_table(alloc, entries, table)?;
+    sort(&mut ids);
+    Ok(List::from_vec(ids))
+}
+
+/// The identifiers of a table, in order of creation.
+fn ids_in_table(
+    alloc: Global,
+    entries: &[StoredEntry],
+    table: &Text,
+) -> Result<Vec<Text>, WantOfMemory>
+    ensures { IfOk result (λ ids. ids.items ≡ ids_in_table table.now entries.now) }
+{
     let mut ids = Vec::new(alloc);
-    let mut at = entries.len();
-    while at > 0 {
-        at -= 1;
-        let entry = &entries[at];
-        if entry.table == *table {
-            put_in_order(&mut ids, entry.id.replica(alloc)?)?;
+    for entry in entries {
+        if is_in_table(entry, table) {
+            ids.push(entry.id.replica(alloc)?)?;
         }
     }
-    Ok(List::from_vec(ids))
+    Ok(ids)
+}
+
+/// Says whether an entry is of a table.
+fn is_in_table(entry: &StoredEntry, table: &Text) -> bool
+    ensures { result ≡ is_in_table table.now entry.now }
+{
+    entry.table == *table
 }
 
 /// What is told of an entry that is looked up.

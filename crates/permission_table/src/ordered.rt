@@ -1,14 +1,18 @@
 //! Lists in byte order of the keys of their items, which differ.
 
 ghost use Rattle.std.specs.Prelude.{◌≡◌, ◌&&◌, ℕ, ◌<◌, length, true, OnOk, OnErr, slice_get};
+ghost use Rattle.std.specs.Cmp.Lexicographic.{slice_cmp};
 ghost use Rattle.std.specs.List.{prefix_len};
+ghost use Rattle.std.specs.List.Sorted.{IsPermutation, IsSortedBy};
+ghost use Rattle.std.specs.Ordering.{nat_cmp};
 ghost use Rattle.portal_base.specs.Names.{is_same};
 ghost use Rattle.portal_model.specs.Ordered.{bytes_less, put, is_rising};
-ghost use Rattle.permission_table.specs.Keys.{is_at_place};
+ghost use Rattle.permission_table.specs.Keys.{is_at_place, key_less};
 
 use portal_base::memory::WantOfMemory;
 use portal_base::text::Text;
 use portal_model::records::Row;
+use std::cmp::Ordering;
 
 /// What stands in a list by its key.
 pub(crate) trait Keyed {
@@ -36,6 +40,21 @@ impl Keyed for Text {
     fn key(&self) -> &[u8] {
         self.as_bytes()
     }
+}
+
+/// Puts all items in their places.
+pub(crate) fn sort<T: Keyed>(items: &mut Vec<T>)
+    ensures same { IsPermutation items.old.items items.new.items }
+    ensures order { IsSortedBy (λ a b. key_less (T.key_of a) (T.key_of b)) items.new.items }
+{
+    items.sort_unstable_by(|first, second| place_order(first, second));
+}
+
+/// Which of two items has its place first.
+fn place_order<T: Keyed>(first: &T, second: &T) -> Ordering
+    ensures { result ≡ slice_cmp nat_cmp (T.key_of first.now) (T.key_of second.now) }
+{
+    first.key().cmp(second.key())
 }
 
 /// Puts an item in its place, where it stands instead of one with its key.

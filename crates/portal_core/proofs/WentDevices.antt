@@ -121,32 +121,16 @@ pub same-portal : {T K C W : Type 0} (old new : PortalIs T K C W) → new.tree �
 same-portal old new t k c w b o h = λ i. record { tree = t i; keeper = k i; clock = c i; words = w i; story = record { began = b i; opening = o i; history = h i } }
 
 module _ {T K C W : Type 0} (tree_is : T → TreeIs) (keeper_is : K → KeeperIs) (clock_told : C → Option ℕ) (words_told : W → Option (List ℕ)) (old : PortalIs T K C W) (request : Request) (new : PortalIs T K C W) where
-  -- a refusal for which nothing but the keeper was asked
-  pub spends-keeper : new.tree ≡ old.tree → KeeperStays (keeper_is old.keeper) (keeper_is new.keeper) → new.clock ≡ old.clock → new.words ≡ old.words → new.story ≡ old.story → Spends tree_is keeper_is clock_told words_told old request new
-  spends-keeper t k c w s = record {
-    tree = subst (λ (x : T). WasCalled (tree_is old.tree) (tree_is x)) (sym t) (0, calling-none (tree_is old.tree));
-    keeper = k;
-    clock = ap clock_told c;
-    words = ([], ap words_told w);
-    story = s;
-    unasked = λ _. t;
-    undrawn = λ _. w;
-    unread = λ _. c;
-  }
-
-  -- one that changes nothing
-  pub spends-nothing : new ≡ old → Spends tree_is keeper_is clock_told words_told old request new
-  spends-nothing e = spends-keeper (ap (λ (p : PortalIs T K C W). p.tree) e) (inl (ap (λ (p : PortalIs T K C W). keeper_is p.keeper) e)) (ap (λ (p : PortalIs T K C W). p.clock) e) (ap (λ (p : PortalIs T K C W). p.words) e) (ap (λ (p : PortalIs T K C W). p.story) e)
-
   -- that of an Add, which may have asked each device but the clock
-  pub spends-add : may_draw request ≡ true → may_ask_tree_in_vain request ≡ true → WasAsked (tree_is old.tree) (tree_is new.tree) → KeeperStays (keeper_is old.keeper) (keeper_is new.keeper) → new.clock ≡ old.clock →
+  pub spends-add : may_draw request ≡ true → may_ask_tree_in_vain request ≡ true → may_change_records request ≡ true → WasAsked (tree_is old.tree) (tree_is new.tree) → KeeperStays (keeper_is old.keeper) (keeper_is new.keeper) → new.clock ≡ old.clock →
       HasDrawn (words_told old.words) (words_told new.words) → new.story.began ≡ old.story.began → new.story.opening ≡ old.story.opening → new.story.history ≡ old.story.history → Spends tree_is keeper_is clock_told words_told old request new
-  spends-add draws asks t k c w b o h = record {
+  spends-add draws asks changes t k c w b o h = record {
     tree = was-asked-called (tree_is old.tree) (tree_is new.tree) t;
     keeper = k;
     clock = ap clock_told c;
     words = w;
     story = λ i. record { began = b i; opening = o i; history = h i };
+    unkept = λ f. let no : true ≡ false = sym changes ∙ f in absurd (cc);
     unasked = λ f. let no : true ≡ false = sym asks ∙ f in absurd (cc);
     undrawn = λ f. let no : true ≡ false = sym draws ∙ f in absurd (cc);
     unread = λ _. c;
@@ -161,6 +145,7 @@ module _ {T K C W : Type 0} (tree_is : T → TreeIs) (keeper_is : K → KeeperIs
     clock = c;
     words = ([], ap words_told w);
     story = λ i. record { began = b i; opening = o i; history = h i };
+    unkept = λ _. k;
     unasked = asks;
     undrawn = λ _. w;
     unread = reads;

@@ -47,7 +47,8 @@ pub record Went {T K C W : Type 0} (tree_is : T → TreeIs) (keeper_is : K
 -- have wanted memory too. Where the request may ask the tree in vain, that may have been asked, of
 -- which no call failed, and else it is the same; where it may draw words, some may have been drawn,
 -- and else they are the same; and where it may read the clock, that may have been read, which shows
--- what it showed, and else it is the same. All else is as before.
+-- what it showed, and else it is the same; and where it may not change the records the keeper is
+-- the same. All else is as before.
 pub record Spends {T K C W : Type 0} (tree_is : T → TreeIs) (keeper_is : K
     → KeeperIs) (clock_told : C → Option ℕ) (words_told : W → Option (List ℕ))
     (old : PortalIs T K C W) (request : Request) (new : PortalIs T K C W) : Type 0 where
@@ -56,6 +57,7 @@ pub record Spends {T K C W : Type 0} (tree_is : T → TreeIs) (keeper_is : K
   pub clock : clock_told new.clock ≡ clock_told old.clock
   pub words : HasDrawn (words_told old.words) (words_told new.words)
   pub story : new.story ≡ old.story
+  pub unkept : may_change_records request ≡ false → new.keeper ≡ old.keeper
   pub unasked : may_ask_tree_in_vain request ≡ false → new.tree ≡ old.tree
   pub undrawn : may_draw request ≡ false → new.words ≡ old.words
   pub unread : may_read_clock request ≡ false → new.clock ≡ old.clock

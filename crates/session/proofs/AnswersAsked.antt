@@ -6,6 +6,7 @@ use Rattle.std.proofs.lemmas.List.{append-nil, append_assoc, take-append-drop}
 use Rattle.portal_base.specs.declared.split.Split.TheVariants as split
 use Rattle.portal_model.specs.declared.reply.Refused.{Refused}
 use Rattle.portal_model.specs.declared.reply.Reply.{Reply}
+use Rattle.portal_model.specs.declared.request.NodeOp.{NodeOp}
 use Rattle.portal_model.specs.declared.request.Request.{Request}
 use Rattle.dbus_types.specs.declared.message.Message.{Message}
 use Rattle.dbus_types.specs.declared.message.OutMessage.{OutMessage}
@@ -83,14 +84,14 @@ of_same (r ∷ rs) o1 o2 u1 u2 (x, xs, xe, is, more) (y, ys, ye, js, others) e =
       k.1,
     )
 
-abbrev frames_told : ℕ → Result Reply Refused → List (List ℕ)
-frames_told unique (Ok reply) = answer_frames unique reply.answer
-frames_told unique (Err why) = refusal_frames unique why
+abbrev frames_told : ℕ → NodeOp → Result Reply Refused → List (List ℕ)
+frames_told unique op (Ok reply) = answer_frames unique reply.answer
+frames_told unique op (Err why) = refusal_frames unique op why
 
-told_frames : (unique : ℕ) (os : List Outcome) → flat_map (frames_for unique) os ≡ flat_map (frames_told unique) (map told_as os)
-told_frames unique [] = refl
-told_frames unique (Made x ∷ os) = ap (λ (z : List (List ℕ)). answer_frames unique x.reply.answer ++ z) (told_frames unique os)
-told_frames unique (Denied request why ∷ os) = ap (λ (z : List (List ℕ)). refusal_frames unique why ++ z) (told_frames unique os)
+told_frames : (unique : ℕ) (op : NodeOp) (os : List Outcome) → flat_map (frames_for unique op) os ≡ flat_map (frames_told unique op) (map told_as os)
+told_frames unique op [] = refl
+told_frames unique op (Made x ∷ os) = ap (λ (z : List (List ℕ)). answer_frames unique x.reply.answer ++ z) (told_frames unique op os)
+told_frames unique op (Denied request why ∷ os) = ap (λ (z : List (List ℕ)). refusal_frames unique op why ++ z) (told_frames unique op os)
 
 abbrev signals_told : Result Reply Refused → List OutMessage
 signals_told (Ok reply) = map signal_of reply.signals
@@ -124,7 +125,7 @@ pieces_alike c (Line reply) s os us e = refl
 pieces_alike c (Call reply collects) s os us e = ap (spoken s) (messages_alike c (Call reply collects) os us e)
 pieces_alike c (Portal call request) s os us e = ap (spoken s) (messages_alike c (Portal call request) os us e)
 pieces_alike c (Local unique told) s os us e = refl
-pieces_alike c (Node unique request) s os us e = told_frames unique os ∙ (ap (flat_map (frames_told unique)) e ∙ sym (told_frames unique us))
+pieces_alike c (Node unique request) s os us e = told_frames unique request.op os ∙ (ap (flat_map (frames_told unique request.op)) e ∙ sym (told_frames unique request.op us))
 
 alike : (acts : List Act) (c : Client) (s m n : ℕ) (os us : List Outcome) (ps qs : List (List ℕ)) → map told_as os ≡ map told_as us → Answers c s acts os ps m → Answers c s acts us qs n → (ps ≡ qs) × (m ≡ n)
 alike [] c s m n os us ps qs e a b = (a.1 ∙ sym b.1, a.2 ∙ sym b.2)

@@ -8,6 +8,7 @@ use Rattle.std.specs.List.{flat_map}
 use Rattle.portal_model.specs.declared.reply.Change.{Change}
 use Rattle.portal_model.specs.declared.reply.Refused.{Refused}
 use Rattle.portal_model.specs.declared.reply.Reply.{Reply}
+use Rattle.portal_model.specs.declared.request.NodeOp.{NodeOp}
 use Rattle.portal_model.specs.declared.request.Request.{Request}
 use Rattle.portal_model.specs.Seated.{Exchange}
 use Rattle.dbus_types.specs.declared.message.Message.{Message}
@@ -111,10 +112,10 @@ messages_of c (Local unique told) outcomes = []
 
 -- ---- answers
 
--- the frame of the reply or of the refusal
-abbrev pub frames_for : ℕ → Outcome → List (List ℕ)
-frames_for unique (Made x) = answer_frames unique x.reply.answer
-frames_for unique (Denied request why) = refusal_frames unique why
+-- the frame of the reply or of the refusal, where the operation has one
+abbrev pub frames_for : ℕ → NodeOp → Outcome → List (List ℕ)
+frames_for unique op (Made x) = answer_frames unique x.reply.answer
+frames_for unique op (Denied request why) = refusal_frames unique op why
 
 -- the pieces that are written of what an item asks, behind a serial, with these outcomes
 abbrev pub pieces_of : Client → Act → ℕ → List Outcome → List (List ℕ)
@@ -124,7 +125,7 @@ pieces_of c (Call reply collects) serial outcomes =
     spoken serial (messages_of c (Call reply collects) outcomes)
 pieces_of c (Portal call request) serial outcomes =
     spoken serial (messages_of c (Portal call request) outcomes)
-pieces_of c (Node unique request) serial outcomes = flat_map (frames_for unique) outcomes
+pieces_of c (Node unique request) serial outcomes = flat_map (frames_for unique request.op) outcomes
 pieces_of c (Local unique told) serial outcomes = frames_of unique told
 
 -- and the last serial

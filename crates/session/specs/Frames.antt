@@ -1,5 +1,5 @@
 -- The frames that answer a frame (include/uapi/linux/fuse.h).
-use Rattle.std.specs.Prelude.{ℕ, List, [], Option, Some, None, option_to_list}
+use Rattle.std.specs.Prelude.{ℕ, List, [], Bool, true, false, cond, Option, Some, None, option_to_list}
 use Rattle.fuse_reply.specs.Replies.{reply_of}
 use Rattle.portal_model.specs.declared.reply.Answer.{Answer}
 use Rattle.portal_model.specs.declared.reply.Answer.TheVariants as answer
@@ -9,6 +9,7 @@ use Rattle.portal_model.specs.declared.reply.NodeAnswer.{NodeAnswer}
 use Rattle.portal_model.specs.declared.reply.NodeAnswer.TheVariants.{Error}
 use Rattle.portal_model.specs.declared.reply.Refused.{Refused}
 use Rattle.portal_model.specs.declared.reply.Refused.TheVariants.{Memory, Full}
+use Rattle.portal_model.specs.declared.request.NodeOp.{NodeOp}
 use Rattle.portal_model.specs.Errno.{enomem, enospc}
 
 -- What a frame tells of an answer: nothing to a seat without an open connection, and nothing of an
@@ -38,6 +39,13 @@ abbrev pub refusal_errno : Refused → ℕ
 refusal_errno Memory = enomem
 refusal_errno (Full cost limit) = enospc
 
--- the frame that tells that the request of this number is no entry of the history
-abbrev pub refusal_frames : ℕ → Refused → List (List ℕ)
-refusal_frames unique why = frames_of unique (Error (refusal_errno why))
+-- A FUSE_FORGET and a FUSE_BATCH_FORGET have no reply, whatever becomes of them.
+abbrev pub has_no_reply : NodeOp → Bool
+has_no_reply (NodeOp.Forget count) = true
+has_no_reply (NodeOp.BatchForget nodes) = true
+has_no_reply op = false
+
+-- the frame, if any, that tells that the request of this number is no entry of the history
+abbrev pub refusal_frames : ℕ → NodeOp → Refused → List (List ℕ)
+refusal_frames unique op why =
+    cond (has_no_reply op) [] (frames_of unique (Error (refusal_errno why)))

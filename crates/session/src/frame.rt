@@ -2,13 +2,15 @@
 
 ghost use Rattle.std.specs.Prelude.{◌≡◌, IfOk, option_to_list};
 ghost use Rattle.session.specs.Frames.{told_of, answer_frames, frames_of, refusal_errno};
-ghost use Rattle.session.specs.Frames.{refusal_frames};
+ghost use Rattle.portal_model.specs.declared.request.NodeOp.{NodeOp};
+ghost use Rattle.session.specs.Frames.{has_no_reply, refusal_frames};
 
 use fuse_reply::reply::write_reply;
 use portal_base::list::ByteList;
 use portal_base::memory::WantOfMemory;
 use portal_model::errno::{ENOMEM, ENOSPC};
 use portal_model::reply::{Answer, Code, NodeAnswer, Refused};
+use portal_model::request::NodeOp;
 use std::alloc::Global;
 
 /// The frame that tells an answer to the request of this number, or `None`
@@ -26,15 +28,27 @@ pub fn answer_frame(
     }
 }
 
+/// Says whether an operation has no reply, whatever becomes of it.
+pub fn has_no_reply(op: &NodeOp) -> bool
+    ensures { result ≡ has_no_reply op.now }
+{
+    matches!(op, NodeOp::Forget { .. } | NodeOp::BatchForget { .. })
+}
+
 /// The frame that tells that the request of this number is no entry of the
-/// history.
+/// history, or `None` where the operation has no reply.
 pub fn refusal_frame(
     alloc: Global,
     unique: u64,
+    is_quiet: bool,
     refused: Refused,
 ) -> Result<Option<ByteList>, WantOfMemory>
-    ensures { IfOk result (λ frame. option_to_list frame ≡ refusal_frames unique refused) }
+    ensures { (op : NodeOp) → has_no_reply op ≡ is_quiet
+        → IfOk result (λ frame. option_to_list frame ≡ refusal_frames unique op refused) }
 {
+    if is_quiet {
+        return Ok(None);
+    }
     let told = NodeAnswer::Error {
         errno: errno_of(refused),
     };

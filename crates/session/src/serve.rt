@@ -17,7 +17,7 @@ ghost use Rattle.session.specs.Cuts.{Cuts, whole_item};
 ghost use Rattle.session.specs.Ledger.{world, Sends, ActEnds, Collected, ItemEnds, Stops};
 
 use crate::act::{Act, Client, ItemError};
-use crate::frame::{answer_frame, refusal_frame, told_frame};
+use crate::frame::{answer_frame, has_no_reply, refusal_frame, told_frame};
 use crate::item::{read_item, reply_to};
 use crate::phase::{Phase, next_cut};
 use crate::served::{Fed, Stop};
@@ -223,9 +223,13 @@ fn serve_node<D: Desk, K: Sink>(
         (world (D.seated desk.new) (K.told sink.new) (K.faults sink.new)) }
     ensures goes { D.goes desk.old desk.new }
 {
+    let is_quiet = has_no_reply(&request.op);
     match desk.ask(alloc, Request::Node(request)) {
         Ok(reply) => send_frame(serial, answer_frame(alloc, unique, reply.answer), sink),
-        Err(refused) => send_frame(serial, refusal_frame(alloc, unique, refused), sink),
+        Err(refused) => {
+            let frame = refusal_frame(alloc, unique, is_quiet, refused);
+            send_frame(serial, frame, sink)
+        }
     }
 }
 

@@ -152,7 +152,13 @@ fn long_answer(alloc: Global, count: u32) -> Result<Answer, LineError> {
 
 fn long_reply(alloc: Global, answer: &Answer) -> Result<String, LineError> {
     let call = call_of(alloc, "/org/freedesktop/portal/documents - Lookup -")?;
-    let reply = reply_to(alloc, &call, answer)?;
+    let told = returned(alloc, &call, answer);
+    drop(call);
+    told
+}
+
+fn returned(alloc: Global, call: &Message, answer: &Answer) -> Result<String, LineError> {
+    let reply = reply_to(alloc, call, answer)?;
     returns(alloc, &reply)
 }
 

@@ -62,17 +62,26 @@ fn shown_rights(alloc: Global, name: &str, call: &RightsCall) -> Result<String, 
     Ok(format!(in alloc; "{name}({doc} {app} {names})")?)
 }
 
-/// The flags `named` and `full`, the handles, how many files come with the
-/// call, the name, the flags, the application and the permissions.
 fn shown_add(alloc: Global, add: &AddRequest) -> Result<String, LineError> {
+    let files = shown_files(alloc, add)?;
+    let document = shown_document(alloc, add)?;
+    Ok(format!(in alloc; "Add({files}, {document})")?)
+}
+
+/// The flags `named` and `full`, the handles, and how many files come with the call.
+fn shown_files(alloc: Global, add: &AddRequest) -> Result<String, LineError> {
     let handles = debug(alloc, &add.handles.as_slice())?;
+    let (named, full, fds) = (add.named, add.full, add.fds);
+    Ok(format!(in alloc; "named {named}, full {full}, handles {handles}, fds {fds}")?)
+}
+
+/// The name, the flags, the application and the permissions.
+fn shown_document(alloc: Global, add: &AddRequest) -> Result<String, LineError> {
     let name = digits(alloc, add.name.as_slice())?;
     let app = digits(alloc, add.app.as_slice())?;
     let names = shown_texts(alloc, &add.names)?;
-    let (named, full, fds, flags) = (add.named, add.full, add.fds, add.flags);
-    let files = format!(in alloc; "Add(named {named}, full {full}, handles {handles}, fds {fds}")?;
-    let rest = format!(in alloc; "name [{name}], flags {flags}, app [{app}], names {names})")?;
-    Ok(format!(in alloc; "{files}, {rest}")?)
+    let flags = add.flags;
+    Ok(format!(in alloc; "name [{name}], flags {flags}, app [{app}], names {names}")?)
 }
 
 pub(crate) fn shown_texts(alloc: Global, texts: &List<Text>) -> Result<String, LineError> {

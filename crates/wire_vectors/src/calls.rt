@@ -61,7 +61,9 @@ fn answered(alloc: Global, call: &Message, serial: u32) -> Result<String, LineEr
     requires { serial ≢ 0 }
 {
     let ask = ask_of(alloc, call)?;
-    answered_with(alloc, &ask, serial)
+    let answer = answered_with(alloc, &ask, serial);
+    drop(ask);
+    answer
 }
 
 /// The bytes of what is answered without the portal, with this serial.
@@ -109,7 +111,15 @@ pub fn refused(alloc: Global, rest: &str) -> Result<String, LineError> {
         _ => return Err(LineError::BadLine),
     };
     let call = call_of(alloc, "/ - Add hbb")?;
-    shown_message(alloc, &refused_message(alloc, &refused, &call)?)
+    let told = told_refused(alloc, &refused, &call);
+    drop(call);
+    told
+}
+
+/// What a call is told that was refused.
+fn told_refused(alloc: Global, refused: &Refused, call: &Message) -> Result<String, LineError> {
+    let message = refused_message(alloc, refused, call)?;
+    shown_message(alloc, &message)
 }
 
 /// `error NAME`: the name that the error has on the wire.

@@ -156,22 +156,22 @@ pub fn signal(alloc: Global, rest: &str) -> Result<String, LineError> {
     let table = text(alloc, table)?;
     let id = text(alloc, id)?;
     let rows = rows(alloc, rest)?;
-    shown_change(
-        alloc,
-        Change {
-            table,
-            id,
-            deleted: gone == "true",
-            datum: Datum::zero(),
-            rows,
-        },
-    )
+    let change = Change {
+        table,
+        id,
+        deleted: gone == "true",
+        datum: Datum::zero(),
+        rows,
+    };
+    shown_change(alloc, &change)
 }
 
 /// What a host is told of a change.
-fn shown_change(alloc: Global, change: Change) -> Result<String, LineError> {
-    let message = signal_message(alloc, &change)?;
-    shown_signal(alloc, &message)
+fn shown_change(alloc: Global, change: &Change) -> Result<String, LineError> {
+    let message = signal_message(alloc, change)?;
+    let shown = shown_signal(alloc, &message);
+    drop(message);
+    shown
 }
 
 /// A signal with its path, its name, and the values that it carries.

@@ -1,5 +1,7 @@
-use Rattle.std.proofs.Common.{refl}
+use Rattle.std.proofs.Common.{refl, subst, sym}
 use Rattle.script_form.specs.declared.script.ScriptLine.TheVariants.{File, Doc, Word}
+use Rattle.docportal.specs.Scenes.{ScriptPortal}
+use Rattle.docportal.specs.Steps.{Runs}
 use Rattle.docportal.proofs.RunLine.{clock_runs, opening_runs}
 use Rattle.docportal.proofs.line.run_line.Goals as goal
 
@@ -10,7 +12,9 @@ pub returns-in-Doc-clause-ok : goal.returns-in-Doc-clause-ok
 returns-in-Doc-clause-ok g c = opening_runs c.args.portal.now c.args.connections.now c.args.line.now (Doc c.in-Doc.id c.in-Doc.reusable c.in-Doc.path c.in-Doc.grants) _ c.in-Doc.is (λ a. (refl, refl, refl))
 
 pub returns-in-Now-clause-ok : goal.returns-in-Now-clause-ok
-returns-in-Now-clause-ok g c = clock_runs c.args.portal.now c.args.connections.now c.args.line.now c.in-Now.moment c.set.new.self _ c.in-Now.is c.set.ensures
+returns-in-Now-clause-ok g c =
+    subst (λ (q : ScriptPortal). Runs c.args.portal.now c.args.connections.now q c.args.connections.now c.args.line.now (g.K.Sink.told c.args.sink.now) (g.K.Sink.told c.args.sink.now)) (sym c.set_clock.ensures)
+    (clock_runs c.args.portal.now c.args.connections.now c.args.line.now c.in-Now.moment c.in-Now.moment _ c.in-Now.is refl)
 
 pub returns-in-Entry-clause-ok : goal.returns-in-Entry-clause-ok
 returns-in-Entry-clause-ok g c = opening_runs c.args.portal.now c.args.connections.now c.args.line.now _ _ c.in-Entry.is (λ a. (refl, refl, refl))

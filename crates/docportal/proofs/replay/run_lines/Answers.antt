@@ -24,4 +24,5 @@ loop-index-preserved g c =
       may = may_go_on c.args.lines.now c.loop-index.index c.loop-index.portal c.run_line.new.portal c.loop-index.connections c.run_line.new.connections c.index-lines-index.result _ _ inside c.index-lines-index.is c.in-Ok.ensures.opening c.loop-index.invariant.may c.in-Ok.ensures.ok;
       played = played_on _ _ _ _ _ c.loop-index.index c.loop-index.portal c.run_line.new.portal c.loop-index.connections c.run_line.new.connections c.index-lines-index.result inside c.index-lines-index.is c.loop-index.invariant.played c.in-Ok.ensures.ok;
       faults = c.in-Ok.ensures.counts ∙ c.loop-index.invariant.faults;
+      opening = c.run_line.ensures.opening ∙ c.loop-index.invariant.opening;
     }

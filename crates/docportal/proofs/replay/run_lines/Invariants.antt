@@ -1,4 +1,5 @@
 use Rattle.std.proofs.Common.{◌≡◌, drop, take}
+use Rattle.portal_core.specs.Story.{state_first}
 use Rattle.docportal.specs.Steps.{MayPlay}
 use Rattle.docportal.proofs.RunLines.{Played}
 use Rattle.docportal.proofs.replay.run_lines.Given as goal
@@ -8,4 +9,5 @@ invariant-loop-index g l = record {
   may : MayPlay (take l.index l.lines) l.portal l.connections (drop l.index l.lines);
   played : Played l.fn.portal l.lines (g.K.Sink.told l.fn.sink) (g.K.Sink.told l.sink) l.index l.portal l.connections;
   faults : g.K.Sink.faults l.sink ≡ g.K.Sink.faults l.fn.sink;
+  opening : state_first l.portal.story ≡ state_first l.fn.portal.story;
 }

@@ -1,3 +1,5 @@
+use Rattle.std.proofs.Common.{subst, sym}
+use Rattle.docportal.specs.Started.{StartsScript}
 use Rattle.docportal.proofs.StartedScript.{only_memory, starts_script, told_began}
 use Rattle.docportal.proofs.start.start.Goals as goal
 
@@ -29,7 +31,8 @@ pub returns-in-Ok : goal.returns-in-Ok
 returns-in-Ok c =
     let d = c.in_ok-tree.field-0 in
     let e = c.in_ok-tree.ensures in
-    starts_script c.args.script.now.lines d.tree d.keeper d.words c.new-clock.result c.limits.result c.requires e.tree e.keeper e.words c.new-clock.ensures c.limits.ensures c.in-Ok.portal c.in-Ok.ensures.ok c.known.ensures.valid
+    subst (StartsScript c.args.script.now.lines) (sym c.new-counted.ensures)
+    (starts_script c.args.script.now.lines d.tree d.keeper d.words c.new-clock.result c.limits.result c.requires e.tree e.keeper e.words c.new-clock.ensures c.limits.ensures c.in-Ok.portal c.in-Ok.ensures.ok c.known.ensures.valid)
 
 pub start-requires-clause-told : goal.start-requires-clause-told
 start-requires-clause-told c =

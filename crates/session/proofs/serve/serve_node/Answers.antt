@@ -30,5 +30,5 @@ returns-in-Err-clause-ends g c =
     let w = g.D.Desk.seated c.ask.new.self in
     let why = c.in-Err.refused in
     let f = c.send_frame-in-Err in
-    λ (x : Client). act_ends x (Node u q) c.args.serial (Denied (Request.Node q) why ∷ []) v w (asked_err v w (Request.Node q) why c.in-Err.ensures.asks) (g.K.Sink.told c.args.sink.now) (g.K.Sink.told f.new.sink) (g.K.Sink.faults c.args.sink.now) (g.K.Sink.faults f.new.sink) f.result (refusal_frames u why)
-    (Denied (Request.Node q) why, [], refl, refl, refl) (sym (append-nil _)) (f.ensures.sends _ c.refusal_frame.ensures) f.ensures.last
+    λ (x : Client). act_ends x (Node u q) c.args.serial (Denied (Request.Node q) why ∷ []) v w (asked_err v w (Request.Node q) why c.in-Err.ensures.asks) (g.K.Sink.told c.args.sink.now) (g.K.Sink.told f.new.sink) (g.K.Sink.faults c.args.sink.now) (g.K.Sink.faults f.new.sink) f.result (refusal_frames u q.op why)
+    (Denied (Request.Node q) why, [], refl, refl, refl) (sym (append-nil _)) (f.ensures.sends _ (c.refusal_frame-frame.ensures q.op (sym c.has_no_reply-is_quiet.ensures))) f.ensures.last

@@ -136,4 +136,4 @@ returns-in-Ok-served-clause-failure g c =
 pub returns-in-Err-clause-err : goal.returns-in-Err-clause-err
 returns-in-Err-clause-err g c =
     let kept = was-asked-keeps (g.T.HostTree.is c.self.inside.tree) (g.T.HostTree.is c.serve_add-served.new.tree) c.in-Err.ensures.tree in
-    spends-add _ _ _ _ _ _ _ refl refl (rw (← c.self.view_is) c.in-Err.ensures.tree) (rw (← c.self.view_is) c.in-Err.ensures.keeper) (search rules) (rw (← c.self.view_is) c.in-Err.ensures.words) (rw (← c.self.view_is) kept.0) (search rules) (search rules)
+    spends-add _ _ _ _ _ _ _ refl refl refl (rw (← c.self.view_is) c.in-Err.ensures.tree) (rw (← c.self.view_is) c.in-Err.ensures.keeper) (search rules) (rw (← c.self.view_is) c.in-Err.ensures.words) (rw (← c.self.view_is) kept.0) (search rules) (search rules)

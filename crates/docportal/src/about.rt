@@ -1,0 +1,30 @@
+//! What the program tells of itself, ahead of any run.
+
+use portal_base::text::Text;
+
+/// What `--help` prints.
+const HELP: &str = "\
+usage: docportal replay        runs the script on standard input
+       docportal generate N    runs a generated load of N requests, from 1 to 100000
+       docportal --help        prints this
+       docportal --version     prints the version
+
+docportal is the document portal and the permission store of the XDG desktop.
+A run that isn't done ends with a status from 1 to 7, and says why on standard
+error (docs/statuses.md); docs/scripts.md says what a script is.
+";
+
+/// What `--version` prints.
+const VERSION: &str = "docportal 0.1.0\n";
+
+/// What the words ask the program to tell of itself, where they ask for that.
+pub fn told_to(words: &[Text]) -> Option<&'static str> {
+    let [word] = words else {
+        return None;
+    };
+    match word.as_str() {
+        "--help" => Some(HELP),
+        "--version" => Some(VERSION),
+        _ => None,
+    }
+}

@@ -1,0 +1,7 @@
+mod Signatures
+mod Verdicts
+mod Requests
+mod StoreRequests
+mod Asked
+mod PortalReturns
+mod LocalReturns
