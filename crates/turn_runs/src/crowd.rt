@@ -1,6 +1,6 @@
 //! Two threads ask one portal.
 
-ghost use Rattle.std.specs.Prelude.{◌≡◌};
+ghost use Rattle.std.specs.Prelude.{◌≡◌, ◌≤◌, [], vec_capacity};
 ghost use Rattle.turn_desk.specs.Sights.{Stays};
 
 use crate::two::{Two, close_two, start_two};
@@ -16,37 +16,60 @@ use vector_lines::error::{VectorError, bad};
 /// How often each thread asks.
 const ROUNDS: u32 = 100_000;
 
+/// What requests came to.
+#[derive(Clone, Copy)]
+pub struct Counts {
+    /// How many were answered.
+    pub answered: u64,
+    /// How many found another seat at the turn.
+    pub busy: u64,
+}
+
 /// What a seat was answered.
 #[derive(Drop)]
 pub struct Worked<S: Storied> {
     /// Its pass.
     pub pass: Pass<S>,
-    /// How many of its requests were answered.
-    pub answered: u64,
-    /// How many found another seat at the turn.
-    pub busy: u64,
+    /// What its requests came to.
+    pub counts: Counts,
 }
 
 /// Whether the history is as long as the answers are many, and how often was
 /// asked.
 pub fn crowd<R: Threads + Sync>(rt: &R, alloc: Global) -> Result<String, VectorError> {
     let portal = opened_by(alloc, b"", limits(DOCUMENTS, PLENTY))?;
+    crowd_over(rt, alloc, portal)
+}
+
+/// The same over any portal.
+fn crowd_over<S: Storied + Send + Drop, R: Threads + Sync>(
+    rt: &R,
+    alloc: Global,
+    portal: S,
+) -> Result<String, VectorError> {
     match start_two(alloc, portal) {
-        Ok(two) => crowded(rt, alloc, two),
-        Err(_) => bad(),
+        Ok(two) => {
+            let (same, asked) = crowd_at(rt, alloc, two);
+            Ok(format!(in alloc; "an entry for each answer: {same}\nasked {asked}")?)
+        }
+        Err(portal) => {
+            drop(portal);
+            bad()
+        }
     }
 }
 
-/// The same of a turn of two seats.
-fn crowded<S: Storied + Send + Drop, R: Threads + Sync>(
+/// The same at a turn of two seats.
+fn crowd_at<S: Storied + Send + Drop, R: Threads + Sync>(
     rt: &R,
     alloc: Global,
     two: Two<S>,
-) -> Result<String, VectorError>
+) -> (bool, u64)
+    requires turn { two.turn.seats ≡ 2 }
     requires first { (two.first.table ≡ two.turn.table) × (two.first.knows.number ≡ 1)
         × (two.first.knows.made ≡ 2) }
     requires second { (two.second.table ≡ two.turn.table) × (two.second.knows.number ≡ 2) }
-    requires turn { two.turn.seats ≡ 2 }
+    requires room { (two.room.items ≡ []) × (2 ≤ vec_capacity two.room) }
 {
     let Two {
         turn,
@@ -66,12 +89,13 @@ fn crowded<S: Storied + Send + Drop, R: Threads + Sync>(
             ensures { Stays second result.pass }
         { work(alloc, shared, second) },
     );
-    let answered = one.answered.saturating_add(two.answered);
-    let busy = one.busy.saturating_add(two.busy);
+    let answered = one.counts.answered.saturating_add(two.counts.answered);
+    let busy = one.counts.busy.saturating_add(two.counts.busy);
     let portal = close_two(turn, room, one.pass, two.pass);
-    let same = portal.entry_count() == answered;
-    let asked = answered.saturating_add(busy);
-    Ok(format!(in alloc; "an entry for each answer: {same}\nasked {asked}")?)
+    (
+        portal.entry_count() == answered,
+        answered.saturating_add(busy),
+    )
 }
 
 /// Asks again and again.
@@ -80,18 +104,30 @@ fn work<S: Storied>(alloc: Global, turn: &Turn<S>, pass: Pass<S>) -> Worked<S>
     ensures { Stays pass result.pass }
 {
     let mut seat = pass.sit(turn);
-    let mut answered = 0u64;
-    let mut busy = 0u64;
+    let mut counts = Counts {
+        answered: 0,
+        busy: 0,
+    };
     for _ in 0..ROUNDS {
-        match seat.try_ask(alloc, Request::Collect) {
-            Asked::Answered(_) => answered = answered.saturating_add(1),
-            Asked::Busy { .. } => busy = busy.saturating_add(1),
-            Asked::Refused(_) => {}
-        }
+        counts = counted(counts, seat.try_ask(alloc, Request::Collect));
     }
     Worked {
         pass: seat.leave(),
-        answered,
-        busy,
+        counts,
+    }
+}
+
+/// The counts with one answer more.
+fn counted(counts: Counts, asked: Asked) -> Counts {
+    match asked {
+        Asked::Answered(_) => Counts {
+            answered: counts.answered.saturating_add(1),
+            busy: counts.busy,
+        },
+        Asked::Busy { .. } => Counts {
+            answered: counts.answered,
+            busy: counts.busy.saturating_add(1),
+        },
+        Asked::Refused(_) => counts,
     }
 }

@@ -17,8 +17,7 @@ use vector_lines::notation::debug;
 
 /// A portal over devices in memory, but that the first look at its tree is
 /// held.
-pub type HeldPortal<'a, R> =
-    Portal<HeldTree<'a, R, MemoryTree>, MemoryKeeper, SetClock, ListWords>;
+pub type HeldPortal<'a, R> = Portal<HeldTree<'a, R, MemoryTree>, MemoryKeeper, SetClock, ListWords>;
 
 /// One file that holds `hello`, and a document of it.
 const SCRIPT: &[u8] = b"file /home/a.txt 68656c6c6f\ndoc 0000000a r /home/a.txt org.ed=rw\n";

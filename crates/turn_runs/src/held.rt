@@ -9,7 +9,7 @@ use crate::two::{Two, ask_once, start_two};
 use portal_base::who::Kind;
 use portal_core::storied::Storied;
 use portal_model::request::Request;
-use std::alloc::Global;
+use std::alloc::{AllocError, Global};
 use std::sync::Wait;
 use std::thread::{Threads, join};
 use turn_desk::asked::Asked;
@@ -22,13 +22,26 @@ use vector_lines::notation::debug;
 pub fn held<R: Threads + Wait + Sync>(rt: &R, alloc: Global) -> Result<String, VectorError> {
     let gate = Gate::new();
     let portal = held_portal(rt, alloc, &gate)?;
+    held_over(rt, alloc, &gate, portal)
+}
+
+/// The same over a portal in whose tree the first look is held at the gate.
+fn held_over<S: Storied + Send + Drop, R: Threads + Wait + Sync>(
+    rt: &R,
+    alloc: Global,
+    gate: &Gate,
+    portal: S,
+) -> Result<String, VectorError> {
     match start_two(alloc, portal) {
-        Ok(two) => held_at(rt, alloc, &gate, two),
-        Err(_) => bad(),
+        Ok(two) => held_at(rt, alloc, gate, two),
+        Err(portal) => {
+            drop(portal);
+            bad()
+        }
     }
 }
 
-/// The same of a turn in whose tree the first look is held at the gate.
+/// The same at a turn of two seats.
 fn held_at<S: Storied + Send + Drop, R: Threads + Wait + Sync>(
     rt: &R,
     alloc: Global,
@@ -45,8 +58,8 @@ fn held_at<S: Storied + Send + Drop, R: Threads + Wait + Sync>(
         room: _,
     } = two;
     let shared = &turn;
-    let (first, _) = ask_once(alloc, shared, first, enter(Kind::Mount));
-    let (second, _) = ask_once(alloc, shared, second, enter(Kind::Mount));
+    let first = enter_once(alloc, shared, first);
+    let second = enter_once(alloc, shared, second);
     let (one, two) = join(
         rt,
         move || -> (Pass<S>, Asked)
@@ -58,9 +71,15 @@ fn held_at<S: Storied + Send + Drop, R: Threads + Wait + Sync>(
             ensures { Stays second result.0 }
         { ask_meanwhile(rt, alloc, gate, shared, second) },
     );
-    let (_, first_asked) = one;
-    let (second, second_asked) = two;
-    told(alloc, shared, &first_asked, second, second_asked)
+    told(alloc, shared, one.1, two.0, two.1)
+}
+
+/// A mount of the host is opened.
+fn enter_once<S: Storied>(alloc: Global, turn: &Turn<S>, pass: Pass<S>) -> Pass<S>
+    requires { pass.table ≡ turn.now.table }
+    ensures { Stays pass result }
+{
+    ask_once(alloc, turn, pass, enter(Kind::Mount)).0
 }
 
 /// Asks while a call is held, and then lets it go on.
@@ -81,23 +100,24 @@ fn ask_meanwhile<S: Storied, R: Wait>(
 }
 
 /// What both were answered, and then what the second is answered that asks
-/// what it was handed back.
+/// again what it was handed back.
 fn told<S: Storied>(
     alloc: Global,
     turn: &Turn<S>,
-    first: &Asked,
+    first: Asked,
     pass: Pass<S>,
     second: Asked,
 ) -> Result<String, VectorError>
     requires { pass.table ≡ turn.now.table }
 {
-    let one = debug(alloc, first)?;
-    let two = debug(alloc, &second)?;
+    let one = debug(alloc, &first);
+    drop(first);
+    let two = debug(alloc, &second);
     let again = match second {
-        Asked::Busy { holder: _, request } => told_again(alloc, turn, pass, request)?,
-        _ => return bad(),
+        Asked::Busy { holder: _, request } => told_again(alloc, turn, pass, request),
+        _ => bad(),
     };
-    Ok(format!(in alloc; "seat 1: {one}\nseat 2: {two}\n{again}")?)
+    in_lines(alloc, one, two, again)
 }
 
 /// What the seat is answered then, and how long the history is.
@@ -112,6 +132,28 @@ fn told_again<S: Storied>(
     let mut seat = pass.sit(turn);
     let asked = seat.try_ask(alloc, request);
     let front = seat.front();
-    let asked = debug(alloc, &asked)?;
-    Ok(format!(in alloc; "seat 2: {asked}\nfront {front}")?)
+    let shown = debug(alloc, &asked);
+    drop(asked);
+    with_front(alloc, shown, front)
+}
+
+fn with_front(
+    alloc: Global,
+    shown: Result<String, AllocError>,
+    front: u64,
+) -> Result<String, VectorError> {
+    let shown = shown?;
+    Ok(format!(in alloc; "seat 2: {shown}\nfront {front}")?)
+}
+
+fn in_lines(
+    alloc: Global,
+    one: Result<String, AllocError>,
+    two: Result<String, AllocError>,
+    again: Result<String, VectorError>,
+) -> Result<String, VectorError> {
+    let one = one?;
+    let two = two?;
+    let again = again?;
+    Ok(format!(in alloc; "seat 1: {one}\nseat 2: {two}\n{again}")?)
 }
