@@ -1,0 +1,21 @@
+-- A seat stays what it is through any number of calls.
+use Rattle.std.specs.Prelude.{refl}
+use Rattle.std.proofs.Common.{◌∙◌}
+use Rattle.turn_desk.specs.Sights.{Sight, Stays}
+
+pub stays_put : (s : Sight) → Stays s s
+stays_put s = record {
+  table = refl;
+  seat = record { number = refl; opening = refl; base = refl; made = refl };
+}
+
+pub stays_further : (s t u : Sight) → Stays s t → Stays t u → Stays s u
+stays_further s t u h k = record {
+  table = k.table ∙ h.table;
+  seat = record {
+    number = k.seat.number ∙ h.seat.number;
+    opening = k.seat.opening ∙ h.seat.opening;
+    base = k.seat.base ∙ h.seat.base;
+    made = k.seat.made ∙ h.seat.made;
+  };
+}

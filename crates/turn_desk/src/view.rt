@@ -1,0 +1,18 @@
+//! What the rule of the turn knows of a seat.
+
+use std::marker::Model;
+
+/// The view of a seat. It exists in proofs alone: no value of it is made.
+pub struct View {}
+
+impl Model for View {
+    ghost use Rattle.dbus_types.specs.contracts.types.Value as e;
+    ghost use Rattle.std.specs.Coded.{codes};
+    ghost use Rattle.turn_desk.specs.Knowing.{View as Known, spent};
+
+    ghost Value = { Known };
+
+    ghost coded = { Prim.hlevel (codes, e.the_row.coded) };
+
+    ghost view = { λ _. spent };
+}
