@@ -8,3 +8,4 @@ pub mod OpeningRights
 pub mod HeldInOrder
 pub mod ContentsInOrder
 pub mod ViewedParts
+pub mod CallsSame

@@ -2,3 +2,4 @@ pub mod Told
 pub mod Matches
 pub mod Held
 pub mod Contents
+pub mod Calls

@@ -23,6 +23,7 @@
 //! ```
 #![tactic(auto)]
 
+mod calls;
 mod contents;
 mod held;
 mod matching;
