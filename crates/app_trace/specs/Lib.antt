@@ -3,3 +3,4 @@ pub mod Matches
 pub mod Held
 pub mod Contents
 pub mod Calls
+pub mod Touches

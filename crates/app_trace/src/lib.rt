@@ -32,6 +32,7 @@ mod same;
 mod same_data;
 mod same_request;
 mod same_store;
+mod touches;
 pub mod trace;
 pub mod view;
 mod viewed;

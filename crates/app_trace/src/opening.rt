@@ -1,18 +1,19 @@
 //! The documents of an opening state, and the rights in them.
 
-ghost use Rattle.std.specs.Prelude.{◌≡◌, cond, true, IfOk, OnOk};
+ghost use Rattle.std.specs.Prelude.{◌≡◌, cond, map, true, IfOk, OnOk};
 ghost use Rattle.std.specs.List.{list_all};
 ghost use Rattle.portal_base.specs.Names.{is_app_name, is_host_path};
-ghost use Rattle.portal_model.specs.Opening.{document_kept, rights_kept, set_of_bits as set_kept, with_grant, with_grants};
+ghost use Rattle.portal_model.specs.Opening.{document_kept, file_of, rights_kept, set_of_bits as set_kept, with_grant, with_grants};
 ghost use Rattle.portal_model.specs.Rights.{are_in_order};
 ghost use Rattle.rights_rule.specs.Rights.{no_rights};
 ghost use Rattle.app_trace.specs.Held.{given_by};
 
 use document_records::{Grant, Grants};
+use portal_base::files::File;
 use portal_base::list::List;
-use portal_base::memory::WantOfMemory;
+use portal_base::memory::{Replica, WantOfMemory};
 use portal_base::names::{AppId, DocId, HostPath, NameError};
-use portal_model::opening::OpeningDocument;
+use portal_model::opening::{FileItem, OpeningDocument};
 use portal_model::records::GrantRecord;
 use portal_model::state::Document;
 use rights_rule::Rights;
@@ -30,6 +31,31 @@ pub(crate) fn document(alloc: Global, item: &OpeningDocument) -> Result<Document
         path: known_path(alloc, item.kept.path.as_slice())?,
         persistent: item.persistent,
         reusable: item.kept.reusable,
+    })
+}
+
+/// The files of an opening state.
+pub(crate) fn files(alloc: Global, items: &[FileItem]) -> Result<List<File>, WantOfMemory>
+    requires { list_all (λ f. is_host_path f.path) (map file_of items.now) ≡ true }
+    ensures { IfOk result (λ files. files ≡ map file_of items.now) }
+{
+    let mut files = List::new(alloc);
+    for item in items {
+        files.push(file(alloc, item)?)?;
+    }
+    Ok(files)
+}
+
+/// A file of an opening state, which is the first that its path has.
+fn file(alloc: Global, item: &FileItem) -> Result<File, WantOfMemory>
+    requires { is_host_path item.now.path ≡ true }
+    ensures { IfOk result (λ file. file ≡ file_of item.now) }
+{
+    Ok(File {
+        path: known_path(alloc, item.path.as_slice())?,
+        generation: 0,
+        bytes: item.content.replica(alloc)?,
+        moment: item.moment,
     })
 }
 
@@ -99,7 +125,7 @@ fn set_of_bits(bits: u8) -> Rights
 }
 
 /// A right, where there is one.
-fn right_if(given: bool, right: Rights) -> Rights
+pub(crate) fn right_if(given: bool, right: Rights) -> Rights
     ensures { result ≡ cond given right no_rights }
 {
     if given { right } else { Rights::NONE }

@@ -26,7 +26,8 @@ pub fn view_of(alloc: Global, opening: &OpeningState, app: &AppId) -> Result<App
     let items = opening.documents.as_slice();
     let rights = opening::rights(alloc, items)?;
     let documents = held_documents(alloc, items, &rights, app)?;
-    let contents = contents_of(alloc, opening.files.as_slice(), documents.as_slice())?;
+    let files = opening::files(alloc, opening.files.as_slice())?;
+    let contents = contents_of(alloc, files.as_slice(), documents.as_slice())?;
     Ok(AppView {
         handles: opening.limits.handles,
         queued: opening.limits.queued,

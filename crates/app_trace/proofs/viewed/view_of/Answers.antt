@@ -1,6 +1,7 @@
 use Rattle.std.proofs.Common.{ℕ, List, ap, map, nat_eq, subst, ◌∙◌}
 use Rattle.std.specs.List.{IsDistinct}
 use Rattle.app_world.specs.View.{contents_at, held_documents}
+use Rattle.portal_base.specs.declared.files.File.{File}
 use Rattle.portal_model.specs.declared.opening.FileItem.{FileItem}
 use Rattle.portal_model.specs.declared.opening.OpeningDocument.{OpeningDocument}
 use Rattle.portal_model.specs.declared.state.Triple.{Triple}
@@ -29,6 +30,6 @@ returns c =
     ∙ ap (λ (items : List OpeningDocument). held_documents (held_of (rights_kept items) app) (map document_kept items)) c.as_slice-items.ensures) in
     let contents =
     c.in_ok-contents.ensures
-    ∙ (ap (λ (files : List FileItem). contents_at (map file_of files) (map path_held c.as_slice-2.result.now)) c.as_slice.ensures
-    ∙ ap (λ (held : List HeldDocument). contents_at (map file_of o.files) (map path_held held)) c.as_slice-2.ensures) in
+    ∙ (ap (λ (files : List File). contents_at files (map path_held c.as_slice-3.result.now)) (c.as_slice-2.ensures ∙ (c.in_ok-files.ensures ∙ ap (λ (items : List FileItem). map file_of items) c.as_slice.ensures))
+    ∙ ap (λ (held : List HeldDocument). contents_at (map file_of o.files) (map path_held held)) c.as_slice-3.ensures) in
     viewed o app c.in_ok-documents.documents c.new.result c.in_ok-contents.contents documents c.new.ensures contents

@@ -1,0 +1,8 @@
+use Rattle.portal_base.specs.Names.{is_host_path}
+use Rattle.portal_base.specs.declared.files.File.{File}
+use Rattle.portal_model.specs.Opening.{file_of}
+use Rattle.app_trace.proofs.Loops.{all_map}
+use Rattle.app_trace.proofs.opening.files.Goals as goal
+
+pub file-requires : goal.file-requires
+file-requires c = all_map file_of (λ (f : File). is_host_path f.path) c.args.items.now c.loop-item.item-index c.item-item.result c.loop-item-test.true c.item-item.is c.requires
