@@ -9,3 +9,4 @@ pub mod HeldInOrder
 pub mod ContentsInOrder
 pub mod ViewedParts
 pub mod CallsSame
+pub mod SetsOfRights
