@@ -1,8 +1,11 @@
 -- What another's request tells an application, over the parts of a state that tell it.
-use Rattle.std.specs.Prelude.{List, [], ◌∷◌, Option, Some, None, true}
+use Rattle.std.specs.Prelude.{List, [], ◌∷◌, length, Option, Some, None, true}
 use Rattle.portal_base.specs.declared.files.File.{File}
+use Rattle.portal_base.specs.declared.names.doc_id.DocId.{DocId}
+use Rattle.portal_model.specs.declared.entry.Entry.{Entry}
 use Rattle.portal_model.specs.declared.state.Document.{Document}
 use Rattle.portal_model.specs.declared.state.Triple.{Triple}
+use Rattle.portal_model.specs.Content.{Content}
 use Rattle.portal_model.specs.State.{State}
 use Rattle.app_world.specs.TraceItem as item
 use Rattle.app_trace.specs.declared.trace.TraceItem.{TraceItem}
@@ -28,3 +31,19 @@ shown_in documents rights files = record {
   files = files;
   entries = [];
 }
+
+-- ---- own entries
+
+-- the item of an entry that the application makes, with these contents and documents of an Add
+abbrev pub own_told : Entry → List Content → List (Option DocId) → item.TraceItem
+own_told e shown reused = item.Own (record {
+  seat = e.seat;
+  request = e.request;
+  now = e.given.now;
+  numbers = e.given.numbers;
+  shown = shown;
+  reused = reused;
+  looks = length e.given.looks;
+  full = e.given.full;
+  fault = e.given.fault;
+})

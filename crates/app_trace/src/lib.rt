@@ -28,6 +28,7 @@ mod contents;
 mod held;
 mod matching;
 mod opening;
+mod own;
 mod same;
 mod same_data;
 mod same_request;
