@@ -10,3 +10,5 @@ pub mod ContentsInOrder
 pub mod ViewedParts
 pub mod CallsSame
 pub mod SetsOfRights
+pub mod OwnAddLaws
+pub mod NodesAgree

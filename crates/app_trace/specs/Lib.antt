@@ -4,3 +4,4 @@ pub mod Held
 pub mod Contents
 pub mod Calls
 pub mod Touches
+pub mod OwnAdds

@@ -29,6 +29,7 @@ mod held;
 mod matching;
 mod opening;
 mod own;
+mod own_adds;
 mod same;
 mod same_data;
 mod same_request;
