@@ -43,7 +43,7 @@ quiet-unfailed s c request given after answer k = by_fault given.fault refl
     failed : ChangesRecords s (verdict_of s c request given) → given.fault ≡ Fault.Keeper → ⊥
     failed h e =
         let count : 0 ≡ count_after 0 true =
-            ap (λ (x : KeeperIs). x.faults) ((k.keeper tt).called h).goes ∙ ap (λ (f : Fault). count_after 0 (is_keeper f)) e in
+        ap (λ (x : KeeperIs). x.faults) ((k.keeper tt).called h).goes ∙ ap (λ (f : Fault). count_after 0 (is_keeper f)) e in
         cc
 
     by_fault : (f : Fault) → given.fault ≡ f → is_keeper f ≡ false
@@ -86,9 +86,9 @@ module _ (s : State) (c : Connection) (request : Request) (v : Verdict) (walk : 
   served-so : (given : Given) (after : State) (answer : Answer) (done : Bool) → done ≡ is_done answer → Serves s c request given after answer → is_keeper given.fault ≡ false → Comes s c request after done
   served-so given after answer done e k quiet = λ other lawful unfailed.
       let same : bus_answer s c request other ≡ (after, answer) =
-          step-is other
-          ∙ (settled-same s (refused_state s c request) other given v (full-is other lawful) (full-is given k.lawful) unfailed quiet
-          ∙ (sym (step-is given) ∙ k.step)) in
+      step-is other
+      ∙ (settled-same s (refused_state s c request) other given v (full-is other lawful) (full-is given k.lawful) unfailed quiet
+      ∙ (sym (step-is given) ∙ k.step)) in
       record { after_is = ap (λ (x : State × Answer). x.0) same; done_is = ap (λ (x : State × Answer). is_done x.1) same ∙ sym e }
 
   kept-so : (given : Given) (after : State) (answer : Answer) (done : Bool) → done ≡ is_done answer → ServesKept s c request given after answer quiet_keeper quiet_keeper → Comes s c request after done

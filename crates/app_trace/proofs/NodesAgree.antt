@@ -20,8 +20,8 @@ module _ (s : State) (c : Connection) (r : NodeRequest) (told : s.told ≡ true)
   looks-are g k f =
       let files : files_told s ≡ Some s.files = ap (λ (b : Bool). cond b (Some s.files) None) told in
       let gives : Gives (Some s.files) (walk_on_node s c r) g.looks false =
-          subst (λ (b : Bool). Gives (Some s.files) (walk_on_node s c r) g.looks b) f
-          (subst (λ (o : Option (List File)). Gives o (walk_on_node s c r) g.looks (is_tree g.fault)) files k.looks) in
+      subst (λ (b : Bool). Gives (Some s.files) (walk_on_node s c r) g.looks b) f
+      (subst (λ (o : Option (List File)). Gives o (walk_on_node s c r) g.looks (is_tree g.fault)) files k.looks) in
       shown_given s.files (walk_on_node s c r) g.looks gives
 
   pub node-agrees : (g h : Given) → LawfulNode s c r g → LawfulNode s c r h → is_tree g.fault ≡ false → is_tree h.fault ≡ false → moment_given g.now ≡ moment_given h.now → node_answer s c r g ≡ node_answer s c r h

@@ -125,7 +125,6 @@ pub(crate) fn delete(
     ensures limits { SameLimits documents.old documents.new }
 {
     let mut keeper = QuietKeeper;
-    let served =
-        document_calls::delete_document(alloc, documents, rights, &mut keeper, who, doc)?;
+    let served = document_calls::delete_document(alloc, documents, rights, &mut keeper, who, doc)?;
     Ok(is_done(served))
 }

@@ -117,11 +117,7 @@ fn comes_again(path: &HostPath, next: Option<&HostPath>) -> bool
 }
 
 /// A path, and what is there.
-fn path_content(
-    alloc: Global,
-    files: &[File],
-    path: &HostPath,
-) -> Result<PathContent, WantOfMemory>
+fn path_content(alloc: Global, files: &[File], path: &HostPath) -> Result<PathContent, WantOfMemory>
     ensures { IfOk result
         (λ content. path_told content ≡ content_of_path files.now path.now) }
 {
@@ -132,7 +128,11 @@ fn path_content(
 }
 
 /// What is at a path.
-pub(crate) fn content_at(alloc: Global, files: &[File], path: &HostPath) -> Result<Content, WantOfMemory>
+pub(crate) fn content_at(
+    alloc: Global,
+    files: &[File],
+    path: &HostPath,
+) -> Result<Content, WantOfMemory>
     ensures { IfOk result
         (λ content. content_told content ≡ content_of_tree files.now path.now) }
 {

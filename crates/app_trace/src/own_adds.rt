@@ -66,11 +66,7 @@ fn presented_by<'a>(queue: &'a [HostPath], add: &AddRequest, handle: u32) -> &'a
 }
 
 /// The path of the named file in a folder.
-fn named_in(
-    alloc: Global,
-    add: &AddRequest,
-    folder: &HostPath,
-) -> Result<HostPath, WantOfMemory>
+fn named_in(alloc: Global, add: &AddRequest, folder: &HostPath) -> Result<HostPath, WantOfMemory>
     requires { is_host_path (child_of folder.now (ahead_of_end add.now.name)) ≡ true }
     ensures { IfOk result (λ path. path ≡ child_of folder.now (ahead_of_end add.now.name)) }
 {
