@@ -1,5 +1,5 @@
 -- A request on documents comes to the same whatever the outside gave lawfully, where the keeper doesn't fail.
-use Rattle.std.proofs.Common.{◌≡◌, ℕ, List, length, nat_lt, Bool, true, false, not, cond, Some, None, refl, sym, ap, ◌∙◌}
+use Rattle.std.proofs.Common.{◌≡◌, ℕ, List, length, nat_lt, Bool, true, false, not, cond, Some, refl, sym, ap, ◌∙◌}
 use Rattle.portal_base.specs.Devices.{count_after}
 use Rattle.portal_base.specs.declared.names.doc_id.DocId.{DocId}
 use Rattle.portal_model.specs.declared.entry.Fault.{Fault}
@@ -24,7 +24,7 @@ use Rattle.app_world.specs.Touched.{is_done}
 use Rattle.document_calls.specs.KeeperCalls.{ServesKept, is_keeper}
 use Rattle.document_calls.specs.Serves.{Serves}
 use Rattle.record_keeper.specs.Keepers.{KeeperIs}
-use Rattle.app_trace.specs.Calls.{Comes, ComesTo, quiet_keeper}
+use Rattle.app_trace.specs.Calls.{Comes, quiet_keeper}
 
 kept-unfailed : (s : State) (f : Fault) (d : Doing) → is_keeper f ≡ false → kept s f d ≡ (d.state, d.answer)
 kept-unfailed s Fault.None d h = refl

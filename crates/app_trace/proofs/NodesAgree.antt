@@ -1,18 +1,16 @@
 -- A request on a node comes to the same whatever was given lawfully over a tree that tells its files, where no call of
 -- the tree fails and the moment is the same where one is read.
-use Rattle.std.proofs.Common.{◌≡◌, ℕ, Bool, true, false, cond, List, Option, Some, None, refl, sym, ap, subst, ◌∙◌}
+use Rattle.std.proofs.Common.{◌≡◌, Bool, true, false, cond, List, Option, Some, None, sym, ap, subst, ◌∙◌}
 use Rattle.portal_base.specs.declared.files.File.{File}
-use Rattle.portal_base.specs.declared.files.Look.{Look}
 use Rattle.portal_model.specs.declared.entry.Given.{Given}
 use Rattle.portal_model.specs.declared.request.NodeRequest.{NodeRequest}
 use Rattle.portal_model.specs.declared.state.Connection.{Connection}
 use Rattle.portal_model.specs.Bus.{is_tree, moment_given}
 use Rattle.portal_model.specs.Node.{node_answer, settled_on_node, walk_on_node}
 use Rattle.portal_model.specs.NodeOutside.{LawfulNode}
-use Rattle.portal_model.specs.NodeVerdict.{NodeVerdict}
 use Rattle.portal_model.specs.Outside.{files_told}
 use Rattle.portal_model.specs.State.{State}
-use Rattle.portal_model.specs.Walk.{Gives, Walk, looks_shown, walked}
+use Rattle.portal_model.specs.Walk.{Gives, looks_shown, walked}
 use Rattle.portal_model.proofs.LooksTaken.{shown_given}
 
 module _ (s : State) (c : Connection) (r : NodeRequest) (told : s.told ≡ true) where

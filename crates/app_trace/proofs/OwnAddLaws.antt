@@ -1,14 +1,14 @@
 -- What an own Add is told, file by file.
-use Rattle.std.proofs.Common.{◌≡◌, ℕ, zero, suc, ◌<◌, ◌≤◌, ◌&&◌, List, [], ◌∷◌, ◌++◌, length, get_or, map, take, Bool, true, false, not, cond, nat_le, nat_lt, Option, Some, None, refl, sym, ap, subst, ◌∙◌, arith}
+use Rattle.std.proofs.Common.{◌≡◌, ℕ, zero, suc, ◌<◌, ◌≤◌, ◌&&◌, List, [], ◌∷◌, ◌++◌, length, get_or, map, Bool, true, false, not, cond, nat_le, nat_lt, Option, Some, None, refl, sym, ap, ◌∙◌, arith}
 use Rattle.std.specs.List.{flat_map, list_all}
 use Rattle.std.proofs.lemmas.Bool.Decides.{nat_tests}
 use Rattle.std.proofs.lemmas.List.{get_or_default, get_or-take}
-use Rattle.portal_base.specs.Names.{is_host_path, is_in_own_folder, is_same}
+use Rattle.portal_base.specs.Names.{is_host_path, is_in_own_folder}
 use Rattle.portal_base.specs.declared.names.doc_id.DocId.{DocId}
 use Rattle.portal_model.specs.declared.request.AddRequest.{AddRequest}
 use Rattle.portal_model.specs.declared.state.Document.{Document}
 use Rattle.portal_model.specs.Add.{used_again}
-use Rattle.portal_model.specs.AddArguments.{are_presented, document_path, document_paths, is_as_needed, is_left_out, names_nobody, paths_looked_at, paths_presented, paths_shown}
+use Rattle.portal_model.specs.AddArguments.{are_presented, document_path, document_paths, is_as_needed, is_left_out, names_nobody, paths_looked_at, paths_shown}
 use Rattle.app_world.specs.Add.{reused_of}
 use Rattle.app_trace.specs.OwnAdds.{looked_at, named_app, presented_by, reused_here}
 

@@ -1,5 +1,5 @@
 -- What a request on documents comes to where the keeper of records doesn't fail.
-use Rattle.std.specs.Prelude.{◌≡◌, Bool, true, false, None}
+use Rattle.std.specs.Prelude.{◌≡◌, Bool, false, None}
 use Rattle.portal_model.specs.declared.entry.Given.{Given}
 use Rattle.portal_model.specs.declared.request.Request.{Request}
 use Rattle.portal_model.specs.declared.state.Connection.{Connection}

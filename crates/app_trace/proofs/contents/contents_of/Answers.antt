@@ -1,4 +1,3 @@
-use Rattle.std.proofs.Common.{map}
 use Rattle.app_trace.proofs.ContentsInOrder.{contents-once}
 use Rattle.app_trace.proofs.contents.contents_of.Goals as goal
 
