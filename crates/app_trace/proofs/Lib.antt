@@ -12,3 +12,4 @@ pub mod CallsSame
 pub mod SetsOfRights
 pub mod OwnAddLaws
 pub mod NodesAgree
+pub mod FilesChanged

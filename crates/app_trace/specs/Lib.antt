@@ -5,3 +5,4 @@ pub mod Contents
 pub mod Calls
 pub mod Touches
 pub mod OwnAdds
+pub mod FilesChanged
