@@ -13,3 +13,4 @@ pub mod SetsOfRights
 pub mod OwnAddLaws
 pub mod NodesAgree
 pub mod FilesChanged
+pub mod BytesAfter

@@ -1,12 +1,17 @@
 -- The file that a request on a node changes or makes, where it is done.
-use Rattle.std.specs.Prelude.{◌≡◌, ℕ, List, [], ◌∷◌, Option, Some, None, cond}
+use Rattle.std.specs.Prelude.{◌≡◌, ℕ, List, [], ◌∷◌, true, false, Option, Some, None, cond, is_some}
+use Rattle.portal_base.specs.Content.{file_at, file_named}
+use Rattle.portal_base.specs.declared.files.File.{File}
 use Rattle.portal_base.specs.declared.files.FileName.{FileName}
 use Rattle.portal_base.specs.declared.files.Look.{Look}
 use Rattle.portal_model.specs.declared.handle.Handle.{Handle}
+use Rattle.portal_model.specs.Content.{Content, OfFile, NotThere}
 use Rattle.portal_model.specs.NodeVerdict.{FileChange, FilesStay, Writes, Resizes, Creates, NodeVerdict, Errs, Yields}
 use Rattle.portal_model.specs.Open.{truncates}
 use Rattle.portal_model.specs.Place.{FolderOf, RootOf, Views, Folder, Sight, SightOfFile, SightOfFolder}
 use Rattle.portal_model.specs.SetAttr.{sets_by_handle, sets_size}
+use Rattle.app_world.specs.Effect.{Effect, Bytes}
+use Rattle.app_world.specs.View.{AppView, names}
 
 -- a write of no bytes changes nothing; a file that is made is the first of its path
 abbrev pub changed_name : FileChange → Option FileName
@@ -63,3 +68,23 @@ abbrev pub file_resized : ℕ → Option Sight → Option Handle → List Look �
 file_resized valid sight handle looks =
     cond (sets_size valid)
     (cond (sets_by_handle valid) (file_open handle) (file_at_place sight looks)) None
+
+-- ---- what a view is told of it
+
+abbrev pub content_named : Option File → Content
+content_named None = NotThere false
+content_named (Some f) = OfFile f.generation f.bytes f.moment
+
+-- the file that was changed, as it is afterwards, where the view names its path
+abbrev pub told_of_file : AppView → Option FileName → List File → List Effect
+told_of_file v None after = []
+told_of_file v (Some name) after =
+    cond (names v name.path)
+    (Bytes name.path name.generation (content_named (file_named after name)) ∷ []) []
+
+-- what a change needs to be there: the file, or no file at a path
+abbrev pub CanBe : List File → FileChange → Type 0
+CanBe files FilesStay = Unit {0}
+CanBe files (Writes name offset content now) = is_some (file_named files name) ≡ true
+CanBe files (Resizes name size now) = is_some (file_named files name) ≡ true
+CanBe files (Creates path now) = file_at files path ≡ None
