@@ -1,5 +1,5 @@
 -- What a view is told of a change of a file is the file as it is afterwards.
-use Rattle.std.proofs.Common.{◌≡◌, ◌==◌, ◌&&◌, ℕ, List, [], ◌∷◌, Bool, true, false, cond, find, Option, Some, None, is_some, option_map, refl, sym, ap, ◌∙◌, arith}
+use Rattle.std.proofs.Common.{◌≡◌, ◌==◌, ◌&&◌, ℕ, List, [], ◌∷◌, Bool, true, false, cond, Option, Some, None, is_some, option_map, refl, sym, ap, ◌∙◌, arith}
 use Rattle.std.specs.Ordering.{is_lt}
 use Rattle.portal_base.specs.Content.{file_at, file_named, is_named}
 use Rattle.portal_base.specs.FileChanges.{change_named, cut_to, new_file, overlaid, put_file, resized, with_bytes, written}
@@ -12,7 +12,7 @@ use Rattle.portal_model.specs.Node.{bytes_named, bytes_of, files_after}
 use Rattle.portal_model.specs.NodeVerdict.{FileChange, FilesStay, Writes, Resizes, Creates}
 use Rattle.portal_model.proofs.ListLookups.{found_passes}
 use Rattle.portal_model.proofs.TripleOrder.{is_same-refl, nat_is}
-use Rattle.app_world.specs.Effect.{Effect, Bytes}
+use Rattle.app_world.specs.Effect.{Bytes}
 use Rattle.app_world.specs.Node.{bytes_effects}
 use Rattle.app_world.specs.View.{AppView, names}
 use Rattle.app_trace.specs.FilesChanged.{CanBe, changed_name, content_named, told_of_file}

@@ -1,5 +1,5 @@
 -- The file that a WRITE, a SETATTR, an OPEN or a CREATE changes or makes, where it is done.
-use Rattle.std.proofs.Common.{◌≡◌, ◌+◌, ℕ, List, [], ◌∷◌, length, nat_lt, Bool, true, false, not, ◌&&◌, cond, Option, Some, None, refl}
+use Rattle.std.proofs.Common.{◌+◌, ℕ, List, [], ◌∷◌, length, nat_lt, Bool, true, false, not, ◌&&◌, cond, Option, Some, None, refl}
 use Rattle.portal_base.specs.Names.{is_same, name_of}
 use Rattle.portal_base.specs.declared.files.FileName.{FileName}
 use Rattle.portal_base.specs.declared.files.Look.{Look}
@@ -58,10 +58,10 @@ open-name r flags room name now looks failed = by_truncation (truncates flags)
   where
     by_truncation : (b : Bool) → Changes (cond b (Some name) None)
         (walked
-          (cond b
-          (Ends (walk.Changes name) (λ moment. opened_file room (file_handle name r.node flags) (Resizes name 0 moment)) (Errs enoent))
-          (Answers (opened_file room (file_handle name r.node flags) FilesStay)))
-          now looks failed)
+        (cond b
+        (Ends (walk.Changes name) (λ moment. opened_file room (file_handle name r.node flags) (Resizes name 0 moment)) (Errs enoent))
+        (Answers (opened_file room (file_handle name r.node flags) FilesStay)))
+        now looks failed)
     by_truncation true = ends (Some name) (walk.Changes name) (λ moment. opened_file room (file_handle name r.node flags) (Resizes name 0 moment)) now looks failed refl
     by_truncation false = refl
 

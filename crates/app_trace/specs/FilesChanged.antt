@@ -88,3 +88,7 @@ CanBe files FilesStay = Unit {0}
 CanBe files (Writes name offset content now) = is_some (file_named files name) ≡ true
 CanBe files (Resizes name size now) = is_some (file_named files name) ≡ true
 CanBe files (Creates path now) = file_at files path ≡ None
+
+abbrev pub told_alone : FileName → List File → List Effect
+told_alone name after =
+    Bytes name.path name.generation (content_named (file_named after name)) ∷ []

@@ -143,7 +143,7 @@ pub(crate) fn content_at(
 }
 
 /// What a file is.
-fn file_content(alloc: Global, file: &File) -> Result<Content, WantOfMemory>
+pub(crate) fn file_content(alloc: Global, file: &File) -> Result<Content, WantOfMemory>
     ensures { IfOk result (λ content. content_told content
         ≡ OfFile file.now.generation file.now.bytes file.now.moment) }
 {

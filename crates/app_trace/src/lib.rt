@@ -24,6 +24,7 @@
 #![tactic(auto)]
 
 mod calls;
+mod changed;
 mod contents;
 mod held;
 mod matching;
