@@ -14,3 +14,4 @@ pub mod OwnAddLaws
 pub mod NodesAgree
 pub mod FilesChanged
 pub mod BytesAfter
+pub mod PathsHeld
