@@ -1,5 +1,5 @@
 -- The paths that the documents of a view name, without the view.
-use Rattle.std.proofs.Common.{◌≡◌, ◌==◌, ◌&&◌, ◌||◌, ℕ, List, [], ◌∷◌, map, filter, find, Bool, true, false, cond, nat_eq, nat_lt, Option, Some, None, refl, sym, ap, ◌∙◌, arith}
+use Rattle.std.proofs.Common.{◌≡◌, ◌==◌, ◌&&◌, ◌||◌, ℕ, List, [], ◌∷◌, map, filter, Bool, true, false, cond, nat_eq, nat_lt, None, refl, ap, ◌∙◌, arith}
 use Rattle.std.specs.List.{list_any, IsDistinct, AllByRecursion}
 use Rattle.std.proofs.lemmas.Bool.Decides.{nat_tests}
 use Rattle.portal_base.specs.Names.{is_same}
@@ -36,7 +36,7 @@ module _ (held : ℕ → RightSet) where
   any-collected p (d ∷ ds) h =
       let x : HeldDocument = held_document held d in
       let none : found_document (put_all lower (collected ds)) d.id.number ≡ None =
-          find-put_all _ _ number_of numbers d.id.number (collected ds) ∙ none-there d.id.number ds h.0 in
+      find-put_all _ _ number_of numbers d.id.number (collected ds) ∙ none-there d.id.number ds h.0 in
       let rest : list_any p (put_all lower (collected ds)) ≡ list_any p (collected ds) = any-collected p ds h.1 in
       by_rights (holds_any (held d.id.number)) (any-put p x (put_all lower (collected ds)) none ∙ ap (λ (b : Bool). p x || b) rest) rest
     where

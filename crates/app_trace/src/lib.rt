@@ -28,6 +28,7 @@ mod changed;
 mod contents;
 mod held;
 mod matching;
+mod named;
 mod opening;
 mod own;
 mod own_adds;
