@@ -20,7 +20,7 @@ use script_form::opening::opening_of;
 use script_form::reader::read_script;
 use script_form::script::Script;
 use std::alloc::Global;
-use vector_lines::error::{VectorError, bad, given};
+use vector_lines::error::{LineError, VectorError, bad, given};
 use vector_lines::notation::{cut, debug};
 
 /// The most bytes that a script may have.
@@ -118,7 +118,7 @@ fn script_in(alloc: Global, lines: &str) -> Result<Script, VectorError>
 {
     let text = text_of(alloc, lines)?;
     if text.len() > LONGEST {
-        return bad();
+        return Err(VectorError::Line(LineError::BadLine));
     }
     given(alloc, read_script(alloc, text.as_bytes()))
 }
