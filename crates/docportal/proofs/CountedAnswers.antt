@@ -1,6 +1,6 @@
 -- What became of the requests of a history, counted answer by answer.
 use Rattle.std.proofs.Common.{◌≡◌, ℕ, ◌+◌, ◌-◌, ◌^◌, ◌<◌, ◌≤◌, List, [], ◌∷◌, ◌++◌, length, Bool, true, false, cond, sym, ap, ◌∙◌, subst, arith, length-append}
-use Rattle.std.specs.Prelude.{not, ◌&&◌}
+use Rattle.std.specs.Prelude.{min, not, ◌&&◌}
 use Rattle.portal_core.specs.Growth.{GrowsBy}
 use Rattle.portal_model.specs.Alike.{Alike}
 use Rattle.portal_model.specs.declared.entry.Entry.{Entry}
@@ -49,6 +49,11 @@ refused_few (x ∷ h) s =
 
 told_reply : (told : Bool) (request : Request) (stepped given : Reply) → told ≡ true → Alike told request stepped given → given ≡ stepped
 told_reply told request stepped given t a = subst (λ (b : Bool). Alike b request stepped given) t a
+
+-- a count that isn't the greatest goes on
+pub goes_on : (count now : ℕ) (b : Bool) → now ≡ min (count + one b) (2 ^ 64 - 1) → count < 2 ^ 64 - 1 → now ≡ count + one b
+goes_on count now true e short = omega (arith, e, short)
+goes_on count now false e short = omega (arith, e, short)
 
 -- a count is that of a test of requests and replies, and goes on so
 one_more : (count before now : ℕ) (all : ℕ) (history : List Entry) (e : Entry) → count ≡ before → before ≤ length history → length (history ++ e ∷ []) < 2 ^ 64

@@ -1,5 +1,9 @@
 //! What the program tells of itself, ahead of any run.
 
+ghost use Rattle.std.specs.Prelude.{◌≡◌, None};
+ghost use Rattle.docportal.specs.Commands.{IsCommand};
+ghost use Rattle.docportal.specs.declared.command.Command.{Command};
+
 use portal_base::text::Text;
 
 /// What `--help` prints.
@@ -17,8 +21,11 @@ error (docs/statuses.md); docs/scripts.md says what a script is.
 /// What `--version` prints.
 const VERSION: &str = "docportal 0.1.0\n";
 
-/// What the words ask the program to tell of itself, where they ask for that.
-pub fn told_to(words: &[Text]) -> Option<&'static str> {
+/// What the words ask the program to tell of itself, where they ask for that: none of
+/// its commands does.
+pub fn told_to(words: &[Text]) -> Option<&'static str>
+    ensures { (command : Command) → IsCommand words.now command → result ≡ None }
+{
     let [word] = words else {
         return None;
     };

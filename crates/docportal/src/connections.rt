@@ -1,6 +1,6 @@
 //! The connections of a script that are open, by their numbers.
 
-ghost use Rattle.std.specs.Prelude.{◌≡◌, ◌<◌, [], length, OnOk, None, Some};
+ghost use Rattle.std.specs.Prelude.{◌≡◌, ◌<◌, [], length, OnErr, OnOk, None, Some};
 ghost use Rattle.docportal.specs.Scenes.{placed, sessions_of};
 
 use portal_base::memory::WantOfMemory;
@@ -50,8 +50,9 @@ impl Connections {
 
     /// Puts a session at a number, in place of what was there.
     pub fn put(&mut self, seat: u32, session: Session) -> Result<(), WantOfMemory>
-        ensures { OnOk result (sessions_of self.new ≡ placed (sessions_of self.old) seat
+        ensures ok { OnOk result (sessions_of self.new ≡ placed (sessions_of self.old) seat
             (Some session)) }
+        ensures same { OnErr result (sessions_of self.new ≡ sessions_of self.old) }
     {
         let index = seat as usize;
         self.reach(index)?;

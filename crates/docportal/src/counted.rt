@@ -1,6 +1,6 @@
 //! A portal that counts what became of its requests.
 
-ghost use Rattle.std.specs.Prelude.{◌≡◌, ◌+◌, ◌-◌, ◌<◌, ◌^◌, [], true, cond, not, ◌&&◌};
+ghost use Rattle.std.specs.Prelude.{◌≡◌, ◌+◌, ◌-◌, ◌^◌, [], true, cond, min, not, ◌&&◌};
 ghost use Rattle.portal_core.specs.Story.{state_first};
 ghost use Rattle.portal_model.specs.History.{cost};
 ghost use Rattle.docportal.specs.Outcomes.{done_in, is_code, is_enter, refused_in};
@@ -144,7 +144,7 @@ fn is_code(answer: &Answer) -> bool
 /// A count after a request, which is one more where the request counts and
 /// doesn't open a connection. The count stops at the greatest `u64`.
 fn more(count: u64, enters: bool, counts: bool) -> u64
-    ensures { count < 2 ^ 64 - 1 → result ≡ count + cond (not enters && counts) 1 0 }
+    ensures { result ≡ min (count + cond (not enters && counts) 1 0) (2 ^ 64 - 1) }
 {
     if !enters && counts {
         count.saturating_add(1)

@@ -40,6 +40,10 @@ mod settings;
 mod start;
 mod status;
 
+ghost use Rattle.std.specs.Prelude.{◌≡◌};
+ghost use Rattle.std.specs.Process.{exit_status};
+ghost use Rattle.docportal.specs.Statuses.{number_of};
+
 use crate::run::run;
 use crate::status::Status;
 use portal_base::list::List;
@@ -54,6 +58,13 @@ fn main(rt: HostRuntime) -> ExitCode {
         Err(status) => status,
     };
     let _ = tell(&rt, status);
+    code_of(status)
+}
+
+/// What the process ends with.
+fn code_of(status: Status) -> ExitCode
+    ensures { exit_status result ≡ number_of status }
+{
     ExitCode::from(status.number())
 }
 

@@ -41,7 +41,7 @@ pub returns-in-Ok-put-clause-ok : goal.returns-in-Ok-put-clause-ok
 returns-in-Ok-put-clause-ok g c =
     on_runs c.args.portal.now c.hear.new.portal c.args.connections.now c.args.seat c.in-Some.session c.hear.new.session c.args.bytes.now c.in-Ok.heard.written.pieces c.as_slice-2.result.now c.in-Ok.heard.is_over
     (answered_at _ _ _ _ _ _ c.as_slice.result.now _ _ _ c.in-Some.ensures.taken c.as_slice.ensures c.in-Ok.ensures.opening c.in-Ok.ensures.ok) (c.as_slice-2.ensures ∙ c.pieces.ensures)
-    c.if-heard.false c.take.new.self c.put.new.self _ _ c.take.ensures.left c.in-Ok-put.ensures c.in-Ok-write_pieces.ensures.ok
+    c.if-heard.false c.take.new.self c.put.new.self _ _ c.take.ensures.left c.in-Ok-put.ensures.ok c.in-Ok-write_pieces.ensures.ok
 
 pub returns-clause-err : goal.returns-clause-err
 returns-clause-err g c =

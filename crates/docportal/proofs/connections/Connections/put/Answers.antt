@@ -4,8 +4,8 @@ use Rattle.docportal.specs.Scenes.{placed, sessions_of}
 use Rattle.docportal.proofs.SessionTable.{set_is}
 use Rattle.docportal.proofs.connections.Connections.put.Goals as goal
 
-pub returns : goal.returns
-returns c =
+pub returns-clause-ok : goal.returns-clause-ok
+returns-clause-ok c =
     let items = c.self.inside.sessions.items in
     let is : items ≡ c.reach.new.self = c.self.view_is in
     let inside : c.args.seat < length items = omega (arith, c.in_ok-reach.ensures.reached, ap length is) in
