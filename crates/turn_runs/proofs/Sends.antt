@@ -74,22 +74,22 @@ pub asked : IsSend (Asked.the_field).row
 asked = search (reply, request, refused.the_field_send, sendable) depth 60 fits 20000
 
 -- what a portal holds
-history : IsSend History.the_row
+pub history : IsSend History.the_row
 history = search (entry, crosses, sendable) depth 60 fits 20000
 
-outboxes : IsSend Outboxes.the_row
+pub outboxes : IsSend Outboxes.the_row
 outboxes = search (change, list.the_send, crosses, sendable) depth 60 fits 20000
 
-tables : IsSend Tables.the_row
+pub tables : IsSend Tables.the_row
 tables = search (stored, crosses, sendable) depth 60 fits 20000
 
-opening : IsSend (OpeningState.the_field).row
+pub opening : IsSend (OpeningState.the_field).row
 opening = search (stored, document.the_send, file.the_send, list.the_send, crosses, sendable) depth 60 fits 20000
 
 connection : IsSend Connection.the_row
 connection = search (change, list.the_send, crosses, sendable) depth 60 fits 20000
 
-connections : IsSend (List.the_row Connection.the_row)
+pub connections : IsSend (List.the_row Connection.the_row)
 connections = list.the_send Connection.the_row connection
 
 -- all of a portal over devices in memory, as a set for `search`
