@@ -1,4 +1,4 @@
-use Rattle.std.proofs.Common.{◌≡◌, List, [], ◌∷◌, ◌++◌, ap, ◌∙◌}
+use Rattle.std.proofs.Common.{◌≡◌, [], ◌∷◌, ◌++◌, ap, ◌∙◌}
 use Rattle.std.specs.Prelude.{slice_get}
 use Rattle.turn_runs.proofs.Twos.{all_two}
 use Rattle.turn_runs.proofs.two.close_two.Goals as goal
