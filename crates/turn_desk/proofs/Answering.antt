@@ -139,6 +139,7 @@ is_refused t t' v w r r' log request why rests table is legal within own begins 
   moved = record { opening = refl; seat = refl; begins = begins };
   told = (
     record { refusals = count; mine = refl; cause = has_cause t' v log r' request why cause; no_leave = λ leave is_here. no_leave leave (open_same v log rests own is_here) },
+    cause,
     refl,
   );
 })

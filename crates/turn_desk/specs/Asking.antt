@@ -1,5 +1,6 @@
 -- What a call of a seat does that waits for nobody.
 use Rattle.std.specs.Prelude.{◌≡◌, ◌≢◌, ℕ, ◌+◌, ◌≤◌, false}
+use Rattle.portal_core.specs.Growth.{RefusedFor}
 use Rattle.portal_model.specs.declared.request.Request.{Request}
 use Rattle.portal_model.specs.History.{cost}
 use Rattle.portal_model.specs.Seated.{Denied, Known, Made, Moved}
@@ -18,13 +19,15 @@ pub record Lost (old : Sight) (request : Request) (holder : ℕ) (again : Reques
   pub mine : new.knows.mine ≡ old.knows.mine
   pub refusals : new.refusals ≡ old.refusals
 
--- a reply is that of one step, in the history that the seat sees grow by this request alone of its
--- own; a refusal is counted and leaves the seat's own entries
+-- A reply is that of one step, in the history that the seat sees grow by this request alone of its
+-- own. A refusal is counted and leaves the seat's own entries; the seat has then seen the history to
+-- its end, and it is `Full` exactly where that and the request together pass the limit.
 abbrev pub Told : Sight → Request → Asked → Sight → Type 0
 Told old request (Asked.Answered reply) new = Made (seated_of old) (seated_of new) request reply
     × (new.knows.losses ≡ old.knows.losses)
 Told old request (Asked.Busy holder again) new = Lost old request holder again new
 Told old request (Asked.Refused why) new = Denied (seated_of old) (seated_of new) request why
+    × RefusedFor new.knows.opening new.knows.seen request why
     × (new.knows.losses ≡ old.knows.losses)
 
 -- whatever it answers, it is the same seat of the same turn, doesn't hold the turn, and has seen a

@@ -168,8 +168,9 @@ impl<'a, S: Storied> Seat<'a, S> {
     /// which alone is new of the seat's own. `Busy` comes only where an
     /// exchange of this call lost; it hands the request back and tells the
     /// seat that held the turn, which is another. `Refused` is counted and
-    /// leaves the seat's own entries; it is `Full` only where the history that
-    /// is then seen and this request would cost more than the limit.
+    /// leaves the seat's own entries; the history is then seen to its end, and
+    /// it is `Full` exactly where that and this request would cost more than
+    /// the limit.
     pub fn try_ask(&mut self, alloc: Global, request: Request) -> Asked
         ensures { Tries self.old request result self.new }
     {
