@@ -14,7 +14,7 @@
 //! | `names` | paths of objects, names of interfaces and members |
 //! | `keeping`, `typing`, `nesting`, `equal` | whether a value keeps the rules, its type, its depth |
 //! | `layout` | the alignment of a type |
-//! | `shared`, `copies` | types that several own, and copies of them |
+//! | `shared`, `copies` | types that several own, and copies of types and values |
 //! | `laws` | what a spelling is, for the crates above |
 //!
 //! ```text

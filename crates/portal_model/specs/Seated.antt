@@ -1,5 +1,5 @@
 -- What a seat knows at its desk, and what an ask does to it.
-use Rattle.std.specs.Prelude.{◌≡◌, ℕ, ◌+◌, ◌-◌, ◌^◌, ◌<◌, ◌==◌, min, max, List, [], ◌∷◌, ◌++◌, Bool, true, Result, Ok, Err, Option, Some, None, is_some, cond}
+use Rattle.std.specs.Prelude.{◌≡◌, ℕ, ◌+◌, ◌-◌, ◌^◌, ◌<◌, ◌≤◌, ◌==◌, min, max, List, [], ◌∷◌, ◌++◌, Bool, true, Result, Ok, Err, Option, Some, None, is_some, cond}
 use Rattle.std.specs.Option.{option_map}
 use Rattle.portal_base.specs.declared.who.Kind.{Kind}
 use Rattle.portal_base.specs.declared.who.Who.{Who}
@@ -107,10 +107,10 @@ pub record Made (old new : Seated) (request : Request) (reply : Reply) : Type 0 
   pub mine : new.mine ≡ old.mine ++ exchange (run old.opening (old.seen ++ others)) entry ∷ []
   pub refusals : new.refusals ≡ old.refusals
 
--- why a request is refused: want of memory, which is free, or a history that would cost too much,
--- told by both numbers
+-- why a request is refused: want of memory, which is free where the history has room for the
+-- request, or a history that would cost too much, told by both numbers
 abbrev pub HasCause : Seated → Request → Refused → Type 0
-HasCause d request Memory = Unit {0}
+HasCause d request Memory = cost d.seen + cost_of request ≤ d.opening.limits.history
 HasCause d request (Full now limit) = (now ≡ cost d.seen) × (limit ≡ d.opening.limits.history)
     × (limit < now + cost_of request)
 

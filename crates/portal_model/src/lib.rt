@@ -10,6 +10,7 @@
 //! | Room | Holds |
 //! |---|---|
 //! | `request`, `reply`, `entry` | what is asked, what is answered, and one request with what the outside gave it |
+//! | `asked` | what a seat is answered that waits for nobody |
 //! | `state`, `rights`, `handle`, `place` | the items of the portal's lists, the four rights, open handles, the numbers of nodes |
 //! | `opening`, `records` | what a run begins with, and the records that outlive it |
 //! | `store`, `datum` | the calls of the permission store, its entries and their data |
@@ -26,6 +27,7 @@
 //! `org.freedesktop.portal.Documents`; `include/uapi/linux/fuse.h`.
 #![tactic(auto)]
 
+pub mod asked;
 pub mod datum;
 pub mod document_examples;
 pub mod document_laws;

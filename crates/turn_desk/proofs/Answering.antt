@@ -16,7 +16,7 @@ use Rattle.portal_model.specs.Seated.{BeginsWith, Exchange, HasCause, Made, boun
 use Rattle.portal_model.specs.State.{State}
 use Rattle.portal_model.specs.Step.{reply_at}
 use Rattle.portal_model.proofs.SeatLaws.{begins-itself, exchanges-own, run-open}
-use Rattle.turn_desk.specs.declared.asked.Asked.TheVariants as Asked
+use Rattle.portal_model.specs.declared.asked.Asked.TheVariants as Asked
 use Rattle.turn_desk.specs.Knowing.{View}
 use Rattle.turn_desk.specs.Asking.{Looks, Tries}
 use Rattle.turn_desk.specs.Sights.{Sight, seated_of}
@@ -114,7 +114,7 @@ module _ (v : View) (log : List Entry) (e : Entry) (request : Request) (reply : 
 -- ---- the request was refused
 
 has_cause : (t : TableId) (v : View) (log : List Entry) (r : ℕ) (request : Request) (why : Refused) → RefusedFor v.opening log request why → HasCause (seated_of (sight t (unwritten v log) r)) request why
-has_cause t v log r request Memory cause = tt
+has_cause t v log r request Memory cause = cause
 has_cause t v log r request (Full now limit) cause =
     let a = cause.0 in
     let b = cause.1 in

@@ -4,7 +4,7 @@ use Rattle.portal_core.specs.Growth.{RefusedFor}
 use Rattle.portal_model.specs.declared.request.Request.{Request}
 use Rattle.portal_model.specs.History.{cost}
 use Rattle.portal_model.specs.Seated.{Denied, Known, Made, Moved}
-use Rattle.turn_desk.specs.declared.asked.Asked.{Asked}
+use Rattle.portal_model.specs.declared.asked.Asked.{Asked}
 use Rattle.turn_desk.specs.Sights.{Sight, Stays, seated_of}
 
 -- an exchange of this call lost, and the last to lose read this holder, another seat. The request

@@ -13,7 +13,6 @@
 //! |---|---|
 //! | `start` | [`seats::Turn::start`]: a turn, and a pass for each seat |
 //! | `seats` | [`seats::Turn`], [`seats::Pass`], [`seats::Seat`]: a pass sits down in a thread, asks, and leaves |
-//! | `asked` | [`asked::Asked`]: what a seat is answered |
 //! | `waiting` | [`waiting::WaitingSeat`]: a seat that waits, as a desk |
 //! | `end` | [`end::close`]: what keeps the history, given back |
 //! | `portals` | the same of a portal |
@@ -23,13 +22,12 @@
 //! ```text
 //! let Started { turn, mut passes } = Turn::start(alloc, portal, 2)?;
 //! let mut seat = passes.pop().unwrap().sit(&turn);
-//! match seat.try_ask(alloc, request) { .. }
+//! match seat.try_ask(alloc, request) { Asked::Busy { holder, request } => .. }
 //! passes.push_reserved(seat.leave());
 //! let portal = close(turn, passes);
 //! ```
 #![tactic(auto)]
 
-pub mod asked;
 pub mod end;
 pub mod portals;
 pub mod rule;

@@ -5,10 +5,10 @@ ghost use Rattle.portal_model.specs.Seated.{Known};
 ghost use Rattle.turn_desk.specs.Asking.{Looks, Tries};
 ghost use Rattle.turn_desk.specs.Sights.{seated_of};
 
-use crate::asked::Asked;
 use crate::rule::{Board, Place};
 use crate::steps::{give_same, give_written, look, try_take};
 use portal_core::storied::Storied;
+use portal_model::asked::Asked;
 use portal_model::request::Request;
 use std::alloc::Global;
 use std::marker::Model;

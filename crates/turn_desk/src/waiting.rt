@@ -2,10 +2,10 @@
 
 ghost use Rattle.std.specs.Prelude.{◌≡◌};
 
-use crate::asked::Asked;
 use crate::seats::Seat;
 use portal_core::storied::Storied;
 use portal_desk::Desk;
+use portal_model::asked::Asked;
 use portal_model::reply::{Refused, Reply};
 use portal_model::request::Request;
 use std::alloc::Global;

@@ -41,7 +41,7 @@ use Rattle.portal_model.specs.contracts.request.Request as Request
 use Rattle.portal_model.specs.contracts.state.Connection as Connection
 use Rattle.portal_model.specs.contracts.store.StoreCall as StoreCall
 use Rattle.portal_model.specs.contracts.store.StoredEntry as StoredEntry
-use Rattle.turn_desk.specs.contracts.asked.Asked as Asked
+use Rattle.portal_model.specs.contracts.asked.Asked as Asked
 
 -- what is written to the permission store
 datum : IsSend Datum.the_row

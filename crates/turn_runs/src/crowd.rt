@@ -6,10 +6,10 @@ ghost use Rattle.turn_desk.specs.Sights.{Stays};
 use crate::two::{Two, close_two, start_two};
 use portal_core::storied::Storied;
 use portal_lines::{DOCUMENTS, PLENTY, limits, opened_by};
+use portal_model::asked::Asked;
 use portal_model::request::Request;
 use std::alloc::Global;
 use std::thread::{Threads, join};
-use turn_desk::asked::Asked;
 use turn_desk::seats::{Pass, Turn};
 use vector_lines::error::{VectorError, bad};
 

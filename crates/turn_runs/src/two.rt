@@ -5,9 +5,9 @@ ghost use Rattle.turn_desk.specs.Deals.{IsDealt, Stands};
 ghost use Rattle.turn_desk.specs.Sights.{Stays};
 
 use portal_core::storied::Storied;
+use portal_model::asked::Asked;
 use portal_model::request::Request;
 use std::alloc::Global;
-use turn_desk::asked::Asked;
 use turn_desk::end::close;
 use turn_desk::seats::{Pass, Turn};
 use turn_desk::start::{Started, TurnError};

@@ -1,5 +1,5 @@
 use Rattle.std.proofs.Common.{rules, ◌∙◌, subst}
-use Rattle.turn_desk.specs.declared.asked.Asked.TheVariants as Asked
+use Rattle.portal_model.specs.declared.asked.Asked.TheVariants as Asked
 use Rattle.turn_desk.specs.Asking.{Tries}
 use Rattle.turn_desk.specs.Sights.{Sight}
 use Rattle.turn_desk.proofs.Answering.{answers, refuses, sight}

@@ -1,7 +1,7 @@
-//! What a seat is answered that waits for nobody.
+//! What a seat of a desk that waits for nobody is answered.
 
-use portal_model::reply::{Refused, Reply};
-use portal_model::request::Request;
+use crate::reply::{Refused, Reply};
+use crate::request::Request;
 
 /// The answer to a request of a seat.
 #[derive(Debug, Drop)]
