@@ -59,6 +59,13 @@ impl History {
         }
     }
 
+    /// The entries, in order.
+    pub fn entries(&self) -> &[Entry]
+        ensures { result.now ≡ self.now.entries }
+    {
+        self.entries.as_slice()
+    }
+
     /// The number of entries.
     pub fn len(&self) -> u64
         ensures { result ≡ length self.now.entries }
