@@ -17,8 +17,8 @@ use vector_lines::error::{LineError, VectorError};
 use vector_lines::notation::bytes;
 
 /// `feeds BYTES | BYTES | BYTES`: what a session of a bus of the host answers to
-/// the three pieces one after another, and in the end; how many entries the
-/// history has then, and how many pieces were written.
+/// the three pieces one after another, and how many bytes it holds then; how it
+/// ends; how many entries the history has then, and how many pieces were written.
 pub fn feeds(alloc: Global, rest: &str) -> Result<String, VectorError> {
     let (first, rest) = rest.split_once(" | ").unwrap_or((rest, ""));
     let (second, third) = rest.split_once(" | ").unwrap_or((rest, ""));
@@ -77,8 +77,12 @@ fn fed<D: Desk>(
         Err(_) => return Err(VectorError::Line(LineError::Memory)),
     };
     let first = session.feed(alloc, desk, first.as_slice(), sink);
+    let one = session.held();
     let second = session.feed(alloc, desk, second.as_slice(), sink);
+    let two = session.held();
     let third = session.feed(alloc, desk, third.as_slice(), sink);
+    let three = session.held();
     let served = session.end(alloc, desk);
-    Ok(format!(in alloc; "{first:?}, {second:?}, {third:?}, {served:?}")?)
+    let came = format!(in alloc; "{first:?} {one}, {second:?} {two}, {third:?} {three}")?;
+    Ok(format!(in alloc; "{came}, {served:?}")?)
 }

@@ -7,6 +7,7 @@
 #![tactic(auto)]
 
 mod client;
+mod cuts;
 mod drip;
 mod feeds;
 mod portal;
@@ -30,6 +31,7 @@ fn answer(alloc: Global, line: &str) -> Result<String, VectorError> {
         "serve" => served::serve(alloc, rest),
         "waits" => waiting::waits(alloc, rest),
         "feeds" => feeds::feeds(alloc, rest),
+        "cuts" => cuts::cuts(alloc, rest),
         _ => bad(),
     }
 }

@@ -17,8 +17,8 @@ use vector_lines::notation::digits;
 /// options are `limit=N` for the cost of the history, `documents=N` for live
 /// documents, `size=N` for the pieces in which the bytes come, and `read=N` and
 /// `write=N` for the read and the write that fail, with commas between them, or
-/// `-`. Without a size the connection is served four times, by pieces of 4,096
-/// bytes, of 57, of 3 and of 1; the answer is then one where it is the same.
+/// `-`. Without a size the connection is served four times, by pieces of
+/// 262,144 bytes, of 57, of 3 and of 1; the answer is then one where it is the same.
 pub fn serve(alloc: Global, rest: &str) -> Result<String, VectorError> {
     let client = client_of(alloc, rest)?;
     if client.options.size == 0 {
@@ -29,7 +29,7 @@ pub fn serve(alloc: Global, rest: &str) -> Result<String, VectorError> {
 }
 
 fn served_in_sizes(alloc: Global, client: &Client) -> Result<String, VectorError> {
-    let whole = served(alloc, client, 4096)?;
+    let whole = served(alloc, client, 262_144)?;
     for size in [57, 3, 1] {
         let told = served(alloc, client, size)?;
         if told != whole {

@@ -23,7 +23,6 @@ use Rattle.session.proofs.AnswersAsked.{answer_asked}
 use Rattle.session.proofs.Grew.{told_alike}
 use Rattle.docportal.specs.declared.seats.Heard.{Heard}
 use Rattle.docportal.specs.Entries.{made_of}
-use Rattle.docportal.specs.Lines.{DataIsUnbuilt, IsUnbuiltStop}
 use Rattle.docportal.specs.Scenes.{ScriptPortal, outside_at}
 use Rattle.docportal.specs.Seats.{Alone, HeardAs, HearsAt, IsMet, WantsMemory, known_at, sunk}
 use Rattle.docportal.proofs.MadeAlone.{asked_alone}
@@ -74,9 +73,6 @@ module _ (p q : ScriptPortal) (seat count : ℕ) (at now : Standing) (bytes : Li
         refl,
       )
 
-  takes_unbuilt : (what : Stop) → TakesUpTo what at (sunk (known_at p seat 0) sink) bytes now (sunk (known_at q seat count) sink') → IsUnbuiltStop what now.rest → DataIsUnbuilt bytes (Some at)
-  takes_unbuilt what t un = (t.did.items, t.did.acts, now.rest, what, cut_taken what t, un)
-
   -- by what the session answered
   abbrev Fed_so : Fed → Type 0
   Fed_so r = Feeds at.fed at (sunk (known_at p seat 0) sink) bytes r now (sunk (known_at q seat count) sink')
@@ -84,18 +80,8 @@ module _ (p q : ScriptPortal) (seat count : ℕ) (at now : Standing) (bytes : Li
   open_so : (r : Fed) → at.fed ≡ fed.More → Fed_so r → FeedsOpen at (sunk (known_at p seat 0) sink) bytes r now (sunk (known_at q seat count) sink')
   open_so r goes h = subst (λ (z : Fed). Feeds z at (sunk (known_at p seat 0) sink) bytes r now (sunk (known_at q seat count) sink')) goes h
 
-  no_rest : (l : List ℕ) (n : ℕ) → n ≡ length l → n ≤ 0 → l ≡ []
-  no_rest [] n e h = refl
-  no_rest (x ∷ xs) n e h = absurd (omega arith)
-
-  some_rest : (l : List ℕ) (n : ℕ) → n ≡ length l → 0 < n → l ≡ [] → ⊥
-  some_rest l n e h none = let zero_long = ap length none in omega arith
-
-  pub heard_more : at.fed ≡ fed.More → (n : ℕ) → n ≡ length now.rest → n ≤ 0 → Fed_so fed.More → HeardAs false p q seat at bytes sink'.pieces now
-  heard_more goes n e h f = let g = open_so fed.More goes f in (takes_hears stop.More g.0 g.1.0, no_rest now.rest n e h)
-
-  pub unheard_more : at.fed ≡ fed.More → (n : ℕ) → n ≡ length now.rest → 0 < n → Fed_so fed.More → DataIsUnbuilt bytes (Some at)
-  unheard_more goes n e h f = let g = open_so fed.More goes f in takes_unbuilt stop.More g.0 (some_rest now.rest n e h)
+  pub heard_more : at.fed ≡ fed.More → Fed_so fed.More → HeardAs false p q seat at bytes sink'.pieces now
+  heard_more goes f = let g = open_so fed.More goes f in takes_hears stop.More g.0 g.1.0
 
   over_met : (s : Served) → at.before + length at.rest + length bytes ≤ longest → FeedsOver at (sunk (known_at p seat 0) sink) bytes s now (sunk (known_at q seat count) sink') → IsMet s
   over_met (served.Malformed place rule) space h = tt

@@ -11,6 +11,7 @@ pub mod BeginAndEnd
 pub mod SoundHistory
 pub mod SessionTable
 pub mod Costs
+pub mod HeldBytes
 pub mod NextLineMayRun
 pub mod OneOutput
 pub mod RunLines
@@ -19,7 +20,5 @@ pub mod ReplayScript
 pub mod Counts
 pub mod StartedScript
 pub mod CountedAnswers
-pub mod WholeCalls
-pub mod LoadLines
 pub mod LoadRun
 pub mod AnyRun

@@ -26,7 +26,6 @@ use Rattle.docportal.specs.Runs.{Risen}
 use Rattle.docportal.specs.Scenes.{Scene, ScriptPortal, first_scene, opening_state}
 use Rattle.docportal.specs.Started.{StartsScript}
 use Rattle.docportal.specs.Steps.{MayPlay, scene}
-use Rattle.docportal.proofs.LoadLines.{load_is_built}
 use Rattle.docportal.proofs.ReplayScript.{is_replay_with, itself, may_replay, scene_is}
 use Rattle.docportal.proofs.RunLines.{onto_more, onto_none, short_front}
 
@@ -66,7 +65,7 @@ module _ (count : ℕ) (slice : List ScriptLine) (p : ScriptPortal) (few : count
   stops WriteFault k = absurd (none_risen k.0)
   stops Memory k = refl
   stops TooLong k = absurd k
-  stops (Unbuilt number) k = absurd (load_is_built count h.entries k.1.front k.1.history k.1.out k.1.last number few k.1.plays k.1.stops)
+  stops (Unbuilt number) k = absurd k
 
   pub load_stops : (status : Status) → PlayStops (scene p []) slice None 0 None 0 status → status ≡ Memory
   load_stops status k = stops status (subst (λ (z : Scene). PlayStops z (lines_of_load count) None 0 None 0 status) begins (subst (λ (x : List ScriptLine). PlayStops (scene p []) x None 0 None 0 status) is k))

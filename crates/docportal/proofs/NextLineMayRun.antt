@@ -15,7 +15,7 @@ use Rattle.portal_model.proofs.SeatLaws.{run-bound}
 use Rattle.script_form.specs.declared.script.ScriptLine.{ScriptLine}
 use Rattle.script_form.specs.declared.script.ScriptLine.TheVariants.{File, Doc, Fail, Word, Now, Open, Data, Close}
 use Rattle.script_form.specs.declared.script.ScriptLine.TheVariants as line
-use Rattle.script_form.specs.Lines.{KeepsRules, line_text}
+use Rattle.script_form.specs.Lines.{KeepsRules, last_seat, line_text}
 use Rattle.script_form.specs.Order.{opens}
 use Rattle.script_form.specs.Outside.{Outside}
 use Rattle.session.specs.declared.act.Client.{Client}
@@ -29,11 +29,12 @@ use Rattle.session.specs.Standings.{Standing, client, fresh, longest}
 use Rattle.session.proofs.ConnectionStaysOpen.{ArePlain, bound_stays, items_plain}
 use Rattle.docportal.specs.Entries.{AreGiven}
 use Rattle.docportal.specs.Lines.{Comes, CloseDoes, DataDoes, Does, Goes, Hears, Passes, Sets}
-use Rattle.docportal.specs.Scenes.{Scene, placed, run_settings}
-use Rattle.docportal.specs.Steps.{Agrees, HaveRoom, IsIdle, IsNew, binding}
+use Rattle.docportal.specs.Scenes.{Scene, held_by, held_in, placed, run_settings}
+use Rattle.docportal.specs.Steps.{Agrees, GoesOn, HaveRoom, IsNew, binding}
 use Rattle.docportal.specs.Texts.{out_line}
 use Rattle.session.proofs.ItemsCostLittle.{costs, costs-append, items_cost}
 use Rattle.docportal.proofs.Costs.{data_long, enter_cost, entries_cost}
+use Rattle.docportal.proofs.HeldBytes.{held_on, held_same}
 
 -- ---- the entries of a seat, by the seat
 
@@ -96,10 +97,10 @@ abbrev choose : Bool → Option Standing → Option Standing → Option Standing
 choose b x y = if b then x else y
 
 -- what a seat's requests make of the portal and of the sessions
-module _ (a : Scene) (seat : ℕ) (rs : List Request) (es : List Entry) (left : Outside) (given : AreGiven a.portal a.outside seat rs es left) (now : Option Standing) (agrees : Agrees a) (idle : IfSome now IsIdle) (is : bound_past (bound a.portal seat) rs ≡ maybe_binding now) where
-  placed_idle : (b : Bool) (n : ℕ) → IfSome (choose b now (a.sessions n)) IsIdle
-  placed_idle true n = idle
-  placed_idle false n = agrees.idle n
+module _ (a : Scene) (seat : ℕ) (rs : List Request) (es : List Entry) (left : Outside) (given : AreGiven a.portal a.outside seat rs es left) (now : Option Standing) (agrees : Agrees a) (going : IfSome now GoesOn) (is : bound_past (bound a.portal seat) rs ≡ maybe_binding now) where
+  placed_going : (b : Bool) (n : ℕ) → IfSome (choose b now (a.sessions n)) GoesOn
+  placed_going true n = going
+  placed_going false n = agrees.going n
 
   placed_bound : (b : Bool) (n : ℕ) → (n == seat) ≡ b → bound (run a.portal es) n ≡ maybe_binding (choose b now (a.sessions n))
   placed_bound true n h =
@@ -108,18 +109,18 @@ module _ (a : Scene) (seat : ℕ) (rs : List Request) (es : List Entry) (left : 
   placed_bound false n h = bound_there rs es a.portal a.outside seat n left h given ∙ agrees.bound_alike n
 
   comes_scene : Agrees (record { portal = run a.portal es; outside = left; sessions = placed a.sessions seat now })
-  comes_scene = record { idle = λ n. placed_idle (n == seat) n; bound_alike = λ n. placed_bound (n == seat) n refl }
+  comes_scene = record { going = λ n. placed_going (n == seat) n; bound_alike = λ n. placed_bound (n == seat) n refl }
 
 comes_agree : (a b : Scene) (seat : ℕ) (rs : List Request) (lines : List (List ℕ)) (now : Option Standing) (es : List Entry) (out : List (List ℕ))
-    → Agrees a → IfSome now IsIdle → bound_past (bound a.portal seat) rs ≡ maybe_binding now → Comes a seat rs lines now es out b → Agrees b
-comes_agree a b seat rs lines now es out agrees idle is h = subst Agrees (sym h.scene) (comes_scene a seat rs es h.left h.given now agrees idle is)
+    → Agrees a → IfSome now GoesOn → bound_past (bound a.portal seat) rs ≡ maybe_binding now → Comes a seat rs lines now es out b → Agrees b
+comes_agree a b seat rs lines now es out agrees going is h = subst Agrees (sym h.scene) (comes_scene a seat rs es h.left h.given now agrees going is)
 
 passes_agree : (a b : Scene) (es : List Entry) (out : List (List ℕ)) → Agrees a → Passes a es out b → Agrees b
 passes_agree a b es out agrees h = subst Agrees (sym h.2) agrees
 
 -- a clock that is set moves no session
 sets_agree : (moment : ℕ) (a b : Scene) (es : List Entry) (out : List (List ℕ)) → Agrees a → Sets a moment es out b → Agrees b
-sets_agree moment a b es out agrees h = subst Agrees (sym h.2) (record { idle = agrees.idle; bound_alike = agrees.bound_alike })
+sets_agree moment a b es out agrees h = subst Agrees (sym h.2) (record { going = agrees.going; bound_alike = agrees.bound_alike })
 
 -- the requests of items leave the connection of a session
 module _ (a b : Scene) (seat : ℕ) (at now : Standing) (bytes : List ℕ) (what : Stop) (rs : List Request) (ps : List (List ℕ)) (es : List Entry) (out : List (List ℕ)) (agrees : Agrees a) (open_at : a.sessions seat ≡ Some at) (x : Hears a.portal a.outside seat at bytes what rs ps now) where
@@ -129,19 +130,19 @@ module _ (a b : Scene) (seat : ℕ) (at now : Standing) (bytes : List ℕ) (what
   plain : ArePlain rs
   plain = subst ArePlain (sym x.asked) (items_plain x.items at.client at.stage.phase x.acts x.cut.each)
 
-  goes_on_agree : what ≡ stop.More → now.rest ≡ [] → Comes a seat rs (map (out_line seat) ps) (Some now) es out b → Agrees b
-  goes_on_agree more left h =
+  goes_on_agree : what ≡ stop.More → Comes a seat rs (map (out_line seat) ps) (Some now) es out b → Agrees b
+  goes_on_agree more h =
       let fed_is : now.fed ≡ fed.More = x.fed ∙ ap (fed_of now.before) more in
       let is : bound_past (bound a.portal seat) rs ≡ Some (binding now) =
       past_stays rs (bound a.portal seat) plain ∙ (open_bound ∙ ap (λ (c : Client). Some (record { who = c.who; kind = c.kind })) (sym x.client)) in
-      comes_agree a b seat rs _ (Some now) es out agrees (record { goes_on = fed_is; between = left }) is h
+      comes_agree a b seat rs _ (Some now) es out agrees fed_is is h
 
   ends_agree : (lines : List (List ℕ)) → Comes a seat (rs ++ Request.Leave ∷ []) lines None es out b → Agrees b
   ends_agree lines h = comes_agree a b seat (rs ++ Request.Leave ∷ []) lines None es out agrees tt (past_plain rs (Request.Leave ∷ []) (bound a.portal seat) plain ∙ past_leave (bound a.portal seat)) h
 
 goes_agree : (what : Stop) (a b : Scene) (seat : ℕ) (at now : Standing) (bytes : List ℕ) (rs : List Request) (ps : List (List ℕ)) (es : List Entry) (out : List (List ℕ))
     → Agrees a → a.sessions seat ≡ Some at → Hears a.portal a.outside seat at bytes what rs ps now → Goes a seat what rs ps now es out b → Agrees b
-goes_agree stop.More a b seat at now bytes rs ps es out agrees e x h = goes_on_agree a b seat at now bytes stop.More rs ps es out agrees e x refl h.0 h.1
+goes_agree stop.More a b seat at now bytes rs ps es out agrees e x h = goes_on_agree a b seat at now bytes stop.More rs ps es out agrees e x refl h
 goes_agree (stop.Bad rule) a b seat at now bytes rs ps es out agrees e x h = ends_agree a b seat at now bytes (stop.Bad rule) rs ps es out agrees e x _ h
 goes_agree stop.TooLong a b seat at now bytes rs ps es out agrees e x h = ends_agree a b seat at now bytes stop.TooLong rs ps es out agrees e x _ h
 
@@ -162,23 +163,21 @@ does_agree (Fail device call) a b es out agrees new h = passes_agree a b es out 
 does_agree (Word word) a b es out agrees new h = passes_agree a b es out agrees h
 does_agree (Open seat kind who) a b es out agrees new h =
     let closed : bound a.portal seat ≡ None = agrees.bound_alike seat ∙ ap maybe_binding new in
-    comes_agree a b seat (Request.Enter who kind ∷ []) [] (Some (fresh (client who kind run_settings))) es out agrees (record { goes_on = refl; between = refl })
+    comes_agree a b seat (Request.Enter who kind ∷ []) [] (Some (fresh (client who kind run_settings))) es out agrees refl
     (ap (λ (o : Option Binding). bound_after o (Request.Enter who kind)) closed) h
 does_agree (Data seat bytes) a b es out agrees new h = data_agrees (a.sessions seat) a b seat bytes es out agrees refl h
 does_agree (Close seat) a b es out agrees new h = close_agrees (a.sessions seat) a b seat es out agrees h
 
--- ---- what a line costs
+-- ---- what a line costs, and what is held behind it
 
--- bytes that are heard between items hold the items
-heard_bytes : (s : State) (o : Outside) (seat : ℕ) (at now : Standing) (bytes : List ℕ) (what : Stop) (rs : List Request) (ps : List (List ℕ)) → at.rest ≡ [] → (x : Hears s o seat at bytes what rs ps now) → length (joined x.items) ≤ length bytes
-heard_bytes s o seat at now bytes what rs ps none x =
-    let all : bytes ≡ joined x.items ++ now.rest = sym (ap (λ (z : List ℕ). z ++ bytes) none) ∙ x.cut.bytes in
-    let long : length bytes ≡ length (joined x.items) + length now.rest = ap length all ∙ length-append (joined x.items) now.rest in
-    omega arith
+heard_bytes : (s : State) (o : Outside) (seat : ℕ) (at now : Standing) (bytes : List ℕ) (what : Stop) (rs : List Request) (ps : List (List ℕ)) → (x : Hears s o seat at bytes what rs ps now)
+    → length at.rest + length bytes ≡ length (joined x.items) + length now.rest
+heard_bytes s o seat at now bytes what rs ps x = sym (length-append at.rest bytes) ∙ (ap length x.cut.bytes ∙ length-append (joined x.items) now.rest)
 
-heard_cost : (s : State) (o : Outside) (seat : ℕ) (at now : Standing) (bytes : List ℕ) (what : Stop) (rs : List Request) (ps : List (List ℕ)) → at.rest ≡ [] → Hears s o seat at bytes what rs ps now → costs rs ≤ 8 * length bytes
-heard_cost s o seat at now bytes what rs ps none x =
-    let least = heard_bytes s o seat at now bytes what rs ps none x in
+heard_cost : (s : State) (o : Outside) (seat : ℕ) (at now : Standing) (bytes : List ℕ) (what : Stop) (rs : List Request) (ps : List (List ℕ)) → Hears s o seat at bytes what rs ps now
+    → costs rs + 8 * length now.rest ≤ 8 * (length at.rest + length bytes)
+heard_cost s o seat at now bytes what rs ps x =
+    let all = heard_bytes s o seat at now bytes what rs ps x in
     let most = items_cost x.items at.client at.stage.phase x.acts x.cut.each in
     let same : costs rs ≡ costs (requests_of x.acts) = ap costs x.asked in
     omega arith
@@ -186,52 +185,79 @@ heard_cost s o seat at now bytes what rs ps none x =
 comes_cost : (a b : Scene) (seat : ℕ) (rs : List Request) (lines : List (List ℕ)) (now : Option Standing) (es : List Entry) (out : List (List ℕ)) → Comes a seat rs lines now es out b → cost es ≡ costs rs
 comes_cost a b seat rs lines now es out h = entries_cost rs es a.portal a.outside seat h.left h.given
 
-passes_cost : (a b : Scene) (es : List Entry) (out : List (List ℕ)) → Passes a es out b → cost es ≡ 0
-passes_cost a b es out h = ap cost h.0
+comes_held : (a b : Scene) (seat : ℕ) (rs : List Request) (lines : List (List ℕ)) (now : Option Standing) (es : List Entry) (out : List (List ℕ)) → seat ≤ last_seat → Comes a seat rs lines now es out b
+    → held_in b + held_by (a.sessions seat) ≡ held_in a + held_by now
+comes_held a b seat rs lines now es out high h = held_on a b seat now high (ap (λ (z : Scene). z.sessions) h.scene)
+
+-- what a line costs and what is held then is paid by so many bytes and by what was held
+abbrev Costs : Scene → Scene → List Entry → ℕ → Type 0
+Costs a b es n = cost es + 8 * held_in b ≤ 8 * (held_in a + n)
+
+passes_cost : (a b : Scene) (es : List Entry) (out : List (List ℕ)) (n : ℕ) → Passes a es out b → Costs a b es n
+passes_cost a b es out n h =
+    let none = ap cost h.0 in
+    let same = held_same a b (ap (λ (z : Scene). z.sessions) h.2) in
+    omega arith
+
+sets_cost : (moment : ℕ) (a b : Scene) (es : List Entry) (out : List (List ℕ)) (n : ℕ) → Sets a moment es out b → Costs a b es n
+sets_cost moment a b es out n h =
+    let none = ap cost h.0 in
+    let same = held_same a b (ap (λ (z : Scene). z.sessions) h.2) in
+    omega arith
 
 leaves_cost : (rs : List Request) → costs (rs ++ Request.Leave ∷ []) ≡ costs rs
 leaves_cost rs = let both = costs-append rs (Request.Leave ∷ []) in omega arith
 
-goes_cost : (what : Stop) (a b : Scene) (seat : ℕ) (rs : List Request) (ps : List (List ℕ)) (now : Standing) (es : List Entry) (out : List (List ℕ)) → Goes a seat what rs ps now es out b → cost es ≡ costs rs
-goes_cost stop.More a b seat rs ps now es out h = comes_cost a b seat rs _ _ es out h.1
-goes_cost (stop.Bad rule) a b seat rs ps now es out h = comes_cost a b seat (rs ++ Request.Leave ∷ []) _ _ es out h ∙ leaves_cost rs
-goes_cost stop.TooLong a b seat rs ps now es out h = comes_cost a b seat (rs ++ Request.Leave ∷ []) _ _ es out h ∙ leaves_cost rs
-
-maybe_idle : (o : Option Standing) (x : Standing) → o ≡ Some x → IfSome o IsIdle → IsIdle x
-maybe_idle o x e h = subst (λ (z : Option Standing). IfSome z IsIdle) e h
-
-data_cost : (o : Option Standing) (a b : Scene) (seat : ℕ) (bytes : List ℕ) (es : List Entry) (out : List (List ℕ)) → Agrees a → a.sessions seat ≡ o → DataDoes a seat bytes o es out b
-    → cost es ≤ 8 * (length (line_text (Data seat bytes)) + 1)
-data_cost None a b seat bytes es out agrees e h = let none = passes_cost a b es out h in omega arith
-data_cost (Some at) a b seat bytes es out agrees e h =
-    let idle = maybe_idle (a.sessions seat) at e (agrees.idle seat) in
-    let same = goes_cost h.0 a b seat h.1 h.2 h.3 es out h.5 in
-    let most = heard_cost a.portal a.outside seat at h.3 bytes h.0 h.1 h.2 idle.between h.4 in
-    let text = data_long seat bytes in
+-- a connection that ends by itself holds nothing
+over_cost : (a b : Scene) (seat : ℕ) (rs : List Request) (lines : List (List ℕ)) (es : List Entry) (out : List (List ℕ)) (n : ℕ) → seat ≤ last_seat → costs rs ≤ 8 * (held_by (a.sessions seat) + n)
+    → Comes a seat (rs ++ Request.Leave ∷ []) lines None es out b → Costs a b es n
+over_cost a b seat rs lines es out n high most h =
+    let same = comes_cost a b seat (rs ++ Request.Leave ∷ []) lines None es out h in
+    let leaves = leaves_cost rs in
+    let held = comes_held a b seat (rs ++ Request.Leave ∷ []) lines None es out high h in
     omega arith
 
-close_cost : (o : Option Standing) (a b : Scene) (seat : ℕ) (es : List Entry) (out : List (List ℕ)) → CloseDoes a seat o es out b → cost es ≡ 0
-close_cost None a b seat es out h = passes_cost a b es out h
-close_cost (Some at) a b seat es out h = comes_cost a b seat (Request.Leave ∷ []) _ _ es out h
+goes_cost : (what : Stop) (a b : Scene) (seat : ℕ) (rs : List Request) (ps : List (List ℕ)) (now : Standing) (es : List Entry) (out : List (List ℕ)) (n : ℕ) → seat ≤ last_seat
+    → costs rs + 8 * length now.rest ≤ 8 * (held_by (a.sessions seat) + n) → Goes a seat what rs ps now es out b → Costs a b es n
+goes_cost stop.More a b seat rs ps now es out n high most h =
+    let same = comes_cost a b seat rs _ (Some now) es out h in
+    let held = comes_held a b seat rs _ (Some now) es out high h in
+    omega arith
+goes_cost (stop.Bad rule) a b seat rs ps now es out n high most h = over_cost a b seat rs _ es out n high (omega (arith, most)) h
+goes_cost stop.TooLong a b seat rs ps now es out n high most h = over_cost a b seat rs _ es out n high (omega (arith, most)) h
 
-pub does_cost : (line : ScriptLine) (a b : Scene) (es : List Entry) (out : List (List ℕ)) → Agrees a → KeepsRules line → Does a line es out b → cost es ≤ 8 * (length (line_text line) + 1)
-does_cost (File path content) a b es out agrees k h = let none = passes_cost a b es out h in omega arith
-does_cost (Doc id reusable path grants) a b es out agrees k h = let none = passes_cost a b es out h in omega arith
-does_cost (Now moment) a b es out agrees k h = let none = ap cost h.0 in omega arith
-does_cost (line.Entry entry) a b es out agrees k h = let none = passes_cost a b es out h in omega arith
-does_cost (Fail device call) a b es out agrees k h = let none = passes_cost a b es out h in omega arith
-does_cost (Word word) a b es out agrees k h = let none = passes_cost a b es out h in omega arith
-does_cost (Open seat kind who) a b es out agrees k h =
+data_cost : (o : Option Standing) (a b : Scene) (seat : ℕ) (bytes : List ℕ) (es : List Entry) (out : List (List ℕ)) → seat ≤ last_seat → a.sessions seat ≡ o → DataDoes a seat bytes o es out b
+    → Costs a b es (length (line_text (Data seat bytes)) + 1)
+data_cost None a b seat bytes es out high e h = passes_cost a b es out _ h
+data_cost (Some at) a b seat bytes es out high e h =
+    let was = ap held_by e in
+    let most = heard_cost a.portal a.outside seat at h.3 bytes h.0 h.1 h.2 h.4 in
+    let text = data_long seat bytes in
+    goes_cost h.0 a b seat h.1 h.2 h.3 es out _ high (omega arith) h.5
+
+close_cost : (o : Option Standing) (a b : Scene) (seat : ℕ) (es : List Entry) (out : List (List ℕ)) (n : ℕ) → seat ≤ last_seat → CloseDoes a seat o es out b → Costs a b es n
+close_cost None a b seat es out n high h = passes_cost a b es out n h
+close_cost (Some at) a b seat es out n high h = over_cost a b seat [] _ es out n high (omega arith) h
+
+pub does_cost : (line : ScriptLine) (a b : Scene) (es : List Entry) (out : List (List ℕ)) → KeepsRules line → Does a line es out b → cost es + 8 * held_in b ≤ 8 * (held_in a + (length (line_text line) + 1))
+does_cost (File path content) a b es out k h = passes_cost a b es out _ h
+does_cost (Doc id reusable path grants) a b es out k h = passes_cost a b es out _ h
+does_cost (Now moment) a b es out k h = sets_cost moment a b es out _ h
+does_cost (line.Entry entry) a b es out k h = passes_cost a b es out _ h
+does_cost (Fail device call) a b es out k h = passes_cost a b es out _ h
+does_cost (Word word) a b es out k h = passes_cost a b es out _ h
+does_cost (Open seat kind who) a b es out k h =
     let same = comes_cost a b seat (Request.Enter who kind ∷ []) _ _ es out h in
+    let held = comes_held a b seat (Request.Enter who kind ∷ []) _ _ es out k.1 h in
     let most = enter_cost who seat kind (omega (arith, k.1)) in
     omega arith
-does_cost (Data seat bytes) a b es out agrees k h = data_cost (a.sessions seat) a b seat bytes es out agrees refl h
-does_cost (Close seat) a b es out agrees k h = let none = close_cost (a.sessions seat) a b seat es out h in omega arith
+does_cost (Data seat bytes) a b es out k h = data_cost (a.sessions seat) a b seat bytes es out k.1 refl h
+does_cost (Close seat) a b es out k h = close_cost (a.sessions seat) a b seat es out _ k.1 h
 
 -- ---- the bytes of each session
 
 abbrev Holds : ℕ → Option Standing → Type 0
-Holds more o = IfSome o (λ (at : Standing). at.before + more ≤ longest)
+Holds more o = IfSome o (λ (at : Standing). at.before + length at.rest + more ≤ longest)
 
 pub holds_less : (o : Option Standing) (m n : ℕ) → m ≤ n → Holds n o → Holds m o
 holds_less None m n h k = tt
@@ -253,20 +279,19 @@ sets_room : (moment : ℕ) (a b : Scene) (es : List Entry) (out : List (List ℕ
 sets_room moment a b es out less more le room h = subst (λ (z : Scene). HaveRoom z less) (sym h.2) (λ n. holds_less (a.sessions n) less more le (room n))
 
 goes_room : (what : Stop) (a b : Scene) (seat : ℕ) (rs : List Request) (ps : List (List ℕ)) (now : Standing) (es : List Entry) (out : List (List ℕ)) (less more : ℕ)
-    → less ≤ more → HaveRoom a more → now.before + less ≤ longest → Goes a seat what rs ps now es out b → HaveRoom b less
-goes_room stop.More a b seat rs ps now es out less more le room here h = comes_room a b seat rs _ (Some now) es out less more le room here h.1
+    → less ≤ more → HaveRoom a more → now.before + length now.rest + less ≤ longest → Goes a seat what rs ps now es out b → HaveRoom b less
+goes_room stop.More a b seat rs ps now es out less more le room here h = comes_room a b seat rs _ (Some now) es out less more le room here h
 goes_room (stop.Bad rule) a b seat rs ps now es out less more le room here h = comes_room a b seat (rs ++ Request.Leave ∷ []) _ None es out less more le room tt h
 goes_room stop.TooLong a b seat rs ps now es out less more le room here h = comes_room a b seat (rs ++ Request.Leave ∷ []) _ None es out less more le room tt h
 
-data_room : (o : Option Standing) (a b : Scene) (seat : ℕ) (bytes : List ℕ) (es : List Entry) (out : List (List ℕ)) (less : ℕ) → Agrees a → a.sessions seat ≡ o
+data_room : (o : Option Standing) (a b : Scene) (seat : ℕ) (bytes : List ℕ) (es : List Entry) (out : List (List ℕ)) (less : ℕ) → a.sessions seat ≡ o
     → HaveRoom a (length (line_text (Data seat bytes)) + 1 + less) → DataDoes a seat bytes o es out b → HaveRoom b less
-data_room None a b seat bytes es out less agrees e room h = passes_room a b es out less _ (omega arith) room h
-data_room (Some at) a b seat bytes es out less agrees e room h =
+data_room None a b seat bytes es out less e room h = passes_room a b es out less _ (omega arith) room h
+data_room (Some at) a b seat bytes es out less e room h =
     let more = length (line_text (Data seat bytes)) + 1 + less in
-    let idle = maybe_idle (a.sessions seat) at e (agrees.idle seat) in
-    let held : at.before + more ≤ longest = subst (λ (z : Option Standing). Holds more z) e (room seat) in
+    let held : at.before + length at.rest + more ≤ longest = subst (λ (z : Option Standing). Holds more z) e (room seat) in
     let before = h.4.before in
-    let least = heard_bytes a.portal a.outside seat at h.3 bytes h.0 h.1 h.2 idle.between h.4 in
+    let all = heard_bytes a.portal a.outside seat at h.3 bytes h.0 h.1 h.2 h.4 in
     let text = data_long seat bytes in
     goes_room h.0 a b seat h.1 h.2 h.3 es out less more (omega arith) room (omega arith) h.5
 
@@ -274,16 +299,16 @@ close_room : (o : Option Standing) (a b : Scene) (seat : ℕ) (es : List Entry) 
 close_room None a b seat es out less more le room h = passes_room a b es out less more le room h
 close_room (Some at) a b seat es out less more le room h = comes_room a b seat (Request.Leave ∷ []) _ None es out less more le room tt h
 
-pub does_room : (line : ScriptLine) (a b : Scene) (es : List Entry) (out : List (List ℕ)) (less : ℕ) → Agrees a → less ≤ longest → HaveRoom a (length (line_text line) + 1 + less) → Does a line es out b → HaveRoom b less
-does_room (File path content) a b es out less agrees short room h = passes_room a b es out less _ (omega arith) room h
-does_room (Doc id reusable path grants) a b es out less agrees short room h = passes_room a b es out less _ (omega arith) room h
-does_room (Now moment) a b es out less agrees short room h = sets_room moment a b es out less _ (omega arith) room h
-does_room (line.Entry entry) a b es out less agrees short room h = passes_room a b es out less _ (omega arith) room h
-does_room (Fail device call) a b es out less agrees short room h = passes_room a b es out less _ (omega arith) room h
-does_room (Word word) a b es out less agrees short room h = passes_room a b es out less _ (omega arith) room h
-does_room (Open seat kind who) a b es out less agrees short room h = comes_room a b seat (Request.Enter who kind ∷ []) _ (Some (fresh (client who kind run_settings))) es out less _ (omega arith) room (omega arith) h
-does_room (Data seat bytes) a b es out less agrees short room h = data_room (a.sessions seat) a b seat bytes es out less agrees refl room h
-does_room (Close seat) a b es out less agrees short room h = close_room (a.sessions seat) a b seat es out less _ (omega arith) room h
+pub does_room : (line : ScriptLine) (a b : Scene) (es : List Entry) (out : List (List ℕ)) (less : ℕ) → less ≤ longest → HaveRoom a (length (line_text line) + 1 + less) → Does a line es out b → HaveRoom b less
+does_room (File path content) a b es out less short room h = passes_room a b es out less _ (omega arith) room h
+does_room (Doc id reusable path grants) a b es out less short room h = passes_room a b es out less _ (omega arith) room h
+does_room (Now moment) a b es out less short room h = sets_room moment a b es out less _ (omega arith) room h
+does_room (line.Entry entry) a b es out less short room h = passes_room a b es out less _ (omega arith) room h
+does_room (Fail device call) a b es out less short room h = passes_room a b es out less _ (omega arith) room h
+does_room (Word word) a b es out less short room h = passes_room a b es out less _ (omega arith) room h
+does_room (Open seat kind who) a b es out less short room h = comes_room a b seat (Request.Enter who kind ∷ []) _ (Some (fresh (client who kind run_settings))) es out less _ (omega arith) room (omega arith) h
+does_room (Data seat bytes) a b es out less short room h = data_room (a.sessions seat) a b seat bytes es out less refl room h
+does_room (Close seat) a b es out less short room h = close_room (a.sessions seat) a b seat es out less _ (omega arith) room h
 
 -- ---- what no line opened
 

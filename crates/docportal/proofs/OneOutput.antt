@@ -79,7 +79,7 @@ comes_one a b c seat rs lines now es fs out also told h k =
 
 goes_one : (what : Stop) (a b c : Scene) (seat : ℕ) (rs : List Request) (ps : List (List ℕ)) (now : Standing) (es fs : List Entry) (out also : List (List ℕ))
     → a.portal.told ≡ true → Goes a seat what rs ps now es out b → Goes a seat what rs ps now fs also c → AreSame es fs out also b c
-goes_one stop.More a b c seat rs ps now es fs out also told h k = comes_one a b c seat _ _ _ es fs out also told h.1 k.1
+goes_one stop.More a b c seat rs ps now es fs out also told h k = comes_one a b c seat _ _ _ es fs out also told h k
 goes_one (stop.Bad rule) a b c seat rs ps now es fs out also told h k = comes_one a b c seat _ _ _ es fs out also told h k
 goes_one stop.TooLong a b c seat rs ps now es fs out also told h k = comes_one a b c seat _ _ _ es fs out also told h k
 

@@ -20,13 +20,14 @@ use Rattle.docportal.specs.declared.input.InputError.TheVariants as input
 use Rattle.docportal.specs.declared.status.Status.{Status}
 use Rattle.docportal.specs.declared.status.Status.TheVariants.{Done, Usage, ScriptFault, ReadFault, WriteFault, Memory, TooLong, Unbuilt}
 use Rattle.docportal.specs.Inputs.{script_limit, AtEnd, IsWhole, Stops}
-use Rattle.docportal.specs.Plays.{Plays, PlaysAll, PlaysPart, PlayStops, PlaysUpTo}
+use Rattle.docportal.specs.Plays.{Plays, PlaysAll, PlaysPart, PlayStops}
 use Rattle.docportal.specs.Commands.{replay_words, IsNoCommand, IsUnbuiltCommand}
 use Rattle.docportal.specs.Runs.{Cause, IsReplay, Ran, Replays, Risen, WroteFront}
 use Rattle.docportal.specs.Scenes.{Scene, ScriptPortal, first_scene, opening_state, outside_at, run_limits, sessions_of}
 use Rattle.docportal.specs.Steps.{Agrees, AreFirst, MayPlay, scene}
 use Rattle.docportal.specs.Started.{StartsScript}
 use Rattle.docportal.proofs.BytesAhead.{behind_none}
+use Rattle.docportal.proofs.HeldBytes.{nothing_held}
 use Rattle.docportal.proofs.OneOutput.{plays_one}
 use Rattle.docportal.proofs.RunLines.{onto_none, plays_cost, text_joined}
 use Rattle.docportal.proofs.SoundHistory.{sound}
@@ -40,7 +41,8 @@ Replayed text told told' status = (pieces : List (List ℕ)) × (told' ≡ onto 
 front_room : (entries : Entries) (text : List ℕ) (lines front later : List ScriptLine) (history : List Entry) (out : List (List ℕ)) (last : Scene) → length text ≤ script_limit → IsRead text lines
     → Plays (first_scene entries lines) front history out last → lines ≡ front ++ later → cost history + 8 * length (text_of later) ≤ run_limits.history
 front_room entries text lines front later history out last short script plays e =
-    let most = plays_cost front later [] (first_scene entries lines) last history out (subst (StandBehind []) e script.good) (record { idle = λ n. tt; bound_alike = λ n. refl }) (λ n h. refl) plays in
+    let most = plays_cost front later [] (first_scene entries lines) last history out (subst (StandBehind []) e script.good) plays in
+    let none = nothing_held (first_scene entries lines) (λ n. refl) in
     let cut : length text ≡ length (text_of lines) = ap length script.whole in
     let both : length (text_of lines) ≡ length (text_of front) + length (text_of later) = ap (λ (z : List ScriptLine). length (text_of z)) e ∙ text_joined front later in
     omega arith
@@ -84,21 +86,6 @@ module _ (text : List ℕ) (lines : List ScriptLine) (entries : Entries) (kept :
     },
   )
 
-  played_up_to : (number : ℕ) → PlaysUpTo (first_scene entries lines) lines number told told' → Replayed text told told' (Unbuilt number)
-  played_up_to number p = (
-    p.out,
-    p.output,
-    record {
-      lines = lines;
-      script = script;
-      front = p.front;
-      history = p.history;
-      last = p.last;
-      replay = is_replay entries text lines p.front (p.stops.0 ∷ p.stops.1) p.history p.out p.last kept size script p.stops.2 valid p.plays;
-      first = p.stops;
-    },
-  )
-
   part_memory : (pieces : List (List ℕ)) × (told' ≡ onto told pieces) × WroteFront AreFirst text pieces → Replayed text told told' Memory
   part_memory p = (p.0, p.1, inr p.2)
 
@@ -110,7 +97,7 @@ module _ (text : List ℕ) (lines : List ScriptLine) (entries : Entries) (kept :
   stopped faults faults' WriteFault p = played_part Short p.1
   stopped faults faults' Memory p = part_memory (played_part AreFirst p.1)
   stopped faults faults' TooLong p = absurd p
-  stopped faults faults' (Unbuilt number) p = played_up_to number p.1
+  stopped faults faults' (Unbuilt number) p = absurd p
 
 ended : (text : List ℕ) (lines : List ScriptLine) (entries : Entries) (told told' : Option (List (List ℕ))) (history : List Entry) (out : List (List ℕ)) (last : Scene)
     → KeepEntries (entries_of lines) entries → length text ≤ script_limit → IsRead text lines → Valid (opening_state entries lines) → Plays (first_scene entries lines) lines history out last → told' ≡ onto told out → Replayed text told told' Done
@@ -129,7 +116,7 @@ stopped_risen lines s told told' faults faults' ReadFault p = absurd p
 stopped_risen lines s told told' faults faults' WriteFault p = (refl, p.0)
 stopped_risen lines s told told' faults faults' Memory p = (refl, p.0)
 stopped_risen lines s told told' faults faults' TooLong p = absurd p
-stopped_risen lines s told told' faults faults' (Unbuilt line) p = (refl, p.0)
+stopped_risen lines s told told' faults faults' (Unbuilt line) p = absurd p
 
 pub replayed_none : (text : List ℕ) (told : Option (List (List ℕ))) → Replayed text told told Memory
 replayed_none text told = ([], onto_none told, inl refl)
@@ -151,10 +138,11 @@ module _ (text : List ℕ) (lines slice : List ScriptLine) (p : ScriptPortal) (s
       let cut : length text ≡ length (text_of lines) = ap length b.whole in
       let nothing : cost p.story.history ≡ 0 = ap cost h.history in
       let limit : limit_of p.story ≡ run_limits.history = ap (λ (z : State). z.limits.history) h.state in
+      let empty = nothing_held (scene p []) (λ n. refl) in
       subst (λ (x : List ScriptLine). MayPlay [] p [] x) (sym is) (record {
         stand = b.good;
         told = ap (λ (z : State). z.told) h.state;
-        agrees = subst Agrees (sym scene_is) (record { idle = λ n. tt; bound_alike = λ n. refl });
+        agrees = subst Agrees (sym scene_is) (record { going = λ n. tt; bound_alike = λ n. refl });
         closed = λ n h. refl;
         room = omega arith;
         space = λ n. tt;
@@ -183,7 +171,7 @@ cause_of words t left pieces ReadFault w l e r = absurd r
 cause_of words t left pieces WriteFault w l e r = (w, l, e, r)
 cause_of words t left pieces Memory w l e r = (w, elim r as (λ _. (pieces ≡ []) ⊎ ((length t ≤ script_limit) × AtEnd left × WroteFront AreFirst t pieces)) [ inl none ↦ inl none | inr front ↦ inr (l, e, front) ])
 cause_of words t left pieces TooLong w l e r = absurd r
-cause_of words t left pieces (Unbuilt line) w l e r = inr (w, l, e, r)
+cause_of words t left pieces (Unbuilt line) w l e r = absurd r
 
 pub ran_whole : (words : List (List ℕ)) (text : List ℕ) (left left' : Option (List ℕ)) (told told' : Option (List (List ℕ))) (status : Status)
     → words ≡ replay_words → IsWhole left text left' → Replayed text told told' status → Ran words left left' told told' status
@@ -198,7 +186,7 @@ risen_whole ReadFault text pieces reads reads' writes writes' same r h = absurd 
 risen_whole WriteFault text pieces reads reads' writes writes' same r h = (same, h.1)
 risen_whole Memory text pieces reads reads' writes writes' same r h = (same, h.1)
 risen_whole TooLong text pieces reads reads' writes writes' same r h = (same, h.1)
-risen_whole (Unbuilt line) text pieces reads reads' writes writes' same r h = (same, h.1)
+risen_whole (Unbuilt line) text pieces reads reads' writes writes' same r h = absurd r
 
 -- how a run ends whose input is not read whole
 abbrev pub status_of : InputError → Status
@@ -213,7 +201,7 @@ ran_not words left left' told faults faults' input.TooLong w s = record { text =
 ran_not words left left' told faults faults' input.Memory w s = record { text = s.1.0; pieces = []; read = s.1.1; wrote = onto_none told; cause = (w, inl refl) }
 
 pub ran_unbuilt : (words : List (List ℕ)) (left : Option (List ℕ)) (told : Option (List (List ℕ))) → IsUnbuiltCommand words → Ran words left left told told (Unbuilt 0)
-ran_unbuilt words left told n = record { text = []; pieces = []; read = behind_none left; wrote = onto_none told; cause = inl (n, refl, refl, refl) }
+ran_unbuilt words left told n = record { text = []; pieces = []; read = behind_none left; wrote = onto_none told; cause = (n, refl, refl, refl) }
 
 pub ran_unknown : (words : List (List ℕ)) (left : Option (List ℕ)) (told : Option (List (List ℕ))) → IsNoCommand words → Ran words left left told told Usage
 ran_unknown words left told n = record { text = []; pieces = []; read = behind_none left; wrote = onto_none told; cause = (n, refl, refl) }

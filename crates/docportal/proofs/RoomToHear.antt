@@ -80,11 +80,10 @@ fed_costs : (r : Fed) (s : Standing) (v : World) (piece : List ℕ) (t : Standin
 fed_costs fed.More s v piece t w h = takes_costs _ s v piece t w h.0
 fed_costs (fed.Over met) s v piece t w h = over_costs met s v piece t w h.0
 fed_costs fed.WriteFault s v piece t w h = broke_costs s.client s.stage v w (s.rest ++ piece) h.0
-fed_costs fed.Memory s v piece t w (inl nothing, keeps, room) = none_costs v w (length (s.rest ++ piece)) nothing.0
-fed_costs fed.Memory s v piece t w (inr (inl k, holds), keeps, room) =
+fed_costs fed.Memory s v piece t w (inl k, keeps, room, holds) =
     let bytes : length (s.rest ++ piece) ≡ length (k.front ++ k.after) = ap length k.bytes_are in
     did_costs s.client s.stage k.mid v w k.front (length (s.rest ++ piece)) (omega (arith, bytes, length-append k.front k.after)) k.did
-fed_costs fed.Memory s v piece t w (inr (inr k, holds), keeps, room) = broke_costs s.client s.stage v w (s.rest ++ piece) k.0
+fed_costs fed.Memory s v piece t w (inr k, keeps, room, holds) = broke_costs s.client s.stage v w (s.rest ++ piece) k.0
 
 pub unfilled_at : (p q : ScriptPortal) (seat refusals : ℕ) (at now : Standing) (bytes : List ℕ) (sink sink' : SinkState) (r : Fed) → Alone seat refusals p q → at.fed ≡ fed.More
     → cost p.story.history + 8 * length (at.rest ++ bytes) ≤ limit_of p.story → Feeds at.fed at (sunk (known_at p seat 0) sink) bytes r now (sunk (known_at q seat refusals) sink') → Unfilled p q seat at bytes now refusals

@@ -5,7 +5,7 @@ use Rattle.std.specs.Option.{option_map}
 use Rattle.std.proofs.Math.Path.{fun_ext}
 use Rattle.std.proofs.Math.Seq.{take-suc}
 use Rattle.std.proofs.lemmas.Bool.Decides.{nat_tests}
-use Rattle.std.proofs.lemmas.List.{append-nil, append_assoc, map-append, take-append-drop}
+use Rattle.std.proofs.lemmas.List.{append-nil, append_assoc, length-append, map-append, take-append-drop}
 use Rattle.portal_base.specs.declared.limits.Settings.{Settings}
 use Rattle.portal_base.specs.declared.who.Kind.{Kind}
 use Rattle.portal_base.specs.declared.who.Who.{Who}
@@ -32,12 +32,13 @@ use Rattle.session.specs.Standings.{Standing, client, fresh, longest}
 use Rattle.docportal.specs.declared.error.LineError.{LineError}
 use Rattle.docportal.specs.declared.error.LineError.TheVariants as not_run
 use Rattle.docportal.specs.Entries.{AreGiven}
-use Rattle.docportal.specs.Lines.{CloseDoes, DataDoes, DataIsUnbuilt, Does, Hears, set_to}
-use Rattle.docportal.specs.Scenes.{Scene, ScriptPortal, outside_at, placed, run_settings, sessions_of}
+use Rattle.docportal.specs.Lines.{CloseDoes, DataDoes, Does, Hears, set_to}
+use Rattle.docportal.specs.Scenes.{Scene, ScriptPortal, held_by, outside_at, placed, run_settings, sessions_of}
 use Rattle.docportal.specs.Seats.{Asked, HeardAs, HearsNot, IsEnd}
-use Rattle.docportal.specs.Steps.{Agrees, AreFirst, Breaks, IsIdle, MayRun, Opens, Runs, WritesPart, WritesShort, binding, scene}
+use Rattle.docportal.specs.Steps.{Agrees, AreFirst, Breaks, GoesOn, MayRun, Opens, Runs, WritesPart, WritesShort, binding, scene}
 use Rattle.docportal.specs.Texts.{end_line, out_line}
 use Rattle.docportal.proofs.Costs.{data_long, enter_cost}
+use Rattle.docportal.proofs.HeldBytes.{one_held}
 use Rattle.docportal.proofs.GivenEntries.{given-append, leave_entry, leave_given}
 use Rattle.docportal.proofs.RunLines.{IsFront, first_front, onto_more, onto_none, short_front}
 
@@ -153,24 +154,23 @@ close_passes p table table' seat told none took = record {
 
 -- ---- what stands at a number
 
-pub stands_idle : (a : Scene) (seat : ℕ) (at : Standing) → Agrees a → Some at ≡ a.sessions seat → IsIdle at
-stands_idle a seat at agrees e = subst (λ (o : Option Standing). IfSome o IsIdle) (sym e) (agrees.idle seat)
+pub stands_going : (a : Scene) (seat : ℕ) (at : Standing) → Agrees a → Some at ≡ a.sessions seat → GoesOn at
+stands_going a seat at agrees e = subst (λ (o : Option Standing). IfSome o GoesOn) (sym e) (agrees.going seat)
 
 pub stands_bound : (a : Scene) (seat : ℕ) (at : Standing) → Agrees a → Some at ≡ a.sessions seat → bound a.portal seat ≡ Some (binding at)
 stands_bound a seat at agrees e = agrees.bound_alike seat ∙ ap (λ (o : Option Standing). option_map binding o) (sym e)
 
 pub data_space : (p : ScriptPortal) (table : List (Option Standing)) (seat : ℕ) (bytes : List ℕ) (at : Standing) → MayRun p table (Data seat bytes) → Some at ≡ sessions_of table seat → at.before + length at.rest + length bytes ≤ longest
 data_space p table seat bytes at m e =
-    let idle = stands_idle (scene p table) seat at m.agrees e in
-    let none : length at.rest ≡ 0 = ap length idle.between in
-    let held : at.before + length (line_text (Data seat bytes)) ≤ longest = subst (λ (o : Option Standing). IfSome o (λ (x : Standing). x.before + length (line_text (Data seat bytes)) ≤ longest)) (sym e) (m.space seat) in
+    let held : at.before + length at.rest + length (line_text (Data seat bytes)) ≤ longest = subst (λ (o : Option Standing). IfSome o (λ (x : Standing). x.before + length x.rest + length (line_text (Data seat bytes)) ≤ longest)) (sym e) (m.space seat) in
     let long = data_long seat bytes in
     omega arith
 
 pub data_room : (p : ScriptPortal) (table : List (Option Standing)) (seat : ℕ) (bytes : List ℕ) (at : Standing) → MayRun p table (Data seat bytes) → Some at ≡ sessions_of table seat → cost p.story.history + 8 * length (at.rest ++ bytes) ≤ limit_of p.story
 data_room p table seat bytes at m e =
-    let idle = stands_idle (scene p table) seat at m.agrees e in
-    let same : length (at.rest ++ bytes) ≡ length bytes = ap (λ (z : List ℕ). length (z ++ bytes)) idle.between in
+    let all = length-append at.rest bytes in
+    let here : length at.rest ≡ held_by (sessions_of table seat) = ap held_by e in
+    let one = one_held (scene p table) seat m.itself.1 in
     let room = m.room in
     let long = data_long seat bytes in
     omega arith
@@ -184,11 +184,11 @@ module _ (p q : ScriptPortal) (table : List (Option Standing)) (seat : ℕ) (at 
   abbrev lines : List (List ℕ)
   lines = map (out_line seat) pieces
 
-  more_does : (h : HeardAs false p q seat at bytes pieces now) → Does (scene p table) (Data seat bytes) h.0.2.entries lines (moved p table seat h.0.2.entries (outside_at q) (Some now))
+  more_does : (h : HeardAs false p q seat at bytes pieces now) → Does (scene p table) (Data seat bytes) h.2.entries lines (moved p table seat h.2.entries (outside_at q) (Some now))
   more_does h =
-      let asked = h.0.2 in
+      let asked = h.2 in
       subst (λ (o : Option Standing). DataDoes (scene p table) seat bytes o asked.entries lines (moved p table seat asked.entries (outside_at q) (Some now))) here
-      (stop.More, h.0.0, pieces, now, h.0.1, (h.1, record { left = outside_at q; given = asked.given; out_is = refl; scene = refl }), [], h.0.3 ∙ sym (append-nil h.0.1.entries))
+      (stop.More, h.0, pieces, now, h.1, record { left = outside_at q; given = asked.given; out_is = refl; scene = refl }, [], h.3 ∙ sym (append-nil h.1.entries))
 
   -- with the last line of a connection that ends by itself
   abbrev last : List (List ℕ)
@@ -222,7 +222,7 @@ module _ (p q : ScriptPortal) (table : List (Option Standing)) (seat : ℕ) (at 
   pub more_runs : (table' : List (Option Standing)) (told told' : Option (List (List ℕ))) → HeardAs false p q seat at bytes pieces now → state_first q.story ≡ state_first p.story → sessions_of table' ≡ placed (sessions_of table) seat (Some now)
       → told' ≡ onto told lines → Runs p table q table' (Data seat bytes) told told'
   more_runs table' told told' h same put wrote =
-      let asked = h.0.2 in
+      let asked = h.2 in
       record {
         entries = asked.entries;
         out = lines;
@@ -264,8 +264,7 @@ module _ (p q : ScriptPortal) (table : List (Option Standing)) (seat : ℕ) (at 
 
   close_does : (es : List Entry) (left : Outside) → AreGiven (state_now p.story) (outside_at p) seat (Request.Leave ∷ []) es left → Does (scene p table) (Close seat) es closing (moved p table seat es left None)
   close_does es left given =
-      let idle = stands_idle (scene p table) seat at agrees here in
-      let said : closing ≡ end_line seat (ending_at at.rest) ∷ [] = ap (λ (f : Fed). end_line seat (ending f at.rest) ∷ []) idle.goes_on in
+      let said : closing ≡ end_line seat (ending_at at.rest) ∷ [] = ap (λ (f : Fed). end_line seat (ending f at.rest) ∷ []) (stands_going (scene p table) seat at agrees here) in
       subst (λ (o : Option Standing). CloseDoes (scene p table) seat o es closing (moved p table seat es left None)) here (record { left = left; given = given; out_is = said; scene = refl })
 
   pub close_runs : (table' : List (Option Standing)) (told told' : Option (List (List ℕ))) → state_first q.story ≡ state_first p.story → Asked p q seat (Request.Leave ∷ []) → sessions_of table' ≡ placed (sessions_of table) seat None → told' ≡ onto told closing
@@ -287,7 +286,6 @@ module _ (p q : ScriptPortal) (table : List (Option Standing)) (seat : ℕ) (at 
 
 pub breaks_heard : (p q : ScriptPortal) (table : List (Option Standing)) (seat : ℕ) (at now : Standing) (bytes : List ℕ) (told : Option (List (List ℕ))) (faults : ℕ) → Some at ≡ sessions_of table seat → (e : LineError) → HearsNot p q seat at bytes now e
     → Breaks (scene p table) (Data seat bytes) told faults told faults e
-breaks_heard p q table seat at now bytes told faults here not_run.Unbuilt h = (refl, subst (λ (o : Option Standing). DataIsUnbuilt bytes o) here h, refl)
 breaks_heard p q table seat at now bytes told faults here not_run.WriteFault h = absurd h
 breaks_heard p q table seat at now bytes told faults here not_run.Memory h = (refl, inl refl)
 
@@ -296,7 +294,6 @@ risen_later a b c h k = omega arith
 
 pub breaks_written : (a : Scene) (line : ScriptLine) (said : List (List ℕ)) (told mid told' : Option (List (List ℕ))) (faults later faults' : ℕ) → later ≡ faults → ((IsPart : List (List ℕ) → List (List ℕ) → Type 0) → IsFront IsPart → (ws : List (List ℕ)) → IsPart ws said → told' ≡ onto mid ws → WritesPart IsPart a line told told')
     → (e : LineError) → WritesShort said mid later told' faults' e → Breaks a line told faults told' faults' e
-breaks_written a line said told mid told' faults later faults' le part not_run.Unbuilt h = absurd h
 breaks_written a line said told mid told' faults later faults' le part not_run.WriteFault h = (risen_later faults later faults' le h.0, part Short short_front h.1.0 h.1.1 h.1.2)
 breaks_written a line said told mid told' faults later faults' le part not_run.Memory h = (h.0 ∙ le, inr (part AreFirst first_front h.1.0 h.1.1 h.1.2))
 
@@ -353,7 +350,6 @@ module _ (seat : ℕ) (xs : List (List ℕ)) (i : ℕ) where
     -- the next line was not written whole
     pub line_broke : (line : List ℕ) (told mid told' : Option (List (List ℕ))) (faults later faults' : ℕ) → line ≡ out_line seat x → mid ≡ onto told written → later ≡ faults
         → (e : LineError) → WritesShort (line ∷ []) mid later told' faults' e → WritesShort (map (out_line seat) xs) told faults told' faults' e
-    line_broke line told mid told' faults later faults' e m le not_run.Unbuilt h = absurd h
     line_broke line told mid told' faults later faults' e m le not_run.WriteFault h = (risen_later faults later faults' le h.0, line_part Short short_front line told mid told' e m h.1)
     line_broke line told mid told' faults later faults' e m le not_run.Memory h = (h.0 ∙ le, line_part AreFirst first_front line told mid told' e m h.1)
 

@@ -17,8 +17,8 @@ use Rattle.session.specs.Standings.{Standing}
 use Rattle.docportal.specs.declared.error.LineError.{LineError}
 use Rattle.docportal.specs.declared.error.LineError.TheVariants as not_run
 use Rattle.docportal.specs.Lines.{Does}
-use Rattle.docportal.specs.Plays.{Plays, PlaysAll, PlaysPart, PlayStops, status_at}
-use Rattle.docportal.specs.Scenes.{Scene, ScriptPortal, sessions_of}
+use Rattle.docportal.specs.Plays.{Plays, PlaysAll, PlaysPart, PlayStops, status_of}
+use Rattle.docportal.specs.Scenes.{Scene, ScriptPortal, held_in, sessions_of}
 use Rattle.docportal.specs.Steps.{Agrees, AreFirst, Breaks, HaveRoom, IsNew, MayPlay, MayRun, Runs, WritesPart, scene}
 use Rattle.docportal.proofs.Costs.{text_more}
 use Rattle.docportal.proofs.NextLineMayRun.{AreClosed, does_agree, does_close, does_cost, does_room, holds_less}
@@ -169,19 +169,7 @@ none_on first lines told told' told'' index p table before same = record {
 
 pub play_stops : (first : ScriptPortal) (lines : List ScriptLine) (told told' told'' : Option (List (List ℕ))) (faults faults' faults'' : ℕ) (index : ℕ) (p : ScriptPortal) (table : List (Option Standing)) (line : ScriptLine)
     → index < length lines → line ≡ get_or lines index line → faults' ≡ faults → Played first lines told told' index p table
-    → (e : LineError) → Breaks (scene p table) line told' faults' told'' faults'' e → PlayStops (scene first []) lines told faults told'' faults'' (status_at e index)
-play_stops first lines told told' told'' faults faults' faults'' index p table line h is same before not_run.Unbuilt b = (
-  b.0 ∙ same,
-  record {
-    front = take index lines;
-    history = before.history;
-    out = before.out;
-    last = scene p table;
-    plays = before.plays;
-    stops = (line, drop (index + 1) lines, whole_is lines index line h is, b.1, let long = length-take index lines in omega arith);
-    output = b.2 ∙ before.wrote;
-  },
-)
+    → (e : LineError) → Breaks (scene p table) line told' faults' told'' faults'' e → PlayStops (scene first []) lines told faults told'' faults'' (status_of e)
 play_stops first lines told told' told'' faults faults' faults'' index p table line h is same before not_run.WriteFault b = (later faults faults'' faults' same b.0, part_on Short short_front first lines told told' told'' index p table line h is before b.1)
 play_stops first lines told told' told'' faults faults' faults'' index p table line h is same before not_run.Memory (counts, inl unwritten) = (counts ∙ same, none_on first lines told told' told'' index p table before unwritten)
 play_stops first lines told told' told'' faults faults' faults'' index p table line h is same before not_run.Memory (counts, inr part) = (counts ∙ same, part_on AreFirst first_front first lines told told' told'' index p table line h is before part)
@@ -196,14 +184,17 @@ line_new : (line : ScriptLine) (earlier : List ScriptLine) (a : Scene) → goes_
 line_new (Open seat kind who) earlier a order closed = closed seat (no_true _ order)
 line_new line earlier a order closed = tt
 
--- what lines ask costs at most eight times their text
-pub plays_cost : (front later earlier : List ScriptLine) (a b : Scene) (history : List Entry) (out : List (List ℕ)) → StandBehind earlier (front ++ later) → Agrees a → AreClosed earlier a → Plays a front history out b
-    → cost history ≤ 8 * length (text_of front)
-plays_cost [] later earlier a b history out stand agrees closed h = let none = ap cost h.0 in omega arith
-plays_cost (line ∷ front) later earlier a b history out stand agrees closed (first, more, said, rest, mid, entries_are, out_is, does, plays) =
-    let new = line_new line earlier a stand.0.order closed in
-    let here = does_cost line a mid first said agrees stand.0.itself does in
-    let there = plays_cost front later (earlier ++ line ∷ []) mid b more rest stand.1 (does_agree line a mid first said agrees new does) (does_close line a mid first said earlier closed does) plays in
+-- what lines ask and what is held behind them is paid by eight times their text, and by what was
+-- held
+pub plays_cost : (front later earlier : List ScriptLine) (a b : Scene) (history : List Entry) (out : List (List ℕ)) → StandBehind earlier (front ++ later) → Plays a front history out b
+    → cost history + 8 * held_in b ≤ 8 * (held_in a + length (text_of front))
+plays_cost [] later earlier a b history out stand h =
+    let none = ap cost h.0 in
+    let same = ap held_in h.2 in
+    omega arith
+plays_cost (line ∷ front) later earlier a b history out stand (first, more, said, rest, mid, entries_are, out_is, does, plays) =
+    let here = does_cost line a mid first said stand.0.itself does in
+    let there = plays_cost front later (earlier ++ line ∷ []) mid b more rest stand.1 plays in
     let both : cost history ≡ cost first + cost more = ap cost entries_are ∙ cost-append first more in
     let text = text_more line front in
     omega arith
@@ -238,7 +229,7 @@ module _ (earlier lines : List ScriptLine) (p : ScriptPortal) (table : List (Opt
       let a = scene p table in
       let b = scene q table' in
       let text = text_more line lines in
-      let least = does_cost line a b r.entries r.out m.agrees m.stand.0.itself r.does in
+      let least = does_cost line a b r.entries r.out m.stand.0.itself r.does in
       let grown : cost q.story.history ≡ cost p.story.history + cost r.entries = ap cost r.history ∙ cost-append p.story.history r.entries in
       let limit : limit_of q.story ≡ limit_of p.story = ap (λ (z : State). z.limits.history) same in
       let more : HaveRoom a (length (line_text line) + 1 + length (text_of lines)) = λ n. holds_less (sessions_of table n) _ (length (text_of (line ∷ lines))) (omega arith) (m.space n) in
@@ -250,7 +241,7 @@ module _ (earlier lines : List ScriptLine) (p : ScriptPortal) (table : List (Opt
         agrees = does_agree line a b r.entries r.out m.agrees is_new r.does;
         closed = does_close line a b r.entries r.out earlier m.closed r.does;
         room = omega arith;
-        space = does_room line a b r.entries r.out (length (text_of lines)) m.agrees (omega arith) more r.does;
+        space = does_room line a b r.entries r.out (length (text_of lines)) (omega arith) more r.does;
         short = omega arith;
       }
 

@@ -44,7 +44,7 @@ comes_lead a b seat rs lines now es out h = record {
 }
 
 goes_lead : (what : Stop) (a b : Scene) (seat : ℕ) (rs : List Request) (ps : List (List ℕ)) (now : Standing) (es : List Entry) (out : List (List ℕ)) → Goes a seat what rs ps now es out b → Leads a es b
-goes_lead stop.More a b seat rs ps now es out h = comes_lead a b seat _ _ _ es out h.1
+goes_lead stop.More a b seat rs ps now es out h = comes_lead a b seat _ _ _ es out h
 goes_lead (stop.Bad rule) a b seat rs ps now es out h = comes_lead a b seat _ _ _ es out h
 goes_lead stop.TooLong a b seat rs ps now es out h = comes_lead a b seat _ _ _ es out h
 

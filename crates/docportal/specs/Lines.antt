@@ -1,6 +1,6 @@
 -- What a line of a script does. Bytes that come on a connection are cut into items, and each item
 -- that is whole is answered in order.
-use Rattle.std.specs.Prelude.{◌≡◌, ◌≢◌, ℕ, ◌+◌, List, [], ◌∷◌, ◌++◌, length, map, Option, Some}
+use Rattle.std.specs.Prelude.{◌≡◌, ℕ, ◌+◌, List, [], ◌∷◌, ◌++◌, length, map, Option, Some}
 use Rattle.std.specs.Prelude.{None}
 use Rattle.portal_model.specs.declared.entry.Entry.{Entry}
 use Rattle.portal_model.specs.declared.request.Request.{Request}
@@ -71,13 +71,12 @@ pub record Comes (a : Scene) (seat : ℕ) (requests : List Request) (lines : Lis
     sessions = placed a.sessions seat now;
   }
 
--- A connection whose bytes end between items goes on; one with an item that breaks a rule, or with
--- a line that is too long, ends by itself and leaves. Bytes that end inside an item are no line that
--- is built.
+-- A connection goes on, and holds the bytes behind its items; one with an item that breaks a rule,
+-- or with a line that is too long, ends by itself and leaves.
 abbrev pub Goes : Scene → ℕ → Stop → List Request → List (List ℕ) → Standing → List Entry
     → List (List ℕ) → Scene → Type 0
 Goes a seat stop.More requests pieces now entries out b =
-    (now.rest ≡ []) × Comes a seat requests (map (out_line seat) pieces) (Some now) entries out b
+    Comes a seat requests (map (out_line seat) pieces) (Some now) entries out b
 Goes a seat (stop.Bad rule) requests pieces now entries out b =
     Comes a seat (requests ++ Request.Leave ∷ [])
     (map (out_line seat) pieces ++ end_line seat (served.Malformed now.before rule) ∷ []) None
@@ -118,23 +117,3 @@ Does a (Open seat kind who) entries out b = Comes a seat (Request.Enter who kind
     (Some (fresh (client who kind run_settings))) entries out b
 Does a (Data seat bytes) entries out b = DataDoes a seat bytes (a.sessions seat) entries out b
 Does a (Close seat) entries out b = CloseDoes a seat (a.sessions seat) entries out b
-
--- ---- a line that isn't built
-
--- bytes that end inside an item
-abbrev pub IsUnbuiltStop : Stop → List ℕ → Type 0
-IsUnbuiltStop stop.More left = left ≢ []
-IsUnbuiltStop (stop.Bad rule) left = ⊥
-IsUnbuiltStop stop.TooLong left = ⊥
-
-abbrev pub DataIsUnbuilt : List ℕ → Option Standing → Type 0
-DataIsUnbuilt bytes None = ⊥
-DataIsUnbuilt bytes (Some at) =
-    (items : List (List ℕ)) × (acts : List Act) × (left : List ℕ) × (what : Stop)
-    × Items at.client at.stage.phase (at.rest ++ bytes) items acts left what
-    × IsUnbuiltStop what left
-
--- a line that isn't built
-abbrev pub IsUnbuilt : Scene → ScriptLine → Type 0
-IsUnbuilt a (Data seat bytes) = DataIsUnbuilt bytes (a.sessions seat)
-IsUnbuilt a line = ⊥

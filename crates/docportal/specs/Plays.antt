@@ -1,5 +1,5 @@
 -- What running lines one after another comes to.
-use Rattle.std.specs.Prelude.{◌≡◌, ℕ, ◌+◌, List, [], ◌∷◌, ◌++◌, length, Option}
+use Rattle.std.specs.Prelude.{◌≡◌, ℕ, List, [], ◌∷◌, ◌++◌, Option}
 use Rattle.portal_base.specs.Outside.{HasRisen, Short, onto}
 use Rattle.portal_core.specs.Story.{state_now}
 use Rattle.portal_model.specs.declared.entry.Entry.{Entry}
@@ -9,7 +9,7 @@ use Rattle.docportal.specs.declared.status.Status.TheVariants.{Done, Usage, Scri
 use Rattle.docportal.specs.declared.status.Status.TheVariants.{WriteFault, Memory, TooLong, Unbuilt}
 use Rattle.docportal.specs.declared.error.LineError.{LineError}
 use Rattle.docportal.specs.declared.error.LineError.TheVariants as line
-use Rattle.docportal.specs.Lines.{Does, IsUnbuilt}
+use Rattle.docportal.specs.Lines.{Does}
 use Rattle.docportal.specs.Scenes.{Scene, ScriptPortal}
 use Rattle.docportal.specs.Steps.{AreFirst, scene}
 
@@ -28,12 +28,6 @@ abbrev pub PlaysFront : Scene → List ScriptLine → List ScriptLine → List E
     → Scene → Type 0
 PlaysFront a lines front history out b =
     (later : List ScriptLine) × (lines ≡ front ++ later) × Plays a front history out b
-
--- the line of this number, counted from 1, is the first that isn't built, behind a front that is
--- run up to this scene
-abbrev pub StopsAt : List ScriptLine → List ScriptLine → Scene → ℕ → Type 0
-StopsAt lines front b number = (line : ScriptLine) × (later : List ScriptLine)
-    × (lines ≡ front ++ line ∷ later) × IsUnbuilt b line × (number ≡ length front + 1)
 
 -- ---- what was written
 
@@ -61,17 +55,6 @@ pub record PlaysPart (IsPart : List (List ℕ) → List (List ℕ) → Type 0) (
   pub part : IsPart pieces out
   pub output : told' ≡ onto told pieces
 
--- the output of the lines ahead of the first that isn't built is written, which has this number
-pub record PlaysUpTo (a : Scene) (lines : List ScriptLine) (number : ℕ)
-    (told told' : Option (List (List ℕ))) : Type 0 where
-  pub front : List ScriptLine
-  pub history : List Entry
-  pub out : List (List ℕ)
-  pub last : Scene
-  pub plays : Plays a front history out last
-  pub stops : StopsAt lines front last number
-  pub output : told' ≡ onto told out
-
 -- why not all lines are run; only a fault is counted
 abbrev pub PlayStops : Scene → List ScriptLine → Option (List (List ℕ)) → ℕ → Option (List (List ℕ))
     → ℕ → Status → Type 0
@@ -84,11 +67,9 @@ PlayStops a lines told faults told' faults' WriteFault =
 PlayStops a lines told faults told' faults' Memory =
     (faults' ≡ faults) × PlaysPart AreFirst a lines told told'
 PlayStops a lines told faults told' faults' TooLong = ⊥
-PlayStops a lines told faults told' faults' (Unbuilt number) =
-    (faults' ≡ faults) × PlaysUpTo a lines number told told'
+PlayStops a lines told faults told' faults' (Unbuilt number) = ⊥
 
--- how a run ends whose line of this index, counted from 0, is not run
-abbrev pub status_at : LineError → ℕ → Status
-status_at line.Unbuilt index = Unbuilt (index + 1)
-status_at line.WriteFault index = WriteFault
-status_at line.Memory index = Memory
+-- how a run ends of which a line is not run
+abbrev pub status_of : LineError → Status
+status_of line.WriteFault = WriteFault
+status_of line.Memory = Memory

@@ -14,7 +14,7 @@ use Rattle.docportal.specs.declared.status.Status.{Status}
 use Rattle.docportal.specs.declared.status.Status.TheVariants.{Done, Usage, ScriptFault, ReadFault, WriteFault, Memory, TooLong, Unbuilt}
 use Rattle.docportal.specs.Commands.{replay_words, IsNoCommand, IsUnbuiltCommand}
 use Rattle.docportal.specs.Inputs.{script_limit, AtEnd}
-use Rattle.docportal.specs.Plays.{Plays, StopsAt}
+use Rattle.docportal.specs.Plays.{Plays}
 use Rattle.docportal.specs.Scenes.{Scene, first_scene, opening_state, run_limits}
 use Rattle.docportal.specs.Steps.{AreFirst}
 
@@ -42,24 +42,13 @@ pub record IsReplay (lines front : List ScriptLine) (history : List Entry) (out 
   pub room : (later : List ScriptLine) → lines ≡ front ++ later
       → cost history + 8 * length (text_of later) ≤ run_limits.history
 
--- the text is a script, all lines of which are built, and the pieces are its output
+-- the text is a script, and the pieces are its output
 pub record WroteAll (text : List ℕ) (pieces : List (List ℕ)) : Type 0 where
   pub lines : List ScriptLine
   pub script : IsRead text lines
   pub history : List Entry
   pub last : Scene
   pub replay : IsReplay lines lines history pieces last
-
--- the text is a script, and the pieces are the output of all its lines that stand ahead of the
--- first that is not built, which has this number
-pub record WroteUpTo (text : List ℕ) (number : ℕ) (pieces : List (List ℕ)) : Type 0 where
-  pub lines : List ScriptLine
-  pub script : IsRead text lines
-  pub front : List ScriptLine
-  pub history : List Entry
-  pub last : Scene
-  pub replay : IsReplay lines front history pieces last
-  pub first : StopsAt lines front last number
 
 -- The text is a script, and the pieces are such a part of the output of some of its lines: some
 -- whole pieces, and at a fault a front of the next or nothing.
@@ -94,9 +83,7 @@ Cause words text left pieces Memory = (words ≡ replay_words)
 Cause words text left pieces TooLong = (words ≡ replay_words) × (script_limit < length text)
     × (pieces ≡ [])
 Cause words text left pieces (Unbuilt line) =
-    (IsUnbuiltCommand words × (line ≡ 0) × (text ≡ []) × (pieces ≡ []))
-    ⊎ ((words ≡ replay_words) × (length text ≤ script_limit) × AtEnd left
-    × WroteUpTo text line pieces)
+    IsUnbuiltCommand words × (line ≡ 0) × (text ≡ []) × (pieces ≡ [])
 
 -- a run: what it read stood ahead of what is left, and what it wrote stands behind what was written
 pub record Ran (words : List (List ℕ)) (left left' : Option (List ℕ))
@@ -128,4 +115,4 @@ Replays text pieces ReadFault = ⊥
 Replays text pieces WriteFault = WroteFront Short text pieces
 Replays text pieces Memory = (pieces ≡ []) ⊎ WroteFront AreFirst text pieces
 Replays text pieces TooLong = ⊥
-Replays text pieces (Unbuilt line) = WroteUpTo text line pieces
+Replays text pieces (Unbuilt line) = ⊥

@@ -1,6 +1,6 @@
 -- What a script has come to, between two of its lines.
-use Rattle.std.specs.Prelude.{ℕ, ◌==◌, List, [], ◌∷◌, Option, Some, None, codes, if◌then◌else◌}
-use Rattle.std.specs.Prelude.{slice_index_or}
+use Rattle.std.specs.Prelude.{ℕ, zero, suc, ◌+◌, ◌==◌, List, [], ◌∷◌, length, Option, Some, None, codes}
+use Rattle.std.specs.Prelude.{if◌then◌else◌, slice_index_or}
 use Rattle.portal_base.specs.declared.limits.Limits.{Limits}
 use Rattle.portal_base.specs.declared.limits.Settings.{Settings}
 use Rattle.host_tree.specs.Devices.{TreeState}
@@ -11,6 +11,7 @@ use Rattle.portal_model.specs.Store.{Entries}
 use Rattle.script_form.specs.declared.script.ScriptLine.{ScriptLine}
 use Rattle.record_keeper.specs.Devices.{KeeperState}
 use Rattle.script_form.specs.Devices.{tree_files}
+use Rattle.script_form.specs.Lines.{last_seat}
 use Rattle.script_form.specs.Opening.{opening_with}
 use Rattle.script_form.specs.Outside.{Outside, after_keeper_call, outside_of}
 use Rattle.session.specs.Standings.{Standing}
@@ -57,6 +58,20 @@ pub record Scene : Type 0 where
 -- at one number this stands now, and at the others what stood there
 abbrev pub placed : (ℕ → Option Standing) → ℕ → Option Standing → ℕ → Option Standing
 placed sessions seat x n = if n == seat then x else sessions n
+
+-- how many bytes a session holds
+abbrev pub held_by : Option Standing → ℕ
+held_by None = 0
+held_by (Some at) = length at.rest
+
+-- and those at the numbers below this one
+unfoldable pub held_below : ℕ → (ℕ → Option Standing) → ℕ
+held_below zero sessions = 0
+held_below (suc n) sessions = held_by (sessions n) + held_below n sessions
+
+-- and all of them
+unfoldable pub held_in : Scene → ℕ
+held_in a = held_below (last_seat + 1) a.sessions
 
 -- no connection is open
 abbrev pub no_sessions : ℕ → Option Standing

@@ -27,7 +27,7 @@ use Rattle.session.specs.Standings.{Standing}
 use Rattle.docportal.specs.declared.error.LineError.{LineError}
 use Rattle.docportal.specs.declared.error.LineError.TheVariants as not_run
 use Rattle.docportal.specs.Entries.{AreGiven}
-use Rattle.docportal.specs.Lines.{Hears, DataIsUnbuilt}
+use Rattle.docportal.specs.Lines.{Hears}
 use Rattle.docportal.specs.Scenes.{ScriptPortal, outside_at}
 
 -- what a seat knows that has a portal alone
@@ -90,9 +90,8 @@ abbrev pub outcomes_of : (r : Fed) (s : Standing) (v : World) (piece : List ℕ)
 outcomes_of fed.More s v piece t w h = h.0.did.outcomes
 outcomes_of (fed.Over met) s v piece t w h = outcomes_over met s v piece t w h.0
 outcomes_of fed.WriteFault s v piece t w h = h.0.did.outcomes ++ h.0.halted.outcomes
-outcomes_of fed.Memory s v piece t w (inl nothing, keeps, room) = []
-outcomes_of fed.Memory s v piece t w (inr (inl began, holds), keeps, room) = began.did.outcomes
-outcomes_of fed.Memory s v piece t w (inr (inr broke, holds), keeps, room) =
+outcomes_of fed.Memory s v piece t w (inl began, keeps, room, holds) = began.did.outcomes
+outcomes_of fed.Memory s v piece t w (inr broke, keeps, room, holds) =
     broke.0.did.outcomes ++ broke.0.halted.outcomes
 
 -- A session of the seat was fed these bytes, and took the seat from what it knew to what it knows,
@@ -124,11 +123,11 @@ IsEnd stop.More = ⊥
 IsEnd (stop.Bad rule) = Unit {0}
 IsEnd stop.TooLong = Unit {0}
 
--- bytes were heard, and the connection goes on between items, or is over
+-- bytes were heard, and the connection goes on, or is over
 abbrev pub HeardAs : Bool → ScriptPortal → ScriptPortal → ℕ → Standing → List ℕ
     → List (List ℕ) → Standing → Type 0
 HeardAs false old new seat at bytes pieces now =
-    HearsAt old new seat at bytes stop.More pieces now × (now.rest ≡ [])
+    HearsAt old new seat at bytes stop.More pieces now
 HeardAs true old new seat at bytes pieces now =
     (what : Stop) × IsEnd what × HearsAt old new seat at bytes what pieces now
 
@@ -141,7 +140,6 @@ IsMet other = ⊥
 -- why bytes were not heard
 abbrev pub HearsNot : ScriptPortal → ScriptPortal → ℕ → Standing → List ℕ → Standing
     → LineError → Type 0
-HearsNot old new seat at bytes now not_run.Unbuilt = DataIsUnbuilt bytes (Some at)
 HearsNot old new seat at bytes now not_run.WriteFault = ⊥
 HearsNot old new seat at bytes now not_run.Memory =
     (refusals : ℕ) × Unfilled old new seat at bytes now refusals × WantsMemory now.fed refusals

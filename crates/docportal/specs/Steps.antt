@@ -15,9 +15,9 @@ use Rattle.script_form.specs.Order.{StandBehind, opens, script_limit}
 use Rattle.session.specs.declared.served.Fed.TheVariants as fed
 use Rattle.session.specs.Standings.{Standing, longest}
 use Rattle.docportal.specs.declared.error.LineError.{LineError}
-use Rattle.docportal.specs.declared.error.LineError.TheVariants.{Unbuilt, WriteFault, Memory}
-use Rattle.docportal.specs.Lines.{Does, IsUnbuilt}
-use Rattle.docportal.specs.Scenes.{Scene, ScriptPortal, outside_at, sessions_of}
+use Rattle.docportal.specs.declared.error.LineError.TheVariants.{WriteFault, Memory}
+use Rattle.docportal.specs.Lines.{Does}
+use Rattle.docportal.specs.Scenes.{Scene, ScriptPortal, held_in, outside_at, sessions_of}
 
 -- the scene of a portal and a table of sessions
 abbrev pub scene : ScriptPortal → List (Option Standing) → Scene
@@ -29,18 +29,17 @@ scene p table = record {
 
 -- ---- what a line needs
 
--- a session that goes on, between two items
-pub record IsIdle (at : Standing) : Type 0 where
-  pub goes_on : at.fed ≡ fed.More
-  pub between : at.rest ≡ []
+-- a session that goes on
+abbrev pub GoesOn : Standing → Type 0
+GoesOn at = at.fed ≡ fed.More
 
 abbrev pub binding : Standing → Binding
 binding at = record { who = at.client.who; kind = at.client.kind }
 
--- each session is idle, and at its number the portal has an open connection of its client, and no
+-- each session goes on, and at its number the portal has an open connection of its client, and no
 -- others
 pub record Agrees (a : Scene) : Type 0 where
-  pub idle : (n : ℕ) → IfSome (a.sessions n) IsIdle
+  pub going : (n : ℕ) → IfSome (a.sessions n) GoesOn
   pub bound_alike : (n : ℕ) → bound a.portal n ≡ option_map binding (a.sessions n)
 
 -- a connection that is opened wasn't open before
@@ -50,28 +49,32 @@ IsNew a line = Unit {0}
 
 -- no session has so many bytes that these would be too many
 abbrev pub HaveRoom : Scene → ℕ → Type 0
-HaveRoom a more = (n : ℕ) → IfSome (a.sessions n) (λ at. at.before + more ≤ longest)
+HaveRoom a more =
+    (n : ℕ) → IfSome (a.sessions n) (λ at. at.before + length at.rest + more ≤ longest)
 
--- the tree tells its files, and the history and each session have room for what the line brings
+-- the tree tells its files, and the history and each session have room for what the line brings,
+-- the history also for what the sessions hold
 pub record MayRun (p : ScriptPortal) (table : List (Option Standing)) (line : ScriptLine)
     : Type 0 where
   pub told : (state_first p.story).told ≡ true
   pub agrees : Agrees (scene p table)
   pub itself : KeepsRules line
   pub new : IsNew (scene p table) line
-  pub room : cost p.story.history + 8 * (length (line_text line) + 1) ≤ limit_of p.story
+  pub room : cost p.story.history + 8 * (held_in (scene p table) + (length (line_text line) + 1))
+      ≤ limit_of p.story
   pub space : HaveRoom (scene p table) (length (line_text line))
 
 -- The lines may be run behind those that were run, which left the portal and the table so: they are
 -- lines of the script, nothing is open at a number that no line opened, and there is room for what
--- they bring.
+-- they bring and for what the sessions hold.
 pub record MayPlay (earlier : List ScriptLine) (p : ScriptPortal) (table : List (Option Standing))
     (lines : List ScriptLine) : Type 0 where
   pub stand : StandBehind earlier lines
   pub told : (state_first p.story).told ≡ true
   pub agrees : Agrees (scene p table)
   pub closed : (n : ℕ) → list_any (opens n) earlier ≡ false → sessions_of table n ≡ None
-  pub room : cost p.story.history + 8 * length (text_of lines) ≤ limit_of p.story
+  pub room : cost p.story.history + 8 * (held_in (scene p table) + length (text_of lines))
+      ≤ limit_of p.story
   pub space : HaveRoom (scene p table) (length (text_of lines))
   pub short : length (text_of lines) ≤ script_limit
 
@@ -102,7 +105,6 @@ AreFirst first pieces = (count : ℕ) × (first ≡ take count pieces)
 -- nothing; where there was no memory some are, each of them whole. Only a fault is counted
 abbrev pub WritesShort : List (List ℕ) → Option (List (List ℕ)) → ℕ → Option (List (List ℕ)) → ℕ
     → LineError → Type 0
-WritesShort lines told faults told' faults' Unbuilt = ⊥
 WritesShort lines told faults told' faults' WriteFault = HasRisen faults faults'
     × ((pieces : List (List ℕ)) × Short pieces lines × (told' ≡ onto told pieces))
 WritesShort lines told faults told' faults' Memory = (faults' ≡ faults)
@@ -115,12 +117,10 @@ WritesPart IsPart a line told told' =
     (entries : List Entry) × (out : List (List ℕ)) × (b : Scene) × (pieces : List (List ℕ))
     × Does a line entries out b × IsPart pieces out × (told' ≡ onto told pieces)
 
--- why a line was not run: it is not built, and nothing is written; a write of its output failed; or
--- there was no memory. Only a fault is counted
+-- why a line was not run: a write of its output failed, or there was no memory. Only a fault is
+-- counted
 abbrev pub Breaks : Scene → ScriptLine → Option (List (List ℕ)) → ℕ → Option (List (List ℕ)) → ℕ
     → LineError → Type 0
-Breaks a line told faults told' faults' Unbuilt =
-    (faults' ≡ faults) × IsUnbuilt a line × (told' ≡ told)
 Breaks a line told faults told' faults' WriteFault =
     HasRisen faults faults' × WritesPart Short a line told told'
 Breaks a line told faults told' faults' Memory =

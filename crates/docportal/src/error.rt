@@ -5,8 +5,6 @@ use portal_base::memory::WantOfMemory;
 /// Why a line is not run.
 #[derive(Clone, Copy, Debug, PartialEq, Eq)]
 pub enum LineError {
-    /// It needs a part that is not built.
-    Unbuilt,
     /// The write of its output failed.
     WriteFault,
     /// There was no memory.

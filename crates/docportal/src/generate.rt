@@ -92,8 +92,8 @@ fn run_over<K: Sink>(alloc: Global, portal: &mut CountedPortal, load: &Load, sin
     }
 }
 
-/// Runs the lines of a load. None of them needs a part that isn't built, so
-/// where they aren't run to their end there was no memory.
+/// Runs the lines of a load. The sink takes all, so where they aren't run to
+/// their end there was no memory.
 fn run_load(alloc: Global, portal: &mut CountedPortal, load: &Load) -> Result<(), Status>
     requires starts { StartsScript load.now.script.lines portal.old }
     requires load { load.now.script.lines ≡ lines_of_load load.now.requests }

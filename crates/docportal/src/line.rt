@@ -26,7 +26,6 @@ use std::alloc::Global;
 
 /// Runs a line: a connection is opened or closed at the portal, bytes come on
 /// one, or its clock is set, and each line of output is written as one piece.
-/// Nothing is written of a line that isn't built.
 pub fn run_line<K: Sink>(
     alloc: Global,
     portal: &mut ScriptPortal,

@@ -1,8 +1,8 @@
 //! Running a script.
 
-ghost use Rattle.std.specs.Prelude.{◌≡◌, ◌<◌, ◌-◌, ◌^◌, [], IfErr, OnOk};
+ghost use Rattle.std.specs.Prelude.{◌≡◌, [], IfErr, OnOk};
 ghost use Rattle.portal_core.specs.Story.{state_first};
-ghost use Rattle.docportal.specs.Plays.{PlaysAll, PlayStops, status_at};
+ghost use Rattle.docportal.specs.Plays.{PlaysAll, PlayStops, status_of};
 ghost use Rattle.docportal.specs.Scenes.{run_settings};
 ghost use Rattle.docportal.specs.Steps.{MayPlay, scene};
 
@@ -16,8 +16,8 @@ use portal_base::outside::Sink;
 use script_form::script::ScriptLine;
 use std::alloc::Global;
 
-/// Runs the lines of a script in order, up to the first that is not built.
-/// An error says how the run ended there.
+/// Runs the lines of a script in order. An error says how the run ended at one
+/// that was not run.
 pub fn run_lines<K: Sink>(
     alloc: Global,
     portal: &mut ScriptPortal,
@@ -35,24 +35,20 @@ pub fn run_lines<K: Sink>(
         (K.faults sink.old) (K.told sink.new) (K.faults sink.new)) }
 {
     let mut connections = Connections::new(alloc);
-    for (index, line) in lines.iter().enumerate() {
+    for line in lines {
         match run_line(alloc, portal, &mut connections, settings, line, sink) {
             Ok(()) => {}
-            Err(error) => return Err(status_of(error, index)),
+            Err(error) => return Err(status_of(error)),
         }
     }
     Ok(())
 }
 
-/// How a run ends whose line of this index, counted from 0, is not run.
-fn status_of(error: LineError, index: usize) -> Status
-    requires { index < 2 ^ 64 - 1 }
-    ensures { result ≡ status_at error index }
+/// How a run ends of which a line is not run.
+fn status_of(error: LineError) -> Status
+    ensures { result ≡ status_of error }
 {
     match error {
-        LineError::Unbuilt => Status::Unbuilt {
-            line: index as u64 + 1,
-        },
         LineError::WriteFault => Status::WriteFault,
         LineError::Memory => Status::Memory,
     }

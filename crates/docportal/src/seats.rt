@@ -120,9 +120,8 @@ fn feed(
     }
 }
 
-/// Feeds bytes to a session that goes on. Where the bytes end inside an item
-/// they aren't built. The history has room for what they ask, so a request
-/// that is refused wants memory.
+/// Feeds bytes to a session that goes on. The history has room for what they
+/// ask with those that it holds, so a request that is refused wants memory.
 pub fn hear(
     alloc: Global,
     portal: &mut ScriptPortal,
@@ -152,7 +151,6 @@ pub fn hear(
         return Err(LineError::Memory);
     }
     match fed {
-        Fed::More if session.held() > 0 => Err(LineError::Unbuilt),
         Fed::More => Ok(Heard {
             written,
             is_over: false,

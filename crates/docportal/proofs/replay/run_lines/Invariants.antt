@@ -4,10 +4,10 @@ use Rattle.docportal.specs.Steps.{MayPlay}
 use Rattle.docportal.proofs.RunLines.{Played}
 use Rattle.docportal.proofs.replay.run_lines.Given as goal
 
-abbrev pub invariant-loop-index : goal.invariant-loop-index
-invariant-loop-index g l = record {
-  may : MayPlay (take l.index l.lines) l.portal l.connections (drop l.index l.lines);
-  played : Played l.fn.portal l.lines (g.K.Sink.told l.fn.sink) (g.K.Sink.told l.sink) l.index l.portal l.connections;
+abbrev pub invariant-loop-line : goal.invariant-loop-line
+invariant-loop-line g l = record {
+  may : MayPlay (take l.line-index l.lines) l.portal l.connections (drop l.line-index l.lines);
+  played : Played l.fn.portal l.lines (g.K.Sink.told l.fn.sink) (g.K.Sink.told l.sink) l.line-index l.portal l.connections;
   faults : g.K.Sink.faults l.sink ≡ g.K.Sink.faults l.fn.sink;
   opening : state_first l.portal.story ≡ state_first l.fn.portal.story;
 }

@@ -21,13 +21,6 @@ returns-in-More-clause-unfilled c = (
       c.feed-fed.ensures.own c.requires.goes_on c.requires.room c.feed-fed.ensures.feeds,
 )
 
-pub returns-in-More-2-clause-unfilled : goal.returns-in-More-2-clause-unfilled
-returns-in-More-2-clause-unfilled c = (
-  c.feed-fed.result.refusals,
-  unfilled_at c.args.portal.now c.feed-fed.new.portal c.args.seat c.feed-fed.result.refusals c.args.session.now c.feed-fed.new.session c.args.bytes.now c.new-written.result c.feed-fed.new.written c.feed-fed.result.fed
-      c.feed-fed.ensures.own c.requires.goes_on c.requires.room c.feed-fed.ensures.feeds,
-)
-
 pub returns-in-Over-clause-unfilled : goal.returns-in-Over-clause-unfilled
 returns-in-Over-clause-unfilled c = (
   c.feed-fed.result.refusals,
@@ -73,12 +66,12 @@ returns-then-refusals-gt0-clause-err c = (
   wants_request c.feed-fed.new.session.fed c.feed-fed.result.refusals (omega arith),
 )
 
-pub returns-in-More-2-clause-ok : goal.returns-in-More-2-clause-ok
-returns-in-More-2-clause-ok c =
+pub returns-in-More-clause-ok : goal.returns-in-More-clause-ok
+returns-in-More-clause-ok c =
     let e = c.feed-fed.ensures in
     heard_more c.args.portal.now c.feed-fed.new.portal c.args.seat c.feed-fed.result.refusals c.args.session.now c.feed-fed.new.session c.args.bytes.now c.new-written.result c.feed-fed.new.written
-    (ap (λ (z : SinkState). z.pieces) c.new-written.ensures) e.opening e.own e.legal (omega arith) c.requires.told c.requires.goes_on c.held.result c.held.ensures c.if-held-gt0.false
-    (subst (λ (r : Fed). Feeds c.args.session.now.fed c.args.session.now (sunk (known_at c.args.portal.now c.args.seat 0) c.new-written.result) c.args.bytes.now r c.feed-fed.new.session (sunk (known_at c.feed-fed.new.portal c.args.seat c.feed-fed.result.refusals) c.feed-fed.new.written)) c.in-More-2.is c.feed-fed.ensures.feeds)
+    (ap (λ (z : SinkState). z.pieces) c.new-written.ensures) e.opening e.own e.legal (omega arith) c.requires.told c.requires.goes_on
+    (subst (λ (r : Fed). Feeds c.args.session.now.fed c.args.session.now (sunk (known_at c.args.portal.now c.args.seat 0) c.new-written.result) c.args.bytes.now r c.feed-fed.new.session (sunk (known_at c.feed-fed.new.portal c.args.seat c.feed-fed.result.refusals) c.feed-fed.new.written)) c.in-More.is c.feed-fed.ensures.feeds)
 
 pub returns-in-Over-clause-ok : goal.returns-in-Over-clause-ok
 returns-in-Over-clause-ok c =
