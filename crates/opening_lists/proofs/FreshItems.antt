@@ -1,0 +1,65 @@
+-- Items that differ, taken one after another: none stands among those before it.
+use Rattle.std.proofs.Common.{◌≡◌, ◌≢◌, ◌+◌, ◌-◌, ◌<◌, ◌≤◌, ◌==◌, ◌||◌, min, ℕ, zero, suc, List, [], ◌∷◌, ◌++◌, length, take, get_or, map, Bool, false, nat_eq, cond, refl, sym, ap, ◌∙◌, arith, length-take}
+use Rattle.std.specs.List.{list_any, IsDistinct, AllByRecursion}
+use Rattle.std.proofs.lemmas.List.{length-map, take_more}
+use Rattle.document_records.specs.Documents.{room}
+use Rattle.portal_base.specs.Names.{is_same}
+use Rattle.portal_model.specs.declared.opening.OpeningDocument.{OpeningDocument}
+use Rattle.portal_model.specs.Applications.{numbered}
+use Rattle.portal_model.specs.Opening.{document_kept, id_of}
+use Rattle.portal_model.specs.Valid.{is_made, is_numbered}
+use Rattle.portal_model.proofs.TripleOrder.{is_same-sym}
+
+-- whether some item has a property is told by any test that gives the same
+pub any_same : {X : Type 0} (p q : X → Bool) → ((x : X) → p x ≡ q x) → (xs : List X) → list_any p xs ≡ list_any q xs
+any_same p q e [] = refl
+any_same p q e (x ∷ xs) = λ i. e x i || any_same p q e xs i
+
+pub any-mapped : {X Y : Type 0} (p : Y → Bool) (f : X → Y) (xs : List X) → list_any p (map f xs) ≡ list_any (λ x. p (f x)) xs
+any-mapped p f [] = refl
+any-mapped p f (x ∷ xs) = ap (λ (b : Bool). p (f x) || b) (any-mapped p f xs)
+
+module _ {X : Type 0} (same : X → X → Bool) where
+  all_at : (y : X) (xs : List X) (i : ℕ) (x : X) → i < length xs → x ≡ get_or xs i x → AllByRecursion (λ z. same y z ≡ false) xs → same y x ≡ false
+  all_at y [] i x l e h = absurd (omega arith)
+  all_at y (z ∷ zs) zero x l e h = ap (same y) e ∙ h.0
+  all_at y (z ∷ zs) (suc i) x l e h = all_at y zs i x (omega arith) e h.1
+
+  pub fresh_at : (xs : List X) (i : ℕ) (x : X) → i < length xs → x ≡ get_or xs i x → IsDistinct same xs → list_any (λ y. same y x) (take i xs) ≡ false
+  unfolding IsDistinct
+  fresh_at [] i x l e d = absurd (omega arith)
+  fresh_at (y ∷ ys) zero x l e d = refl
+  fresh_at (y ∷ ys) (suc i) x l e d = rw (all_at y ys i x (omega arith) e d.0) (fresh_at ys i x (omega arith) e d.1)
+
+module _ {X K : Type 0} (f : X → K) (same : K → K → Bool) where
+  all_of_mapped : (k : K) (xs : List X) → AllByRecursion (λ y. same k y ≡ false) (map f xs) → AllByRecursion (λ y. same k (f y) ≡ false) xs
+  all_of_mapped k [] h = tt
+  all_of_mapped k (x ∷ xs) h = (h.0, all_of_mapped k xs h.1)
+
+  differ_of_mapped : (xs : List X) → IsDistinct same (map f xs) → IsDistinct (λ a b. same (f a) (f b)) xs
+  unfolding IsDistinct
+  differ_of_mapped [] h = tt
+  differ_of_mapped (x ∷ xs) h = (all_of_mapped (f x) xs h.0, differ_of_mapped xs h.1)
+
+pub not_made : (ds : List OpeningDocument) (i : ℕ) (d : OpeningDocument) → i < length ds → d ≡ get_or ds i d → IsDistinct nat_eq (map (λ (x : OpeningDocument). x.kept.number) ds) →
+    is_made (map (λ (x : OpeningDocument). id_of x.kept.number) (take i ds)) d.kept.number ≡ false
+not_made ds i d l e h =
+    any-mapped (λ id. id.number == d.kept.number) (λ (x : OpeningDocument). id_of x.kept.number) (take i ds)
+    ∙ fresh_at (λ (a b : OpeningDocument). nat_eq a.kept.number b.kept.number) ds i d l e (differ_of_mapped (λ (x : OpeningDocument). x.kept.number) nat_eq ds h)
+
+some_left : (a b n : ℕ) → n < a → n < b → min (a - n) (b - n) ≢ 0
+some_left a b n h k = λ e. omega (arith, e)
+
+pub has_room : (ds : List OpeningDocument) (i live made : ℕ) → i < length ds → length ds ≤ live → length ds ≤ made →
+    room (record { most_live = live; most_made = made; live = map document_kept (take i ds); made = map (λ (x : OpeningDocument). id_of x.kept.number) (take i ds) }) ≢ 0
+has_room ds i live made l h k =
+    let few : length (take i ds) ≤ i = omega (arith, length-take i ds) in
+    rw (length-map (take i ds) document_kept, length-map (take i ds) (λ (x : OpeningDocument). id_of x.kept.number)) (some_left live made (length (take i ds)) (omega (arith, few)) (omega (arith, few)))
+
+pub not_numbered : (names : List (List ℕ)) (i : ℕ) (name : List ℕ) → i < length names → name ≡ get_or names i name → IsDistinct is_same names → is_numbered (take i names) name ≡ false
+not_numbered names i name l e d = any_same (is_same name) (λ y. is_same y name) (λ y. is_same-sym name y) (take i names) ∙ fresh_at is_same names i name l e d
+
+pub numbered_more : (names : List (List ℕ)) (i : ℕ) (name : List ℕ) → i < length names → name ≡ get_or names i name → IsDistinct is_same names → numbered (take i names) name ≡ take (i + 1) names
+numbered_more names i name l e d =
+    ap (λ (b : Bool). cond b (take i names) (take i names ++ name ∷ [])) (not_numbered names i name l e d)
+    ∙ (ap (λ (x : List ℕ). take i names ++ x ∷ []) e ∙ sym (take_more names i name l))

@@ -1,0 +1,5 @@
+pub mod NameLemmas
+pub mod Loops
+pub mod OpeningRights
+pub mod ValidNames
+pub mod FreshItems
