@@ -1,7 +1,7 @@
 -- A portal that starts: its lists are those of a valid state, and the keeper's records stand for it.
 use Rattle.std.specs.Prelude.{IfSome}
-use Rattle.std.proofs.Common.{◌≡◌, ◌<◌, ◌^◌, ℕ, List, [], map, true, cond, Option, Some, None, refl, sym, ap, subst, ◌∙◌, arith}
-use Rattle.std.specs.List.{list_all}
+use Rattle.std.proofs.Common.{◌≡◌, ◌<◌, ◌^◌, ℕ, List, [], ◌∷◌, map, true, cond, Option, Some, None, refl, sym, ap, subst, ◌∙◌, arith}
+use Rattle.std.specs.List.{IsDistinct, list_all}
 use Rattle.document_records.specs.Documents.{DocumentList}
 use Rattle.file_ops.specs.OpenHandles.{AreOpened, open_on}
 use Rattle.open_handles.specs.Opened.{HandleTable, Opened, opened_on}
@@ -11,6 +11,7 @@ use Rattle.portal_base.specs.declared.limits.Limits.{Limits}
 use Rattle.portal_model.specs.declared.opening.OpeningDocument.{OpeningDocument}
 use Rattle.portal_model.specs.declared.opening.OpeningState.{OpeningState}
 use Rattle.portal_model.specs.declared.records.Records.{Records}
+use Rattle.portal_model.specs.declared.state.Document.{Document}
 use Rattle.portal_model.specs.declared.state.Triple.{Triple}
 use Rattle.portal_model.specs.Kept.{records_of}
 use Rattle.portal_model.specs.Opening.{SoundOpening, document_kept, files_of, id_of, is_told, opened_over, rights_kept}
@@ -37,12 +38,48 @@ sound_loaded limits records o e good narrow made queued =
 pub valid_loaded : (limits : Limits) (records : Records) (o : OpeningState) → IsOpening limits records o → AreGood limits records → list_all is_narrow o.made ≡ true → limits.made < 2 ^ 32 → limits.queued < 2 ^ 32 → Valid (opened_over None o)
 valid_loaded limits records o e good narrow made queued = valid_quiet o (sound_loaded limits records o e good narrow made queued)
 
-pub loaded_documents : (limits : Limits) (o : OpeningState) (items : List OpeningDocument) (ds : DocumentList) →
-    ds ≡ record { most_live = limits.documents; most_made = limits.made; live = map document_kept items; made = map (λ (d : OpeningDocument). id_of d.kept.number) items } → items ≡ o.documents → o.limits ≡ limits →
+-- the numbers of documents are those of their records
+pub numbers_kept : (ds : List OpeningDocument) → map (λ (d : Document). d.id.number) (map document_kept ds) ≡ map (λ (d : OpeningDocument). d.kept.number) ds
+numbers_kept [] = refl
+numbers_kept (d ∷ ds) = ap (λ (ns : List ℕ). d.kept.number ∷ ns) (numbers_kept ds)
+
+-- a state that is valid over some files is valid over a tree that tells nothing
+pub valid_untold : (o : OpeningState) (began : Option (List File)) → Valid (opened_over began o) → Valid (opened_over None o)
+unfolding IsDistinct
+valid_untold o began v = record {
+  numbers_differ = v.numbers_differ;
+  numbers_made = v.numbers_made;
+  identifiers = v.identifiers;
+  paths = v.paths;
+  applications_differ = v.applications_differ;
+  names = v.names;
+  rights_in_order = v.rights_in_order;
+  rights_placed = v.rights_placed;
+  seats_differ = v.seats_differ;
+  connections_sound = v.connections_sound;
+  handles_differ = v.handles_differ;
+  handles_sound = v.handles_sound;
+  handles_within = v.handles_within;
+  entries_differ = v.entries_differ;
+  entries_sound = v.entries_sound;
+  files_differ = tt;
+  files_apart = refl;
+  files_named = refl;
+  files_told = λ e. refl;
+  documents_within = v.documents_within;
+  made_within = v.made_within;
+  applications_within = v.applications_within;
+  made_limit = v.made_limit;
+  queued_limit = v.queued_limit;
+}
+
+-- documents that are listed with their own numbers as those that were made
+pub listed_documents : (o : OpeningState) (items : List OpeningDocument) (ds : DocumentList) →
+    ds ≡ record { most_live = o.limits.documents; most_made = o.limits.made; live = map document_kept items; made = map (λ (d : OpeningDocument). id_of d.kept.number) items } → items ≡ o.documents →
     o.made ≡ map (λ (d : OpeningDocument). id_of d.kept.number) o.documents → ds ≡ record { most_live = o.limits.documents; most_made = o.limits.made; live = map document_kept o.documents; made = o.made }
-loaded_documents limits o items ds e i l m = e ∙ (λ j. record {
-  most_live = (sym l j).documents;
-  most_made = (sym l j).made;
+listed_documents o items ds e i m = e ∙ (λ j. record {
+  most_live = o.limits.documents;
+  most_made = o.limits.made;
   live = map document_kept (i j);
   made = (ap (map (λ (d : OpeningDocument). id_of d.kept.number)) i ∙ sym m) j;
 })
@@ -83,12 +120,12 @@ module _ (began : Option (List File)) (o : OpeningState) (ds : DocumentList) (rs
     };
   }
 
-  same_told : (told : Option Records) (records : Records) → IfSome told (λ kept. records ≡ kept) → records_of (opened_over began o) ≡ records → KeepsState told (opened_over began o)
-  same_told None records g e = tt
-  same_told (Some kept) records g e = sym (e ∙ g)
+same_told : (began : Option (List File)) (o : OpeningState) (told : Option Records) (records : Records) → IfSome told (λ kept. records ≡ kept) → records_of (opened_over began o) ≡ records → KeepsState told (opened_over began o)
+same_told began o None records g e = tt
+same_told began o (Some kept) records g e = sym (e ∙ g)
 
-  pub kept_first : (limits : Limits) (old new : KeeperIs) → LoadsGood limits old o new → KeepsState new.told (opened_over began o)
-  kept_first limits old new g =
-      let told : new.told ≡ old.told = ap (λ (x : KeeperIs). x.told) g.loads.goes in
-      let same : records_of (opened_over began o) ≡ g.records = ap (λ (x : OpeningState). records_of (opened_over began x)) g.opening_is.whole ∙ back limits g.records began o.entries g.opening_is.entries g.good in
-      subst (λ (t : Option Records). KeepsState t (opened_over began o)) (sym told) (same_told old.told g.records g.loads.gives same)
+pub kept_first : (began : Option (List File)) (o : OpeningState) (limits : Limits) (old new : KeeperIs) → LoadsGood limits old o new → KeepsState new.told (opened_over began o)
+kept_first began o limits old new g =
+    let told : new.told ≡ old.told = ap (λ (x : KeeperIs). x.told) g.loads.goes in
+    let same : records_of (opened_over began o) ≡ g.records = ap (λ (x : OpeningState). records_of (opened_over began x)) g.opening_is.whole ∙ back limits g.records began o.entries g.opening_is.entries g.good in
+    subst (λ (t : Option Records). KeepsState t (opened_over began o)) (sym told) (same_told began o old.told g.records g.loads.gives same)

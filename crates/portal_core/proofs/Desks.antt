@@ -1,17 +1,19 @@
 -- A desk that sees the whole history: what it answers is what a desk promises.
-use Rattle.std.proofs.Common.{◌≡◌, ℕ, List, [], ◌∷◌, ◌++◌, Ok, Err, refl, sym, ap, ◌∙◌, subst, arith}
+use Rattle.std.proofs.Common.{◌≡◌, ◌<◌, ℕ, List, [], ◌∷◌, ◌++◌, true, Ok, Err, refl, sym, ap, ◌∙◌, subst, arith}
 use Rattle.std.proofs.lemmas.List.{append-nil}
 use Rattle.std.proofs.lemmas.List.Elements.{All-cons, All-nil}
 use Rattle.portal_model.specs.declared.entry.Entry.{Entry}
+use Rattle.portal_model.specs.declared.reply.Refused.{Refused}
+use Rattle.portal_model.specs.declared.reply.Refused.TheVariants.{Memory, Full}
 use Rattle.portal_model.specs.declared.reply.Reply.{Reply}
 use Rattle.portal_model.specs.declared.request.Request.{Request}
 use Rattle.portal_model.specs.Alike.{Alike}
-use Rattle.portal_model.specs.History.{run}
-use Rattle.portal_model.specs.Seated.{Asks, Made, exchange, exchanges, rises_by}
+use Rattle.portal_model.specs.History.{cost, run}
+use Rattle.portal_model.specs.Seated.{Asks, HasCause, Made, exchange, exchanges, is_open, rises_by}
 use Rattle.portal_model.specs.State.{State}
 use Rattle.portal_model.specs.Step.{reply_at}
 use Rattle.portal_model.proofs.SeatLaws.{exchanges-own}
-use Rattle.portal_core.specs.Growth.{GrowsBy}
+use Rattle.portal_core.specs.Growth.{GrowsBy, RefusedFor, cost_after}
 use Rattle.portal_core.specs.Lending.{GoesOn, seated_at}
 
 module _ (says : Entry → Type 0) (s : State) (old new : List Entry) (seat refusals : ℕ) (request : Request) (reply : Reply) (g : GrowsBy says s old new seat request reply) where
@@ -41,6 +43,32 @@ pub asked : (says : Entry → Type 0) (s t : State) (old new : List Entry) (seat
     Asks (seated_at s old seat refusals) request (Ok reply) (seated_at t new seat refusals)
 asked says s t old new seat refusals request reply e g =
     subst (λ (u : State). Asks (seated_at s old seat refusals) request (Ok reply) (seated_at u new seat refusals)) (sym e) (asked_here says s old new seat refusals request reply g)
+
+-- ---- a refusal, whose cause stands in what is seen
+
+cause_here : (s t : State) (old new : List Entry) (seat refusals : ℕ) (request : Request) (why : Refused) → t ≡ s → new ≡ old → RefusedFor s old request why → HasCause (seated_at t new seat refusals) request why
+cause_here s t old new seat refusals request why e n c =
+    subst (λ (u : State). HasCause (seated_at u new seat refusals) request why) (sym e) (subst (λ (h : List Entry). HasCause (seated_at s h seat refusals) request why) (sym n) (at why c))
+  where
+    at : (w : Refused) → RefusedFor s old request w → HasCause (seated_at s old seat refusals) request w
+    at Memory k = k
+    at (Full now limit) k =
+        let cost_is : now ≡ cost old = k.0 in
+        let limit_is : limit ≡ s.limits.history = k.1 in
+        let over : s.limits.history < cost_after old request = k.2 in
+        (cost_is, limit_is, omega (arith, cost_is, limit_is, over))
+
+pub denied : (s t : State) (old new : List Entry) (seat refusals more : ℕ) (request : Request) (why : Refused) → t ≡ s → new ≡ old → more ≡ rises_by refusals 1 → RefusedFor s old request why → (request ≡ Request.Leave → is_open (run s old) seat ≡ true → ⊥) →
+    Asks (seated_at s old seat refusals) request (Err why) (seated_at t new seat more)
+denied s t old new seat refusals more request why e n k cause leave = record {
+  moved = record { opening = e; seat = refl; begins = ([], n ∙ sym (append-nil old)) };
+  answered = record {
+    refusals = k;
+    mine = (λ i. exchanges seat (e i) (n i));
+    cause = cause_here s t old new seat more request why e n cause;
+    no_leave = leave;
+  };
+}
 
 -- ---- how such a desk goes on
 

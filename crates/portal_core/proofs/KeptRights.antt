@@ -26,6 +26,7 @@ use Rattle.portal_model.proofs.RisingLists.{Order, any-put_all, rising-put_all, 
 use Rattle.portal_model.proofs.TripleOrder.{bytes-irreflexive, bytes-through, bytes-total, is_same-eq, is_same-refl, is_same-sym, nat_is, nat-itself, triples}
 use Rattle.record_keeper.specs.SoundRecords.{IsGrant, IsRising, IsSoundDocument}
 use Rattle.rights_rule.specs.Rights.{RightSet, holds_any}
+use Rattle.opening_lists.proofs.FreshItems.{any-mapped, any_same}
 use Rattle.portal_core.specs.Started.{document_loaded}
 use Rattle.portal_core.proofs.Found.{Finds, all_found, any_found}
 
@@ -99,10 +100,6 @@ bits_held r some most =
     rw no at there
 
 -- ---- lists that are mapped and filtered
-
-pub any-mapped : {X Y : Type 0} (p : Y → Bool) (f : X → Y) (xs : List X) → list_any p (map f xs) ≡ list_any (λ x. p (f x)) xs
-any-mapped p f [] = refl
-any-mapped p f (x ∷ xs) = ap (λ (b : Bool). p (f x) || b) (any-mapped p f xs)
 
 any-filtered : {X : Type 0} (p q : X → Bool) (xs : List X) → list_any p (filter q xs) ≡ list_any (λ x. q x && p x) xs
 any-filtered p q [] = refl
@@ -193,10 +190,6 @@ all-picked a b r w g d = grind arith
 some_right : (app : List ℕ) (m n : ℕ) (g : GrantRecord) → some_given (is_held_in app m) n g ≡ ((n == m) && (is_same g.app app && holds_any (set_of_bits g.rights)))
 some_right app m n g = any-of (is_held_in app m) g.app (id_of n) (set_of_bits g.rights)
     ∙ all-picked (is_same g.app app) (n == m) (set_of_bits g.rights).read (set_of_bits g.rights).write (set_of_bits g.rights).grant_permissions (set_of_bits g.rights).delete
-
-pub any_same : {X : Type 0} (p q : X → Bool) → ((x : X) → p x ≡ q x) → (xs : List X) → list_any p xs ≡ list_any q xs
-any_same p q e [] = refl
-any_same p q e (x ∷ xs) = λ i. e x i || any_same p q e xs i
 
 any_both : {X : Type 0} (b : Bool) (q : X → Bool) (xs : List X) → list_any (λ x. b && q x) xs ≡ (b && list_any q xs)
 any_both true q xs = refl

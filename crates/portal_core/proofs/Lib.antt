@@ -1,11 +1,6 @@
-pub mod NameLemmas
-pub mod Loops
-pub mod OpeningRights
-pub mod ValidNames
 pub mod Found
 pub mod KeptRights
 pub mod GoodRecords
-pub mod FreshItems
 pub mod Beginning
 pub mod Boxes
 pub mod OpenSteps

@@ -1,8 +1,5 @@
 -- How a portal starts: with the records that its keeper loads, or not at all.
-use Rattle.std.specs.Prelude.{◌≡◌, ◌^◌, nat_lt, List, [], Bool, true, false, fold, map, Some}
-use Rattle.std.specs.List.{list_all}
-use Rattle.document_records.specs.Grants.{with_given}
-use Rattle.document_records.specs.declared.grants.Grant.{Grant}
+use Rattle.std.specs.Prelude.{◌≡◌, ◌^◌, nat_lt, [], Bool, true, false, map, Some}
 use Rattle.host_tree.specs.Trees.{TreeIs}
 use Rattle.portal_base.specs.declared.limits.Limits.{Limits}
 use Rattle.portal_base.specs.declared.names.doc_id.DocId.{DocId}
@@ -10,7 +7,6 @@ use Rattle.portal_model.specs.declared.opening.OpeningDocument.{OpeningDocument}
 use Rattle.portal_model.specs.declared.opening.OpeningState.{OpeningState}
 use Rattle.portal_model.specs.declared.records.DocRecord.{DocRecord}
 use Rattle.portal_model.specs.declared.records.Records.{Records}
-use Rattle.portal_model.specs.declared.state.Triple.{Triple}
 use Rattle.portal_model.specs.Opening.{id_of, document_kept, rights_kept}
 use Rattle.portal_model.specs.Store.{Entries}
 use Rattle.portal_base.specs.Calls.{FailsAsTold}
@@ -47,10 +43,6 @@ pub record IsOpening (limits : Limits) (records : Records) (opening : OpeningSta
   pub whole : opening ≡ opening_loaded opening.entries limits records
   pub entries : KeepEntries records.entries opening.entries
 
--- the rights that grants give together
-abbrev pub given_by : List Grant → List Triple
-given_by grants = fold with_given [] grants
-
 -- a number of 32 bits
 abbrev pub is_narrow : DocId → Bool
 is_narrow id = nat_lt id.number (2 ^ 32)
@@ -84,7 +76,6 @@ pub record AreLists (lists : Lists) : Type 0 where
     live = map document_kept lists.opening.documents;
     made = lists.opening.made;
   }
-  pub narrow : list_all is_narrow lists.opening.made ≡ true
   pub rights : lists.rights ≡ rights_kept lists.opening.documents
   pub applications : lists.applications ≡ lists.opening.applications
   pub tables : lists.tables ≡ lists.opening.entries
@@ -114,3 +105,14 @@ pub record HandsBack {T K C W : Type 0} (keeper_is : K → KeeperIs) (tree : T) 
   pub clock_kept : refusal.clock ≡ clock
   pub words_kept : refusal.words ≡ words
   pub cause : LoadsBadly limits (keeper_is keeper) refusal.error (keeper_is refusal.keeper)
+
+-- The portal has these devices, of which none was asked, opens with this state, and has no history.
+abbrev pub reopened : {T K C W : Type 0} → (T → TreeIs) → T → K → C → W → OpeningState
+    → PortalIs T K C W
+reopened tree_is tree keeper clock words opening = record {
+  tree = tree;
+  keeper = keeper;
+  clock = clock;
+  words = words;
+  story = record { began = (tree_is tree).began; opening = opening; history = [] };
+}

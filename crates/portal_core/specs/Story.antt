@@ -10,8 +10,8 @@ use Rattle.portal_model.specs.History.{run, cost, cost_of}
 use Rattle.portal_model.specs.Opening.{opened_over}
 use Rattle.portal_model.specs.State.{State}
 
--- the files that the tree began with, where it tells them; the opening state, which has an empty
--- list of files; and the history
+-- the files that the tree began with, where it tells them; the opening state, whose own list of
+-- files doesn't count; and the history
 pub record Story : Type 0 where
   pub began : Option (List File)
   pub opening : OpeningState

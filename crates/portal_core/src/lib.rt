@@ -5,12 +5,14 @@
 //! the end of one legal history which grows by this one entry; that just the calls
 //! of its devices were made that the step reaches, and the keeper's records are
 //! those that stand for the state; that each connection of the host to the bus is told
-//! each change of the permission store once, in the order of the history; that a refusal changes nothing but how often the
-//! tree and the keeper were asked, whether the clock was read, and which words come
-//! next; and that the Leave of an open connection is never refused. An OPEN goes by the
-//! rights of its moment, and what goes by the number of a handle by the handle that was
-//! opened by that number. It starts exactly where the records are good, and else says
-//! what is wrong and hands the devices back.
+//! each change of the permission store once, in the order of the history; that a
+//! refusal changes nothing but how often the tree and the keeper were asked, whether
+//! the clock was read, and which words come next; and that the Leave of an open
+//! connection is never refused. An OPEN goes by the rights of its moment, and what goes
+//! by the number of a handle by the handle that was opened by that number. It starts
+//! exactly where the records are good, and else says what is wrong and hands the devices
+//! back; and it opens with any state for which its devices stand. What it lends is what
+//! the state after the history has.
 //!
 //! | Room | Holds |
 //! |---|---|
@@ -18,7 +20,8 @@
 //! | `start` | why a portal doesn't start, and what it starts with |
 //! | `storied` | [`storied::Storied`]: what anything that keeps a history promises |
 //! | `local_desk` | [`local_desk::LocalDesk`]: the desk of one seat, on one thread |
-//! | `opening` | the lists that an opening state begins with |
+//! | `opening` | the opening state that records stand for |
+//! | `entries` | the entries of requests, and the replies to them |
 //! | `lists` | what is looked up among connections |
 //! | `seats` | the connections of seats, each with its open handles |
 //! | `documents` | the requests on documents that neither ask the tree nor draw a word |
@@ -33,6 +36,7 @@
 
 mod additions;
 mod documents;
+mod entries;
 mod lists;
 pub mod local_desk;
 mod opening;

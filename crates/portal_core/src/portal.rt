@@ -1,32 +1,38 @@
 //! The portal.
 
-ghost use Rattle.std.specs.Prelude.{◌≡◌, ◌+◌, ◌<◌, ◌≤◌, ◌^◌, [], length, false, true, IfErr, IfOk, IsOk, OnErr, OnOk, Some, None, option_copied, unwrap_or};
+ghost use Rattle.std.specs.Prelude.{◌≡◌, ◌+◌, ◌<◌, ◌≤◌, ◌^◌, [], length, map, false, true, IfErr, IfOk, IsOk, OnErr, OnOk, None, unwrap_or};
+ghost use Rattle.std.specs.List.{list_all};
+ghost use Rattle.app_view.specs.Books.{Lends as LendsBook};
 ghost use Rattle.change_signals.specs.Unsent.{AtSeat, holding, unsent_on};
+ghost use Rattle.file_ops.specs.OpenHandles.{AreOpen};
 ghost use Rattle.portal_model.specs.History.{Legal, cost};
-ghost use Rattle.portal_model.specs.Enter.{new_connection};
+ghost use Rattle.portal_model.specs.Opening.{id_of, opened_over};
+ghost use Rattle.portal_model.specs.Rows.{are_rows};
 ghost use Rattle.portal_model.specs.Seated.{is_open};
-ghost use Rattle.portal_model.specs.Step.{reply_with};
-ghost use Rattle.portal_model.specs.Valid.{Valid, is_caller};
+ghost use Rattle.portal_model.specs.Valid.{Valid};
 ghost use Rattle.portal_core.specs.Answered.{Answers, KeepsState, Spends, TellsFault};
 ghost use Rattle.portal_core.specs.Devices.{TellsFailure, may_ask_in_vain, may_ask_tree_in_vain, may_change_records};
 ghost use Rattle.portal_core.specs.Documents.{is_document_call};
 ghost use Rattle.portal_core.specs.Held.{told_files};
 ghost use Rattle.portal_core.specs.OpenFiles.{GoesByHandles, OpensByRights};
-ghost use Rattle.portal_core.specs.Served.{collect_answer as answer_of_bus, entry_of, node_entry};
-ghost use Rattle.portal_core.specs.Started.{HandsBack, Starts};
+ghost use Rattle.portal_core.specs.Started.{AreLists, HandsBack, Starts, reopened};
 ghost use Rattle.portal_core.specs.Story.{HasCause, cost_with, limit_of, state_first, state_now};
 ghost use Rattle.store_serving.specs.Serving.{may_change_entries};
+ghost use Rattle.store_serving.specs.Waiting.{silent};
 
 use crate::additions::serve_add;
+use crate::entries::{
+    check_caller, collect_answer, entry_made, node_entry, opened_connection, silent_reply,
+};
 use crate::lists::{bus_of, connection_of, of_others};
-use crate::start::{Lists, StartRefusal, load};
+use crate::start::{Lists, StartRefusal, lists_of_opening, load};
 use crate::{documents, seats, store};
 use app_view::ViewBook;
 use change_signals::Outboxes;
 use document_calls::ServedCall;
 use document_records::{Applications, Documents, Grants};
 use file_laws::laws::{no_open_after_a_revocation, older_handles_keep_their_rights};
-use file_ops::{FileBook, NodeDone};
+use file_ops::FileBook;
 use host_tree::HostTree;
 use inode_table::InodeTable;
 use open_handles::Handles;
@@ -37,7 +43,7 @@ use portal_base::memory::{Replica, WantOfMemory};
 use portal_base::outside::{Clock, Words};
 use portal_base::who::{Kind, Who};
 use portal_history::{History, cost_of};
-use portal_model::entry::{Entry, Fault, Given};
+use portal_model::entry::Entry;
 use portal_model::opening::OpeningState;
 use portal_model::reply::{Answer, Change, Code, Refused, Reply};
 use portal_model::request::{AddRequest, NodeRequest, Request};
@@ -131,32 +137,8 @@ impl<T: HostTree, K: Keeper, C: Clock, W: Words> Portal<T, K, C, W> {
         ensures err { IfErr result (HandsBack K.is tree keeper clock words limits) }
     {
         let mut keeper = keeper;
-        tree.known();
         match load(alloc, &mut keeper, &limits) {
-            Ok(
-                Lists {
-                    opening,
-                    documents,
-                    rights,
-                    applications,
-                    tables,
-                },
-            ) => Ok(Portal {
-                tree,
-                keeper,
-                clock,
-                words,
-                opening,
-                documents,
-                rights,
-                applications,
-                tables,
-                outboxes: Outboxes::new(alloc),
-                connections: List::new(alloc),
-                handles: Handles::new(alloc, &limits),
-                counts: InodeTable::new(alloc),
-                history: History::new(alloc, &limits),
-            }),
+            Ok(lists) => Ok(Portal::over(alloc, tree, keeper, clock, words, lists)),
             Err(error) => Err(StartRefusal {
                 error,
                 tree,
@@ -167,8 +149,52 @@ impl<T: HostTree, K: Keeper, C: Clock, W: Words> Portal<T, K, C, W> {
         }
     }
 
-    /// The state that the history began in, with an empty list of files: its
-    /// files are those that the tree began with.
+    /// A portal over these lists and devices, of which none is asked.
+    fn over(
+        alloc: Global,
+        tree: T,
+        keeper: K,
+        clock: C,
+        words: W,
+        lists: Lists,
+    ) -> Portal<T, K, C, W>
+        requires lists { AreLists lists }
+        requires valid { Valid (opened_over None lists.opening) }
+        requires told { (T.is tree).told ≡ (T.is tree).began }
+        requires kept { KeepsState (K.is keeper).told
+            (opened_over (T.is tree).began lists.opening) }
+        ensures { result ≡ reopened T.is tree keeper clock words lists.opening }
+    {
+        tree.known();
+        let handles = Handles::new(alloc, &lists.opening.limits);
+        let history = History::new(alloc, &lists.opening.limits);
+        let Lists {
+            opening,
+            documents,
+            rights,
+            applications,
+            tables,
+        } = lists;
+        Portal {
+            tree,
+            keeper,
+            clock,
+            words,
+            opening,
+            documents,
+            rights,
+            applications,
+            tables,
+            outboxes: Outboxes::new(alloc),
+            connections: List::new(alloc),
+            handles,
+            counts: InodeTable::new(alloc),
+            history,
+        }
+    }
+
+    /// The state that the history began in. Its files are those that the tree
+    /// began with, whatever its own list has.
     pub fn opening(&self) -> &OpeningState
         ensures { result.now ≡ self.now.story.opening }
     {
@@ -181,6 +207,31 @@ impl<T: HostTree, K: Keeper, C: Clock, W: Words> Portal<T, K, C, W> {
         ensures limit { result.now.limit ≡ limit_of self.now.story }
     {
         &self.history
+    }
+
+    /// The lists of documents, of rights and of applications.
+    pub fn book(&self) -> ViewBook<'_>
+        ensures { LendsBook result (state_now self.now.story) }
+    {
+        ViewBook {
+            documents: &self.documents,
+            grants: &self.rights,
+            applications: &self.applications,
+        }
+    }
+
+    /// The open connections, but for what they wait for.
+    pub fn connections(&self) -> &[Connection]
+        ensures { result.now ≡ map silent (state_now self.now.story).connections }
+    {
+        self.connections.as_slice()
+    }
+
+    /// What each connection has open.
+    pub fn handles(&self) -> &Handles
+        ensures { AreOpen (state_now self.now.story) result.now }
+    {
+        &self.handles
     }
 
     /// What is true of every portal: its history is legal, within its limit
@@ -203,7 +254,7 @@ impl<T: HostTree, K: Keeper, C: Clock, W: Words> Portal<T, K, C, W> {
         older_handles_keep_their_rights();
     }
 
-    /// Answers a request of a seat, which is a number from 1.
+    /// Answers a request of a seat.
     ///
     /// The reply is that of one step of the sequential portal, from the state
     /// after the history, which grows by this request; over a tree that doesn't
@@ -222,8 +273,6 @@ impl<T: HostTree, K: Keeper, C: Clock, W: Words> Portal<T, K, C, W> {
     /// other request, but not at the Leave of an open connection, which is never
     /// refused.
     pub fn ask(&mut self, alloc: Global, seat: u32, request: Request) -> Result<Reply, Refused>
-        requires { 1 ≤ seat }
-
         ensures began { self.new.story.began ≡ self.old.story.began }
         ensures opening { self.new.story.opening ≡ self.old.story.opening }
         ensures ok { IfOk result (Answers T.is K.is C.told W.told self.old self.new seat request) }
@@ -628,6 +677,37 @@ impl<T: HostTree, K: Keeper, C: Clock, W: Words> Portal<T, K, C, W> {
     }
 }
 
+impl<T: HostTree + Drop, K: Keeper + Drop, C: Clock + Drop, W: Words + Drop> Portal<T, K, C, W> {
+    /// A portal that opens with this state, over devices that have what stands
+    /// for it, of which none is asked.
+    ///
+    /// The state is valid over the tree's files, which are those that it began
+    /// with; no number was made but those of its documents, and its entries
+    /// have their rows in order. A keeper that tells its records has those that
+    /// stand for the state.
+    pub fn reopen(
+        alloc: Global,
+        tree: T,
+        keeper: K,
+        clock: C,
+        words: W,
+        opening: OpeningState,
+    ) -> Result<Portal<T, K, C, W>, WantOfMemory>
+        requires valid { Valid (opened_over (T.is tree).began opening) }
+        requires made { opening.made ≡ map (λ d. id_of d.kept.number) opening.documents }
+        requires rows { list_all (λ e. are_rows e.rows) opening.entries ≡ true }
+        requires told { (T.is tree).told ≡ (T.is tree).began }
+        requires kept { KeepsState (K.is keeper).told (opened_over (T.is tree).began opening) }
+        ensures { IfOk result
+            (λ portal. portal ≡ reopened T.is tree keeper clock words opening) }
+    {
+        match lists_of_opening(alloc, opening) {
+            Ok(lists) => Ok(Portal::over(alloc, tree, keeper, clock, words, lists)),
+            Err(error) => Err(error),
+        }
+    }
+}
+
 impl<T: HostTree, K: Keeper, C: Clock, W: Words> Portal<T, K, C, W> {
     ghost use Rattle.std.specs.Borrow.{Lends, sem};
     ghost use Rattle.portal_core.specs.contracts.portal.Portal.{the_row};
@@ -640,6 +720,16 @@ impl<T: HostTree, K: Keeper, C: Clock, W: Words> Portal<T, K, C, W> {
             (λ clock. record self.old { clock = clock })) }
     {
         &mut self.clock
+    }
+
+    /// The words to come, through which nothing else changes.
+    pub fn words_mut(&mut self) -> &mut W
+        ensures value { result.now ≡ self.old.words }
+        ensures* lends { sem 𝓛 (Lends (the_row T.row K.row C.row W.row T.HostTree K.Keeper
+            C.Clock W.Words) W.row self.entry result
+            (λ words. record self.old { words = words })) }
+    {
+        &mut self.words
     }
 }
 
@@ -662,94 +752,4 @@ fn taken(
 {
     history.reserve(connections.len() + 1)?;
     Ok(outboxes.take(seat)?)
-}
-
-/// Nothing to do: an application's name keeps the rule of names by its type.
-fn check_caller(who: &Who)
-    ensures { is_caller who.now ≡ true }
-{
-    if let Who::App(name) = who {
-        let _ = name.as_bytes();
-    }
-}
-
-/// The answer to a Collect of a seat with this bus.
-fn collect_answer(bus: Option<&Connection>) -> Answer
-    ensures { result ≡ answer_of_bus (option_copied bus.entry) }
-{
-    match bus {
-        Some(_) => Answer::Done,
-        None => Answer::Refused(Code::NotHere),
-    }
-}
-
-/// The entry of a request on a node that was served, and its answer.
-fn node_entry(alloc: Global, seat: u32, request: NodeRequest, done: NodeDone) -> (Entry, Answer)
-    ensures { result ≡ (node_entry seat request done, done.answer) }
-{
-    let NodeDone {
-        answer,
-        looks,
-        now,
-        fault,
-    } = done;
-    let given = Given {
-        now,
-        words: List::new(alloc),
-        numbers: List::new(alloc),
-        looks,
-        full: false,
-        fault,
-    };
-    let request = Request::Node(request);
-    (
-        Entry {
-            seat,
-            request,
-            given,
-        },
-        answer,
-    )
-}
-
-/// The entry of a request for which nothing outside was asked.
-fn entry_made(alloc: Global, seat: u32, request: Request) -> Entry
-    ensures { result ≡ entry_of seat request [] Fault.None }
-{
-    Entry {
-        seat,
-        request,
-        given: Given {
-            now: None,
-            words: List::new(alloc),
-            numbers: List::new(alloc),
-            looks: List::new(alloc),
-            full: false,
-            fault: Fault::None,
-        },
-    }
-}
-
-/// A connection on which nothing happened yet.
-fn opened_connection(alloc: Global, seat: u32, who: Who, kind: Kind) -> Connection
-    ensures { result ≡ new_connection seat who kind }
-{
-    Connection {
-        seat,
-        who,
-        kind,
-        queue: List::new(alloc),
-        opens: 0,
-        unsent: List::new(alloc),
-    }
-}
-
-/// A reply that tells no change of the permission store.
-fn silent_reply(alloc: Global, answer: Answer) -> Reply
-    ensures { result ≡ reply_with [] answer }
-{
-    Reply {
-        signals: List::new(alloc),
-        answer,
-    }
 }

@@ -1,6 +1,10 @@
 //! Starting a portal with the records that its keeper loads.
 
-ghost use Rattle.std.specs.Prelude.{◌≡◌, ◌<◌, ◌^◌, IfErr, IfOk};
+ghost use Rattle.std.specs.Prelude.{◌≡◌, ◌<◌, ◌^◌, map, true, None, IfErr, IfOk};
+ghost use Rattle.std.specs.List.{list_all};
+ghost use Rattle.portal_model.specs.Opening.{id_of, opened_over};
+ghost use Rattle.portal_model.specs.Rows.{are_rows};
+ghost use Rattle.portal_model.specs.Valid.{Valid};
 ghost use Rattle.portal_core.specs.Started.{AreLists, AreBad, IsOpening, LoadsBadly, LoadsGood};
 ghost use Rattle.record_keeper.specs.BadRecords.{AreGood};
 
@@ -82,6 +86,7 @@ pub(crate) fn load<K: Keeper>(
     ensures good { IfOk result (λ lists. LoadsGood limits.now (K.is keeper.old) lists.opening
         (K.is keeper.new)) }
     ensures lists { IfOk result AreLists }
+    ensures valid { IfOk result (λ lists. Valid (opened_over None lists.opening)) }
     ensures bad { IfErr result (λ error. LoadsBadly limits.now (K.is keeper.old) error
         (K.is keeper.new)) }
 {
@@ -99,6 +104,7 @@ fn lists_of(alloc: Global, records: Records, limits: &Limits) -> Result<Lists, S
     ensures good { IfOk result (λ lists. AreGood limits.now records) }
     ensures opening { IfOk result (λ lists. IsOpening limits.now records lists.opening) }
     ensures lists { IfOk result AreLists }
+    ensures valid { IfOk result (λ lists. Valid (opened_over None lists.opening)) }
     ensures bad { IfErr result (AreBad limits.now records) }
 {
     match records_fault(alloc, &records, limits) {
@@ -119,14 +125,28 @@ fn lists_of_good(alloc: Global, records: Records, limits: &Limits) -> Result<Lis
     requires queued { limits.now.queued < 2 ^ 32 }
     ensures opening { IfOk result (λ lists. IsOpening limits.now records lists.opening) }
     ensures lists { IfOk result AreLists }
+    ensures valid { IfOk result (λ lists. Valid (opened_over None lists.opening)) }
 {
     let opening = opening::opening_loaded(alloc, records, limits)?;
-    let documents = opening::documents(alloc, opening.documents.as_slice(), limits)?;
-    let rights = opening::rights(alloc, opening.documents.as_slice())?;
-    let applications = opening::applications(alloc, opening.applications.as_slice())?;
+    good_records_keep_good_entries();
+    lists_of_opening(alloc, opening)
+}
+
+/// The lists of a valid opening state, in which no number was made but those
+/// of its documents, and whose entries have their rows in order.
+pub(crate) fn lists_of_opening(alloc: Global, opening: OpeningState) -> Result<Lists, WantOfMemory>
+    requires valid { Valid (opened_over None opening) }
+    requires made { opening.made ≡ map (λ d. id_of d.kept.number) opening.documents }
+    requires rows { list_all (λ e. are_rows e.rows) opening.entries ≡ true }
+    ensures opening { IfOk result (λ lists. lists.opening ≡ opening) }
+    ensures lists { IfOk result AreLists }
+{
+    let items = opening.documents.as_slice();
+    let documents = opening_lists::documents(alloc, items, &opening.limits)?;
+    let rights = opening_lists::rights(alloc, items)?;
+    let applications = opening_lists::applications(alloc, opening.applications.as_slice())?;
     let entries = opening.entries.replica(alloc)?;
     valid_entries_are_held();
-    good_records_keep_good_entries();
     let tables = Tables::with_entries(alloc, entries);
     Ok(Lists {
         opening,
