@@ -1,0 +1,5 @@
+mod DrawnAlike
+mod OneNumbers
+pub mod OneEntry
+pub mod FaultLaws
+pub mod FaultlessHistories

@@ -1,0 +1,2 @@
+pub mod OneGiven
+pub mod Faulted
