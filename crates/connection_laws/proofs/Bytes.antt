@@ -1,0 +1,64 @@
+-- Two connections of one application that have one trace and read the same are answered by the same bytes.
+use Rattle.std.proofs.Common.{◌≡◌, ℕ, List, [], ◌∷◌, ◌++◌, map, length, sym, ◌∙◌, subst}
+use Rattle.session.specs.declared.act.Act.{Act}
+use Rattle.session.specs.declared.act.Client.{Client}
+use Rattle.session.specs.declared.served.Stop.{Stop}
+use Rattle.session.specs.Answers.{Answers, Outcome, kept, told_as}
+use Rattle.session.specs.Connections.{Whole, between}
+use Rattle.session.specs.Cuts.{first_phase}
+use Rattle.session.proofs.AnswersAsked.{say_alike}
+use Rattle.session.proofs.ItemsAreOne.{are_one}
+use Rattle.connection_laws.specs.OwnPlaces.{replies_to}
+use Rattle.connection_laws.specs.Served.{BytesAreOfTheTrace, HaveOneTrace, Service, refusals_in, replied, replies_seen}
+use Rattle.connection_laws.proofs.Replies.{given-replies}
+use Rattle.connection_laws.proofs.Told.{between-replied, told-same}
+
+-- of two lists that join to one, whose fronts are as long
+backs : {X : Type 0} (fs bs xs ys : List X) → length fs ≡ length bs → fs ++ xs ≡ bs ++ ys → xs ≡ ys
+backs [] [] xs ys n e = e
+backs [] (b ∷ bs) xs ys n e = absurd (cc)
+backs (a ∷ fs) [] xs ys n e = absurd (cc)
+backs (a ∷ fs) (b ∷ bs) xs ys n e =
+    let shorter : length fs ≡ length bs = cc in
+    let tails : fs ++ xs ≡ bs ++ ys = cc in
+    backs fs bs xs ys shorter tails
+
+module _ (app : List ℕ) (c : Client) (x y : Service c) (read left rest : List ℕ) (what why : Stop) (i : Whole c read left what x.before x.after) (j : Whole c read rest why y.before y.after) where
+  -- the items of both ask the same
+  pub acts-are : j.all.acts ≡ i.all.acts
+  acts-are = (are_one c (first_phase c.kind) read j.all.items i.all.items j.all.acts i.all.acts rest left why what j.cut i.cut).1
+
+  module _ (one : HaveOneTrace app c x y) where
+    -- the machine replies the same to both seats
+    same_seen : replies_seen app y.after.seated ≡ replies_seen app x.after.seated
+    same_seen = λ k. replies_to (seat_after k) (one.trace k)
+      where
+        seat_after : y.after.seated.seat ≡ x.after.seated.seat
+        seat_after = j.asked.grows.desk.moved.seat ∙ (one.seat ∙ sym i.asked.grows.desk.moved.seat)
+
+    abbrev first_outcomes : List Outcome
+    first_outcomes = between i.asked.entered i.all.outcomes i.asked.leaving
+
+    abbrev second_outcomes : List Outcome
+    second_outcomes = between j.asked.entered j.all.outcomes j.asked.leaving
+
+    same_given : replied (kept second_outcomes) ≡ replied (kept first_outcomes)
+    same_given =
+        backs (replies_seen app y.before.seated) (replies_seen app x.before.seated) (replied (kept second_outcomes)) (replied (kept first_outcomes)) one.places
+        (sym (given-replies app c y second_outcomes one.second j.asked.grows.desk) ∙ (same_seen ∙ given-replies app c x first_outcomes one.first i.asked.grows.desk))
+
+    -- and behind Enter
+    behind_enter : replied (kept j.all.outcomes) ++ j.asked.leaving.reply ∷ [] ≡ replied (kept i.all.outcomes) ++ i.asked.leaving.reply ∷ []
+    behind_enter =
+        let whole : j.asked.entered.reply ∷ (replied (kept j.all.outcomes) ++ j.asked.leaving.reply ∷ []) ≡ i.asked.entered.reply ∷ (replied (kept i.all.outcomes) ++ i.asked.leaving.reply ∷ []) =
+        sym (between-replied j.asked.entered j.asked.leaving j.all.outcomes) ∙ (same_given ∙ between-replied i.asked.entered i.asked.leaving i.all.outcomes) in
+        cc
+
+    pub pieces-are : refusals_in j.all.outcomes ≡ refusals_in i.all.outcomes → j.all.pieces ≡ i.all.pieces
+    pieces-are refused =
+        let told : map told_as j.all.outcomes ≡ map told_as i.all.outcomes = told-same j.all.outcomes i.all.outcomes (j.asked.leaving.reply ∷ []) (i.asked.leaving.reply ∷ []) refused behind_enter in
+        let answers : Answers c 0 i.all.acts j.all.outcomes j.all.pieces j.all.last = subst (λ (acts : List Act). Answers c 0 acts j.all.outcomes j.all.pieces j.all.last) acts-are j.all.answers in
+        (say_alike c 0 j.all.last i.all.last i.all.acts j.all.outcomes i.all.outcomes j.all.pieces i.all.pieces told answers i.all.answers).0
+
+pub bytes-are : BytesAreOfTheTrace
+bytes-are app c x y read left rest what why i j one refused = pieces-are app c x y read left rest what why i j one refused

@@ -1,0 +1,10 @@
+mod Places
+mod MadeByIt
+mod Fronts
+mod Told
+mod OneEnding
+pub mod Replies
+pub mod Bytes
+pub mod WholeStreams
+pub mod RepliesSoFar
+pub mod BytesSoFar

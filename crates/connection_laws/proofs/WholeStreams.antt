@@ -1,0 +1,46 @@
+-- Two connections of one application that have one trace, and were served one whole stream, are written the same.
+use Rattle.std.proofs.Common.{◌≡◌, ℕ, ◌<◌, List, length, sym, ap, ◌∙◌, arith}
+use Rattle.portal_base.specs.Outside.{last_count, onto}
+use Rattle.portal_model.specs.Seated.{rises_by}
+use Rattle.session.specs.declared.act.Act.{Act}
+use Rattle.session.specs.declared.act.Client.{Client}
+use Rattle.session.specs.declared.served.Stop.{Stop}
+use Rattle.session.specs.Answers.{denied}
+use Rattle.session.specs.Asked.{requests_of}
+use Rattle.session.specs.Connections.{Whole, between}
+use Rattle.session.specs.Cuts.{first_phase}
+use Rattle.session.specs.Laws.{StandsStill}
+use Rattle.session.specs.Ledger.{World}
+use Rattle.session.proofs.AnswersAsked.{answer_asked}
+use Rattle.session.proofs.ItemsAreOne.{are_one}
+use Rattle.connection_laws.specs.Served.{ConnectionsAreIsolated, refusals_in}
+use Rattle.connection_laws.proofs.Bytes.{pieces-are}
+use Rattle.connection_laws.proofs.OneEnding.{ending_of, ends-as-stream}
+use Rattle.connection_laws.proofs.Told.{as-many, between-denied, none-refused}
+
+-- where the count of refusals stands still, no item's request is refused
+stands : (old new more : ℕ) → new ≡ rises_by old more → new ≡ old → old < last_count → more ≡ 0
+stands old new more e k l = omega arith
+
+none_denied : (c : Client) (read left : List ℕ) (what : Stop) (v w : World) (i : Whole c read left what v w) → StandsStill v.seated.refusals w.seated.refusals → denied i.all.outcomes ≡ 0
+none_denied c read left what v w i k =
+    sym (between-denied i.asked.entered i.asked.leaving i.all.outcomes)
+    ∙ stands v.seated.refusals w.seated.refusals (denied (between i.asked.entered i.all.outcomes i.asked.leaving)) i.asked.grows.desk.refusals k.0 k.1
+
+outcomes_many : (c : Client) (read left : List ℕ) (what : Stop) (v w : World) (i : Whole c read left what v w) → length i.all.outcomes ≡ length (requests_of i.all.acts)
+outcomes_many c read left what v w i =
+    as-many (requests_of i.all.acts) i.all.outcomes (answer_asked.items c 0 i.all.last i.all.acts i.all.outcomes i.all.pieces i.all.answers)
+
+pub connections-are : ConnectionsAreIsolated
+connections-are app c x y stream one k l =
+    let i = ends-as-stream c x stream k in
+    let j = ends-as-stream c y stream l in
+    let cuts = are_one c (first_phase c.kind) stream j.whole.all.items i.whole.all.items j.whole.all.acts i.whole.all.acts j.left i.left j.what i.what j.whole.cut i.whole.cut in
+    let same_end : ending_of stream j.left j.what ≡ ending_of stream i.left i.what = λ n. ending_of stream (cuts.2 n) (cuts.3 n) in
+    let many : length j.whole.all.outcomes ≡ length i.whole.all.outcomes =
+    outcomes_many c stream j.left j.what y.before y.after j.whole
+    ∙ (ap (λ (acts : List Act). length (requests_of acts)) cuts.1 ∙ sym (outcomes_many c stream i.left i.what x.before x.after i.whole)) in
+    let refused : refusals_in j.whole.all.outcomes ≡ refusals_in i.whole.all.outcomes =
+    none-refused j.whole.all.outcomes i.whole.all.outcomes (none_denied c stream j.left j.what y.before y.after j.whole l.unrefused) (none_denied c stream i.left i.what x.before x.after i.whole k.unrefused) many in
+    let pieces : j.whole.all.pieces ≡ i.whole.all.pieces = pieces-are app c x y stream i.left j.left i.what j.what i.whole j.whole one refused in
+    (j.ending ∙ (same_end ∙ sym i.ending), (i.whole.all.pieces, i.whole.asked.grows.told, j.whole.asked.grows.told ∙ ap (onto y.before.told) pieces))

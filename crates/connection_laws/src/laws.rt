@@ -1,0 +1,48 @@
+//! The laws. Each function does nothing; its contract is the law.
+
+ghost use Rattle.connection_laws.specs.Served.{
+  BytesAreOfTheTrace,
+  ConnectionsAreIsolated,
+  RepliesAreOfTheTrace,
+};
+ghost use Rattle.connection_laws.specs.SoFar.{BytesSoFar, ItemsAreAskedFirst, RepliesSoFar};
+
+/// What the own machine of an application replies to a seat over its trace grows,
+/// while a connection of that seat is served, by just the replies that its client
+/// was given.
+pub fn replies_are_of_the_trace()
+    ensures { RepliesAreOfTheTrace }
+{}
+
+/// What answers the items of a connection of an application is a function of its
+/// settings, of what was read, of the application's trace, and of which requests
+/// were refused, and how.
+pub fn bytes_are_of_the_trace()
+    ensures { BytesAreOfTheTrace }
+{}
+
+/// Two connections of an application with one trace that are served one whole
+/// stream, and of which no request is refused, end alike and are written the same
+/// bytes.
+pub fn connections_are_isolated()
+    ensures { ConnectionsAreIsolated }
+{}
+
+/// Two connections of an application whose traces begin alike are given the same
+/// replies so far, however the traces go on.
+pub fn replies_so_far_are_of_the_trace_so_far()
+    ensures { RepliesSoFar }
+{}
+
+/// However a connection ended, what its items asked was asked first, and its answers
+/// were written first.
+pub fn items_are_asked_first()
+    ensures { ItemsAreAskedFirst }
+{}
+
+/// Two connections of an application whose traces begin alike, and that ask the same
+/// first, are answered by the same bytes so far, also where the one is cut off by a
+/// write that failed or by want of memory.
+pub fn bytes_so_far_are_of_the_trace_so_far()
+    ensures { BytesSoFar }
+{}
