@@ -166,9 +166,8 @@ pub feeds_let : (r : Fed) (s : Standing) (v : World) (piece : List ℕ) (t : Sta
 feeds_let fed.More s v piece t w h = takes_let stop.More s v piece t w h.0
 feeds_let (fed.Over met) s v piece t w h = over_lets met s v piece t w h.0
 feeds_let fed.WriteFault s v piece t w h = broke_lets s.client s.stage v w (s.rest ++ piece) h.0
-feeds_let fed.Memory s v piece t w (inl h, keeps, room) = none_lets v w h.0
-feeds_let fed.Memory s v piece t w (inr (inl h, holds), keeps, room) = began_lets s.client s.stage v w (s.rest ++ piece) h
-feeds_let fed.Memory s v piece t w (inr (inr h, holds), keeps, room) = broke_lets s.client s.stage v w (s.rest ++ piece) h.0
+feeds_let fed.Memory s v piece t w (inl h, keeps, room, holds) = began_lets s.client s.stage v w (s.rest ++ piece) h
+feeds_let fed.Memory s v piece t w (inr h, keeps, room, holds) = broke_lets s.client s.stage v w (s.rest ++ piece) h.0
 
 -- ---- the open connection, by the seat's own entries
 

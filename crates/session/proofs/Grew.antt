@@ -5,18 +5,17 @@ use Rattle.std.proofs.lemmas.List.Sums.{sum_by-append}
 use Rattle.portal_base.specs.Outside.{onto, HasRisen}
 use Rattle.portal_model.specs.declared.entry.Entry.{Entry}
 use Rattle.portal_model.specs.declared.reply.Refused.{Refused}
-use Rattle.portal_model.specs.declared.reply.Refused.TheVariants as refused
 use Rattle.portal_model.specs.declared.reply.Reply.{Reply}
 use Rattle.portal_model.specs.declared.request.Request.{Request}
 use Rattle.portal_model.specs.Alike.{Alike}
 use Rattle.portal_model.specs.History.{cost, cost_of, run}
-use Rattle.portal_model.specs.Seated.{Asks, Exchange, HasCause, Moved, Seated, exchange, rises_by}
+use Rattle.portal_model.specs.Seated.{Asks, Exchange, Moved, Seated, exchange, rises_by}
 use Rattle.portal_model.specs.State.{State}
 use Rattle.portal_model.specs.Step.{reply_at}
 use Rattle.portal_model.proofs.SeatLaws.{begins-itself, begins-through}
 use Rattle.session.specs.Answers.{Outcome, Made, Denied, kept, denied}
 use Rattle.session.specs.Laws.{ToldAlike}
-use Rattle.session.specs.Ledger.{AreAlike, AreCaused, Grew, Grows, IsPassed, World, world}
+use Rattle.session.specs.Ledger.{AreAlike, AreCaused, Grew, Grows, World, world}
 
 -- ---- what is told, and counts
 
@@ -92,22 +91,23 @@ moved_on u v w a b = record {
   begins = begins-through w.seen v.seen u.seen b.begins a.begins;
 }
 
--- what passed the limit passes it in a longer history
-passed_later : (v w : Seated) (request : Request) (why : Refused) → Moved v w → IsPassed v request why → IsPassed w request why
-passed_later v w request refused.Memory m h = tt
-passed_later v w request (refused.Full now limit) m h =
+-- what was caused on the way was caused on a longer way
+caused_within : (os : List Outcome) (u v w x : Seated) → Moved u v → Moved w x → AreCaused v w os → AreCaused u x os
+caused_within [] u v w x m n h = tt
+caused_within (Made y ∷ os) u v w x m n h = caused_within os u v w x m n h
+caused_within (Denied request why ∷ os) u v w x m n ((d, before, after, cause), more) =
+    ((d, moved_on u v d m before, moved_on d w x after n, cause), caused_within os u v w x m n more)
+
+caused-append : (os us : List Outcome) (v w : Seated) → AreCaused v w os → AreCaused v w us → AreCaused v w (os ++ us)
+caused-append [] us v w a b = b
+caused-append (Made x ∷ os) us v w a b = caused-append os us v w a b
+caused-append (Denied request why ∷ os) us v w a b = (a.0, caused-append os us v w a.1 b)
+
+-- what is seen later costs no less
+pub costs_no_less : (v w : Seated) → Moved v w → cost v.seen ≤ cost w.seen
+costs_no_less v w m =
     let longer : cost w.seen ≡ cost v.seen + cost m.begins.0 = ap cost m.begins.1 ∙ sum_by-append (λ (e : Entry). cost_of e.request) v.seen m.begins.0 in
-    (h.0 ∙ sym (ap (λ z. z.limits.history) m.opening), omega (arith, longer, h.1))
-
-caused_later : (os : List Outcome) (v w : Seated) → Moved v w → AreCaused v os → AreCaused w os
-caused_later [] v w m h = tt
-caused_later (Made x ∷ os) v w m h = caused_later os v w m h
-caused_later (Denied request why ∷ os) v w m h = (passed_later v w request why m h.0, caused_later os v w m h.1)
-
-caused-append : (os us : List Outcome) (w : Seated) → AreCaused w os → AreCaused w us → AreCaused w (os ++ us)
-caused-append [] us w a b = b
-caused-append (Made x ∷ os) us w a b = caused-append os us w a b
-caused-append (Denied request why ∷ os) us w a b = (a.0, caused-append os us w a.1 b)
+    omega arith
 
 pub grew_none : (v : Seated) → Grew v [] v
 grew_none v = record {
@@ -127,7 +127,7 @@ grew_on u v w os us a b = record {
   alike = subst (AreAlike u.opening.told (a.steps ++ b.steps)) (sym (kept-append os us))
       (alike-append u.opening.told a.steps (kept os) b.steps (kept us) a.alike (subst (λ (s : State). AreAlike s.told b.steps (kept us)) a.moved.opening b.alike));
   refusals = b.refusals ∙ (ap (λ (z : ℕ). rises_by z (denied us)) a.refusals ∙ (rises_rises u.refusals (denied os) (denied us) ∙ ap (rises_by u.refusals) (sym (denied-append os us))));
-  caused = caused-append os us w (caused_later os v w b.moved a.caused) b.caused;
+  caused = caused-append os us u w (caused_within os u u v w (moved_none u) b.moved a.caused) (caused_within us u v w w a.moved (moved_none w) b.caused);
 }
 
 -- an ask that is answered is one entry
@@ -146,10 +146,6 @@ asked_ok v w request reply a = (
   },
 )
 
-pub passes : (w : Seated) (request : Request) (why : Refused) → HasCause w request why → IsPassed w request why
-passes w request refused.Memory h = tt
-passes w request (refused.Full now limit) h = (h.1, omega (arith, h.0, h.2))
-
 -- an ask that is refused is none
 pub asked_err : (v w : Seated) (request : Request) (why : Refused) → Asks v request (Err why) w → Grew v (Denied request why ∷ []) w
 asked_err v w request why a = record {
@@ -158,7 +154,7 @@ asked_err v w request why a = record {
   mine = a.answered.mine ∙ sym (append-nil v.mine);
   alike = tt;
   refusals = a.answered.refusals;
-  caused = (passes w request why a.answered.cause, tt);
+  caused = ((w, a.moved, moved_none w, a.answered.cause), tt);
 }
 
 -- ---- the desk and the sink

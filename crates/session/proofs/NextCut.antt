@@ -49,7 +49,7 @@ line_within (x ∷ xs) n h = elim (line_cases (starts_with nat_eq (x ∷ xs) cr_
 ]
 
 -- whether CR LF stands at the front is told by two bytes
-starts_is : (b c : List ℕ) → take 2 b ≡ take 2 c → starts_with nat_eq b cr_lf ≡ starts_with nat_eq c cr_lf
+pub starts_is : (b c : List ℕ) → take 2 b ≡ take 2 c → starts_with nat_eq b cr_lf ≡ starts_with nat_eq c cr_lf
 starts_is b c same = ap (λ (z : List ℕ). pointwise nat_eq cr_lf z) same
 
 line_at : (s : Bool) (o : Option ℕ) → s ≡ true → cond s (Some 2) (option_map suc o) ≡ Some 2
@@ -203,6 +203,13 @@ pub whole_more : (p : Phase) (b more : List ℕ) (n : ℕ) → Cuts p b (whole_i
 whole_more p b more n h =
     let w = whole_within p b n h in
     whole_is p b (b ++ more) n h (omega (arith, w.1, length-append b more)) (sym (take-append-le n b more w.1))
+
+-- nothing is too few
+pub nothing_cut : (p : Phase) → Cuts p [] (no_item stop.More)
+nothing_cut due.ZeroByte = refl
+nothing_cut (due.Handshake a) = refl
+nothing_cut due.Messages = (split.More, inl (omega arith), refl)
+nothing_cut due.Frames = refl
 
 -- ---- what the readers of items want
 

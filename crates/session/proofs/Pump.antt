@@ -17,7 +17,6 @@ use Rattle.session.specs.Ledger.{Began, Broke, BrokeUnsaid, Did, World}
 use Rattle.session.specs.Pumps.{CameLast, Kept, PumpsInto, PumpsOver, longest_piece}
 use Rattle.session.specs.Sessions.{Feeds, FeedsNot, FeedsOpen, FeedsOver, HasRoom, TakesUpTo}
 use Rattle.session.specs.Standings.{Standing, first_stage, fresh, longest}
-use Rattle.session.proofs.SessionCalls.{began_none}
 use Rattle.session.proofs.DidItems.{began_on, broke_on, did_none, did_on, unsaid_on}
 use Rattle.session.proofs.Grew.{risen_later}
 
@@ -91,10 +90,9 @@ module _ (c : Client) (read piece : List ℕ) (v m w : World) (s t : Standing) (
   began_here : Began s.client s.stage m (s.rest ++ piece) w → Began c (first_stage c) v (read ++ piece) w
   began_here b = subst (λ (z : List ℕ). Began c (first_stage c) v z w) (sym whole_bytes) (began_on c (first_stage c) s.stage v m w k.taken (s.rest ++ piece) k.did (subst (λ (z : Client). Began z s.stage m (s.rest ++ piece) w) is b))
 
-  not_here : FeedsNot s m piece t w → Began c (first_stage c) v (read ++ piece) w ⊎ BrokeUnsaid c (first_stage c) v (read ++ piece) w
-  not_here (inl same) = inl (began_here (subst (λ (z : World). Began s.client s.stage m (s.rest ++ piece) z) (sym same.0) (began_none s.client s.stage m (s.rest ++ piece))))
-  not_here (inr (inl b, holds)) = inl (began_here b)
-  not_here (inr (inr b, holds)) = inr (unsaid_here b)
+  not_here : FeedsNot s m piece w → Began c (first_stage c) v (read ++ piece) w ⊎ BrokeUnsaid c (first_stage c) v (read ++ piece) w
+  not_here (inl b) = inl (began_here b)
+  not_here (inr b) = inr (unsaid_here b)
 
   -- ahead of the piece
   pub came_last : length piece ≤ longest_piece → CameLast c (read ++ piece)
@@ -104,7 +102,7 @@ module _ (c : Client) (read piece : List ℕ) (v m w : World) (s t : Standing) (
   over_on few fed.More ne h = absurd (ne refl)
   over_on few (fed.Over ending) ne h = subst (λ (o : Fed). PumpsOver c o (read ++ piece) v t w) (sym h.1.0) (over_into few ending h.0)
   over_on few fed.WriteFault ne h = subst (λ (o : Fed). PumpsOver c o (read ++ piece) v t w) (sym h.2.0) (broke_here h.0, risen_later v.faults m.faults w.faults k.did.grows.faults h.1, room_here h.3)
-  over_on few fed.Memory ne (how, keeps, fits) = subst (λ (o : Fed). PumpsOver c o (read ++ piece) v t w) (sym keeps.0) (not_here how, room_here fits)
+  over_on few fed.Memory ne (how, keeps, fits, holds) = subst (λ (o : Fed). PumpsOver c o (read ++ piece) v t w) (sym keeps.0) (not_here how, room_here fits)
 
   -- the client of the session goes on
   pub client_on : (r : Fed) → FeedsOpen s m piece r t w → t.client ≡ c

@@ -22,11 +22,11 @@ use Rattle.session.specs.declared.served.Served.{Served}
 use Rattle.session.specs.declared.served.Served.TheVariants as served
 use Rattle.session.specs.Answers.{AreOf, Denied, IsOf, Made, Outcome, kept}
 use Rattle.session.specs.Asked.{asked_by, requests_of}
-use Rattle.session.specs.Laws.{AskedAlone, FeedsCostLittle, IsOwn, NoneIsFull, RoomIsEnough}
+use Rattle.session.specs.Laws.{AskedAlone, FeedsCostLittle, IsOwn, NoneIsFull, RoomIsEnough, held_on}
 use Rattle.session.specs.Ledger.{AreCaused, Began, Broke, Did, Grew, World}
 use Rattle.session.specs.Sessions.{FeedsOpen, FeedsOver, TakesUpTo}
 use Rattle.session.specs.Standings.{Standing}
-use Rattle.session.proofs.Grew.{alike-entries, grew_none, grew_on}
+use Rattle.session.proofs.Grew.{alike-entries, costs_no_less, grew_none, grew_on}
 use Rattle.session.proofs.AnswersAsked.{asked_go, of-append}
 use Rattle.session.proofs.ConnectionStaysOpen.{entries_of}
 use Rattle.session.proofs.ItemsCostLittle.{costs, costs-append, item_cost, items_cost}
@@ -85,31 +85,38 @@ new_cost v w os g a b alone =
 
 -- ---- the law of room
 
-none_full : (os : List Outcome) (w : Seated) → AreCaused w os → cost w.seen + denied_costs os ≤ w.opening.limits.history → NoneIsFull os
-none_full [] w h room = tt
-none_full (Made x ∷ os) w h room = none_full os w h room
-none_full (Denied request refused.Memory ∷ os) w h room = none_full os w h.1 (omega arith)
-none_full (Denied request (refused.Full now limit) ∷ os) w h room = let l = h.0.0 in let k = h.0.1 in absurd (omega arith)
+none_full : (os : List Outcome) (v w : Seated) → AreCaused v w os → cost w.seen + denied_costs os ≤ w.opening.limits.history → NoneIsFull os
+none_full [] v w h room = tt
+none_full (Made x ∷ os) v w h room = none_full os v w h room
+none_full (Denied request refused.Memory ∷ os) v w h room = none_full os v w h.1 (omega arith)
+none_full (Denied request (refused.Full now limit) ∷ os) v w ((d, before, after, cause), more) room =
+    let less = costs_no_less d w after in
+    let same = ap (λ z. z.limits.history) after.opening in
+    let is = cause.0 in
+    let at = cause.1 in
+    let past = cause.2 in
+    absurd (omega arith)
 
 pub room_enough : RoomIsEnough
 room_enough v w requests os are grew a b alone room =
     let parts = cost_parts requests os are in
     let grown = new_cost v w os grew a b alone in
     let limit = ap (λ z. z.limits.history) grew.moved.opening in
-    (none_full os w grew.caused (omega arith), omega arith)
+    (none_full os v w grew.caused (omega arith), omega arith)
 
 -- ---- what a piece asks
 
-abbrev Costs : Seated → Seated → ℕ → Type 0
-Costs v w n = (requests : List Request) × (outcomes : List Outcome) × AreOf requests outcomes × Grew v outcomes w × (costs requests ≤ 8 * n)
+-- these requests cost at most eight times so many bytes, but for so many
+abbrev Costs : Seated → Seated → ℕ → ℕ → Type 0
+Costs v w n k = (requests : List Request) × (outcomes : List Outcome) × AreOf requests outcomes × Grew v outcomes w × (costs requests + 8 * k ≤ 8 * n)
 
-did_costs : (c : Client) (s t : Stage) (v w : World) (b : List ℕ) (n : ℕ) → length b ≤ n → Did c s v b t w → Costs v.seated w.seated n
-did_costs c s t v w b n within d =
+did_costs : (c : Client) (s t : Stage) (v w : World) (b : List ℕ) (n k : ℕ) → length b + k ≤ n → Did c s v b t w → Costs v.seated w.seated n k
+did_costs c s t v w b n k within d =
     let most = items_cost d.items c s.phase d.acts d.each in
     let bytes = ap length d.bytes_are in
     (requests_of d.acts, d.outcomes, asked_go d.acts c s.serial t.serial d.outcomes d.pieces d.answers, d.grows.desk, omega arith)
 
-broke_costs : (c : Client) (s : Stage) (v w : World) (b : List ℕ) → Broke c s v b w → Costs v.seated w.seated (length b)
+broke_costs : (c : Client) (s : Stage) (v w : World) (b : List ℕ) → Broke c s v b w → Costs v.seated w.seated (length b) 0
 broke_costs c s v w b k =
     let h = k.halted in
     let d = k.did in
@@ -127,22 +134,23 @@ broke_costs c s v w b k =
       omega arith,
     )
 
-began_costs : (c : Client) (s : Stage) (v w : World) (b : List ℕ) → Began c s v b w → Costs v.seated w.seated (length b)
+began_costs : (c : Client) (s : Stage) (v w : World) (b : List ℕ) → Began c s v b w → Costs v.seated w.seated (length b) 0
 began_costs c s v w b k =
     let bytes : length b ≡ length (k.front ++ k.after) = ap length k.bytes_are in
-    did_costs c s k.mid v w k.front (length b) (omega (arith, bytes, length-append k.front k.after)) k.did
+    did_costs c s k.mid v w k.front (length b) 0 (omega (arith, bytes, length-append k.front k.after)) k.did
 
-none_costs : (v w : World) (n : ℕ) → w ≡ v → Costs v.seated w.seated n
+none_costs : (v w : World) (n : ℕ) → w ≡ v → Costs v.seated w.seated n 0
 none_costs v w n e = ([], [], refl, subst (λ (z : World). Grew v.seated [] z.seated) (sym e) (grew_none v.seated), omega arith)
 
-takes_costs : (what : Stop) (s : Standing) (v : World) (piece : List ℕ) (t : Standing) (w : World) → TakesUpTo what s v piece t w → Costs v.seated w.seated (length (s.rest ++ piece))
-takes_costs what s v piece t w h =
+-- what is held costs nothing yet
+takes_costs : (what : Stop) (s : Standing) (v : World) (piece : List ℕ) (t : Standing) (w : World) (k : ℕ) → k ≤ length t.rest → TakesUpTo what s v piece t w → Costs v.seated w.seated (length (s.rest ++ piece)) k
+takes_costs what s v piece t w k few h =
     let bytes : length (s.rest ++ piece) ≡ length (h.taken ++ t.rest) = ap length h.bytes in
-    did_costs s.client s.stage t.stage v w h.taken (length (s.rest ++ piece)) (omega (arith, bytes, length-append h.taken t.rest)) h.did
+    did_costs s.client s.stage t.stage v w h.taken (length (s.rest ++ piece)) k (omega (arith, bytes, length-append h.taken t.rest, few)) h.did
 
-over_costs : (met : Served) (s : Standing) (v : World) (piece : List ℕ) (t : Standing) (w : World) → FeedsOver s v piece met t w → Costs v.seated w.seated (length (s.rest ++ piece))
-over_costs (served.Malformed at rule) s v piece t w h = takes_costs _ s v piece t w h.0
-over_costs (served.LineTooLong at) s v piece t w h = takes_costs _ s v piece t w h.0
+over_costs : (met : Served) (s : Standing) (v : World) (piece : List ℕ) (t : Standing) (w : World) → FeedsOver s v piece met t w → Costs v.seated w.seated (length (s.rest ++ piece)) 0
+over_costs (served.Malformed at rule) s v piece t w h = takes_costs _ s v piece t w 0 (omega arith) h.0
+over_costs (served.LineTooLong at) s v piece t w h = takes_costs _ s v piece t w 0 (omega arith) h.0
 over_costs served.Spent s v piece t w h = none_costs v w (length (s.rest ++ piece)) h.1
 over_costs served.Ended s v piece t w h = absurd h
 over_costs (served.Cut n) s v piece t w h = absurd h
@@ -151,13 +159,12 @@ over_costs served.WriteFault s v piece t w h = absurd h
 over_costs (served.Full cost limit) s v piece t w h = absurd h
 over_costs served.Memory s v piece t w h = absurd h
 
-fed_costs : (r : Fed) (s : Standing) (v : World) (piece : List ℕ) (t : Standing) (w : World) → FeedsOpen s v piece r t w → Costs v.seated w.seated (length (s.rest ++ piece))
-fed_costs fed.More s v piece t w h = takes_costs _ s v piece t w h.0
+fed_costs : (r : Fed) (s : Standing) (v : World) (piece : List ℕ) (t : Standing) (w : World) → FeedsOpen s v piece r t w → Costs v.seated w.seated (length (s.rest ++ piece)) (length (held_on r t))
+fed_costs fed.More s v piece t w h = takes_costs _ s v piece t w (length t.rest) (omega arith) h.0
 fed_costs (fed.Over met) s v piece t w h = over_costs met s v piece t w h.0
 fed_costs fed.WriteFault s v piece t w h = broke_costs s.client s.stage v w (s.rest ++ piece) h.0
-fed_costs fed.Memory s v piece t w (inl h, keeps, room) = none_costs v w (length (s.rest ++ piece)) h.0
-fed_costs fed.Memory s v piece t w (inr (inl h, holds), keeps, room) = began_costs s.client s.stage v w (s.rest ++ piece) h
-fed_costs fed.Memory s v piece t w (inr (inr h, holds), keeps, room) = broke_costs s.client s.stage v w (s.rest ++ piece) h.0
+fed_costs fed.Memory s v piece t w (inl h, keeps, room, holds) = began_costs s.client s.stage v w (s.rest ++ piece) h
+fed_costs fed.Memory s v piece t w (inr h, keeps, room, holds) = broke_costs s.client s.stage v w (s.rest ++ piece) h.0
 
 pub feeds_cost : FeedsCostLittle
 feeds_cost s v w piece r t h = fed_costs r s v piece t w h

@@ -1,5 +1,5 @@
 -- What the calls of a session come to.
-use Rattle.std.proofs.Common.{◌≡◌, inl, ℕ, ◌+◌, ◌≤◌, List, [], ◌++◌, length, drop, true, false, Result, Ok, Err, refl, sym, subst, inr}
+use Rattle.std.proofs.Common.{◌≡◌, ℕ, ◌+◌, ◌≤◌, List, [], ◌++◌, length, drop, true, false, Result, Ok, Err, refl, sym, ap, ◌∙◌, subst}
 use Rattle.std.specs.Prelude.{OnErr}
 use Rattle.portal_base.specs.declared.who.Kind.{Kind}
 use Rattle.portal_base.specs.declared.who.Who.{Who}
@@ -12,8 +12,8 @@ use Rattle.session.specs.declared.serve.Run.{Run}
 use Rattle.session.specs.declared.serve.Stage.{Stage}
 use Rattle.session.specs.declared.served.Fed.{Fed}
 use Rattle.session.specs.declared.served.Fed.TheVariants as fed
-use Rattle.session.specs.Ledger.{Began, Stops, World}
-use Rattle.session.specs.Sessions.{Feeds, FeedsOpen, HasRoom, HoldsBoth, IsBound, IsOpen, StaysAt, fed_of}
+use Rattle.session.specs.Ledger.{Began, Stops, World, held_after}
+use Rattle.session.specs.Sessions.{Feeds, FeedsOpen, HasRoom, HoldsStill, IsBound, IsOpen, fed_of}
 use Rattle.session.specs.Standings.{Standing, longest}
 use Rattle.session.proofs.DidItems.{did_none}
 use Rattle.session.proofs.Feed.{feeds_rest, takes}
@@ -50,36 +50,35 @@ left_of v w (Err why) opened h = absurd (h.answered.no_leave refl opened)
 pub began_none : (c : Client) (s : Stage) (v : World) (bytes : List ℕ) → Began c s v bytes v
 began_none c s v bytes = record { front = []; after = bytes; mid = s; bytes_are = refl; did = did_none c s v }
 
--- where there is no memory for the piece
-pub fed_none : (s : Standing) (v : World) (piece : List ℕ) (t : Standing) → t.fed ≡ fed.Memory → t.client ≡ s.client → HasRoom s piece → StaysAt s t → FeedsOpen s v piece fed.Memory t v
-fed_none s v piece t is client room stays = (inl (refl, stays), (is, client), room)
-
 -- a run over the rest and the piece, which was whole
-pub fed_ok : (s : Standing) (v w : World) (piece bytes : List ℕ) (run : Run) (t : Standing)
-    → bytes ≡ s.rest ++ piece → s.before + length s.rest + length piece ≤ longest → Stops s.client (Ok run) s.stage v bytes t.stage w
-    → t.before ≡ s.before + run.len → t.rest ≡ drop run.len bytes → t.client ≡ s.client → t.fed ≡ fed_of t.before run.stop → FeedsOpen s v piece t.fed t w
-fed_ok s v w piece bytes run t is room stops before left client came =
-    let h = takes run.stop s v w piece bytes run.len t is stops.0 stops.1 stops.2 before left client room in
+pub fed_ok : (s : Standing) (v w : World) (piece : List ℕ) (run : Run) (t : Standing)
+    → s.before + length s.rest + length piece ≤ longest → Stops s.client (Ok run) s.stage v (s.rest ++ piece) t.stage w
+    → t.before ≡ s.before + run.len → t.rest ≡ drop run.len (s.rest ++ piece) → t.client ≡ s.client → t.fed ≡ fed_of t.before run.stop → FeedsOpen s v piece t.fed t w
+fed_ok s v w piece run t room stops before left client came =
+    let h = takes run.stop s v w piece run.len t stops.0 stops.1 stops.2 before left client room in
     subst (λ (r : Fed). FeedsOpen s v piece r t w) (sym came) (feeds_rest run.stop s v piece t w h came)
 
 -- the same, halted
-halt_opens : (why : Fed) (s : Standing) (v w : World) (piece : List ℕ) (t : Standing) → Stops s.client (Err why) s.stage v (s.rest ++ piece) t.stage w → t.client ≡ s.client → t.fed ≡ why → HasRoom s piece → HoldsBoth s piece t → FeedsOpen s v piece why t w
+halt_opens : (why : Fed) (s : Standing) (v w : World) (piece : List ℕ) (t : Standing) → Stops s.client (Err why) s.stage v (s.rest ++ piece) t.stage w → t.client ≡ s.client → t.fed ≡ why → HasRoom s piece → HoldsStill s t → FeedsOpen s v piece why t w
 halt_opens fed.WriteFault s v w piece t stops client came room holds = (stops.0, stops.1, (came, client), room, holds)
-halt_opens fed.Memory s v w piece t stops client came room holds = (inr (stops, holds), (came, client), room)
+halt_opens fed.Memory s v w piece t stops client came room holds = (stops, (came, client), room, holds)
 halt_opens fed.More s v w piece t stops client came room holds = absurd stops
 halt_opens (fed.Over ending) s v w piece t stops client came room holds = absurd stops
 
-pub fed_err : (why : Fed) (s : Standing) (v w : World) (piece bytes : List ℕ) (t : Standing) → bytes ≡ s.rest ++ piece → Stops s.client (Err why) s.stage v bytes t.stage w → t.client ≡ s.client → t.fed ≡ why → HasRoom s piece → HoldsBoth s piece t → FeedsOpen s v piece t.fed t w
-fed_err why s v w piece bytes t is stops client came room holds =
-    subst (λ (r : Fed). FeedsOpen s v piece r t w) (sym came)
-    (halt_opens why s v w piece t (subst (λ (b : List ℕ). Stops s.client (Err why) s.stage v b t.stage w) is stops) client came room holds)
+pub fed_err : (why : Fed) (s : Standing) (v w : World) (piece : List ℕ) (t : Standing) → Stops s.client (Err why) s.stage v (s.rest ++ piece) t.stage w → t.client ≡ s.client → t.fed ≡ why → HasRoom s piece → HoldsStill s t → FeedsOpen s v piece t.fed t w
+fed_err why s v w piece t stops client came room holds =
+    subst (λ (r : Fed). FeedsOpen s v piece r t w) (sym came) (halt_opens why s v w piece t stops client came room holds)
 
 pub fed_stays : (s : Standing) (v w : World) (piece : List ℕ) (r : Fed) (t : Standing) → Known v.seated → Known w.seated → FeedsOpen s v piece r t w → IsOpen s.client v.seated → IsOpen s.client w.seated
 fed_stays s v w piece r t a b h is = stays_open s.client v.seated w.seated a b (feeds_let r s v piece t w h) is
 
--- the client and the stage of a session, in place of those within it
-pub stops_of : (c d : Client) (r : Result Run Fed) (s t x : Stage) (v w : World) (bytes : List ℕ) → c ≡ d → s ≡ t → Stops c r s v bytes x w → Stops d r t v bytes x w
-stops_of c d r s t x v w bytes e f h = subst (λ (z : Client). Stops z r t v bytes x w) e (subst (λ (z : Stage). Stops c r z v bytes x w) f h)
+-- the client, the stage and the rest of a session, in place of those within it
+pub taken_of : (c d : Client) (r : Result Run Fed) (s t x : Stage) (v w : World) (held left piece after : List ℕ) → c ≡ d → s ≡ t → held ≡ left → Stops c r s v (held ++ piece) x w → after ≡ held_after r held piece
+    → Stops d r t v (left ++ piece) x w × (after ≡ held_after r left piece)
+taken_of c d r s t x v w held left piece after e f h k is = (
+  subst (λ (z : Client). Stops z r t v (left ++ piece) x w) e (subst (λ (z : Stage). Stops c r z v (left ++ piece) x w) f (subst (λ (z : List ℕ). Stops c r s v (z ++ piece) x w) h k)),
+  is ∙ ap (λ (z : List ℕ). held_after r z piece) h,
+)
 
 pub stays_fed : (s : Standing) (v w : World) (piece : List ℕ) (r : Fed) (t : Standing) → s.fed ≡ fed.More → Known v.seated → Known w.seated → Feeds s.fed s v piece r t w → IsOpen s.client v.seated → IsOpen s.client w.seated
 stays_fed s v w piece r t more a b h is = fed_stays s v w piece r t a b (subst (λ (o : Fed). Feeds o s v piece r t w) more h) is

@@ -1,5 +1,5 @@
 -- What is told of an answer is the frame that is written of it.
-use Rattle.std.proofs.Common.{◌≡◌, ℕ, List, [], Bool, false, cond, Option, IfOk, Result, subst, sym}
+use Rattle.std.proofs.Common.{◌≡◌, ℕ, List, [], Bool, true, false, cond, Option, IfOk, Result, ap, subst, sym}
 use Rattle.std.specs.Prelude.{option_to_list}
 use Rattle.portal_model.specs.declared.reply.NodeAnswer.TheVariants.{Error}
 use Rattle.portal_model.specs.declared.reply.Refused.{Refused}
@@ -13,3 +13,7 @@ refused unique errno is r e h = subst (λ (n : ℕ). IfOk r (λ frame. option_to
 -- and so is the refusal of an operation that has a reply
 pub answered : {E : Type 0} (unique : ℕ) (op : NodeOp) (why : Refused) (r : Result (Option (List ℕ)) E) → has_no_reply op ≡ false → IfOk r (λ frame. option_to_list frame ≡ frames_of unique (Error (refusal_errno why))) → IfOk r (λ frame. option_to_list frame ≡ refusal_frames unique op why)
 answered unique op why r e h = subst (λ (b : Bool). IfOk r (λ frame. option_to_list frame ≡ cond b [] (frames_of unique (Error (refusal_errno why))))) (sym e) h
+
+-- that of an operation that has none isn't told
+pub untold : (unique : ℕ) (op : NodeOp) (why : Refused) → has_no_reply op ≡ true → [] ≡ refusal_frames unique op why
+untold unique op why e = sym (ap (λ (b : Bool). cond b [] (frames_of unique (Error (refusal_errno why)))) e)

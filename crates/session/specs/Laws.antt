@@ -175,13 +175,19 @@ CostLittle = (c : Client) (p : Phase) (items : List (List ℕ)) (acts : List Act
 
 -- ---- room in the history
 
+-- what is held behind a piece, where the session goes on
+abbrev pub held_on : Fed → Standing → List ℕ
+held_on fed.More t = t.rest
+held_on r t = []
+
 -- The items that come with a piece ask these requests, each once, and they cost at most eight times
--- the bytes that were held and the piece.
+-- the bytes that were held and the piece, but for those that are held then.
 abbrev pub FeedsCostLittle : Type 0
 FeedsCostLittle = (s : Standing) (v w : World) (piece : List ℕ) (r : Fed) (t : Standing)
     → Feeds fed.More s v piece r t w
     → (requests : List Request) × (outcomes : List Outcome) × AreOf requests outcomes
-    × Grew v.seated outcomes w.seated × (sum_by cost_of requests ≤ 8 * length (s.rest ++ piece))
+    × Grew v.seated outcomes w.seated
+    × (sum_by cost_of requests + 8 * length (held_on r t) ≤ 8 * length (s.rest ++ piece))
 
 -- what is the seat's own is what it made in the history
 abbrev pub IsOwn : Seated → Type 0

@@ -1,15 +1,13 @@
 -- What is done of a stream at a desk and a sink.
-use Rattle.std.specs.Prelude.{◌≡◌, ◌⊎◌, ℕ, ◌+◌, ◌<◌, ◌≤◌, List, [], ◌∷◌, ◌++◌, length, take, drop}
+use Rattle.std.specs.Prelude.{◌≡◌, ◌⊎◌, ℕ, ◌≤◌, List, [], ◌∷◌, ◌++◌, length, take, drop}
 use Rattle.std.specs.Prelude.{Bool, Option, Some, None, Result, Ok, Err}
 use Rattle.std.specs.List.{flat_map}
 use Rattle.portal_base.specs.Outside.{onto, HasRisen, Short}
 use Rattle.portal_model.specs.declared.reply.Change.{Change}
 use Rattle.portal_model.specs.declared.reply.Refused.{Refused}
-use Rattle.portal_model.specs.declared.reply.Refused.TheVariants as refused
 use Rattle.portal_model.specs.declared.request.Request.{Request}
 use Rattle.portal_model.specs.Alike.{Alike}
-use Rattle.portal_model.specs.History.{cost, cost_of}
-use Rattle.portal_model.specs.Seated.{Exchange, Seated, Moved, rises_by}
+use Rattle.portal_model.specs.Seated.{Exchange, HasCause, Seated, Moved, rises_by}
 use Rattle.session.specs.declared.act.Act.{Act}
 use Rattle.session.specs.declared.act.Client.{Client}
 use Rattle.session.specs.declared.act.ItemError.TheVariants.{Breaks}
@@ -27,17 +25,14 @@ use Rattle.session.specs.Answers.{Outcome, Made, Denied, kept, denied, signals_i
 
 -- ---- the desk and the sink
 
--- where a refusal names the limit, it is the desk's, and what was seen in the end and the request
--- pass it
-abbrev pub IsPassed : Seated → Request → Refused → Type 0
-IsPassed w request refused.Memory = Unit {0}
-IsPassed w request (refused.Full now limit) =
-    (limit ≡ w.opening.limits.history) × (limit < cost w.seen + cost_of request)
+-- the desk came by a state in which the request is refused so
+abbrev pub IsCaused : Seated → Seated → Request → Refused → Type 0
+IsCaused v w request why = (d : Seated) × Moved v d × Moved d w × HasCause d request why
 
-abbrev pub AreCaused : Seated → List Outcome → Type 0
-AreCaused w [] = Unit {0}
-AreCaused w (Made x ∷ os) = AreCaused w os
-AreCaused w (Denied request why ∷ os) = IsPassed w request why × AreCaused w os
+abbrev pub AreCaused : Seated → Seated → List Outcome → Type 0
+AreCaused v w [] = Unit {0}
+AreCaused v w (Made x ∷ os) = AreCaused v w os
+AreCaused v w (Denied request why ∷ os) = IsCaused v w request why × AreCaused v w os
 
 -- Pair by pair, of exchanges of steps and those that were given: the entry is one, and the reply
 -- that was given is alike to the step's.
@@ -50,14 +45,14 @@ AreAlike told (x ∷ xs) [] = ⊥
 
 -- From one state of a desk to another there came these outcomes, and no others: the seat's own
 -- entries grew by steps to which those that were made are alike, and the count of refusals rose by
--- the others.
+-- the others, each of which has its cause.
 pub record Grew (v : Seated) (outcomes : List Outcome) (w : Seated) : Type 0 where
   pub moved : Moved v w
   pub steps : List Exchange
   pub mine : w.mine ≡ v.mine ++ steps
   pub alike : AreAlike v.opening.told steps (kept outcomes)
   pub refusals : w.refusals ≡ rises_by v.refusals (denied outcomes)
-  pub caused : AreCaused w outcomes
+  pub caused : AreCaused v w outcomes
 
 -- a desk, and what a sink tells with its count of faults
 pub record World : Type 0 where
@@ -189,6 +184,12 @@ pub record Began (c : Client) (s : Stage) (v : World) (bytes : List ℕ) (w : Wo
   pub mid : Stage
   pub bytes_are : bytes ≡ front ++ after
   pub did : Did c s v front mid w
+
+-- what is held behind a run over what was held and a piece: what stands behind its items, and the
+-- same as before where it halted
+abbrev pub held_after : Result Run Fed → List ℕ → List ℕ → List ℕ
+held_after (Ok run) held piece = drop run.len (held ++ piece)
+held_after (Err halt) held piece = held
 
 -- how a run over bytes ended
 abbrev pub Stops : Client → Result Run Fed → Stage → World → List ℕ → Stage → World → Type 0

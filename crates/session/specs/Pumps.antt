@@ -41,7 +41,7 @@ pub record Kept (c : Client) (read : List ℕ) (what : Stop) (v : World) (s : St
 
 -- how many bytes the last piece has, at most
 abbrev pub longest_piece : ℕ
-longest_piece = 4096
+longest_piece = 262144
 
 -- The last of what was read is one piece. Ahead of it stood whole items, and too few bytes of one.
 abbrev pub CameLast : Client → List ℕ → Type 0

@@ -63,13 +63,13 @@ HasRoom s piece = s.before + length s.rest + length piece ≤ longest
 abbrev pub Keeps : Standing → Fed → Standing → Type 0
 Keeps s r t = (t.fed ≡ r) × (t.client ≡ s.client)
 
+-- the same is held as before, and no byte of it or of the piece counts as taken
+abbrev pub HoldsStill : Standing → Standing → Type 0
+HoldsStill s t = (t.before ≡ s.before) × (t.rest ≡ s.rest)
+
 -- the session is where it was, but for what it goes on to answer
 abbrev pub StaysAt : Standing → Standing → Type 0
-StaysAt s t = (t.stage ≡ s.stage) × (t.before ≡ s.before) × (t.rest ≡ s.rest)
-
--- the piece is held behind the rest, and no byte of them counts as taken
-abbrev pub HoldsBoth : Standing → List ℕ → Standing → Type 0
-HoldsBoth s piece t = (t.before ≡ s.before) × (t.rest ≡ s.rest ++ piece)
+StaysAt s t = (t.stage ≡ s.stage) × HoldsStill s t
 
 -- The ends that a piece alone can bring.
 abbrev pub FeedsOver : Standing → World → List ℕ → Served → Standing → World → Type 0
@@ -86,20 +86,20 @@ FeedsOver s v piece served.WriteFault t w = ⊥
 FeedsOver s v piece (served.Full cost limit) t w = ⊥
 FeedsOver s v piece served.Memory t w = ⊥
 
--- there is no memory: to hold the piece, and nothing is done; ahead of an item; or for the answer
+-- there is no memory: ahead of an item, to hold what stands behind the last one, or for the answer
 -- of one
-abbrev pub FeedsNot : Standing → World → List ℕ → Standing → World → Type 0
-FeedsNot s v piece t w = ((w ≡ v) × StaysAt s t)
-    ⊎ ((Began s.client s.stage v (s.rest ++ piece) w
-    ⊎ BrokeUnsaid s.client s.stage v (s.rest ++ piece) w) × HoldsBoth s piece t)
+abbrev pub FeedsNot : Standing → World → List ℕ → World → Type 0
+FeedsNot s v piece w = Began s.client s.stage v (s.rest ++ piece) w
+    ⊎ BrokeUnsaid s.client s.stage v (s.rest ++ piece) w
 
 abbrev pub FeedsOpen : Standing → World → List ℕ → Fed → Standing → World → Type 0
 FeedsOpen s v piece fed.More t w = TakesUpTo stop.More s v piece t w × Keeps s fed.More t
 FeedsOpen s v piece (fed.Over ending) t w =
     FeedsOver s v piece ending t w × Keeps s (fed.Over ending) t
 FeedsOpen s v piece fed.WriteFault t w = Broke s.client s.stage v (s.rest ++ piece) w
-    × HasRisen v.faults w.faults × Keeps s fed.WriteFault t × HasRoom s piece × HoldsBoth s piece t
-FeedsOpen s v piece fed.Memory t w = FeedsNot s v piece t w × Keeps s fed.Memory t × HasRoom s piece
+    × HasRisen v.faults w.faults × Keeps s fed.WriteFault t × HasRoom s piece × HoldsStill s t
+FeedsOpen s v piece fed.Memory t w =
+    FeedsNot s v piece w × Keeps s fed.Memory t × HasRoom s piece × HoldsStill s t
 
 -- the same is answered again, and nothing is done
 abbrev pub Stays : Standing → World → Fed → Fed → Standing → World → Type 0

@@ -1,5 +1,5 @@
 -- What contracts see in a session.
-use Rattle.std.specs.Prelude.{ℕ, ◌^◌, List, []}
+use Rattle.std.specs.Prelude.{◌≡◌, ℕ, ◌+◌, ◌^◌, ◌≤◌, List, [], length}
 use Rattle.portal_base.specs.declared.limits.Settings.{Settings}
 use Rattle.portal_base.specs.declared.who.Kind.{Kind}
 use Rattle.portal_base.specs.declared.who.Who.{Who}
@@ -8,7 +8,8 @@ use Rattle.session.specs.declared.phase.Phase.{Phase}
 use Rattle.session.specs.declared.serve.Stage.{Stage}
 use Rattle.session.specs.declared.served.Fed.{Fed}
 use Rattle.session.specs.declared.served.Fed.TheVariants as fed
-use Rattle.session.specs.Cuts.{first_phase}
+use Rattle.session.specs.declared.served.Stop.TheVariants as stop
+use Rattle.session.specs.Cuts.{Cuts, first_phase, no_item}
 
 -- how many bytes a connection may have
 abbrev pub longest : ℕ
@@ -22,6 +23,12 @@ pub record Standing : Type 0 where
   pub before : ℕ
   pub rest : List ℕ
   pub fed : Fed
+
+-- a session has no more bytes than a connection may have, and while it goes on its rest has too few
+-- bytes for an item
+pub record Stands (phase : Phase) (before : ℕ) (rest : List ℕ) (came : Fed) : Type 0 where
+  pub room : before + length rest ≤ longest
+  pub too_few : came ≡ fed.More → Cuts phase rest (no_item stop.More)
 
 abbrev pub client : Who → Kind → Settings → Client
 client who kind settings = record { who = who; kind = kind; settings = settings }

@@ -1,16 +1,16 @@
 //! Serving one connection over a source and a sink.
 
-ghost use Rattle.std.specs.Prelude.{◌≡◌, false};
+ghost use Rattle.std.specs.Prelude.{◌≡◌, length, false};
 ghost use Rattle.portal_model.specs.Seated.{Known, is_open, state_seen};
 ghost use Rattle.session.specs.Ledger.{world};
 ghost use Rattle.session.specs.Standings.{client, fresh};
-ghost use Rattle.session.specs.Pumps.{spring, Pumps};
+ghost use Rattle.session.specs.Pumps.{longest_piece, spring, Pumps};
 ghost use Rattle.session.specs.Sessions.{IsOpen};
 ghost use Rattle.session.specs.Connections.{Serves, served_by};
 ghost use Rattle.session.specs.Hearing.{IsHeard};
 ghost use Rattle.session.specs.Isolation.{IsIsolated};
 
-use crate::serve::front;
+use crate::parts::front;
 use crate::served::{Fed, Served};
 use crate::session::Session;
 use portal_base::limits::Settings;
@@ -21,7 +21,7 @@ use portal_model::reply::Refused;
 use std::alloc::Global;
 
 /// How many bytes are asked of the source at a time.
-const LONGEST_PIECE: usize = 4096;
+const LONGEST_PIECE: usize = 262_144;
 
 /// Why no more pieces are read.
 #[derive(Clone, Copy, Debug, PartialEq, Eq)]
@@ -34,15 +34,18 @@ pub enum Pumped {
     Over,
 }
 
-/// Feeds the pieces of the source to the session, one after another.
+/// Feeds the pieces of the source to the session, one after another, each as it
+/// came.
 fn pump<D: Desk, S: Source, K: Sink>(
     alloc: Global,
     session: &mut Session,
     desk: &mut D,
     source: &mut S,
     sink: &mut K,
+    buffer: &mut [u8],
 ) -> Pumped
-    requires { session.old ≡ fresh session.old.client }
+    requires fresh { session.old ≡ fresh session.old.client }
+    requires long { length buffer.old ≡ longest_piece }
     ensures pumps { Pumps session.old.client result
         (spring (S.left source.old) (S.faults source.old))
         (spring (S.left source.new) (S.faults source.new))
@@ -52,12 +55,11 @@ fn pump<D: Desk, S: Source, K: Sink>(
         → IsOpen session.old.client (D.seated desk.new) }
     ensures goes { D.goes desk.old desk.new }
 {
-    let mut buffer = [0; LONGEST_PIECE];
     'pieces: loop {
-        match source.read(&mut buffer) {
+        match source.read(buffer) {
             ReadAnswer::End => return Pumped::End,
             ReadAnswer::Failed => return Pumped::Fault,
-            ReadAnswer::Got(len) => match session.feed(alloc, desk, front(&buffer, len), sink) {
+            ReadAnswer::Got(len) => match session.feed(alloc, desk, front(buffer, len), sink) {
                 Fed::More => {}
                 _ => return Pumped::Over,
             },
@@ -100,6 +102,9 @@ pub fn serve_connection<D: Desk, S: Source, K: Sink>(
     ensures goes { D.goes desk.old desk.new }
 {
     desk.known();
+    let Ok(mut buffer) = vec![in alloc; 0; LONGEST_PIECE] else {
+        return Served::Memory;
+    };
     let mut session = match Session::begin(alloc, desk, who, kind, settings) {
         Ok(session) => session,
         Err(refused) => {
@@ -107,7 +112,7 @@ pub fn serve_connection<D: Desk, S: Source, K: Sink>(
             return refused_ending(refused);
         }
     };
-    let pumped = pump(alloc, &mut session, desk, source, sink);
+    let pumped = pump(alloc, &mut session, desk, source, sink, &mut buffer);
     let served = session.end(alloc, desk);
     desk.known();
     match pumped {

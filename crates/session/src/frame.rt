@@ -2,8 +2,7 @@
 
 ghost use Rattle.std.specs.Prelude.{◌≡◌, IfOk, option_to_list};
 ghost use Rattle.session.specs.Frames.{told_of, answer_frames, frames_of, refusal_errno};
-ghost use Rattle.portal_model.specs.declared.request.NodeOp.{NodeOp};
-ghost use Rattle.session.specs.Frames.{has_no_reply, refusal_frames};
+ghost use Rattle.session.specs.Frames.{has_no_reply};
 
 use fuse_reply::reply::write_reply;
 use portal_base::list::ByteList;
@@ -35,20 +34,16 @@ pub fn has_no_reply(op: &NodeOp) -> bool
     matches!(op, NodeOp::Forget { .. } | NodeOp::BatchForget { .. })
 }
 
-/// The frame that tells that the request of this number is no entry of the
-/// history, or `None` where the operation has no reply.
+/// The frame that tells that the request of this number, whose operation has a
+/// reply, is no entry of the history.
 pub fn refusal_frame(
     alloc: Global,
     unique: u64,
-    is_quiet: bool,
     refused: Refused,
 ) -> Result<Option<ByteList>, WantOfMemory>
-    ensures { (op : NodeOp) → has_no_reply op ≡ is_quiet
-        → IfOk result (λ frame. option_to_list frame ≡ refusal_frames unique op refused) }
+    ensures { IfOk result (λ frame. option_to_list frame
+        ≡ frames_of unique (NodeAnswer.Error (refusal_errno refused))) }
 {
-    if is_quiet {
-        return Ok(None);
-    }
     let told = NodeAnswer::Error {
         errno: errno_of(refused),
     };

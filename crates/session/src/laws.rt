@@ -98,7 +98,8 @@ pub fn items_cost_little()
 {}
 
 /// The items that come with a piece ask requests, each once, that cost the
-/// history at most eight times the bytes held and the piece.
+/// history at most eight times the bytes held and the piece, but for those that
+/// are held then.
 pub fn feeds_cost_little()
     ensures { FeedsCostLittle }
 {}

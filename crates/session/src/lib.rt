@@ -11,8 +11,8 @@
 //! was read, asked and written. Over a tree that tells its files, what an
 //! application is replied is a function of its trace.
 //!
-//! **Rooms**, from the bytes inwards: [`phase`] says what is due and cuts the next
-//! item, [`item`] reads it, [`act`] is what it asks, [`frame`] has the frames and
+//! **Rooms**, from the bytes inwards: [`parts`] has parts of bytes, [`phase`] says
+//! what is due and cuts the next item, [`item`] reads it, [`act`] is what it asks, [`frame`] has the frames and
 //! [`speech`] the messages that answer it, and [`serve`] asks and writes.
 //! [`session`] is one connection that is fed piece by piece, [`connection`]
 //! serves one over a source to its end, and [`served`] has the answers of both.
@@ -30,6 +30,7 @@ pub mod connection;
 pub mod frame;
 pub mod item;
 pub mod laws;
+pub mod parts;
 pub mod phase;
 pub mod serve;
 pub mod served;

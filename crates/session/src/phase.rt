@@ -1,8 +1,11 @@
 //! How a stream is cut into items.
 
-ghost use Rattle.std.specs.Prelude.{◌≡◌, ◌+◌, ◌≤◌, length, Option};
+ghost use Rattle.std.specs.Prelude.{◌≡◌, ◌+◌, ◌≤◌, length, take, None, Option};
 ghost use Rattle.session.specs.Cuts.{Cuts, first_phase, zero_byte_cut, line_cut, cut_of, line_len};
+ghost use Rattle.session.specs.Cuts.{no_item};
+ghost use Rattle.session.specs.declared.served.Stop.TheVariants as stop;
 
+use crate::parts::{behind, front};
 use crate::served::Stop;
 use dbus_auth::{Auth, LONGEST_LINE};
 use memchr::memmem;
@@ -41,12 +44,16 @@ pub fn first_phase(kind: Kind) -> Phase
 
 /// The length of the whole item at the front of a stream, in bytes, or what stands
 /// there in its place.
-pub fn next_cut(phase: &Phase, bytes: &[u8]) -> Result<usize, Stop>
+///
+/// Its first `seen` bytes were too few for an item. They aren't searched again.
+pub fn next_cut(phase: &Phase, bytes: &[u8], seen: usize) -> Result<usize, Stop>
+    requires within { seen ≤ length bytes.now }
+    requires too_few { Cuts phase.now (take seen bytes.now) (no_item stop.More) }
     ensures { Cuts phase.now bytes.now result }
 {
     match phase {
         Phase::ZeroByte => cut_zero_byte(bytes),
-        Phase::Handshake(_) => cut_line(bytes),
+        Phase::Handshake(_) => cut_line(bytes, seen),
         Phase::Messages => cut_of(dbus_message::split::split(bytes)),
         Phase::Frames => cut_of(fuse_wire::frame::split(bytes)),
     }
@@ -74,22 +81,28 @@ fn cut_zero_byte(bytes: &[u8]) -> Result<usize, Stop>
     }
 }
 
-fn cut_line(bytes: &[u8]) -> Result<usize, Stop>
+fn cut_line(bytes: &[u8], seen: usize) -> Result<usize, Stop>
+    requires within { seen ≤ length bytes.now }
+    requires too_few { no_item stop.More ≡ line_cut (take seen bytes.now) }
     ensures { result ≡ line_cut bytes.now }
 {
-    match line_len(&bytes[..bytes.len().min(LONGEST_LINE)]) {
+    match line_len(front(bytes, bytes.len().min(LONGEST_LINE)), seen) {
         Some(len) => Ok(len),
         None if bytes.len() < LONGEST_LINE => Err(Stop::More),
         None => Err(Stop::TooLong),
     }
 }
 
-/// The length of the first line, with its CR LF.
-fn line_len(bytes: &[u8]) -> Option<usize>
+/// The length of the first line, with its CR LF. No line ends in the first
+/// `seen` bytes; the last of them may be its CR.
+fn line_len(bytes: &[u8], seen: usize) -> Option<usize>
+    requires within { seen ≤ length bytes.now }
+    requires none { line_len (take seen bytes.now) ≡ None }
     ensures { result ≡ line_len bytes.now }
 {
-    match memmem::find(bytes, &CR_LF) {
-        Some(at) => Some(at + CR_LF.len()),
+    let from = seen.saturating_sub(1);
+    match memmem::find(behind(bytes, from), &CR_LF) {
+        Some(at) => Some(from + at + CR_LF.len()),
         None => None,
     }
 }

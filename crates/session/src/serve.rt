@@ -3,7 +3,7 @@
 //! An error is what the client's piece comes to then: `Fed::WriteFault` or
 //! `Fed::Memory`, and no other.
 
-ghost use Rattle.std.specs.Prelude.{◌≡◌, ℕ, List, ◌≤◌, ◌∷◌, [], ◌++◌, length, map, take, drop};
+ghost use Rattle.std.specs.Prelude.{◌≡◌, ℕ, List, ◌≤◌, ◌∷◌, [], ◌++◌, length, map, take};
 ghost use Rattle.std.specs.Prelude.{IfOk, IfSome, option_to_list, true};
 ghost use Rattle.std.specs.List.{list_all};
 ghost use Rattle.dbus_dispatch.specs.Signals.{signal_of};
@@ -13,12 +13,14 @@ ghost use Rattle.session.specs.declared.act.Client.{Client as AClient};
 ghost use Rattle.session.specs.Asked.{collect_requests, reply_to as message_to, MayAnswer};
 ghost use Rattle.portal_model.specs.Valid.{is_sound_change};
 ghost use Rattle.session.specs.Answers.{last_spoken, spoken};
-ghost use Rattle.session.specs.Cuts.{Cuts, whole_item};
+ghost use Rattle.session.specs.Cuts.{Cuts, no_item, whole_item};
+ghost use Rattle.session.specs.declared.served.Stop.TheVariants as stop;
 ghost use Rattle.session.specs.Ledger.{world, Sends, ActEnds, Collected, ItemEnds, Stops};
 
 use crate::act::{Act, Client, ItemError};
 use crate::frame::{answer_frame, has_no_reply, refusal_frame, told_frame};
 use crate::item::{read_item, reply_to};
+use crate::parts::{behind, front};
 use crate::phase::{Phase, next_cut};
 use crate::served::{Fed, Stop};
 use crate::speech::spoken;
@@ -226,10 +228,8 @@ fn serve_node<D: Desk, K: Sink>(
     let is_quiet = has_no_reply(&request.op);
     match desk.ask(alloc, Request::Node(request)) {
         Ok(reply) => send_frame(serial, answer_frame(alloc, unique, reply.answer), sink),
-        Err(refused) => {
-            let frame = refusal_frame(alloc, unique, is_quiet, refused);
-            send_frame(serial, frame, sink)
-        }
+        Err(_) if is_quiet => Ok(serial),
+        Err(refused) => send_frame(serial, refusal_frame(alloc, unique, refused), sink),
     }
 }
 
@@ -266,22 +266,6 @@ pub fn serve_act<D: Desk, K: Sink>(
     }
 }
 
-/// The bytes from an index on.
-fn behind(bytes: &[u8], at: usize) -> &[u8]
-    requires { at ≤ length bytes.now }
-    ensures { result.now ≡ drop at bytes.now }
-{
-    &bytes[at..]
-}
-
-/// The first `len` bytes.
-pub fn front(bytes: &[u8], len: usize) -> &[u8]
-    requires { len ≤ length bytes.now }
-    ensures { result.now ≡ take len bytes.now }
-{
-    &bytes[..len]
-}
-
 /// Asks and answers one whole item. Where it asks nothing, says why, and all
 /// stays as it was.
 fn serve_item<D: Desk, K: Sink>(
@@ -313,28 +297,37 @@ fn serve_item<D: Desk, K: Sink>(
 
 /// Asks and answers each whole item of the bytes, one after another, up to the
 /// first place where none stands that may be asked.
+///
+/// The first `seen` bytes were too few for an item. They aren't searched again.
 pub fn serve_items<D: Desk, K: Sink>(
     alloc: Global,
     client: &Client,
     stage: &mut Stage,
     bytes: &[u8],
+    seen: usize,
     desk: &mut D,
     sink: &mut K,
 ) -> Result<Run, Fed>
+    requires within { seen ≤ length bytes.now }
+    requires too_few { Cuts stage.old.phase (take seen bytes.now) (no_item stop.More) }
     ensures stops { Stops client.now result stage.old
         (world (D.seated desk.old) (K.told sink.old) (K.faults sink.old)) bytes.now stage.new
         (world (D.seated desk.new) (K.told sink.new) (K.faults sink.new)) }
     ensures goes { D.goes desk.old desk.new }
 {
     let mut len = 0;
+    let mut seen = seen;
     'items: loop {
         let left = behind(bytes, len);
-        let item = match next_cut(&stage.phase, left) {
+        let item = match next_cut(&stage.phase, left, seen) {
             Ok(len) => front(left, len),
             Err(stop) => return Ok(Run { len, stop }),
         };
         match serve_item(alloc, client, stage, item, desk, sink) {
-            Ok(None) => len += item.len(),
+            Ok(None) => {
+                len += item.len();
+                seen = 0;
+            }
             Ok(Some(stop)) => return Ok(Run { len, stop }),
             Err(halt) => return Err(halt),
         }

@@ -1,15 +1,18 @@
 //! A session: one connection, from Enter to Leave.
 
-ghost use Rattle.std.specs.Prelude.{◌≡◌, length, true, false, IfOk, OnOk, OnErr, Ok};
+ghost use Rattle.std.specs.Prelude.{◌≡◌, ◌++◌, [], length, true, false, IfOk, OnOk, OnErr, Ok};
 ghost use Rattle.portal_model.specs.Seated.{Asks, is_open, state_seen};
-ghost use Rattle.session.specs.Ledger.{world};
+ghost use Rattle.session.specs.Cuts.{Cuts, no_item};
+ghost use Rattle.session.specs.Ledger.{Stops, held_after, world};
 ghost use Rattle.session.specs.Sessions.{Opens, Enters, Feeds, Closes, IsBound, IsOpen, fed_of};
 ghost use Rattle.session.specs.Sessions.{ending};
 ghost use Rattle.session.specs.Standings.{client as the_client};
+ghost use Rattle.session.specs.declared.served.Stop.TheVariants as stop;
 
 use crate::act::Client;
+use crate::parts::behind;
 use crate::phase::first_phase;
-use crate::serve::{Stage, serve_items};
+use crate::serve::{Run, Stage, serve_items};
 use crate::served::{Fed, Served, Stop};
 use bytes::BytesMut;
 use portal_base::limits::Settings;
@@ -39,8 +42,7 @@ pub struct Session {
 }
 
 impl Model for Session {
-    ghost use Rattle.std.specs.Prelude.{◌+◌, ◌≤◌, length};
-    ghost use Rattle.session.specs.Standings.{Standing, longest};
+    ghost use Rattle.session.specs.Standings.{Standing, Stands};
 
     ghost Value = { Standing };
 
@@ -52,7 +54,7 @@ impl Model for Session {
       fed = s.fed;
     } };
 
-    ghost invariant = { λ s. s.before + length s.rest.items ≤ longest };
+    ghost invariant = { λ s. Stands s.stage.phase s.before s.rest.items s.fed };
 }
 
 impl Session {
@@ -92,7 +94,7 @@ impl Session {
     }
 
     /// Takes the next piece of the stream, cut anywhere, and asks and answers
-    /// each item that is whole now.
+    /// each item that is whole now. What stands behind the last of them is held.
     ///
     /// After anything but `More` it answers the same again, and takes nothing.
     pub fn feed<D: Desk, K: Sink>(
@@ -120,21 +122,17 @@ impl Session {
             self.fed = Fed::Over(Served::Spent);
             return self.fed;
         }
-        if self.rest.extend_from_slice(piece).is_err() {
-            self.fed = Fed::Memory;
-            return self.fed;
-        }
         desk.known();
-        match serve_items(
+        match take(
             alloc,
             &self.client,
             &mut self.stage,
-            self.rest.as_slice(),
+            &mut self.rest,
+            piece,
             desk,
             sink,
         ) {
             Ok(run) => {
-                self.rest.advance(run.len);
                 self.before += run.len as u64;
                 self.fed = fed_of(self.before, run.stop);
             }
@@ -165,6 +163,92 @@ impl Session {
     {
         leave(alloc, desk);
         ending(self.fed, self.rest.as_slice())
+    }
+}
+
+/// Asks and answers each item that is whole with a piece, and holds what stands
+/// behind the last of them. Where it halts the same is held as before.
+///
+/// What is held has too few bytes for an item.
+fn take<D: Desk, K: Sink>(
+    alloc: Global,
+    client: &Client,
+    stage: &mut Stage,
+    held: &mut BytesMut,
+    piece: &[u8],
+    desk: &mut D,
+    sink: &mut K,
+) -> Result<Run, Fed>
+    requires { Cuts stage.old.phase held.old.items (no_item stop.More) }
+    ensures stops { Stops client.now result stage.old
+        (world (D.seated desk.old) (K.told sink.old) (K.faults sink.old))
+        (held.old.items ++ piece.now) stage.new
+        (world (D.seated desk.new) (K.told sink.new) (K.faults sink.new)) }
+    ensures held { held.new.items ≡ held_after result held.old.items piece.now }
+    ensures goes { D.goes desk.old desk.new }
+{
+    if held.is_empty() {
+        return take_in_place(alloc, client, stage, held, piece, desk, sink);
+    }
+    take_behind(alloc, client, stage, held, piece, desk, sink)
+}
+
+/// The same where nothing is held: the piece is served where it lies.
+fn take_in_place<D: Desk, K: Sink>(
+    alloc: Global,
+    client: &Client,
+    stage: &mut Stage,
+    held: &mut BytesMut,
+    piece: &[u8],
+    desk: &mut D,
+    sink: &mut K,
+) -> Result<Run, Fed>
+    requires { held.old.items ≡ [] }
+    ensures stops { Stops client.now result stage.old
+        (world (D.seated desk.old) (K.told sink.old) (K.faults sink.old))
+        (held.old.items ++ piece.now) stage.new
+        (world (D.seated desk.new) (K.told sink.new) (K.faults sink.new)) }
+    ensures held { held.new.items ≡ held_after result held.old.items piece.now }
+    ensures goes { D.goes desk.old desk.new }
+{
+    let run = serve_items(alloc, client, stage, piece, 0, desk, sink)?;
+    match held.extend_from_slice(behind(piece, run.len)) {
+        Ok(()) => Ok(run),
+        Err(_) => Err(Fed::Memory),
+    }
+}
+
+/// The same where something is held: the piece is put behind it.
+fn take_behind<D: Desk, K: Sink>(
+    alloc: Global,
+    client: &Client,
+    stage: &mut Stage,
+    held: &mut BytesMut,
+    piece: &[u8],
+    desk: &mut D,
+    sink: &mut K,
+) -> Result<Run, Fed>
+    requires { Cuts stage.old.phase held.old.items (no_item stop.More) }
+    ensures stops { Stops client.now result stage.old
+        (world (D.seated desk.old) (K.told sink.old) (K.faults sink.old))
+        (held.old.items ++ piece.now) stage.new
+        (world (D.seated desk.new) (K.told sink.new) (K.faults sink.new)) }
+    ensures held { held.new.items ≡ held_after result held.old.items piece.now }
+    ensures goes { D.goes desk.old desk.new }
+{
+    let seen = held.len();
+    if held.extend_from_slice(piece).is_err() {
+        return Err(Fed::Memory);
+    }
+    match serve_items(alloc, client, stage, held.as_slice(), seen, desk, sink) {
+        Ok(run) => {
+            held.advance(run.len);
+            Ok(run)
+        }
+        Err(halt) => {
+            held.truncate(seen);
+            Err(halt)
+        }
     }
 }
 

@@ -14,10 +14,10 @@ pieces-init g c =
     let v = world (g.D.Desk.seated c.args.desk.now) (g.K.Sink.told c.args.sink.now) (g.K.Sink.faults c.args.sink.now) in
     let who = c.args.session.now.client in
     record {
-      long = refl;
-      so_far = ([], behind_none _, subst (λ (s : Standing). Kept who [] stop.More v s v) (sym c.requires) (kept_none who v));
+      long = c.requires.long;
+      so_far = ([], behind_none _, subst (λ (s : Standing). Kept who [] stop.More v s v) (sym c.requires.fresh) (kept_none who v));
       faults = refl;
-      still = ap (λ (s : Standing). s.fed) c.requires;
+      still = ap (λ (s : Standing). s.fed) c.requires.fresh;
       client_is = refl;
       stays = λ h. h;
       goes = g.met.D.Desk.stands c.args.desk.now;
@@ -88,7 +88,7 @@ returns-in_default g c =
     let piece = c.front.result.now in
     let f = opened s m piece c.feed.result c.feed.new.self w i.still c.feed.ensures.feeds in
     let r = c.in-Got.ensures.reads in
-    let few : length piece ≤ 4096 = omega (arith, ap length c.front.ensures, length-take c.in-Got.len c.read.new.buffer, r.1, i.long) in
+    let few : length piece ≤ 262144 = omega (arith, ap length c.front.ensures, length-take c.in-Got.len c.read.new.buffer, r.1, i.long) in
     let n = c.in-Got.ensures.counts in
     record {
       pumps = (i.so_far.0 ++ piece, left_later i.so_far.0 _ piece _ _ _ i.so_far.1 r.2 c.front.ensures, omega (arith, i.faults, n), client_on who i.so_far.0 piece v m w s c.feed.new.self i.so_far.2 i.client_is c.feed.result f, (over_on who i.so_far.0 piece v m w s c.feed.new.self i.so_far.2 i.client_is few c.feed.result c.in_default.not-More f, came_last who i.so_far.0 piece v m w s c.feed.new.self i.so_far.2 i.client_is few, n ∙ i.faults));

@@ -1,8 +1,9 @@
-use Rattle.std.proofs.Common.{sym, subst}
+use Rattle.std.proofs.Common.{length, inl, refl, sym, ap, subst, arith}
 use Rattle.session.specs.Connections.{Serves}
 use Rattle.session.specs.Ledger.{world}
 use Rattle.session.specs.Pumps.{spring}
 use Rattle.session.specs.Standings.{client}
+use Rattle.portal_model.specs.declared.reply.Refused.TheVariants as refused
 use Rattle.session.specs.declared.served.Served.{Served}
 use Rattle.session.specs.declared.served.Served.TheVariants as served
 use Rattle.session.proofs.ServeConnection.{begun_fresh, serves_closed, serves_faulted, serves_refused, still_open}
@@ -10,13 +11,33 @@ use Rattle.session.proofs.ConnectionEntries.{heard, isolated, serves_connect}
 use Rattle.session.proofs.connection.serve_connection.Goals as goal
 
 pub pump-pumped-requires : goal.pump-pumped-requires
-pump-pumped-requires g c = begun_fresh (client c.args.who.now c.args.kind c.args.settings.now) _ c.in-Ok.ensures.opens.1
+pump-pumped-requires g c = record {
+  fresh = begun_fresh (client c.args.who.now c.args.kind c.args.settings.now) _ c.in-Ok-begin.ensures.opens.1;
+  long = omega (arith, ap length c.deref_mut.ensures.value, c.in-Ok.ensures.len);
+}
 
 pub end-served-requires : goal.end-served-requires
 end-served-requires g c =
     let p = c.pump-pumped.ensures.pumps in
     still_open (client c.args.who.now c.args.kind c.args.settings.now) _ c.pump-pumped.new.session (g.D.Desk.seated c.begin.new.desk) (g.D.Desk.seated c.pump-pumped.new.desk)
-    c.in-Ok.ensures.opens.1 c.in-Ok.ensures.open_now c.pump-pumped.ensures.stays_open p.3
+    c.in-Ok-begin.ensures.opens.1 c.in-Ok-begin.ensures.open_now c.pump-pumped.ensures.stays_open p.3
+
+pub returns-in_default : goal.returns-in_default
+returns-in_default g c =
+    let who = client c.args.who.now c.args.kind c.args.settings.now in
+    let i = spring (g.S.Source.left c.args.source.now) (g.S.Source.faults c.args.source.now) in
+    let o = g.K.Sink.told c.args.sink.now in
+    let f = g.K.Sink.faults c.args.sink.now in
+    let d = g.D.Desk.seated c.args.desk.now in
+    let s = serves_refused who refused.Memory d d i o f (inl (refl, refl)) in
+    record {
+      serves = s;
+      closed_now = c.requires;
+      known = c.known.ensures;
+      heard = heard who d d c.known.ensures c.known.ensures (serves_connect who served.Memory i i (world d o f) (world d o f) s) c.requires;
+      isolated = isolated who d d c.known.ensures c.known.ensures (serves_connect who served.Memory i i (world d o f) (world d o f) s) c.requires;
+      goes = g.met.D.Desk.stands c.args.desk.now;
+    }
 
 pub returns-in-Err : goal.returns-in-Err
 returns-in-Err g c =
@@ -49,19 +70,19 @@ returns-in-Fault g c =
     let d1 = g.D.Desk.seated c.begin.new.desk in
     let d2 = g.D.Desk.seated c.pump-pumped.new.desk in
     let d3 = g.D.Desk.seated c.end-served.new.desk in
-    let a = c.in-Ok.ensures.opens in
-    let s = serves_faulted who c.in-Ok.session c.pump-pumped.new.session d0 d1 d2 d3 i j o n f k c.end-served.result a.0 a.1 c.end-served.ensures.closes c.in-Fault.ensures.pumps in
+    let a = c.in-Ok-begin.ensures.opens in
+    let s = serves_faulted who c.in-Ok-begin.session c.pump-pumped.new.session d0 d1 d2 d3 i j o n f k c.end-served.result a.0 a.1 c.end-served.ensures.closes c.in-Fault.ensures.pumps in
     record {
       serves = s;
       closed_now = c.end-served.ensures.closed_now;
       known = c.known-2.ensures;
       heard = heard who d0 d3 c.known.ensures c.known-2.ensures (serves_connect who served.ReadFault i j (world d0 o f) (world d3 n k) s) c.requires;
       isolated = isolated who d0 d3 c.known.ensures c.known-2.ensures (serves_connect who served.ReadFault i j (world d0 o f) (world d3 n k) s) c.requires;
-      goes = g.met.D.Desk.follows _ _ _ c.in-Ok.ensures.goes (g.met.D.Desk.follows _ _ _ c.pump-pumped.ensures.goes c.end-served.ensures.goes);
+      goes = g.met.D.Desk.follows _ _ _ c.in-Ok-begin.ensures.goes (g.met.D.Desk.follows _ _ _ c.pump-pumped.ensures.goes c.end-served.ensures.goes);
     }
 
-pub returns-in_default : goal.returns-in_default
-returns-in_default g c =
+pub returns : goal.returns
+returns g c =
     let who = client c.args.who.now c.args.kind c.args.settings.now in
     let i = spring (g.S.Source.left c.args.source.now) (g.S.Source.faults c.args.source.now) in
     let j = spring (g.S.Source.left c.pump-pumped.new.source) (g.S.Source.faults c.pump-pumped.new.source) in
@@ -73,13 +94,13 @@ returns-in_default g c =
     let d1 = g.D.Desk.seated c.begin.new.desk in
     let d2 = g.D.Desk.seated c.pump-pumped.new.desk in
     let d3 = g.D.Desk.seated c.end-served.new.desk in
-    let a = c.in-Ok.ensures.opens in
-    let s = serves_closed who c.in-Ok.session c.pump-pumped.new.session d0 d1 d2 d3 i j o n f k c.end-served.result a.0 a.1 c.end-served.ensures.closes c.pump-pumped.result c.in_default.not-Fault c.pump-pumped.ensures.pumps in
+    let a = c.in-Ok-begin.ensures.opens in
+    let s = serves_closed who c.in-Ok-begin.session c.pump-pumped.new.session d0 d1 d2 d3 i j o n f k c.end-served.result a.0 a.1 c.end-served.ensures.closes c.pump-pumped.result c.in_default-pumped.not-Fault c.pump-pumped.ensures.pumps in
     record {
       serves = s;
       closed_now = c.end-served.ensures.closed_now;
       known = c.known-2.ensures;
       heard = heard who d0 d3 c.known.ensures c.known-2.ensures (serves_connect who c.end-served.result i j (world d0 o f) (world d3 n k) s) c.requires;
       isolated = isolated who d0 d3 c.known.ensures c.known-2.ensures (serves_connect who c.end-served.result i j (world d0 o f) (world d3 n k) s) c.requires;
-      goes = g.met.D.Desk.follows _ _ _ c.in-Ok.ensures.goes (g.met.D.Desk.follows _ _ _ c.pump-pumped.ensures.goes c.end-served.ensures.goes);
+      goes = g.met.D.Desk.follows _ _ _ c.in-Ok-begin.ensures.goes (g.met.D.Desk.follows _ _ _ c.pump-pumped.ensures.goes c.end-served.ensures.goes);
     }

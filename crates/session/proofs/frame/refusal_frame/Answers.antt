@@ -1,7 +1,6 @@
-use Rattle.std.proofs.Common.{◌∙◌}
 use Rattle.session.specs.Frames.{refusal_errno}
-use Rattle.session.proofs.ToldFrame.{answered, refused}
+use Rattle.session.proofs.ToldFrame.{refused}
 use Rattle.session.proofs.frame.refusal_frame.Goals as goal
 
 pub returns : goal.returns
-returns c = λ op e. answered c.args.unique op c.args.refused c.told_frame.result (e ∙ c.if-is_quiet.false) (refused c.args.unique c.errno_of.result (refusal_errno c.args.refused) c.told_frame.result c.errno_of.ensures c.told_frame.ensures)
+returns c = refused c.args.unique c.errno_of.result (refusal_errno c.args.refused) c.told_frame.result c.errno_of.ensures c.told_frame.ensures

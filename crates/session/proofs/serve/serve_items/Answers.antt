@@ -1,15 +1,24 @@
-use Rattle.std.proofs.Common.{◌≡◌, ℕ, List, length, take, drop, Option, Some, None, Ok, ap, ◌∙◌, subst, arith}
+use Rattle.std.proofs.Common.{◌≡◌, ℕ, List, length, take, drop, Option, Some, None, Ok, sym, ap, ◌∙◌, subst, arith}
 use Rattle.session.specs.declared.served.Stop.{Stop}
+use Rattle.session.specs.declared.served.Stop.TheVariants as stop
 use Rattle.session.specs.Cuts.{Cuts, no_item, whole_item}
 use Rattle.session.specs.Ledger.{world, ItemEnds}
-use Rattle.session.proofs.NextCut.{whole_alone, whole_within}
+use Rattle.session.proofs.NextCut.{nothing_cut, whole_alone, whole_within}
 use Rattle.session.proofs.DidItems.{did_none}
 use Rattle.session.proofs.ServeItems.{remains_cut}
 use Rattle.session.proofs.ServeItem.{run_ends, run_halts, run_on, item_size}
 use Rattle.session.proofs.serve.serve_items.Goals as goal
 
 pub items-init : goal.items-init
-items-init g c = record { within = omega arith; did = did_none _ _ _; goes = g.met.D.Desk.stands c.args.desk.now }
+items-init g c = record { within = omega arith; seen = c.requires.within; too_few = c.requires.too_few; did = did_none _ _ _; goes = g.met.D.Desk.stands c.args.desk.now }
+
+pub next_cut-requires : goal.next_cut-requires
+next_cut-requires g c =
+    let left = c.behind-left.ensures in
+    record {
+      within = omega (arith, c.items.invariant.seen, ap length left);
+      too_few = subst (λ (b : List ℕ). Cuts c.items.stage.phase (take c.items.seen b) (no_item stop.More)) (sym left) c.items.invariant.too_few;
+    }
 
 pub returns-in-Err-clause-stops : goal.returns-in-Err-clause-stops
 returns-in-Err-clause-stops g c =
@@ -65,6 +74,8 @@ items-preserved g c =
     let size = item_size phase bytes used n (length c.front-item.result.now) is (ap length item) i.within in
     record {
       within = size.2;
+      seen = omega arith;
+      too_few = nothing_cut c.serve_item.new.stage.phase;
       did = run_on c.args.client.now _ c.items.stage _ m w bytes used n i.did is c.serve_item.new.stage (length c.front-item.result.now) size.0 ends_at;
       goes = g.met.D.Desk.follows _ _ _ i.goes c.serve_item.ensures.goes;
     }
