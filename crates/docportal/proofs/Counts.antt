@@ -20,7 +20,7 @@ no_count_of word n fits same out m is =
 -- two words that ask for nothing
 pub no_command : (first second : List ℕ) → (first ≡ codes "worlds" → is_app_name second ≡ true → ⊥) → (first ≡ codes "generate" → IsNoCount second) → IsNoCommand (first ∷ second ∷ [])
 no_command first second world load Replay h = cc
-no_command first second world load Worlds (app, e, name) =
+no_command first second world load (Worlds app) (e, name) =
     let word : first ≡ codes "worlds" = cc in
     let same : app ≡ second = cc in
     world word (subst (λ (z : List ℕ). is_app_name z ≡ true) same name)

@@ -17,6 +17,10 @@ pub mod OneOutput
 pub mod RunLines
 pub mod RunLine
 pub mod ReplayScript
+pub mod Parted
+pub mod TreeTable
+pub mod WorldRun
+pub mod WorldsCompared
 pub mod Counts
 pub mod StartedScript
 pub mod CountedAnswers

@@ -17,7 +17,7 @@ use Rattle.script_form.specs.declared.script.ScriptLine.{ScriptLine}
 use Rattle.script_form.specs.Lines.{text_of}
 use Rattle.script_form.specs.Order.{IsRead, IsScript}
 use Rattle.docportal.specs.declared.status.Status.{Status}
-use Rattle.docportal.specs.declared.status.Status.TheVariants.{Done, Usage, ScriptFault, ReadFault, WriteFault, Memory, TooLong, Unbuilt}
+use Rattle.docportal.specs.declared.status.Status.TheVariants.{Done, Usage, ScriptFault, ReadFault, WriteFault, Memory, TooLong}
 use Rattle.docportal.specs.Outcomes.{done_in, refused_in}
 use Rattle.docportal.specs.Generated.{five_lines, Generates, RanLoad, WritesLines, lines_of_load, load_lines, load_lines_at}
 use Rattle.docportal.specs.Inputs.{script_limit}
@@ -65,7 +65,6 @@ module _ (count : ℕ) (slice : List ScriptLine) (p : ScriptPortal) (few : count
   stops WriteFault k = absurd (none_risen k.0)
   stops Memory k = refl
   stops TooLong k = absurd k
-  stops (Unbuilt number) k = absurd k
 
   pub load_stops : (status : Status) → PlayStops (scene p []) slice None 0 None 0 status → status ≡ Memory
   load_stops status k = stops status (subst (λ (z : Scene). PlayStops z (lines_of_load count) None 0 None 0 status) begins (subst (λ (x : List ScriptLine). PlayStops (scene p []) x None 0 None 0 status) is k))

@@ -1,5 +1,5 @@
 -- A text replayed, and a run of the program.
-use Rattle.std.proofs.Common.{◌≡◌, ℕ, ◌+◌, ◌*◌, ◌≤◌, List, [], ◌∷◌, ◌++◌, length, Option, refl, sym, ap, ◌∙◌, subst, inl, inr, ◌⊎◌, arith}
+use Rattle.std.proofs.Common.{◌≡◌, ℕ, ◌+◌, ◌*◌, ◌≤◌, List, [], ◌++◌, length, Option, refl, sym, ap, ◌∙◌, subst, inl, inr, ◌⊎◌, arith}
 use Rattle.std.proofs.lemmas.List.{append-nil}
 use Rattle.portal_base.specs.Outside.{Short, onto}
 use Rattle.portal_model.specs.declared.entry.Entry.{Entry}
@@ -18,10 +18,10 @@ use Rattle.script_form.specs.Order.{IsRead, IsFault, IsScript, StandBehind}
 use Rattle.docportal.specs.declared.input.InputError.{InputError}
 use Rattle.docportal.specs.declared.input.InputError.TheVariants as input
 use Rattle.docportal.specs.declared.status.Status.{Status}
-use Rattle.docportal.specs.declared.status.Status.TheVariants.{Done, Usage, ScriptFault, ReadFault, WriteFault, Memory, TooLong, Unbuilt}
+use Rattle.docportal.specs.declared.status.Status.TheVariants.{Done, Usage, ScriptFault, ReadFault, WriteFault, Memory, TooLong}
 use Rattle.docportal.specs.Inputs.{script_limit, AtEnd, IsWhole, Stops}
 use Rattle.docportal.specs.Plays.{Plays, PlaysAll, PlaysPart, PlayStops}
-use Rattle.docportal.specs.Commands.{replay_words, IsNoCommand, IsUnbuiltCommand}
+use Rattle.docportal.specs.Commands.{replay_words, IsNoCommand}
 use Rattle.docportal.specs.Runs.{Cause, IsReplay, Ran, Replays, Risen, WroteFront}
 use Rattle.docportal.specs.Scenes.{Scene, ScriptPortal, first_scene, opening_state, outside_at, run_limits, sessions_of}
 use Rattle.docportal.specs.Steps.{Agrees, AreFirst, MayPlay, scene}
@@ -97,7 +97,6 @@ module _ (text : List ℕ) (lines : List ScriptLine) (entries : Entries) (kept :
   stopped faults faults' WriteFault p = played_part Short p.1
   stopped faults faults' Memory p = part_memory (played_part AreFirst p.1)
   stopped faults faults' TooLong p = absurd p
-  stopped faults faults' (Unbuilt number) p = absurd p
 
 ended : (text : List ℕ) (lines : List ScriptLine) (entries : Entries) (told told' : Option (List (List ℕ))) (history : List Entry) (out : List (List ℕ)) (last : Scene)
     → KeepEntries (entries_of lines) entries → length text ≤ script_limit → IsRead text lines → Valid (opening_state entries lines) → Plays (first_scene entries lines) lines history out last → told' ≡ onto told out → Replayed text told told' Done
@@ -116,7 +115,6 @@ stopped_risen lines s told told' faults faults' ReadFault p = absurd p
 stopped_risen lines s told told' faults faults' WriteFault p = (refl, p.0)
 stopped_risen lines s told told' faults faults' Memory p = (refl, p.0)
 stopped_risen lines s told told' faults faults' TooLong p = absurd p
-stopped_risen lines s told told' faults faults' (Unbuilt line) p = absurd p
 
 pub replayed_none : (text : List ℕ) (told : Option (List (List ℕ))) → Replayed text told told Memory
 replayed_none text told = ([], onto_none told, inl refl)
@@ -171,7 +169,6 @@ cause_of words t left pieces ReadFault w l e r = absurd r
 cause_of words t left pieces WriteFault w l e r = (w, l, e, r)
 cause_of words t left pieces Memory w l e r = (w, elim r as (λ _. (pieces ≡ []) ⊎ ((length t ≤ script_limit) × AtEnd left × WroteFront AreFirst t pieces)) [ inl none ↦ inl none | inr front ↦ inr (l, e, front) ])
 cause_of words t left pieces TooLong w l e r = absurd r
-cause_of words t left pieces (Unbuilt line) w l e r = absurd r
 
 pub ran_whole : (words : List (List ℕ)) (text : List ℕ) (left left' : Option (List ℕ)) (told told' : Option (List (List ℕ))) (status : Status)
     → words ≡ replay_words → IsWhole left text left' → Replayed text told told' status → Ran words left left' told told' status
@@ -186,7 +183,6 @@ risen_whole ReadFault text pieces reads reads' writes writes' same r h = absurd 
 risen_whole WriteFault text pieces reads reads' writes writes' same r h = (same, h.1)
 risen_whole Memory text pieces reads reads' writes writes' same r h = (same, h.1)
 risen_whole TooLong text pieces reads reads' writes writes' same r h = (same, h.1)
-risen_whole (Unbuilt line) text pieces reads reads' writes writes' same r h = absurd r
 
 -- how a run ends whose input is not read whole
 abbrev pub status_of : InputError → Status
@@ -199,9 +195,6 @@ pub ran_not : (words : List (List ℕ)) (left left' : Option (List ℕ)) (told :
 ran_not words left left' told faults faults' input.Failed w s = record { text = s.1.0; pieces = []; read = s.1.1; wrote = onto_none told; cause = (w, s.1.2, refl) }
 ran_not words left left' told faults faults' input.TooLong w s = record { text = s.1.0; pieces = []; read = s.1.1; wrote = onto_none told; cause = (w, s.1.2, refl) }
 ran_not words left left' told faults faults' input.Memory w s = record { text = s.1.0; pieces = []; read = s.1.1; wrote = onto_none told; cause = (w, inl refl) }
-
-pub ran_unbuilt : (words : List (List ℕ)) (left : Option (List ℕ)) (told : Option (List (List ℕ))) → IsUnbuiltCommand words → Ran words left left told told (Unbuilt 0)
-ran_unbuilt words left told n = record { text = []; pieces = []; read = behind_none left; wrote = onto_none told; cause = (n, refl, refl, refl) }
 
 pub ran_unknown : (words : List (List ℕ)) (left : Option (List ℕ)) (told : Option (List (List ℕ))) → IsNoCommand words → Ran words left left told told Usage
 ran_unknown words left told n = record { text = []; pieces = []; read = behind_none left; wrote = onto_none told; cause = (n, refl, refl) }

@@ -89,7 +89,7 @@ loaded_state entries files lines =
 -- ---- the portal that starts
 
 -- its limits hold each script's records
-holds : HoldsScripts run_limits
+pub holds : HoldsScripts run_limits
 holds = record { documents = omega arith; made = omega arith; made_limit = omega arith; queued_limit = omega arith }
 
 some_is : (x y : Calls) → Some x ≡ Some y → x ≡ y

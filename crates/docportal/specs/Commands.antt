@@ -23,8 +23,7 @@ IsNoCount word = (n : ℕ) → IsCount word n → ⊥
 -- count
 abbrev pub IsCommand : List (List ℕ) → Command → Type 0
 IsCommand words Replay = words ≡ replay_words
-IsCommand words Worlds = (app : List ℕ) × (words ≡ codes "worlds" ∷ app ∷ [])
-    × (is_app_name app ≡ true)
+IsCommand words (Worlds app) = (words ≡ codes "worlds" ∷ app ∷ []) × (is_app_name app ≡ true)
 IsCommand words (Generate count) = (word : List ℕ) × (words ≡ codes "generate" ∷ word ∷ [])
     × IsCount word count
 
@@ -32,9 +31,9 @@ IsCommand words (Generate count) = (word : List ℕ) × (words ≡ codes "genera
 abbrev pub IsNoCommand : List (List ℕ) → Type 0
 IsNoCommand words = (command : Command) → IsCommand words command → ⊥
 
--- they ask for one that isn't built
-abbrev pub IsUnbuiltCommand : List (List ℕ) → Type 0
-IsUnbuiltCommand words = IsCommand words Worlds
+-- they ask for a comparison, whose application's name has to be stored
+abbrev pub NamesApp : List (List ℕ) → Type 0
+NamesApp words = (app : List ℕ) × IsCommand words (Worlds app)
 
 -- what was read of the words
 abbrev pub ReadsCommand : List (List ℕ) → Option Command → Type 0

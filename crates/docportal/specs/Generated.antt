@@ -8,14 +8,15 @@ use Rattle.portal_model.specs.declared.entry.Entry.{Entry}
 use Rattle.portal_model.specs.History.{cost}
 use Rattle.portal_model.specs.State.{State}
 use Rattle.script_form.specs.declared.script.ScriptLine.{ScriptLine}
-use Rattle.docportal.specs.declared.command.Command.TheVariants.{Generate}
+use Rattle.docportal.specs.declared.command.Command.TheVariants.{Generate, Worlds}
 use Rattle.docportal.specs.declared.status.Status.{Status}
-use Rattle.docportal.specs.declared.status.Status.TheVariants.{Done, Usage, ScriptFault, ReadFault, WriteFault, Memory, TooLong, Unbuilt}
+use Rattle.docportal.specs.declared.status.Status.TheVariants.{Done, Usage, ScriptFault, ReadFault, WriteFault, Memory, TooLong}
 use Rattle.docportal.specs.Commands.{IsCommand}
 use Rattle.docportal.specs.Outcomes.{done_in, refused_in}
 use Rattle.docportal.specs.Runs.{IsReplay, Ran}
 use Rattle.docportal.specs.Scenes.{Scene, ScriptPortal, opening_state}
 use Rattle.docportal.specs.Texts.{line_feed, space}
+use Rattle.docportal.specs.Worlds.{RanWorlds}
 
 -- ---- the five lines
 
@@ -82,7 +83,6 @@ Generates count pieces ReadFault = ⊥
 Generates count pieces WriteFault = SaysPart Short count pieces
 Generates count pieces Memory = pieces ≡ []
 Generates count pieces TooLong = ⊥
-Generates count pieces (Unbuilt number) = ⊥
 
 -- lines were written, or broke off at a fault, which is counted
 abbrev pub WritesLines : List (List ℕ) → Option (List (List ℕ)) → ℕ → Option (List (List ℕ)) → ℕ
@@ -105,8 +105,9 @@ pub record RanGenerate (words : List (List ℕ)) (left left' : Option (List ℕ)
   pub wrote : told' ≡ onto told pieces
   pub generates : Generates count pieces status
 
--- a load was run where the words ask for one
+-- a load was run where the words ask for one, and two scripts were compared where they ask for that
 abbrev pub RanAny : List (List ℕ) → Option (List ℕ) → Option (List ℕ) → Option (List (List ℕ))
     → Option (List (List ℕ)) → Status → Type 0
 RanAny words left left' told told' status = RanGenerate words left left' told told' status
-    ⊎ Ran words left left' told told' status
+    ⊎ (((app : List ℕ) × IsCommand words (Worlds app) × RanWorlds app left left' told told' status)
+    ⊎ Ran words left left' told told' status)

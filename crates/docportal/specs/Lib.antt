@@ -7,8 +7,11 @@ pub mod Lines
 pub mod Seats
 pub mod Steps
 pub mod Started
+pub mod Openings
 pub mod Plays
 pub mod Runs
+pub mod Parting
+pub mod Worlds
 pub mod Outcomes
 pub mod Generated
 pub mod Statuses

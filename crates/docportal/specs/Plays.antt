@@ -6,7 +6,7 @@ use Rattle.portal_model.specs.declared.entry.Entry.{Entry}
 use Rattle.script_form.specs.declared.script.ScriptLine.{ScriptLine}
 use Rattle.docportal.specs.declared.status.Status.{Status}
 use Rattle.docportal.specs.declared.status.Status.TheVariants.{Done, Usage, ScriptFault, ReadFault}
-use Rattle.docportal.specs.declared.status.Status.TheVariants.{WriteFault, Memory, TooLong, Unbuilt}
+use Rattle.docportal.specs.declared.status.Status.TheVariants.{WriteFault, Memory, TooLong}
 use Rattle.docportal.specs.declared.error.LineError.{LineError}
 use Rattle.docportal.specs.declared.error.LineError.TheVariants as line
 use Rattle.docportal.specs.Lines.{Does}
@@ -67,7 +67,6 @@ PlayStops a lines told faults told' faults' WriteFault =
 PlayStops a lines told faults told' faults' Memory =
     (faults' ≡ faults) × PlaysPart AreFirst a lines told told'
 PlayStops a lines told faults told' faults' TooLong = ⊥
-PlayStops a lines told faults told' faults' (Unbuilt number) = ⊥
 
 -- how a run ends of which a line is not run
 abbrev pub status_of : LineError → Status

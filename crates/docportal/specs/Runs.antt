@@ -11,8 +11,8 @@ use Rattle.script_form.specs.declared.script.ScriptLine.{ScriptLine}
 use Rattle.script_form.specs.Lines.{text_of}
 use Rattle.script_form.specs.Order.{IsRead, IsFault}
 use Rattle.docportal.specs.declared.status.Status.{Status}
-use Rattle.docportal.specs.declared.status.Status.TheVariants.{Done, Usage, ScriptFault, ReadFault, WriteFault, Memory, TooLong, Unbuilt}
-use Rattle.docportal.specs.Commands.{replay_words, IsNoCommand, IsUnbuiltCommand}
+use Rattle.docportal.specs.declared.status.Status.TheVariants.{Done, Usage, ScriptFault, ReadFault, WriteFault, Memory, TooLong}
+use Rattle.docportal.specs.Commands.{replay_words, IsNoCommand}
 use Rattle.docportal.specs.Inputs.{script_limit, AtEnd}
 use Rattle.docportal.specs.Plays.{Plays}
 use Rattle.docportal.specs.Scenes.{Scene, first_scene, opening_state, run_limits}
@@ -82,8 +82,6 @@ Cause words text left pieces Memory = (words ≡ replay_words)
     × WroteFront AreFirst text pieces))
 Cause words text left pieces TooLong = (words ≡ replay_words) × (script_limit < length text)
     × (pieces ≡ [])
-Cause words text left pieces (Unbuilt line) =
-    IsUnbuiltCommand words × (line ≡ 0) × (text ≡ []) × (pieces ≡ [])
 
 -- a run: what it read stood ahead of what is left, and what it wrote stands behind what was written
 pub record Ran (words : List (List ℕ)) (left left' : Option (List ℕ))
@@ -104,7 +102,6 @@ Risen ReadFault reads reads' writes writes' = HasRisen reads reads' × (writes' 
 Risen WriteFault reads reads' writes writes' = (reads' ≡ reads) × HasRisen writes writes'
 Risen Memory reads reads' writes writes' = (reads' ≡ reads) × (writes' ≡ writes)
 Risen TooLong reads reads' writes writes' = (reads' ≡ reads) × (writes' ≡ writes)
-Risen (Unbuilt line) reads reads' writes writes' = (reads' ≡ reads) × (writes' ≡ writes)
 
 -- how a text of allowed length is replayed, with these pieces written
 abbrev pub Replays : List ℕ → List (List ℕ) → Status → Type 0
@@ -115,4 +112,3 @@ Replays text pieces ReadFault = ⊥
 Replays text pieces WriteFault = WroteFront Short text pieces
 Replays text pieces Memory = (pieces ≡ []) ⊎ WroteFront AreFirst text pieces
 Replays text pieces TooLong = ⊥
-Replays text pieces (Unbuilt line) = ⊥

@@ -1,7 +1,7 @@
 -- The numbers that the program ends with.
 use Rattle.std.specs.Prelude.{ℕ}
 use Rattle.docportal.specs.declared.status.Status.{Status}
-use Rattle.docportal.specs.declared.status.Status.TheVariants.{Done, Usage, ScriptFault, ReadFault, WriteFault, Memory, TooLong, Unbuilt}
+use Rattle.docportal.specs.declared.status.Status.TheVariants.{Done, Usage, ScriptFault, ReadFault, WriteFault, Memory, TooLong}
 
 abbrev pub number_of : Status → ℕ
 number_of Done = 0
@@ -11,4 +11,3 @@ number_of ReadFault = 3
 number_of WriteFault = 4
 number_of Memory = 5
 number_of TooLong = 6
-number_of (Unbuilt line) = 7

@@ -9,13 +9,15 @@ use portal_base::text::Text;
 /// What `--help` prints.
 const HELP: &str = "\
 usage: docportal replay        runs the script on standard input
+       docportal worlds APP    compares two scripts on standard input as APP sees them
        docportal generate N    runs a generated load of N requests, from 1 to 100000
        docportal --help        prints this
        docportal --version     prints the version
 
 docportal is the document portal and the permission store of the XDG desktop.
-A run that isn't done ends with a status from 1 to 7, and says why on standard
-error (docs/statuses.md); docs/scripts.md says what a script is.
+A run that isn't done ends with a status from 1 to 6, and says why on standard
+error (docs/statuses.md); docs/scripts.md says what a script is, and docs/isolation.md
+what comparing two tells.
 ";
 
 /// What `--version` prints.

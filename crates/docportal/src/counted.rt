@@ -9,6 +9,7 @@ use host_tree::MemoryTree;
 use portal_base::outside::{ListWords, SetClock};
 use portal_core::portal::Portal;
 use portal_core::storied::Storied;
+use portal_model::entry::Entry;
 use portal_model::reply::{Answer, Refused, Reply};
 use portal_model::request::Request;
 use record_keeper::MemoryKeeper;
@@ -78,6 +79,13 @@ impl CountedPortal {
         ensures { result ≡ cost self.now.story.history }
     {
         self.portal.history().cost()
+    }
+
+    /// The entries of the history, in order.
+    pub fn entries(&self) -> &[Entry]
+        ensures { result.now ≡ self.now.story.history }
+    {
+        self.portal.history().entries()
     }
 
     /// Sets the clock, and nothing else.

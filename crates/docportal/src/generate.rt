@@ -1,6 +1,6 @@
 //! Running a generated load.
 
-ghost use Rattle.std.specs.Prelude.{◌≡◌, ◌≤◌, ◌++◌, ◌∷◌, [], ℕ, List, None, true, IfErr, IfOk, OnOk};
+ghost use Rattle.std.specs.Prelude.{◌≡◌, ◌≤◌, ◌++◌, ◌∷◌, [], ℕ, List, true, IfErr, IfOk, OnOk};
 ghost use Rattle.portal_base.specs.Outside.{onto};
 ghost use Rattle.portal_core.specs.Story.{state_first};
 ghost use Rattle.portal_load.specs.Lines.{most_requests};
@@ -10,6 +10,7 @@ ghost use Rattle.docportal.specs.Runs.{Risen};
 ghost use Rattle.docportal.specs.Started.{StartsScript};
 
 use crate::counted::CountedPortal;
+use crate::output::NoSink;
 use crate::replay::run_lines;
 use crate::settings::settings;
 use crate::start::start;
@@ -20,20 +21,6 @@ use portal_base::outside::{Sink, WriteAnswer};
 use portal_core::storied::Storied;
 use portal_load::load::{Load, generate as load_of};
 use std::alloc::Global;
-
-/// A sink that takes all, and keeps nothing.
-#[derive(Drop)]
-struct NoSink;
-
-impl Sink for NoSink {
-    ghost told = { λ _. None };
-
-    ghost faults = { λ _. 0 };
-
-    fn write(&mut self, _bytes: &[u8]) -> WriteAnswer {
-        WriteAnswer::Done
-    }
-}
 
 /// Runs the load of so many requests, and writes five lines that say what
 /// became of them.

@@ -2,9 +2,10 @@
 //!
 //! **It promises** (`run`) that at `Done` the output is the one that the script
 //! has, over one legal history, and that the replies to each application are those
-//! of its own machine over its trace; that of a generated load it is five lines over
-//! the history of the load's script; and that each other status but want of memory
-//! has its cause.
+//! of its own machine over its trace; that of two scripts it is how an application's
+//! traces in their histories compare, and that the replies to it are the same where
+//! its traces are; that of a generated load it is five lines over the history of the
+//! load's script; and that each other status but want of memory has its cause.
 //!
 //! | Room | Holds |
 //! |---|---|
@@ -14,6 +15,7 @@
 //! | `run`, `status` | the whole of a run, and how it ends |
 //! | `start`, `counted` | the portal that a script opens, over devices in memory, and what became of its requests |
 //! | `replay`, `generate` | a script's lines, one after another; a load of requests |
+//! | `worlds`, `world`, `opening`, `parting` | two scripts, compared; one of them, run; the state that it opens with, as plain data; the parts of a text |
 //! | `line`, `error` | one line, and why it isn't run |
 //! | `seats`, `connections` | the sessions of a script, each at its seat of the portal |
 //!
@@ -32,13 +34,17 @@ mod error;
 mod generate;
 mod input;
 mod line;
+mod opening;
 mod output;
+mod parting;
 mod replay;
 mod run;
 mod seats;
 mod settings;
 mod start;
 mod status;
+mod world;
+mod worlds;
 
 ghost use Rattle.std.specs.Prelude.{◌≡◌};
 ghost use Rattle.std.specs.Process.{exit_status};

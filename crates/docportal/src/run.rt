@@ -9,6 +9,7 @@ ghost use Rattle.docportal.specs.Generated.{RanAny};
 ghost use Rattle.docportal.specs.Inputs.{script_limit};
 ghost use Rattle.docportal.specs.Runs.{Ran, Replays, Risen};
 ghost use Rattle.docportal.specs.Started.{StartsScript};
+ghost use Rattle.docportal.specs.Worlds.{RanWorlds};
 
 use crate::command::{Command, command_of};
 use crate::generate::generate;
@@ -17,7 +18,9 @@ use crate::replay::run_lines;
 use crate::settings::settings;
 use crate::start::{ScriptPortal, start};
 use crate::status::Status;
+use crate::worlds::worlds;
 use portal_base::memory::WantOfMemory;
+use portal_base::names::AppId;
 use portal_base::outside::{Sink, Source};
 use portal_base::text::Text;
 use script_form::error::ScriptError;
@@ -29,9 +32,10 @@ use std::alloc::Global;
 ///
 /// With `replay` the source's script is run, and its output goes to the sink.
 /// The source is read to its end, and the whole of it is found to be a script,
-/// before the first line is run. With `generate N` the load of so many requests
-/// is run, nothing is read, and five lines say what became of them. `worlds APP`
-/// isn't built.
+/// before the first line is run. With `worlds APP` it is found to be two scripts;
+/// both are run, and one line says how the traces of the application compare. With
+/// `generate N` the load of so many requests is run, nothing is read, and five lines
+/// say what became of them.
 pub fn run<S: Source, K: Sink>(
     alloc: Global,
     words: &[Text],
@@ -43,11 +47,47 @@ pub fn run<S: Source, K: Sink>(
     ensures risen { Risen result (S.faults source.old) (S.faults source.new) (K.faults sink.old)
         (K.faults sink.new) }
 {
-    match command_of(words) {
-        Some(Command::Replay) => replay_source(alloc, source, sink),
-        Some(Command::Worlds) => Status::Unbuilt { line: 0 },
-        Some(Command::Generate { count }) => generate(alloc, count, sink),
-        None => Status::Usage,
+    match command_of(alloc, words) {
+        Ok(Some(Command::Replay)) => replay_source(alloc, source, sink),
+        Ok(Some(Command::Worlds { app })) => compare_once(alloc, app, source, sink),
+        Ok(Some(Command::Generate { count })) => generate(alloc, count, sink),
+        Ok(None) => Status::Usage,
+        Err(WantOfMemory) => Status::Memory,
+    }
+}
+
+/// Compares the scripts of a source for an application, whose name is gone then.
+fn compare_once<S: Source, K: Sink>(
+    alloc: Global,
+    app: AppId,
+    source: &mut S,
+    sink: &mut K,
+) -> Status
+    ensures ran { RanWorlds app (S.left source.old) (S.left source.new) (K.told sink.old)
+        (K.told sink.new) result }
+    ensures risen { Risen result (S.faults source.old) (S.faults source.new) (K.faults sink.old)
+        (K.faults sink.new) }
+{
+    compare_source(alloc, &app, source, sink)
+}
+
+/// Reads a source to its end, and compares the two scripts that it gave.
+fn compare_source<S: Source, K: Sink>(
+    alloc: Global,
+    app: &AppId,
+    source: &mut S,
+    sink: &mut K,
+) -> Status
+    ensures ran { RanWorlds app.now (S.left source.old) (S.left source.new) (K.told sink.old)
+        (K.told sink.new) result }
+    ensures risen { Risen result (S.faults source.old) (S.faults source.new) (K.faults sink.old)
+        (K.faults sink.new) }
+{
+    match read_to_end(alloc, source) {
+        Ok(text) => worlds(alloc, app, text.as_slice(), sink),
+        Err(InputError::Failed) => Status::ReadFault,
+        Err(InputError::TooLong) => Status::TooLong,
+        Err(InputError::Memory) => Status::Memory,
     }
 }
 

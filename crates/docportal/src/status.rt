@@ -25,12 +25,6 @@ pub enum Status {
     Memory,
     /// The input has more bytes than a script may have.
     TooLong,
-    /// A line needs a part that is not built; the output of the lines before
-    /// it is written. Line 0 means the words.
-    Unbuilt {
-        /// The number of the line, from 1.
-        line: u64,
-    },
 }
 
 impl Status {
@@ -46,7 +40,6 @@ impl Status {
             Status::WriteFault => 4,
             Status::Memory => 5,
             Status::TooLong => 6,
-            Status::Unbuilt { .. } => 7,
         }
     }
 }
@@ -62,7 +55,6 @@ impl fmt::Display for Status {
             Status::WriteFault => write!(f, "write fault"),
             Status::Memory => write!(f, "no memory"),
             Status::TooLong => write!(f, "input too long"),
-            Status::Unbuilt { line } => write!(f, "not built at line {line}"),
         }
     }
 }
