@@ -1,0 +1,5 @@
+pub mod TreeFiles
+pub mod Quiet
+pub mod Going
+pub mod Fronts
+pub mod LentLists

@@ -1,0 +1,9 @@
+use Rattle.std.proofs.Common.{map, ◌∙◌}
+use Rattle.std.proofs.lemmas.List.Folds.{list_all-map}
+use Rattle.portal_base.specs.Names.{is_host_path}
+use Rattle.portal_base.specs.declared.files.File.{File}
+use Rattle.portal_model.specs.Opening.{file_of}
+use Rattle.history_trace.proofs.beginning.opened_portal.Goals as goal
+
+pub tree_of-requires-clause-names : goal.tree_of-requires-clause-names
+tree_of-requires-clause-names c = rw c.as_slice.ensures (list_all-map is_host_path (λ (f : File). f.path) (map file_of c.args.opening.now.files) ∙ c.requires.valid.files_named)

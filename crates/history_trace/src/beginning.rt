@@ -1,0 +1,96 @@
+//! The portal that a replay begins with.
+
+ghost use Rattle.std.specs.Prelude.{◌≡◌, [], map, true, Some, IfOk, OnOk};
+ghost use Rattle.std.specs.List.{list_all};
+ghost use Rattle.portal_base.specs.Content.{ArePlaced, paths_of};
+ghost use Rattle.portal_base.specs.Names.{is_host_path};
+ghost use Rattle.host_tree.specs.Devices.{quiet_with_file};
+ghost use Rattle.host_tree.specs.Trees.{put_file};
+ghost use Rattle.portal_model.specs.Opening.{file_of, id_of, opened};
+ghost use Rattle.portal_model.specs.Rows.{are_rows};
+ghost use Rattle.portal_model.specs.Valid.{Valid};
+ghost use Rattle.history_trace.specs.Replayed.{Begins, tree_with, without_files};
+
+use crate::idle::IdleKeeper;
+use host_tree::QuietTree;
+use opening_lists::known_path;
+use portal_base::list::List;
+use portal_base::memory::{Replica, WantOfMemory};
+use portal_base::outside::{ListWords, SetClock};
+use portal_core::portal::Portal;
+use portal_model::opening::{FileItem, OpeningState};
+use std::alloc::Global;
+
+/// A portal over devices that never fail.
+pub(crate) type QuietPortal = Portal<QuietTree, IdleKeeper, SetClock, ListWords>;
+
+/// A portal that opens with a state, and has the files of that state.
+pub(crate) fn opened_portal(
+    alloc: Global,
+    opening: &OpeningState,
+) -> Result<QuietPortal, WantOfMemory>
+    requires valid { Valid (opened opening.now) }
+    requires placed { ArePlaced (paths_of (map file_of opening.now.files)) }
+    requires made { opening.now.made ≡ map (λ d. id_of d.kept.number) opening.now.documents }
+    requires rows { list_all (λ e. are_rows e.rows) opening.now.entries ≡ true }
+    ensures { IfOk result (λ portal. Begins opening.now portal.story) }
+{
+    let tree = tree_of(alloc, opening.files.as_slice())?;
+    match lists_copied(alloc, opening) {
+        Ok(lists) => Portal::reopen(
+            alloc,
+            tree,
+            IdleKeeper,
+            SetClock::new(0),
+            ListWords::new(List::new(alloc)),
+            lists,
+        ),
+        Err(error) => Err(error),
+    }
+}
+
+/// A copy of an opening state, but for its files.
+fn lists_copied(alloc: Global, opening: &OpeningState) -> Result<OpeningState, WantOfMemory>
+    ensures { IfOk result (λ copy. copy ≡ without_files opening.now) }
+{
+    let documents = opening.documents.replica(alloc)?;
+    let made = opening.made.replica(alloc)?;
+    let applications = opening.applications.replica(alloc)?;
+    let entries = opening.entries.replica(alloc)?;
+    Ok(OpeningState {
+        limits: opening.limits,
+        documents,
+        made,
+        applications,
+        entries,
+        files: List::new(alloc),
+    })
+}
+
+/// A tree that has these files, which stand in the order of a tree.
+fn tree_of(alloc: Global, files: &[FileItem]) -> Result<QuietTree, WantOfMemory>
+    requires placed { ArePlaced (paths_of (map file_of files.now)) }
+    requires names { list_all is_host_path (paths_of (map file_of files.now)) ≡ true }
+    ensures { IfOk result (λ tree. tree ≡ tree_with (map file_of files.now)) }
+{
+    let mut tree = QuietTree::new(alloc);
+    for file in files {
+        add_file(alloc, &mut tree, file)?;
+    }
+    Ok(tree)
+}
+
+/// Adds a file to those that the tree began with.
+fn add_file(alloc: Global, tree: &mut QuietTree, file: &FileItem) -> Result<(), WantOfMemory>
+    requires path { is_host_path file.now.path ≡ true }
+    requires fresh { tree.old.made ≡ 0 }
+    requires began { ArePlaced (paths_of (put_file (file_of file.now) tree.old.began)) }
+    requires files { ArePlaced (paths_of (put_file (file_of file.now) tree.old.files)) }
+    ensures { OnOk result (tree.new ≡ quiet_with_file (file_of file.now) tree.old) }
+{
+    let content = file.content.replica(alloc)?;
+    match known_path(alloc, file.path.as_slice()) {
+        Ok(path) => tree.add_file(path, content, file.moment),
+        Err(error) => Err(error),
+    }
+}

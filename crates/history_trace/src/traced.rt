@@ -1,0 +1,93 @@
+//! The trace of an application in a history.
+
+ghost use Rattle.std.specs.Prelude.{◌≡◌, ◌≤◌, map, true, IfOk};
+ghost use Rattle.std.specs.List.{list_all};
+ghost use Rattle.app_trace.specs.Told.{item_told, trace_told};
+ghost use Rattle.app_world.specs.World.{items, trace};
+ghost use Rattle.portal_base.specs.Content.{ArePlaced, paths_of};
+ghost use Rattle.portal_model.specs.History.{Legal, cost};
+ghost use Rattle.portal_model.specs.Opening.{file_of, id_of, opened};
+ghost use Rattle.portal_model.specs.Rows.{are_rows};
+ghost use Rattle.history_trace.specs.Replayed.{Begins};
+
+use crate::beginning::{QuietPortal, opened_portal};
+use crate::replay::replay;
+use app_trace::{Trace, TraceItem, files_of, view_of};
+use portal_base::list::List;
+use portal_base::memory::WantOfMemory;
+use portal_base::names::AppId;
+use portal_model::entry::Entry;
+use portal_model::opening::OpeningState;
+use std::alloc::Global;
+
+/// The trace of an application in a legal history, which costs no more than its
+/// limit: what it holds of the state that the history begins in, and what then
+/// happens to it.
+///
+/// No number was made in that state but those of its documents, its files stand
+/// in the order of a tree, and its entries have their rows in order, as a portal
+/// has them that starts with records.
+pub fn trace_of(
+    alloc: Global,
+    opening: &OpeningState,
+    app: &AppId,
+    history: &[Entry],
+) -> Result<Trace, WantOfMemory>
+    requires legal { Legal (opened opening.now) history.now }
+    requires within { cost history.now ≤ opening.now.limits.history }
+    requires placed { ArePlaced (paths_of (map file_of opening.now.files)) }
+    requires made { opening.now.made ≡ map (λ d. id_of d.kept.number) opening.now.documents }
+    requires rows { list_all (λ e. are_rows e.rows) opening.now.entries ≡ true }
+    ensures { IfOk result (λ t. trace_told t
+        ≡ trace app.now (opened opening.now) history.now) }
+{
+    let items = items_told(alloc, opening, app, history)?;
+    match view_of(alloc, opening, app) {
+        Ok(opening) => Ok(Trace { opening, items }),
+        Err(error) => Err(error),
+    }
+}
+
+/// What happens to an application in a history.
+fn items_told(
+    alloc: Global,
+    opening: &OpeningState,
+    app: &AppId,
+    history: &[Entry],
+) -> Result<List<TraceItem>, WantOfMemory>
+    requires legal { Legal (opened opening.now) history.now }
+    requires within { cost history.now ≤ opening.now.limits.history }
+    requires placed { ArePlaced (paths_of (map file_of opening.now.files)) }
+    requires made { opening.now.made ≡ map (λ d. id_of d.kept.number) opening.now.documents }
+    requires rows { list_all (λ e. are_rows e.rows) opening.now.entries ≡ true }
+    ensures { IfOk result (λ told. map item_told told
+        ≡ items app.now (opened opening.now) history.now) }
+{
+    let mut portal = opened_portal(alloc, opening)?;
+    let told = replay_all(alloc, &mut portal, opening, app, history);
+    drop(portal);
+    told
+}
+
+/// Asks every entry again on a portal that opens with the state that the history
+/// begins in.
+fn replay_all(
+    alloc: Global,
+    portal: &mut QuietPortal,
+    opening: &OpeningState,
+    app: &AppId,
+    history: &[Entry],
+) -> Result<List<TraceItem>, WantOfMemory>
+    requires legal { Legal (opened opening.now) history.now }
+    requires within { cost history.now ≤ opening.now.limits.history }
+    requires begins { Begins opening.now portal.old.story }
+    ensures { IfOk result (λ told. map item_told told
+        ≡ items app.now (opened opening.now) history.now) }
+{
+    let mut files = files_of(alloc, opening)?;
+    let mut told = List::new(alloc);
+    for entry in history {
+        replay(alloc, portal, app, entry, &mut files, &mut told)?;
+    }
+    Ok(told)
+}
