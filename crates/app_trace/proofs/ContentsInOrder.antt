@@ -1,5 +1,5 @@
 -- Paths that are sorted, each taken once, name the contents of a view.
-use Rattle.std.proofs.Common.{◌≡◌, ◌<◌, ◌≤◌, ◌+◌, ℕ, zero, suc, length, get_or, drop, slice_get, List, [], ◌∷◌, ◌++◌, map, Bool, true, false, not, ◌||◌, cond, Option, Some, None, option_map, append_assoc, find, refl, sym, ap, ◌∙◌, arith}
+use Rattle.std.proofs.Common.{◌≡◌, ◌<◌, ◌≤◌, ◌+◌, ℕ, zero, suc, length, get_or, drop, slice_get, List, [], ◌∷◌, ◌++◌, map, Bool, true, false, not, ◌||◌, cond, Option, Some, None, append_assoc, find, refl, sym, ap, ◌∙◌, arith}
 use Rattle.std.specs.Cmp.Lexicographic.{slice_cmp}
 use Rattle.std.specs.List.{list_all, list_any}
 use Rattle.std.specs.List.Sorted.{IsPermutation, IsSortedBy}
@@ -9,11 +9,8 @@ use Rattle.std.proofs.lemmas.Cmp.{nat_list_cmp_total, same_from_slice_cmp}
 use Rattle.std.proofs.lemmas.List.Sorted.{list_any-IsPermutation, ranks_by, sorted_far}
 use Rattle.portal_base.specs.Names.{is_same, root}
 use Rattle.portal_base.specs.declared.files.File.{File}
-use Rattle.portal_model.specs.declared.opening.FileItem.{FileItem}
 use Rattle.portal_model.specs.Content.{content_at, content_of, has_room, is_above, is_folder}
-use Rattle.portal_model.specs.Opening.{file_of}
 use Rattle.portal_model.specs.Ordered.{bytes_less, is_rising}
-use Rattle.portal_model.proofs.ListLookups.{find-map}
 use Rattle.portal_model.proofs.RisingLists.{put_all-rising}
 use Rattle.portal_model.proofs.TripleOrder.{bytes-through, bytes-total, is_same-eq, is_same-refl}
 use Rattle.app_world.specs.View.{PathContent, ahead, contents_at, is_among, path_content, path_of}
@@ -164,18 +161,12 @@ once-more files contents more ps i p h e m invariant =
 
 -- ---- the file of a path
 
-any-map : {X Y : Type 0} (p : Y → Bool) (f : X → Y) (xs : List X) → list_any p (map f xs) ≡ list_any (λ x. p (f x)) xs
-any-map p f [] = refl
-any-map p f (x ∷ xs) = ap (λ (b : Bool). p (f x) || b) (any-map p f xs)
+pub folder-below : (files : List File) (path : List ℕ) → is_same path root ≡ false → list_any (λ f. is_above path f.path) files ≡ is_folder files path
+folder-below files path e = rw e refl
 
-pub folder-below : (files : List FileItem) (path : List ℕ) → is_same path root ≡ false → list_any (λ (f : FileItem). is_above path f.path) files ≡ is_folder (map file_of files) path
-folder-below files path e = rw e (sym (any-map (λ (f : File). is_above path f.path) file_of files))
-
-abbrev pub has_path : List ℕ → FileItem → Bool
+abbrev pub has_path : List ℕ → File → Bool
 has_path path f = is_same f.path path
 
-pub with-file : (files : List FileItem) (path : List ℕ) (o : Option FileItem) → o ≡ find (has_path path) files →
-    content_at (map file_of files) path ≡ content_of (option_map file_of o) (is_folder (map file_of files) path) (has_room (map file_of files) path)
-with-file files path o e =
-    ap (λ (f : Option File). content_of f (is_folder (map file_of files) path) (has_room (map file_of files) path))
-    (find-map (λ (f : File). is_same f.path path) file_of files ∙ ap (option_map file_of) (sym e))
+pub with-file : (files : List File) (path : List ℕ) (o : Option File) → o ≡ find (has_path path) files →
+    content_at files path ≡ content_of o (is_folder files path) (has_room files path)
+with-file files path o e = ap (λ (f : Option File). content_of f (is_folder files path) (has_room files path)) (sym e)

@@ -1,19 +1,13 @@
 -- The documents of an opening state in which an application has a right, one after another.
-use Rattle.std.specs.Prelude.{ℕ, List, [], ◌∷◌, Bool, fold, cond}
+use Rattle.std.specs.Prelude.{ℕ, List, [], ◌∷◌, Bool, cond}
 use Rattle.std.specs.List.{flat_map}
 use Rattle.std.specs.Ordering.{is_lt, nat_cmp}
-use Rattle.document_records.specs.Grants.{with_given}
-use Rattle.document_records.specs.declared.grants.Grant.{Grant}
 use Rattle.portal_model.specs.declared.opening.OpeningDocument.{OpeningDocument}
 use Rattle.portal_model.specs.declared.state.Triple.{Triple}
 use Rattle.portal_model.specs.Opening.{document_kept}
 use Rattle.portal_model.specs.State.{held_of}
 use Rattle.rights_rule.specs.Rights.{RightSet, holds_any}
 use Rattle.app_trace.specs.declared.view.HeldDocument.{HeldDocument}
-
--- the rights that grants give together
-abbrev pub given_by : List Grant → List Triple
-given_by grants = fold with_given [] grants
 
 -- the document, where there are rights in it
 abbrev pub held_if : RightSet → OpeningDocument → List HeldDocument

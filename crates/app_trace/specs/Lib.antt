@@ -2,3 +2,9 @@ pub mod Told
 pub mod Matches
 pub mod Held
 pub mod Contents
+pub mod Touches
+pub mod OwnAdds
+pub mod FilesChanged
+pub mod Awaited
+pub mod Named
+pub mod Sharings

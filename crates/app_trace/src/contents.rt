@@ -8,16 +8,15 @@ ghost use Rattle.std.specs.Ordering.{nat_cmp};
 ghost use Rattle.app_world.specs.View.{contents_at as contents_of_view, path_content as content_of_path};
 ghost use Rattle.portal_base.specs.Names.{is_same, parent_of};
 ghost use Rattle.portal_model.specs.Content.{OfFile, content_at as content_of_tree, content_of, is_above, is_folder as is_folder_of_tree};
-ghost use Rattle.portal_model.specs.Opening.{file_of};
 ghost use Rattle.app_trace.specs.Contents.{comes_again, once_each, path_held, path_less};
 ghost use Rattle.app_trace.specs.Told.{content_told, path_told};
 
 use crate::view::{Content, HeldDocument, PathContent};
+use portal_base::files::File;
 use portal_base::list::List;
 use portal_base::memory::{Replica, WantOfMemory};
 use portal_base::names::HostPath;
 use portal_base::names::host_path::{is_root, lies_above};
-use portal_model::opening::FileItem;
 use std::alloc::Global;
 use std::cmp::Ordering;
 
@@ -25,11 +24,11 @@ use std::cmp::Ordering;
 /// none is repeated. For each path the files are looked through.
 pub(crate) fn contents_of(
     alloc: Global,
-    files: &[FileItem],
+    files: &[File],
     held: &[HeldDocument],
 ) -> Result<List<PathContent>, WantOfMemory>
     ensures { IfOk result (λ contents. map path_told contents
-        ≡ contents_of_view (map file_of files.now) (map path_held held.now)) }
+        ≡ contents_of_view files.now (map path_held held.now)) }
 {
     let paths = paths_held(alloc, held)?;
     let paths = by_bytes(paths);
@@ -67,11 +66,11 @@ fn byte_order(first: &HostPath, second: &HostPath) -> Ordering
 /// What is at each of the paths, of which equal ones stand together.
 fn contents_at(
     alloc: Global,
-    files: &[FileItem],
+    files: &[File],
     paths: &[HostPath],
 ) -> Result<List<PathContent>, WantOfMemory>
     ensures { IfOk result (λ contents. map path_told contents
-        ≡ map (content_of_path (map file_of files.now)) (once_each paths.now)) }
+        ≡ map (content_of_path files.now) (once_each paths.now)) }
 {
     let mut contents = List::new(alloc);
     for index in 0..paths.len() {
@@ -86,12 +85,12 @@ fn contents_at(
 fn push_content(
     alloc: Global,
     contents: &mut List<PathContent>,
-    files: &[FileItem],
+    files: &[File],
     path: &HostPath,
     again: bool,
 ) -> Result<(), WantOfMemory>
     ensures { OnOk result (map path_told contents.new ≡ map path_told contents.old
-        ++ cond again [] (content_of_path (map file_of files.now) path.now ∷ [])) }
+        ++ cond again [] (content_of_path files.now path.now ∷ [])) }
 {
     if again {
         return Ok(());
@@ -118,13 +117,9 @@ fn comes_again(path: &HostPath, next: Option<&HostPath>) -> bool
 }
 
 /// A path, and what is there.
-fn path_content(
-    alloc: Global,
-    files: &[FileItem],
-    path: &HostPath,
-) -> Result<PathContent, WantOfMemory>
+fn path_content(alloc: Global, files: &[File], path: &HostPath) -> Result<PathContent, WantOfMemory>
     ensures { IfOk result
-        (λ content. path_told content ≡ content_of_path (map file_of files.now) path.now) }
+        (λ content. path_told content ≡ content_of_path files.now path.now) }
 {
     Ok(PathContent {
         content: content_at(alloc, files, path)?,
@@ -133,9 +128,13 @@ fn path_content(
 }
 
 /// What is at a path.
-fn content_at(alloc: Global, files: &[FileItem], path: &HostPath) -> Result<Content, WantOfMemory>
+pub(crate) fn content_at(
+    alloc: Global,
+    files: &[File],
+    path: &HostPath,
+) -> Result<Content, WantOfMemory>
     ensures { IfOk result
-        (λ content. content_told content ≡ content_of_tree (map file_of files.now) path.now) }
+        (λ content. content_told content ≡ content_of_tree files.now path.now) }
 {
     match file_at(files, path.as_bytes()) {
         Some(file) => file_content(alloc, file),
@@ -143,34 +142,34 @@ fn content_at(alloc: Global, files: &[FileItem], path: &HostPath) -> Result<Cont
     }
 }
 
-/// What a file is, which is the first that its path has.
-fn file_content(alloc: Global, file: &FileItem) -> Result<Content, WantOfMemory>
-    ensures { IfOk result
-        (λ content. content_told content ≡ OfFile 0 file.now.content file.now.moment) }
+/// What a file is.
+pub(crate) fn file_content(alloc: Global, file: &File) -> Result<Content, WantOfMemory>
+    ensures { IfOk result (λ content. content_told content
+        ≡ OfFile file.now.generation file.now.bytes file.now.moment) }
 {
     Ok(Content::File {
-        generation: 0,
-        bytes: file.content.replica(alloc)?,
+        generation: file.generation,
+        bytes: file.bytes.replica(alloc)?,
         moment: file.moment,
     })
 }
 
 /// The file of a path.
-fn file_at<'a>(files: &'a [FileItem], path: &[u8]) -> Option<&'a FileItem>
+fn file_at<'a>(files: &'a [File], path: &[u8]) -> Option<&'a File>
     ensures { option_copied result ≡ find (λ f. is_same f.path path.now) files.now }
 {
-    files.iter().find(|file| file.path.as_slice() == path)
+    files.iter().find(|file| file.path.as_bytes() == path)
 }
 
 /// What is at a path that has no file.
 fn content_without_file(
     alloc: Global,
-    files: &[FileItem],
+    files: &[File],
     path: &HostPath,
 ) -> Result<Content, WantOfMemory>
     ensures { IfOk result (λ content. content_told content
-        ≡ content_of None (is_folder_of_tree (map file_of files.now) path.now)
-        (is_folder_of_tree (map file_of files.now) (parent_of path.now))) }
+        ≡ content_of None (is_folder_of_tree files.now path.now)
+        (is_folder_of_tree files.now (parent_of path.now))) }
 {
     if is_folder(files, path.as_bytes()) {
         return Ok(Content::Folder);
@@ -182,17 +181,17 @@ fn content_without_file(
 }
 
 /// Says whether a path is a folder: the root, and each path above a file.
-fn is_folder(files: &[FileItem], path: &[u8]) -> bool
-    ensures { result ≡ is_folder_of_tree (map file_of files.now) path.now }
+fn is_folder(files: &[File], path: &[u8]) -> bool
+    ensures { result ≡ is_folder_of_tree files.now path.now }
 {
     is_root(path) || has_file_below(files, path)
 }
 
 /// Says whether a file lies below a path.
-fn has_file_below(files: &[FileItem], path: &[u8]) -> bool
+fn has_file_below(files: &[File], path: &[u8]) -> bool
     ensures { result ≡ list_any (λ f. is_above path.now f.path) files.now }
 {
     files
         .iter()
-        .any(|file| lies_above(path, file.path.as_slice()))
+        .any(|file| lies_above(path, file.path.as_bytes()))
 }

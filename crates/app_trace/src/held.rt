@@ -11,9 +11,9 @@ ghost use Rattle.portal_model.specs.State.{held_of};
 ghost use Rattle.app_trace.specs.Held.{held_among, held_if, number_less};
 ghost use Rattle.app_trace.specs.Told.{held_told};
 
-use crate::opening::document;
 use crate::view::HeldDocument;
 use document_records::Grants;
+use opening_lists::document;
 use portal_base::list::List;
 use portal_base::memory::WantOfMemory;
 use portal_base::names::{AppId, DocId};

@@ -7,9 +7,10 @@ ghost use Rattle.portal_model.specs.Valid.{Valid};
 ghost use Rattle.app_trace.specs.Told.{view_told};
 
 use crate::contents::contents_of;
+use crate::files::files_of;
 use crate::held::held_documents;
-use crate::opening;
 use crate::view::AppView;
+use opening_lists::rights;
 use portal_base::list::List;
 use portal_base::memory::WantOfMemory;
 use portal_base::names::AppId;
@@ -24,9 +25,10 @@ pub fn view_of(alloc: Global, opening: &OpeningState, app: &AppId) -> Result<App
     ensures { IfOk result (λ held. view_told held ≡ view (opened opening.now) app.now) }
 {
     let items = opening.documents.as_slice();
-    let rights = opening::rights(alloc, items)?;
+    let rights = rights(alloc, items)?;
     let documents = held_documents(alloc, items, &rights, app)?;
-    let contents = contents_of(alloc, opening.files.as_slice(), documents.as_slice())?;
+    let files = files_of(alloc, opening)?;
+    let contents = contents_of(alloc, files.as_slice(), documents.as_slice())?;
     Ok(AppView {
         handles: opening.limits.handles,
         queued: opening.limits.queued,

@@ -1,6 +1,5 @@
 use Rattle.std.proofs.Common.{Bool, map, ap, ◌++◌, cond, [], ◌∷◌, ◌∙◌}
 use Rattle.app_world.specs.View.{path_content}
-use Rattle.portal_model.specs.Opening.{file_of}
 use Rattle.app_trace.specs.Contents.{comes_again}
 use Rattle.app_trace.specs.Told.{path_told}
 use Rattle.app_trace.proofs.ContentsInOrder.{once-more}
@@ -8,7 +7,7 @@ use Rattle.app_trace.proofs.contents.contents_at.Goals as goal
 
 pub loop-index-preserved : goal.loop-index-preserved
 loop-index-preserved c =
-    let files = map file_of c.args.files.now in
+    let files = c.args.files.now in
     let path = c.index-paths-index.result in
     let again = c.comes_again-again.ensures ∙ ap (comes_again path) c.next_of.ensures in
     once-more files (map path_told c.loop-index.contents) (map path_told c.push_content.new.contents) c.args.paths.now c.loop-index.index path c.loop-index-test.true c.index-paths-index.is

@@ -1,6 +1,5 @@
 use Rattle.std.proofs.Common.{◌≡◌, ◌++◌, drop, map}
 use Rattle.app_world.specs.View.{path_content}
-use Rattle.portal_model.specs.Opening.{file_of}
 use Rattle.app_trace.specs.Contents.{once_each}
 use Rattle.app_trace.specs.Told.{path_told}
 use Rattle.app_trace.proofs.contents.contents_at.Given as goal
@@ -8,5 +7,5 @@ use Rattle.app_trace.proofs.contents.contents_at.Given as goal
 -- what is there so far, and of the paths that are left
 abbrev pub invariant-loop-index : goal.invariant-loop-index
 invariant-loop-index l =
-    map path_told l.contents ++ map (path_content (map file_of l.files)) (once_each (drop l.index l.paths))
-    ≡ map (path_content (map file_of l.files)) (once_each l.paths)
+    map path_told l.contents ++ map (path_content l.files) (once_each (drop l.index l.paths))
+    ≡ map (path_content l.files) (once_each l.paths)

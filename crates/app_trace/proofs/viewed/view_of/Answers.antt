@@ -1,14 +1,14 @@
 use Rattle.std.proofs.Common.{ℕ, List, ap, map, nat_eq, subst, ◌∙◌}
 use Rattle.std.specs.List.{IsDistinct}
 use Rattle.app_world.specs.View.{contents_at, held_documents}
-use Rattle.portal_model.specs.declared.opening.FileItem.{FileItem}
+use Rattle.portal_base.specs.declared.files.File.{File}
 use Rattle.portal_model.specs.declared.opening.OpeningDocument.{OpeningDocument}
 use Rattle.portal_model.specs.declared.state.Triple.{Triple}
 use Rattle.portal_model.specs.Opening.{document_kept, file_of, opened, rights_kept}
 use Rattle.portal_model.specs.State.{held_of}
 use Rattle.app_trace.specs.declared.view.HeldDocument.{HeldDocument}
 use Rattle.app_trace.specs.Contents.{path_held}
-use Rattle.app_trace.proofs.ValidNames.{rights_named}
+use Rattle.opening_lists.proofs.ValidNames.{rights_named}
 use Rattle.app_trace.proofs.ViewedParts.{numbers_kept, viewed}
 use Rattle.app_trace.proofs.viewed.view_of.Goals as goal
 
@@ -29,6 +29,6 @@ returns c =
     ∙ ap (λ (items : List OpeningDocument). held_documents (held_of (rights_kept items) app) (map document_kept items)) c.as_slice-items.ensures) in
     let contents =
     c.in_ok-contents.ensures
-    ∙ (ap (λ (files : List FileItem). contents_at (map file_of files) (map path_held c.as_slice-2.result.now)) c.as_slice.ensures
+    ∙ (ap (λ (files : List File). contents_at files (map path_held c.as_slice-2.result.now)) (c.as_slice.ensures.value ∙ c.in_ok-files.ensures)
     ∙ ap (λ (held : List HeldDocument). contents_at (map file_of o.files) (map path_held held)) c.as_slice-2.ensures) in
     viewed o app c.in_ok-documents.documents c.new.result c.in_ok-contents.contents documents c.new.ensures contents
