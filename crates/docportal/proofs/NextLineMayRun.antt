@@ -350,7 +350,7 @@ opened_here a seat at lines line x closed e n k same =
 
 goes_closed : (what : Stop) (a b : Scene) (seat : ℕ) (rs : List Request) (ps : List (List ℕ)) (now : Standing) (es : List Entry) (out : List (List ℕ)) (lines : List ScriptLine) (line : ScriptLine)
     → AreClosed lines a → ((x : Option Standing) (n : ℕ) → list_any (opens n) (lines ++ line ∷ []) ≡ false → (n == seat) ≡ true → x ≡ None) → Goes a seat what rs ps now es out b → AreClosed (lines ++ line ∷ []) b
-goes_closed stop.More a b seat rs ps now es out lines line closed here h = comes_closed a b seat rs _ (Some now) es out lines line closed (here (Some now)) h.1
+goes_closed stop.More a b seat rs ps now es out lines line closed here h = comes_closed a b seat rs _ (Some now) es out lines line closed (here (Some now)) h
 goes_closed (stop.Bad rule) a b seat rs ps now es out lines line closed here h = comes_closed a b seat _ _ None es out lines line closed (here None) h
 goes_closed stop.TooLong a b seat rs ps now es out lines line closed here h = comes_closed a b seat _ _ None es out lines line closed (here None) h
 

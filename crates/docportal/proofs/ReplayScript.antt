@@ -23,7 +23,7 @@ use Rattle.docportal.specs.Inputs.{script_limit, AtEnd, IsWhole, Stops}
 use Rattle.docportal.specs.Plays.{Plays, PlaysAll, PlaysPart, PlayStops}
 use Rattle.docportal.specs.Commands.{replay_words, IsNoCommand, IsUnbuiltCommand}
 use Rattle.docportal.specs.Runs.{Cause, IsReplay, Ran, Replays, Risen, WroteFront}
-use Rattle.docportal.specs.Scenes.{Scene, ScriptPortal, first_scene, opening_state, outside_at, run_limits, sessions_of}
+use Rattle.docportal.specs.Scenes.{Scene, ScriptPortal, first_scene, held_in, opening_state, outside_at, run_limits, sessions_of}
 use Rattle.docportal.specs.Steps.{Agrees, AreFirst, MayPlay, scene}
 use Rattle.docportal.specs.Started.{StartsScript}
 use Rattle.docportal.proofs.BytesAhead.{behind_none}
@@ -39,7 +39,7 @@ abbrev pub Replayed : List ℕ → Option (List (List ℕ)) → Option (List (Li
 Replayed text told told' status = (pieces : List (List ℕ)) × (told' ≡ onto told pieces) × Replays text pieces status
 
 front_room : (entries : Entries) (text : List ℕ) (lines front later : List ScriptLine) (history : List Entry) (out : List (List ℕ)) (last : Scene) → length text ≤ script_limit → IsRead text lines
-    → Plays (first_scene entries lines) front history out last → lines ≡ front ++ later → cost history + 8 * length (text_of later) ≤ run_limits.history
+    → Plays (first_scene entries lines) front history out last → lines ≡ front ++ later → cost history + 8 * (held_in last + length (text_of later)) ≤ run_limits.history
 front_room entries text lines front later history out last short script plays e =
     let most = plays_cost front later [] (first_scene entries lines) last history out (subst (StandBehind []) e script.good) plays in
     let none = nothing_held (first_scene entries lines) (λ n. refl) in

@@ -15,7 +15,7 @@ use Rattle.docportal.specs.declared.status.Status.TheVariants.{Done, Usage, Scri
 use Rattle.docportal.specs.Commands.{replay_words, IsNoCommand, IsUnbuiltCommand}
 use Rattle.docportal.specs.Inputs.{script_limit, AtEnd}
 use Rattle.docportal.specs.Plays.{Plays}
-use Rattle.docportal.specs.Scenes.{Scene, first_scene, opening_state, run_limits}
+use Rattle.docportal.specs.Scenes.{Scene, first_scene, held_in, opening_state, run_limits}
 use Rattle.docportal.specs.Steps.{AreFirst}
 
 -- the history of the lines is legal, and the replies to each application are those of its own
@@ -29,7 +29,8 @@ pub record IsSound (entries : Entries) (lines : List ScriptLine) (history : List
 
 -- The lines of a front have this history and this output, from the state that the lines open with,
 -- with the entries that they keep, and no others; the history is sound, and within its limit with
--- all that the lines behind can ask, at eight times the bytes of their text.
+-- all that can be asked by the bytes that the sessions hold and by the lines behind, at eight times
+-- the bytes of their text.
 pub record IsReplay (lines front : List ScriptLine) (history : List Entry) (out : List (List ℕ))
     (last : Scene) : Type 0 where
   pub entries : Entries
@@ -40,7 +41,7 @@ pub record IsReplay (lines front : List ScriptLine) (history : List Entry) (out 
       → (h ≡ history) × (o ≡ out) × (b ≡ last)
   pub sound : IsSound entries lines history
   pub room : (later : List ScriptLine) → lines ≡ front ++ later
-      → cost history + 8 * length (text_of later) ≤ run_limits.history
+      → cost history + 8 * (held_in last + length (text_of later)) ≤ run_limits.history
 
 -- the text is a script, and the pieces are its output
 pub record WroteAll (text : List ℕ) (pieces : List (List ℕ)) : Type 0 where
