@@ -2,7 +2,7 @@
 //!
 //! Source: D-Bus Specification, "Marshaling (Wire Format)".
 
-ghost use Rattle.std.specs.Prelude.{◌≡◌, ◌+◌, ◌-◌, ◌<◌, ◌≤◌, ◌^◌, ℕ, List, ◌++◌, [], length, map, take, drop, IfOk, IsTrue, ◌↔◌};
+ghost use Rattle.std.specs.Prelude.{◌≡◌, ◌+◌, ◌-◌, ◌<◌, ◌≤◌, ◌^◌, ℕ, List, ◌++◌, [], length, map, take, drop, IfOk};
 ghost use Rattle.dbus_types.specs.declared.types.Value.{Value as Value'};
 ghost use Rattle.dbus_types.specs.declared.types.Value.TheVariants as V;
 ghost use Rattle.dbus_types.specs.declared.types.WireType.TheVariants as W;
