@@ -2,7 +2,7 @@
 //!
 //! Source: D-Bus Specification, "Valid Signatures" and "Message Protocol".
 
-ghost use Rattle.std.specs.Prelude.{◌≡◌, ◌≤◌, map, min};
+ghost use Rattle.std.specs.Prelude.{◌≡◌, map, min};
 ghost use Rattle.dbus_types.specs.declared.types.Value.TheVariants as V;
 ghost use Rattle.dbus_types.specs.Types.{greatest};
 ghost use Rattle.dbus_types.specs.Values.{nesting as nesting_in, one_around};
@@ -33,8 +33,7 @@ pub fn nesting(value: &Value) -> u32
 
 /// How deep an array of these bytes goes.
 fn around_bytes(bytes: &[u8]) -> u32
-    ensures known { result ≡ nesting_in (V.Bytes bytes.now) }
-    ensures small { result ≤ 1 }
+    ensures { result ≡ min (nesting_in (V.Bytes bytes.now)) 4_294_967_295 }
 {
     if bytes.is_empty() {
         return 0;
