@@ -3,6 +3,7 @@
 ghost use Rattle.std.specs.Prelude.{◌≡◌};
 ghost use Rattle.serve_command.specs.Ends.{number_of};
 
+use portal_base::memory::WantOfMemory;
 use portal_base::text::Text;
 use std::fmt;
 
@@ -16,6 +17,11 @@ pub enum ServeEnd {
         /// What is faulty.
         why: String,
     },
+    /// The folder of the files can't be used.
+    NoRoot {
+        /// Why not.
+        why: String,
+    },
     /// A socket can't be made.
     NoSocket {
         /// Where.
@@ -23,8 +29,16 @@ pub enum ServeEnd {
         /// Why not.
         why: String,
     },
+    /// There are no random bytes for the guid and the identifiers.
+    NoSeed {
+        /// What the system says.
+        why: String,
+    },
     /// The store failed.
-    KeeperFault,
+    KeeperFault {
+        /// What it met.
+        why: String,
+    },
     /// What the store keeps breaks a rule.
     BadRecord {
         /// The number of the first bad record, from 0.
@@ -49,13 +63,26 @@ impl ServeEnd {
         match self {
             ServeEnd::Closed => 0,
             ServeEnd::Usage { .. } => 1,
+            ServeEnd::NoRoot { .. } => 1,
             ServeEnd::NoSocket { .. } => 2,
-            ServeEnd::KeeperFault => 3,
+            ServeEnd::NoSeed { .. } => 2,
+            ServeEnd::KeeperFault { .. } => 3,
             ServeEnd::BadRecord { .. } => 4,
             ServeEnd::Memory => 5,
             ServeEnd::BadVersion { .. } => 6,
             ServeEnd::SocketFault => 7,
         }
+    }
+}
+
+impl From<WantOfMemory> for ServeEnd {
+    ghost use Rattle.std.specs.Prelude.{◌≡◌};
+    ghost use Rattle.serve_command.specs.declared.end.ServeEnd.TheVariants.{Memory};
+
+    ghost from_gives = { λ _ end. end ≡ Memory };
+
+    fn from(_error: WantOfMemory) -> ServeEnd {
+        ServeEnd::Memory
     }
 }
 
@@ -65,10 +92,12 @@ impl fmt::Display for ServeEnd {
         match self {
             ServeEnd::Closed => write!(f, "every socket was closed"),
             ServeEnd::Usage { why } => write!(f, "usage: {why} (docportal serve --help)"),
+            ServeEnd::NoRoot { why } => write!(f, "usage: the folder of --root: {why}"),
             ServeEnd::NoSocket { path, why } => {
                 write!(f, "no socket at {}: {why}", path.as_str())
             }
-            ServeEnd::KeeperFault => write!(f, "store fault"),
+            ServeEnd::NoSeed { why } => write!(f, "no socket: {why}"),
+            ServeEnd::KeeperFault { why } => write!(f, "store fault: {why}"),
             ServeEnd::BadRecord { index } => write!(f, "bad record {index} in the store"),
             ServeEnd::Memory => write!(f, "no memory"),
             ServeEnd::BadVersion { found } => write!(f, "the store is of version {found}"),
