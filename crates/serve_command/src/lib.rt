@@ -21,6 +21,7 @@
 #![tactic(auto)]
 
 pub mod end;
+mod guid;
 mod form;
 pub mod settings;
 pub mod sockets;
