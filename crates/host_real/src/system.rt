@@ -158,10 +158,18 @@ impl<R: Files> FilesBelow<R> {
         self.path.clear();
         self.path.push_str(self.root.as_str())?;
         self.path.push_str(text)?;
+        if self.has_root()? {
+            return Ok(());
+        }
+        Err(TreeError::System)
+    }
+
+    /// Says whether the root is a folder. It may be reached by a link.
+    fn has_root(&self) -> Result<bool, TreeError> {
         let behind_root = self.root.len().saturating_add(1);
         match self.path.split_at_checked(behind_root) {
-            Some((root, _)) if self.at(root)? == Look::Folder => Ok(()),
-            _ => Err(TreeError::System),
+            Some((root, _)) => Ok(self.at(root)? == Look::Folder),
+            None => Ok(false),
         }
     }
 
