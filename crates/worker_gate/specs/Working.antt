@@ -1,7 +1,7 @@
 -- What a worker does: it serves the links of a listener at a desk, one after another.
 use Rattle.std.specs.Prelude.{◌≡◌, ℕ, List, [], ◌∷◌, ◌++◌, Bool, false, Option, Some, None, IfSome}
 use Rattle.portal_base.specs.Outside.{HasRisen}
-use Rattle.portal_model.specs.Seated.{Known, Seated, is_open, state_seen}
+use Rattle.portal_model.specs.Seated.{Exchange, Known, Moved, Seated, is_open, state_seen}
 use Rattle.session.specs.declared.act.Client.{Client}
 use Rattle.session.specs.declared.served.Served.{Served}
 use Rattle.session.specs.Connections.{Serves}
@@ -40,26 +40,36 @@ abbrev pub world_of : {S K : Type 0} → Sides S K → Seated → Link S K → W
 world_of s d l = world d (s.told l.sink) (s.write_faults l.sink)
 
 -- One link was served, as it was given and as it came back, by a desk before and after: a served
--- connection of this client, with an ending that means what it says of it.
+-- connection of this client, with an ending that means what it says of it. What the desk's seat made
+-- meanwhile is this part.
 pub record ServesLink {S K : Type 0} (s : Sides S K) (c : Client) (given : Link S K) (v : Seated)
-    (back : Link S K) (w : Seated) : Type 0 where
+    (part : List Exchange) (back : Link S K) (w : Seated) : Type 0 where
   pub ended : Served
   pub serves : Serves c ended (spring_of s given) (spring_of s back) (world_of s v given)
       (world_of s w back)
+  pub moved : Moved v w
+  pub mine : w.mine ≡ v.mine ++ part
   pub closed : is_open (state_seen w) w.seat ≡ false
   pub known : Known w
   pub heard : IsHeard v w
   pub isolated : IsIsolated c.who v w
 
--- Links were served, one after another, each once, and came back in that order. Each has a part of
--- its own of what the desk's seat asked: what lies between one state of the desk and the next.
+-- Links were served, one after another, each once, with a part for each, and came back in that
+-- order.
 abbrev pub ServesLinks : {S K : Type 0} → Sides S K → Client → List (Link S K) → Seated
-    → List (Link S K) → Seated → Type 0
-ServesLinks s c [] v [] w = w ≡ v
-ServesLinks s c (g ∷ given) v (b ∷ back) w =
-    (m : Seated) × ServesLink s c g v b m × ServesLinks s c given m back w
-ServesLinks s c [] v (b ∷ back) w = ⊥
-ServesLinks s c (g ∷ given) v [] w = ⊥
+    → List (List Exchange) → List (Link S K) → Seated → Type 0
+ServesLinks s c [] v [] [] w = w ≡ v
+ServesLinks s c (g ∷ given) v (part ∷ parts) (b ∷ back) w =
+    (m : Seated) × ServesLink s c g v part b m × ServesLinks s c given m parts back w
+ServesLinks s c [] v [] (b ∷ back) w = ⊥
+ServesLinks s c [] v (part ∷ parts) back w = ⊥
+ServesLinks s c (g ∷ given) v [] back w = ⊥
+ServesLinks s c (g ∷ given) v (part ∷ parts) [] w = ⊥
+
+-- the parts, one after another
+abbrev pub joined : List (List Exchange) → List Exchange
+joined [] = []
+joined (part ∷ parts) = part ++ joined parts
 
 -- what contracts see of a listener
 pub record Hall (S K : Type 0) : Type 0 where
@@ -85,11 +95,15 @@ EndsWork end.Closed a b = HasRisen a.ends b.ends × (b.faults ≡ a.faults)
 EndsWork end.Failed a b = (b.ends ≡ a.ends) × HasRisen a.faults b.faults
 EndsWork end.Memory a b = (b.ends ≡ a.ends) × (b.faults ≡ a.faults)
 
--- What a worker did: from a listener and a desk to what they are then, these links were served.
+-- What a worker did, from a listener and a desk to what they are then: these links were served, and
+-- what the desk's seat made falls into their parts, and nothing else.
 pub record Works {S K : Type 0} (s : Sides S K) (c : Client) (ended : WorkEnd) (a : Hall S K)
     (v : Seated) (b : Hall S K) (w : Seated) : Type 0 where
   pub given : List (Link S K)
+  pub parts : List (List Exchange)
   pub back : List (Link S K)
-  pub serves : ServesLinks s c given v back w
+  pub serves : ServesLinks s c given v parts back w
   pub passes : Passes a.links given back b.links
+  pub moved : Moved v w
+  pub mine : w.mine ≡ v.mine ++ joined parts
   pub ends : EndsWork ended a b

@@ -101,7 +101,7 @@ impl<'a, K: Sink, G: Gate> GateSink<'a, K, G> {
 
     /// The sink again.
     pub fn into_sink(self) -> K
-        ensures { result ≡ sink_of self }
+        ensures { result ≡ sink_of self.entry }
     {
         let GateSink {
             worker: _,

@@ -1,7 +1,7 @@
 //! A worker, which serves the links of a post.
 
-ghost use Rattle.std.specs.Prelude.{◌≡◌, false};
-ghost use Rattle.portal_model.specs.Seated.{Known, is_open, state_seen};
+ghost use Rattle.std.specs.Prelude.{◌≡◌, List, false};
+ghost use Rattle.portal_model.specs.Seated.{Exchange, Known, is_open, state_seen};
 ghost use Rattle.session.specs.Standings.{client};
 ghost use Rattle.worker_gate.specs.Listening.{link as the_link};
 ghost use Rattle.worker_gate.specs.Working.{ServesLink, Works, hall, sides};
@@ -72,7 +72,7 @@ pub fn work<R: Wait, D: Desk, L: Listener, G: Gate>(
     ensures goes { D.goes desk.old desk.new }
 {
     desk.known();
-    for _ in rt.forever() {
+    'links: for _ in rt.forever() {
         match post.listener.accept(alloc) {
             Accepted::Link { source, sink } => {
                 let link = Link { source, sink };
@@ -101,8 +101,9 @@ fn serve_link<D: Desk, S: Source, K: Sink, G: Gate>(
     gate: &G,
 ) -> Link<S, K>
     requires { is_open (state_seen (D.seated desk.old)) (D.seated desk.old).seat ≡ false }
-    ensures serves { ServesLink (sides S.left S.faults K.told K.faults)
-        (client who.now kind settings.now) link (D.seated desk.old) result (D.seated desk.new) }
+    ensures serves { (part : List Exchange)
+        × ServesLink (sides S.left S.faults K.told K.faults) (client who.now kind settings.now)
+        link (D.seated desk.old) part result (D.seated desk.new) }
     ensures goes { D.goes desk.old desk.new }
 {
     let Link { mut source, sink } = link;
