@@ -18,7 +18,7 @@ use Rattle.worker_gate.specs.declared.worker.WorkEnd.{WorkEnd}
 use Rattle.worker_gate.specs.declared.worker.WorkEnd.TheVariants as end
 use Rattle.worker_gate.specs.Listening.{Accepts, Links, link, links, returned}
 use Rattle.worker_gate.specs.Working.{EndsWork, Hall, Passes, ServesLink, ServesLinks, Sides, Works, joined, spring_of, world_of}
-use Rattle.worker_gate.proofs.Parts.{part_of}
+use Rattle.worker_gate.proofs.Parts.{moved_none, part_of}
 
 -- these links were served, and the listener's counts stand still
 pub record SoFar {S K : Type 0} (s : Sides S K) (c : Client) (a : Hall S K) (v : Seated)
@@ -30,9 +30,6 @@ pub record SoFar {S K : Type 0} (s : Sides S K) (c : Client) (a : Hall S K) (v :
   pub passes : Passes a.links given back b.links
   pub ends : b.ends ≡ a.ends
   pub faults : b.faults ≡ a.faults
-
-pub moved_none : (v : Seated) → Moved v v
-moved_none v = record { opening = refl; seat = refl; begins = ([], sym (append-nil v.seen)) }
 
 pub moved_on : (v m w : Seated) → Moved v m → Moved m w → Moved v w
 moved_on v m w h k = record {
@@ -56,10 +53,10 @@ module _ {S K : Type 0} where
       let q' : m ≡ None = subst (λ (z : Option (Links S K)). Accepts z (accepted.Link x y) m) p q in
       r ∙ ap (λ (z : Option (Links S K)). returned z x' y') q'
   passes_more (Some old) b m n given back x y x' y' p q r =
-      let q' = subst (λ (z : Option (Links S K)). Accepts z (accepted.Link x y) m) p.2 q in
-      ( q'.0
-      , p.1 ∙ (ap (λ (z : List (Link S K)). given ++ z) q'.1 ∙ sym (append_assoc given (link x y ∷ []) q'.0))
-      , r ∙ (ap (λ (z : Option (Links S K)). returned z x' y') q'.2 ∙ ap (λ (z : List (Link S K)). Some (links q'.0 z)) (append_assoc old.back back (link x' y' ∷ [])))
+      let q' = subst (λ (z : Option (Links S K)). Accepts z (accepted.Link x y) m) p.2 q in (
+        q'.0,
+        p.1 ∙ (ap (λ (z : List (Link S K)). given ++ z) q'.1 ∙ sym (append_assoc given (link x y ∷ []) q'.0)),
+        r ∙ (ap (λ (z : Option (Links S K)). returned z x' y') q'.2 ∙ ap (λ (z : List (Link S K)). Some (links q'.0 z)) (append_assoc old.back back (link x' y' ∷ []))),
       )
 
   pub serves_more : (s : Sides S K) (c : Client) (given : List (Link S K)) (parts : List (List Exchange)) (back : List (Link S K)) (x y : Link S K) (part : List Exchange) (v m w : Seated)
@@ -182,12 +179,12 @@ module _ {S K : Type 0} where
       → (part : List Exchange) × ServesLink s c given v part back w
   link_served s c given v back w r h closed known heard isolated =
       let p = part_of c r (spring_of s given) (spring_of s back) (world_of s v given) (world_of s w back) h in (
-        p.0,
+        p.made,
         record {
           ended = r;
           serves = h;
-          moved = p.1;
-          mine = p.2;
+          moved = p.moved;
+          mine = p.mine;
           closed = closed;
           known = known;
           heard = heard;

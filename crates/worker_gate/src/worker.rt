@@ -3,13 +3,11 @@
 ghost use Rattle.std.specs.Prelude.{◌≡◌, List, false};
 ghost use Rattle.portal_model.specs.Seated.{Exchange, Known, is_open, state_seen};
 ghost use Rattle.session.specs.Standings.{client};
-ghost use Rattle.worker_gate.specs.Listening.{link as the_link};
 ghost use Rattle.worker_gate.specs.Working.{ServesLink, Works, hall, sides};
 
 use crate::gate::{Gate, GateDesk, GateSink};
 use crate::listener::{Accepted, Link, Listener};
 use portal_base::limits::Settings;
-use portal_base::outside::{Sink, Source};
 use portal_base::who::{Kind, Who};
 use portal_desk::Desk;
 use session::connection::serve_connection;
@@ -77,7 +75,7 @@ pub fn work<R: Wait, D: Desk, L: Listener, G: Gate>(
             Accepted::Link { source, sink } => {
                 let link = Link { source, sink };
                 let Link { source, sink } = serve_link(
-                    alloc, worker, desk, &post.who, post.kind, settings, link, gate,
+                    alloc, worker, desk, post, settings, link, gate,
                 );
                 post.listener.done(source, sink);
             }
@@ -89,21 +87,21 @@ pub fn work<R: Wait, D: Desk, L: Listener, G: Gate>(
     unreachable!()
 }
 
-/// Serves one link, and gives it back.
-fn serve_link<D: Desk, S: Source, K: Sink, G: Gate>(
+/// Serves one link of a post, and gives it back.
+fn serve_link<D: Desk, L: Listener, G: Gate>(
     alloc: Global,
     worker: u32,
     desk: &mut D,
-    who: &Who,
-    kind: Kind,
+    post: &Post<L>,
     settings: &Settings,
-    link: Link<S, K>,
+    link: Link<L::In, L::Out>,
     gate: &G,
-) -> Link<S, K>
+) -> Link<L::In, L::Out>
     requires { is_open (state_seen (D.seated desk.old)) (D.seated desk.old).seat ≡ false }
     ensures serves { (part : List Exchange)
-        × ServesLink (sides S.left S.faults K.told K.faults) (client who.now kind settings.now)
-        link (D.seated desk.old) part result (D.seated desk.new) }
+        × ServesLink (sides L.In.left L.In.faults L.Out.told L.Out.faults)
+        (client post.now.who post.now.kind settings.now) link (D.seated desk.old) part result
+        (D.seated desk.new) }
     ensures goes { D.goes desk.old desk.new }
 {
     let Link { mut source, sink } = link;
@@ -112,8 +110,8 @@ fn serve_link<D: Desk, S: Source, K: Sink, G: Gate>(
     serve_connection(
         alloc,
         &mut desk,
-        who,
-        kind,
+        &post.who,
+        post.kind,
         settings,
         &mut source,
         &mut sink,

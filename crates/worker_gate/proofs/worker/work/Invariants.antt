@@ -10,11 +10,11 @@ invariant-links g l =
     (goal.iterator-links g).can_next l.iterator'
     × (goal.iterator-links g).is_finite l.iterator'
     × SoFar (sides g.L.In.Source.left g.L.In.Source.faults g.L.Out.Sink.told g.L.Out.Sink.faults)
-      (client l.fn.post.who l.fn.post.kind l.settings)
-      (hall (g.L.Listener.links l.fn.post.listener) (g.L.Listener.ends l.fn.post.listener) (g.L.Listener.faults l.fn.post.listener))
-      (g.D.Desk.seated l.fn.desk)
-      (hall (g.L.Listener.links l.post.listener) (g.L.Listener.ends l.post.listener) (g.L.Listener.faults l.post.listener))
-      (g.D.Desk.seated l.desk)
+    (client l.fn.post.who l.fn.post.kind l.settings)
+    (hall (g.L.Listener.links l.fn.post.listener) (g.L.Listener.ends l.fn.post.listener) (g.L.Listener.faults l.fn.post.listener))
+    (g.D.Desk.seated l.fn.desk)
+    (hall (g.L.Listener.links l.post.listener) (g.L.Listener.ends l.post.listener) (g.L.Listener.faults l.post.listener))
+    (g.D.Desk.seated l.desk)
     × (is_open (state_seen (g.D.Desk.seated l.desk)) (g.D.Desk.seated l.desk).seat ≡ false)
     × Known (g.D.Desk.seated l.desk)
     × (l.post.who ≡ l.fn.post.who)
