@@ -1,6 +1,6 @@
 //! The sockets of a service.
 
-ghost use Rattle.std.specs.Prelude.{◌≡◌, ◌++◌, IfOk, OnOk};
+ghost use Rattle.std.specs.Prelude.{◌≡◌, ◌+◌, ◌*◌, ◌++◌, length, IfOk, OnOk};
 ghost use Rattle.serve_command.specs.Sockets.{kind_name, path_in, sockets_in, sockets_of_one, who_name};
 
 use portal_base::list::List;
@@ -23,12 +23,14 @@ pub struct Socket {
 
 /// The sockets of a service: those of the host, then of each application in order, of each
 /// a bus and then a mount.
+#[tactic(auto, using(crate::proofs::SocketCount::sockets_counted))]
 pub fn sockets_of(
     alloc: Global,
     folder: &Text,
     apps: &[AppId],
 ) -> Result<List<Socket>, WantOfMemory>
-    ensures { IfOk result (λ sockets. sockets ≡ sockets_in folder.now apps.now) }
+    ensures sockets { IfOk result (λ sockets. sockets ≡ sockets_in folder.now apps.now) }
+    ensures count { IfOk result (λ sockets. length sockets ≡ 2 + 2 * length apps.now) }
 {
     let mut sockets = List::new(alloc);
     add_sockets(alloc, &mut sockets, folder, &Who::Host)?;
