@@ -1,3 +1,3 @@
 pub mod Apps
 pub mod NameTexts
-pub mod SocketCount
+pub mod PathLaw

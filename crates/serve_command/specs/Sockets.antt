@@ -1,5 +1,5 @@
 -- The sockets of a service: where each is, whose it is, and what its connections speak.
-use Rattle.std.specs.Prelude.{ℕ, List, [], ◌∷◌, ◌++◌, codes}
+use Rattle.std.specs.Prelude.{◌≡◌, ℕ, List, [], ◌∷◌, ◌++◌, codes}
 use Rattle.std.specs.List.{flat_map}
 use Rattle.portal_base.specs.declared.who.Who.{Who}
 use Rattle.portal_base.specs.declared.who.Who.TheVariants.{Host, App}
@@ -33,3 +33,8 @@ sockets_of_one folder who = socket_in folder who Bus ∷ socket_in folder who Mo
 abbrev pub sockets_in : List ℕ → List (List ℕ) → List Socket
 sockets_in folder apps =
     sockets_of_one folder Host ++ flat_map (λ app. sockets_of_one folder (App app)) apps
+
+-- of two sockets in one folder with one path, one caller has both, and both speak the same
+abbrev pub PathsTell : Type 0
+PathsTell = (folder : List ℕ) (w v : Who) (k l : Kind) → path_in folder w k ≡ path_in folder v l
+    → (w ≡ v) × (k ≡ l)

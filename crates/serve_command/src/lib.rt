@@ -10,7 +10,8 @@
 //! |---|---|
 //! | `words`, `form` | the words, read; what `clap` is told of them |
 //! | `sockets` | the sockets of a service: the path of each, whose it is, and what it speaks |
-//! | `settings` | what the portal of a service is set to |
+//! | `settings`, `guid` | what the portal of a service is set to |
+//! | `laws` | a path tells whose a socket is |
 //! | `end` | how a service ended: its number, and its line |
 //!
 //! ```text
@@ -21,8 +22,9 @@
 #![tactic(auto)]
 
 pub mod end;
-mod guid;
 mod form;
+mod guid;
+pub mod laws;
 pub mod settings;
 pub mod sockets;
 pub mod words;

@@ -23,7 +23,6 @@ pub struct Socket {
 
 /// The sockets of a service: those of the host, then of each application in order, of each
 /// a bus and then a mount.
-#[tactic(auto, using(crate::proofs::SocketCount::sockets_counted))]
 pub fn sockets_of(
     alloc: Global,
     folder: &Text,
