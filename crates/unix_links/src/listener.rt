@@ -44,10 +44,7 @@ impl SocketListener {
     pub fn bind<R: Files + Net>(rt: &R, path: &str) -> Result<SocketListener, BindError>
         ensures { IfOk result (λ listener. listener ≡ 0) }
     {
-        Ok(SocketListener {
-            socket: place::bind(rt, path)?,
-            faults: 0,
-        })
+        Ok(SocketListener::at(place::bind(rt, path)?))
     }
 
     /// Another listener at the same socket, without faults so far. A connection comes
@@ -55,10 +52,14 @@ impl SocketListener {
     pub fn share(&self) -> Result<SocketListener, BindError>
         ensures { IfOk result (λ listener. listener ≡ 0) }
     {
-        Ok(SocketListener {
-            socket: self.socket.try_clone()?,
-            faults: 0,
-        })
+        Ok(SocketListener::at(self.socket.try_clone()?))
+    }
+
+    /// A listener at a socket, without faults so far.
+    fn at(socket: UnixListener) -> SocketListener
+        ensures { result ≡ 0 }
+    {
+        SocketListener { socket, faults: 0 }
     }
 
     /// Both ends of the next connection.
