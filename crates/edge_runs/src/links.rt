@@ -3,13 +3,12 @@
 use portal_base::outside::{ReadAnswer, Sink, Source};
 use std::alloc::Global;
 use std::cell::Cell;
-use std::fs;
 use std::fs::Files;
-use std::io;
 use std::io::{ErrorKind, Read, Write};
 use std::net::Net;
 use std::os::unix::fs::PermissionsExt;
 use std::os::unix::net::UnixStream;
+use std::{fs, io};
 use unix_links::{Patient, SocketListener};
 use vector_lines::error::{VectorError, bad, given};
 use vector_lines::notation::{cut, debug};

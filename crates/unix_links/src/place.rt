@@ -1,13 +1,12 @@
 //! The socket at a path.
 
 use crate::error::BindError;
-use std::fs;
 use std::fs::{Files, Permissions};
-use std::io;
 use std::io::ErrorKind;
 use std::net::Net;
 use std::os::unix::fs::{FileTypeExt, PermissionsExt};
 use std::os::unix::net::{UnixListener, UnixStream};
+use std::{fs, io};
 
 /// The owner may connect, and nobody else.
 const OWNER_ALONE: u32 = 0o600;
