@@ -12,7 +12,7 @@ use std::{fs, io};
 use unix_links::{Patient, SocketListener};
 use vector_lines::error::{VectorError, bad, given};
 use vector_lines::notation::{cut, debug};
-use worker_gate::{Accepted, Listener};
+use worker_gate::listener::{Accepted, Listener};
 
 /// `bind PATH`: the mode of the socket that is made at a path, or why none is. It
 /// stays when the listener has gone.

@@ -13,7 +13,7 @@ use std::io::ErrorKind;
 use std::marker::Model;
 use std::net::Net;
 use std::os::unix::net::{UnixListener, UnixStream};
-use worker_gate::{Accepted, Listener};
+use worker_gate::listener::{Accepted, Listener};
 
 /// A listener at a Unix socket, which contracts see as its count of faults.
 ///
