@@ -1,5 +1,5 @@
 -- Two connections of one application that have one trace and read the same are answered by the same bytes.
-use Rattle.std.proofs.Common.{◌≡◌, ℕ, List, [], ◌∷◌, ◌++◌, map, length, sym, ◌∙◌, subst}
+use Rattle.std.proofs.Common.{◌≡◌, ℕ, List, [], ◌∷◌, ◌++◌, map, length, length-append, sym, ap, ◌∙◌, subst, arith}
 use Rattle.session.specs.declared.act.Act.{Act}
 use Rattle.session.specs.declared.act.Client.{Client}
 use Rattle.session.specs.declared.served.Stop.{Stop}
@@ -11,7 +11,7 @@ use Rattle.session.proofs.ItemsAreOne.{are_one}
 use Rattle.connection_laws.specs.OwnPlaces.{replies_to}
 use Rattle.connection_laws.specs.Served.{BytesAreOfTheTrace, HaveOneTrace, Service, refusals_in, replied, replies_seen}
 use Rattle.connection_laws.proofs.Replies.{given-replies}
-use Rattle.connection_laws.proofs.Told.{between-replied, told-same}
+use Rattle.connection_laws.proofs.Told.{as-many-kept, between-replied, told-same}
 
 -- of two lists that join to one, whose fronts are as long
 backs : {X : Type 0} (fs bs xs ys : List X) → length fs ≡ length bs → fs ++ xs ≡ bs ++ ys → xs ≡ ys
@@ -22,6 +22,12 @@ backs (a ∷ fs) (b ∷ bs) xs ys n e =
     let shorter : length fs ≡ length bs = cc in
     let tails : fs ++ xs ≡ bs ++ ys = cc in
     backs fs bs xs ys shorter tails
+
+-- or whose backs are as long
+backs-many : {X : Type 0} (fs bs xs ys : List X) → length xs ≡ length ys → fs ++ xs ≡ bs ++ ys → xs ≡ ys
+backs-many fs bs xs ys n e =
+    let all = ap length e in
+    backs fs bs xs ys (omega (arith, all, n, length-append fs xs, length-append bs ys)) e
 
 module _ (app : List ℕ) (c : Client) (x y : Service c) (read left rest : List ℕ) (what why : Stop) (i : Whole c read left what x.before x.after) (j : Whole c read rest why y.before y.after) where
   -- the items of both ask the same
@@ -42,23 +48,31 @@ module _ (app : List ℕ) (c : Client) (x y : Service c) (read left rest : List 
     abbrev second_outcomes : List Outcome
     second_outcomes = between j.asked.entered j.all.outcomes j.asked.leaving
 
-    same_given : replied (kept second_outcomes) ≡ replied (kept first_outcomes)
-    same_given =
-        backs (replies_seen app y.before.seated) (replies_seen app x.before.seated) (replied (kept second_outcomes)) (replied (kept first_outcomes)) one.places
-        (sym (given-replies app c y second_outcomes one.second j.asked.grows.desk) ∙ (same_seen ∙ given-replies app c x first_outcomes one.first i.asked.grows.desk))
+    -- where the same requests were refused, as many replies were given to both
+    module _ (refused : refusals_in j.all.outcomes ≡ refusals_in i.all.outcomes) where
+      many_given : length (replied (kept second_outcomes)) ≡ length (replied (kept first_outcomes))
+      many_given =
+          ap length (between-replied j.asked.entered j.asked.leaving j.all.outcomes)
+          ∙ (omega (arith, as-many-kept j.all.outcomes i.all.outcomes refused, length-append (replied (kept j.all.outcomes)) (j.asked.leaving.reply ∷ []), length-append (replied (kept i.all.outcomes)) (i.asked.leaving.reply ∷ []))
+          ∙ ap length (sym (between-replied i.asked.entered i.asked.leaving i.all.outcomes)))
 
-    -- and behind Enter
-    behind_enter : replied (kept j.all.outcomes) ++ j.asked.leaving.reply ∷ [] ≡ replied (kept i.all.outcomes) ++ i.asked.leaving.reply ∷ []
-    behind_enter =
-        let whole : j.asked.entered.reply ∷ (replied (kept j.all.outcomes) ++ j.asked.leaving.reply ∷ []) ≡ i.asked.entered.reply ∷ (replied (kept i.all.outcomes) ++ i.asked.leaving.reply ∷ []) =
-        sym (between-replied j.asked.entered j.asked.leaving j.all.outcomes) ∙ (same_given ∙ between-replied i.asked.entered i.asked.leaving i.all.outcomes) in
-        cc
+      same_given : replied (kept second_outcomes) ≡ replied (kept first_outcomes)
+      same_given =
+          backs-many (replies_seen app y.before.seated) (replies_seen app x.before.seated) (replied (kept second_outcomes)) (replied (kept first_outcomes)) many_given
+          (sym (given-replies app c y second_outcomes one.second j.asked.grows.desk) ∙ (same_seen ∙ given-replies app c x first_outcomes one.first i.asked.grows.desk))
 
-    pub pieces-are : refusals_in j.all.outcomes ≡ refusals_in i.all.outcomes → j.all.pieces ≡ i.all.pieces
-    pieces-are refused =
-        let told : map told_as j.all.outcomes ≡ map told_as i.all.outcomes = told-same j.all.outcomes i.all.outcomes (j.asked.leaving.reply ∷ []) (i.asked.leaving.reply ∷ []) refused behind_enter in
-        let answers : Answers c 0 i.all.acts j.all.outcomes j.all.pieces j.all.last = subst (λ (acts : List Act). Answers c 0 acts j.all.outcomes j.all.pieces j.all.last) acts-are j.all.answers in
-        (say_alike c 0 j.all.last i.all.last i.all.acts j.all.outcomes i.all.outcomes j.all.pieces i.all.pieces told answers i.all.answers).0
+      -- and behind Enter
+      behind_enter : replied (kept j.all.outcomes) ++ j.asked.leaving.reply ∷ [] ≡ replied (kept i.all.outcomes) ++ i.asked.leaving.reply ∷ []
+      behind_enter =
+          let whole : j.asked.entered.reply ∷ (replied (kept j.all.outcomes) ++ j.asked.leaving.reply ∷ []) ≡ i.asked.entered.reply ∷ (replied (kept i.all.outcomes) ++ i.asked.leaving.reply ∷ []) =
+          sym (between-replied j.asked.entered j.asked.leaving j.all.outcomes) ∙ (same_given ∙ between-replied i.asked.entered i.asked.leaving i.all.outcomes) in
+          cc
+
+      pub pieces-are : j.all.pieces ≡ i.all.pieces
+      pieces-are =
+          let told : map told_as j.all.outcomes ≡ map told_as i.all.outcomes = told-same j.all.outcomes i.all.outcomes (j.asked.leaving.reply ∷ []) (i.asked.leaving.reply ∷ []) refused behind_enter in
+          let answers : Answers c 0 i.all.acts j.all.outcomes j.all.pieces j.all.last = subst (λ (acts : List Act). Answers c 0 acts j.all.outcomes j.all.pieces j.all.last) acts-are j.all.answers in
+          (say_alike c 0 j.all.last i.all.last i.all.acts j.all.outcomes i.all.outcomes j.all.pieces i.all.pieces told answers i.all.answers).0
 
 pub bytes-are : BytesAreOfTheTrace
 bytes-are app c x y read left rest what why i j one refused = pieces-are app c x y read left rest what why i j one refused

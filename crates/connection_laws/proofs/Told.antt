@@ -1,5 +1,5 @@
 -- What a client is told is told by the replies and the refusals.
-use Rattle.std.proofs.Common.{◌≡◌, List, [], ◌∷◌, ◌++◌, map, length, Option, None, Ok, Err, refl, ap, ◌∙◌, arith}
+use Rattle.std.proofs.Common.{◌≡◌, suc, List, [], ◌∷◌, ◌++◌, map, length, Option, None, Ok, Err, refl, ap, ◌∙◌, arith}
 use Rattle.portal_model.specs.declared.reply.Refused.{Refused}
 use Rattle.portal_model.specs.declared.reply.Reply.{Reply}
 use Rattle.portal_model.specs.declared.request.Request.{Request}
@@ -25,6 +25,20 @@ told-same (Denied request why ∷ os) (Denied other how ∷ us) more rest r e =
     let one : why ≡ how = cc in
     let behind : refusals_in os ≡ refusals_in us = cc in
     λ i. Err (one i) ∷ told-same os us more rest behind e i
+
+-- where the same is refused, as many are replied to
+pub as-many-kept : (os us : List Outcome) → refusals_in os ≡ refusals_in us → length (replied (kept os)) ≡ length (replied (kept us))
+as-many-kept [] [] r = refl
+as-many-kept [] (u ∷ us) r = absurd (cc)
+as-many-kept (o ∷ os) [] r = absurd (cc)
+as-many-kept (Made x ∷ os) (Made y ∷ us) r =
+    let behind : refusals_in os ≡ refusals_in us = cc in
+    ap suc (as-many-kept os us behind)
+as-many-kept (Made x ∷ os) (Denied request why ∷ us) r = absurd (cc)
+as-many-kept (Denied request why ∷ os) (Made y ∷ us) r = absurd (cc)
+as-many-kept (Denied request why ∷ os) (Denied other how ∷ us) r =
+    let behind : refusals_in os ≡ refusals_in us = cc in
+    as-many-kept os us behind
 
 -- the replies between Enter and Leave
 pub between-replied : (entered leaving : Exchange) (os : List Outcome) → replied (kept (between entered os leaving)) ≡ entered.reply ∷ (replied (kept os) ++ leaving.reply ∷ [])

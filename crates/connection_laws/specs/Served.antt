@@ -73,13 +73,11 @@ abbrev pub refusals_in : List Outcome → List (Option Refused)
 refusals_in outcomes = map refusal_in outcomes
 
 -- Two connections of one application, be it at two portals, have one trace behind them, in which
--- they have one seat, to which as many replies were given before.
+-- they have one seat.
 pub record HaveOneTrace (app : List ℕ) (c : Client) (x y : Service c) : Type 0 where
   pub first : IsOf app c x
   pub second : IsOf app c y
   pub seat : y.before.seated.seat ≡ x.before.seated.seat
-  pub places : length (replies_seen app y.before.seated)
-      ≡ length (replies_seen app x.before.seated)
   pub trace : trace_seen app y.after.seated ≡ trace_seen app x.after.seated
 
 -- Where such two have one client's settings and read the same, and the same requests were refused

@@ -41,8 +41,8 @@ pub fn items_are_asked_first()
 {}
 
 /// Two connections of an application whose traces begin alike, and that ask the same
-/// first, are answered by the same bytes so far, also where the one is cut off by a
-/// write that failed or by want of memory.
+/// first, are answered by the same bytes so far, also where the one is cut off later by
+/// a write that failed or by want of memory. Of the answer that is cut nothing is said.
 pub fn bytes_so_far_are_of_the_trace_so_far()
     ensures { BytesSoFar }
 {}

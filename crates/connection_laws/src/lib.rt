@@ -7,7 +7,8 @@
 //! trace, to which its other connections belong; and that two connections with one
 //! trace, one stream and the same refusals are written the same bytes and end
 //! alike, be it at two portals that have nothing else in common. As far as two
-//! traces are the same, so are the replies and the bytes.
+//! traces are the same, so are the replies, and the bytes of each item that is
+//! answered whole.
 //!
 //! | Room | Holds |
 //! |---|---|

@@ -8,11 +8,13 @@
 
 mod devices;
 mod folder;
+mod links;
 mod trees;
 
 use std::alloc::Global;
 use std::fs::Files;
 use std::io;
+use std::net::Net;
 use std::random::RandomSource;
 use std::time::Clock;
 use vector_lines::error::{VectorError, bad};
@@ -24,7 +26,7 @@ fn main(rt: HostRuntime) -> io::Result<()> {
 }
 
 /// The answer of a line.
-fn answer<R: Files + Clock + RandomSource>(
+fn answer<R: Files + Net + Clock + RandomSource>(
     rt: &R,
     alloc: Global,
     line: &str,
@@ -35,6 +37,11 @@ fn answer<R: Files + Clock + RandomSource>(
         "gone" => trees::gone(rt, alloc, rest),
         "link" => folder::link(rt, alloc, rest),
         "file" => folder::file(rt, alloc, rest),
+        "bind" => links::bind(rt, alloc, rest),
+        "live" => links::live(rt, alloc, rest),
+        "talk" => links::talk(rt, alloc, rest),
+        "leave" => links::leave(rt, alloc, rest),
+        "patient" => links::patient(alloc),
         "clock" => devices::clock(alloc, rest),
         "now" => devices::now(rt, alloc),
         "words" => devices::words(rt, alloc),

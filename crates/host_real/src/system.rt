@@ -22,6 +22,15 @@ use std::{fs, io};
 /// The most bytes of a path below the root.
 const MOST_BYTES: usize = 4_095;
 
+/// What the system shows of a file.
+#[derive(Clone, Copy, Debug, PartialEq, Eq)]
+pub struct Attributes {
+    /// Its length in bytes.
+    pub size: u64,
+    /// When it changed last, in seconds.
+    pub moment: u64,
+}
+
 /// The files of the system below a root folder.
 #[derive(Drop)]
 pub struct FilesBelow<R> {
@@ -43,7 +52,7 @@ impl<R: Files> FilesBelow<R> {
         match fs::metadata(&files, root) {
             Ok(metadata) if metadata.is_dir() => {}
             Ok(_) => return Err(OpenError::NotFolder),
-            Err(error) if error.kind() == ErrorKind::NotFound => return Err(OpenError::NotFolder),
+            Err(error) if is_missing(&error) => return Err(OpenError::NotFolder),
             Err(error) => return Err(OpenError::System(error)),
         }
         let root = String::from_str(alloc, root.trim_end_matches('/'))?;
@@ -66,13 +75,13 @@ impl<R: Files> FilesBelow<R> {
         Ok(Look::Missing)
     }
 
-    /// The length and the moment of a file.
-    pub fn attributes(&mut self, name: &FileName) -> Result<(u64, u64), TreeError> {
+    /// What the system shows of a file.
+    pub fn attributes(&mut self, name: &FileName) -> Result<Attributes, TreeError> {
         if name.generation != 0 {
             return Err(TreeError::NotFile);
         }
         match self.look(&name.path)? {
-            Look::File { size, moment, .. } => Ok((size, moment)),
+            Look::File { size, moment, .. } => Ok(Attributes { size, moment }),
             _ => Err(TreeError::NotFile),
         }
     }
@@ -81,7 +90,7 @@ impl<R: Files> FilesBelow<R> {
     pub fn read(&mut self, name: &FileName, offset: u64, size: u32) -> Result<ByteList, TreeError>
         ensures { IfOk result (λ bytes. length bytes ≤ size) }
     {
-        let (len, _) = self.attributes(name)?;
+        let len = self.attributes(name)?.size;
         let mut bytes = Vec::new(self.alloc);
         if offset < len {
             let mut file = self.opened(OpenOptions::new().read(true))?;
@@ -101,7 +110,7 @@ impl<R: Files> FilesBelow<R> {
         content: &[u8],
         now: u64,
     ) -> Result<(), TreeError> {
-        let (len, _) = self.attributes(name)?;
+        let len = self.attributes(name)?.size;
         if content.is_empty() {
             return Ok(());
         }

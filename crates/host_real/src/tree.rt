@@ -5,7 +5,7 @@ ghost use Rattle.portal_base.specs.Devices.{count_after};
 ghost use Rattle.host_tree.specs.Trees.{is_done_fault};
 
 use crate::error::{OpenError, TreeError};
-use crate::system::FilesBelow;
+use crate::system::{Attributes, FilesBelow};
 use host_tree::{AttrAnswer, HostTree, LookAnswer, TreeDone, TreeRead};
 use portal_base::files::FileName;
 use portal_base::names::HostPath;
@@ -89,7 +89,7 @@ impl<R: Files> HostTree for RealTree<R> {
 
     fn attr(&mut self, file: &FileName) -> AttrAnswer {
         match self.below.attributes(file) {
-            Ok((size, moment)) => AttrAnswer::Is { size, moment },
+            Ok(Attributes { size, moment }) => AttrAnswer::Is { size, moment },
             Err(TreeError::NotFile) => AttrAnswer::NotFile,
             Err(_) => {
                 self.fault();
