@@ -1,0 +1,33 @@
+//! The records that the tables hold.
+
+use crate::documents::read_documents;
+use crate::entries::read_entries;
+use crate::fault::SqliteFault;
+use portal_base::list::List;
+use portal_model::records::Records;
+use record_keeper::RECORDS_VERSION;
+use sqlite::{Alter, Connection};
+use std::alloc::Global;
+
+const VERSION: &str = "SELECT version FROM version";
+
+/// The records. Where they have another version than this crate reads, they are
+/// given with that version and without records.
+pub(crate) fn read_records<S: Alter>(
+    alloc: Global,
+    conn: &mut Connection<S>,
+) -> Result<Records, SqliteFault> {
+    let version: u32 = conn.query_row(VERSION, &[])?.get(0)?;
+    if version != RECORDS_VERSION {
+        return Ok(Records {
+            version,
+            documents: List::new(alloc),
+            entries: List::new(alloc),
+        });
+    }
+    Ok(Records {
+        version,
+        documents: read_documents(alloc, conn)?,
+        entries: read_entries(alloc, conn)?,
+    })
+}
