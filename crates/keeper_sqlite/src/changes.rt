@@ -2,7 +2,7 @@
 
 use crate::documents::{add_document, remove_document, set_grants};
 use crate::entries::{remove_entry, set_entry};
-use crate::fault::SqliteFault;
+use crate::fault::DatabaseFault;
 use portal_model::records::RecordChange;
 use sqlite::{Alter, Connection, Error, ErrorCode, Transaction};
 use std::alloc::Global;
@@ -12,9 +12,9 @@ pub(crate) fn make_all<S: Alter>(
     alloc: Global,
     conn: &mut Connection<S>,
     changes: &[RecordChange],
-) -> Result<(), SqliteFault> {
+) -> Result<(), DatabaseFault> {
     if !conn.is_autocommit() {
-        return Err(SqliteFault::Database(Error::SqliteFailure(ErrorCode::TransactionState)));
+        return Err(DatabaseFault::Sqlite(Error::SqliteFailure(ErrorCode::TransactionState)));
     }
     let mut transaction = conn.transaction();
     for change in changes {
@@ -29,7 +29,7 @@ fn make<S: Alter>(
     alloc: Global,
     transaction: &mut Transaction<'_, S>,
     change: &RecordChange,
-) -> Result<(), SqliteFault> {
+) -> Result<(), DatabaseFault> {
     match change {
         RecordChange::AddDocument(document) => add_document(transaction, document),
         RecordChange::RemoveDocument { number } => remove_document(transaction, *number),

@@ -1,12 +1,12 @@
 //! The kept documents, in the table `document`, with the rights in them in
 //! `document_grant`.
 
-use crate::fault::SqliteFault;
+use crate::fault::DatabaseFault;
 use portal_base::list::{ByteList, List};
 use portal_model::records::{DocRecord, GrantRecord};
+use sqlite::types::{ToSql, ValueRef};
 use sqlite::{Alter, Connection, Row as Line, Transaction, params};
 use std::alloc::Global;
-use std::cmp::Ordering;
 
 const LOAD: &str = "SELECT place, number, path, reusable FROM document ORDER BY place";
 
@@ -34,10 +34,10 @@ struct PlacedDocument {
 pub(crate) fn read_documents<S: Alter>(
     alloc: Global,
     conn: &mut Connection<S>,
-) -> Result<List<DocRecord>, SqliteFault> {
+) -> Result<List<DocRecord>, DatabaseFault> {
     let mut documents = documents_without_grants(alloc, conn)?;
     let lines = conn.query_all(LOAD_GRANTS, &[])?;
-    read_grants(&mut documents, lines.as_slice())?;
+    read_grants(alloc, &mut documents, lines.as_slice())?;
     let mut records = List::new(alloc);
     for document in documents {
         let PlacedDocument { place: _, record } = document;
@@ -50,7 +50,7 @@ pub(crate) fn read_documents<S: Alter>(
 fn documents_without_grants<S: Alter>(
     alloc: Global,
     conn: &mut Connection<S>,
-) -> Result<Vec<PlacedDocument>, SqliteFault> {
+) -> Result<Vec<PlacedDocument>, DatabaseFault> {
     let lines = conn.query_all(LOAD, &[])?;
     let mut documents = Vec::new(alloc);
     for line in lines.as_slice() {
@@ -59,7 +59,7 @@ fn documents_without_grants<S: Alter>(
     Ok(documents)
 }
 
-fn document_of(alloc: Global, line: &Line) -> Result<PlacedDocument, SqliteFault> {
+fn document_of(alloc: Global, line: &Line) -> Result<PlacedDocument, DatabaseFault> {
     let path: Vec<u8> = line.get(2)?;
     Ok(PlacedDocument {
         place: line.get(0)?,
@@ -74,28 +74,38 @@ fn document_of(alloc: Global, line: &Line) -> Result<PlacedDocument, SqliteFault
 
 /// Gives the documents the rights in them, of which those in an earlier
 /// document come first.
-fn read_grants(documents: &mut [PlacedDocument], lines: &[Line]) -> Result<(), SqliteFault> {
+fn read_grants(
+    alloc: Global,
+    documents: &mut [PlacedDocument],
+    lines: &[Line],
+) -> Result<(), DatabaseFault> {
     let mut at = 0;
     for line in lines {
         let place: i64 = line.get(0)?;
         at = index_from(documents, at, place)?;
-        documents[at].record.grants.push(grant_of(line)?)?;
+        documents[at].record.grants.push(grant_of(alloc, line)?)?;
     }
     Ok(())
 }
 
-fn grant_of(line: &Line) -> Result<GrantRecord, SqliteFault> {
-    let app: String = line.get(1)?;
+fn grant_of(alloc: Global, line: &Line) -> Result<GrantRecord, DatabaseFault> {
+    let ValueRef::Text(app) = line.get_ref(1)? else {
+        return Err(DatabaseFault::NoRecord);
+    };
+    let app = List::copied(alloc, app)?;
     let rights: u32 = line.get(2)?;
-    let rights = u8::try_from(rights).map_err(|_| SqliteFault::NoRecord)?;
-    Ok(GrantRecord {
-        app: List::from_vec(app.into_bytes()),
-        rights,
-    })
+    let Ok(rights) = u8::try_from(rights) else {
+        return Err(DatabaseFault::NoRecord);
+    };
+    Ok(GrantRecord { app, rights })
 }
 
 /// Where the document of a place stands, from an index on.
-fn index_from(documents: &[PlacedDocument], from: usize, place: i64) -> Result<usize, SqliteFault> {
+fn index_from(
+    documents: &[PlacedDocument],
+    from: usize,
+    place: i64,
+) -> Result<usize, DatabaseFault> {
     let mut at = from;
     while at < documents.len() {
         if documents[at].place == place {
@@ -103,14 +113,14 @@ fn index_from(documents: &[PlacedDocument], from: usize, place: i64) -> Result<u
         }
         at += 1;
     }
-    Err(SqliteFault::NoRecord)
+    Err(DatabaseFault::NoRecord)
 }
 
 /// Puts a document behind the others.
 pub(crate) fn add_document<S: Alter>(
     transaction: &mut Transaction<'_, S>,
     document: &DocRecord,
-) -> Result<(), SqliteFault> {
+) -> Result<(), DatabaseFault> {
     let path = document.path.as_slice();
     transaction.execute(ADD, params![document.number, path, document.reusable])?;
     add_grants(transaction, document.number, document.grants.as_slice())
@@ -120,7 +130,7 @@ pub(crate) fn add_document<S: Alter>(
 pub(crate) fn remove_document<S: Alter>(
     transaction: &mut Transaction<'_, S>,
     number: u32,
-) -> Result<(), SqliteFault> {
+) -> Result<(), DatabaseFault> {
     transaction.execute(REMOVE, params![number])?;
     Ok(())
 }
@@ -130,7 +140,7 @@ pub(crate) fn set_grants<S: Alter>(
     transaction: &mut Transaction<'_, S>,
     number: u32,
     grants: &[GrantRecord],
-) -> Result<(), SqliteFault> {
+) -> Result<(), DatabaseFault> {
     transaction.execute(REMOVE_GRANTS, params![number])?;
     add_grants(transaction, number, grants)
 }
@@ -139,39 +149,20 @@ fn add_grants<S: Alter>(
     transaction: &mut Transaction<'_, S>,
     number: u32,
     grants: &[GrantRecord],
-) -> Result<(), SqliteFault> {
-    if !do_rise(grants) {
-        return Err(SqliteFault::NoName);
-    }
+) -> Result<(), DatabaseFault> {
     for grant in grants {
         add_grant(transaction, number, grant)?;
     }
     Ok(())
 }
 
-/// Whether the names of the applications rise in byte order.
-fn do_rise(grants: &[GrantRecord]) -> bool {
-    let mut at = 1;
-    while at < grants.len() {
-        if !matches!(
-            grants[at - 1].app.as_slice().cmp(grants[at].app.as_slice()),
-            Ordering::Less
-        ) {
-            return false;
-        }
-        at += 1;
-    }
-    true
-}
-
 fn add_grant<S: Alter>(
     transaction: &mut Transaction<'_, S>,
     number: u32,
     grant: &GrantRecord,
-) -> Result<(), SqliteFault> {
-    let Ok(app) = std::str::from_utf8(grant.app.as_slice()) else {
-        return Err(SqliteFault::NoName);
-    };
-    transaction.execute(ADD_GRANT, params![number, app, u32::from(grant.rights)])?;
+) -> Result<(), DatabaseFault> {
+    let app = ValueRef::Text(grant.app.as_slice());
+    let rights = u32::from(grant.rights);
+    transaction.execute(ADD_GRANT, &[number.to_sql(), app, rights.to_sql()])?;
     Ok(())
 }

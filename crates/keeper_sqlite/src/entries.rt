@@ -1,8 +1,8 @@
 //! The entries of the permission store, in the table `entry`, with their rows
 //! in `permission`.
 
-use crate::fault::SqliteFault;
-use crate::rows::{add_name, add_rows, are_kept, renew_rows, text_at};
+use crate::fault::DatabaseFault;
+use crate::rows::{add_name, add_rows, renew_rows, text_at};
 use portal_base::list::{ByteList, List};
 use portal_base::text::Text;
 use portal_model::records::{EntryRecord, Row};
@@ -36,7 +36,7 @@ struct PlacedEntry {
 pub(crate) fn read_entries<S: Alter>(
     alloc: Global,
     conn: &mut Connection<S>,
-) -> Result<List<EntryRecord>, SqliteFault> {
+) -> Result<List<EntryRecord>, DatabaseFault> {
     let mut entries = entries_without_rows(alloc, conn)?;
     let lines = conn.query_all(LOAD_ROWS, &[])?;
     read_rows(alloc, &mut entries, lines.as_slice())?;
@@ -51,7 +51,7 @@ pub(crate) fn read_entries<S: Alter>(
 fn entries_without_rows<S: Alter>(
     alloc: Global,
     conn: &mut Connection<S>,
-) -> Result<Vec<PlacedEntry>, SqliteFault> {
+) -> Result<Vec<PlacedEntry>, DatabaseFault> {
     let lines = conn.query_all(LOAD, &[])?;
     let mut entries = Vec::new(alloc);
     for line in lines.as_slice() {
@@ -60,7 +60,7 @@ fn entries_without_rows<S: Alter>(
     Ok(entries)
 }
 
-fn entry_of(alloc: Global, line: &Line) -> Result<PlacedEntry, SqliteFault> {
+fn entry_of(alloc: Global, line: &Line) -> Result<PlacedEntry, DatabaseFault> {
     let datum: Vec<u8> = line.get(3)?;
     Ok(PlacedEntry {
         place: line.get(0)?,
@@ -92,7 +92,7 @@ fn read_rows(
     alloc: Global,
     entries: &mut [PlacedEntry],
     lines: &[Line],
-) -> Result<(), SqliteFault> {
+) -> Result<(), DatabaseFault> {
     let mut at = 0;
     for line in lines {
         let place: i64 = line.get(0)?;
@@ -105,7 +105,7 @@ fn read_rows(
 }
 
 /// Where the entry of a place stands, from an index on.
-fn index_from(entries: &[PlacedEntry], from: usize, place: i64) -> Result<usize, SqliteFault> {
+fn index_from(entries: &[PlacedEntry], from: usize, place: i64) -> Result<usize, DatabaseFault> {
     let mut at = from;
     while at < entries.len() {
         if entries[at].place == place {
@@ -113,7 +113,7 @@ fn index_from(entries: &[PlacedEntry], from: usize, place: i64) -> Result<usize,
         }
         at += 1;
     }
-    Err(SqliteFault::NoRecord)
+    Err(DatabaseFault::NoRecord)
 }
 
 /// Puts an entry in the place of the one with its table and identifier, or else
@@ -122,11 +122,8 @@ pub(crate) fn set_entry<S: Alter>(
     alloc: Global,
     transaction: &mut Transaction<'_, S>,
     entry: &EntryRecord,
-) -> Result<(), SqliteFault> {
+) -> Result<(), DatabaseFault> {
     let rows = entry.rows.as_slice();
-    if !are_kept(rows) {
-        return Err(SqliteFault::NoName);
-    }
     match place_of_entry(transaction, &entry.table, &entry.id)? {
         Some(place) => {
             set_datum(transaction, place, &entry.datum)?;
@@ -144,11 +141,11 @@ fn place_of_entry<S: Alter>(
     transaction: &mut Transaction<'_, S>,
     table: &Text,
     id: &Text,
-) -> Result<Option<i64>, SqliteFault> {
+) -> Result<Option<i64>, DatabaseFault> {
     match transaction.query_row(FIND, params![table.as_str(), id.as_str()]) {
         Ok(line) => Ok(Some(line.get(0)?)),
         Err(Error::QueryReturnedNoRows) => Ok(None),
-        Err(error) => Err(SqliteFault::from(error)),
+        Err(error) => Err(DatabaseFault::from(error)),
     }
 }
 
@@ -156,7 +153,7 @@ fn set_datum<S: Alter>(
     transaction: &mut Transaction<'_, S>,
     place: i64,
     datum: &ByteList,
-) -> Result<(), SqliteFault> {
+) -> Result<(), DatabaseFault> {
     transaction.execute(SET_DATUM, params![place, datum.as_slice()])?;
     Ok(())
 }
@@ -165,7 +162,7 @@ fn set_datum<S: Alter>(
 fn add_entry<S: Alter>(
     transaction: &mut Transaction<'_, S>,
     entry: &EntryRecord,
-) -> Result<i64, SqliteFault> {
+) -> Result<i64, DatabaseFault> {
     let table = entry.table.as_str();
     let id = entry.id.as_str();
     transaction.execute(ADD, params![table, id, entry.datum.as_slice()])?;
@@ -177,7 +174,7 @@ pub(crate) fn remove_entry<S: Alter>(
     transaction: &mut Transaction<'_, S>,
     table: &Text,
     id: &Text,
-) -> Result<(), SqliteFault> {
+) -> Result<(), DatabaseFault> {
     transaction.execute(REMOVE, params![table.as_str(), id.as_str()])?;
     Ok(())
 }

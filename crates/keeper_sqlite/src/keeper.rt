@@ -1,9 +1,15 @@
 //! A keeper in a database.
 
-ghost use Rattle.std.specs.Prelude.{◌≡◌, IfOk, None};
+ghost use Rattle.std.specs.Prelude.{◌≡◌, All, IfOk, None, Some, false, true};
+ghost use Rattle.portal_base.specs.Devices.{count_after};
+ghost use Rattle.record_keeper.specs.Keepers.{Applies, Loads, is_done_fault, is_load_fault};
+ghost use Rattle.keeper_sqlite.specs.Kept.{CanKeep};
+ghost use Rattle.keeper_sqlite.specs.Met.{IsOfDatabase, keeper_of};
+ghost use Rattle.keeper_sqlite.specs.declared.fault.KeeperFault.TheVariants.{Unkept};
 
 use crate::changes::make_all;
-use crate::fault::SqliteFault;
+use crate::fault::{DatabaseFault, KeeperFault};
+use crate::kept::can_keep_all;
 use crate::loading::read_records;
 use crate::tables::make_tables;
 use portal_base::list::List;
@@ -20,7 +26,7 @@ pub struct SqliteKeeper {
     alloc: Global,
     conn: Connection<FileStore<File>>,
     faults: u64,
-    last_fault: Option<SqliteFault>,
+    last_fault: Option<KeeperFault>,
 }
 
 impl Model for SqliteKeeper {
@@ -35,7 +41,7 @@ impl SqliteKeeper {
     /// Opens the database of a path, or makes it, with its tables. A file that
     /// another process or keeper has open is refused, and so is a file that is
     /// no database.
-    pub fn open(rt: &HostRuntime, path: &str) -> Result<SqliteKeeper, SqliteFault>
+    pub fn open(rt: &HostRuntime, path: &str) -> Result<SqliteKeeper, DatabaseFault>
         ensures { IfOk result (λ keeper. keeper ≡ record { faults = 0; last = None }) }
     {
         let mut conn = Connection::open(rt, path)?;
@@ -49,7 +55,7 @@ impl SqliteKeeper {
     }
 
     /// What was met by the last call that answered `Failed`.
-    pub fn last_fault(&self) -> Option<SqliteFault>
+    pub fn last_fault(&self) -> Option<KeeperFault>
         ensures { result ≡ self.now.last }
     {
         self.last_fault
@@ -57,7 +63,7 @@ impl SqliteKeeper {
 
     /// Copies the database's log into its file, and closes both. A keeper that
     /// is dropped leaves the log beside the file, and the next open reads both.
-    pub fn close(self) -> Result<(), SqliteFault> {
+    pub fn close(self) -> Result<(), DatabaseFault> {
         let SqliteKeeper {
             alloc: _,
             conn,
@@ -69,30 +75,56 @@ impl SqliteKeeper {
     }
 }
 
+impl SqliteKeeper {
+    /// Counts a fault, and keeps it as the last one.
+    fn meet(&mut self, fault: KeeperFault)
+        ensures { self.new ≡ record { faults = count_after self.old.faults true; last = Some fault } }
+    {
+        self.faults = self.faults.saturating_add(1);
+        self.last_fault = Some(fault);
+    }
+}
+
 impl Keeper for SqliteKeeper {
     ghost use Rattle.keeper_sqlite.specs.Met.{keeper_of};
 
     ghost is = { keeper_of };
 
-    fn load(&mut self) -> KeeperLoad {
+    /// The records that are kept. A fault is one of the database.
+    fn load(&mut self) -> KeeperLoad
+        ensures loads { Loads (keeper_of self.old) result (keeper_of self.new) }
+        ensures fault { is_load_fault result ≡ true → IsOfDatabase self.new.last }
+        ensures stays { is_load_fault result ≡ false → self.new.last ≡ self.old.last }
+    {
         match read_records(self.alloc, &mut self.conn) {
             Ok(records) => KeeperLoad::Got(records),
-            Err(SqliteFault::Memory) => KeeperLoad::Memory,
+            Err(DatabaseFault::Memory) => KeeperLoad::Memory,
             Err(fault) => {
-                self.faults = self.faults.saturating_add(1);
-                self.last_fault = Some(fault);
+                self.meet(KeeperFault::Database(fault));
                 KeeperLoad::Failed
             }
         }
     }
 
-    fn apply(&mut self, changes: &List<RecordChange>) -> KeeperDone {
+    /// Makes the changes one after another: all of them, or none. Where the
+    /// tables have no place for one of them, that is the fault; else a fault is
+    /// one of the database.
+    fn apply(&mut self, changes: &List<RecordChange>) -> KeeperDone
+        ensures applies { Applies changes.now (keeper_of self.old) result (keeper_of self.new) }
+        ensures unkept { ¬ All CanKeep changes.now
+            → (result ≡ KeeperDone.Failed) × (self.new.last ≡ Some Unkept) }
+        ensures fault { All CanKeep changes.now → is_done_fault result ≡ true → IsOfDatabase self.new.last }
+        ensures stays { is_done_fault result ≡ false → self.new.last ≡ self.old.last }
+    {
+        if !can_keep_all(changes.as_slice()) {
+            self.meet(KeeperFault::Unkept);
+            return KeeperDone::Failed;
+        }
         match make_all(self.alloc, &mut self.conn, changes.as_slice()) {
             Ok(()) => KeeperDone::Done,
-            Err(SqliteFault::Memory) => KeeperDone::Memory,
+            Err(DatabaseFault::Memory) => KeeperDone::Memory,
             Err(fault) => {
-                self.faults = self.faults.saturating_add(1);
-                self.last_fault = Some(fault);
+                self.meet(KeeperFault::Database(fault));
                 KeeperDone::Failed
             }
         }

@@ -1,8 +1,10 @@
 //! A keeper of records in a SQLite database, which outlives the process.
 //!
 //! **It promises** that its count of faults rises at each `Failed` and at nothing
-//! else, and that it then has what it met ([`SqliteKeeper::last_fault`]). What the
-//! database holds is told by no contract: a real file is outside.
+//! else, and that it then has what it met ([`SqliteKeeper::last_fault`]): a fault of
+//! the database, or changes that can't be kept exactly where the tables have no
+//! place for one of them. What the database holds is told by no contract: a real
+//! file is outside.
 //!
 //! All changes of one `apply` are one transaction of the database, whose log is
 //! synced before `apply` answers `Done`: a crash at any moment leaves the records
@@ -18,8 +20,8 @@
 //! | `loading` | the records that the tables hold |
 //! | `documents`, `entries` | reading and changing these |
 //! | `rows` | the rows of an entry, and how some become others |
-//! | `changes` | making changes |
-//! | `fault` | [`SqliteFault`] |
+//! | `kept`, `changes` | which changes can be kept, and making them |
+//! | `fault` | [`DatabaseFault`], [`KeeperFault`] |
 //!
 //! ```text
 //! let mut keeper = SqliteKeeper::open(&rt, "store.db")?;
@@ -32,9 +34,10 @@ mod documents;
 mod entries;
 mod fault;
 mod keeper;
+mod kept;
 mod loading;
 mod rows;
 mod tables;
 
-pub use fault::SqliteFault;
+pub use fault::{DatabaseFault, KeeperFault};
 pub use keeper::SqliteKeeper;

@@ -2,7 +2,7 @@
 
 use crate::documents::read_documents;
 use crate::entries::read_entries;
-use crate::fault::SqliteFault;
+use crate::fault::DatabaseFault;
 use portal_base::list::List;
 use portal_model::records::Records;
 use record_keeper::RECORDS_VERSION;
@@ -16,7 +16,7 @@ const VERSION: &str = "SELECT version FROM version";
 pub(crate) fn read_records<S: Alter>(
     alloc: Global,
     conn: &mut Connection<S>,
-) -> Result<Records, SqliteFault> {
+) -> Result<Records, DatabaseFault> {
     let version: u32 = conn.query_row(VERSION, &[])?.get(0)?;
     if version != RECORDS_VERSION {
         return Ok(Records {

@@ -1,13 +1,12 @@
 //! The rows of an entry of the permission store: one of the table `permission`
 //! for each name.
 
-use crate::fault::SqliteFault;
+use crate::fault::DatabaseFault;
 use portal_base::list::List;
 use portal_base::text::Text;
 use portal_model::records::Row;
 use sqlite::{Alter, Row as Line, Transaction, params};
 use std::alloc::Global;
-use std::cmp::Ordering;
 
 const READ: &str =
     "SELECT application, name FROM permission WHERE entry = ?1 ORDER BY application, place";
@@ -24,7 +23,7 @@ pub(crate) fn add_name(
     rows: &mut Vec<Row>,
     app: Text,
     name: Text,
-) -> Result<(), SqliteFault> {
+) -> Result<(), DatabaseFault> {
     if let Some(row) = rows.last_mut()
         && row.app == app
     {
@@ -38,30 +37,9 @@ pub(crate) fn add_name(
 }
 
 /// The text in a column.
-pub(crate) fn text_at(line: &Line, at: usize) -> Result<Text, SqliteFault> {
+pub(crate) fn text_at(line: &Line, at: usize) -> Result<Text, DatabaseFault> {
     let text: String = line.get(at)?;
     Ok(Text::from_string(text))
-}
-
-/// Whether the database keeps such rows: their applications rise in byte
-/// order, and none is without permissions.
-pub(crate) fn are_kept(rows: &[Row]) -> bool {
-    let mut at = 0;
-    while at < rows.len() {
-        if rows[at].names.is_empty() {
-            return false;
-        }
-        if at > 0
-            && !matches!(
-                rows[at - 1].app.as_bytes().cmp(rows[at].app.as_bytes()),
-                Ordering::Less
-            )
-        {
-            return false;
-        }
-        at += 1;
-    }
-    true
 }
 
 /// Gives a new entry its rows.
@@ -69,7 +47,7 @@ pub(crate) fn add_rows<S: Alter>(
     transaction: &mut Transaction<'_, S>,
     entry: i64,
     rows: &[Row],
-) -> Result<(), SqliteFault> {
+) -> Result<(), DatabaseFault> {
     for row in rows {
         add_row(transaction, entry, row)?;
     }
@@ -83,7 +61,7 @@ pub(crate) fn renew_rows<S: Alter>(
     transaction: &mut Transaction<'_, S>,
     entry: i64,
     rows: &[Row],
-) -> Result<(), SqliteFault> {
+) -> Result<(), DatabaseFault> {
     let kept = kept_rows(alloc, transaction, entry)?;
     for row in kept.as_slice() {
         if !is_among(row, rows) {
@@ -103,7 +81,7 @@ fn kept_rows<S: Alter>(
     alloc: Global,
     transaction: &mut Transaction<'_, S>,
     entry: i64,
-) -> Result<Vec<Row>, SqliteFault> {
+) -> Result<Vec<Row>, DatabaseFault> {
     let lines = transaction.query_all(READ, params![entry])?;
     let mut rows = Vec::new(alloc);
     for line in lines.as_slice() {
@@ -127,7 +105,7 @@ fn add_row<S: Alter>(
     transaction: &mut Transaction<'_, S>,
     entry: i64,
     row: &Row,
-) -> Result<(), SqliteFault> {
+) -> Result<(), DatabaseFault> {
     let mut place = 0i64;
     for name in row.names.iter() {
         transaction.execute(ADD, params![entry, row.app.as_str(), place, name.as_str()])?;
@@ -140,7 +118,7 @@ fn remove_row<S: Alter>(
     transaction: &mut Transaction<'_, S>,
     entry: i64,
     row: &Row,
-) -> Result<(), SqliteFault> {
+) -> Result<(), DatabaseFault> {
     transaction.execute(REMOVE, params![entry, row.app.as_str()])?;
     Ok(())
 }

@@ -6,7 +6,7 @@
 //! `SELECT store_table, id, application, name FROM entry JOIN permission ON
 //! entry = entry.place` for the permission store.
 
-use crate::fault::SqliteFault;
+use crate::fault::DatabaseFault;
 use sqlite::{Alter, Connection, Error, ErrorCode};
 
 /// The version of the records, one row. Documents in the order of their
@@ -48,12 +48,12 @@ CREATE TABLE permission (
 const FIND: &str = "SELECT count(*) FROM sqlite_schema WHERE type = 'table' AND name = 'version'";
 
 /// Makes the tables, in one transaction, where they aren't there.
-pub(crate) fn make_tables<S: Alter>(conn: &mut Connection<S>) -> Result<(), SqliteFault> {
+pub(crate) fn make_tables<S: Alter>(conn: &mut Connection<S>) -> Result<(), DatabaseFault> {
     if have_tables(conn)? {
         return Ok(());
     }
     if !conn.is_autocommit() {
-        return Err(SqliteFault::Database(Error::SqliteFailure(ErrorCode::TransactionState)));
+        return Err(DatabaseFault::Sqlite(Error::SqliteFailure(ErrorCode::TransactionState)));
     }
     let mut transaction = conn.transaction();
     transaction.execute_batch(TABLES)?;
@@ -62,7 +62,7 @@ pub(crate) fn make_tables<S: Alter>(conn: &mut Connection<S>) -> Result<(), Sqli
 }
 
 /// Whether the tables are there.
-fn have_tables<S: Alter>(conn: &mut Connection<S>) -> Result<bool, SqliteFault> {
+fn have_tables<S: Alter>(conn: &mut Connection<S>) -> Result<bool, DatabaseFault> {
     let count: i64 = conn.query_row(FIND, &[])?.get(0)?;
     Ok(count != 0)
 }
