@@ -1,8 +1,11 @@
 //! The kept documents, in the table `document`, with the rights in them in
 //! `document_grant`.
 
+ghost use Rattle.std.specs.Prelude.{◌<◌, IfOk, length};
+
+use crate::calls::{bytes_at, lines_of, number_at, place_at, run};
 use crate::fault::DatabaseFault;
-use portal_base::list::{ByteList, List};
+use portal_base::list::List;
 use portal_model::records::{DocRecord, GrantRecord};
 use sqlite::types::{ToSql, ValueRef};
 use sqlite::{Alter, Connection, Row as Line, Transaction, params};
@@ -36,7 +39,7 @@ pub(crate) fn read_documents<S: Alter>(
     conn: &mut Connection<S>,
 ) -> Result<List<DocRecord>, DatabaseFault> {
     let mut documents = documents_without_grants(alloc, conn)?;
-    let lines = conn.query_all(LOAD_GRANTS, &[])?;
+    let lines = lines_of(conn, LOAD_GRANTS)?;
     read_grants(alloc, &mut documents, lines.as_slice())?;
     let mut records = List::new(alloc);
     for document in documents {
@@ -51,7 +54,7 @@ fn documents_without_grants<S: Alter>(
     alloc: Global,
     conn: &mut Connection<S>,
 ) -> Result<Vec<PlacedDocument>, DatabaseFault> {
-    let lines = conn.query_all(LOAD, &[])?;
+    let lines = lines_of(conn, LOAD)?;
     let mut documents = Vec::new(alloc);
     for line in lines.as_slice() {
         documents.push(document_of(alloc, line)?)?;
@@ -60,13 +63,12 @@ fn documents_without_grants<S: Alter>(
 }
 
 fn document_of(alloc: Global, line: &Line) -> Result<PlacedDocument, DatabaseFault> {
-    let path: Vec<u8> = line.get(2)?;
     Ok(PlacedDocument {
-        place: line.get(0)?,
+        place: place_at(line, 0)?,
         record: DocRecord {
-            number: line.get(1)?,
-            path: List::from_vec(path),
-            reusable: line.get(3)?,
+            number: number_at(line, 1)?,
+            path: bytes_at(alloc, line, 2)?,
+            reusable: place_at(line, 3)? != 0,
             grants: List::new(alloc),
         },
     })
@@ -81,7 +83,7 @@ fn read_grants(
 ) -> Result<(), DatabaseFault> {
     let mut at = 0;
     for line in lines {
-        let place: i64 = line.get(0)?;
+        let place = place_at(line, 0)?;
         at = index_from(documents, at, place)?;
         documents[at].record.grants.push(grant_of(alloc, line)?)?;
     }
@@ -89,29 +91,23 @@ fn read_grants(
 }
 
 fn grant_of(alloc: Global, line: &Line) -> Result<GrantRecord, DatabaseFault> {
-    let ValueRef::Text(app) = line.get_ref(1)? else {
+    let Ok(rights) = u8::try_from(number_at(line, 2)?) else {
         return Err(DatabaseFault::NoRecord);
     };
-    let app = List::copied(alloc, app)?;
-    let rights: u32 = line.get(2)?;
-    let Ok(rights) = u8::try_from(rights) else {
-        return Err(DatabaseFault::NoRecord);
-    };
-    Ok(GrantRecord { app, rights })
+    Ok(GrantRecord {
+        app: bytes_at(alloc, line, 1)?,
+        rights,
+    })
 }
 
 /// Where the document of a place stands, from an index on.
-fn index_from(
-    documents: &[PlacedDocument],
-    from: usize,
-    place: i64,
-) -> Result<usize, DatabaseFault> {
-    let mut at = from;
-    while at < documents.len() {
+fn index_from(documents: &[PlacedDocument], from: usize, place: i64) -> Result<usize, DatabaseFault>
+    ensures { IfOk result (λ at. at < length documents.now) }
+{
+    for at in from..documents.len() {
         if documents[at].place == place {
             return Ok(at);
         }
-        at += 1;
     }
     Err(DatabaseFault::NoRecord)
 }
@@ -122,7 +118,8 @@ pub(crate) fn add_document<S: Alter>(
     document: &DocRecord,
 ) -> Result<(), DatabaseFault> {
     let path = document.path.as_slice();
-    transaction.execute(ADD, params![document.number, path, document.reusable])?;
+    let params = params![document.number, path, document.reusable];
+    run(transaction, ADD, params)?;
     add_grants(transaction, document.number, document.grants.as_slice())
 }
 
@@ -131,8 +128,7 @@ pub(crate) fn remove_document<S: Alter>(
     transaction: &mut Transaction<'_, S>,
     number: u32,
 ) -> Result<(), DatabaseFault> {
-    transaction.execute(REMOVE, params![number])?;
-    Ok(())
+    run(transaction, REMOVE, params![number])
 }
 
 /// The document of a number has these rights given.
@@ -141,7 +137,7 @@ pub(crate) fn set_grants<S: Alter>(
     number: u32,
     grants: &[GrantRecord],
 ) -> Result<(), DatabaseFault> {
-    transaction.execute(REMOVE_GRANTS, params![number])?;
+    run(transaction, REMOVE_GRANTS, params![number])?;
     add_grants(transaction, number, grants)
 }
 
@@ -163,6 +159,6 @@ fn add_grant<S: Alter>(
 ) -> Result<(), DatabaseFault> {
     let app = ValueRef::Text(grant.app.as_slice());
     let rights = u32::from(grant.rights);
-    transaction.execute(ADD_GRANT, &[number.to_sql(), app, rights.to_sql()])?;
-    Ok(())
+    let params = &[number.to_sql(), app, rights.to_sql()];
+    run(transaction, ADD_GRANT, params)
 }

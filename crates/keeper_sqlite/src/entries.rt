@@ -1,12 +1,15 @@
 //! The entries of the permission store, in the table `entry`, with their rows
 //! in `permission`.
 
+ghost use Rattle.std.specs.Prelude.{◌<◌, IfOk, length};
+
+use crate::calls::{bytes_at, lines_inside, lines_of, place_at, run, text_at};
 use crate::fault::DatabaseFault;
-use crate::rows::{add_name, add_rows, renew_rows, text_at};
+use crate::rows::{add_name, add_rows, renew_rows};
 use portal_base::list::{ByteList, List};
 use portal_base::text::Text;
 use portal_model::records::{EntryRecord, Row};
-use sqlite::{Alter, Connection, Error, Row as Line, Transaction, params};
+use sqlite::{Alter, Connection, Row as Line, Transaction, params};
 use std::alloc::Global;
 
 const LOAD: &str = "SELECT place, store_table, id, datum FROM entry ORDER BY place";
@@ -38,7 +41,7 @@ pub(crate) fn read_entries<S: Alter>(
     conn: &mut Connection<S>,
 ) -> Result<List<EntryRecord>, DatabaseFault> {
     let mut entries = entries_without_rows(alloc, conn)?;
-    let lines = conn.query_all(LOAD_ROWS, &[])?;
+    let lines = lines_of(conn, LOAD_ROWS)?;
     read_rows(alloc, &mut entries, lines.as_slice())?;
     let mut records = List::new(alloc);
     for entry in entries {
@@ -52,7 +55,7 @@ fn entries_without_rows<S: Alter>(
     alloc: Global,
     conn: &mut Connection<S>,
 ) -> Result<Vec<PlacedEntry>, DatabaseFault> {
-    let lines = conn.query_all(LOAD, &[])?;
+    let lines = lines_of(conn, LOAD)?;
     let mut entries = Vec::new(alloc);
     for line in lines.as_slice() {
         entries.push(entry_of(alloc, line)?)?;
@@ -61,12 +64,11 @@ fn entries_without_rows<S: Alter>(
 }
 
 fn entry_of(alloc: Global, line: &Line) -> Result<PlacedEntry, DatabaseFault> {
-    let datum: Vec<u8> = line.get(3)?;
     Ok(PlacedEntry {
-        place: line.get(0)?,
+        place: place_at(line, 0)?,
         table: text_at(line, 1)?,
         id: text_at(line, 2)?,
-        datum: List::from_vec(datum),
+        datum: bytes_at(alloc, line, 3)?,
         rows: Vec::new(alloc),
     })
 }
@@ -95,7 +97,7 @@ fn read_rows(
 ) -> Result<(), DatabaseFault> {
     let mut at = 0;
     for line in lines {
-        let place: i64 = line.get(0)?;
+        let place = place_at(line, 0)?;
         at = index_from(entries, at, place)?;
         let app = text_at(line, 1)?;
         let name = text_at(line, 2)?;
@@ -105,13 +107,13 @@ fn read_rows(
 }
 
 /// Where the entry of a place stands, from an index on.
-fn index_from(entries: &[PlacedEntry], from: usize, place: i64) -> Result<usize, DatabaseFault> {
-    let mut at = from;
-    while at < entries.len() {
+fn index_from(entries: &[PlacedEntry], from: usize, place: i64) -> Result<usize, DatabaseFault>
+    ensures { IfOk result (λ at. at < length entries.now) }
+{
+    for at in from..entries.len() {
         if entries[at].place == place {
             return Ok(at);
         }
-        at += 1;
     }
     Err(DatabaseFault::NoRecord)
 }
@@ -142,10 +144,10 @@ fn place_of_entry<S: Alter>(
     table: &Text,
     id: &Text,
 ) -> Result<Option<i64>, DatabaseFault> {
-    match transaction.query_row(FIND, params![table.as_str(), id.as_str()]) {
-        Ok(line) => Ok(Some(line.get(0)?)),
-        Err(Error::QueryReturnedNoRows) => Ok(None),
-        Err(error) => Err(DatabaseFault::from(error)),
+    let lines = lines_inside(transaction, FIND, params![table.as_str(), id.as_str()])?;
+    match lines.as_slice().first() {
+        Some(line) => Ok(Some(place_at(line, 0)?)),
+        None => Ok(None),
     }
 }
 
@@ -154,8 +156,7 @@ fn set_datum<S: Alter>(
     place: i64,
     datum: &ByteList,
 ) -> Result<(), DatabaseFault> {
-    transaction.execute(SET_DATUM, params![place, datum.as_slice()])?;
-    Ok(())
+    run(transaction, SET_DATUM, params![place, datum.as_slice()])
 }
 
 /// Adds an entry without its rows; its place.
@@ -165,7 +166,7 @@ fn add_entry<S: Alter>(
 ) -> Result<i64, DatabaseFault> {
     let table = entry.table.as_str();
     let id = entry.id.as_str();
-    transaction.execute(ADD, params![table, id, entry.datum.as_slice()])?;
+    run(transaction, ADD, params![table, id, entry.datum.as_slice()])?;
     Ok(transaction.last_insert_rowid())
 }
 
@@ -175,6 +176,5 @@ pub(crate) fn remove_entry<S: Alter>(
     table: &Text,
     id: &Text,
 ) -> Result<(), DatabaseFault> {
-    transaction.execute(REMOVE, params![table.as_str(), id.as_str()])?;
-    Ok(())
+    run(transaction, REMOVE, params![table.as_str(), id.as_str()])
 }

@@ -21,6 +21,7 @@
 //! | `documents`, `entries` | reading and changing these |
 //! | `rows` | the rows of an entry, and how some become others |
 //! | `kept`, `changes` | which changes can be kept, and making them |
+//! | `calls` | the calls of SQLite |
 //! | `fault` | [`DatabaseFault`], [`KeeperFault`] |
 //!
 //! ```text
@@ -29,6 +30,7 @@
 //! ```
 #![tactic(auto)]
 
+mod calls;
 mod changes;
 mod documents;
 mod entries;

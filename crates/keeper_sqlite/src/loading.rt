@@ -1,5 +1,6 @@
 //! The records that the tables hold.
 
+use crate::calls::{lines_of, number_at};
 use crate::documents::read_documents;
 use crate::entries::read_entries;
 use crate::fault::DatabaseFault;
@@ -17,7 +18,7 @@ pub(crate) fn read_records<S: Alter>(
     alloc: Global,
     conn: &mut Connection<S>,
 ) -> Result<Records, DatabaseFault> {
-    let version: u32 = conn.query_row(VERSION, &[])?.get(0)?;
+    let version = read_version(conn)?;
     if version != RECORDS_VERSION {
         return Ok(Records {
             version,
@@ -30,4 +31,13 @@ pub(crate) fn read_records<S: Alter>(
         documents: read_documents(alloc, conn)?,
         entries: read_entries(alloc, conn)?,
     })
+}
+
+/// The version of the records, which is in the one row of its table.
+fn read_version<S: Alter>(conn: &mut Connection<S>) -> Result<u32, DatabaseFault> {
+    let lines = lines_of(conn, VERSION)?;
+    match lines.as_slice() {
+        [line] => number_at(line, 0),
+        _ => Err(DatabaseFault::NoRecord),
+    }
 }

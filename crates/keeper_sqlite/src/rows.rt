@@ -1,11 +1,12 @@
 //! The rows of an entry of the permission store: one of the table `permission`
 //! for each name.
 
+use crate::calls::{lines_inside, run, text_at};
 use crate::fault::DatabaseFault;
 use portal_base::list::List;
 use portal_base::text::Text;
 use portal_model::records::Row;
-use sqlite::{Alter, Row as Line, Transaction, params};
+use sqlite::{Alter, Transaction, params};
 use std::alloc::Global;
 
 const READ: &str =
@@ -34,12 +35,6 @@ pub(crate) fn add_name(
     names.push(name)?;
     rows.push(Row { app, names })?;
     Ok(())
-}
-
-/// The text in a column.
-pub(crate) fn text_at(line: &Line, at: usize) -> Result<Text, DatabaseFault> {
-    let text: String = line.get(at)?;
-    Ok(Text::from_string(text))
 }
 
 /// Gives a new entry its rows.
@@ -82,7 +77,7 @@ fn kept_rows<S: Alter>(
     transaction: &mut Transaction<'_, S>,
     entry: i64,
 ) -> Result<Vec<Row>, DatabaseFault> {
-    let lines = transaction.query_all(READ, params![entry])?;
+    let lines = lines_inside(transaction, READ, params![entry])?;
     let mut rows = Vec::new(alloc);
     for line in lines.as_slice() {
         let app = text_at(line, 0)?;
@@ -108,7 +103,8 @@ fn add_row<S: Alter>(
 ) -> Result<(), DatabaseFault> {
     let mut place = 0i64;
     for name in row.names.iter() {
-        transaction.execute(ADD, params![entry, row.app.as_str(), place, name.as_str()])?;
+        let (app, name) = (row.app.as_str(), name.as_str());
+        run(transaction, ADD, params![entry, app, place, name])?;
         place = place.saturating_add(1);
     }
     Ok(())
@@ -119,6 +115,5 @@ fn remove_row<S: Alter>(
     entry: i64,
     row: &Row,
 ) -> Result<(), DatabaseFault> {
-    transaction.execute(REMOVE, params![entry, row.app.as_str()])?;
-    Ok(())
+    run(transaction, REMOVE, params![entry, row.app.as_str()])
 }

@@ -6,6 +6,7 @@
 //! `SELECT store_table, id, application, name FROM entry JOIN permission ON
 //! entry = entry.place` for the permission store.
 
+use crate::calls::lines_of;
 use crate::fault::DatabaseFault;
 use sqlite::{Alter, Connection, Error, ErrorCode};
 
@@ -45,7 +46,7 @@ CREATE TABLE permission (
 ) STRICT;";
 
 /// Finds the table of the version, which is made with the others.
-const FIND: &str = "SELECT count(*) FROM sqlite_schema WHERE type = 'table' AND name = 'version'";
+const FIND: &str = "SELECT name FROM sqlite_schema WHERE type = 'table' AND name = 'version'";
 
 /// Makes the tables, in one transaction, where they aren't there.
 pub(crate) fn make_tables<S: Alter>(conn: &mut Connection<S>) -> Result<(), DatabaseFault> {
@@ -63,6 +64,6 @@ pub(crate) fn make_tables<S: Alter>(conn: &mut Connection<S>) -> Result<(), Data
 
 /// Whether the tables are there.
 fn have_tables<S: Alter>(conn: &mut Connection<S>) -> Result<bool, DatabaseFault> {
-    let count: i64 = conn.query_row(FIND, &[])?.get(0)?;
-    Ok(count != 0)
+    let lines = lines_of(conn, FIND)?;
+    Ok(!lines.is_empty())
 }
