@@ -1,8 +1,6 @@
 -- What contracts see of a keeper in a database: the faults that it met. It tells neither the
 -- records that it has nor its calls.
-use Rattle.std.specs.Prelude.{◌≡◌, ◌≢◌, ◌×◌, ℕ, Bool, true, false, Option, Some, None, All}
-use Rattle.std.specs.Prelude as prelude
-use Rattle.keeper_sqlite.specs.Kept.{CanKeep}
+use Rattle.std.specs.Prelude.{◌≡◌, ◌≢◌, ℕ, Option, Some, None}
 use Rattle.keeper_sqlite.specs.declared.fault.DatabaseFault.{DatabaseFault}
 use Rattle.keeper_sqlite.specs.declared.fault.DatabaseFault.TheVariants as database
 use Rattle.keeper_sqlite.specs.declared.fault.KeeperFault.{KeeperFault}
