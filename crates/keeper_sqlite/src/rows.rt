@@ -90,9 +90,12 @@ fn kept_rows<S: Alter>(
 /// Whether a row stands among others, whose applications rise.
 fn is_among(row: &Row, others: &[Row]) -> bool {
     let app = row.app.as_bytes();
-    match others.binary_search_by(|other| other.app.as_bytes().cmp(app)) {
-        Ok(at) => others[at].names == row.names,
-        Err(_) => false,
+    let Ok(at) = others.binary_search_by(|other| other.app.as_bytes().cmp(app)) else {
+        return false;
+    };
+    match others.get(at) {
+        Some(other) => other.names == row.names,
+        None => false,
     }
 }
 
