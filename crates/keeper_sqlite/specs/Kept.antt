@@ -1,6 +1,6 @@
 -- Which changes of records the tables have a place for. They have the applications of a document or
 -- an entry in byte order of their names, each once, and one row for each permission.
-use Rattle.std.specs.Prelude.{◌≡◌, ℕ, List, map, false}
+use Rattle.std.specs.Prelude.{◌≡◌, List, map, false}
 use Rattle.std.specs.List.{list_any}
 use Rattle.portal_model.specs.declared.records.GrantRecord.{GrantRecord}
 use Rattle.portal_model.specs.declared.records.RecordChange.{RecordChange}

@@ -13,16 +13,17 @@ use std::alloc::Global;
 
 const LOAD: &str = "SELECT place, number, path, reusable FROM document ORDER BY place";
 
-const LOAD_GRANTS: &str =
-    "SELECT document.place, application, rights FROM document_grant JOIN document ON document.number = document_grant.document ORDER BY document.place, application";
+const LOAD_GRANTS: &str = "SELECT document.place, application, rights
+    FROM document_grant JOIN document ON document.number = document_grant.document
+    ORDER BY document.place, application";
 
 const ADD: &str = "INSERT INTO document (number, path, reusable) VALUES (?1, ?2, ?3)";
 
 const REMOVE: &str = "DELETE FROM document WHERE number = ?1";
 
 /// A document that isn't there gets none.
-const ADD_GRANT: &str =
-    "INSERT INTO document_grant (document, application, rights) SELECT number, ?2, ?3 FROM document WHERE number = ?1";
+const ADD_GRANT: &str = "INSERT INTO document_grant (document, application, rights)
+    SELECT number, ?2, ?3 FROM document WHERE number = ?1";
 
 const REMOVE_GRANTS: &str = "DELETE FROM document_grant WHERE document = ?1";
 

@@ -78,7 +78,10 @@ impl SqliteKeeper {
 impl SqliteKeeper {
     /// Counts a fault, and keeps it as the last one.
     fn meet(&mut self, fault: KeeperFault)
-        ensures { self.new ≡ record { faults = count_after self.old.faults true; last = Some fault } }
+        ensures { self.new ≡ record {
+          faults = count_after self.old.faults true;
+          last = Some fault;
+        } }
     {
         self.faults = self.faults.saturating_add(1);
         self.last_fault = Some(fault);
@@ -113,7 +116,8 @@ impl Keeper for SqliteKeeper {
         ensures applies { Applies changes.now (keeper_of self.old) result (keeper_of self.new) }
         ensures unkept { ¬ All CanKeep changes.now
             → (result ≡ KeeperDone.Failed) × (self.new.last ≡ Some Unkept) }
-        ensures fault { All CanKeep changes.now → is_done_fault result ≡ true → IsOfDatabase self.new.last }
+        ensures fault { All CanKeep changes.now → is_done_fault result ≡ true
+            → IsOfDatabase self.new.last }
         ensures stays { is_done_fault result ≡ false → self.new.last ≡ self.old.last }
     {
         if !can_keep_all(changes.as_slice()) {
