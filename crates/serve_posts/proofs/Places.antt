@@ -1,6 +1,7 @@
 -- What stands at a place of a list, and of the list of what a function gives of its items.
-use Rattle.std.proofs.Common.{◌≡◌, ℕ, zero, suc, ◌<◌, List, [], ◌∷◌, ◌++◌, Some, length, map, refl, ap, subst, arith}
-use Rattle.std.specs.Prelude.{slice_get, slice_index_or}
+use Rattle.std.proofs.Common.{◌≡◌, ℕ, zero, suc, ◌<◌, List, [], ◌∷◌, ◌++◌, Some, length, map, refl, sym, ap, ◌∙◌, subst, arith}
+use Rattle.std.specs.Prelude.{slice_get, slice_index_or, take, drop}
+use Rattle.std.proofs.lemmas.List.{length-map}
 
 pub at_map : {X Y : Type 0} (f : X → Y) (xs : List X) (k : ℕ) (y : Y) → slice_get (map f xs) k ≡ Some y → (x : X) × (slice_get xs k ≡ Some x) × (f x ≡ y)
 at_map f [] k y e = absurd (cc)
@@ -37,4 +38,15 @@ one_more f (z ∷ zs) x ys = ap (λ l. f z ∷ l) (one_more f zs x ys)
 
 -- what is true of two values is true of two that equal them
 pub between : {X : Type 0} (a b u v : X) (P : X → X → Type 0) → u ≡ a → v ≡ b → P u v → P a b
-between a b u v P e f p = subst (λ (x : X). P x b) e (subst (P u) f p)
+between {X = X} a b u v P e f p = subst (λ (x : X). P x b) e (subst (P u) f p)
+
+-- what a slice of a whole vector leaves in it
+pub written_back : {X : Type 0} (xs ys : List X) → length xs ≡ length ys → take (length ys) (xs ++ drop (length xs) ys) ≡ xs
+written_back [] [] e = refl
+written_back [] (y ∷ ys) e = absurd (omega (arith, e))
+written_back (x ∷ xs) [] e = absurd (omega (arith, e))
+written_back (x ∷ xs) (y ∷ ys) e = ap (λ l. x ∷ l) (written_back xs ys (omega (arith, e)))
+
+-- a list of what a function gives of items is as long as what the items came of
+pub as_long : {X Y Z W : Type 0} (f : X → Y) (ys : List Y) (vs : List X) (ws : List Z) (ps : List W) (n : ℕ) → ys ≡ map f vs → length vs ≡ length ws → length ws ≡ n → n ≡ length ps → length ys ≡ length ps
+as_long f ys vs ws ps n e v w n_is = ap length e ∙ (length-map vs f ∙ (v ∙ (w ∙ n_is)))

@@ -20,7 +20,11 @@ use Rattle.serve_posts.proofs.Places.{at_map, map_at, is_there, is_within, one_t
 
 -- what sits down with a pass
 pub sits : (p r : Sight) → r.table ≡ p.table → r.knows ≡ p.knows → r.refusals ≡ 0 → r ≡ sat_down p
-sits p r table knows refusals = cc
+sits p r table knows refusals =
+    ap (λ (t : TableId). seen t r.knows r.refusals) table ∙ (ap (λ (v : View). seen p.table v r.refusals) knows ∙ ap (λ (n : ℕ). seen p.table p.knows n) refusals)
+  where
+    seen : TableId → View → ℕ → Sight
+    seen t v n = record { table = t; knows = v; refusals = n }
 
 -- what is known once a pass sits down is what a newcomer knows
 pub sits_down : (z : TableId) (o : State) (base : List Entry) (made n : ℕ) (d a : Sight) → IsDealt z o base made n d → sat_down d ≡ a → (a.table ≡ z) × (a.knows ≡ fresh n o base made) × (a.refusals ≡ 0)
