@@ -21,10 +21,12 @@
 //! `docs/serve.md` is for one who runs it, `docs/statuses.md` has its statuses.
 #![tactic(auto)]
 
+pub mod answer;
 pub mod end;
 mod form;
 mod guid;
 pub mod laws;
+mod service;
 pub mod settings;
 pub mod sockets;
 pub mod words;

@@ -1,0 +1,42 @@
+//! Making changes.
+
+use crate::documents::{add_document, remove_document, set_grants};
+use crate::entries::{remove_entry, set_entry};
+use crate::fault::DatabaseFault;
+use portal_model::records::RecordChange;
+use sqlite::{Alter, Connection, Error, ErrorCode, Transaction};
+use std::alloc::Global;
+
+/// Makes the changes one after another, in one transaction: all of them, or none.
+pub(crate) fn make_all<S: Alter>(
+    alloc: Global,
+    conn: &mut Connection<S>,
+    changes: &[RecordChange],
+) -> Result<(), DatabaseFault> {
+    if !conn.is_autocommit() {
+        return Err(DatabaseFault::Sqlite(Error::SqliteFailure(ErrorCode::TransactionState)));
+    }
+    let mut transaction = conn.transaction();
+    for change in changes {
+        make(alloc, &mut transaction, change)?;
+    }
+    transaction.commit()?;
+    Ok(())
+}
+
+/// Makes one change.
+fn make<S: Alter>(
+    alloc: Global,
+    transaction: &mut Transaction<'_, S>,
+    change: &RecordChange,
+) -> Result<(), DatabaseFault> {
+    match change {
+        RecordChange::AddDocument(document) => add_document(transaction, document),
+        RecordChange::RemoveDocument { number } => remove_document(transaction, *number),
+        RecordChange::SetGrants { number, grants } => {
+            set_grants(transaction, *number, grants.as_slice())
+        }
+        RecordChange::SetEntry(entry) => set_entry(alloc, transaction, entry),
+        RecordChange::RemoveEntry { table, id } => remove_entry(transaction, table, id),
+    }
+}

@@ -1,0 +1,45 @@
+//! A keeper of records in a SQLite database, which outlives the process.
+//!
+//! **It promises** that its count of faults rises at each `Failed` and at nothing
+//! else, and that it then has what it met ([`SqliteKeeper::last_fault`]): a fault of
+//! the database, or changes that can't be kept exactly where the tables have no
+//! place for one of them. What the database holds is told by no contract: a real
+//! file is outside.
+//!
+//! All changes of one `apply` are one transaction of the database, whose log is
+//! synced before `apply` answers `Done`: a crash at any moment leaves the records
+//! of before a call or of after it, and those of after it once it has answered. A
+//! `Failed` or `Memory` leaves the records as they were. Where it was the sync
+//! that failed, the system may still have written the changes; the database then
+//! answers `Failed` to whatever comes, and the next open finds one of the two.
+//!
+//! | Room | Holds |
+//! |---|---|
+//! | `keeper` | [`SqliteKeeper`] |
+//! | `tables` | the tables of the database, and how they are made |
+//! | `loading` | the records that the tables hold |
+//! | `documents`, `entries` | reading and changing these |
+//! | `rows` | the rows of an entry, and how some become others |
+//! | `kept`, `changes` | which changes can be kept, and making them |
+//! | `calls` | the calls of SQLite |
+//! | `fault` | [`DatabaseFault`], [`KeeperFault`] |
+//!
+//! ```text
+//! let mut keeper = SqliteKeeper::open(&rt, "store.db")?;
+//! match keeper.load() { KeeperLoad::Got(records) => .., .. }
+//! ```
+#![tactic(auto)]
+
+mod calls;
+mod changes;
+mod documents;
+mod entries;
+mod fault;
+mod keeper;
+mod kept;
+mod loading;
+mod rows;
+mod tables;
+
+pub use fault::{DatabaseFault, KeeperFault};
+pub use keeper::SqliteKeeper;
