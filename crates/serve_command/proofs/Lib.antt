@@ -1,0 +1,4 @@
+pub mod Apps
+pub mod NameTexts
+pub mod PathLaw
+pub mod PostCount
