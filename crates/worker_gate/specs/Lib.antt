@@ -1,0 +1,4 @@
+pub mod Listening
+pub mod InMemory
+pub mod Gates
+pub mod Working

@@ -1,0 +1,123 @@
+//! A worker, which serves the links of a post.
+
+ghost use Rattle.std.specs.Prelude.{◌≡◌, List, false};
+ghost use Rattle.portal_model.specs.Seated.{Exchange, Known, is_open, state_seen};
+ghost use Rattle.session.specs.Standings.{client};
+ghost use Rattle.worker_gate.specs.Working.{ServesLink, Works, hall, sides};
+
+use crate::gate::{Gate, GateDesk, GateSink};
+use crate::listener::{Accepted, Link, Listener};
+use portal_base::limits::Settings;
+use portal_base::who::{Kind, Who};
+use portal_desk::Desk;
+use session::connection::serve_connection;
+use std::alloc::Global;
+use std::sync::Wait;
+
+/// Where the clients of one caller come: a listener, whom its links are bound
+/// to, and what they speak.
+#[derive(Debug, Drop)]
+pub struct Post<L> {
+    /// Where the links come from.
+    pub listener: L,
+    /// Whom they are bound to.
+    pub who: Who,
+    /// What they speak.
+    pub kind: Kind,
+}
+
+/// How a worker ended.
+#[derive(Clone, Copy, Debug, PartialEq, Eq)]
+pub enum WorkEnd {
+    /// No link comes any more.
+    Closed,
+    /// Accepting failed.
+    Failed,
+    /// There was no memory to accept.
+    Memory,
+}
+
+/// Serves the links of a post at a desk, one after another, until its listener
+/// gives none.
+///
+/// Each link is one served connection, over a desk and a sink that tell the
+/// gate, and is handed back before the next is accepted. It returns only where
+/// the listener, the links and the desk do. The desk's seat has no open
+/// connection.
+pub fn work<R: Wait, D: Desk, L: Listener, G: Gate>(
+    alloc: Global,
+    rt: &R,
+    worker: u32,
+    desk: &mut D,
+    post: &mut Post<L>,
+    settings: &Settings,
+    gate: &G,
+) -> WorkEnd
+    requires { is_open (state_seen (D.seated desk.old)) (D.seated desk.old).seat ≡ false }
+    // The links that were served, and how the listener ended.
+    ensures works { Works (sides L.In.left L.In.faults L.Out.told L.Out.faults)
+        (client post.old.who post.old.kind settings.now) result
+        (hall (L.links post.old.listener) (L.ends post.old.listener) (L.faults post.old.listener))
+        (D.seated desk.old)
+        (hall (L.links post.new.listener) (L.ends post.new.listener) (L.faults post.new.listener))
+        (D.seated desk.new) }
+    // The desk's seat has no open connection then either.
+    ensures closed_now { is_open (state_seen (D.seated desk.new)) (D.seated desk.new).seat ≡ false }
+    // The history that the desk sees is legal, and the seat's entries in it are its own.
+    ensures known { Known (D.seated desk.new) }
+    ensures who { post.new.who ≡ post.old.who }
+    ensures kind { post.new.kind ≡ post.old.kind }
+    ensures goes { D.goes desk.old desk.new }
+{
+    desk.known();
+    'links: for _ in rt.forever() {
+        match post.listener.accept(alloc) {
+            Accepted::Link { source, sink } => {
+                let link = Link { source, sink };
+                let Link { source, sink } = serve_link(
+                    alloc, worker, desk, post, settings, link, gate,
+                );
+                post.listener.done(source, sink);
+            }
+            Accepted::Closed => return WorkEnd::Closed,
+            Accepted::Failed => return WorkEnd::Failed,
+            Accepted::Memory => return WorkEnd::Memory,
+        }
+    }
+    unreachable!()
+}
+
+/// Serves one link of a post, and gives it back.
+fn serve_link<D: Desk, L: Listener, G: Gate>(
+    alloc: Global,
+    worker: u32,
+    desk: &mut D,
+    post: &Post<L>,
+    settings: &Settings,
+    link: Link<L::In, L::Out>,
+    gate: &G,
+) -> Link<L::In, L::Out>
+    requires { is_open (state_seen (D.seated desk.old)) (D.seated desk.old).seat ≡ false }
+    ensures serves { (part : List Exchange)
+        × ServesLink (sides L.In.left L.In.faults L.Out.told L.Out.faults)
+        (client post.now.who post.now.kind settings.now) link (D.seated desk.old) part result
+        (D.seated desk.new) }
+    ensures goes { D.goes desk.old desk.new }
+{
+    let Link { mut source, sink } = link;
+    let mut sink = GateSink::new(worker, sink, gate);
+    let mut desk = GateDesk::new(worker, desk, gate);
+    serve_connection(
+        alloc,
+        &mut desk,
+        &post.who,
+        post.kind,
+        settings,
+        &mut source,
+        &mut sink,
+    );
+    Link {
+        source,
+        sink: sink.into_sink(),
+    }
+}
