@@ -36,12 +36,12 @@ half c read v w (inr h) = grown v.seated w.seated _ h.0.asked.grows.desk
 
 ends_part : (c : Client) (r : Served) (read : List ℕ) (a b : Spring) (v w : World) → EndsAs c r read a b v w → Part v.seated w.seated
 ends_part c served.Ended read a b v w h = grown v.seated w.seated _ h.1.asked.grows.desk
-ends_part c (served.Cut n) read a b v w h = grown v.seated w.seated _ h.4.asked.grows.desk
+ends_part c (served.Cut n) read a b v w h = grown v.seated w.seated _ h.2.2.asked.grows.desk
 ends_part c (served.Malformed at rule) read a b v w h = grown v.seated w.seated _ h.2.asked.grows.desk
 ends_part c (served.LineTooLong at) read a b v w h = grown v.seated w.seated _ h.2.asked.grows.desk
-ends_part c served.ReadFault read a b v w h = grown v.seated w.seated _ h.2.asked.grows.desk
+ends_part c served.ReadFault read a b v w h = grown v.seated w.seated _ h.1.1.asked.grows.desk
 ends_part c served.WriteFault read a b v w h = grown v.seated w.seated _ h.1.asked.grows.desk
-ends_part c served.Spent read a b v w h = grown v.seated w.seated _ h.6.asked.grows.desk
+ends_part c served.Spent read a b v w h = grown v.seated w.seated _ h.1.5.asked.grows.desk
 ends_part c (served.Full cost limit) read a b v w h = grown v.seated w.seated _ h.1.desk
 ends_part c served.Memory read a b v w (inl (inl h)) = none v.seated w.seated h.1
 ends_part c served.Memory read a b v w (inl (inr h)) = grown v.seated w.seated _ h.1.desk

@@ -1,5 +1,5 @@
 -- What a worker does: it serves the links of a listener at a desk, one after another.
-use Rattle.std.specs.Prelude.{◌≡◌, ℕ, List, [], ◌∷◌, ◌++◌, Bool, false, Option, Some, None, IfSome}
+use Rattle.std.specs.Prelude.{◌≡◌, ℕ, List, [], ◌∷◌, ◌++◌, false, Option, Some, None, IfSome}
 use Rattle.portal_base.specs.Outside.{HasRisen}
 use Rattle.portal_model.specs.Seated.{Exchange, Known, Moved, Seated, is_open, state_seen}
 use Rattle.session.specs.declared.act.Client.{Client}

@@ -1,0 +1,100 @@
+//! The real tree of files.
+
+use host_real::RealTree;
+use host_tree::{HostTree, TreeDone, TreeRead};
+use portal_base::files::FileName;
+use portal_base::names::HostPath;
+use std::alloc::Global;
+use std::fs;
+use std::fs::Files;
+use vector_lines::error::{VectorError, bad, given};
+use vector_lines::notation::{bytes, cut, debug, digits, number, small_number};
+
+/// `tree ROOT STEP, STEP ..`: what each step answers over the files below a root.
+pub fn tree<R: Files>(rt: &R, alloc: Global, rest: &str) -> Result<String, VectorError> {
+    let (root, steps) = cut(rest);
+    let mut tree = given(alloc, RealTree::open(rt, alloc, root))?;
+    let mut out = String::new(alloc);
+    for step in steps.split(',') {
+        let (kind, rest) = cut(step.trim());
+        out.push_str(answer(alloc, &mut tree, kind, rest)?.as_str())?;
+        out.push_str("; ")?;
+    }
+    Ok(out)
+}
+
+/// `gone ROOT AWAY`: what a tree shows of its root while that is moved away, and once
+/// it is back.
+pub fn gone<R: Files>(rt: &R, alloc: Global, rest: &str) -> Result<String, VectorError> {
+    let (root, away) = cut(rest);
+    let mut tree = given(alloc, RealTree::open(rt, alloc, root))?;
+    given(alloc, fs::rename(rt, root, away))?;
+    let mut out = answer(alloc, &mut tree, "look", "/")?;
+    given(alloc, fs::rename(rt, away, root))?;
+    out.push_str("; ")?;
+    out.push_str(answer(alloc, &mut tree, "look", "/")?.as_str())?;
+    Ok(out)
+}
+
+/// `look PATH`, `create PATH NOW`; and of the file of a path `attr PATH`, `later
+/// PATH`, which asks for its generation 1, `read PATH OFFSET SIZE`, and a change.
+fn answer<T: HostTree>(
+    alloc: Global,
+    tree: &mut T,
+    kind: &str,
+    rest: &str,
+) -> Result<String, VectorError> {
+    let (path, rest) = cut(rest);
+    let path = given(alloc, HostPath::read(alloc, path.as_bytes()))?;
+    if kind == "look" {
+        return Ok(debug(alloc, &tree.look(&path))?);
+    }
+    if kind == "create" {
+        return Ok(debug(alloc, &tree.create(&path, number(rest)?))?);
+    }
+    let generation = u64::from(kind == "later");
+    let file = FileName { path, generation };
+    match kind {
+        "attr" | "later" => Ok(debug(alloc, &tree.attr(&file))?),
+        "read" => read(alloc, tree, &file, rest),
+        _ => Ok(debug(alloc, &change(alloc, tree, kind, &file, rest)?)?),
+    }
+}
+
+/// The bytes that are read, as digits, or why none came.
+fn read<T: HostTree>(
+    alloc: Global,
+    tree: &mut T,
+    file: &FileName,
+    rest: &str,
+) -> Result<String, VectorError> {
+    let (offset, size) = cut(rest);
+    match tree.read(file, number(offset)?, small_number(size)?) {
+        TreeRead::Got(bytes) => {
+            let text = digits(alloc, bytes.as_slice())?;
+            Ok(format!(in alloc; "Got({text})")?)
+        }
+        answer => Ok(debug(alloc, &answer)?),
+    }
+}
+
+/// `write PATH OFFSET NOW BYTES`, `len PATH SIZE NOW`, `sync PATH`.
+fn change<T: HostTree>(
+    alloc: Global,
+    tree: &mut T,
+    kind: &str,
+    file: &FileName,
+    rest: &str,
+) -> Result<TreeDone, VectorError> {
+    if kind == "sync" {
+        return Ok(tree.sync(file));
+    }
+    let (place, rest) = cut(rest);
+    let (now, content) = cut(rest);
+    let (place, now) = (number(place)?, number(now)?);
+    match kind {
+        "write" => Ok(tree.write(file, place, bytes(alloc, content)?.as_slice(), now)),
+        "len" => Ok(tree.set_len(file, place, now)),
+        _ => bad(),
+    }
+}

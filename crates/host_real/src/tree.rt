@@ -1,0 +1,134 @@
+//! The files below a root folder, as a tree of files.
+
+ghost use Rattle.std.specs.Prelude.{◌≡◌, IfOk, true};
+ghost use Rattle.portal_base.specs.Devices.{count_after};
+ghost use Rattle.host_tree.specs.Trees.{is_done_fault};
+
+use crate::error::{OpenError, TreeError};
+use crate::system::FilesBelow;
+use host_tree::{AttrAnswer, HostTree, LookAnswer, TreeDone, TreeRead};
+use portal_base::files::FileName;
+use portal_base::names::HostPath;
+use std::alloc::Global;
+use std::fs::Files;
+use std::marker::Model;
+
+/// The files of the system below a root folder, which contracts see as a count of
+/// faults.
+///
+/// The file of a path is the regular file that stands at the path below the root;
+/// its generation is 0. A link below the root, and what is neither a file nor a
+/// folder, is answered as nothing there, and no file is made in its place. A call
+/// that the system interrupts is made again; each other error of the system is a
+/// fault, but for those that say that no file is there.
+#[derive(Drop)]
+pub struct RealTree<R> {
+    below: FilesBelow<R>,
+    faults: u64,
+}
+
+impl<R> Model for RealTree<R> {
+    ghost use Rattle.std.specs.Prelude.{ℕ};
+
+    ghost Value = { ℕ };
+
+    ghost view = { λ t. t.faults };
+}
+
+impl<R: Files> RealTree<R> {
+    /// The tree of the files below a folder, without faults so far. The root may
+    /// be reached by links; it has to be a folder.
+    pub fn open(files: R, alloc: Global, root: &str) -> Result<RealTree<R>, OpenError>
+    where
+        R: Drop,
+        ensures { IfOk result (λ tree. tree ≡ 0) }
+    {
+        Ok(RealTree {
+            below: FilesBelow::open(files, alloc, root)?,
+            faults: 0,
+        })
+    }
+
+    /// Counts a fault.
+    fn fault(&mut self)
+        ensures { self.new ≡ count_after self.old true }
+    {
+        self.faults = self.faults.saturating_add(1);
+    }
+
+    /// The answer of a change, whose fault is counted.
+    fn done(&mut self, outcome: Result<(), TreeError>) -> TreeDone
+        ensures { self.new ≡ count_after self.old (is_done_fault result) }
+    {
+        match outcome {
+            Ok(()) => TreeDone::Done,
+            Err(TreeError::NotFile) => TreeDone::NotFile,
+            Err(TreeError::Memory) => TreeDone::Memory,
+            Err(TreeError::System) => {
+                self.fault();
+                TreeDone::Failed
+            }
+        }
+    }
+}
+
+impl<R: Files> HostTree for RealTree<R> {
+    ghost use Rattle.std.specs.Prelude.{None};
+
+    ghost is = { λ count. record { began = None; told = None; faults = count; calls = None } };
+
+    fn look(&mut self, path: &HostPath) -> LookAnswer {
+        match self.below.look(path) {
+            Ok(look) => LookAnswer::Is(look),
+            Err(_) => {
+                self.fault();
+                LookAnswer::Failed
+            }
+        }
+    }
+
+    fn attr(&mut self, file: &FileName) -> AttrAnswer {
+        match self.below.attributes(file) {
+            Ok((size, moment)) => AttrAnswer::Is { size, moment },
+            Err(TreeError::NotFile) => AttrAnswer::NotFile,
+            Err(_) => {
+                self.fault();
+                AttrAnswer::Failed
+            }
+        }
+    }
+
+    fn read(&mut self, file: &FileName, offset: u64, size: u32) -> TreeRead {
+        match self.below.read(file, offset, size) {
+            Ok(bytes) => TreeRead::Got(bytes),
+            Err(TreeError::NotFile) => TreeRead::NotFile,
+            Err(TreeError::Memory) => TreeRead::Memory,
+            Err(TreeError::System) => {
+                self.fault();
+                TreeRead::Failed
+            }
+        }
+    }
+
+    fn write(&mut self, file: &FileName, offset: u64, content: &[u8], now: u64) -> TreeDone {
+        let outcome = self.below.write(file, offset, content, now);
+        self.done(outcome)
+    }
+
+    fn set_len(&mut self, file: &FileName, size: u64, now: u64) -> TreeDone {
+        let outcome = self.below.set_len(file, size, now);
+        self.done(outcome)
+    }
+
+    fn create(&mut self, path: &HostPath, now: u64) -> TreeDone {
+        let outcome = self.below.create(path, now);
+        self.done(outcome)
+    }
+
+    fn sync(&mut self, file: &FileName) -> TreeDone {
+        let outcome = self.below.sync(file);
+        self.done(outcome)
+    }
+
+    fn known(&self) {}
+}
