@@ -164,12 +164,12 @@ pub(crate) fn stand_up<R: Wait, L: Drop, S: Storied + Drop>(
     requires room { (vec_len workers ≤ vec_capacity crew.passes)
         × (vec_len workers ≤ vec_capacity crew.posts)
         × (vec_len workers ≤ vec_capacity crew.ends) }
-    ensures posts { result.posts.items ≡ map (λ w. w.post) workers.items }
-    ensures ends { result.ends.items ≡ map (λ w. w.end) workers.items }
+    ensures posts { result.posts.items ≡ map (λ w. w.post) workers.entry.items }
+    ensures ends { result.ends.items ≡ map (λ w. w.end) workers.entry.items }
     ensures tables { map (λ p. p.table) result.passes.items
-        ≡ map (λ w. w.desk.table) workers.items }
+        ≡ map (λ w. w.desk.table) workers.entry.items }
     ensures knows { map (λ p. p.knows) result.passes.items
-        ≡ map (λ w. w.desk.knows) workers.items }
+        ≡ map (λ w. w.desk.knows) workers.entry.items }
 {
     let mut crew = crew;
     for worker in workers {

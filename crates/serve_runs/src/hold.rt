@@ -1,17 +1,16 @@
 //! A gate that holds workers.
 
-use std::fmt;
 use std::fmt::{Display, Formatter, Write};
 use std::sync::atomic::{AtomicBool, AtomicU64, Ordering};
-use std::thread;
 use std::time::{Clock, Duration};
+use std::{fmt, thread};
 use worker_gate::gate::{Gate, Point};
 
 /// How often a held worker sleeps at most.
 const TURNS: u32 = 10_000;
 
-/// For how long it sleeps each time.
-const TURN: Duration = Duration::from_millis(1);
+/// For how many milliseconds it sleeps each time.
+const TURN: u64 = 1;
 
 /// Which of two workers is held, and until what.
 #[derive(Clone, Copy, Debug, PartialEq, Eq)]
@@ -96,7 +95,7 @@ impl<'a, R: Clock> HoldGate<'a, R> {
             if self.may_pass(worker, request, other) {
                 return;
             }
-            thread::sleep(self.rt, TURN);
+            thread::sleep(self.rt, Duration::from_millis(TURN));
         }
         self.ran_out.store(true, Ordering::SeqCst);
     }

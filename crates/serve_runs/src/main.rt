@@ -27,7 +27,11 @@ use std::io;
 use vector_lines::error::VectorError;
 
 fn main(rt: HostRuntime) -> io::Result<()> {
-    for hold in [Hold::AtFirst, Hold::AtSecond { worker: 1 }, Hold::AtSecond { worker: 2 }] {
+    for hold in [
+        Hold::AtFirst,
+        Hold::AtSecond { worker: 1 },
+        Hold::AtSecond { worker: 2 },
+    ] {
         println!(rt; "{hold}")?;
         let text = shown(rt.alloc(), mounts(&rt, rt.alloc(), hold))?;
         println!(rt; "{text}")?;

@@ -14,8 +14,13 @@ use worker_gate::in_memory::MemoryListener;
 use worker_gate::worker::{Post, WorkEnd};
 
 /// What serving links in memory over devices in memory came to.
-pub type LinksStatus<S, K> =
-    ServeStatus<MemoryListener<S, K>, MemoryTree, MemoryKeeper, SetClock, ListWords>;
+pub type LinksStatus<S, K> = ServeStatus<
+    MemoryListener<S, K>,
+    MemoryTree,
+    MemoryKeeper,
+    SetClock,
+    ListWords,
+>;
 
 /// A sink that shows its pieces.
 pub trait Shown {

@@ -58,9 +58,7 @@ impl<'a> Source for WaitingSource<'a> {
         self.reads = self.reads.saturating_add(1);
         match self.reads {
             1 => fill(buffer, self.first.as_slice()),
-            2 if self.answered.load(Ordering::SeqCst) => {
-                fill(buffer, self.second.as_slice())
-            }
+            2 if self.answered.load(Ordering::SeqCst) => { fill(buffer, self.second.as_slice()) }
             2 => {
                 self.faults = self.faults.saturating_add(1);
                 ReadAnswer::Failed
