@@ -1,11 +1,12 @@
 -- From workers in their seats to posts that were served.
-use Rattle.std.proofs.Common.{◌≡◌, ℕ, zero, suc, ◌+◌, ◌≤◌, ◌<◌, List, Some, length, map, refl, sym, ap, ◌∙◌, subst, arith}
+use Rattle.std.proofs.Common.{◌≡◌, ℕ, zero, suc, ◌+◌, ◌≤◌, ◌<◌, List, Some, false, length, map, refl, sym, ap, ◌∙◌, subst, arith}
 use Rattle.std.specs.Prelude.{slice_get, if◌then◌else◌, ◌==◌}
 use Rattle.std.proofs.lemmas.List.{length-map}
 use Rattle.atomic_table.specs.Seated.{TableId}
 use Rattle.portal_base.specs.declared.limits.Settings.{Settings}
 use Rattle.portal_model.specs.declared.entry.Entry.{Entry}
-use Rattle.portal_model.specs.Seated.{BeginsWith, exchanges}
+use Rattle.portal_model.specs.History.{run}
+use Rattle.portal_model.specs.Seated.{BeginsWith, exchanges, is_open, state_seen}
 use Rattle.portal_model.specs.State.{State}
 use Rattle.session.specs.Standings.{client}
 use Rattle.turn_desk.specs.Deals.{AreAll, IsDealt, IsPassOf, Stands}
@@ -17,12 +18,28 @@ use Rattle.worker_gate.specs.Working.{Hall, Sides, Works}
 use Rattle.serve_posts.specs.Posts.{Attends, ServesPost, newcomer, sat_down}
 use Rattle.serve_posts.proofs.Places.{at_map, map_at, is_there, is_within, one_there}
 
+-- what sits down with a pass
+pub sits : (p r : Sight) → r.table ≡ p.table → r.knows ≡ p.knows → r.refusals ≡ 0 → r ≡ sat_down p
+sits p r table knows refusals =
+    ap (λ (t : TableId). seen t r.knows r.refusals) table ∙ (ap (λ (v : View). seen p.table v r.refusals) knows ∙ ap (λ (n : ℕ). seen p.table p.knows n) refusals)
+  where
+    seen : TableId → View → ℕ → Sight
+    seen t v n = record { table = t; knows = v; refusals = n }
+
 -- what is known once a pass sits down is what a newcomer knows
 pub sits_down : (z : TableId) (o : State) (base : List Entry) (made n : ℕ) (d a : Sight) → IsDealt z o base made n d → sat_down d ≡ a → (a.table ≡ z) × (a.knows ≡ fresh n o base made) × (a.refusals ≡ 0)
 sits_down z o base made n d a dealt e = (ap (λ (x : Sight). x.table) (sym e) ∙ dealt.table_is, ap (λ (x : Sight). x.knows) (sym e) ∙ dealt.view_is, ap (λ (x : Sight). x.refusals) (sym e))
 
 pub is_newcomer : (o : State) (base : List Entry) (made n : ℕ) (a : Sight) → a.knows ≡ fresh n o base made → a.refusals ≡ 0 → seated_of a ≡ newcomer o base n
 is_newcomer o base made n a k r = cc
+
+-- no seat that sits down has an open connection, where none has one in the history at the start
+pub starts_closed : {X : Type 0} (z : TableId) (o : State) (base : List Entry) (seats : ℕ) (passes : List Sight) (desk_of : X → Sight) (ws : List X) → map desk_of ws ≡ map sat_down passes → ((k : ℕ) (p : Sight) → slice_get passes k ≡ Some p → IsDealt z o base (if k == 0 then seats else 0) (k + 1) p) → ((n : ℕ) → is_open (run o base) n ≡ false) → (k : ℕ) (a : X) → slice_get ws k ≡ Some a → is_open (state_seen (seated_of (desk_of a))) (desk_of a).knows.number ≡ false
+starts_closed z o base seats passes desk_of ws are dealt closed k a at =
+    let there : slice_get (map sat_down passes) k ≡ Some (desk_of a) = ap (λ (xs : List Sight). slice_get xs k) (sym are) ∙ map_at desk_of ws k a at in
+    let found = at_map sat_down passes k (desk_of a) there in
+    let down = sits_down z o base (if k == 0 then seats else 0) (k + 1) found.0 (desk_of a) (dealt k found.0 found.1) found.2 in
+    subst (λ (v : View). is_open (run v.opening v.seen) v.number ≡ false) (sym down.1) (closed (k + 1))
 
 module _ {L S K X : Type 0} (s : Sides S K) (hall_of : L → Hall S K) (settings : Settings) (post_of : X → Post L) (desk_of : X → Sight) (end_of : X → WorkEnd) where
   -- one post, whose worker came back with a pass that stands
@@ -77,7 +94,7 @@ module _ {L S K X : Type 0} (s : Sides S K) (hall_of : L → Hall S K) (settings
       let return = its_return z o base seats posts passes ws vs returned w k last.0 last.1 in
       let did = w.each k first.0 last.0 first.1 last.1 in
       let did_so : Attends s hall_of settings p (desk_of first.0) e q (desk_of last.0) =
-          subst (λ (x : Post L). Attends s hall_of settings x (desk_of first.0) e q (desk_of last.0)) first.2 (subst (λ (x : Post L). Attends s hall_of settings (post_of first.0) (desk_of first.0) e x (desk_of last.0)) last.2 (subst (λ (x : WorkEnd). Attends s hall_of settings (post_of first.0) (desk_of first.0) x (post_of last.0) (desk_of last.0)) ends_so did)) in
+      subst (λ (x : Post L). Attends s hall_of settings x (desk_of first.0) e q (desk_of last.0)) first.2 (subst (λ (x : Post L). Attends s hall_of settings (post_of first.0) (desk_of first.0) e x (desk_of last.0)) last.2 (subst (λ (x : WorkEnd). Attends s hall_of settings (post_of first.0) (desk_of first.0) x (post_of last.0) (desk_of last.0)) ends_so did)) in
       one_served z o base log (if k == 0 then seats else 0) (k + 1) pass.0 return.0 (desk_of first.0) (desk_of last.0) p q e pass.1 pass.2 did_so return.2 (stands k return.0 return.1)
 
   -- the first seat's pass knows how many there are
@@ -103,10 +120,10 @@ module _ {L S K X : Type 0} (s : Sides S K) (hall_of : L → Hall S K) (settings
           let did = w.each k first.0 table.0 first.1 table.1 in
           let down = sits_down z o base (if k == 0 then seats else 0) (k + 1) pass.0 (desk_of first.0) pass.1 pass.2 in
           let knows : (desk_of table.0).knows ≡ p.knows = ap (λ (x : X). (desk_of x).knows) (sym same) ∙ know.2 in (
-              sym table.2 ∙ (did.stays.table ∙ down.0),
-              ap (λ (v : View). v.number) (sym knows) ∙ (did.stays.seat.number ∙ ap (λ (v : View). v.number) down.1),
-              ap (λ (v : View). v.made) (sym knows) ∙ (did.stays.seat.made ∙ ap (λ (v : View). v.made) down.1),
-            )
+            sym table.2 ∙ (did.stays.table ∙ down.0),
+            ap (λ (v : View). v.number) (sym knows) ∙ (did.stays.seat.number ∙ ap (λ (v : View). v.number) down.1),
+            ap (λ (v : View). v.made) (sym knows) ∙ (did.stays.seat.made ∙ ap (λ (v : View). v.made) down.1),
+          )
 
       each : (k : ℕ) (p : Sight) → slice_get returned k ≡ Some p → IsPassOf z seats p
       each k p at =

@@ -10,7 +10,7 @@ abbrev pub invariant-loop-post : goal.invariant-loop-post
 invariant-loop-post g l = record {
   posts : map (λ w. w.post) l.workers.items ++ into_iter_items l.post-iterator ≡ into_iter_items l.initial.post-iterator;
   seats : map (λ w. w.desk) l.workers.items ++ map sat_down (into_iter_items l.passes) ≡ map sat_down (into_iter_items l.initial.passes);
-  table : (k : ℕ) (p : Sight) → slice_get (into_iter_items l.passes) k ≡ Some p → p.table ≡ l.fn.turn.now.table;
+  table : (k : ℕ) (p : Sight) → slice_get (into_iter_items l.passes) k ≡ Some p → p.table ≡ l.fn.turn.table;
   as_many : into_iter_len l.passes ≡ into_iter_len l.post-iterator;
   room : vec_len l.workers + into_iter_len l.post-iterator ≤ vec_capacity l.workers;
 }
