@@ -1,0 +1,30 @@
+//! Serving posts: one worker and one seat per post, over one portal.
+//!
+//! **It promises** that each post is served as its worker says: the links that
+//! come back to its listener are those that were given, in order, each once;
+//! each is one served connection, with an ending that it allows; and all that
+//! the portal's history has of the worker's seat is what these connections
+//! asked, link by link. The history is the one of the portal that comes back,
+//! and is legal. The posts come back in their order, each with the end of its
+//! worker.
+//!
+//! | Room | Holds |
+//! |---|---|
+//! | `serve` | [`serve::serve`] |
+//! | `status` | [`status::ServeStatus`]: what serving came to |
+//! | `shift` | the same over any value that keeps a history |
+//! | `worker` | workers, each in its seat at its post |
+//!
+//! ```text
+//! match serve(alloc, &rt, posts, tree, keeper, clock, words, &settings, &OpenGate) {
+//!     ServeStatus::Ended { posts, ends, portal } => ..,
+//!     ServeStatus::Refused(refusal) => ..,
+//!     ServeStatus::Memory => ..,
+//! }
+//! ```
+#![tactic(auto)]
+
+pub mod serve;
+mod shift;
+pub mod status;
+mod worker;

@@ -1,0 +1,27 @@
+//! What serving posts came to.
+
+use host_tree::HostTree;
+use portal_base::list::List;
+use portal_base::outside::{Clock, Words};
+use portal_core::portal::Portal;
+use portal_core::start::StartRefusal;
+use record_keeper::Keeper;
+use worker_gate::worker::{Post, WorkEnd};
+
+/// What serving posts came to.
+#[derive(Drop)]
+pub enum ServeStatus<L, T: HostTree, K: Keeper, C: Clock, W: Words> {
+    /// Each worker ended.
+    Ended {
+        /// The posts, in their order.
+        posts: List<Post<L>>,
+        /// How the worker of each ended, in the same order.
+        ends: List<WorkEnd>,
+        /// The portal, with the history of all that was asked.
+        portal: Portal<T, K, C, W>,
+    },
+    /// No portal started: the devices, and why.
+    Refused(StartRefusal<T, K, C, W>),
+    /// There was no memory, and no worker began.
+    Memory,
+}

@@ -1,0 +1,193 @@
+//! Workers, each in its seat at its post.
+
+ghost use Rattle.std.specs.Prelude.{◌≡◌, ◌∷◌, [], ◌+◌, ◌<◌, ◌≤◌, ℕ, List, IfOk, length, map, Some, slice_get, false, vec_capacity, vec_len};
+ghost use Rattle.portal_model.specs.Seated.{is_open, state_seen};
+ghost use Rattle.turn_desk.specs.Sights.{seated_of};
+ghost use Rattle.worker_gate.specs.Working.{sides};
+ghost use Rattle.serve_posts.specs.Posts.{Attends, halls, sat_down};
+
+use portal_base::limits::Settings;
+use portal_base::list::List;
+use portal_base::memory::WantOfMemory;
+use portal_core::storied::Storied;
+use std::alloc::Global;
+use std::sync::Wait;
+use std::thread;
+use std::thread::Threads;
+use turn_desk::seats::{Pass, Turn};
+use turn_desk::waiting::WaitingSeat;
+use worker_gate::gate::Gate;
+use worker_gate::listener::Listener;
+use worker_gate::worker::{Post, WorkEnd, work};
+
+/// A worker in its seat, at its post.
+#[derive(Drop)]
+pub(crate) struct Worker<'a, R: Wait, L, S: Storied> {
+    /// Its number, which is that of its seat.
+    pub(crate) number: u32,
+    /// Its seat.
+    pub(crate) desk: WaitingSeat<'a, R, S>,
+    /// Its post.
+    pub(crate) post: Post<L>,
+    /// How its work ended; before that, as if there had been no memory for it.
+    pub(crate) end: WorkEnd,
+}
+
+/// The passes and the posts that workers bring back, and how their work ended.
+#[derive(Drop)]
+pub(crate) struct Crew<L, S: Storied> {
+    /// Their passes.
+    pub(crate) passes: Vec<Pass<S>>,
+    /// Their posts.
+    pub(crate) posts: Vec<Post<L>>,
+    /// How the work of each ended.
+    pub(crate) ends: Vec<WorkEnd>,
+}
+
+impl<L: Drop, S: Storied + Drop> Crew<L, S> {
+    /// Room for so many.
+    pub(crate) fn with_room(alloc: Global, count: usize) -> Result<Crew<L, S>, WantOfMemory>
+        ensures empty { IfOk result (λ crew. (crew.passes.items ≡ []) × (crew.posts.items ≡ [])
+            × (crew.ends.items ≡ [])) }
+        ensures room { IfOk result (λ crew. (count ≤ vec_capacity crew.passes)
+            × (count ≤ vec_capacity crew.posts) × (count ≤ vec_capacity crew.ends)) }
+    {
+        let mut passes = Vec::new(alloc);
+        passes.reserve(count)?;
+        let mut posts = Vec::new(alloc);
+        posts.reserve(count)?;
+        let mut ends = Vec::new(alloc);
+        ends.reserve(count)?;
+        Ok(Crew {
+            passes,
+            posts,
+            ends,
+        })
+    }
+}
+
+/// A worker for each post, in the seat of its pass.
+pub(crate) fn seat_workers<'a, R: Wait, L: Drop, S: Storied + Drop>(
+    alloc: Global,
+    rt: &'a R,
+    turn: &'a Turn<S>,
+    posts: List<Post<L>>,
+    passes: Vec<Pass<S>>,
+) -> Result<Vec<Worker<'a, R, L, S>>, WantOfMemory>
+    requires table { (k : ℕ) (p : _) → slice_get passes.items k ≡ Some p
+        → p.table ≡ turn.now.table }
+    requires as_many { vec_len passes ≡ length posts }
+    ensures posts { IfOk result (λ workers. map (λ w. w.post) workers.items ≡ posts) }
+    ensures seats { IfOk result (λ workers. map (λ w. w.desk) workers.items
+        ≡ map sat_down passes.items) }
+{
+    let mut workers = Vec::new(alloc);
+    workers.reserve(posts.len())?;
+    let mut passes = passes.into_iter();
+    for post in posts.into_vec() {
+        let Some(pass) = passes.next() else {
+            unreachable!()
+        };
+        let number = pass.number();
+        let desk = pass.sit(turn).waiting(rt);
+        workers.push_reserved(Worker {
+            number,
+            desk,
+            post,
+            end: WorkEnd::Memory,
+        });
+    }
+    Ok(workers)
+}
+
+/// A worker serves its post.
+fn work_at<R: Wait, L: Listener, S: Storied, G: Gate>(
+    alloc: Global,
+    rt: &R,
+    settings: &Settings,
+    gate: &G,
+    worker: &mut Worker<'_, R, L, S>,
+)
+    requires { is_open (state_seen (seated_of worker.old.desk)) worker.old.desk.knows.number
+        ≡ false }
+    ensures { Attends (sides L.In.left L.In.faults L.Out.told L.Out.faults)
+        (halls L.links L.ends L.faults) settings.now worker.old.post worker.old.desk worker.new.end
+        worker.new.post worker.new.desk }
+{
+    worker.end = work(
+        alloc,
+        rt,
+        worker.number,
+        &mut worker.desk,
+        &mut worker.post,
+        settings,
+        gate,
+    );
+}
+
+/// All workers serve their posts, each in a thread of its own where one can be
+/// started.
+pub(crate) fn work_all<
+    R: Threads + Wait + Sync,
+    L: Listener + Send,
+    S: Storied + Send,
+    G: Gate + Sync,
+>(alloc: Global, rt: &R, settings: &Settings, gate: &G, workers: &mut [Worker<'_, R, L, S>])
+where
+    L::In: Send,
+    L::Out: Send,
+    requires some { 0 < length workers.old }
+    requires closed { (k : ℕ) (w : _) → slice_get workers.old k ≡ Some w
+        → is_open (state_seen (seated_of w.desk)) w.desk.knows.number ≡ false }
+    ensures as_many { length workers.new ≡ length workers.old }
+    ensures each { (k : ℕ) (a b : _) → slice_get workers.old k ≡ Some a
+        → slice_get workers.new k ≡ Some b
+        → Attends (sides L.In.left L.In.faults L.Out.told L.Out.faults)
+        (halls L.links L.ends L.faults) settings.now a.post a.desk b.end b.post b.desk }
+{
+    let count = workers.len();
+    thread::for_each_mut(
+        rt,
+        workers,
+        count,
+        &|_, worker|
+            requires { is_open (state_seen (seated_of worker.old.desk))
+                worker.old.desk.knows.number ≡ false }
+            ensures { Attends (sides L.In.left L.In.faults L.Out.told L.Out.faults)
+                (halls L.links L.ends L.faults) settings.entry.now worker.old.post
+                worker.old.desk worker.new.end worker.new.post worker.new.desk }
+        { work_at(alloc, rt, settings, gate, worker) },
+    );
+}
+
+/// All workers leave their seats.
+pub(crate) fn stand_up<R: Wait, L: Drop, S: Storied + Drop>(
+    workers: Vec<Worker<'_, R, L, S>>,
+    crew: Crew<L, S>,
+) -> Crew<L, S>
+    requires empty { (crew.passes.items ≡ []) × (crew.posts.items ≡ [])
+        × (crew.ends.items ≡ []) }
+    requires room { (vec_len workers ≤ vec_capacity crew.passes)
+        × (vec_len workers ≤ vec_capacity crew.posts)
+        × (vec_len workers ≤ vec_capacity crew.ends) }
+    ensures posts { result.posts.items ≡ map (λ w. w.post) workers.entry.items }
+    ensures ends { result.ends.items ≡ map (λ w. w.end) workers.entry.items }
+    ensures tables { map (λ p. p.table) result.passes.items
+        ≡ map (λ w. w.desk.table) workers.entry.items }
+    ensures knows { map (λ p. p.knows) result.passes.items
+        ≡ map (λ w. w.desk.knows) workers.entry.items }
+{
+    let mut crew = crew;
+    for worker in workers {
+        let Worker {
+            number: _,
+            desk,
+            post,
+            end,
+        } = worker;
+        crew.passes.push_reserved(desk.seat().leave());
+        crew.posts.push_reserved(post);
+        crew.ends.push_reserved(end);
+    }
+    crew
+}
