@@ -17,7 +17,7 @@ names_tell (App a) (App b) e = ap App (append_cancel_left (codes "app.") a b e)
 ends_differ : (x y : List ℕ) → x ++ codes ".bus" ≡ y ++ codes ".mount" → ⊥
 ends_differ x y e =
     let turned : reverse (codes ".bus") ++ reverse x ≡ reverse (codes ".mount") ++ reverse y =
-        sym (reverse-append x (codes ".bus")) ∙ ap reverse e ∙ reverse-append y (codes ".mount") in
+    sym (reverse-append x (codes ".bus")) ∙ ap reverse e ∙ reverse-append y (codes ".mount") in
     let bad : 115 ≡ 116 = ap (λ t. slice_index t 0) turned in omega (arith, bad)
 
 tell : (w v : Who) (k l : Kind) → who_name w ++ kind_name k ≡ who_name v ++ kind_name l

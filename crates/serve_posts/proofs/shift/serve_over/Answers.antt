@@ -40,7 +40,7 @@ worked g c =
       dealt = c.in-Ok.ensures.passes.1;
       count = c.work_all.ensures.as_many;
       number =
-      ap (λ (l : List (Worker g.row.R.Denot g.row.L.Denot g.row.S.Denot)). length l) same
+          ap (λ (l : List (Worker g.row.R.Denot g.row.L.Denot g.row.S.Denot)). length l) same
           ∙ (sym (length-map c.in_ok-workers.workers.items (λ (v : Worker g.row.R.Denot g.row.L.Denot g.row.S.Denot). v.post))
           ∙ (ap (λ (l : List (Post g.row.L.Denot)). length l) c.in_ok-workers.ensures.posts ∙ sym c.len-count.ensures));
       each = c.work_all.ensures.each;

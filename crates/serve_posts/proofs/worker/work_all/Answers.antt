@@ -11,6 +11,6 @@ returns-clause-each g c = λ k a b at_a at_b.
     let new : slice_index_or c.for_each_mut.new.s k a ≡ b = index_at c.for_each_mut.new.s k a b at_b in
     let did = (c.for_each_mut.ensures k a (is_within c.args.workers.now k a at_a)).1 in
     between a b did.argument.now did.after_call.now (λ (x y : Worker g.row.R.Denot g.row.L.Denot g.row.S.Denot). Attends {L = g.row.L.Denot} {S = g.row.L-In.Denot} {K = g.row.L-Out.Denot} (sides g.L.In.Source.left g.L.In.Source.faults g.L.Out.Sink.told g.L.Out.Sink.faults) (halls g.L.Listener.links g.L.Listener.ends g.L.Listener.faults) c.args.settings.now x.post x.desk y.end y.post y.desk)
-        (did.argument_is ∙ old)
-        (did.left ∙ new)
-        did.call
+    (did.argument_is ∙ old)
+    (did.left ∙ new)
+    did.call
