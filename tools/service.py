@@ -11,10 +11,9 @@ sys.path.insert(0, os.path.join(TOP, "contrib", "clients"))
 
 from docportal_client import Bus, Mount, socket_path  # noqa: E402
 
-# Where the built program is; without one the sources are run, checked and slowly.
-BUILT = os.path.join(TOP, "crates", "docportal", "out", "docportal")
-PROGRAM = os.environ.get("DOCPORTAL") or (
-    BUILT if os.access(BUILT, os.X_OK) else os.path.join(TOP, "docportal"))
+# The built program of `docportal serve`.
+PROGRAM = os.environ.get("DOCPORTAL_SERVE") or os.path.join(
+    TOP, "crates", "docportal_serve", "out", "docportal_serve")
 
 
 class Service:
@@ -26,7 +25,7 @@ class Service:
         self.sockets = os.path.join(folder, "sockets")
         os.makedirs(self.root, exist_ok=True)
         os.makedirs(self.sockets, exist_ok=True)
-        self.words = ["serve", "--root", self.root, "--store", self.store,
+        self.words = ["--root", self.root, "--store", self.store,
                       "--sockets", self.sockets, *options, *apps]
         self.process = None
 
@@ -68,7 +67,7 @@ class Service:
 
 
 def run(*words):
-    """Runs the program to its end: its status, and what it said on each stream."""
+    """Runs the service to its end: its status, and what it said on each stream."""
     done = subprocess.run([PROGRAM, *words], stdin=subprocess.DEVNULL, capture_output=True,
                           timeout=60)
     return done.returncode, done.stdout.decode(), done.stderr.decode()

@@ -8,17 +8,16 @@ use portal_base::text::Text;
 
 /// What `--help` prints.
 const HELP: &str = "\
-usage: docportal serve ..      serves the portal at sockets (docportal serve --help)
-       docportal replay        runs the script on standard input
+usage: docportal replay        runs the script on standard input
        docportal worlds APP    compares two scripts on standard input as APP sees them
        docportal generate N    runs a generated load of N requests, from 1 to 100000
        docportal --help        prints this
        docportal --version     prints the version
 
 docportal is the document portal and the permission store of the XDG desktop.
-A run that isn't done ends with a status from 1 to 6, a service with one from 1 to 7,
-and says why on standard error (docs/statuses.md). docs/serve.md says how a service is
-run, docs/scripts.md what a script is, and docs/isolation.md what comparing two tells.
+A run that isn't done ends with a status from 1 to 6, and says why on standard
+error (docs/statuses.md); docs/scripts.md says what a script is, and docs/isolation.md
+what comparing two tells.
 ";
 
 /// What `--version` prints.

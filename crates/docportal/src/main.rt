@@ -1,5 +1,4 @@
-//! The document portal and permission store of a desktop, in one program: a service at
-//! sockets (the crate `serve_command`), and runs of scripts.
+//! The document portal and permission store of a desktop, in one program.
 //!
 //! **It promises** (`run`) that at `Done` the output is the one that the script
 //! has, over one legal history, and that the replies to each application are those
@@ -60,23 +59,11 @@ use std::process::ExitCode;
 use std::{env, io};
 
 fn main(rt: HostRuntime) -> ExitCode {
-    let words = match words_of(&rt) {
-        Ok(words) => words,
-        Err(status) => return end(&rt, status),
+    let status = match words_of(&rt) {
+        Ok(words) => answer(&rt, words.as_slice()),
+        Err(status) => status,
     };
-    if let [first, rest @ ..] = words.as_slice() {
-        if first.as_str() == "serve" {
-            return ExitCode::from(serve_command::answer::answer(&rt, &rt, rest));
-        }
-    }
-    end(&rt, answer(&rt, words.as_slice()))
-}
-
-/// Tells of an end that isn't well: what the process ends with.
-fn end(rt: &HostRuntime, status: Status) -> ExitCode
-    ensures { exit_status result ≡ number_of status }
-{
-    let _ = tell(rt, status);
+    let _ = tell(&rt, status);
     code_of(status)
 }
 

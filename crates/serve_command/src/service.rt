@@ -54,11 +54,7 @@ struct Service<'a> {
 ///
 /// One line on standard output tells that all sockets stand. It returns only where the
 /// sockets, the connections and the devices do.
-pub fn run<R: Threads + Wait + Sync>(
-    rt: &R,
-    system: &HostRuntime,
-    words: &ServeWords,
-) -> ServeEnd
+pub fn run<R: Threads + Wait + Sync>(rt: &R, system: &HostRuntime, words: &ServeWords) -> ServeEnd
     requires { IsInForm words.now }
 {
     match prepare(system, words) {
@@ -131,7 +127,9 @@ fn serve_all<R: Threads + Wait + Sync>(
         words,
     } = devices;
     let alloc = system.alloc();
-    match serve(alloc, rt, posts, tree, keeper, clock, words, &settings, &OpenGate) {
+    match serve(
+        alloc, rt, posts, tree, keeper, clock, words, &settings, &OpenGate,
+    ) {
         ServeStatus::Ended { ends, .. } => end_of_work(ends.as_slice()),
         ServeStatus::Refused(refusal) => end_of_start(system, refusal.error, &refusal.keeper),
         ServeStatus::Memory => ServeEnd::Memory,
