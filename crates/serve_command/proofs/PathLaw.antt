@@ -1,12 +1,12 @@
 -- A socket's path tells whose it is, and what it speaks.
-use Rattle.std.proofs.Common.{◌≡◌, ℕ, List, [], ◌∷◌, ◌++◌, reverse, refl, ap, sym, ◌∙◌, arith}
+use Rattle.std.proofs.Common.{◌≡◌, ℕ, List, ◌++◌, reverse, refl, ap, sym, ◌∙◌, arith}
 use Rattle.std.specs.Prelude.{codes, slice_index}
 use Rattle.std.proofs.lemmas.List.{append_cancel_left, append_cancel_right, reverse-append}
 use Rattle.portal_base.specs.declared.who.Who.{Who}
 use Rattle.portal_base.specs.declared.who.Who.TheVariants.{Host, App}
 use Rattle.portal_base.specs.declared.who.Kind.{Kind}
 use Rattle.portal_base.specs.declared.who.Kind.TheVariants.{Bus, Mount}
-use Rattle.serve_command.specs.Sockets.{PathsTell, kind_name, path_in, who_name}
+use Rattle.serve_command.specs.Sockets.{PathsTell, kind_name, who_name}
 
 names_tell : (w v : Who) → who_name w ≡ who_name v → w ≡ v
 names_tell Host Host e = refl

@@ -1,5 +1,5 @@
 -- So many posts are neither none nor too many.
-use Rattle.std.proofs.Common.{◌≡◌, ℕ, ◌+◌, ◌*◌, ◌≤◌, arith}
+use Rattle.std.proofs.Common.{ℕ, ◌+◌, ◌*◌, ◌≤◌, arith}
 use Rattle.std.proofs.lemmas.Nat.{mul-le}
 
 pub posts_fit : (w n : ℕ) → 1 ≤ w → w ≤ 8 → n ≤ 64

@@ -1,5 +1,8 @@
 //! What the program does for the words behind `serve`.
 
+ghost use Rattle.std.specs.Prelude.{◌≡◌};
+ghost use Rattle.serve_command.specs.Ends.{number_of};
+
 use crate::end::ServeEnd;
 use crate::service::run;
 use crate::words::{ServeAsk, WordsError, read_words};
@@ -26,8 +29,10 @@ pub fn answer<R: Threads + Wait + Sync>(rt: &R, system: &HostRuntime, words: &[T
     }
 }
 
-/// Tells how a service ended that didn't end well: its number.
-fn tell(system: &HostRuntime, end: &ServeEnd) -> u8 {
+/// The number of an end. Where it isn't 0, standard error is told how the service ended.
+pub fn tell(system: &HostRuntime, end: &ServeEnd) -> u8
+    ensures { result ≡ number_of end.now }
+{
     let number = end.number();
     if number != 0 {
         let _ = eprintln!(system; "docportal: {end}");
