@@ -2,3 +2,4 @@ pub mod Apps
 pub mod NameTexts
 pub mod PathLaw
 pub mod PostCount
+pub mod Sends
