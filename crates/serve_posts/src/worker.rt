@@ -150,7 +150,13 @@ where
         rt,
         workers,
         count,
-        &|_, worker| work_at(alloc, rt, settings, gate, worker),
+        &|_, worker|
+            requires { is_open (state_seen (seated_of worker.old.desk))
+                worker.old.desk.knows.number ≡ false }
+            ensures { Attends (sides L.In.left L.In.faults L.Out.told L.Out.faults)
+                (halls L.links L.ends L.faults) settings.entry.now worker.old.post
+                worker.old.desk worker.new.end worker.new.post worker.new.desk }
+        { work_at(alloc, rt, settings, gate, worker) },
     );
 }
 

@@ -13,4 +13,4 @@ returns-clause-each g c = λ k a b at_a at_b.
     between a b did.argument.now did.after_call.now (λ (x y : Worker g.row.R.Denot g.row.L.Denot g.row.S.Denot). Attends {L = g.row.L.Denot} {S = g.row.L-In.Denot} {K = g.row.L-Out.Denot} (sides g.L.In.Source.left g.L.In.Source.faults g.L.Out.Sink.told g.L.Out.Sink.faults) (halls g.L.Listener.links g.L.Listener.ends g.L.Listener.faults) c.args.settings.now x.post x.desk y.end y.post y.desk)
     (did.argument_is ∙ old)
     (did.left ∙ new)
-    (let call = did.call.met in ?)
+    did.call
