@@ -7,12 +7,13 @@ use Rattle.portal_model.specs.Seated.{Denied, Known, Made, Moved}
 use Rattle.portal_model.specs.declared.asked.Asked.{Asked}
 use Rattle.turn_desk.specs.Sights.{Sight, Stays, seated_of}
 
--- an exchange of this call lost, and the last to lose read this holder, another seat. The request
--- is handed back, and all that the seat had seen is as it was
+-- an exchange of this call lost, and the last to lose read this holder, which is a seat and another.
+-- The request is handed back, and all that the seat had seen is as it was
 pub record Lost (old : Sight) (request : Request) (holder : ℕ) (again : Request) (new : Sight)
     : Type 0 where
   pub losses : new.knows.losses ≡ old.knows.losses + 1
   pub holder_is : new.knows.holder ≡ holder
+  pub seated : (holder ≢ 0) × (holder ≤ 65535)
   pub another : holder ≢ old.knows.number
   pub request_is : again ≡ request
   pub seen : new.knows.seen ≡ old.knows.seen
