@@ -1,5 +1,0 @@
-pub mod Apps
-pub mod NameTexts
-pub mod PathLaw
-pub mod PostCount
-pub mod Sends

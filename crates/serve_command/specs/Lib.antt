@@ -1,4 +1,0 @@
-pub mod Words
-pub mod Sockets
-pub mod Ends
-pub mod Settings
