@@ -19,7 +19,7 @@ use portal_base::list::List;
 use portal_base::memory::{Replica, WantOfMemory};
 use portal_base::outside::{Sink, StdSink};
 use portal_base::text::Text;
-use portal_core::start::StartError;
+use portal_core::start::{StartError, StartRefusal};
 use serve_posts::serve::serve;
 use serve_posts::status::ServeStatus;
 use std::fmt;
@@ -79,7 +79,6 @@ fn tell_ready(system: &HostRuntime, words: &ServeWords)
 }
 
 /// Opens what the service stands on, and makes its sockets.
-#[tactic(auto, using(crate::proofs::PostCount::posts_fit))]
 fn prepare<'a>(system: &'a HostRuntime, words: &ServeWords) -> Result<Service<'a>, ServeEnd>
     requires { IsInForm words.now }
     ensures posts { IfOk result (λ service. (1 ≤ length service.posts)
@@ -130,10 +129,28 @@ fn serve_all<R: Threads + Wait + Sync>(
     match serve(
         alloc, rt, posts, tree, keeper, clock, words, &settings, &OpenGate,
     ) {
-        ServeStatus::Ended { ends, .. } => end_of_work(ends.as_slice()),
-        ServeStatus::Refused(refusal) => end_of_start(system, refusal.error, &refusal.keeper),
+        ServeStatus::Ended {
+            posts,
+            ends,
+            portal,
+        } => {
+            drop(posts);
+            drop(portal);
+            end_of_work(ends.as_slice())
+        }
+        ServeStatus::Refused(refusal) => end_of_refusal(system, &refusal),
         ServeStatus::Memory => ServeEnd::Memory,
     }
+}
+
+/// How a service ended whose portal didn't start.
+fn end_of_refusal<T, C, W>(
+    system: &HostRuntime,
+    refusal: &StartRefusal<T, SqliteKeeper, C, W>,
+) -> ServeEnd
+    ensures { EndsStart refusal.now.error result }
+{
+    end_of_start(system, refusal.error, &refusal.keeper)
 }
 
 /// How a service ended whose workers ended so: by a fault where there is one, else for
