@@ -11,7 +11,8 @@ use Rattle.app_trace.specs.declared.view.HeldDocument.{HeldDocument}
 
 -- the document, where there are rights in it
 abbrev pub held_if : RightSet → OpeningDocument → List HeldDocument
-held_if rights d = cond (holds_any rights) (record { document = document_kept d; rights = rights } ∷ []) []
+held_if rights d =
+    cond (holds_any rights) (record { document = document_kept d; rights = rights } ∷ []) []
 
 abbrev pub held_here : List Triple → List ℕ → OpeningDocument → List HeldDocument
 held_here rights app d = held_if (held_of rights app d.kept.number) d

@@ -24,8 +24,8 @@ use Rattle.docportal.specs.Worlds.{RanWorlds}
 abbrev pub count_line : List ℕ → ℕ → List ℕ
 count_line word count = word ++ (space ∷ (decimal count ++ line_feed ∷ []))
 
--- how many requests there are, how many were done and how many refused, how many entries the history
--- has and what it costs
+-- how many requests there are, how many were done and how many refused, how many entries the
+-- history has and what it costs
 abbrev pub five_lines : ℕ → ℕ → ℕ → ℕ → ℕ → List (List ℕ)
 five_lines requests done refused entries cost_now =
     count_line (codes "requests") requests

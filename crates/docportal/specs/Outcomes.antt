@@ -34,8 +34,8 @@ abbrev pub done_in : State → List Entry → ℕ
 done_in s [] = 0
 done_in s (e ∷ es) = cond (is_done e.request (reply_at s e)) 1 0 + done_in (after s e) es
 
--- These are the counts of a history from a state. Over a tree that doesn't tell its files a reply is
--- only alike to the step's, so nothing is said there.
+-- These are the counts of a history from a state. Over a tree that doesn't tell its files a reply
+-- is only alike to the step's, so nothing is said there.
 pub record AreCounted (s : State) (h : List Entry) (done refused : ℕ) : Type 0 where
   pub done_all : s.told ≡ true → done ≡ done_in s h
   pub refused_all : s.told ≡ true → refused ≡ refused_in s h

@@ -124,7 +124,8 @@ pub record Goes (walk : Walk NodeVerdict) (old : TreeIs) (done : NodeDone) (chan
   pub calls : Calling old (calls_of walk done.looks (is_tree done.fault)) new.told new
 
 -- behind a look that was answered so
-abbrev pub GoesBehind : (Look → Walk NodeVerdict) → LookAnswer → TreeIs → Ended → HandleChange → TreeIs → Type 0
+abbrev pub GoesBehind : (Look → Walk NodeVerdict) → LookAnswer → TreeIs → Ended → HandleChange
+    → TreeIs → Type 0
 GoesBehind next (look.Is shown) old ended change new =
     Goes (next shown) old (done_of_ended ended) change new
 GoesBehind next look.Failed old ended change new =

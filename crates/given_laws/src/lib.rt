@@ -9,7 +9,7 @@
 //! | Room | Holds |
 //! |---|---|
 //! | `laws` | the laws, a function each |
-//! | `specs/OneGiven` | that there is one lawful entry without a fault |
+//! | `specs/OneGiven` | that there is at most one lawful entry without a fault |
 //! | `specs/Faulted` | what an entry with a fault does, and a history with a Collect in its place |
 //!
 //! ```text

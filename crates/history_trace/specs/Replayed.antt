@@ -66,8 +66,8 @@ pub record IsReplayed (app : List ℕ) (o : OpeningState) (h : List Entry) (p : 
 
 -- ---- one request, asked again
 
--- The history grew by one lawful entry of this seat and request, in which no device failed: where it
--- read the clock it has its moment, its words are the first of those that were to come, and the
+-- The history grew by one lawful entry of this seat and request, in which no device failed: where
+-- it read the clock it has its moment, its words are the first of those that were to come, and the
 -- reply is that of its step.
 pub record Replies {K : Type 0} (old : PortalIs QuietState K ℕ (List ℕ)) (seat : ℕ)
     (request : Request) (new : PortalIs QuietState K ℕ (List ℕ)) (reply : Reply) : Type 0 where

@@ -17,4 +17,5 @@ keeper_of met = record { began = None; told = None; faults = met.faults; calls =
 
 -- the last fault is one of the database, and no want of memory
 abbrev pub IsOfDatabase : Option KeeperFault → Type 0
-IsOfDatabase last = (fault : DatabaseFault) × (last ≡ Some (keeper.Database fault)) × (fault ≢ database.Memory)
+IsOfDatabase last =
+    (fault : DatabaseFault) × (last ≡ Some (keeper.Database fault)) × (fault ≢ database.Memory)

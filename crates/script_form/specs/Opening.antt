@@ -67,7 +67,8 @@ opening_with entries limits lines = record {
 }
 
 -- the state that a script opens with: its entries are those that the lines keep
-pub record IsOpening (limits : Limits) (lines : List ScriptLine) (state : OpeningState) : Type 0 where
+pub record IsOpening (limits : Limits) (lines : List ScriptLine) (state : OpeningState)
+    : Type 0 where
   pub whole : state ≡ opening_with state.entries limits lines
   pub entries : KeepEntries (entries_of lines) state.entries
 

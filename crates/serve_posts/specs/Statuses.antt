@@ -13,10 +13,10 @@ use Rattle.worker_gate.specs.declared.worker.WorkEnd.{WorkEnd}
 use Rattle.worker_gate.specs.Working.{Hall, Sides}
 
 module _ {L S I T K C W : Type 0} (s : Sides S I) (hall_of : L → Hall S I) (tree_is : T → TreeIs)
-    (keeper_is : K → KeeperIs) (posts : List (Post L)) (tree : T) (keeper : K) (clock : C) (words : W)
-    (settings : Settings) where
-  -- A portal was started over the devices, and the posts were served over its history, with which it
-  -- comes back.
+    (keeper_is : K → KeeperIs) (posts : List (Post L)) (tree : T) (keeper : K) (clock : C)
+    (words : W) (settings : Settings) where
+  -- A portal was started over the devices, and the posts were served over its history, with which
+  -- it comes back.
   pub record Ends (back : List (Post L)) (ends : List WorkEnd) (portal : PortalIs T K C W) :
       Type 0 where
     pub first : PortalIs T K C W
@@ -25,8 +25,8 @@ module _ {L S I T K C W : Type 0} (s : Sides S I) (hall_of : L → Hall S I) (tr
     pub serves : ServesPosts s hall_of settings (state_first portal.story) [] portal.story.history
         posts ends back
 
-  -- The posts were served; no portal started, for its cause, and the devices come back; or there was
-  -- no memory.
+  -- The posts were served; no portal started, for its cause, and the devices come back; or there
+  -- was no memory.
   abbrev pub ServesAs : ServeStatus L T K C W → Type 0
   ServesAs (status.Ended back ends portal) = Ends back ends portal
   ServesAs (status.Refused refusal) =

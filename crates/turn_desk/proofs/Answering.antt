@@ -61,9 +61,9 @@ rests_written v log e r legal within own seat = record {
 
 -- ---- the length was read
 
-pub looks : (t t' : TableId) (v w : View) (r n : ℕ) → Rests v → t' ≡ t → w ≡ looked v n → Looks (sight t v r) n (sight t' w r)
-looks t t' v w r n rests table is = subst (λ (z : View). Looks (sight t v r) n (sight t' z r)) (sym is) (record {
-  stays = record { table = table; seat = record { number = refl; opening = refl; base = refl; made = refl } };
+pub looks : (t t' : TableId) (v w : View) (r n : ℕ) → Rests v → t' ≡ t → w ≡ looked v n → v.known ≤ n → Looks (sight t v r) n (sight t' w r)
+looks t t' v w r n rests table is read = subst (λ (z : View). Looks (sight t v r) n (sight t' z r)) (sym is) (record {
+  stays = record { table = table; seat = record { number = refl; opening = refl; base = refl; made = refl }; read = read };
   loads = refl;
   known = refl;
   seen = refl;
@@ -75,14 +75,14 @@ looks t t' v w r n rests table is = subst (λ (z : View). Looks (sight t v r) n 
 
 -- ---- the exchange lost
 
-pub is_busy : (t t' : TableId) (v w : View) (r h : ℕ) (request : Request) → Rests v → t' ≡ t → w ≡ lost v h → h ≢ v.number → Tries (sight t v r) request (Asked.Busy h request) (sight t' w r)
-is_busy t t' v w r h request rests table is another = subst (λ (z : View). Tries (sight t v r) request (Asked.Busy h request) (sight t' z r)) (sym is) (record {
-  stays = record { table = table; seat = record { number = refl; opening = refl; base = refl; made = refl } };
+pub is_busy : (t t' : TableId) (v w : View) (r h : ℕ) (request : Request) → Rests v → t' ≡ t → w ≡ lost v h → h ≢ 0 → h ≢ v.number → h ≤ 65535 → Tries (sight t v r) request (Asked.Busy h request) (sight t' w r)
+is_busy t t' v w r h request rests table is some another most = subst (λ (z : View). Tries (sight t v r) request (Asked.Busy h request) (sight t' z r)) (sym is) (record {
+  stays = record { table = table; seat = record { number = refl; opening = refl; base = refl; made = refl }; read = omega arith };
   free = rests.sits.free;
   known = record { legal = rests.legal; mine = rests.own };
   within = rests.within;
   moved = record { opening = refl; seat = refl; begins = begins-itself v.seen };
-  told = record { losses = refl; holder_is = refl; another = another; request_is = refl; seen = refl; mine = refl; refusals = refl };
+  told = record { losses = refl; holder_is = refl; seated = (some, most); another = another; request_is = refl; seen = refl; mine = refl; refusals = refl };
 })
 
 -- ---- an entry was written
@@ -103,7 +103,7 @@ module _ (v : View) (log : List Entry) (e : Entry) (request : Request) (reply : 
   pub is_answered : (t t' : TableId) (w : View) (r : ℕ) → Rests v → t' ≡ t → w ≡ written v log e → Legal v.opening (log ++ e ∷ []) → cost (log ++ e ∷ []) ≤ v.opening.limits.history → exchanges v.number v.opening log ≡ v.mine →
       Tries (sight t v r) request (Asked.Answered reply) (sight t' w r)
   is_answered t t' w r rests table is legal within own = subst (λ (z : View). Tries (sight t v r) request (Asked.Answered reply) (sight t' z r)) (sym is) (record {
-    stays = record { table = table; seat = record { number = refl; opening = refl; base = refl; made = refl } };
+    stays = record { table = table; seat = record { number = refl; opening = refl; base = refl; made = refl }; read = omega arith };
     free = refl;
     known = record { legal = legal; mine = own_written v log e own seat };
     within = within;
@@ -132,7 +132,7 @@ pub is_refused : (t t' : TableId) (v w : View) (r r' : ℕ) (log : List Entry) (
     → BeginsWith log v.seen → RefusedFor v.opening log request why → (request ≡ Request.Leave → is_open (run v.opening log) v.number ≡ true → ⊥) → r' ≡ rises_by r 1
     → Tries (sight t v r) request (Asked.Refused why) (sight t' w r')
 is_refused t t' v w r r' log request why rests table is legal within own begins cause no_leave count = subst (λ (z : View). Tries (sight t v r) request (Asked.Refused why) (sight t' z r')) (sym is) (record {
-  stays = record { table = table; seat = record { number = refl; opening = refl; base = refl; made = refl } };
+  stays = record { table = table; seat = record { number = refl; opening = refl; base = refl; made = refl }; read = omega arith };
   free = refl;
   known = record { legal = legal; mine = own };
   within = within;

@@ -477,7 +477,7 @@ module _ {S : Type 0} (op : S → State) (es : S → List Entry) (key : S) where
             whole = whole_set vs id v w r.log at refl (λ e. e) r.whole;
           },
         ),
-        (refl, (let c = r.count in let k = begins-lengths r.log v.seen live.seen in omega arith)),
+        (refl, (let c = r.count in let k = begins-lengths r.log v.seen live.seen in omega arith), (let c = r.count in let k = live.known in omega arith)),
       )
 
   pub looks_at : (slots id : ℕ) (v : View) → Sits v → Allows (Keeps op es key) slots id (v, []) 1 (λ n. n) (plays.loads op es (step slots 1 0 0 maybe.none) (v, []))

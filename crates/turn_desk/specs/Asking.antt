@@ -7,12 +7,13 @@ use Rattle.portal_model.specs.Seated.{Denied, Known, Made, Moved}
 use Rattle.portal_model.specs.declared.asked.Asked.{Asked}
 use Rattle.turn_desk.specs.Sights.{Sight, Stays, seated_of}
 
--- an exchange of this call lost, and the last to lose read this holder, another seat. The request
--- is handed back, and all that the seat had seen is as it was
+-- an exchange of this call lost, and the last to lose read this holder, which is a seat and
+-- another. The request is handed back, and all that the seat had seen is as it was
 pub record Lost (old : Sight) (request : Request) (holder : ℕ) (again : Request) (new : Sight)
     : Type 0 where
   pub losses : new.knows.losses ≡ old.knows.losses + 1
   pub holder_is : new.knows.holder ≡ holder
+  pub seated : (holder ≢ 0) × (holder ≤ 65535)
   pub another : holder ≢ old.knows.number
   pub request_is : again ≡ request
   pub seen : new.knows.seen ≡ old.knows.seen
@@ -20,8 +21,8 @@ pub record Lost (old : Sight) (request : Request) (holder : ℕ) (again : Reques
   pub refusals : new.refusals ≡ old.refusals
 
 -- A reply is that of one step, in the history that the seat sees grow by this request alone of its
--- own. A refusal is counted and leaves the seat's own entries; the seat has then seen the history to
--- its end, and it is `Full` exactly where that and the request together pass the limit.
+-- own. A refusal is counted and leaves the seat's own entries; the seat has then seen the history
+-- to its end, and it is `Full` exactly where that and the request together pass the limit.
 abbrev pub Told : Sight → Request → Asked → Sight → Type 0
 Told old request (Asked.Answered reply) new = Made (seated_of old) (seated_of new) request reply
     × (new.knows.losses ≡ old.knows.losses)

@@ -35,6 +35,7 @@ module _ {S : Type 0} (opening : S → State) (entries : S → List Entry) where
   abbrev pub frees : Step (Option S) → Sat → ℕ → Sat → Type 0
   frees st m n m' = m' ≡ (freed m.0, [])
 
-  -- the length of the history was read: it is no less than what the seat has seen
+  -- the length of the history was read: it is no less than what the seat has seen, and than what it
+  -- read before
   abbrev pub loads : Step (Option S) → Sat → ℕ → Sat → Type 0
-  loads st m n m' = (m' ≡ (looked m.0 n, m.1)) × (length m.0.seen ≤ n)
+  loads st m n m' = (m' ≡ (looked m.0 n, m.1)) × (length m.0.seen ≤ n) × (m.0.known ≤ n)

@@ -1,5 +1,5 @@
 -- What contracts see of a turn, of a pass and of a seat.
-use Rattle.std.specs.Prelude.{◌≡◌, ℕ}
+use Rattle.std.specs.Prelude.{◌≡◌, ℕ, ◌≤◌}
 use Rattle.atomic_table.specs.Seated.{TableId}
 use Rattle.portal_model.specs.Seated.{Seated}
 use Rattle.turn_desk.specs.Knowing.{View}
@@ -28,7 +28,9 @@ seated_of s = record {
   refusals = s.refusals;
 }
 
--- what no call of a seat changes: it is the same seat, of the same turn
+-- what holds of each call of a seat: it is the same seat, of the same turn, and never knows of a
+-- shorter history than before
 pub record Stays (old new : Sight) : Type 0 where
   pub table : new.table ≡ old.table
   pub seat : SameSeat old.knows new.knows
+  pub read : old.knows.known ≤ new.knows.known

@@ -1,12 +1,13 @@
 -- A seat stays what it is through any number of calls.
 use Rattle.std.specs.Prelude.{refl}
-use Rattle.std.proofs.Common.{◌∙◌}
+use Rattle.std.proofs.Common.{◌∙◌, arith}
 use Rattle.turn_desk.specs.Sights.{Sight, Stays}
 
 pub stays_put : (s : Sight) → Stays s s
 stays_put s = record {
   table = refl;
   seat = record { number = refl; opening = refl; base = refl; made = refl };
+  read = omega arith;
 }
 
 pub stays_further : (s t u : Sight) → Stays s t → Stays t u → Stays s u
@@ -18,4 +19,5 @@ stays_further s t u h k = record {
     base = k.seat.base ∙ h.seat.base;
     made = k.seat.made ∙ h.seat.made;
   };
+  read = let a = h.read in let b = k.read in omega arith;
 }

@@ -151,7 +151,7 @@ impl<'a, S: Storied> Seat<'a, S> {
     }
 
     /// The length of the history, as it is read in this call: no less than
-    /// what the seat has seen.
+    /// what the seat has seen, nor than what it read before.
     pub fn front(&mut self) -> u64
         ensures looks { Looks self.old result self.new }
         ensures far { length self.new.knows.seen ≤ result }

@@ -83,7 +83,7 @@ pub(crate) fn look<S: Storied>(top: &Top<S>, place: &mut Place<S>) -> u64
     requires seat { (place.old.me.1 ≡ []) × Sits place.old.me.0 }
     ensures same { (place.new.table_id ≡ place.old.table_id) × (place.new.id ≡ place.old.id) }
     ensures view { place.new.me ≡ (looked place.old.me.0 result, []) }
-    ensures far { length place.old.me.0.seen ≤ result }
+    ensures far { (length place.old.me.0.seen ≤ result) × (place.old.me.0.known ≤ result) }
 {
     top.load::<Looks>(place, 1)
 }

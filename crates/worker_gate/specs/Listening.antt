@@ -22,7 +22,8 @@ abbrev pub Accepts : {S K : Type 0} → Option (Links S K) → Accepted S K → 
     → Type 0
 Accepts None answer new = new ≡ None
 Accepts (Some old) (accepted.Link source sink) new =
-    (others : List _) × (old.coming ≡ link source sink ∷ others) × (new ≡ Some (links others old.back))
+    (others : List _) × (old.coming ≡ link source sink ∷ others)
+    × (new ≡ Some (links others old.back))
 Accepts (Some old) accepted.Closed new = (old.coming ≡ []) × (new ≡ Some old)
 Accepts (Some old) accepted.Failed new = new ≡ Some old
 Accepts (Some old) accepted.Memory new = new ≡ Some old

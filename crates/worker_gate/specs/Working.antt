@@ -40,8 +40,8 @@ abbrev pub world_of : {S K : Type 0} → Sides S K → Seated → Link S K → W
 world_of s d l = world d (s.told l.sink) (s.write_faults l.sink)
 
 -- One link was served, as it was given and as it came back, by a desk before and after: a served
--- connection of this client, with an ending that means what it says of it. What the desk's seat made
--- meanwhile is this part.
+-- connection of this client, with an ending that means what it says of it. What the desk's seat
+-- made meanwhile is this part.
 pub record ServesLink {S K : Type 0} (s : Sides S K) (c : Client) (given : Link S K) (v : Seated)
     (part : List Exchange) (back : Link S K) (w : Seated) : Type 0 where
   pub ended : Served

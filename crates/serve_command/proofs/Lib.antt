@@ -1,0 +1,5 @@
+pub mod Apps
+pub mod NameTexts
+pub mod PathLaw
+pub mod PostCount
+pub mod Sends

@@ -1,0 +1,4 @@
+pub mod Words
+pub mod Sockets
+pub mod Ends
+pub mod Settings

@@ -1,0 +1,41 @@
+//! What the program does for the words behind `serve`.
+
+ghost use Rattle.std.specs.Prelude.{◌≡◌};
+ghost use Rattle.serve_command.specs.Ends.{number_of};
+
+use crate::end::ServeEnd;
+use crate::service::run;
+use crate::words::{ServeAsk, WordsError, read_words};
+use portal_base::outside::{Sink, StdSink, WriteAnswer};
+use portal_base::text::Text;
+use std::sync::Wait;
+use std::thread::Threads;
+
+/// The number that the program ends with where help can't be written.
+const WRITE_FAULT: u8 = 4;
+
+/// Does what the words behind `serve` ask for: the number that the program ends with.
+///
+/// What isn't 0 is told by one line on standard error.
+pub fn answer<R: Threads + Wait + Sync>(rt: &R, system: &HostRuntime, words: &[Text]) -> u8 {
+    match read_words(system.alloc(), words) {
+        Ok(ServeAsk::Serve(words)) => tell(system, &run(rt, system, &words)),
+        Ok(ServeAsk::Tell(text)) => match StdSink::new(system.stdout()).write(text.as_bytes()) {
+            WriteAnswer::Done => 0,
+            WriteAnswer::Failed => WRITE_FAULT,
+        },
+        Err(WordsError::Faulty(why)) => tell(system, &ServeEnd::Usage { why }),
+        Err(WordsError::Memory) => tell(system, &ServeEnd::Memory),
+    }
+}
+
+/// The number of an end. Where it isn't 0, standard error is told how the service ended.
+pub fn tell(system: &HostRuntime, end: &ServeEnd) -> u8
+    ensures { result ≡ number_of end.now }
+{
+    let number = end.number();
+    if number != 0 {
+        let _ = eprintln!(system; "docportal: {end}");
+    }
+    number
+}

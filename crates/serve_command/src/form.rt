@@ -1,0 +1,104 @@
+//! What `clap` is told of the words.
+
+use clap::{Arg, ArgAction, Command};
+use std::alloc::{AllocError, Global};
+
+/// What `--help` says first.
+const ABOUT: &str = "\
+Serves the document portal and the permission store at Unix sockets.
+
+Each connection speaks D-Bus (host.bus, app.NAME.bus) or FUSE frames (host.mount,
+app.NAME.mount); the socket that it comes by says whose it is. Each socket is made so
+that its owner alone may connect. One line on standard output tells that all stand.";
+
+/// What `--help` says last.
+const AFTER_HELP: &str = "\
+It ends with 0 where every socket was closed, and else with one line on standard
+error: 1 the words are faulty, 2 a socket can't be made, 3 the store fails, 4 the store
+has a bad record, 5 no memory, 6 the store is of another version, 7 a socket failed.
+docs/serve.md says how to run it and how to keep its store.";
+
+/// What `--version` says.
+pub const VERSION: &str = "0.1.0";
+
+/// The command, as `clap` reads it.
+pub fn form<'a>(alloc: Global) -> Result<Command<'a>, AllocError> {
+    Command::new(alloc, "docportal serve")
+        .version(VERSION)
+        .about(ABOUT)
+        .after_help(AFTER_HELP)
+        .no_binary_name(true)
+        .arg(folder(
+            alloc,
+            "root",
+            "DIR",
+            "The folder that host paths are looked up below",
+        ))?
+        .arg(folder(
+            alloc,
+            "store",
+            "FILE",
+            "The database of what is kept; made where there is none",
+        ))?
+        .arg(folder(
+            alloc,
+            "sockets",
+            "DIR",
+            "The folder that the sockets are made in",
+        ))?
+        .arg(number(
+            alloc,
+            "workers",
+            "N",
+            "How many connections each socket serves at a time, 1 to 8",
+            "2",
+        ))?
+        .arg(number(
+            alloc,
+            "history",
+            "BYTES",
+            "What the history of requests may cost, up to 4294967296",
+            "536870912",
+        ))?
+        .arg(apps(alloc))
+}
+
+/// A required option whose value is a path.
+fn folder<'a>(
+    alloc: Global,
+    name: &'static str,
+    value: &'static str,
+    help: &'static str,
+) -> Arg<'a> {
+    Arg::new(alloc, name)
+        .long(name)
+        .value_name(value)
+        .required(true)
+        .action(ArgAction::Set)
+        .help(help)
+}
+
+/// An option whose value is a number.
+fn number<'a>(
+    alloc: Global,
+    name: &'static str,
+    value: &'static str,
+    help: &'static str,
+    usual: &'static str,
+) -> Arg<'a> {
+    Arg::new(alloc, name)
+        .long(name)
+        .value_name(value)
+        .action(ArgAction::Set)
+        .default_value(usual)
+        .help(help)
+}
+
+/// The names of the applications.
+fn apps<'a>(alloc: Global) -> Arg<'a> {
+    Arg::new(alloc, "app")
+        .value_name("APP")
+        .action(ArgAction::Append)
+        .num_args(0..)
+        .help("The applications, up to 64, each with a bus and a mount")
+}

@@ -1,0 +1,73 @@
+"""A service of docportal in a folder of its own, for the scripts beside this file."""
+
+import os
+import select
+import signal
+import subprocess
+import sys
+
+TOP = os.path.dirname(os.path.dirname(os.path.abspath(__file__)))
+sys.path.insert(0, os.path.join(TOP, "contrib", "clients"))
+
+from docportal_client import Bus, Mount, socket_path  # noqa: E402
+
+# The built program of `docportal serve`.
+PROGRAM = os.environ.get("DOCPORTAL_SERVE") or os.path.join(
+    TOP, "crates", "docportal_serve", "out", "docportal_serve")
+
+
+class Service:
+    """`docportal serve` over three places in a folder: `files`, `store.db`, `sockets`."""
+
+    def __init__(self, folder, apps, *options):
+        self.root = os.path.join(folder, "files")
+        self.store = os.path.join(folder, "store.db")
+        self.sockets = os.path.join(folder, "sockets")
+        os.makedirs(self.root, exist_ok=True)
+        os.makedirs(self.sockets, exist_ok=True)
+        self.words = ["--root", self.root, "--store", self.store,
+                      "--sockets", self.sockets, *options, *apps]
+        self.process = None
+
+    def start(self, seconds=60):
+        """Starts it, and waits for the line that tells that its sockets stand."""
+        self.process = subprocess.Popen([PROGRAM, *self.words], stdin=subprocess.DEVNULL,
+                                        stdout=subprocess.PIPE, stderr=subprocess.PIPE)
+        ready, _, _ = select.select([self.process.stdout], [], [], seconds)
+        line = self.process.stdout.readline().decode() if ready else ""
+        if not line:
+            self.process.kill()
+            said = self.process.stderr.read().decode()
+            raise RuntimeError("the service didn't start: " + (said or "no line came"))
+        return line
+
+    def stop(self, how=signal.SIGTERM):
+        """Ends it by a signal."""
+        self.process.send_signal(how)
+        self.process.wait(30)
+        self.process.stdout.close()
+        self.process.stderr.close()
+
+    def kill(self):
+        self.stop(signal.SIGKILL)
+
+    def bus(self, app=None, timeout=30):
+        return Bus(socket_path(self.sockets, app, "bus"), timeout)
+
+    def mount(self, app=None, timeout=30):
+        return Mount(socket_path(self.sockets, app, "mount"), timeout)
+
+    def resident(self):
+        """The memory that it takes, in bytes."""
+        with open("/proc/%d/status" % self.process.pid) as status:
+            for line in status:
+                if line.startswith("VmRSS:"):
+                    return int(line.split()[1]) * 1024
+        return 0
+
+
+def run(*words):
+    """Runs the service to its end: its status, and what it said on each stream."""
+    done = subprocess.run([PROGRAM, *words], stdin=subprocess.DEVNULL, capture_output=True,
+                          timeout=60)
+    return done.returncode, done.stdout.decode(), done.stderr.decode()
