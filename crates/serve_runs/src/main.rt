@@ -8,8 +8,8 @@
 //! - a bus of the host is served whose message comes only once the handshake is
 //!   answered.
 //!
-//! A `serve` whose workers run one after another lets a hold run out, and so does
-//! one that hands links back unread; a session that reads its input to the end
+//! A `serve` whose workers run one after another lets a hold run out; one that
+//! hands links back unread answers none; a session that reads its input to the end
 //! before it answers finds a message that doesn't come.
 #![tactic(auto)]
 
