@@ -11,9 +11,9 @@ sys.path.insert(0, os.path.join(TOP, "contrib", "clients"))
 
 from docportal_client import Bus, Mount, socket_path  # noqa: E402
 
-# The built program of `docportal serve`.
-PROGRAM = os.environ.get("DOCPORTAL_SERVE") or os.path.join(
-    TOP, "crates", "docportal_serve", "out", "docportal_serve")
+# The built program.
+PROGRAM = os.environ.get("DOCPORTAL") or os.path.join(
+    TOP, "crates", "docportal", "out", "docportal")
 
 
 class Service:
@@ -31,7 +31,7 @@ class Service:
 
     def start(self, seconds=60):
         """Starts it, and waits for the line that tells that its sockets stand."""
-        self.process = subprocess.Popen([PROGRAM, *self.words], stdin=subprocess.DEVNULL,
+        self.process = subprocess.Popen([PROGRAM, "serve", *self.words], stdin=subprocess.DEVNULL,
                                         stdout=subprocess.PIPE, stderr=subprocess.PIPE)
         ready, _, _ = select.select([self.process.stdout], [], [], seconds)
         line = self.process.stdout.readline().decode() if ready else ""
@@ -68,6 +68,6 @@ class Service:
 
 def run(*words):
     """Runs the service to its end: its status, and what it said on each stream."""
-    done = subprocess.run([PROGRAM, *words], stdin=subprocess.DEVNULL, capture_output=True,
+    done = subprocess.run([PROGRAM, "serve", *words], stdin=subprocess.DEVNULL, capture_output=True,
                           timeout=60)
     return done.returncode, done.stdout.decode(), done.stderr.decode()

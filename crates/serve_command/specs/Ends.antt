@@ -40,13 +40,10 @@ end_of ends = if list_any is_failed ends then SocketFault
 
 -- ---- a service whose portal doesn't start
 
--- the number of the end that a refusal means
-abbrev pub number_of_start : StartError → ℕ
-number_of_start start.KeeperFault = 3
-number_of_start (start.BadVersion found) = 6
-number_of_start (start.BadRecord index) = 4
-number_of_start start.Memory = 5
-
--- it ends as the refusal says, or for want of memory to tell what the keeper met
+-- it ends as the refusal says: by a fault of the keeper, or for want of memory to tell what that
+-- met; and else with the version or the record that the refusal names, or for want of memory
 abbrev pub EndsStart : StartError → ServeEnd → Type 0
-EndsStart error end = (number_of end ≡ number_of_start error) ⊎ (end ≡ Memory)
+EndsStart start.KeeperFault end = (number_of end ≡ 3) ⊎ (end ≡ Memory)
+EndsStart (start.BadVersion found) end = end ≡ BadVersion found
+EndsStart (start.BadRecord index) end = end ≡ BadRecord index
+EndsStart start.Memory end = end ≡ Memory

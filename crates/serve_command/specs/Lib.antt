@@ -1,4 +1,6 @@
 pub mod Words
 pub mod Sockets
 pub mod Ends
+pub mod Guids
+pub mod Posts
 pub mod Settings

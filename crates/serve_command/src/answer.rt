@@ -4,8 +4,10 @@ ghost use Rattle.std.specs.Prelude.{◌≡◌};
 ghost use Rattle.serve_command.specs.Ends.{number_of};
 
 use crate::end::ServeEnd;
+use crate::line::on_one_line;
 use crate::service::run;
 use crate::words::{ServeAsk, WordsError, read_words};
+use portal_base::memory::WantOfMemory;
 use portal_base::outside::{Sink, StdSink, WriteAnswer};
 use portal_base::text::Text;
 use std::sync::Wait;
@@ -20,12 +22,20 @@ const WRITE_FAULT: u8 = 4;
 pub fn answer<R: Threads + Wait + Sync>(rt: &R, system: &HostRuntime, words: &[Text]) -> u8 {
     match read_words(system.alloc(), words) {
         Ok(ServeAsk::Serve(words)) => tell(system, &run(rt, system, &words)),
-        Ok(ServeAsk::Tell(text)) => match StdSink::new(system.stdout()).write(text.as_bytes()) {
-            WriteAnswer::Done => 0,
-            WriteAnswer::Failed => WRITE_FAULT,
-        },
+        Ok(ServeAsk::Tell(text)) => print(system, text.as_str()),
         Err(WordsError::Faulty(why)) => tell(system, &ServeEnd::Usage { why }),
         Err(WordsError::Memory) => tell(system, &ServeEnd::Memory),
+    }
+}
+
+/// Prints what the words ask to be told.
+fn print(system: &HostRuntime, text: &str) -> u8 {
+    match StdSink::new(system.stdout()).write(text.as_bytes()) {
+        WriteAnswer::Done => 0,
+        WriteAnswer::Failed => {
+            let _ = eprintln!(system; "docportal: write fault");
+            WRITE_FAULT
+        }
     }
 }
 
@@ -35,7 +45,16 @@ pub fn tell(system: &HostRuntime, end: &ServeEnd) -> u8
 {
     let number = end.number();
     if number != 0 {
-        let _ = eprintln!(system; "docportal: {end}");
+        let _ = match line_of(system, end) {
+            Ok(line) => eprintln!(system; "docportal: {line}"),
+            Err(WantOfMemory) => eprintln!(system; "docportal: {end}"),
+        };
     }
     number
+}
+
+/// What is said of an end, on one line.
+fn line_of(system: &HostRuntime, end: &ServeEnd) -> Result<String, WantOfMemory> {
+    let text = format!(in system.alloc(); "{end}")?;
+    on_one_line(system.alloc(), text.as_str())
 }

@@ -56,8 +56,8 @@ pub fn form<'a>(alloc: Global) -> Result<Command<'a>, AllocError> {
         .arg(number(
             alloc,
             "history",
-            "BYTES",
-            "What the history of requests may cost, up to 4294967296",
+            "N",
+            "How many bytes the history of requests may cost, up to 4294967296",
             "536870912",
         ))?
         .arg(apps(alloc))

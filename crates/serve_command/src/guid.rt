@@ -1,9 +1,13 @@
 //! The guid of a service.
 
+ghost use Rattle.serve_command.specs.Guids.{DrawsGuid};
+
 use portal_base::outside::Words;
 
 /// A guid of four drawn words, each with its highest byte first.
-pub fn guid_of<W: Words>(words: &mut W) -> [u8; 16] {
+pub fn guid_of<W: Words>(words: &mut W) -> [u8; 16]
+    ensures { DrawsGuid (W.told words.old) result (W.told words.new) }
+{
     let [a, b, c, d] = words.next().to_be_bytes();
     let [e, f, g, h] = words.next().to_be_bytes();
     let [i, j, k, l] = words.next().to_be_bytes();

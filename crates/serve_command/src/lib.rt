@@ -26,6 +26,7 @@ pub mod end;
 mod form;
 mod guid;
 pub mod laws;
+mod line;
 mod service;
 pub mod settings;
 pub mod sockets;

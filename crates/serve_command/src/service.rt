@@ -1,14 +1,17 @@
 //! The service that words ask for: its devices, its sockets, and how it ends.
 
-ghost use Rattle.std.specs.Prelude.{◌≡◌, ◌⊎◌, ◌≤◌, ◌*◌, ◌+◌, ℕ, IfOk, OnOk, length};
+ghost use Rattle.std.specs.Prelude.{◌≡◌, ◌⊎◌, ◌≤◌, ◌*◌, ◌+◌, ◌++◌, ◌∷◌, [], ℕ, IfOk, OnOk, length, map, replicate};
 ghost use Rattle.std.specs.List.{list_any};
 ghost use Rattle.serve_command.specs.declared.end.ServeEnd.TheVariants as ServeEnd;
 ghost use Rattle.serve_command.specs.Ends.{EndsStart, end_of, is_failed, is_starved, number_of};
+ghost use Rattle.serve_command.specs.Posts.{bound_at, bound_of, posts_of};
 ghost use Rattle.serve_command.specs.Settings.{limits_with};
+ghost use Rattle.serve_command.specs.Sockets.{sockets_in};
 ghost use Rattle.serve_command.specs.Words.{IsInForm};
 
 use crate::end::ServeEnd;
 use crate::guid::guid_of;
+use crate::line::on_one_line;
 use crate::settings::settings;
 use crate::sockets::{Socket, sockets_of};
 use crate::words::ServeWords;
@@ -72,7 +75,9 @@ fn tell_ready(system: &HostRuntime, words: &ServeWords)
     requires { IsInForm words.now }
 {
     let count = 2 + 2 * words.apps.len();
-    let folder = words.sockets.as_str();
+    let Ok(folder) = on_one_line(system.alloc(), words.sockets.as_str()) else {
+        return;
+    };
     if let Ok(line) = format!(in system.alloc(); "docportal: {count} sockets stand in {folder}\n") {
         StdSink::new(system.stdout()).write(line.as_bytes());
     }
@@ -83,6 +88,8 @@ fn prepare<'a>(system: &'a HostRuntime, words: &ServeWords) -> Result<Service<'a
     requires { IsInForm words.now }
     ensures posts { IfOk result (λ service. (1 ≤ length service.posts)
         × (length service.posts ≤ 65535)) }
+    ensures bound { IfOk result (λ service. map bound_of service.posts
+        ≡ posts_of words.now.workers (sockets_in words.now.sockets words.now.apps)) }
     ensures limits { IfOk result (λ service. service.settings.limits ≡ limits_with words.now.history) }
 {
     let alloc = system.alloc();
@@ -255,7 +262,8 @@ fn posts_at(
     workers: u32,
 ) -> Result<List<SocketPost>, ServeEnd>
     requires { 1 ≤ workers }
-    ensures { IfOk result (λ posts. length posts ≡ workers * length sockets.now) }
+    ensures bound { IfOk result (λ posts. map bound_of posts ≡ posts_of workers sockets.now) }
+    ensures count { IfOk result (λ posts. length posts ≡ workers * length sockets.now) }
 {
     let mut posts = List::new(system.alloc());
     for socket in sockets {
@@ -272,7 +280,9 @@ fn add_posts(
     workers: u32,
 ) -> Result<(), ServeEnd>
     requires { 1 ≤ workers }
-    ensures { OnOk result (length posts.new ≡ length posts.old + workers) }
+    ensures bound { OnOk result (map bound_of posts.new
+        ≡ map bound_of posts.old ++ replicate workers (bound_at socket.now)) }
+    ensures count { OnOk result (length posts.new ≡ length posts.old + workers) }
 {
     let listener = match SocketListener::bind(system, socket.path.as_str()) {
         Ok(listener) => listener,
@@ -295,7 +305,9 @@ fn add_post(
     socket: &Socket,
     listener: SocketListener,
 ) -> Result<(), ServeEnd>
-    ensures { OnOk result (length posts.new ≡ length posts.old + 1) }
+    ensures bound { OnOk result (map bound_of posts.new
+        ≡ map bound_of posts.old ++ bound_at socket.now ∷ []) }
+    ensures count { OnOk result (length posts.new ≡ length posts.old + 1) }
 {
     posts.push(Post {
         listener,

@@ -1,5 +1,0 @@
-use Rattle.docportal.proofs.LoadRun.{Written}
-use Rattle.docportal.proofs.generate.write_lines.Given as goal
-
-abbrev pub invariant-loop-line : goal.invariant-loop-line
-invariant-loop-line g l = Written l.lines (g.K.Sink.told l.fn.sink) (g.K.Sink.faults l.fn.sink) l.line-index (g.K.Sink.told l.sink) (g.K.Sink.faults l.sink)

@@ -1,5 +1,0 @@
-use Rattle.docportal.proofs.RunLine.{none_written}
-use Rattle.docportal.proofs.line.leave.Goals as goal
-
-pub returns-in_default-clause-err : goal.returns-in_default-clause-err
-returns-in_default-clause-err g c = none_written _ _ _
