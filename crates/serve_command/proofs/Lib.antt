@@ -1,4 +1,5 @@
 pub mod Apps
+pub mod GuidBytes
 pub mod NameTexts
 pub mod PathLaw
 pub mod PostCount

@@ -1,10 +1,16 @@
 -- The guid of a service (D-Bus Specification, "Authentication Protocol": a server's GUID).
-use Rattle.std.specs.Prelude.{◌≡◌, ◌++◌, ℕ, List, Option}
+use Rattle.std.specs.Prelude.{◌≡◌, ℕ, List, [], ◌∷◌, Option, length}
+use Rattle.std.specs.List.{flat_map}
 use Rattle.std.specs.Int.{to_be_bytes, w32}
 use Rattle.portal_base.specs.Outside.{Draws}
 
--- four words are drawn, one after another, and their bytes are the guid, the highest of each first
+-- these words are drawn, one after another
+abbrev pub DrawsAll : Option (List ℕ) → List ℕ → Option (List ℕ) → Type 0
+DrawsAll old [] new = new ≡ old
+DrawsAll old (word ∷ words) new =
+    (next : Option (List ℕ)) × Draws old word next × DrawsAll next words new
+
+-- four words are drawn, and the guid is their bytes, the highest of each first
 abbrev pub DrawsGuid : Option (List ℕ) → List ℕ → Option (List ℕ) → Type 0
-DrawsGuid old guid new = (a b c d : ℕ) (s t u : Option (List ℕ)) × Draws old a s × Draws s b t
-    × Draws t c u × Draws u d new
-    × (guid ≡ to_be_bytes w32 a ++ (to_be_bytes w32 b ++ (to_be_bytes w32 c ++ to_be_bytes w32 d)))
+DrawsGuid old guid new = (words : List ℕ) × (length words ≡ 4) × DrawsAll old words new
+    × (guid ≡ flat_map (λ word. to_be_bytes w32 word) words)
