@@ -3,8 +3,8 @@
 //! **It promises** that words which are read ask for 1 to 8 posts a listener, for at most
 //! 64 applications, each by a name of one, and for a history of at most 4,294,967,296
 //! bytes; that the sockets are those of the host and then of each application, a bus and
-//! a mount of each, where a socket's path tells whose it is and what it speaks; and that
-//! each end of a service has its number.
+//! a mount of each, where a socket's path tells whose it is and what it speaks; that the
+//! posts are bound as the sockets are; and that each end of a service has its number.
 //!
 //! | Room | Holds |
 //! |---|---|

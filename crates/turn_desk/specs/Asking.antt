@@ -7,8 +7,8 @@ use Rattle.portal_model.specs.Seated.{Denied, Known, Made, Moved}
 use Rattle.portal_model.specs.declared.asked.Asked.{Asked}
 use Rattle.turn_desk.specs.Sights.{Sight, Stays, seated_of}
 
--- an exchange of this call lost, and the last to lose read this holder, which is a seat and
--- another. The request is handed back, and all that the seat had seen is as it was
+-- an exchange of this call lost, and the last to lose read this holder: a number that a seat may
+-- have, and another's. The request is handed back, and all that the seat had seen is as it was
 pub record Lost (old : Sight) (request : Request) (holder : ℕ) (again : Request) (new : Sight)
     : Type 0 where
   pub losses : new.knows.losses ≡ old.knows.losses + 1
