@@ -10,23 +10,25 @@ use portal_base::list::List;
 use portal_base::text::Text;
 use script_command::status::Status;
 use std::process::ExitCode;
+use std::sync::Wait;
+use std::thread::Threads;
 use std::{env, io};
 
 fn main(rt: HostRuntime) -> ExitCode {
     ExitCode::from(match words_of(&rt) {
-        Ok(words) => answer(&rt, words.as_slice()),
+        Ok(words) => answer(&rt, &rt, words.as_slice()),
         Err(status) => script_command::answer::tell(&rt, status),
     })
 }
 
 /// Does what the words ask for: the number that the program ends with.
-fn answer(rt: &HostRuntime, words: &[Text]) -> u8 {
+fn answer<R: Threads + Wait + Sync>(rt: &R, system: &HostRuntime, words: &[Text]) -> u8 {
     if let Some((first, others)) = words.split_first() {
         if first.as_str() == "serve" {
-            return serve_command::answer::answer(rt, rt, others);
+            return serve_command::answer::answer(rt, system, others);
         }
     }
-    script_command::answer::answer(rt, words)
+    script_command::answer::answer(system, words)
 }
 
 /// The words behind the program's name. One that isn't UTF-8 is in none of the
