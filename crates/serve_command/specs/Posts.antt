@@ -1,5 +1,5 @@
 -- The posts of a service: whose each is, and what its connections speak.
-use Rattle.std.specs.Prelude.{ℕ, List, replicate, map}
+use Rattle.std.specs.Prelude.{ℕ, List, replicate}
 use Rattle.std.specs.List.{flat_map}
 use Rattle.portal_base.specs.declared.who.Who.{Who}
 use Rattle.portal_base.specs.declared.who.Kind.{Kind}

@@ -1,4 +1,4 @@
-use Rattle.std.proofs.Common.{rules, ◌≡◌, ◌≤◌, ℕ, ◌+◌, ◌*◌, length, ap, sym, subst, ◌∙◌}
+use Rattle.std.proofs.Common.{rules, ◌≡◌, ◌≤◌, ◌+◌, ◌*◌, length, ap, sym, subst, ◌∙◌}
 use Rattle.serve_command.proofs.PostCount.{posts_fit}
 use Rattle.serve_command.proofs.service.prepare.Goals as goal
 
