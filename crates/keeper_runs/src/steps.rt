@@ -17,6 +17,9 @@ const SEVEN: &[u8] = b"\x01y\0\x07";
 /// The datum of the variant that holds the byte 8, spelled.
 const EIGHT: &[u8] = b"\x01y\0\x08";
 
+// What holds a keeper has one way out, on which it is let go by hand: its drop is proved for
+// each way out of a function.
+
 /// All steps.
 pub fn all(rt: &HostRuntime, alloc: Global) -> Result<String, VectorError> {
     let mut out = String::new(alloc);
@@ -61,13 +64,19 @@ fn applied(
 /// A new database gets records, and changes of each kind.
 fn made(rt: &HostRuntime, alloc: Global) -> Result<String, VectorError> {
     let mut keeper = open(rt, alloc, "records.db")?;
-    let mut out = loaded(alloc, "a new database", &mut keeper)?;
+    let told = made_by(alloc, &mut keeper);
+    drop(keeper);
+    told
+}
+
+fn made_by(alloc: Global, keeper: &mut SqliteKeeper) -> Result<String, VectorError> {
+    let mut out = loaded(alloc, "a new database", keeper)?;
     let first = first_changes(alloc)?;
-    out.push_str(applied(alloc, "first changes", &mut keeper, &first)?.as_str())?;
-    out.push_str(loaded(alloc, "after them", &mut keeper)?.as_str())?;
+    out.push_str(applied(alloc, "first changes", keeper, &first)?.as_str())?;
+    out.push_str(loaded(alloc, "after them", keeper)?.as_str())?;
     let second = second_changes(alloc)?;
-    out.push_str(applied(alloc, "second changes", &mut keeper, &second)?.as_str())?;
-    out.push_str(loaded(alloc, "after them", &mut keeper)?.as_str())?;
+    out.push_str(applied(alloc, "second changes", keeper, &second)?.as_str())?;
+    out.push_str(loaded(alloc, "after them", keeper)?.as_str())?;
     Ok(out)
 }
 
@@ -109,54 +118,114 @@ fn second_changes(alloc: Global) -> Result<List<RecordChange>, VectorError> {
 /// the same records, and so has one over a database that was closed. No two
 /// have it at a time.
 fn again(rt: &HostRuntime, alloc: Global) -> Result<String, VectorError> {
+    let mut out = opened_again(rt, alloc)?;
+    out.push_str(opened_last(rt, alloc)?.as_str())?;
+    Ok(out)
+}
+
+fn opened_again(rt: &HostRuntime, alloc: Global) -> Result<String, VectorError> {
     let mut keeper = open(rt, alloc, "records.db")?;
-    let mut out = loaded(alloc, "opened again", &mut keeper)?;
+    let told = again_by(rt, alloc, &mut keeper);
+    let closed = keeper.close();
+    given(alloc, closed)?;
+    told
+}
+
+fn again_by(
+    rt: &HostRuntime,
+    alloc: Global,
+    keeper: &mut SqliteKeeper,
+) -> Result<String, VectorError> {
+    let mut out = loaded(alloc, "opened again", keeper)?;
     let second = debug(alloc, &SqliteKeeper::open(rt, "records.db").err())?;
     out.push_str(format!(in alloc; "opened meanwhile: {second}\n")?.as_str())?;
-    given(alloc, keeper.close())?;
-    let mut keeper = open(rt, alloc, "records.db")?;
-    out.push_str(loaded(alloc, "closed and opened again", &mut keeper)?.as_str())?;
     Ok(out)
+}
+
+fn opened_last(rt: &HostRuntime, alloc: Global) -> Result<String, VectorError> {
+    let mut keeper = open(rt, alloc, "records.db")?;
+    let told = loaded(alloc, "closed and opened again", &mut keeper);
+    drop(keeper);
+    told
 }
 
 /// Changes that fail leave the records, also where an earlier one of the same
 /// call could be made.
 fn refused(rt: &HostRuntime, alloc: Global) -> Result<String, VectorError> {
     let mut keeper = open(rt, alloc, "records.db")?;
+    let told = refused_by(alloc, &mut keeper);
+    drop(keeper);
+    told
+}
+
+fn refused_by(alloc: Global, keeper: &mut SqliteKeeper) -> Result<String, VectorError> {
+    let changes = of_one_number(alloc)?;
+    let mut out = applied(alloc, "a number twice", keeper, &changes)?;
+    let changes = of_falling_names(alloc)?;
+    out.push_str(applied(alloc, "names that fall", keeper, &changes)?.as_str())?;
+    let changes = of_nothing(alloc)?;
+    out.push_str(applied(alloc, "what isn't there", keeper, &changes)?.as_str())?;
+    out.push_str(loaded(alloc, "after them", keeper)?.as_str())?;
+    Ok(out)
+}
+
+fn of_one_number(alloc: Global) -> Result<List<RecordChange>, VectorError> {
     let mut changes = List::new(alloc);
     changes.push(add(alloc, 20, b"/home/d.txt", "org.ed", 1)?)?;
     changes.push(add(alloc, 10, b"/home/e.txt", "org.ed", 1)?)?;
-    let mut out = applied(alloc, "a number twice", &mut keeper, &changes)?;
+    Ok(changes)
+}
+
+fn of_falling_names(alloc: Global) -> Result<List<RecordChange>, VectorError> {
     let mut changes = List::new(alloc);
     changes.push(RecordChange::RemoveDocument { number: 10 })?;
     changes.push(set(alloc, "devices", "mic", SEVEN, "org.tv yes,org.ed yes")?)?;
-    out.push_str(applied(alloc, "names that fall", &mut keeper, &changes)?.as_str())?;
+    Ok(changes)
+}
+
+fn of_nothing(alloc: Global) -> Result<List<RecordChange>, VectorError> {
     let mut changes = List::new(alloc);
     changes.push(grant(alloc, 99, "org.ed", 1)?)?;
     changes.push(unset(alloc, "devices", "lamp")?)?;
-    out.push_str(applied(alloc, "what isn't there", &mut keeper, &changes)?.as_str())?;
-    out.push_str(loaded(alloc, "after them", &mut keeper)?.as_str())?;
-    Ok(out)
+    Ok(changes)
 }
 
 /// Databases that were changed by hand, and a file that is none.
 fn by_hand(rt: &HostRuntime, alloc: Global) -> Result<String, VectorError> {
     change_by_hand(rt, alloc, "UPDATE document_grant SET rights = 300")?;
-    let mut keeper = open(rt, alloc, "records.db")?;
-    let mut out = loaded(alloc, "rights that are none", &mut keeper)?;
-    let fault = debug(alloc, &keeper.last_fault())?;
-    out.push_str(format!(in alloc; "their fault: {fault}\n")?.as_str())?;
-    drop(keeper);
+    let mut out = with_fault(rt, alloc)?;
     change_by_hand(rt, alloc, "UPDATE version SET version = 9")?;
-    let mut keeper = open(rt, alloc, "records.db")?;
-    out.push_str(loaded(alloc, "another version", &mut keeper)?.as_str())?;
+    out.push_str(of_another_version(rt, alloc)?.as_str())?;
     let letter = debug(alloc, &SqliteKeeper::open(rt, "letter.txt").err())?;
     out.push_str(format!(in alloc; "a letter: {letter}")?.as_str())?;
     Ok(out)
 }
 
+fn with_fault(rt: &HostRuntime, alloc: Global) -> Result<String, VectorError> {
+    let mut keeper = open(rt, alloc, "records.db")?;
+    let told = fault_by(alloc, &mut keeper);
+    drop(keeper);
+    told
+}
+
+fn fault_by(alloc: Global, keeper: &mut SqliteKeeper) -> Result<String, VectorError> {
+    let mut out = loaded(alloc, "rights that are none", keeper)?;
+    let fault = debug(alloc, &keeper.last_fault())?;
+    out.push_str(format!(in alloc; "their fault: {fault}\n")?.as_str())?;
+    Ok(out)
+}
+
+fn of_another_version(rt: &HostRuntime, alloc: Global) -> Result<String, VectorError> {
+    let mut keeper = open(rt, alloc, "records.db")?;
+    let told = loaded(alloc, "another version", &mut keeper);
+    drop(keeper);
+    told
+}
+
 /// Runs SQL over the database.
 fn change_by_hand(rt: &HostRuntime, alloc: Global, sql: &str) -> Result<(), VectorError> {
     let mut conn = given(alloc, Connection::open(rt, "records.db"))?;
-    given(alloc, conn.execute_batch(sql))
+    let done = conn.execute_batch(sql);
+    drop(conn);
+    given(alloc, done)
 }
