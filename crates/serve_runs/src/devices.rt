@@ -15,7 +15,7 @@ const SCRIPT: &[u8] = b"file /home/a.txt 68656c6c6f\ndoc 0000000a r /home/a.txt 
 
 /// The devices of one file, and of one document of it.
 pub fn devices(alloc: Global) -> Result<ScriptDevices, VectorError>
-    ensures { IfOk result (λ d. (MemoryTree.HostTree.is d.tree).told ≡ (MemoryTree.HostTree.is d.tree).began) }
+    ensures { IfOk result (λ devices. devices.tree.files ≡ devices.tree.began) }
 {
     let script = given(alloc, read_script(alloc, SCRIPT))?;
     Ok(devices_of(alloc, &script)?)

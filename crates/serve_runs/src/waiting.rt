@@ -1,5 +1,7 @@
 //! A bus whose message comes only once the handshake is answered.
 
+ghost use Rattle.std.specs.Prelude.{◌<◌, ◌≤◌, length};
+
 use crate::devices::{devices, settings};
 use crate::told::{Shown, tell};
 use portal_base::list::{ByteList, List};
@@ -56,22 +58,28 @@ impl<'a> Source for WaitingSource<'a> {
 
     fn read(&mut self, buffer: &mut [u8]) -> ReadAnswer {
         self.reads = self.reads.saturating_add(1);
-        match self.reads {
-            1 => fill(buffer, self.first.as_slice()),
-            2 if self.answered.load(Ordering::SeqCst) => { fill(buffer, self.second.as_slice()) }
-            2 => {
-                self.faults = self.faults.saturating_add(1);
-                ReadAnswer::Failed
-            }
-            _ => ReadAnswer::End,
+        if self.reads == 2 && !self.answered.load(Ordering::SeqCst) {
+            self.faults = self.faults.saturating_add(1);
+            return ReadAnswer::Failed;
         }
+        let bytes = match self.reads {
+            1 => self.first.as_slice(),
+            2 => self.second.as_slice(),
+            _ => &[],
+        };
+        if bytes.is_empty() {
+            return ReadAnswer::End;
+        }
+        ReadAnswer::Got(fill(buffer, bytes))
     }
 }
 
 impl<'a> Sink for HeardSink<'a> {
-    ghost told = { λ s. MemorySink.Sink.told s.sink };
+    ghost use Rattle.std.specs.Prelude.{Some};
 
-    ghost faults = { λ s. MemorySink.Sink.faults s.sink };
+    ghost told = { λ s. Some s.sink.pieces };
+
+    ghost faults = { λ s. s.sink.faults };
 
     fn write(&mut self, bytes: &[u8]) -> WriteAnswer {
         if bytes.starts_with(b"OK ") {
@@ -88,13 +96,16 @@ impl<'a> Shown for HeardSink<'a> {
 }
 
 /// Copies as many bytes as there is room for, and says how many.
-fn fill(buffer: &mut [u8], bytes: &[u8]) -> ReadAnswer {
+fn fill(buffer: &mut [u8], bytes: &[u8]) -> usize
+    requires room { 0 < length buffer.old }
+    requires some { 0 < length bytes.now }
+    ensures least { 1 ≤ result }
+    ensures most { result ≤ length buffer.new }
+    ensures there { result ≤ length bytes.now }
+{
     let len = bytes.len().min(buffer.len());
-    if len == 0 {
-        return ReadAnswer::End;
-    }
     buffer[..len].copy_from_slice(&bytes[..len]);
-    ReadAnswer::Got(len)
+    len
 }
 
 /// What a bus of the host is answered whose message waits.
@@ -106,8 +117,9 @@ pub fn waiting<R: Threads + Wait + Sync>(rt: &R, alloc: Global) -> Result<String
         words,
     } = devices(alloc)?;
     let answered = AtomicBool::new(false);
+    let post = bus(alloc, &answered)?;
     let mut posts = List::new(alloc);
-    posts.push(bus(alloc, &answered)?)?;
+    posts.push(post)?;
     let status = serve(
         alloc,
         rt,
