@@ -1,6 +1,7 @@
 //! A bus whose message comes only once the handshake is answered.
 
-ghost use Rattle.std.specs.Prelude.{◌<◌, ◌≤◌, length};
+ghost use Rattle.std.specs.Prelude.{◌<◌, ℕ, None, length};
+ghost use Rattle.portal_base.specs.Outside.{ReadCounts, Reads};
 
 use crate::devices::{devices, settings};
 use crate::told::{Shown, tell};
@@ -58,19 +59,15 @@ impl<'a> Source for WaitingSource<'a> {
 
     fn read(&mut self, buffer: &mut [u8]) -> ReadAnswer {
         self.reads = self.reads.saturating_add(1);
-        if self.reads == 2 && !self.answered.load(Ordering::SeqCst) {
-            self.faults = self.faults.saturating_add(1);
-            return ReadAnswer::Failed;
+        match self.reads {
+            1 => give(buffer, self.first.as_slice()),
+            2 if self.answered.load(Ordering::SeqCst) => give(buffer, self.second.as_slice()),
+            2 => {
+                self.faults = self.faults.saturating_add(1);
+                ReadAnswer::Failed
+            }
+            _ => ReadAnswer::End,
         }
-        let bytes = match self.reads {
-            1 => self.first.as_slice(),
-            2 => self.second.as_slice(),
-            _ => &[],
-        };
-        if bytes.is_empty() {
-            return ReadAnswer::End;
-        }
-        ReadAnswer::Got(fill(buffer, bytes))
     }
 }
 
@@ -95,17 +92,18 @@ impl<'a> Shown for HeardSink<'a> {
     }
 }
 
-/// Copies as many bytes as there is room for, and says how many.
-fn fill(buffer: &mut [u8], bytes: &[u8]) -> usize
-    requires room { 0 < length buffer.old }
-    requires some { 0 < length bytes.now }
-    ensures least { 1 ≤ result }
-    ensures most { result ≤ length buffer.new }
-    ensures there { result ≤ length bytes.now }
+/// Gives as many bytes as there is room for, or tells that there are none.
+fn give(buffer: &mut [u8], bytes: &[u8]) -> ReadAnswer
+    requires { 0 < length buffer.old }
+    ensures reads { Reads None buffer.new result None }
+    ensures counts { (faults : ℕ) → ReadCounts faults result faults }
 {
+    if bytes.is_empty() {
+        return ReadAnswer::End;
+    }
     let len = bytes.len().min(buffer.len());
     buffer[..len].copy_from_slice(&bytes[..len]);
-    len
+    ReadAnswer::Got(len)
 }
 
 /// What a bus of the host is answered whose message waits.
