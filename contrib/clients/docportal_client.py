@@ -2,7 +2,7 @@
 """A client of `docportal serve`, in Python's standard library alone.
 
 It speaks D-Bus at the sockets `host.bus` and `app.NAME.bus`, and FUSE frames at
-`host.mount` and `app.NAME.mount`. As a program it makes one call, or a tour of all
+`host.mount` and `app.NAME.mount`. As a program it makes one call, or a tour of most
 of them, and prints what it got:
 
     docportal_client.py SOCKETS tour /notes.txt org.ed
@@ -702,7 +702,7 @@ HELP = """calls on a bus: ping, add PATH [APP RIGHT..], add-once PATH, info DOCU
 lookup PATH, grant DOCUMENT APP RIGHT.., revoke DOCUMENT APP RIGHT.., delete DOCUMENT,
 store-set TABLE ENTRY APP PERMISSION.., store-lookup TABLE ENTRY, store-list TABLE,
 store-delete TABLE ENTRY. Calls on a mount: ls, stat DOCUMENT, cat DOCUMENT, put DOCUMENT
-(from standard input). All of them: tour PATH APP."""
+(from standard input). Most of them: tour PATH APP."""
 
 
 def main():
