@@ -44,6 +44,7 @@ fn same_value(a: &Value, b: &Value) -> bool
             Value::Variant(y) => same_value(x.get(), y.get()),
             _ => false,
         },
+        Value::Bytes(x) => matches!(b, Value::Bytes(y) if x.is_same(y)),
         Value::Array { element, items } => match b {
             Value::Array {
                 element: other,

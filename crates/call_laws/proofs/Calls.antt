@@ -23,7 +23,7 @@ use Rattle.dbus_dispatch.specs.declared.error_name.ErrorName.TheVariants.{Invali
 use Rattle.dbus_dispatch.specs.declared.method.Method.{Method}
 use Rattle.dbus_dispatch.specs.declared.method.Method.TheVariants as M
 use Rattle.dbus_dispatch.specs.Tables.{row}
-use Rattle.dbus_dispatch.specs.Arguments.{text_of, flag_of, number_of, handle_of, items_of, bytes_in, text_alone, items_alone, rights_call, add_of, add_call, add_named_of, add_named_call, add_full_call, add_named_full_of, add_named_full_call, lookup_call, set_call, delete_call, list_call, set_value_call, set_permission_call, delete_permission_call, get_permission_call, request_in}
+use Rattle.dbus_dispatch.specs.Arguments.{text_of, flag_of, number_of, bytes_of, handle_of, items_of, text_alone, bytes_alone, rights_call, add_of, add_call, add_named_of, add_named_call, add_full_call, add_named_full_of, add_named_full_call, lookup_call, set_call, delete_call, list_call, set_value_call, set_permission_call, delete_permission_call, get_permission_call, request_in}
 use Rattle.dbus_dispatch.specs.Asks.{ask_of, asked, asked_of_portal, asked_or_refused, is_call}
 use Rattle.dbus_dispatch.specs.Calls.{called, found, with_signature}
 use Rattle.dbus_dispatch.specs.Writable.{HasItsIdentifiers, IsTold, IsToldTo}
@@ -68,7 +68,7 @@ add_one fds (a ∷ b ∷ []) = tt
 add_one fds (a ∷ b ∷ c ∷ []) = add_of_one fds (handle_of (out-Value a)) (flag_of (out-Value b)) (flag_of (out-Value c))
 add_one fds (a ∷ b ∷ c ∷ d ∷ more) = tt
 
-add_named_of_one : (fds : ℕ) (file : Option ℕ) (name : Option (List Value)) (reuse persistent : Option Bool) → NamesOne (add_named_of fds file name reuse persistent)
+add_named_of_one : (fds : ℕ) (file : Option ℕ) (name : Option (List ℕ)) (reuse persistent : Option Bool) → NamesOne (add_named_of fds file name reuse persistent)
 add_named_of_one fds (Some file) (Some name) (Some reuse) (Some persistent) = refl
 add_named_of_one fds (Some file) (Some name) (Some reuse) None = tt
 add_named_of_one fds (Some file) (Some name) None persistent = tt
@@ -80,10 +80,10 @@ add_named_one fds [] = tt
 add_named_one fds (a ∷ []) = tt
 add_named_one fds (a ∷ b ∷ []) = tt
 add_named_one fds (a ∷ b ∷ c ∷ []) = tt
-add_named_one fds (a ∷ b ∷ c ∷ d ∷ []) = add_named_of_one fds (handle_of (out-Value a)) (items_of (out-Value b)) (flag_of (out-Value c)) (flag_of (out-Value d))
+add_named_one fds (a ∷ b ∷ c ∷ d ∷ []) = add_named_of_one fds (handle_of (out-Value a)) (bytes_of (out-Value b)) (flag_of (out-Value c)) (flag_of (out-Value d))
 add_named_one fds (a ∷ b ∷ c ∷ d ∷ e ∷ more) = tt
 
-add_named_full_of_one : (fds : ℕ) (file : Option ℕ) (name : Option (List Value)) (flags : Option ℕ) (app : Option (List ℕ)) (names : Option (List Value)) → NamesOne (add_named_full_of fds file name flags app names)
+add_named_full_of_one : (fds : ℕ) (file : Option ℕ) (name : Option (List ℕ)) (flags : Option ℕ) (app : Option (List ℕ)) (names : Option (List Value)) → NamesOne (add_named_full_of fds file name flags app names)
 add_named_full_of_one fds (Some file) (Some name) (Some flags) (Some app) (Some names) = refl
 add_named_full_of_one fds (Some file) (Some name) (Some flags) (Some app) None = tt
 add_named_full_of_one fds (Some file) (Some name) (Some flags) None names = tt
@@ -98,7 +98,7 @@ add_named_full_one fds (a ∷ b ∷ []) = tt
 add_named_full_one fds (a ∷ b ∷ c ∷ []) = tt
 add_named_full_one fds (a ∷ b ∷ c ∷ d ∷ []) = tt
 add_named_full_one fds (a ∷ b ∷ c ∷ d ∷ e ∷ []) =
-    add_named_full_of_one fds (handle_of (out-Value a)) (items_of (out-Value b)) (number_of (out-Value c)) (text_of (out-Value d)) (items_of (out-Value e))
+    add_named_full_of_one fds (handle_of (out-Value a)) (bytes_of (out-Value b)) (number_of (out-Value c)) (text_of (out-Value d)) (items_of (out-Value e))
 add_named_full_one fds (a ∷ b ∷ c ∷ d ∷ e ∷ f ∷ more) = tt
 
 -- ---- its answer
@@ -123,8 +123,8 @@ module _ (s : State) (seat : ℕ) (given : Given) (valid : Valid s) where
 
   request_told : (call : Message) (m : Method) (r : Request) → request_in call m ≡ Some r → Told m r
   request_told call M.Present r e =
-      made_told M.Present (λ path. Request.Present (bytes_in path)) (items_alone call.body) r e
-      (λ path f. step_told M.Present s (Request.Present (bytes_in path)) given (bus_of (connection_of s.connections seat)) (λ c. present_told (all_told c.seat s) c (bytes_in path) valid.queued_limit))
+      made_told M.Present Request.Present (bytes_alone call.body) r e
+      (λ path f. step_told M.Present s (Request.Present path) given (bus_of (connection_of s.connections seat)) (λ c. present_told (all_told c.seat s) c path valid.queued_limit))
   request_told call M.Add r e =
       made_told M.Add Request.Add (add_call call.fds call.body) r e (λ a f. add_answer M.Add a (λ ids same. same ∙ one_named (add_call call.fds call.body) a (add_one call.fds call.body) f))
   request_told call M.AddNamed r e =
@@ -144,8 +144,8 @@ module _ (s : State) (seat : ℕ) (given : Given) (valid : Valid s) where
       made_told M.DeleteDocument Request.DeleteDocument (text_alone call.body) r e
       (λ doc f. step_told M.DeleteDocument s (Request.DeleteDocument doc) given (bus_of (connection_of s.connections seat)) (λ c. delete_told M.DeleteDocument (all_told c.seat s) c.who doc))
   request_told call M.LookupDocument r e =
-      made_told M.LookupDocument (λ path. Request.LookupDocument (bytes_in path)) (items_alone call.body) r e
-      (λ path f. step_told M.LookupDocument s (Request.LookupDocument (bytes_in path)) given (bus_of (connection_of s.connections seat)) (λ c. lookup_told (all_told c.seat s) c.who (bytes_in path)))
+      made_told M.LookupDocument Request.LookupDocument (bytes_alone call.body) r e
+      (λ path f. step_told M.LookupDocument s (Request.LookupDocument path) given (bus_of (connection_of s.connections seat)) (λ c. lookup_told (all_told c.seat s) c.who path))
   request_told call M.Info r e =
       made_told M.Info Request.Info (text_alone call.body) r e
       (λ doc f. step_told M.Info s (Request.Info doc) given (bus_of (connection_of s.connections seat)) (λ c. info_told (all_told c.seat s) c.who doc (still_valid c)))
@@ -220,7 +220,7 @@ made_on f None h = tt
 made_on f (Some x) h = h x
 
 request_on : (call : Message) (m : Method) → OnRecords (request_in call m)
-request_on call M.Present = made_on (λ path. Request.Present (bytes_in path)) (items_alone call.body) (λ path. tt)
+request_on call M.Present = made_on Request.Present (bytes_alone call.body) (λ path. tt)
 request_on call M.Add = made_on Request.Add (add_call call.fds call.body) (λ a. tt)
 request_on call M.AddNamed = made_on Request.Add (add_named_call call.fds call.body) (λ a. tt)
 request_on call M.AddFull = made_on Request.Add (add_full_call call.fds call.body) (λ a. tt)
@@ -228,7 +228,7 @@ request_on call M.AddNamedFull = made_on Request.Add (add_named_full_call call.f
 request_on call M.GrantPermissions = made_on Request.Grant (rights_call call.body) (λ x. tt)
 request_on call M.RevokePermissions = made_on Request.Revoke (rights_call call.body) (λ x. tt)
 request_on call M.DeleteDocument = made_on Request.DeleteDocument (text_alone call.body) (λ doc. tt)
-request_on call M.LookupDocument = made_on (λ path. Request.LookupDocument (bytes_in path)) (items_alone call.body) (λ path. tt)
+request_on call M.LookupDocument = made_on Request.LookupDocument (bytes_alone call.body) (λ path. tt)
 request_on call M.Info = made_on Request.Info (text_alone call.body) (λ doc. tt)
 request_on call M.ListDocuments = made_on Request.ListDocuments (text_alone call.body) (λ app. tt)
 request_on call M.GetMountPoint = tt

@@ -22,11 +22,11 @@ use Rattle.portal_model.specs.History.{add_bytes, cost_of, cost_of_bytes, rights
 use Rattle.dbus_dispatch.specs.declared.ask.Ask.TheVariants.{Portal}
 use Rattle.dbus_dispatch.specs.declared.method.Method.{Method}
 use Rattle.dbus_dispatch.specs.declared.method.Method.TheVariants as M
-use Rattle.dbus_dispatch.specs.Arguments.{text_of, flag_of, number_of, handle_of, items_of, bytes_in, text_alone, items_alone, rights_of, rights_call, add_of, add_call, add_named_of, add_named_call, add_full_of, add_full_call, add_named_full_of, add_named_full_call, lookup_call, set_call, delete_call, list_call, set_value_call, set_permission_call, delete_permission_call, get_permission_call, request_in}
+use Rattle.dbus_dispatch.specs.Arguments.{text_of, flag_of, number_of, bytes_of, handle_of, items_of, text_alone, bytes_alone, rights_of, rights_call, add_of, add_call, add_named_of, add_named_call, add_full_of, add_full_call, add_named_full_of, add_named_full_call, lookup_call, set_call, delete_call, list_call, set_value_call, set_permission_call, delete_permission_call, get_permission_call, request_in}
 use Rattle.dbus_dispatch.specs.Asks.{ask_of}
 use Rattle.call_laws.proofs.Calls.{asks_request}
 use Rattle.call_laws.proofs.StoreCosts.{StoreWithin, lookup_within, set_within, delete_within, list_within, set_value_within, set_permission_within, delete_permission_within, get_permission_within}
-use Rattle.call_laws.proofs.Sizes.{TextWithin, HandleWithin, ItemsWithin, text_takes, index_takes, items_take}
+use Rattle.call_laws.proofs.Sizes.{TextWithin, BytesWithin, HandleWithin, ItemsWithin, text_takes, bytes_take, index_takes, items_take}
 
 -- ---- how many bytes the parts of a request have, by bounds of the arguments
 
@@ -39,7 +39,7 @@ AddWithin None n = Unit {0}
 AddWithin (Some a) n = add_bytes a ≤ n
 
 rights_of_within : (d a : Option (List ℕ)) (names : Option (List Value)) (j k l n : ℕ) → TextWithin d j → TextWithin a k → ItemsWithin names l → j + k + l ≤ n → RightsWithin (rights_of d a names) n
-rights_of_within (Some d) (Some a) (Some names) j k l n p q r le = omega (arith, p, q, r.2, le)
+rights_of_within (Some d) (Some a) (Some names) j k l n p q r le = omega (arith, p, q, r.1, le)
 rights_of_within (Some d) (Some a) None j k l n p q r le = tt
 rights_of_within (Some d) None names j k l n p q r le = tt
 rights_of_within None a names j k l n p q r le = tt
@@ -50,22 +50,22 @@ add_of_within fds (Some file) (Some reuse) None j n p le = tt
 add_of_within fds (Some file) None persistent j n p le = tt
 add_of_within fds None reuse persistent j n p le = tt
 
-add_named_of_within : (fds : ℕ) (file : Option ℕ) (name : Option (List Value)) (reuse persistent : Option Bool) (j k n : ℕ) → HandleWithin file j → ItemsWithin name k → j + k ≤ n → AddWithin (add_named_of fds file name reuse persistent) n
-add_named_of_within fds (Some file) (Some name) (Some reuse) (Some persistent) j k n p q le = omega (arith, p, q.0, le)
+add_named_of_within : (fds : ℕ) (file : Option ℕ) (name : Option (List ℕ)) (reuse persistent : Option Bool) (j k n : ℕ) → HandleWithin file j → BytesWithin name k → j + k ≤ n → AddWithin (add_named_of fds file name reuse persistent) n
+add_named_of_within fds (Some file) (Some name) (Some reuse) (Some persistent) j k n p q le = omega (arith, p, q, le)
 add_named_of_within fds (Some file) (Some name) (Some reuse) None j k n p q le = tt
 add_named_of_within fds (Some file) (Some name) None persistent j k n p q le = tt
 add_named_of_within fds (Some file) None reuse persistent j k n p q le = tt
 add_named_of_within fds None name reuse persistent j k n p q le = tt
 
 add_full_of_within : (fds : ℕ) (files : Option (List Value)) (flags : Option ℕ) (app : Option (List ℕ)) (names : Option (List Value)) (j k l n : ℕ) → ItemsWithin files j → TextWithin app k → ItemsWithin names l → j + k + l ≤ n → AddWithin (add_full_of fds files flags app names) n
-add_full_of_within fds (Some files) (Some flags) (Some app) (Some names) j k l n p q r le = omega (arith, p.1, q, r.2, le)
+add_full_of_within fds (Some files) (Some flags) (Some app) (Some names) j k l n p q r le = omega (arith, p.0, q, r.1, le)
 add_full_of_within fds (Some files) (Some flags) (Some app) None j k l n p q r le = tt
 add_full_of_within fds (Some files) (Some flags) None names j k l n p q r le = tt
 add_full_of_within fds (Some files) None app names j k l n p q r le = tt
 add_full_of_within fds None flags app names j k l n p q r le = tt
 
-add_named_full_of_within : (fds : ℕ) (file : Option ℕ) (name : Option (List Value)) (flags : Option ℕ) (app : Option (List ℕ)) (names : Option (List Value)) (i j k l n : ℕ) → HandleWithin file i → ItemsWithin name j → TextWithin app k → ItemsWithin names l → i + j + k + l ≤ n → AddWithin (add_named_full_of fds file name flags app names) n
-add_named_full_of_within fds (Some file) (Some name) (Some flags) (Some app) (Some names) i j k l n p q r s le = omega (arith, p, q.0, r, s.2, le)
+add_named_full_of_within : (fds : ℕ) (file : Option ℕ) (name : Option (List ℕ)) (flags : Option ℕ) (app : Option (List ℕ)) (names : Option (List Value)) (i j k l n : ℕ) → HandleWithin file i → BytesWithin name j → TextWithin app k → ItemsWithin names l → i + j + k + l ≤ n → AddWithin (add_named_full_of fds file name flags app names) n
+add_named_full_of_within fds (Some file) (Some name) (Some flags) (Some app) (Some names) i j k l n p q r s le = omega (arith, p, q, r, s.1, le)
 add_named_full_of_within fds (Some file) (Some name) (Some flags) (Some app) None i j k l n p q r s le = tt
 add_named_full_of_within fds (Some file) (Some name) (Some flags) None names i j k l n p q r s le = tt
 add_named_full_of_within fds (Some file) (Some name) None app names i j k l n p q r s le = tt
@@ -94,14 +94,14 @@ module _ (e : Endian) where
       text_less (Some t) m n le h = omega (arith, le, h)
   alone_text (v ∷ w ∷ vs) = tt
 
-  alone_items : (vs : List Value) → ItemsWithin (items_alone vs) (size vs 0)
-  alone_items [] = tt
-  alone_items (v ∷ []) = items_less (items_of (out-Value v)) (length (spelling e 0 v)) (size (v ∷ []) 0) (omega (arith, one_more v [] 0)) (items_take e 0 v)
+  alone_bytes : (vs : List Value) → BytesWithin (bytes_alone vs) (size vs 0)
+  alone_bytes [] = tt
+  alone_bytes (v ∷ []) = bytes_less (bytes_of (out-Value v)) (length (spelling e 0 v)) (size (v ∷ []) 0) (omega (arith, one_more v [] 0)) (bytes_take e 0 v)
     where
-      items_less : (o : Option (List Value)) (m n : ℕ) → m ≤ n → ItemsWithin o m → ItemsWithin o n
-      items_less None m n le h = tt
-      items_less (Some t) m n le h = (omega (arith, le, h.0), omega (arith, le, h.1), omega (arith, le, h.2))
-  alone_items (v ∷ w ∷ vs) = tt
+      bytes_less : (o : Option (List ℕ)) (m n : ℕ) → m ≤ n → BytesWithin o m → BytesWithin o n
+      bytes_less None m n le h = tt
+      bytes_less (Some bytes) m n le h = omega (arith, le, h)
+  alone_bytes (v ∷ w ∷ vs) = tt
 
   rights_within : (vs : List Value) → RightsWithin (rights_call vs) (size vs 0)
   rights_within [] = tt
@@ -129,8 +129,8 @@ module _ (e : Endian) where
   add_named_within fds (a ∷ b ∷ c ∷ []) = tt
   add_named_within fds (a ∷ b ∷ c ∷ d ∷ []) =
       let p : ℕ = behind 0 a in
-      add_named_of_within fds (handle_of (out-Value a)) (items_of (out-Value b)) (flag_of (out-Value c)) (flag_of (out-Value d)) (length (spelling e 0 a)) (length (spelling e p b)) (size (a ∷ b ∷ c ∷ d ∷ []) 0)
-      (index_takes e 0 a) (items_take e p b) (omega (arith, one_more a (b ∷ c ∷ d ∷ []) 0, one_more b (c ∷ d ∷ []) p))
+      add_named_of_within fds (handle_of (out-Value a)) (bytes_of (out-Value b)) (flag_of (out-Value c)) (flag_of (out-Value d)) (length (spelling e 0 a)) (length (spelling e p b)) (size (a ∷ b ∷ c ∷ d ∷ []) 0)
+      (index_takes e 0 a) (bytes_take e p b) (omega (arith, one_more a (b ∷ c ∷ d ∷ []) 0, one_more b (c ∷ d ∷ []) p))
   add_named_within fds (a ∷ b ∷ c ∷ d ∷ f ∷ vs) = tt
 
   add_full_within : (fds : ℕ) (vs : List Value) → AddWithin (add_full_call fds vs) (size vs 0)
@@ -157,8 +157,8 @@ module _ (e : Endian) where
       let q : ℕ = behind p b in
       let r : ℕ = behind q c in
       let s : ℕ = behind r d in
-      add_named_full_of_within fds (handle_of (out-Value a)) (items_of (out-Value b)) (number_of (out-Value c)) (text_of (out-Value d)) (items_of (out-Value f)) (length (spelling e 0 a)) (length (spelling e p b)) (length (spelling e r d)) (length (spelling e s f))
-      (size (a ∷ b ∷ c ∷ d ∷ f ∷ []) 0) (index_takes e 0 a) (items_take e p b) (text_takes e r d) (items_take e s f)
+      add_named_full_of_within fds (handle_of (out-Value a)) (bytes_of (out-Value b)) (number_of (out-Value c)) (text_of (out-Value d)) (items_of (out-Value f)) (length (spelling e 0 a)) (length (spelling e p b)) (length (spelling e r d)) (length (spelling e s f))
+      (size (a ∷ b ∷ c ∷ d ∷ f ∷ []) 0) (index_takes e 0 a) (bytes_take e p b) (text_takes e r d) (items_take e s f)
       (omega (arith, one_more a (b ∷ c ∷ d ∷ f ∷ []) 0, one_more b (c ∷ d ∷ f ∷ []) p, one_more c (d ∷ f ∷ []) q, one_more d (f ∷ []) r, one_more f [] s))
   add_named_full_within fds (a ∷ b ∷ c ∷ d ∷ f ∷ g ∷ vs) = tt
 
@@ -175,9 +175,9 @@ module _ (e : Endian) where
   of_text f None n costs h = tt
   of_text f (Some t) n costs h = omega (arith, costs t, least (length t) n (omega (arith, h)))
 
-  of_items : (f : List ℕ → Request) (o : Option (List Value)) (n : ℕ) → ((t : List ℕ) → cost_of (f t) ≡ cost_of_bytes (length t)) → ItemsWithin o n → CostWithin (option_map (λ path. f (bytes_in path)) o) n
-  of_items f None n costs h = tt
-  of_items f (Some vs) n costs h = omega (arith, costs (bytes_in vs), least (length (bytes_in vs)) n h.0)
+  of_bytes : (f : List ℕ → Request) (o : Option (List ℕ)) (n : ℕ) → ((t : List ℕ) → cost_of (f t) ≡ cost_of_bytes (length t)) → BytesWithin o n → CostWithin (option_map f o) n
+  of_bytes f None n costs h = tt
+  of_bytes f (Some bytes) n costs h = omega (arith, costs bytes, least (length bytes) n h)
 
   of_rights : (f : RightsCall → Request) (o : Option RightsCall) (n : ℕ) → ((x : RightsCall) → cost_of (f x) ≡ cost_of_bytes (rights_call_bytes x)) → RightsWithin o n → CostWithin (option_map f o) n
   of_rights f None n costs h = tt
@@ -192,8 +192,8 @@ module _ (e : Endian) where
   of_store (Some x) n h = least (store_bytes x) n h
 
   request_costs : (call : Message) (m : Method) → CostWithin (request_in call m) (size call.body 0)
-  request_costs call M.Present = of_items Request.Present (items_alone call.body) (size call.body 0) (λ t. refl) (alone_items call.body)
-  request_costs call M.LookupDocument = of_items Request.LookupDocument (items_alone call.body) (size call.body 0) (λ t. refl) (alone_items call.body)
+  request_costs call M.Present = of_bytes Request.Present (bytes_alone call.body) (size call.body 0) (λ t. refl) (alone_bytes call.body)
+  request_costs call M.LookupDocument = of_bytes Request.LookupDocument (bytes_alone call.body) (size call.body 0) (λ t. refl) (alone_bytes call.body)
   request_costs call M.DeleteDocument = of_text Request.DeleteDocument (text_alone call.body) (size call.body 0) (λ t. refl) (alone_text call.body)
   request_costs call M.Info = of_text Request.Info (text_alone call.body) (size call.body 0) (λ t. refl) (alone_text call.body)
   request_costs call M.ListDocuments = of_text Request.ListDocuments (text_alone call.body) (size call.body 0) (λ t. refl) (alone_text call.body)

@@ -10,7 +10,7 @@ use Rattle.dbus_types.specs.declared.types.Value.TheOpen.{Value-F}
 use Rattle.dbus_types.specs.declared.types.Value.TheFolds.{ind-Value, map-Value, fold-roll-Value}
 use Rattle.dbus_types.specs.Types.{alignment, alignment_of, type_text}
 use Rattle.dbus_types.specs.Spells.{number, gap, bit}
-use Rattle.dbus_types.specs.Spelling.{aligned, in_row, text_body, signature_body, array_body, variant_body, Spelled, spell_step, spelled, spelling}
+use Rattle.dbus_types.specs.Spelling.{aligned, in_row, text_body, signature_body, array_body, bytes_body, variant_body, Spelled, spell_step, spelled, spelling}
 
 -- What begins later ends no sooner, and eight bytes later it is as long.
 abbrev Shifts : (ℕ → List ℕ) → Type 0
@@ -119,6 +119,9 @@ variant_shifts x =
 text_length : (text : List ℕ) → length (text_body Little text) ≡ length text + 5
 text_length text = omega (arith, length-append (number Little w32 (length text)) (text ++ 0 ∷ []), length-append text (0 ∷ []))
 
+bytes_length : (bytes : List ℕ) → length (bytes_body Little bytes) ≡ length bytes + 4
+bytes_length bytes = omega (arith, length-append (number Little w32 (length bytes)) bytes)
+
 signature_length : (text : List ℕ) → length (signature_body text) ≡ length text + 2
 signature_length text = omega (arith, length-append (to_le_bytes w8 (length text)) (text ++ 0 ∷ []), length-append text (0 ∷ []))
 
@@ -137,6 +140,7 @@ layer (Value-F.Str text) = number_shifts 4 (length text + 5) (text_body Little t
 layer (Value-F.ObjectPath text) = number_shifts 4 (length text + 5) (text_body Little text) four_pads (text_length text)
 layer (Value-F.Signature text) = fixed (λ at. signature_body text) (length text + 2) (λ at. signature_length text)
 layer (Value-F.Variant x) = variant_shifts x
+layer (Value-F.Bytes bytes) = number_shifts 4 (length bytes + 4) (bytes_body Little bytes) four_pads (bytes_length bytes)
 layer (Value-F.Array t xs) = behind_padding 4 (array_body Little (alignment t) (spelled_of xs)) four_pads (array_shifts t xs)
 layer (Value-F.Struct xs) = behind_padding 8 (in_row (spelled_of xs)) eight_pads (row_shifts xs)
 layer (Value-F.DictEntry k x) = behind_padding 8 (in_row (spelled_of (k ∷ x ∷ []))) eight_pads (row_shifts (k ∷ x ∷ []))

@@ -11,11 +11,11 @@ use Rattle.dbus_types.specs.declared.types.Value.TheVariants as V
 use Rattle.dbus_types.specs.declared.types.Value.TheOpen.{Value-F}
 use Rattle.dbus_types.specs.Types.{alignment}
 use Rattle.dbus_types.specs.Spells.{number, gap}
-use Rattle.dbus_types.specs.Spelling.{aligned, text_body, array_body, Spelled, spell_step, spelled, spelling, spellings}
-use Rattle.dbus_types.proofs.OneSpelling.{roll_byte, roll_handle, roll_str, roll_array}
+use Rattle.dbus_types.specs.Spelling.{aligned, text_body, array_body, bytes_body, Spelled, spell_step, spelled, spelling, spellings}
+use Rattle.dbus_types.proofs.OneSpelling.{roll_bytes, roll_handle, roll_str, roll_array}
 use Rattle.dbus_marshal.proofs.TakenFronts.{four, number_len}
 use Rattle.portal_model.specs.History.{texts_bytes}
-use Rattle.dbus_dispatch.specs.Arguments.{text_of, byte_of, handle_of, items_of, bytes_in, handles_in, texts_in}
+use Rattle.dbus_dispatch.specs.Arguments.{text_of, bytes_of, handle_of, items_of, handles_in, texts_in}
 
 -- ---- the outer layer of a value
 
@@ -25,8 +25,8 @@ roll_out v = search the_lemmas
 rolls_str : (t : List ℕ) → V.Str t ≡ roll-Value (Value-F.Str t)
 rolls_str t = search the_lemmas
 
-rolls_byte : (n : ℕ) → V.Byte n ≡ roll-Value (Value-F.Byte n)
-rolls_byte n = search the_lemmas
+rolls_bytes : (bytes : List ℕ) → V.Bytes bytes ≡ roll-Value (Value-F.Bytes bytes)
+rolls_bytes bytes = search the_lemmas
 
 rolls_handle : (n : ℕ) → V.Handle n ≡ roll-Value (Value-F.Handle n)
 rolls_handle n = search the_lemmas
@@ -43,16 +43,16 @@ abbrev pub TextWithin : Option (List ℕ) → ℕ → Type 0
 TextWithin None n = Unit {0}
 TextWithin (Some t) n = length t + 5 ≤ n
 
-abbrev pub ByteWithin : Option ℕ → ℕ → Type 0
-ByteWithin None n = Unit {0}
-ByteWithin (Some b) n = 1 ≤ n
+abbrev pub BytesWithin : Option (List ℕ) → ℕ → Type 0
+BytesWithin None n = Unit {0}
+BytesWithin (Some bytes) n = length bytes ≤ n
 
 abbrev pub HandleWithin : Option ℕ → ℕ → Type 0
 HandleWithin None n = Unit {0}
 HandleWithin (Some h) n = 4 ≤ n
 
 abbrev pub Holds : List Value → ℕ → Type 0
-Holds vs n = (length (bytes_in vs) ≤ n) × (4 * length (handles_in vs) ≤ n) × (texts_bytes (texts_in vs) ≤ n)
+Holds vs n = (4 * length (handles_in vs) ≤ n) × (texts_bytes (texts_in vs) ≤ n)
 
 abbrev pub ItemsWithin : Option (List Value) → ℕ → Type 0
 ItemsWithin None n = Unit {0}
@@ -72,8 +72,10 @@ module _ (e : Endian) where
       least_as (V.Str t) (spell_step e (Value-F.Str t)) at (length t + 5) (roll_str e t)
       (least_aligned 4 (λ start. text_body e t) at (length t + 5) (omega (arith, length-append (number e w32 (length t)) (t ++ 0 ∷ []), number_len e four (length t), length-append t (0 ∷ []))))
 
-  byte_takes : (n at : ℕ) → 1 ≤ length (spelling e at (V.Byte n))
-  byte_takes n at = least_as (V.Byte n) (spell_step e (Value-F.Byte n)) at 1 (roll_byte e n) (omega arith)
+  bytes_body_takes : (bytes : List ℕ) (at : ℕ) → length bytes ≤ length (spelling e at (V.Bytes bytes))
+  bytes_body_takes bytes at =
+      least_as (V.Bytes bytes) (spell_step e (Value-F.Bytes bytes)) at (length bytes) (roll_bytes e bytes)
+      (least_aligned 4 (λ start. bytes_body e bytes) at (length bytes) (omega (arith, length-append (number e w32 (length bytes)) bytes)))
 
   handle_takes : (n at : ℕ) → 4 ≤ length (spelling e at (V.Handle n))
   handle_takes n at = least_as (V.Handle n) (spell_step e (Value-F.Handle n)) at 4 (roll_handle e n) (least_aligned 4 (λ start. number e w32 n) at 4 (omega (arith, number_len e four n)))
@@ -97,11 +99,12 @@ module _ (e : Endian) where
   ArrayWithin (Some vs) n = (start : ℕ) × (length (spellings e start vs) ≤ n)
 
   abbrev Within : Value-F Value → ℕ → Type 0
-  Within x n = TextWithin (text_of x) n × ByteWithin (byte_of x) n × HandleWithin (handle_of x) n × ArrayWithin (items_of x) n
+  Within x n = TextWithin (text_of x) n × BytesWithin (bytes_of x) n × HandleWithin (handle_of x) n × ArrayWithin (items_of x) n
 
   takes : (at : ℕ) (v : Value) (x : Value-F Value) → out-Value v ≡ x → Within x (length (spelling e at v))
   takes at v (Value-F.Str t) out = (subst (λ (w : Value). length t + 5 ≤ length (spelling e at w)) (rolled v (V.Str t) (Value-F.Str t) out (rolls_str t)) (str_takes t at), tt, tt, tt)
-  takes at v (Value-F.Byte n) out = (tt, subst (λ (w : Value). 1 ≤ length (spelling e at w)) (rolled v (V.Byte n) (Value-F.Byte n) out (rolls_byte n)) (byte_takes n at), tt, tt)
+  takes at v (Value-F.Bytes bytes) out = (tt, subst (λ (w : Value). length bytes ≤ length (spelling e at w)) (rolled v (V.Bytes bytes) (Value-F.Bytes bytes) out (rolls_bytes bytes)) (bytes_body_takes bytes at), tt, tt)
+  takes at v (Value-F.Byte n) out = (tt, tt, tt, tt)
   takes at v (Value-F.Handle n) out = (tt, tt, subst (λ (w : Value). 4 ≤ length (spelling e at w)) (rolled v (V.Handle n) (Value-F.Handle n) out (rolls_handle n)) (handle_takes n at), tt)
   takes at v (Value-F.Array t vs) out = (
     tt,
@@ -125,10 +128,6 @@ module _ (e : Endian) where
 
   -- ---- the items of an array
 
-  one_byte : (o : Option ℕ) (n : ℕ) → ByteWithin o n → length (option_to_list o) ≤ n
-  one_byte None n h = omega arith
-  one_byte (Some b) n h = h
-
   one_handle : (o : Option ℕ) (n : ℕ) → HandleWithin o n → 4 * length (option_to_list o) ≤ n
   one_handle None n h = omega arith
   one_handle (Some b) n h = h
@@ -141,21 +140,20 @@ module _ (e : Endian) where
   texts_append xs ys = sum_by-append (λ (t : List ℕ). length t) xs ys
 
   holds : (at : ℕ) (vs : List Value) → Holds vs (length (spellings e at vs))
-  holds at [] = (omega arith, omega arith, omega arith)
+  holds at [] = (omega arith, omega arith)
   holds at (v ∷ vs) =
       let first : List ℕ = spelling e at v in
       let rest : List ℕ = spellings e (at + length first) vs in
       let whole : length (first ++ rest) ≡ length first + length rest = length-append first rest in
       let here : Within (out-Value v) (length first) = takes at v (out-Value v) refl in
       let later : Holds vs (length rest) = holds (at + length first) vs in (
-        omega (arith, whole, one_byte (byte_of (out-Value v)) (length first) here.1, later.0, length-append (option_to_list (byte_of (out-Value v))) (bytes_in vs)),
-        omega (arith, whole, one_handle (handle_of (out-Value v)) (length first) here.2, later.1, length-append (option_to_list (handle_of (out-Value v))) (handles_in vs)),
-        omega (arith, whole, one_text (text_of (out-Value v)) (length first) here.0, later.2, texts_append (option_to_list (text_of (out-Value v))) (texts_in vs)),
+        omega (arith, whole, one_handle (handle_of (out-Value v)) (length first) here.2, later.0, length-append (option_to_list (handle_of (out-Value v))) (handles_in vs)),
+        omega (arith, whole, one_text (text_of (out-Value v)) (length first) here.0, later.1, texts_append (option_to_list (text_of (out-Value v))) (texts_in vs)),
       )
 
   items_within : (o : Option (List Value)) (n : ℕ) → ArrayWithin o n → ItemsWithin o n
   items_within None n h = tt
-  items_within (Some vs) n h = let inside : Holds vs (length (spellings e h.0 vs)) = holds h.0 vs in (omega (arith, inside.0, h.1), omega (arith, inside.1, h.1), omega (arith, inside.2, h.1))
+  items_within (Some vs) n h = let inside : Holds vs (length (spellings e h.0 vs)) = holds h.0 vs in (omega (arith, inside.0, h.1), omega (arith, inside.1, h.1))
 
   pub text_takes : (at : ℕ) (v : Value) → TextWithin (text_of (out-Value v)) (length (spelling e at v))
   text_takes at v = (takes at v (out-Value v) refl).0
@@ -165,6 +163,9 @@ module _ (e : Endian) where
 
   pub index_takes : (at : ℕ) (v : Value) → HandleWithin (handle_of (out-Value v)) (length (spelling e at v))
   index_takes at v = (takes at v (out-Value v) refl).2
+
+  pub bytes_take : (at : ℕ) (v : Value) → BytesWithin (bytes_of (out-Value v)) (length (spelling e at v))
+  bytes_take at v = (takes at v (out-Value v) refl).1
 
   pub items_take : (at : ℕ) (v : Value) → ItemsWithin (items_of (out-Value v)) (length (spelling e at v))
   items_take at v = items_within (items_of (out-Value v)) (length (spelling e at v)) (takes at v (out-Value v) refl).3

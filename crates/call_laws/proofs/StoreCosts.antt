@@ -56,7 +56,7 @@ one_text_more : (t : List ℕ) (ts : List (List ℕ)) → texts_bytes (t ∷ ts)
 one_text_more t ts = omega (arith, texts_append Little (t ∷ []) ts)
 
 named_within : (o : Option (List ℕ)) (p : Option (List Value)) (j k n : ℕ) → TextWithin o j → ItemsWithin p k → j + k ≤ n → RowWithin (row_named o p) n
-named_within (Some app) (Some names) j k n h i le = omega (arith, one_text_more app (texts_in names), h, i.2, le)
+named_within (Some app) (Some names) j k n h i le = omega (arith, one_text_more app (texts_in names), h, i.1, le)
 named_within (Some app) None j k n h i le = tt
 named_within None p j k n h i le = tt
 
@@ -96,7 +96,7 @@ set_value_of_within None b i d j k m n p q s le = tt
 set_permission_of_within : (t : Option (List ℕ)) (b : Option Bool) (i a : Option (List ℕ)) (names : Option (List Value)) (j k l m n : ℕ) → TextWithin t j → TextWithin i k → TextWithin a l → ItemsWithin names m → j + k + l + m ≤ n → StoreWithin (set_permission_of t b i a names) n
 set_permission_of_within (Some t) (Some b) (Some i) (Some a) (Some names) j k l m n p q r s le =
     let others : List (List ℕ) = texts_in names in
-    omega (arith, one_text_more t (i ∷ a ∷ others), one_text_more i (a ∷ others), one_text_more a others, p, q, r, s.2, le)
+    omega (arith, one_text_more t (i ∷ a ∷ others), one_text_more i (a ∷ others), one_text_more a others, p, q, r, s.1, le)
 set_permission_of_within (Some t) (Some b) (Some i) (Some a) None j k l m n p q r s le = tt
 set_permission_of_within (Some t) (Some b) (Some i) None names j k l m n p q r s le = tt
 set_permission_of_within (Some t) (Some b) None a names j k l m n p q r s le = tt

@@ -1,7 +1,7 @@
 //! The rules of types and of values.
 
 use crate::values::kind_of;
-use dbus_types::equal::same_type;
+use dbus_types::equal::{is_byte, same_type};
 use dbus_types::keeping::keeps_rules;
 use dbus_types::layout::alignment_of;
 use dbus_types::nesting::nesting;
@@ -10,7 +10,7 @@ use dbus_types::types::{Value, WireType};
 use dbus_types::typing::has_type;
 use dbus_types::write::signature_text;
 use portal_base::boxed::Boxed;
-use portal_base::list::List;
+use portal_base::list::{ByteList, List};
 use portal_base::memory::Replica;
 use portal_base::text::Text;
 use std::alloc::Global;
@@ -110,9 +110,36 @@ fn array(alloc: Global, made: &mut List<Value>, words: &str) -> Result<Value, Ve
     let (kind, count) = words.split_once(':').unwrap_or((words, ""));
     let items = last(alloc, made, count)?;
     match kind_of(alloc, kind)? {
-        WireType::Array(element) => Ok(Value::Array { element, items }),
+        WireType::Array(element) => match packed(alloc, element.get(), items.as_slice())? {
+            Some(bytes) => Ok(Value::Bytes(bytes)),
+            None => Ok(Value::Array { element, items }),
+        },
         _ => bad(),
     }
+}
+
+/// The items of an array of bytes, packed.
+fn packed(
+    alloc: Global,
+    element: &WireType,
+    items: &[Value],
+) -> Result<Option<ByteList>, VectorError> {
+    if is_byte(element) {
+        return bytes_of(alloc, items);
+    }
+    Ok(None)
+}
+
+/// The bytes that values are, if they are bytes.
+fn bytes_of(alloc: Global, values: &[Value]) -> Result<Option<ByteList>, VectorError> {
+    let mut bytes = List::new(alloc);
+    for value in values {
+        match value {
+            Value::Byte(byte) => bytes.push(*byte)?,
+            _ => return Ok(None),
+        }
+    }
+    Ok(Some(bytes))
 }
 
 /// The last so many values, in their order.

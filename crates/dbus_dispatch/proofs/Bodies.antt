@@ -1,8 +1,8 @@
 -- The bodies of answers keep the rules of values, and are short.
-use Rattle.std.proofs.Common.{◌≡◌, ℕ, suc, ◌+◌, ◌<◌, ◌≤◌, ◌^◌, max, true, List, [], ◌∷◌, ◌++◌, length, map, refl, sym, ap, subst, ◌∙◌, arith}
+use Rattle.std.proofs.Common.{◌≡◌, ℕ, suc, ◌+◌, ◌<◌, ◌≤◌, ◌^◌, max, true, List, [], ◌∷◌, ◌++◌, length, refl, sym, ap, subst, ◌∙◌, arith}
 use Rattle.std.specs.Prelude.{All, IsTrue, codes}
 use Rattle.std.proofs.lemmas.List.{length-append}
-use Rattle.std.proofs.lemmas.List.Elements.{All-nil, All-cons, All-append, All-head, All-tail}
+use Rattle.std.proofs.lemmas.List.Elements.{All-nil, All-cons, All-append, All-weaker}
 use Rattle.dbus_types.specs.declared.types.Endian.TheVariants.{Little}
 use Rattle.dbus_types.specs.declared.types.WireType.{WireType, the_lemmas as type_lemmas}
 use Rattle.dbus_types.specs.declared.types.WireType.TheVariants as W
@@ -14,6 +14,7 @@ use Rattle.dbus_types.specs.declared.roles.Role.TheVariants.{Basic, Single}
 use Rattle.dbus_types.specs.Types.{is_single, array_role, entry_role, role, arrays_deep, brackets_deep, alignment, type_text, IsValidType, IsVariantType}
 use Rattle.dbus_types.specs.Values.{type_of, IsText, ValueKeeps, KeepsWithin, KeepsRules}
 use Rattle.dbus_types.proofs.TypeLayers.{text_array, text_entry, role_array, role_entry, role_byte, arrays_array, arrays_entry, brackets_array, brackets_entry}
+use Rattle.dbus_types.proofs.PackedBytes.{entry_no_byte}
 use Rattle.dbus_types.specs.Spelling.{spellings}
 use Rattle.dbus_message.specs.Written.{IsGoodBody}
 use Rattle.dbus_message.proofs.Ascii.{member_text}
@@ -22,7 +23,7 @@ use Rattle.dbus_dispatch.specs.declared.interface.Interface.TheVariants as I
 use Rattle.dbus_dispatch.specs.Tables.{Property, version, properties_of}
 use Rattle.dbus_dispatch.specs.Properties.{variant_of, dictionary}
 use Rattle.dbus_dispatch.specs.Asks.{closed_bytes}
-use Rattle.dbus_dispatch.proofs.Lengths.{Below, below_more, below_byte, below_u32, below_str, below_variant, below_entry, below_array, code_u32, total, each_length}
+use Rattle.dbus_dispatch.proofs.Lengths.{Below, below_more, below_bytes, below_u32, below_str, below_variant, below_entry, below_array, code_u32, total, each_length}
 
 -- ---- types
 
@@ -109,6 +110,9 @@ type_variant v = search the_lemmas
 pub type_array : (t : WireType) (vs : List Value) → type_of (V.Array t vs) ≡ W.Array t
 type_array t vs = search the_lemmas
 
+pub type_bytes : (bytes : List ℕ) → type_of (V.Bytes bytes) ≡ W.Array W.Byte
+type_bytes bytes = search the_lemmas
+
 pub type_entry : (k v : Value) → type_of (V.DictEntry k v) ≡ W.DictEntry (type_of k) (type_of v)
 type_entry k v = search the_lemmas
 
@@ -126,6 +130,9 @@ out_variant v = search the_lemmas
 
 out_array : (t : WireType) (vs : List Value) → out-Value (V.Array t vs) ≡ Value-F.Array t vs
 out_array t vs = search the_lemmas
+
+out_bytes : (bytes : List ℕ) → out-Value (V.Bytes bytes) ≡ Value-F.Bytes bytes
+out_bytes bytes = search the_lemmas
 
 out_entry : (k v : Value) → out-Value (V.DictEntry k v) ≡ Value-F.DictEntry k v
 out_entry k v = search the_lemmas
@@ -148,9 +155,13 @@ pub str_keeps : (d : ℕ) (text : List ℕ) → IsText text → KeepsWithin (suc
 unfolding KeepsWithin
 str_keeps d text h = subst (ValueKeeps (KeepsWithin d)) (sym (out_str text)) h
 
-pub array_keeps : (d : ℕ) (t : WireType) (vs : List Value) → All (λ v. (type_of v ≡ t) × KeepsWithin d v) vs → KeepsWithin (suc d) (V.Array t vs)
+pub array_keeps : (d : ℕ) (t : WireType) (vs : List Value) → (t ≡ W.Byte → ⊥) → All (λ v. (type_of v ≡ t) × KeepsWithin d v) vs → KeepsWithin (suc d) (V.Array t vs)
 unfolding KeepsWithin
-array_keeps d t vs h = subst (ValueKeeps (KeepsWithin d)) (sym (out_array t vs)) h
+array_keeps d t vs none h = subst (ValueKeeps (KeepsWithin d)) (sym (out_array t vs)) (none, h)
+
+pub bytes_keep : (d : ℕ) (bytes : List ℕ) → All (λ b. b < 256) bytes → KeepsWithin (suc (suc d)) (V.Bytes bytes)
+unfolding KeepsWithin
+bytes_keep d bytes h = subst (ValueKeeps (KeepsWithin (suc d))) (sym (out_bytes bytes)) (All-weaker (λ b. b < 256) (λ b. KeepsWithin (suc d) (V.Byte b)) (byte_keeps d) bytes h)
 
 pub entry_keeps : (d : ℕ) (k v : Value) → KeepsWithin d k → KeepsWithin d v → KeepsWithin (suc d) (V.DictEntry k v)
 unfolding KeepsWithin
@@ -180,23 +191,6 @@ below_number n = below_variant (V.U32 n) 8 (code_u32 n) (below_u32 n)
 pub variant_short : (n : ℕ) → n < 2 ^ 32 → IsShortBody (variant_of n ∷ [])
 variant_short n h = one_short (variant_of n) W.Variant 1 11 (type_variant (V.U32 n)) variant_type (omega (arith, ap length text_variant)) (omega arith) (variant_keeps 62 n h) (below_number n) (omega arith)
 
--- bytes as values
-each_byte : (bytes : List ℕ) → All (λ b. b < 256) bytes → All (λ v. (type_of v ≡ W.Byte) × KeepsWithin 63 v) (map V.Byte bytes)
-each_byte [] h = All-nil (λ v. (type_of v ≡ W.Byte) × KeepsWithin 63 v)
-each_byte (b ∷ bs) h =
-    All-cons (λ v. (type_of v ≡ W.Byte) × KeepsWithin 63 v) (V.Byte b) (map V.Byte bs) (type_byte b, byte_keeps 62 b (All-head (λ c. c < 256) b bs h)) (each_byte bs (All-tail (λ c. c < 256) b bs h))
-
-each_below : (bytes : List ℕ) → All (Below 1) (map V.Byte bytes)
-each_below [] = All-nil (Below 1)
-each_below (b ∷ bs) = All-cons (Below 1) (V.Byte b) (map V.Byte bs) (below_byte b) (each_below bs)
-
-total_bytes : (bytes : List ℕ) → total 1 (map V.Byte bytes) ≡ length bytes
-total_bytes [] = refl
-total_bytes (b ∷ bs) = omega (arith, total_bytes bs)
-
-alignment_byte : alignment W.Byte ≡ 1
-alignment_byte = search type_lemmas
-
 alignment_entry : alignment entry_type ≡ 8
 alignment_entry = search type_lemmas
 
@@ -204,10 +198,8 @@ pub bytes_short : (bytes : List ℕ) → All (λ b. b < 256) bytes → length by
 bytes_short bytes h le =
     let closed : List ℕ = bytes ++ 0 ∷ [] in
     let all : All (λ b. b < 256) closed = All-append (λ b. b < 256) bytes (0 ∷ []) h (All-cons (λ b. b < 256) 0 [] (omega arith) (All-nil (λ b. b < 256))) in
-    let below : Below (total 1 (map V.Byte closed) + 16) (closed_bytes bytes) = below_array W.Byte (map V.Byte closed) 1 (omega (arith, alignment_byte)) (omega (arith, alignment_byte)) (each_below closed) in
-    let short : total 1 (map V.Byte closed) + 16 ≤ 8192 = omega (arith, total_bytes closed, length-append bytes (0 ∷ []), le) in
-    one_short (closed_bytes bytes) (W.Array W.Byte) 2 (total 1 (map V.Byte closed) + 16) (type_array W.Byte (map V.Byte closed)) bytes_type
-    (omega (arith, ap length (text_array W.Byte), ap length text_byte)) (omega arith) (array_keeps 63 W.Byte (map V.Byte closed) (each_byte closed all)) below short
+    one_short (closed_bytes bytes) (W.Array W.Byte) 2 (length closed + 8) (type_bytes closed) bytes_type
+    (omega (arith, ap length (text_array W.Byte), ap length text_byte)) (omega arith) (bytes_keep 62 closed all) (below_bytes closed) (omega (arith, length-append bytes (0 ∷ []), le))
 
 -- an entry of a dictionary
 abbrev entry_of : Property → Value
@@ -229,7 +221,7 @@ entries_short : (vs : List Value) → All IsEntry vs → All (Below 40) vs → t
 entries_short vs kept below le =
     let text : length (type_text (W.Array entry_type)) ≡ 5 =
     ap length (text_array entry_type ∙ (λ i. 97 ∷ (text_entry W.Str W.Variant ∙ (λ j. 123 ∷ (text_str j ++ (text_variant j ++ 125 ∷ [])))) i)) in
-    one_short (V.Array entry_type vs) (W.Array entry_type) 5 (total 40 vs + 16) (type_array entry_type vs) entries_type (omega (arith, text)) (omega arith) (array_keeps 63 entry_type vs kept)
+    one_short (V.Array entry_type vs) (W.Array entry_type) 5 (total 40 vs + 16) (type_array entry_type vs) entries_type (omega (arith, text)) (omega arith) (array_keeps 63 entry_type vs (entry_no_byte W.Str W.Variant) kept)
     (below_array entry_type vs 40 (omega (arith, alignment_entry)) (omega (arith, alignment_entry)) below) (omega (arith, le))
 
 no_entries : IsShortBody (V.Array entry_type [] ∷ [])

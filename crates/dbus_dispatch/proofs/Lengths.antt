@@ -13,9 +13,9 @@ use Rattle.dbus_types.specs.declared.types.Value.TheVariants as V
 use Rattle.dbus_types.specs.declared.types.Value.TheOpen.{Value-F}
 use Rattle.dbus_types.specs.Types.{alignment, type_text}
 use Rattle.dbus_types.specs.Spells.{number, gap}
-use Rattle.dbus_types.specs.Spelling.{aligned, in_row, text_body, array_body, Spelled, spell_step, spelled, spelling, spellings}
+use Rattle.dbus_types.specs.Spelling.{aligned, in_row, text_body, array_body, bytes_body, Spelled, spell_step, spelled, spelling, spellings}
 use Rattle.dbus_marshal.proofs.TakenFronts.{four, number_len}
-use Rattle.dbus_types.proofs.OneSpelling.{roll_byte, roll_u32, roll_str, roll_signature, roll_variant, roll_array, roll_struct, roll_entry}
+use Rattle.dbus_types.proofs.OneSpelling.{roll_byte, roll_u32, roll_str, roll_signature, roll_variant, roll_array, roll_bytes, roll_struct, roll_entry}
 use Rattle.dbus_message.specs.Written.{field}
 
 -- at each offset the value takes at most so many bytes
@@ -143,6 +143,14 @@ below_array t vs k some small h =
           length-append (replicate pad 0) items,
           length-replicate {A = ℕ} pad 0,
         )
+
+pub below_bytes : (bytes : List ℕ) → Below (length bytes + 8) (V.Bytes bytes)
+below_bytes bytes =
+    below_as (V.Bytes bytes) (spell_step Little (Value-F.Bytes bytes)) (length bytes + 8) (roll_bytes Little bytes)
+    (λ at. omega (arith, aligned_length 4 (λ start. bytes_body Little bytes) (length bytes + 4) (omega arith) inside at))
+  where
+    inside : (start : ℕ) → length (bytes_body Little bytes) ≤ length bytes + 4
+    inside start = omega (arith, length-append (number Little w32 (length bytes)) bytes, number_len Little four (length bytes))
 
 pub below_field : (number : ℕ) (v : Value) (k : ℕ) → HasCode v → Below k v → Below (k + 12) (field number v)
 below_field number v k one h = below_more (8 + (1 + (k + 3))) (k + 12) (field number v) (omega arith) (below_pair (V.Byte number) (V.Variant v) 1 (k + 3) (below_byte number) (below_variant v k one h))

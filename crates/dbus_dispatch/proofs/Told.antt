@@ -13,6 +13,7 @@ use Rattle.dbus_types.specs.declared.roles.Role.TheVariants.{Basic, Single}
 use Rattle.dbus_types.specs.Types.{is_single, array_role, entry_role, role, arrays_deep, brackets_deep, type_text, IsValidType, IsVariantType}
 use Rattle.dbus_types.specs.Values.{type_of, IsText, ValueKeeps, KeepsWithin, KeepsRules}
 use Rattle.dbus_types.proofs.TypeLayers.{text_array, text_entry, role_array, role_entry, role_byte, arrays_array, arrays_entry, brackets_array, brackets_entry}
+use Rattle.dbus_types.proofs.PackedBytes.{entry_no_byte, text_no_byte}
 use Rattle.dbus_marshal.proofs.SpelledKeepsRules.{spelled_keeps}
 use Rattle.dbus_types.specs.declared.types.Endian.TheVariants.{Little}
 use Rattle.dbus_types.specs.Spelling.{spelling}
@@ -32,7 +33,7 @@ use Rattle.dbus_dispatch.specs.Replies.{extra, listed_value, documents_value, ea
 use Rattle.dbus_dispatch.specs.Writable.{HasTexts, HasItsIdentifiers, IsInUtf8, IsTold}
 use Rattle.dbus_dispatch.proofs.StoredTexts.{stored_rows_texts, stored_texts}
 use Rattle.dbus_dispatch.proofs.Identifiers.{identifier_text}
-use Rattle.dbus_dispatch.proofs.Bodies.{role_str, role_u32, role_variant, arrays_u32, arrays_byte, arrays_str, arrays_variant, brackets_u32, brackets_byte, brackets_str, brackets_variant, text_u32, text_byte, text_str, text_variant, valid, type_u32, type_byte, type_str, type_variant, type_array, type_entry, out_variant, number_keeps, byte_keeps, str_keeps, array_keeps, entry_keeps}
+use Rattle.dbus_dispatch.proofs.Bodies.{role_str, role_u32, role_variant, arrays_u32, arrays_byte, arrays_str, arrays_variant, brackets_u32, brackets_byte, brackets_str, brackets_variant, text_u32, text_byte, text_str, text_variant, valid, type_u32, type_bytes, type_str, type_variant, type_array, type_entry, out_variant, number_keeps, bytes_keep, str_keeps, array_keeps, entry_keeps}
 
 -- ---- types: their role, how deep they nest, and how long their text is
 
@@ -106,15 +107,10 @@ IsByte b = b < 256
 abbrev IsItem : ℕ → WireType → Value → Type 0
 IsItem d t v = (type_of v ≡ t) × KeepsWithin d v
 
-each_byte : (d : ℕ) (bs : List ℕ) → All IsByte bs → All (IsItem (suc d) W.Byte) (map V.Byte bs)
-each_byte d [] h = All-nil (IsItem (suc d) W.Byte)
-each_byte d (b ∷ bs) h =
-    All-cons (IsItem (suc d) W.Byte) (V.Byte b) (map V.Byte bs) (type_byte b, byte_keeps d b (All-head IsByte b bs h)) (each_byte d bs (All-tail IsByte b bs h))
-
 closed_keeps : (d : ℕ) (bs : List ℕ) → All IsByte bs → KeepsWithin (suc (suc d)) (closed_bytes bs)
 closed_keeps d bs h =
     let closed : List ℕ = bs ++ 0 ∷ [] in
-    array_keeps (suc d) W.Byte (map V.Byte closed) (each_byte d closed (All-append IsByte bs (0 ∷ []) h (All-cons IsByte 0 [] (omega arith) (All-nil IsByte))))
+    bytes_keep d closed (All-append IsByte bs (0 ∷ []) h (All-cons IsByte 0 [] (omega arith) (All-nil IsByte)))
 
 each_str : (d : ℕ) (ts : List (List ℕ)) → All IsText ts → All (IsItem (suc d) W.Str) (each_text ts)
 each_str d [] h = All-nil (IsItem (suc d) W.Str)
@@ -122,7 +118,7 @@ each_str d (t ∷ ts) h =
     All-cons (IsItem (suc d) W.Str) (V.Str t) (each_text ts) (type_str t, str_keeps d t (All-head IsText t ts h)) (each_str d ts (All-tail IsText t ts h))
 
 texts_keep : (d : ℕ) (ts : List (List ℕ)) → All IsText ts → KeepsWithin (suc (suc d)) (texts_value ts)
-texts_keep d ts h = array_keeps (suc d) W.Str (each_text ts) (each_str d ts h)
+texts_keep d ts h = array_keeps (suc d) W.Str (each_text ts) text_no_byte (each_str d ts h)
 
 row_item : (d : ℕ) (row : Row) → HasTexts row → IsItem (suc (suc (suc d))) row_type (row_value row)
 row_item d row h = (
@@ -141,7 +137,7 @@ HasBytes document = All IsByte document.path
 listed_item : (d : ℕ) (document : ListedDocument) → HasBytes document → IsItem (suc (suc (suc d))) listed_type (listed_value document)
 listed_item d document h =
     let id : List ℕ = doc_text document.id.number in (
-      type_entry (V.Str id) (closed_bytes document.path) ∙ (λ i. W.DictEntry (type_str id i) (type_array W.Byte (map V.Byte (document.path ++ 0 ∷ [])) i)),
+      type_entry (V.Str id) (closed_bytes document.path) ∙ (λ i. W.DictEntry (type_str id i) (type_bytes (document.path ++ 0 ∷ []) i)),
       entry_keeps (suc (suc d)) (V.Str id) (closed_bytes document.path) (str_keeps (suc d) id (identifier_text document.id.number)) (closed_keeps d document.path h),
     )
 
@@ -170,12 +166,12 @@ good_texts : (ts : List (List ℕ)) → All IsText ts → Good (texts_value ts) 
 good_texts ts h = good (texts_value ts) strings Single 1 0 2 (type_array W.Str (each_text ts)) strings_facts refl (omega arith) (omega arith) (texts_keep 62 ts h)
 
 good_closed : (bs : List ℕ) → All IsByte bs → Good (closed_bytes bs) 2
-good_closed bs h = good (closed_bytes bs) bytes Single 1 0 2 (type_array W.Byte (map V.Byte (bs ++ 0 ∷ []))) bytes_facts refl (omega arith) (omega arith) (closed_keeps 62 bs h)
+good_closed bs h = good (closed_bytes bs) bytes Single 1 0 2 (type_bytes (bs ++ 0 ∷ [])) bytes_facts refl (omega arith) (omega arith) (closed_keeps 62 bs h)
 
 pub good_rows : (rows : List Row) → All HasTexts rows → Good (rows_value rows) 6
 good_rows rows h =
     good (rows_value rows) (W.Array row_type) Single 2 1 6 (type_array row_type (map row_value rows)) rows_facts refl (omega arith) (omega arith)
-    (array_keeps 63 row_type (map row_value rows) (each_row 60 rows h))
+    (array_keeps 63 row_type (map row_value rows) (entry_no_byte W.Str strings) (each_row 60 rows h))
 
 -- data as a variant
 pub good_variant : (datum : Value) → is_data datum ≡ true → Good (V.Variant datum) 1
@@ -187,13 +183,13 @@ good_variant datum h =
 good_documents : (documents : List ListedDocument) → All HasBytes documents → Good (documents_value documents) 6
 good_documents documents h =
     good (documents_value documents) (W.Array listed_type) Single 2 1 6 (type_array listed_type (map listed_value documents)) documents_facts refl (omega arith) (omega arith)
-    (array_keeps 63 listed_type (map listed_value documents) (each_listed 60 documents h))
+    (array_keeps 63 listed_type (map listed_value documents) (entry_no_byte W.Str bytes) (each_listed 60 documents h))
 
 variant_keeps : (d : ℕ) (bs : List ℕ) → All IsByte bs → KeepsWithin (suc (suc (suc d))) (V.Variant (closed_bytes bs))
 unfolding KeepsWithin
 variant_keeps d bs h =
     subst (ValueKeeps (KeepsWithin (suc (suc d)))) (sym (out_variant (closed_bytes bs)))
-    (subst IsVariantType (sym (type_array W.Byte (map V.Byte (bs ++ 0 ∷ [])))) bytes_variant, closed_keeps d bs h)
+    (subst IsVariantType (sym (type_bytes (bs ++ 0 ∷ []))) bytes_variant, closed_keeps d bs h)
   where
     bytes_variant : IsVariantType bytes
     bytes_variant = (valid bytes Single 1 0 bytes_facts.0 refl bytes_facts.1 bytes_facts.2 (omega arith) (omega arith), omega (arith, bytes_facts.3))
@@ -208,7 +204,7 @@ good_extra mountpoint h =
       entry_keeps 62 key value (str_keeps 61 (codes "mountpoint") (member_text (codes "mountpoint") refl)) (variant_keeps 59 mountpoint h),
     ) in
     good (extra mountpoint) (W.Array extra_type) Single 1 1 5 (type_array extra_type (entry ∷ [])) extras_facts refl (omega arith) (omega arith)
-    (array_keeps 63 extra_type (entry ∷ []) (All-cons (IsItem 63 extra_type) entry [] item (All-nil (IsItem 63 extra_type))))
+    (array_keeps 63 extra_type (entry ∷ []) (entry_no_byte W.Str W.Variant) (All-cons (IsItem 63 extra_type) entry [] item (All-nil (IsItem 63 extra_type))))
 
 -- ---- bodies
 

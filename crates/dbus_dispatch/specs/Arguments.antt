@@ -35,11 +35,12 @@ abbrev pub handle_of : Value-F Value → Option ℕ
 handle_of (Value-F.Handle index) = Some index
 handle_of _ = None
 
-abbrev pub byte_of : Value-F Value → Option ℕ
-byte_of (Value-F.Byte byte) = Some byte
-byte_of _ = None
+-- the bytes of an array of them
+abbrev pub bytes_of : Value-F Value → Option (List ℕ)
+bytes_of (Value-F.Bytes bytes) = Some bytes
+bytes_of _ = None
 
--- the items of an array
+-- the items of an array of others
 abbrev pub items_of : Value-F Value → Option (List Value)
 items_of (Value-F.Array element items) = Some items
 items_of _ = None
@@ -50,9 +51,6 @@ inside_of (Value-F.Variant inside) = Some inside
 inside_of _ = None
 
 -- Of the items of an array those of one type; an array of that type has no others.
-
-abbrev pub bytes_in : List Value → List ℕ
-bytes_in items = flat_map (λ item. option_to_list (byte_of (out-Value item))) items
 
 abbrev pub handles_in : List Value → List ℕ
 handles_in items = flat_map (λ item. option_to_list (handle_of (out-Value item))) items
@@ -79,9 +77,9 @@ abbrev pub text_alone : List Value → Option (List ℕ)
 text_alone (argument ∷ []) = text_of (out-Value argument)
 text_alone _ = None
 
-abbrev pub items_alone : List Value → Option (List Value)
-items_alone (argument ∷ []) = items_of (out-Value argument)
-items_alone _ = None
+abbrev pub bytes_alone : List Value → Option (List ℕ)
+bytes_alone (argument ∷ []) = bytes_of (out-Value argument)
+bytes_alone _ = None
 
 -- ---- GrantPermissions and RevokePermissions
 
@@ -107,13 +105,13 @@ flags_of false true = 2
 flags_of true true = 3
 
 -- one file, for no application
-abbrev pub adds_one : ℕ → Bool → ℕ → List Value → ℕ → AddRequest
+abbrev pub adds_one : ℕ → Bool → ℕ → List ℕ → ℕ → AddRequest
 adds_one fds named file name flags = record {
   named = named;
   full = false;
   handles = file ∷ [];
   fds = fds;
-  name = bytes_in name;
+  name = name;
   flags = flags;
   app = [];
   names = [];
@@ -132,7 +130,7 @@ add_call fds (file ∷ reuse ∷ persistent ∷ []) =
 add_call fds _ = None
 
 abbrev pub add_named_of :
-    ℕ → Option ℕ → Option (List Value) → Option Bool → Option Bool → Option AddRequest
+    ℕ → Option ℕ → Option (List ℕ) → Option Bool → Option Bool → Option AddRequest
 add_named_of fds (Some file) (Some name) (Some reuse) (Some persistent) =
     Some (adds_one fds true file name (flags_of reuse persistent))
 add_named_of fds _ _ _ _ = None
@@ -140,7 +138,7 @@ add_named_of fds _ _ _ _ = None
 -- o_path_parent_fd (h), filename (ay), reuse_existing (b), persistent (b)
 abbrev pub add_named_call : ℕ → List Value → Option AddRequest
 add_named_call fds (file ∷ name ∷ reuse ∷ persistent ∷ []) =
-    add_named_of fds (handle_of (out-Value file)) (items_of (out-Value name))
+    add_named_of fds (handle_of (out-Value file)) (bytes_of (out-Value name))
     (flag_of (out-Value reuse)) (flag_of (out-Value persistent))
 add_named_call fds _ = None
 
@@ -171,19 +169,19 @@ add_full_call fds (files ∷ flags ∷ app ∷ names ∷ []) =
     (text_of (out-Value app)) (items_of (out-Value names))
 add_full_call fds _ = None
 
-abbrev pub adds_named : ℕ → ℕ → List Value → ℕ → List ℕ → List Value → AddRequest
+abbrev pub adds_named : ℕ → ℕ → List ℕ → ℕ → List ℕ → List Value → AddRequest
 adds_named fds file name flags app names = record {
   named = true;
   full = true;
   handles = file ∷ [];
   fds = fds;
-  name = bytes_in name;
+  name = name;
   flags = flags;
   app = app;
   names = texts_in names;
 }
 
-abbrev pub add_named_full_of : ℕ → Option ℕ → Option (List Value) → Option ℕ → Option (List ℕ)
+abbrev pub add_named_full_of : ℕ → Option ℕ → Option (List ℕ) → Option ℕ → Option (List ℕ)
     → Option (List Value) → Option AddRequest
 add_named_full_of fds (Some file) (Some name) (Some flags) (Some app) (Some names) =
     Some (adds_named fds file name flags app names)
@@ -192,7 +190,7 @@ add_named_full_of fds _ _ _ _ _ = None
 -- o_path_fd (h), filename (ay), flags (u), app_id (s), permissions (as)
 abbrev pub add_named_full_call : ℕ → List Value → Option AddRequest
 add_named_full_call fds (file ∷ name ∷ flags ∷ app ∷ names ∷ []) =
-    add_named_full_of fds (handle_of (out-Value file)) (items_of (out-Value name))
+    add_named_full_of fds (handle_of (out-Value file)) (bytes_of (out-Value name))
     (number_of (out-Value flags)) (text_of (out-Value app)) (items_of (out-Value names))
 add_named_full_call fds _ = None
 
@@ -292,8 +290,7 @@ get_permission_call _ = None
 -- what a call of a method asks the portal, by its arguments and, of an addition, by how many files
 -- come with it
 abbrev pub request_in : Message → Method → Option Request
-request_in call M.Present =
-    option_map (λ path. Request.Present (bytes_in path)) (items_alone call.body)
+request_in call M.Present = option_map Request.Present (bytes_alone call.body)
 request_in call M.Add = option_map Request.Add (add_call call.fds call.body)
 request_in call M.AddNamed = option_map Request.Add (add_named_call call.fds call.body)
 request_in call M.AddFull = option_map Request.Add (add_full_call call.fds call.body)
@@ -302,7 +299,7 @@ request_in call M.GrantPermissions = option_map Request.Grant (rights_call call.
 request_in call M.RevokePermissions = option_map Request.Revoke (rights_call call.body)
 request_in call M.DeleteDocument = option_map Request.DeleteDocument (text_alone call.body)
 request_in call M.LookupDocument =
-    option_map (λ path. Request.LookupDocument (bytes_in path)) (items_alone call.body)
+    option_map Request.LookupDocument (bytes_alone call.body)
 request_in call M.Info = option_map Request.Info (text_alone call.body)
 request_in call M.ListDocuments = option_map Request.ListDocuments (text_alone call.body)
 request_in call M.LookupEntry = option_map Request.Store (lookup_call call.body)

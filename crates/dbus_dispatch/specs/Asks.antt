@@ -1,8 +1,7 @@
 -- What each message asks (D-Bus Specification, "Message Protocol": the message types; "Standard
 -- Interfaces").
-use Rattle.std.specs.Prelude.{ℕ, List, [], ◌∷◌, ◌++◌, map, Bool, ◌&&◌, ◌==◌, bit_and, if◌then◌else◌, Option, Some, None, Result, Ok, Err}
+use Rattle.std.specs.Prelude.{ℕ, List, [], ◌∷◌, ◌++◌, Bool, ◌&&◌, ◌==◌, bit_and, if◌then◌else◌, Option, Some, None, Result, Ok, Err}
 use Rattle.portal_base.specs.declared.limits.Settings.{Settings}
-use Rattle.dbus_types.specs.declared.types.WireType.TheVariants as W
 use Rattle.dbus_types.specs.declared.types.Value.{Value}
 use Rattle.dbus_types.specs.declared.types.Value.TheVariants as V
 use Rattle.dbus_types.specs.declared.message.Message.{Message}
@@ -40,7 +39,7 @@ answered call value (Err error) = error_to call error
 
 -- bytes as `ay`, with a zero byte behind them
 abbrev pub closed_bytes : List ℕ → Value
-closed_bytes bytes = V.Array W.Byte (map V.Byte (bytes ++ 0 ∷ []))
+closed_bytes bytes = V.Bytes (bytes ++ 0 ∷ [])
 
 -- the request of a call, or the refusal of arguments that are none of its method
 abbrev pub asked_of_portal : Message → Option Request → Ask

@@ -5,7 +5,7 @@
 ghost use Rattle.std.specs.Prelude.{◌≡◌, IfOk};
 ghost use Rattle.std.specs.Option.{option_copied};
 ghost use Rattle.dbus_types.specs.declared.types.Value.{out-Value};
-ghost use Rattle.dbus_dispatch.specs.Arguments.{text_of, flag_of, number_of, handle_of, byte_of, items_of, inside_of, row_of, bytes_in, handles_in, texts_in, rows_in, text_alone, items_alone};
+ghost use Rattle.dbus_dispatch.specs.Arguments.{text_of, flag_of, number_of, handle_of, bytes_of, items_of, inside_of, row_of, handles_in, texts_in, rows_in, text_alone, bytes_alone};
 
 use dbus_types::types::Value;
 use portal_base::list::{ByteList, List};
@@ -54,16 +54,17 @@ pub(crate) fn handle_of(value: &Value) -> Option<u32>
     }
 }
 
-fn byte_of(value: &Value) -> Option<u8>
-    ensures { result ≡ byte_of (out-Value value.now) }
+/// The bytes of the array of bytes that a value is.
+pub(crate) fn bytes_of(value: &Value) -> Option<&ByteList>
+    ensures { option_copied result ≡ bytes_of (out-Value value.now) }
 {
     match value {
-        Value::Byte(byte) => Some(*byte),
+        Value::Bytes(bytes) => Some(bytes),
         _ => None,
     }
 }
 
-/// The items of the array that a value is.
+/// The items of the array that a value is, of others than bytes.
 pub(crate) fn items_of(value: &Value) -> Option<&List<Value>>
     ensures { option_copied result ≡ items_of (out-Value value.now) }
 {
@@ -81,19 +82,6 @@ pub(crate) fn inside_of(value: &Value) -> Option<&Value>
         Value::Variant(inside) => Some(inside.get()),
         _ => None,
     }
-}
-
-/// The bytes among the items of an array.
-pub(crate) fn bytes_in(alloc: Global, items: &[Value]) -> Result<ByteList, WantOfMemory>
-    ensures { IfOk result (λ bytes. bytes ≡ bytes_in items.now) }
-{
-    let mut bytes = List::new(alloc);
-    for item in items {
-        if let Some(byte) = byte_of(item) {
-            bytes.push(byte)?;
-        }
-    }
-    Ok(bytes)
 }
 
 /// The handles among the items of an array.
@@ -161,12 +149,12 @@ pub(crate) fn text_alone(arguments: &[Value]) -> Option<&Text>
     }
 }
 
-/// The items of the array that is the only argument.
-pub(crate) fn items_alone(arguments: &[Value]) -> Option<&List<Value>>
-    ensures { option_copied result ≡ items_alone arguments.now }
+/// The bytes of the array of bytes that is the only argument.
+pub(crate) fn bytes_alone(arguments: &[Value]) -> Option<&ByteList>
+    ensures { option_copied result ≡ bytes_alone arguments.now }
 {
     match arguments {
-        [argument] => items_of(argument),
+        [argument] => bytes_of(argument),
         _ => None,
     }
 }

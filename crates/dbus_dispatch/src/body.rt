@@ -108,15 +108,9 @@ fn pair(alloc: Global, first: Value, second: Value) -> Result<List<Value>, WantO
 pub(crate) fn closed_bytes(alloc: Global, bytes: &[u8]) -> Result<Value, WantOfMemory>
     ensures { IfOk result (λ value. value ≡ closed_bytes bytes.now) }
 {
-    let mut items = List::new(alloc);
-    for byte in bytes {
-        items.push(Value::Byte(*byte))?;
-    }
-    items.push(Value::Byte(0))?;
-    Ok(Value::Array {
-        element: Shared::new(alloc, WireType::Byte)?,
-        items,
-    })
+    let mut closed = List::copied(alloc, bytes)?;
+    closed.push(0)?;
+    Ok(Value::Bytes(closed))
 }
 
 /// A text as a value.

@@ -7,10 +7,10 @@
 ghost use Rattle.std.specs.Prelude.{◌≡◌, [], ◌∷◌, IfOk};
 ghost use Rattle.std.specs.Option.{option_map};
 ghost use Rattle.portal_model.specs.declared.request.Request.{Request as ARequest};
-ghost use Rattle.dbus_dispatch.specs.Arguments.{bytes_in, texts_in, text_alone, items_alone, rights_call, flags_of, adds_one, add_call, add_named_call, adds_full, add_full_call, adds_named, add_named_full_call, request_in};
+ghost use Rattle.dbus_dispatch.specs.Arguments.{texts_in, text_alone, bytes_alone, rights_call, flags_of, adds_one, add_call, add_named_call, adds_full, add_full_call, adds_named, add_named_full_call, request_in};
 
 use crate::arguments::{
-    bytes_in, flag_of, handle_of, handles_in, items_alone, items_of, number_of, text_alone,
+    bytes_alone, bytes_of, flag_of, handle_of, handles_in, items_of, number_of, text_alone,
     text_of, texts_in,
 };
 use crate::method::Method;
@@ -62,11 +62,11 @@ pub(crate) fn request_in(
 
 fn present(alloc: Global, arguments: &[Value]) -> Result<Option<Request>, WantOfMemory>
     ensures { IfOk result (λ request. request
-        ≡ option_map (λ path. ARequest.Present (bytes_in path)) (items_alone arguments.now)) }
+        ≡ option_map ARequest.Present (bytes_alone arguments.now)) }
 {
-    match items_alone(arguments) {
+    match bytes_alone(arguments) {
         Some(path) => Ok(Some(Request::Present {
-            path: bytes_in(alloc, path.as_slice())?,
+            path: List::copied(alloc, path.as_slice())?,
         })),
         None => Ok(None),
     }
@@ -74,19 +74,18 @@ fn present(alloc: Global, arguments: &[Value]) -> Result<Option<Request>, WantOf
 
 fn lookup(alloc: Global, arguments: &[Value]) -> Result<Option<Request>, WantOfMemory>
     ensures { IfOk result (λ request. request
-        ≡ option_map (λ path. ARequest.LookupDocument (bytes_in path))
-        (items_alone arguments.now)) }
+        ≡ option_map ARequest.LookupDocument (bytes_alone arguments.now)) }
 {
-    match items_alone(arguments) {
+    match bytes_alone(arguments) {
         Some(path) => Ok(Some(Request::LookupDocument {
-            path: bytes_in(alloc, path.as_slice())?,
+            path: List::copied(alloc, path.as_slice())?,
         })),
         None => Ok(None),
     }
 }
 
 /// The bytes of a text.
-fn bytes_of(alloc: Global, text: &Text) -> Result<ByteList, WantOfMemory>
+fn text_bytes(alloc: Global, text: &Text) -> Result<ByteList, WantOfMemory>
     ensures { IfOk result (λ bytes. bytes ≡ text.now) }
 {
     List::copied(alloc, text.as_bytes())
@@ -98,7 +97,7 @@ fn delete(alloc: Global, arguments: &[Value]) -> Result<Option<Request>, WantOfM
 {
     match text_alone(arguments) {
         Some(doc) => Ok(Some(Request::DeleteDocument {
-            doc: bytes_of(alloc, doc)?,
+            doc: text_bytes(alloc, doc)?,
         })),
         None => Ok(None),
     }
@@ -110,7 +109,7 @@ fn info(alloc: Global, arguments: &[Value]) -> Result<Option<Request>, WantOfMem
 {
     match text_alone(arguments) {
         Some(doc) => Ok(Some(Request::Info {
-            doc: bytes_of(alloc, doc)?,
+            doc: text_bytes(alloc, doc)?,
         })),
         None => Ok(None),
     }
@@ -122,7 +121,7 @@ fn list(alloc: Global, arguments: &[Value]) -> Result<Option<Request>, WantOfMem
 {
     match text_alone(arguments) {
         Some(app) => Ok(Some(Request::ListDocuments {
-            app: bytes_of(alloc, app)?,
+            app: text_bytes(alloc, app)?,
         })),
         None => Ok(None),
     }
@@ -157,8 +156,8 @@ fn rights_call(alloc: Global, arguments: &[Value]) -> Result<Option<RightsCall>,
     };
     match (text_of(doc), text_of(app), items_of(names)) {
         (Some(doc), Some(app), Some(names)) => Ok(Some(RightsCall {
-            doc: bytes_of(alloc, doc)?,
-            app: bytes_of(alloc, app)?,
+            doc: text_bytes(alloc, doc)?,
+            app: text_bytes(alloc, app)?,
             names: texts_in(alloc, names.as_slice())?,
         })),
         _ => Ok(None),
@@ -183,7 +182,7 @@ fn adds_one(
     fds: u32,
     named: bool,
     file: u32,
-    name: &[Value],
+    name: &[u8],
     flags: u32,
 ) -> Result<AddRequest, WantOfMemory>
     ensures { IfOk result (λ add. add ≡ adds_one fds named file name.now flags) }
@@ -193,7 +192,7 @@ fn adds_one(
         full: false,
         handles: List::copied(alloc, &[file])?,
         fds,
-        name: bytes_in(alloc, name)?,
+        name: List::copied(alloc, name)?,
         flags,
         app: List::new(alloc),
         names: List::new(alloc),
@@ -225,7 +224,7 @@ fn add_named(alloc: Global, fds: u32, arguments: &[Value]) -> Result<Option<Requ
     };
     match (
         handle_of(file),
-        items_of(name),
+        bytes_of(name),
         flag_of(reuse),
         flag_of(persistent),
     ) {
@@ -256,7 +255,7 @@ fn adds_full(
         fds,
         name: List::new(alloc),
         flags,
-        app: bytes_of(alloc, app)?,
+        app: text_bytes(alloc, app)?,
         names: texts_in(alloc, names)?,
     })
 }
@@ -287,7 +286,7 @@ fn adds_named(
     alloc: Global,
     fds: u32,
     file: u32,
-    name: &[Value],
+    name: &[u8],
     flags: u32,
     app: &Text,
     names: &[Value],
@@ -299,9 +298,9 @@ fn adds_named(
         full: true,
         handles: List::copied(alloc, &[file])?,
         fds,
-        name: bytes_in(alloc, name)?,
+        name: List::copied(alloc, name)?,
         flags,
-        app: bytes_of(alloc, app)?,
+        app: text_bytes(alloc, app)?,
         names: texts_in(alloc, names)?,
     })
 }
@@ -319,7 +318,7 @@ fn add_named_full(
     };
     match (
         handle_of(file),
-        items_of(name),
+        bytes_of(name),
         number_of(flags),
         text_of(app),
         items_of(names),

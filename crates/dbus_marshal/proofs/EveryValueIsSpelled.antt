@@ -5,7 +5,7 @@ use Rattle.std.specs.Prelude.{All, FitsSigned}
 use Rattle.std.specs.Int.{Width, w8, w16, w32, w64, to_le_bytes, cast_signed, cast_unsigned}
 use Rattle.std.proofs.lemmas.Int.{to_z-of_z}
 use Rattle.std.proofs.lemmas.List.{length-append}
-use Rattle.std.proofs.lemmas.List.Elements.{All-head, All-tail, All-cons, All-nil, All-weaker}
+use Rattle.std.proofs.lemmas.List.Elements.{All-head, All-tail, All-cons, All-nil, All-map, All-weaker}
 use mir.ValLaws.{of_z_fits}
 use Rattle.dbus_types.specs.declared.types.Endian.{Endian}
 use Rattle.dbus_types.specs.declared.types.WireType.{WireType, out-WireType, roll-WireType, the_lemmas as type_lemmas}
@@ -16,12 +16,13 @@ use Rattle.dbus_types.specs.declared.types.Value.TheOpen.{Value-F}
 use Rattle.dbus_types.specs.declared.types.Value.TheVariants as V
 use Rattle.dbus_types.specs.declared.roles.Role.{Role}
 use Rattle.dbus_types.specs.Types.{role, alignment, type_text, arrays_deep, brackets_deep, Fits, IsVariantType}
-use Rattle.dbus_types.specs.Values.{type_of, IsText, LeafKeeps, ValueKeeps, KeepsWithin, KeepsRules}
+use Rattle.dbus_types.specs.Values.{type_of, IsText, LeafKeeps, ValueKeeps, KeepsWithin, KeepsRules, array_of}
 use Rattle.dbus_types.proofs.TypesWithinLimits.{Stands, ElementFits, fits_element, fits_array, fits_struct, element_entry, element_fits, array_complete, struct_complete}
 use Rattle.dbus_types.specs.Spells.{number, gap, bit, IsPath, Aligned, BoolRow, NumberRow, TextRow, ArrayRow, StructRow, EntryRow, Members, Elements, Flat, Row, NoneInside, SpellsWithin, Spells}
 use Rattle.dbus_types.specs.Spelling.{aligned, in_row, text_body, array_body, Spelled, spell_step, spelled, spelling, spellings}
 use Rattle.dbus_marshal.proofs.SpelledKeepsRules.{type_byte, type_bool, type_i16, type_u16, type_i32, type_u32, type_i64, type_u64, type_double, type_handle, type_str, type_path, type_signature, type_variant, type_array, type_struct, type_entry, rolls_struct, rolls_entry}
-use Rattle.dbus_types.proofs.OneSpelling.{roll_byte, roll_bool, roll_i16, roll_u16, roll_i32, roll_u32, roll_i64, roll_u64, roll_double, roll_handle, roll_str, roll_path, roll_signature, roll_variant, roll_array, roll_struct, roll_entry, one_byte, spells_same}
+use Rattle.dbus_types.proofs.PackedBytes.{array_spelled, of_bytes, of_others, type_array as array_type}
+use Rattle.dbus_types.proofs.OneSpelling.{roll_byte, roll_bool, roll_i16, roll_u16, roll_i32, roll_u32, roll_i64, roll_u64, roll_double, roll_handle, roll_str, roll_path, roll_signature, roll_variant, roll_struct, roll_entry, one_byte, spells_same}
 use Rattle.dbus_marshal.proofs.AsciiNames.{path_text, signature_text}
 
 -- no longer than the elements of an array may be
@@ -135,6 +136,7 @@ flat_has e at v (Value-F.Signature t) is h small =
     layered e at v (V.Signature t) WireType-F.Signature (spell_step e (Value-F.Signature t)) (λ g w. Flat e g at v w) u (type_signature t) (roll_signature e t)
     (λ s. (t, u, signature_text t h, h, ap (λ (w : List ℕ). w ++ (t ++ 0 ∷ [])) (one_byte (length t) (omega (arith, h.1.2))))) small
 flat_has e at v (Value-F.Variant x) is h small = absurd h
+flat_has e at v (Value-F.Bytes bytes) is h small = absurd h
 flat_has e at v (Value-F.Array t vs) is h small = absurd h
 flat_has e at v (Value-F.Struct vs) is h small = absurd h
 flat_has e at v (Value-F.DictEntry k x) is h small = absurd h
@@ -178,17 +180,14 @@ module _ (S : WireType → ℕ → Value → List ℕ → Type 0) (Inside : Valu
         elements_have t vs (at + length first) (All-tail (λ y. (type_of y ≡ t) × Inside y) v vs h) k (omega (arith, small, len)),
       )
 
-  array_has : (at : ℕ) (v : Value) (t : WireType) (vs : List Value) → v ≡ roll-Value (Value-F.Array t vs) → All (λ x. (type_of x ≡ t) × Inside x) vs → Stands (role (type_of v)) → Small (spelling e at v)
+  array_has : (at : ℕ) (v : Value) (t : WireType) (vs : List Value) → v ≡ array_of t vs → All (λ x. (type_of x ≡ t) × Inside x) vs → Stands (role (type_of v)) → Small (spelling e at v)
       → Row S e (out-WireType (type_of v)) at v (spelling e at v)
-  array_has at v t vs is h k small =
-      let r : V.Array t vs ≡ roll-Value (Value-F.Array t vs) = search the_lemmas in
-      let u : v ≡ V.Array t vs = is ∙ sym r in
-      let a : type_of (V.Array t vs) ≡ W.Array t = search the_lemmas in
+  array_has at v t vs u h k small =
       let start : ℕ = at + gap 4 at in
       let to : ℕ = alignment t in
       let begins : ℕ = start + 4 + gap to (start + 4) in
       let body : List ℕ = spellings e begins vs in
-      layered e at v (V.Array t vs) (WireType-F.Array t) (spell_step e (Value-F.Array t (map (spelled e) vs))) (λ g w. Row S e g at v w) u (type_array t vs) (roll_array e t vs)
+      layered e at v (array_of t vs) (WireType-F.Array t) (spell_step e (Value-F.Array t (map (spelled e) vs))) (λ g w. Row S e g at v w) u (type_array t vs) (array_spelled e t vs (All-weaker (λ x. (type_of x ≡ t) × Inside x) (λ x. type_of x ≡ t) (λ x y. y.0) vs h))
       (λ s.
       let fits : length body ≤ 67_108_864 = omega (
         arith,
@@ -197,7 +196,24 @@ module _ (S : WireType → ℕ → Value → List ℕ → Type 0) (Inside : Valu
         length-append (number e w32 (length body)) (replicate (gap to (start + 4)) 0 ++ body),
         length-append (replicate (gap to (start + 4)) 0) body,
       ) in
-      behind 4 at (ArrayRow S e t v) (array_body e to (map (spelled e) vs)) (vs, body, u, fits, refl, elements_have t vs begins h (element_stands (type_of v) t (ap type_of u ∙ a) k) fits)) small
+      behind 4 at (ArrayRow S e t v) (array_body e to (map (spelled e) vs)) (vs, body, u, fits, refl, elements_have t vs begins h (element_stands (type_of v) t (ap type_of u ∙ array_type t vs) k) fits)) small
+
+  listed_has : (at : ℕ) (v : Value) (t : WireType) (vs : List Value) → v ≡ roll-Value (Value-F.Array t vs) → (t ≡ W.Byte → ⊥) → All (λ x. (type_of x ≡ t) × Inside x) vs → Stands (role (type_of v)) → Small (spelling e at v)
+      → Row S e (out-WireType (type_of v)) at v (spelling e at v)
+  listed_has at v t vs is none h k small =
+      let r : V.Array t vs ≡ roll-Value (Value-F.Array t vs) = search the_lemmas in
+      array_has at v t vs (is ∙ (sym r ∙ sym (of_others t vs none))) h k small
+
+  bytes_have : (at : ℕ) (v : Value) (bytes : List ℕ) → v ≡ roll-Value (Value-F.Bytes bytes) → All (λ n. Inside (V.Byte n)) bytes → Stands (role (type_of v)) → Small (spelling e at v)
+      → Row S e (out-WireType (type_of v)) at v (spelling e at v)
+  bytes_have at v bytes is h k small =
+      let r : V.Bytes bytes ≡ roll-Value (Value-F.Bytes bytes) = search the_lemmas in
+      let P : Value → Type 0 = λ x. (type_of x ≡ W.Byte) × Inside x in
+      let items : All P (map (λ n. V.Byte n) bytes) = All-map P (λ n. V.Byte n) bytes (All-weaker (λ n. Inside (V.Byte n)) (λ n. P (V.Byte n)) (λ n x. (kind_of_byte n, x)) bytes h) in
+      array_has at v W.Byte (map (λ n. V.Byte n) bytes) (is ∙ (sym r ∙ sym (of_bytes bytes))) items k small
+    where
+      kind_of_byte : (n : ℕ) → type_of (V.Byte n) ≡ W.Byte
+      kind_of_byte n = search the_lemmas
 
   struct_has : (at : ℕ) (v : Value) (vs : List Value) → v ≡ roll-Value (Value-F.Struct vs) → All Inside vs → Stands (role (type_of v)) → Small (spelling e at v)
       → Row S e (out-WireType (type_of v)) at v (spelling e at v)
@@ -255,7 +271,8 @@ module _ (S : WireType → ℕ → Value → List ℕ → Type 0) (Inside : Valu
 
   value_has : (at : ℕ) (v : Value) (f : Value-F Value) → v ≡ roll-Value f → ValueKeeps Inside f → Stands (role (type_of v)) → Small (spelling e at v) → Row S e (out-WireType (type_of v)) at v (spelling e at v)
   value_has at v (Value-F.Variant x) is h k small = variant_has at v x is h.0 h.1 small
-  value_has at v (Value-F.Array t vs) is h k small = array_has at v t vs is h k small
+  value_has at v (Value-F.Bytes bytes) is h k small = bytes_have at v bytes is h k small
+  value_has at v (Value-F.Array t vs) is h k small = listed_has at v t vs is h.0 h.1 k small
   value_has at v (Value-F.Struct vs) is h k small = struct_has at v vs is h k small
   value_has at v (Value-F.DictEntry x y) is h k small = entry_has at v x y is h.0 h.1 k small
   value_has at v f is h k small = flat_row S e (out-WireType (type_of v)) at v (spelling e at v) (flat_has e at v f is h small)

@@ -14,7 +14,7 @@ use Rattle.dbus_types.specs.declared.errors.SignatureError.{SignatureError}
 use Rattle.dbus_types.specs.declared.errors.SignatureError.TheVariants as Stop
 use Rattle.dbus_types.specs.Reading.{whole_at, single_at, passed}
 use Rattle.dbus_types.specs.Types.{alignment, type_text, IsVariantType}
-use Rattle.dbus_types.specs.Values.{IsText, IsSignatureText}
+use Rattle.dbus_types.specs.Values.{IsText, IsSignatureText, array_of}
 use Rattle.dbus_types.proofs.WholeSignatures.{short_reading, stops_no_memory}
 use Rattle.dbus_types.proofs.OneTypeRead.{single_reading, single_no_memory}
 use Rattle.dbus_types.proofs.OneBreak.{reading_stops, single_stops}
@@ -264,7 +264,7 @@ module _ (r : WireType → ℕ → List ℕ → Read Value) (S : WireType → �
       (ltb-true 67_108_864 n) (lt-ltb 67_108_864 n) (ltb-false 67_108_864 n) (le-ltb 67_108_864 n)
       (λ short. aligned_exact (alignment t) next rest _ (BytesBreak n (λ body at rest d. ElementsBreak S B t at body d)) fits (λ from rest fits.
       taken_exact n from rest _ (λ body at rest d. ElementsBreak S B t at body d) fits (λ body rest len inside fits.
-      made_exact (within_array (elements (length body) (r t) from body)) (λ vs. (V.Array t vs, from + n, rest)) (ElementsBreak S B t from body) (body_exact t from body inside))))))
+      made_exact (within_array (elements (length body) (r t) from body)) (λ vs. (array_of t vs, from + n, rest)) (ElementsBreak S B t from body) (body_exact t from body inside))))))
 
   struct_exact : (e : Endian) (t : WireType) (ts : List WireType) (at : ℕ) (bytes : List ℕ) → IsBytes bytes → Exact (layer r e (WireType-F.Struct (t ∷ ts)) at bytes) (AlignedBreaks 8 (MembersBreak S B (t ∷ ts)) at bytes)
   unfolding layer

@@ -11,7 +11,8 @@ use Rattle.dbus_types.specs.declared.types.Value.TheVariants as V
 use Rattle.dbus_marshal.specs.declared.error.ReadError.{ReadError}
 use Rattle.dbus_marshal.specs.declared.error.ReadError.TheVariants.{Short, Padding, BadBool, BadText, TooLong, BadSignature, TooDeep, BadArray, Memory}
 use Rattle.dbus_types.specs.Types.{alignment}
-use Rattle.dbus_marshal.specs.Reads.{◌>>=◌, Fails, Read, after, padded, taken, number_at, joined, members, listed, elements, array_error, within_array, layer}
+use Rattle.dbus_types.specs.Values.{array_of}
+use Rattle.dbus_marshal.specs.Reads.{◌>>=◌, Fails, Read, after, padded, taken, number_at, joined, members, listed, elements, array_error, arrayed, within_array, layer}
 
 at_item : {A : Type 0} (xs : List A) (i : ℕ) (x : A) → i < length xs → x ≡ get_or xs i x → drop i xs ≡ x ∷ drop (i + 1) xs
 at_item xs i x lt e = rw (drop-cons xs i x lt, ← e, add-one) refl
@@ -84,7 +85,7 @@ module _ (f : ℕ → List ℕ → Read Value) (bytes : List ℕ) (vs : List Val
 -- what an array's reading comes to, where all but its elements is there
 pub array_is : (r : WireType → ℕ → List ℕ → Read Value) (e : Endian) (t : WireType) (at : ℕ) (rest : List ℕ) (start : ℕ × List ℕ) (n : ℕ × ℕ × List ℕ) (from : ℕ × List ℕ) (body : List ℕ × ℕ × List ℕ)
     → padded 4 at rest ≡ Ok start → number_at e w32 start.0 start.1 ≡ Ok n → ltb 67_108_864 n.0 ≡ false → padded (alignment t) n.1 n.2 ≡ Ok from → taken n.0 from.0 from.1 ≡ Ok body
-    → layer r e (WireType-F.Array t) at rest ≡ (within_array (elements (length body.0) (r t) from.0 body.0) >>= λ vs. Ok (V.Array t vs, body.1, body.2))
+    → layer r e (WireType-F.Array t) at rest ≡ (within_array (elements (length body.0) (r t) from.0 body.0) >>= λ vs. Ok (array_of t vs, body.1, body.2))
 unfolding layer
 array_is r e t at rest start n from body a b c d f = rw (a, b, c, d, f) refl
 
@@ -98,3 +99,28 @@ array_fails (TooLong at) x f h = rw h refl
 array_fails (BadSignature at) x f h = rw h refl
 array_fails (TooDeep at) x f h = rw h refl
 array_fails (BadArray at) x f h = rw h refl
+
+-- an array that was read, and the place after it
+pub array_read : (t : WireType) (x : Result (List Value) ReadError) (v : Value) (next : ℕ) (rest : List ℕ) → arrayed t x ≡ Ok v → (within_array x >>= λ vs. Ok (array_of t vs, next, rest)) ≡ Ok (v, next, rest)
+array_read t (Ok vs) v next rest is = ap (λ (w : Result Value ReadError). w >>= λ u. Ok (u, next, rest)) is
+array_read t (Err e) v next rest is = absurd cc
+
+abbrev unmade : Result Value ReadError → Result (List Value) ReadError
+unmade (Ok v) = Ok []
+unmade (Err e) = Err e
+
+arrayed_fails : (t : WireType) (x : Result (List Value) ReadError) (e : ReadError) → arrayed t x ≡ Err e → x ≡ Err e
+arrayed_fails t (Ok vs) e is = absurd cc
+arrayed_fails t (Err d) e is = ap unmade is
+
+-- where no array was read, the elements weren't
+pub no_elements : (t : WireType) (x : Result (List Value) ReadError) (e : ReadError) → Fails e (arrayed t x) → Fails e x
+no_elements t x Memory h = tt
+no_elements t x (Short at) h = arrayed_fails t x (Short at) h
+no_elements t x (Padding at) h = arrayed_fails t x (Padding at) h
+no_elements t x (BadBool at) h = arrayed_fails t x (BadBool at) h
+no_elements t x (BadText at) h = arrayed_fails t x (BadText at) h
+no_elements t x (TooLong at) h = arrayed_fails t x (TooLong at) h
+no_elements t x (BadSignature at) h = arrayed_fails t x (BadSignature at) h
+no_elements t x (TooDeep at) h = arrayed_fails t x (TooDeep at) h
+no_elements t x (BadArray at) h = arrayed_fails t x (BadArray at) h

@@ -8,16 +8,7 @@ use Rattle.dbus_types.specs.declared.types.Value.TheVariants as V
 use Rattle.dbus_types.specs.Types.{type_text}
 use Rattle.dbus_types.specs.Spells.{gap}
 use Rattle.dbus_types.specs.Spelling.{Spelled, spelled, spelling, spellings, signature_body}
-use Rattle.dbus_types.proofs.OneSpelling.{roll_byte, roll_struct, roll_entry, roll_variant}
-
--- a value that is a byte is put
-pub bytes_step : (e : Endian) (out one whole : List ℕ) (n : ℕ) (v : Value) (vs more : List Value) → v ≡ V.Byte n → vs ≡ v ∷ more → one ≡ out ++ n ∷ [] → out ++ spellings e (length out) vs ≡ whole → one ++ spellings e (length one) more ≡ whole
-bytes_step e out one whole n v vs more is first put before =
-    let inside : List ℕ = spellings e (length out + 1) more in
-    let place : length one ≡ length out + 1 = omega (arith, ap length put, length-append out (n ∷ [])) in
-    let found : one ++ spellings e (length one) more ≡ (out ++ n ∷ []) ++ inside = ap (λ (k : ℕ). one ++ spellings e k more) place ∙ ap (λ (w : List ℕ). w ++ inside) put in
-    let whole_is : out ++ spellings e (length out) vs ≡ out ++ (n ∷ inside) = ap (λ (ws : List Value). out ++ spellings e (length out) ws) (first ∙ ap (λ (w : Value). w ∷ more) is) ∙ ap (λ (s : Spelled). out ++ (s.1 (length out) ++ spellings e (length out + length (s.1 (length out))) more)) (roll_byte e n) in
-    found ∙ (append_assoc out (n ∷ []) inside ∙ (sym whole_is ∙ before))
+use Rattle.dbus_types.proofs.OneSpelling.{roll_struct, roll_entry, roll_variant}
 
 pub variant_whole : (e : Endian) (out one two : List ℕ) (v x : Value) → v ≡ V.Variant x → one ≡ out ++ signature_body (type_text (spelled e x).0) → two ≡ one ++ spelling e (length one) x → two ≡ out ++ spelling e (length out) v
 variant_whole e out one two v x is a b =

@@ -13,7 +13,7 @@ use Rattle.dbus_types.specs.declared.types.Value.TheVariants as V
 use Rattle.dbus_marshal.specs.declared.error.ReadError.{ReadError}
 use Rattle.dbus_marshal.specs.declared.error.ReadError.TheVariants.{BadText, TooLong, BadSignature}
 use Rattle.dbus_types.specs.Types.{alignment}
-use Rattle.dbus_types.specs.Values.{IsText, IsSignatureText}
+use Rattle.dbus_types.specs.Values.{IsText, IsSignatureText, array_of}
 use Rattle.dbus_types.specs.Spells.{number, gap, Aligned, IsPath, bit, Members, Elements, BoolRow, NumberRow, TextRow, ArrayRow, StructRow, EntryRow, Flat, Row, NoneInside, SpellsWithin}
 use Rattle.dbus_marshal.specs.Reads.{◌>>=◌, Read, padded, taken, numbered, number_at, byte_at, ended, truth, is_text, is_path_text, text_at, texted, checked_in, type_in, signature_at, joined, members, listed, elements, within_array, fixed, flat, layer, reads}
 use Rattle.dbus_marshal.proofs.Signatures.{types_took, type_took}
@@ -152,7 +152,7 @@ module _ (r : WireType → ℕ → List ℕ → Read Value) (S : WireType → �
       let begins : from.0 ≡ start + 4 + gap (alignment t) (start + 4) = subst (λ (k : ℕ). from.0 ≡ k + gap (alignment t) k) four (omega (arith, p.place, ap length p.holds, length-replicate {A = ℕ} (gap (alignment t) n.1) 0)) in
       let end = took_then (λ (w : List ℕ). w ≡ replicate (gap (alignment t) n.1) 0) (λ _ (w : List ℕ). (w ≡ body.0) × (length w ≡ n.0)) n.1 n.2 from.0 from.1 body.1 body.2 p b in
       let all = took_then (λ (w : List ℕ). (w ≡ number e w32 n.0) × (n.0 < 2 ^ 32)) (λ k (w : List ℕ). Then n.1 (λ (w : List ℕ). w ≡ replicate (gap (alignment t) n.1) 0) (λ _ (w : List ℕ). (w ≡ body.0) × (length w ≡ n.0)) w) start rest n.1 n.2 body.1 body.2 a end in
-      took_as _ (ArrayRow S e t (V.Array t vs) start) start rest body.1 body.2 all (λ whole h. (
+      took_as _ (ArrayRow S e t (array_of t vs) start) start rest body.1 body.2 all (λ whole h. (
         vs,
         body.0,
         refl,

@@ -11,7 +11,7 @@ use Rattle.dbus_types.specs.declared.types.Value.TheVariants as V
 use Rattle.dbus_marshal.specs.declared.error.ReadError.{ReadError}
 use Rattle.dbus_marshal.specs.declared.error.ReadError.TheVariants.{BadText, BadSignature}
 use Rattle.dbus_types.specs.Types.{alignment, type_text}
-use Rattle.dbus_types.specs.Values.{IsText, IsSignatureText}
+use Rattle.dbus_types.specs.Values.{IsText, IsSignatureText, array_of}
 use Rattle.dbus_types.specs.Spells.{number, gap, Aligned, IsPath, bit, Members, Elements, BoolRow, NumberRow, TextRow, ArrayRow, StructRow, EntryRow, Flat, Row, NoneInside, SpellsWithin}
 use Rattle.dbus_marshal.specs.Reads.{◌>>=◌, Read, padded, number_at, byte_at, ended, truth, is_text, is_path_text, text_at, numbered, texted, signature_at, members, elements, fixed, flat, layer, reads}
 use Rattle.dbus_marshal.proofs.Signatures.{types_again, type_again}
@@ -142,7 +142,7 @@ module _ (r : WireType → ℕ → List ℕ → Read Value) (S : WireType → �
         elements_again b.0 (length b.1) t (start + 4 + g) b.1 (omega arith) b.5,
         b.2,
       )
-      (ap (λ (k : ℕ). ok (V.Array t b.0) k rest) (omega (arith, len))))
+      (ap (λ (k : ℕ). ok (array_of t b.0) k rest) (omega (arith, len))))
 
   struct_again : (e : Endian) (ts : List WireType) (at : ℕ) (v : Value) (text rest : List ℕ) → Row S e (WireType-F.Struct ts) at v text → layer r e (WireType-F.Struct ts) at (text ++ rest) ≡ ok v (at + length text) rest
   unfolding layer

@@ -12,8 +12,9 @@ use Rattle.dbus_types.specs.declared.types.Value.{Value, out-Value, the_lemmas}
 use Rattle.dbus_types.specs.declared.types.Value.TheOpen.{Value-F}
 use Rattle.dbus_types.specs.declared.types.Value.TheVariants as V
 use Rattle.dbus_types.specs.Types.{IsValidType, IsVariantType}
-use Rattle.dbus_types.specs.Values.{type_of, LeafKeeps, ValueKeeps, KeepsWithin, KeepsRules}
+use Rattle.dbus_types.specs.Values.{type_of, LeafKeeps, ValueKeeps, KeepsWithin, KeepsRules, array_of}
 use Rattle.dbus_types.specs.Spells.{Members, Elements, Flat, Row, NoneInside, SpellsWithin, Spells}
+use Rattle.dbus_types.proofs.PackedBytes.{array_keeps, type_array as array_type}
 
 out_byte : (n : ℕ) → out-Value (V.Byte n) ≡ Value-F.Byte n
 out_byte n = search the_lemmas
@@ -96,9 +97,6 @@ type_signature s = let e : W.Signature ≡ roll-WireType WireType-F.Signature = 
 out_variant : (x : Value) → out-Value (V.Variant x) ≡ Value-F.Variant x
 out_variant x = search the_lemmas
 
-out_array : (t : WireType) (vs : List Value) → out-Value (V.Array t vs) ≡ Value-F.Array t vs
-out_array t vs = search the_lemmas
-
 out_struct : (vs : List Value) → out-Value (V.Struct vs) ≡ Value-F.Struct vs
 out_struct vs = search the_lemmas
 
@@ -108,8 +106,8 @@ out_entry k x = search the_lemmas
 pub type_variant : (x : Value) → type_of (V.Variant x) ≡ roll-WireType WireType-F.Variant
 type_variant x = let e : W.Variant ≡ roll-WireType WireType-F.Variant = search type_lemmas in let d : type_of (V.Variant x) ≡ W.Variant = search the_lemmas in d ∙ e
 
-pub type_array : (t : WireType) (vs : List Value) → type_of (V.Array t vs) ≡ roll-WireType (WireType-F.Array t)
-type_array t vs = let e : W.Array t ≡ roll-WireType (WireType-F.Array t) = search type_lemmas in let d : type_of (V.Array t vs) ≡ W.Array t = search the_lemmas in d ∙ e
+pub type_array : (t : WireType) (vs : List Value) → type_of (array_of t vs) ≡ roll-WireType (WireType-F.Array t)
+type_array t vs = let e : W.Array t ≡ roll-WireType (WireType-F.Array t) = search type_lemmas in array_type t vs ∙ e
 
 pub type_struct : (vs : List Value) → type_of (V.Struct vs) ≡ W.Struct (map type_of vs)
 type_struct vs = search the_lemmas
@@ -147,6 +145,7 @@ flat_keeps e t at v text h = absurd h
 
 leaf_more : (Inside : Value → Type 0) (f : Value-F Value) → LeafKeeps f → ValueKeeps Inside f
 leaf_more Inside (Value-F.Variant v) h = absurd h
+leaf_more Inside (Value-F.Bytes bytes) h = absurd h
 leaf_more Inside (Value-F.Array t vs) h = absurd h
 leaf_more Inside (Value-F.Struct vs) h = absurd h
 leaf_more Inside (Value-F.DictEntry k v) h = absurd h
@@ -175,7 +174,7 @@ module _ (S : WireType → ℕ → Value → List ℕ → Type 0) (Inside : Valu
   row_keeps : (e : Endian) (t : WireType-F WireType) (at : ℕ) (v : Value) (text : List ℕ) → Row S e t at v text → ValueKeeps Inside (out-Value v) × (type_of v ≡ roll-WireType t)
   row_keeps e (WireType-F.Array t) at v text h =
       let b = h.2 in
-      branch v (V.Array t b.0) (Value-F.Array t b.0) _ b.2 (out_array t b.0) (type_array t b.0) (elements_keep t b.0 _ b.1 b.5)
+      branch v (array_of t b.0) (out-Value (array_of t b.0)) _ b.2 refl (type_array t b.0) (array_keeps Inside t b.0 (elements_keep t b.0 _ b.1 b.5))
   row_keeps e (WireType-F.Struct ts) at v text h =
       let b = h.2 in
       let k = members_keep ts b.0 _ h.0 b.3 in

@@ -116,6 +116,7 @@ module _ (e : Endian) where
   layer (Value-F.ObjectPath text) = same_padded 4 _ gap_4
   layer (Value-F.Signature text) = λ at other h. refl
   layer (Value-F.Variant x) = variant_moves (type_text (spelled e x.0).0) (spelled e x.0).1 x.1
+  layer (Value-F.Bytes bytes) = same_padded 4 _ gap_4
   layer (Value-F.Array t xs) = behind_4 (array_body e (alignment t) (those xs)) (array_moves t xs)
   layer (Value-F.Struct xs) = behind_8 (in_row (those xs)) (row_moves xs)
   layer (Value-F.DictEntry k x) = behind_8 (in_row (those (k ∷ x ∷ []))) (row_moves (k ∷ x ∷ []))

@@ -19,6 +19,7 @@ use Rattle.dbus_types.specs.declared.errors.SignatureError.TheVariants as Stop
 use Rattle.dbus_types.specs.Names.{is_path}
 use Rattle.dbus_types.specs.Reading.{whole_at, single_at, passed}
 use Rattle.dbus_types.specs.Types.{alignment}
+use Rattle.dbus_types.specs.Values.{array_of}
 use Rattle.dbus_types.specs.Spells.{gap}
 pub use Rattle.dbus_marshal.specs.Breaks.{array_error}
 pub use Rattle.dbus_marshal.specs.Reading.{◌>>=◌, Fails, Gives, IsRead, IsStopped, IsRefused, Read, after, place, past, verdict}
@@ -160,6 +161,11 @@ abbrev pub within_array : {X : Type 0} → Result X ReadError → Result X ReadE
 within_array (Ok x) = Ok x
 within_array (Err e) = Err (array_error e)
 
+-- the array of the elements that were read
+abbrev pub arrayed : WireType → Result (List Value) ReadError → Result Value ReadError
+arrayed t (Ok vs) = Ok (array_of t vs)
+arrayed t (Err e) = Err e
+
 -- the types of numbers
 unfoldable pub fixed : Endian → WireType-F WireType → ℕ → List ℕ → Read Value
 fixed e WireType-F.I16 at bytes = numbered e 2 w16 (λ n. V.I16 (cast_signed w16 n)) at bytes
@@ -198,7 +204,7 @@ layer r e (WireType-F.Array t) at bytes = do
     from ← padded (alignment t) n.1 n.2
     body ← taken n.0 from.0 from.1
     vs ← within_array (elements (length body.0) (r t) from.0 body.0)
-    Ok (V.Array t vs, body.1, body.2)
+    Ok (array_of t vs, body.1, body.2)
 layer r e (WireType-F.Struct []) at bytes = Err (BadSignature at)
 layer r e (WireType-F.Struct (t ∷ ts)) at bytes = do
   start ← padded 8 at bytes

@@ -11,8 +11,9 @@ ghost use Rattle.dbus_marshal.specs.Reads.{Gives, place, past, verdict, inside_a
 use crate::error::ReadError;
 use crate::fields::{array_error, byte_at, ended, number_32, skip_padding, taken};
 use crate::flat::check_flat;
-use crate::read::{LONGEST_ARRAY, is_byte};
+use crate::read::LONGEST_ARRAY;
 use crate::signature::type_at;
+use dbus_types::equal::is_byte;
 use dbus_types::layout::alignment_of;
 use dbus_types::types::{Endian, WireType};
 use std::alloc::Global;

@@ -117,6 +117,18 @@ pub(crate) fn put_text(out: &mut ByteList, text: &[u8]) -> Result<(), WantOfMemo
     out.push(0)
 }
 
+/// Bytes with their number in four bytes.
+#[tactic(auto, using(dbus_types::proofs::ListFronts::extends_refl, dbus_types::proofs::ListFronts::extends_append, dbus_types::proofs::ListFronts::extends_trans))]
+pub(crate) fn put_bytes(out: &mut ByteList, bytes: &[u8]) -> Result<(), WantOfMemory>
+    ensures ok { OnOk result (out.new ≡ out.old
+        ++ aligned 4 (λ start. bytes_body Little bytes.now) (length out.old)) }
+    ensures err { OnErr result (Extends out.old out.new) }
+{
+    pad(out, 4)?;
+    put_length(out, bytes.len())?;
+    out.extend_from_slice(bytes)
+}
+
 /// A text with its length in one byte.
 #[tactic(auto, using(dbus_types::proofs::ListFronts::extends_refl, dbus_types::proofs::ListFronts::extends_append, dbus_types::proofs::ListFronts::extends_trans))]
 pub(crate) fn put_short_text(out: &mut ByteList, text: &[u8]) -> Result<(), WantOfMemory>

@@ -2,29 +2,31 @@
 //!
 //! Source: D-Bus Specification, "Marshaling (Wire Format)".
 
-ghost use Rattle.std.specs.Prelude.{◌≡◌, ◌+◌, ◌-◌, ◌<◌, ◌≤◌, ◌^◌, ℕ, List, ◌++◌, [], length, map, take, drop, IfOk, IsTrue, ◌↔◌};
+ghost use Rattle.std.specs.Prelude.{◌≡◌, ◌+◌, ◌-◌, ◌<◌, ◌≤◌, ◌^◌, ℕ, List, ◌++◌, [], length, map, take, drop, IfOk};
 ghost use Rattle.dbus_types.specs.declared.types.Value.{Value as Value'};
 ghost use Rattle.dbus_types.specs.declared.types.Value.TheVariants as V;
 ghost use Rattle.dbus_types.specs.declared.types.WireType.TheVariants as W;
 ghost use Rattle.dbus_types.specs.declared.types.WireType.{out-WireType};
+ghost use Rattle.dbus_types.specs.declared.types.Endian.{Endian as Endian'};
 ghost use Rattle.dbus_types.specs.declared.types.WireType.TheOpen.{WireType-F};
 ghost use Rattle.dbus_types.specs.Types.{IsValidType};
 ghost use Rattle.dbus_types.specs.Values.{type_of, KeepsRules};
 ghost use Rattle.dbus_marshal.specs.declared.error.ReadError.{ReadError as ReadError'};
 ghost use Rattle.dbus_types.specs.Spells.{Spells};
 ghost use Rattle.dbus_marshal.specs.Breaks.{Breaks};
-ghost use Rattle.dbus_marshal.specs.Reads.{Gives, IsRead, IsStopped, IsRefused, after, inside_at, layer, members, elements, reads};
+ghost use Rattle.dbus_marshal.specs.Reads.{Gives, IsRead, IsStopped, IsRefused, after, arrayed, inside_at, layer, members, elements, reads};
 
 use crate::error::ReadError;
 use crate::fields::{array_error, byte_at, ended, number_32, skip_padding, taken};
 use crate::flat::read_flat;
 use crate::signature::type_at;
 use crate::skip::count_elements;
+use dbus_types::equal::is_byte;
 use dbus_types::layout::alignment_of;
 use dbus_types::shared::Shared;
 use dbus_types::types::{Endian, Value, WireType};
 use portal_base::boxed::Boxed;
-use portal_base::list::List;
+use portal_base::list::{ByteList, List};
 use portal_base::memory::WantOfMemory;
 use std::alloc::Global;
 
@@ -93,13 +95,35 @@ fn read_array(
     }
     let from = skip_padding(bytes, begins, alignment_of(element))?;
     let (body, end) = taken(bytes, from, count as usize)?;
-    match read_elements(alloc, endian, &bytes[..end], from, element, depth) {
-        Ok(items) => {
-            let element = shared.share()?;
-            Ok((Value::Array { element, items }, end))
-        }
+    match read_items(alloc, endian, &bytes[..end], from, shared, depth) {
+        Ok(array) => Ok((array, end)),
         Err(error) => Err(array_error(error)),
     }
+}
+
+/// The array of the elements between a place and the end of the bytes.
+#[cycle(read)]
+fn read_items(
+    alloc: Global,
+    endian: Endian,
+    bytes: &[u8],
+    at: usize,
+    shared: &Shared<WireType>,
+    depth: u32,
+) -> Result<Value, ReadError>
+    requires { at ≤ length bytes.now }
+    ensures { Gives (λ array. array) result (arrayed shared.now
+        (elements (length (drop at bytes.now)) (reads depth endian shared.now) at
+        (drop at bytes.now))) }
+{
+    let element = shared.get();
+    if is_byte(element) {
+        let packed = read_bytes(alloc, &bytes[at..], at, depth)?;
+        return Ok(Value::Bytes(packed));
+    }
+    let items = read_elements(alloc, endian, bytes, at, element, depth)?;
+    let element = shared.share()?;
+    Ok(Value::Array { element, items })
 }
 
 /// An empty list with room for so many values.
@@ -110,22 +134,18 @@ pub(crate) fn room_for<T>(alloc: Global, count: usize) -> Result<List<T>, WantOf
     Ok(List::from_vec(room))
 }
 
-/// Says whether a type is that of bytes.
-pub(crate) fn is_byte(kind: &WireType) -> bool
-    ensures { IsTrue result ↔ (kind.now ≡ W.Byte) }
+/// The elements of an array of bytes, which are copied at once.
+fn read_bytes(alloc: Global, bytes: &[u8], at: usize, depth: u32) -> Result<ByteList, ReadError>
+    ensures { (endian : Endian') → Gives (map (λ n. V.Byte n)) result
+        (elements (length bytes.now) (reads depth endian W.Byte) at bytes.now) }
 {
-    matches!(kind, WireType::Byte)
-}
-
-/// The elements of an array of bytes.
-fn read_bytes(alloc: Global, bytes: &[u8]) -> Result<List<Value>, WantOfMemory>
-    ensures { IfOk result (λ items. items ≡ map (λ n. V.Byte n) bytes.now) }
-{
-    let mut items = room_for(alloc, bytes.len())?;
-    for byte in bytes {
-        items.push(Value::Byte(*byte))?;
+    if depth > 0 {
+        return Ok(List::copied(alloc, bytes)?);
     }
-    Ok(items)
+    if bytes.is_empty() {
+        return Ok(List::new(alloc));
+    }
+    Err(ReadError::TooDeep { at })
 }
 
 #[cycle(read)]
@@ -142,9 +162,6 @@ fn read_elements(
         (elements (length (drop at bytes.now)) (reads depth endian element.now) at
         (drop at bytes.now)) }
 {
-    if depth > 0 && is_byte(element) {
-        return Ok(read_bytes(alloc, &bytes[at..])?);
-    }
     let count = count_elements(alloc, endian, bytes, at, element, depth);
     let mut items = room_for(alloc, count)?;
     let mut next = at;

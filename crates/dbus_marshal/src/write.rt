@@ -2,7 +2,7 @@
 //!
 //! Source: D-Bus Specification, "Marshaling (Wire Format)".
 
-ghost use Rattle.std.specs.Prelude.{◌≡◌, ◌+◌, ◌<◌, ◌≤◌, ◌^◌, ℕ, List, ◌++◌, ◌≢◌, OnOk, OnErr, IfOk, MatchOption, Some, length, take, drop, map, replicate, slice_get, slice_set};
+ghost use Rattle.std.specs.Prelude.{◌≡◌, ◌+◌, ◌<◌, ◌≤◌, ◌^◌, ℕ, List, ◌++◌, OnOk, OnErr, length, take, drop, map, replicate, slice_set};
 ghost use Rattle.std.specs.Int.{to_le_bytes, w8, w16, w32, w64};
 ghost use Rattle.dbus_types.specs.declared.types.Value.{Value as Value'};
 ghost use Rattle.dbus_types.specs.declared.types.Value.TheVariants as V;
@@ -10,10 +10,10 @@ ghost use Rattle.dbus_types.specs.declared.types.WireType.{WireType as WireType'
 ghost use Rattle.dbus_types.specs.declared.types.Endian.{Endian as Endian'};
 ghost use Rattle.dbus_types.specs.declared.types.Endian.TheVariants.{Little};
 ghost use Rattle.dbus_types.specs.Spells.{Spells, gap};
-ghost use Rattle.dbus_types.specs.Spelling.{Extends, aligned, spelled, spelling, spellings, signature_body, text_body, array_body};
+ghost use Rattle.dbus_types.specs.Spelling.{Extends, aligned, spelled, spelling, spellings, signature_body, text_body, array_body, bytes_body};
 
 pub use crate::put::{overwrite_length, pad};
-use crate::put::{put_16, put_32, put_64, put_length, put_short_text, put_text};
+use crate::put::{put_16, put_32, put_64, put_bytes, put_length, put_short_text, put_text};
 use crate::signature::put_signature;
 use dbus_types::layout::alignment_of;
 use dbus_types::types::Value;
@@ -44,6 +44,7 @@ fn write(out: &mut ByteList, value: &Value) -> Result<(), WantOfMemory>
             put_signature(out, inner.get())?;
             write(out, inner.get())
         }
+        Value::Bytes(bytes) => put_bytes(out, bytes.as_slice()),
         Value::Array { element, items } => {
             write_array(out, alignment_of(element), items.as_slice())
         }
@@ -79,37 +80,6 @@ fn write_array(out: &mut ByteList, to: usize, items: &[Value]) -> Result<(), Wan
     Ok(())
 }
 
-/// The number of a value that is a byte.
-fn byte_of(value: &Value) -> Option<u8>
-    ensures { MatchOption result ((number : ℕ) → value.now ≢ V.Byte number)
-        (λ number. value.now ≡ V.Byte number) }
-{
-    match value {
-        Value::Byte(number) => Some(*number),
-        _ => None,
-    }
-}
-
-/// Puts the values ahead of the first that is no byte, and says how many they
-/// are: the values of an array of bytes, without a call for each.
-#[tactic(auto, using(dbus_types::proofs::ListFronts::extends_refl, dbus_types::proofs::ListFronts::extends_append, dbus_types::proofs::ListFronts::extends_trans, crate::proofs::PiecesJoined::bytes_step))]
-fn put_bytes(out: &mut ByteList, values: &[Value]) -> Result<usize, WantOfMemory>
-    ensures ok { IfOk result (λ count. (count ≤ length values.now)
-        × (out.new ++ spellings Little (length out.new) (drop count values.now)
-        ≡ out.old ++ spellings Little (length out.old) values.now)) }
-    ensures all { IfOk result (λ count. (number : ℕ)
-        → slice_get values.now count ≢ Some (V.Byte number)) }
-    ensures front { Extends out.old out.new }
-{
-    for index in 0..values.len() {
-        match byte_of(&values[index]) {
-            Some(number) => out.push(number)?,
-            None => return Ok(index),
-        }
-    }
-    Ok(values.len())
-}
-
 /// Puts the spellings of values, one after another, at the end of a list, whose
 /// length is the offset of the first.
 ///
@@ -120,9 +90,8 @@ pub fn write_all(out: &mut ByteList, values: &[Value]) -> Result<(), WantOfMemor
     ensures ok { OnOk result (out.new ≡ out.old ++ spellings Little (length out.old) values.now) }
     ensures err { OnErr result (Extends out.old out.new) }
 {
-    let first = put_bytes(out, values)?;
-    for index in first..values.len() {
-        write(out, &values[index])?;
+    for value in values {
+        write(out, value)?;
     }
     Ok(())
 }

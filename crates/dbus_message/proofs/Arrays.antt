@@ -1,5 +1,5 @@
 -- The array of the fields.
-use Rattle.std.proofs.Common.{◌≡◌, ℕ, ◌+◌, ◌-◌, ◌≤◌, List, [], ◌++◌, length, take, drop, Ok, Err, refl, sym, ap, subst, ◌∙◌, append-nil, arith}
+use Rattle.std.proofs.Common.{◌≡◌, ℕ, ◌+◌, ◌-◌, ◌≤◌, List, [], ◌∷◌, ◌++◌, length, take, drop, Ok, Err, refl, sym, ap, subst, ◌∙◌, append-nil, arith}
 use Rattle.std.proofs.lemmas.List.{take_all, length-drop}
 use Rattle.dbus_types.specs.declared.types.Endian.{Endian}
 use Rattle.dbus_types.specs.declared.types.WireType.{WireType, out-WireType, the_lemmas as type_lemmas}
@@ -11,6 +11,7 @@ use Rattle.dbus_types.specs.declared.types.Value.TheVariants as V
 use Rattle.dbus_marshal.specs.declared.error.ReadError.{ReadError}
 use Rattle.dbus_types.specs.Spells.{Spells, Row, SpellsWithin}
 use Rattle.dbus_marshal.specs.Reads.{IsRead}
+use Rattle.dbus_types.proofs.PackedBytes.{of_others, struct_no_byte}
 use Rattle.dbus_marshal.proofs.SpelledIsRead.{one_spelling}
 use Rattle.dbus_message.specs.declared.error.MessageError.TheVariants.{Bad}
 use Rattle.dbus_message.specs.Header.{endian_of, field_bytes}
@@ -28,9 +29,12 @@ out_array_type t = search type_lemmas
 pub same_items : (t u : WireType) (vs ws : List Value) → V.Array t vs ≡ V.Array u ws → vs ≡ ws
 same_items t u vs ws e = let p : Value-F.Array t vs ≡ Value-F.Array u ws = sym (out_array t vs) ∙ (ap out-Value e ∙ out_array u ws) in cc
 
-pub is_array : (e : Endian) (t : WireType) (at : ℕ) (v : Value) (text : List ℕ) → Spells e at (W.Array t) v text → (vs : List Value) × (v ≡ V.Array t vs)
+pub is_array : (e : Endian) (t : WireType) (at : ℕ) (v : Value) (text : List ℕ) → (t ≡ W.Byte → ⊥) → Spells e at (W.Array t) v text → (vs : List Value) × (v ≡ V.Array t vs)
 unfolding SpellsWithin
-is_array e t at v text h = let row : Row (SpellsWithin 63 e) e (WireType-F.Array t) at v text = subst (λ (f : WireType-F WireType). Row (SpellsWithin 63 e) e f at v text) (out_array_type t) h in (row.2.0, row.2.2)
+is_array e t at v text none h = let row : Row (SpellsWithin 63 e) e (WireType-F.Array t) at v text = subst (λ (f : WireType-F WireType). Row (SpellsWithin 63 e) e f at v text) (out_array_type t) h in (row.2.0, row.2.2 ∙ of_others t row.2.0 none)
+
+pub no_byte : field_type ≡ W.Byte → ⊥
+no_byte = struct_no_byte (W.Byte ∷ W.Variant ∷ [])
 
 pub one_list : (bytes : List ℕ) (fs gs : List Value) → AreFieldsOf bytes fs → AreFieldsOf bytes gs → fs ≡ gs
 one_list bytes fs gs p q = same_items field_type field_type fs gs (one_spelling 64 (endian_of bytes) (W.Array field_type) 12 (V.Array field_type fs) (V.Array field_type gs) (field_bytes bytes) (field_bytes bytes) [] [] p q refl).0

@@ -15,7 +15,8 @@ use Rattle.dbus_marshal.specs.Reads.{has_code_to}
 use Rattle.dbus_message.specs.Fields.{AreFieldsOf, field_type, field_code, field_value, known, is_in_table, is_field, is_once, known_codes, are_good, value_of, text_in, number_in, text_of, number_of, has, has_needed}
 use Rattle.dbus_message.specs.Header.{endian_of, field_bytes}
 use Rattle.dbus_message.specs.Messages.{SaysFields}
-use Rattle.dbus_message.proofs.Arrays.{same_items}
+use Rattle.dbus_types.proofs.PackedBytes.{of_others}
+use Rattle.dbus_message.proofs.Arrays.{no_byte, same_items}
 use Rattle.dbus_message.proofs.Tables.{out_struct, out_variant}
 
 -- ---- looking for a known code
@@ -115,7 +116,7 @@ have_values : (e : Endian) (at : ℕ) (fs : List Value) (text : List ℕ) → Sp
 unfolding SpellsWithin
 have_values e at fs text h =
     let row : Row (SpellsWithin 63 e) e (WireType-F.Array field_type) at (V.Array field_type fs) text = subst (λ (f : WireType-F WireType). Row (SpellsWithin 63 e) e f at (V.Array field_type fs) text) (type_array field_type) h in
-    subst HaveValues (sym (same_items field_type field_type fs row.2.0 row.2.2)) (all_have e row.2.0 _ _ row.2.5)
+    subst HaveValues (sym (same_items field_type field_type fs row.2.0 (row.2.2 ∙ of_others field_type row.2.0 no_byte))) (all_have e row.2.0 _ _ row.2.5)
 
 -- ---- the table
 

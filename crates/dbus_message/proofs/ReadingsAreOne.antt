@@ -28,7 +28,7 @@ use Rattle.dbus_message.specs.Header.{body_bytes, body_start, endian_of, field_b
 use Rattle.dbus_message.specs.Messages.{IsMessage}
 use Rattle.dbus_message.specs.Rules.{IsFirstBroken, IsWhole}
 use Rattle.std.specs.Prelude.{unwrap_or}
-use Rattle.dbus_message.proofs.Arrays.{is_array}
+use Rattle.dbus_message.proofs.Arrays.{is_array, no_byte}
 use Rattle.dbus_message.proofs.Bodies.{Spelled}
 use Rattle.dbus_message.proofs.Contents.{body_bad, body_good, nothing_bad, nothing_good, types_bad}
 use Rattle.dbus_message.proofs.OneMessage.{one_row, one_signature}
@@ -157,7 +157,7 @@ HasNone bytes = (fs : List Value) → AreFieldsOf bytes fs → ⊥
 fields_whole : (bytes : List ℕ) (v : Value) (text rest : List ℕ) → Spells (endian_of bytes) 12 (W.Array field_type) v text → field_bytes bytes ≡ text ++ rest → ((fs : List Value) × AreFieldsOf bytes fs) ⊎ HasNone bytes
 fields_whole bytes v text [] h parts =
     let whole : text ≡ field_bytes bytes = sym (append-nil text) ∙ sym parts in
-    let a = is_array (endian_of bytes) field_type 12 v text h in
+    let a = is_array (endian_of bytes) field_type 12 v text no_byte h in
     let spelled = subst (λ (x : Value). Spells (endian_of bytes) 12 (W.Array field_type) x text) a.1 h in
     inl (a.0, subst (λ (x : List ℕ). Spells (endian_of bytes) 12 (W.Array field_type) (V.Array field_type a.0) x) whole spelled)
 fields_whole bytes v text (b ∷ bs) h parts =

@@ -17,6 +17,7 @@ use Rattle.dbus_types.specs.Names.{is_path, is_interface_name}
 use Rattle.dbus_types.specs.Types.{is_single, struct_role, array_role, role, greatest, arrays_deep, brackets_deep, type_text, types_text, IsValidType, IsVariantType, IsSignature}
 use Rattle.dbus_types.specs.Values.{type_of, IsText, IsSignatureText, ValueKeeps, KeepsWithin, KeepsRules}
 use Rattle.dbus_types.proofs.TypeLayers.{role_byte, role_array, role_struct, arrays_array, arrays_struct, brackets_array, brackets_struct}
+use Rattle.dbus_types.proofs.PackedBytes.{struct_no_byte}
 use Rattle.dbus_types.specs.Spells.{Spells, Members}
 use Rattle.dbus_types.specs.Spelling.{spelling, spellings}
 use Rattle.dbus_marshal.proofs.EveryValueIsSpelled.{every_spelled}
@@ -201,7 +202,7 @@ fields_kept (Signal path interface member body) h =
 
 array_keeps : (fs : List Value) → All Kept fs → KeepsRules (V.Array field_type fs)
 unfolding KeepsWithin
-array_keeps fs h = (subst IsValidType (sym (type_array field_type fs)) fields_type, subst (ValueKeeps (KeepsWithin 63)) (sym (out_array field_type fs)) h)
+array_keeps fs h = (subst IsValidType (sym (type_array field_type fs)) fields_type, subst (ValueKeeps (KeepsWithin 63)) (sym (out_array field_type fs)) (struct_no_byte (W.Byte ∷ W.Variant ∷ []), h))
 
 -- ---- spellings
 

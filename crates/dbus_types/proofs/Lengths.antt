@@ -9,7 +9,7 @@ use Rattle.dbus_types.specs.declared.types.Value.TheOpen.{Value-F}
 use Rattle.dbus_types.specs.declared.types.Value.TheFolds.{ind-Value, map-Value, fold-roll-Value}
 use Rattle.dbus_types.specs.Types.{alignment, type_text}
 use Rattle.dbus_types.specs.Spells.{number, gap, bit}
-use Rattle.dbus_types.specs.Spelling.{aligned, in_row, text_body, array_body, variant_body, Spelled, spell_step, spelled, spelling}
+use Rattle.dbus_types.specs.Spelling.{aligned, in_row, text_body, array_body, bytes_body, variant_body, Spelled, spell_step, spelled, spelling}
 use Rattle.dbus_types.proofs.SpelledType.{spelled_kind}
 
 number_16 : (e : Endian) (n : ℕ) → length (number e w16 n) ≡ length (number Little w16 n)
@@ -78,6 +78,9 @@ module _ (e : Endian) where
         number_32 e (length mine),
       )
 
+  bytes_same : (bytes : List ℕ) → length (bytes_body e bytes) ≡ length (bytes_body Little bytes)
+  bytes_same bytes = omega (arith, length-append (number e w32 (length bytes)) bytes, length-append (number Little w32 (length bytes)) bytes, number_32 e (length bytes))
+
   variant_same : (x : Such) (at : ℕ) → length (variant_body (type_text (spelled e x.0).0) (spelled e x.0).1 at) ≡ length (variant_body (type_text (spelled Little x.0).0) (spelled Little x.0).1 at)
   variant_same x at =
       let text : List ℕ = type_text (spelled e x.0).0 in
@@ -107,6 +110,7 @@ module _ (e : Endian) where
   layer (Value-F.Str text) at = behind 4 (λ start. text_body e text) (λ start. text_body Little text) (text_same e text) at
   layer (Value-F.ObjectPath text) at = behind 4 (λ start. text_body e text) (λ start. text_body Little text) (text_same e text) at
   layer (Value-F.Variant x) at = variant_same x at
+  layer (Value-F.Bytes bytes) at = behind 4 (λ start. bytes_body e bytes) (λ start. bytes_body Little bytes) (λ start. bytes_same bytes) at
   layer (Value-F.Array t xs) at = behind 4 (array_body e (alignment t) (spelled_of e xs)) (array_body Little (alignment t) (spelled_of Little xs)) (array_same (alignment t) xs) at
   layer (Value-F.Struct xs) at = behind 8 (in_row (spelled_of e xs)) (in_row (spelled_of Little xs)) (row xs) at
   layer (Value-F.DictEntry k x) at = behind 8 (in_row (spelled_of e (k ∷ x ∷ []))) (in_row (spelled_of Little (k ∷ x ∷ []))) (row (k ∷ x ∷ [])) at

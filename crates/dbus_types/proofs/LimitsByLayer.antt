@@ -1,9 +1,9 @@
 -- What a value keeps at each outer layer, and how long the texts of types are.
-use Rattle.std.proofs.Common.{◌≡◌, ℕ, zero, suc, ◌+◌, ◌<◌, ◌≤◌, ◌↔◌, Bool, true, false, Option, None, Some, List, [], ◌∷◌, ◌++◌, length, take, get_or, Result, Ok, Err, refl, sym, ap, subst, ◌∙◌, arith, rules}
+use Rattle.std.proofs.Common.{◌≡◌, ℕ, zero, suc, ◌+◌, ◌^◌, ◌<◌, ◌≤◌, ◌↔◌, Bool, true, false, Option, None, Some, List, [], ◌∷◌, ◌++◌, length, take, get_or, Result, Ok, Err, refl, sym, ap, subst, ◌∙◌, arith, rules}
 use Rattle.std.specs.Prelude.{IsTrue, MatchOption, All, is_ok}
 use Rattle.std.proofs.lemmas.Bool.{true≢false}
-use Rattle.std.proofs.lemmas.List.{length-append, take_all}
-use Rattle.std.proofs.lemmas.List.Elements.{All-get_or, All-more}
+use Rattle.std.proofs.lemmas.List.{get_or-append-add, length-append, take_all}
+use Rattle.std.proofs.lemmas.List.Elements.{All-get_or, All-more, All-weaker, All-nil, All-cons}
 use Rattle.dbus_types.specs.declared.types.WireType.{WireType}
 use Rattle.dbus_types.specs.declared.types.WireType.TheVariants as W
 use Rattle.dbus_types.specs.declared.types.Value.{Value, out-Value, roll-Value, the_lemmas}
@@ -69,6 +69,9 @@ rolled w f e = sym (back w) ∙ ap roll-Value e
 rolls_variant : (v : Value) → V.Variant v ≡ roll-Value (Value-F.Variant v)
 rolls_variant v = search the_lemmas
 
+rolls_bytes : (bytes : List ℕ) → V.Bytes bytes ≡ roll-Value (Value-F.Bytes bytes)
+rolls_bytes bytes = search the_lemmas
+
 rolls_array : (t : WireType) (vs : List Value) → V.Array t vs ≡ roll-Value (Value-F.Array t vs)
 rolls_array t vs = search the_lemmas
 
@@ -81,8 +84,14 @@ rolls_entry k v = search the_lemmas
 out_variant : (v : Value) → out-Value (V.Variant v) ≡ Value-F.Variant v
 out_variant v = search the_lemmas
 
+out_bytes : (bytes : List ℕ) → out-Value (V.Bytes bytes) ≡ Value-F.Bytes bytes
+out_bytes bytes = search the_lemmas
+
 out_array : (t : WireType) (vs : List Value) → out-Value (V.Array t vs) ≡ Value-F.Array t vs
 out_array t vs = search the_lemmas
+
+out_one : (n : ℕ) → out-Value (V.Byte n) ≡ Value-F.Byte n
+out_one n = search the_lemmas
 
 out_struct : (vs : List Value) → out-Value (V.Struct vs) ≡ Value-F.Struct vs
 out_struct vs = search the_lemmas
@@ -107,6 +116,10 @@ empty_all : (r : Bool) (P : Value → Type 0) (xs : List Value) → ((v : Value)
 empty_all r P [] none h = ((λ k. search rules), (λ k. h.1 refl))
 empty_all r P (x ∷ xs) none h = ((λ k. absurd (omega (arith, ap length (h.0 k)))), (λ k. absurd (none x (All-get_or P (x ∷ xs) 0 x (omega arith) k))))
 
+no_bytes : (r : Bool) (bytes : List ℕ) → IsTrue r ↔ (bytes ≡ []) → IsTrue r ↔ All (λ b. Nothing (V.Byte b)) bytes
+no_bytes r [] h = ((λ k. search rules), (λ k. h.1 refl))
+no_bytes r (x ∷ xs) h = ((λ k. absurd (omega (arith, ap length (h.0 k)))), (λ k. absurd (All-get_or (λ b. Nothing (V.Byte b)) (x ∷ xs) 0 x (omega arith) k)))
+
 layer : (n m : ℕ) (w : Value) (f : Value-F Value) → m + 1 ≡ n → out-Value w ≡ f → KeepsWithin n w ↔ ValueKeeps (KeepsWithin m) f
 unfolding KeepsWithin
 layer zero m w f p e = absurd (omega arith)
@@ -127,9 +140,39 @@ and_on a r P Q e h q = ((λ k. (h.0 e, q.0 k)), (λ k. q.1 k.1))
 pub variant_deep : (n : ℕ) (w v : Value) → n ≡ 0 → w ≡ V.Variant v → IsTrue false ↔ KeepsWithin n w
 variant_deep n w v p e = none_inside false n w (Value-F.Variant v) p (ap out-Value e ∙ out_variant v) (never (IsVariantType (type_of v) × Nothing v) (λ h. h.1))
 
-pub array_deep : (r : Bool) (n : ℕ) (w : Value) (t : WireType) (vs us : List Value) → n ≡ 0 → w ≡ V.Array t vs → us ≡ vs → IsTrue r ↔ (us ≡ []) → IsTrue r ↔ KeepsWithin n w
-array_deep r n w t vs us p e s h = none_inside r n w (Value-F.Array t vs) p (ap out-Value e ∙ out_array t vs)
-    (empty_all r (λ v. (type_of v ≡ t) × Nothing v) vs (λ v k. k.1) (subst (λ (xs : List Value). IsTrue r ↔ (xs ≡ [])) s h))
+both : (r : Bool) (P Q : Type 0) → P → IsTrue r ↔ Q → IsTrue r ↔ (P × Q)
+both r P Q p q = ((λ k. (p, q.0 k)), (λ h. q.1 h.1))
+
+pub array_deep : (r : Bool) (n : ℕ) (w : Value) (t : WireType) (vs us : List Value) → n ≡ 0 → w ≡ V.Array t vs → us ≡ vs → (t ≡ W.Byte → ⊥) → IsTrue r ↔ (us ≡ []) → IsTrue r ↔ KeepsWithin n w
+array_deep r n w t vs us p e s none h = none_inside r n w (Value-F.Array t vs) p (ap out-Value e ∙ out_array t vs)
+    (both r (t ≡ W.Byte → ⊥) (All (λ v. (type_of v ≡ t) × Nothing v) vs) none (empty_all r (λ v. (type_of v ≡ t) × Nothing v) vs (λ v k. k.1) (subst (λ (xs : List Value). IsTrue r ↔ (xs ≡ [])) s h)))
+
+-- packed bytes keep the rules within something, and where nothing is inside, only none
+pub bytes_deep : (r : Bool) (n : ℕ) (bytes : List ℕ) → n ≡ 0 → IsTrue r ↔ (bytes ≡ []) → IsTrue r ↔ KeepsWithin n (V.Bytes bytes)
+bytes_deep r n bytes p h = none_inside r n (V.Bytes bytes) (Value-F.Bytes bytes) p (out_bytes bytes) (no_bytes r bytes h)
+
+byte_fits : (m n : ℕ) → n < 2 ^ 8 → KeepsWithin m (V.Byte n)
+unfolding KeepsWithin
+byte_fits zero n lt = subst (ValueKeeps Nothing) (sym (out_one n)) lt
+byte_fits (suc m) n lt = subst (ValueKeeps (KeepsWithin m)) (sym (out_one n)) lt
+
+pub each_fits : (bytes : List ℕ) → ((i : ℕ) → get_or bytes i 0 < 256) → All (λ b. b < 2 ^ 8) bytes
+each_fits [] fit = All-nil (λ b. b < 2 ^ 8)
+each_fits (b ∷ bs) fit = All-cons (λ b. b < 2 ^ 8) b bs (fit 0) (each_fits bs (λ i. subst (λ (k : ℕ). k < 256) (get_or-append-add (b ∷ []) bs i 0) (fit (length (b ∷ []) + i))))
+
+pub bytes_on : (n m : ℕ) (bytes : List ℕ) → m + 1 ≡ n → All (λ b. b < 2 ^ 8) bytes → IsTrue true ↔ KeepsWithin n (V.Bytes bytes)
+bytes_on n m bytes p fit = either (IsTrue true) (All (λ b. KeepsWithin m (V.Byte b)) bytes) (KeepsWithin n (V.Bytes bytes))
+    ((λ k. All-weaker (λ b. b < 2 ^ 8) (λ b. KeepsWithin m (V.Byte b)) (byte_fits m) bytes fit), (λ k. refl))
+    (layer n m (V.Bytes bytes) (Value-F.Bytes bytes) p (out_bytes bytes))
+
+-- no array that lists bytes keeps the rules
+pub no_byte : (r : Bool) (t u : WireType) → u ≡ t → IsTrue r ↔ (u ≡ W.Byte) → r ≡ false → t ≡ W.Byte → ⊥
+no_byte r t u same h e is = true≢false (sym (h.1 (same ∙ is)) ∙ e)
+
+pub listed_bytes : (n : ℕ) (w : Value) (t : WireType) (vs : List Value) → w ≡ V.Array t vs → t ≡ W.Byte → IsTrue false ↔ KeepsWithin n w
+unfolding KeepsWithin
+listed_bytes zero w t vs e is = never (ValueKeeps Nothing (out-Value w)) (λ h. (subst (ValueKeeps Nothing) (ap out-Value e ∙ out_array t vs) h).0 is)
+listed_bytes (suc n) w t vs e is = never (ValueKeeps (KeepsWithin n) (out-Value w)) (λ h. (subst (ValueKeeps (KeepsWithin n)) (ap out-Value e ∙ out_array t vs) h).0 is)
 
 pub struct_deep : (r : Bool) (n : ℕ) (w : Value) (vs us : List Value) → n ≡ 0 → w ≡ V.Struct vs → us ≡ vs → IsTrue r ↔ (us ≡ []) → IsTrue r ↔ KeepsWithin n w
 struct_deep r n w vs us p e s h = none_inside r n w (Value-F.Struct vs) p (ap out-Value e ∙ out_struct vs)
@@ -143,9 +186,9 @@ variant_on r n m w v u p e s h = either (IsTrue r) (IsVariantType (type_of v) ×
     (subst (λ (x : Value). IsTrue r ↔ (IsVariantType (type_of x) × KeepsWithin m x)) s h)
     (layer n m w (Value-F.Variant v) p (ap out-Value e ∙ out_variant v))
 
-pub array_on : (r : Bool) (n m : ℕ) (w : Value) (t : WireType) (vs us : List Value) → m + 1 ≡ n → w ≡ V.Array t vs → us ≡ vs → IsTrue r ↔ All (λ v. (type_of v ≡ t) × KeepsWithin m v) us → IsTrue r ↔ KeepsWithin n w
-array_on r n m w t vs us p e s h = either (IsTrue r) (All (λ v. (type_of v ≡ t) × KeepsWithin m v) vs) (KeepsWithin n w)
-    (subst (λ (xs : List Value). IsTrue r ↔ All (λ v. (type_of v ≡ t) × KeepsWithin m v) xs) s h)
+pub array_on : (r : Bool) (n m : ℕ) (w : Value) (t : WireType) (vs us : List Value) → m + 1 ≡ n → w ≡ V.Array t vs → us ≡ vs → (t ≡ W.Byte → ⊥) → IsTrue r ↔ All (λ v. (type_of v ≡ t) × KeepsWithin m v) us → IsTrue r ↔ KeepsWithin n w
+array_on r n m w t vs us p e s none h = either (IsTrue r) ((t ≡ W.Byte → ⊥) × All (λ v. (type_of v ≡ t) × KeepsWithin m v) vs) (KeepsWithin n w)
+    (both r (t ≡ W.Byte → ⊥) (All (λ v. (type_of v ≡ t) × KeepsWithin m v) vs) none (subst (λ (xs : List Value). IsTrue r ↔ All (λ v. (type_of v ≡ t) × KeepsWithin m v) xs) s h))
     (layer n m w (Value-F.Array t vs) p (ap out-Value e ∙ out_array t vs))
 
 pub struct_on : (r : Bool) (n m : ℕ) (w : Value) (vs us : List Value) → m + 1 ≡ n → w ≡ V.Struct vs → us ≡ vs → IsTrue r ↔ All (KeepsWithin m) us → IsTrue r ↔ KeepsWithin n w
@@ -160,30 +203,31 @@ entry_on r n m w k v x y p e s q h = either (IsTrue r) (KeepsWithin m k × Keeps
 
 -- ---- a value that holds no other
 
-same_layer : (I : Value → Type 0) (w : Value) (f : Value-F Value) → out-Value w ≡ f → ((v : Value) → w ≡ V.Variant v → ⊥) → ((t : WireType) (vs : List Value) → w ≡ V.Array t vs → ⊥) → ((vs : List Value) → w ≡ V.Struct vs → ⊥) → ((k v : Value) → w ≡ V.DictEntry k v → ⊥) → LeafKeeps f ↔ ValueKeeps I f
-same_layer I w (Value-F.Byte x) e a b c d = ((λ h. h), (λ h. h))
-same_layer I w (Value-F.Bool x) e a b c d = ((λ h. h), (λ h. h))
-same_layer I w (Value-F.I16 x) e a b c d = ((λ h. h), (λ h. h))
-same_layer I w (Value-F.U16 x) e a b c d = ((λ h. h), (λ h. h))
-same_layer I w (Value-F.I32 x) e a b c d = ((λ h. h), (λ h. h))
-same_layer I w (Value-F.U32 x) e a b c d = ((λ h. h), (λ h. h))
-same_layer I w (Value-F.I64 x) e a b c d = ((λ h. h), (λ h. h))
-same_layer I w (Value-F.U64 x) e a b c d = ((λ h. h), (λ h. h))
-same_layer I w (Value-F.Double x) e a b c d = ((λ h. h), (λ h. h))
-same_layer I w (Value-F.Str x) e a b c d = ((λ h. h), (λ h. h))
-same_layer I w (Value-F.ObjectPath x) e a b c d = ((λ h. h), (λ h. h))
-same_layer I w (Value-F.Signature x) e a b c d = ((λ h. h), (λ h. h))
-same_layer I w (Value-F.Handle x) e a b c d = ((λ h. h), (λ h. h))
-same_layer I w (Value-F.Variant v) e a b c d = absurd (a v (rolled w (Value-F.Variant v) e ∙ sym (rolls_variant v)))
-same_layer I w (Value-F.Array t vs) e a b c d = absurd (b t vs (rolled w (Value-F.Array t vs) e ∙ sym (rolls_array t vs)))
-same_layer I w (Value-F.Struct vs) e a b c d = absurd (c vs (rolled w (Value-F.Struct vs) e ∙ sym (rolls_struct vs)))
-same_layer I w (Value-F.DictEntry k v) e a b c d = absurd (d k v (rolled w (Value-F.DictEntry k v) e ∙ sym (rolls_entry k v)))
+same_layer : (I : Value → Type 0) (w : Value) (f : Value-F Value) → out-Value w ≡ f → ((v : Value) → w ≡ V.Variant v → ⊥) → ((bytes : List ℕ) → w ≡ V.Bytes bytes → ⊥) → ((t : WireType) (vs : List Value) → w ≡ V.Array t vs → ⊥) → ((vs : List Value) → w ≡ V.Struct vs → ⊥) → ((k v : Value) → w ≡ V.DictEntry k v → ⊥) → LeafKeeps f ↔ ValueKeeps I f
+same_layer I w (Value-F.Byte x) e a y b c d = ((λ h. h), (λ h. h))
+same_layer I w (Value-F.Bool x) e a y b c d = ((λ h. h), (λ h. h))
+same_layer I w (Value-F.I16 x) e a y b c d = ((λ h. h), (λ h. h))
+same_layer I w (Value-F.U16 x) e a y b c d = ((λ h. h), (λ h. h))
+same_layer I w (Value-F.I32 x) e a y b c d = ((λ h. h), (λ h. h))
+same_layer I w (Value-F.U32 x) e a y b c d = ((λ h. h), (λ h. h))
+same_layer I w (Value-F.I64 x) e a y b c d = ((λ h. h), (λ h. h))
+same_layer I w (Value-F.U64 x) e a y b c d = ((λ h. h), (λ h. h))
+same_layer I w (Value-F.Double x) e a y b c d = ((λ h. h), (λ h. h))
+same_layer I w (Value-F.Str x) e a y b c d = ((λ h. h), (λ h. h))
+same_layer I w (Value-F.ObjectPath x) e a y b c d = ((λ h. h), (λ h. h))
+same_layer I w (Value-F.Signature x) e a y b c d = ((λ h. h), (λ h. h))
+same_layer I w (Value-F.Handle x) e a y b c d = ((λ h. h), (λ h. h))
+same_layer I w (Value-F.Variant v) e a y b c d = absurd (a v (rolled w (Value-F.Variant v) e ∙ sym (rolls_variant v)))
+same_layer I w (Value-F.Bytes bytes) e a y b c d = absurd (y bytes (rolled w (Value-F.Bytes bytes) e ∙ sym (rolls_bytes bytes)))
+same_layer I w (Value-F.Array t vs) e a y b c d = absurd (b t vs (rolled w (Value-F.Array t vs) e ∙ sym (rolls_array t vs)))
+same_layer I w (Value-F.Struct vs) e a y b c d = absurd (c vs (rolled w (Value-F.Struct vs) e ∙ sym (rolls_struct vs)))
+same_layer I w (Value-F.DictEntry k v) e a y b c d = absurd (d k v (rolled w (Value-F.DictEntry k v) e ∙ sym (rolls_entry k v)))
 
-pub leaf_within : (r : Bool) (n : ℕ) (w : Value) → ((v : Value) → w ≡ V.Variant v → ⊥) → ((t : WireType) (vs : List Value) → w ≡ V.Array t vs → ⊥) → ((vs : List Value) → w ≡ V.Struct vs → ⊥) → ((k v : Value) → w ≡ V.DictEntry k v → ⊥) → IsTrue r ↔ LeafKeeps (out-Value w) → IsTrue r ↔ KeepsWithin n w
+pub leaf_within : (r : Bool) (n : ℕ) (w : Value) → ((v : Value) → w ≡ V.Variant v → ⊥) → ((bytes : List ℕ) → w ≡ V.Bytes bytes → ⊥) → ((t : WireType) (vs : List Value) → w ≡ V.Array t vs → ⊥) → ((vs : List Value) → w ≡ V.Struct vs → ⊥) → ((k v : Value) → w ≡ V.DictEntry k v → ⊥) → IsTrue r ↔ LeafKeeps (out-Value w) → IsTrue r ↔ KeepsWithin n w
 unfolding KeepsWithin
-leaf_within r zero w a b c d h =
-    let s = same_layer Nothing w (out-Value w) refl a b c d in
+leaf_within r zero w a y b c d h =
+    let s = same_layer Nothing w (out-Value w) refl a y b c d in
     ((λ k. s.0 (h.0 k)), (λ k. h.1 (s.1 k)))
-leaf_within r (suc n) w a b c d h =
-    let s = same_layer (KeepsWithin n) w (out-Value w) refl a b c d in
+leaf_within r (suc n) w a y b c d h =
+    let s = same_layer (KeepsWithin n) w (out-Value w) refl a y b c d in
     ((λ k. s.0 (h.0 k)), (λ k. h.1 (s.1 k)))

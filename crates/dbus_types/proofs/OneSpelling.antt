@@ -1,6 +1,8 @@
 -- What spells a value is its spelling.
 use Rattle.std.proofs.Common.{◌≡◌, ℕ, zero, suc, ◌+◌, ◌<◌, ◌^◌, ℤ, Bool, List, [], ◌∷◌, ◌++◌, length, map, refl, sym, ap, ◌∙◌, arith}
+use Rattle.std.specs.Prelude.{All}
 use Rattle.std.proofs.lemmas.Int.{of_z-to_z}
+use Rattle.std.proofs.lemmas.List.Elements.{All-nil, All-cons}
 use Rattle.std.specs.Int.{Width, w8, w16, w32, w64, to_le_bytes, cast_signed}
 use mir.Val.{bits}
 use Rattle.dbus_types.specs.declared.types.Endian.{Endian}
@@ -11,8 +13,11 @@ use Rattle.dbus_types.specs.declared.types.Value.{Value, the_lemmas}
 use Rattle.dbus_types.specs.declared.types.Value.TheOpen.{Value-F}
 use Rattle.dbus_types.specs.declared.types.Value.TheVariants as V
 use Rattle.dbus_types.specs.Types.{alignment, type_text}
+use Rattle.dbus_types.specs.Values.{type_of, array_of}
 use Rattle.dbus_types.specs.Spells.{number, gap, Aligned, NumberRow, TextRow, Members, Elements, Flat, Row, NoneInside, SpellsWithin}
 use Rattle.dbus_types.specs.Spelling.{aligned, text_body, Spelled, spell_step, spelled, spelling, spellings, variant_body}
+use Rattle.dbus_types.proofs.PackedBytes.{array_spelled}
+use Rattle.dbus_types.proofs.SpelledType.{spelled_kind}
 
 pub roll_byte : (e : Endian) (n : ℕ) → spelled e (V.Byte n) ≡ spell_step e (Value-F.Byte n)
 roll_byte e n = search the_lemmas
@@ -55,6 +60,9 @@ roll_signature e s = search the_lemmas
 
 pub roll_array : (e : Endian) (t : WireType) (vs : List Value) → spelled e (V.Array t vs) ≡ spell_step e (Value-F.Array t (map (spelled e) vs))
 roll_array e t vs = search the_lemmas
+
+pub roll_bytes : (e : Endian) (bytes : List ℕ) → spelled e (V.Bytes bytes) ≡ spell_step e (Value-F.Bytes bytes)
+roll_bytes e bytes = search the_lemmas
 
 pub roll_struct : (e : Endian) (vs : List Value) → spelled e (V.Struct vs) ≡ spell_step e (Value-F.Struct (map (spelled e) vs))
 roll_struct e vs = search the_lemmas
@@ -175,11 +183,19 @@ module _ (S : WireType → ℕ → Value → List ℕ → Type 0) (e : Endian)
       let b = elements_same t vs (at + length h.0) h.1 h.4 in
       rw (h.2, b, a.0) refl
 
+  -- each element has the type
+  element_kinds : (t : WireType) (vs : List Value) (at : ℕ) (text : List ℕ) → Elements S t vs at text → All (λ v. type_of v ≡ t) vs
+  element_kinds t [] at text h = All-nil (λ v. type_of v ≡ t)
+  element_kinds t (v ∷ vs) at text h =
+      let a = same t at v h.0 h.3 in
+      All-cons (λ v. type_of v ≡ t) v vs (sym (spelled_kind e v) ∙ a.1) (element_kinds t vs (at + length h.0) h.1 h.4)
+
   row_same : (t : WireType-F WireType) (at : ℕ) (v : Value) (text : List ℕ) → Row S e t at v text → (text ≡ spelling e at v) × ((spelled e v).0 ≡ roll-WireType t)
   row_same (WireType-F.Array t) at v text h =
       let b = h.2 in
       let body = elements_same t b.0 (at + gap 4 at + 4 + gap (alignment t) (at + gap 4 at + 4)) b.1 b.5 in
-      made e at v (V.Array t b.0) (spell_step e (Value-F.Array t (map (spelled e) b.0))) text _ b.2 (roll_array e t b.0) (rw (h.1, b.4, body) refl) (rolls_array t)
+      let kinds = element_kinds t b.0 (at + gap 4 at + 4 + gap (alignment t) (at + gap 4 at + 4)) b.1 b.5 in
+      made e at v (array_of t b.0) (spell_step e (Value-F.Array t (map (spelled e) b.0))) text _ b.2 (array_spelled e t b.0 kinds) (rw (h.1, b.4, body) refl) (rolls_array t)
   row_same (WireType-F.Struct ts) at v text h =
       let b = h.2 in
       let body = members_same ts b.0 (at + gap 8 at) h.0 b.3 in

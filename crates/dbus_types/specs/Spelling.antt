@@ -31,6 +31,10 @@ abbrev pub array_body : Endian → ℕ → List Spelled → ℕ → List ℕ
 array_body e to ss start = number e w32 (length (in_row ss (start + 4 + gap to (start + 4))))
     ++ (replicate (gap to (start + 4)) 0 ++ in_row ss (start + 4 + gap to (start + 4)))
 
+-- bytes stand side by side
+abbrev pub bytes_body : Endian → List ℕ → List ℕ
+bytes_body e bytes = number e w32 (length bytes) ++ bytes
+
 abbrev pub signature_body : List ℕ → List ℕ
 signature_body text = to_le_bytes w8 (length text) ++ (text ++ 0 ∷ [])
 
@@ -53,6 +57,7 @@ spell_step e (Value-F.Str text) = (W.Str, aligned 4 (λ start. text_body e text)
 spell_step e (Value-F.ObjectPath text) = (W.ObjectPath, aligned 4 (λ start. text_body e text))
 spell_step e (Value-F.Signature text) = (W.Signature, λ at. signature_body text)
 spell_step e (Value-F.Variant s) = (W.Variant, variant_body (type_text s.0) s.1)
+spell_step e (Value-F.Bytes bytes) = (W.Array W.Byte, aligned 4 (λ start. bytes_body e bytes))
 spell_step e (Value-F.Array t ss) = (W.Array t, aligned 4 (array_body e (alignment t) ss))
 spell_step e (Value-F.Struct ss) = (W.Struct (map (λ s. s.0) ss), aligned 8 (in_row ss))
 spell_step e (Value-F.DictEntry k x) = (W.DictEntry k.0 x.0, aligned 8 (in_row (k ∷ x ∷ [])))

@@ -11,7 +11,7 @@ use Rattle.dbus_types.specs.declared.types.Value.{Value}
 use Rattle.dbus_types.specs.declared.types.Value.TheVariants as V
 use Rattle.dbus_types.specs.Names.{is_path}
 use Rattle.dbus_types.specs.Types.{alignment, type_text, IsVariantType}
-use Rattle.dbus_types.specs.Values.{IsText, IsSignatureText}
+use Rattle.dbus_types.specs.Values.{IsText, IsSignatureText, array_of}
 
 -- the bytes of a number of a width
 abbrev pub number : Endian → Width → ℕ → List ℕ
@@ -80,7 +80,7 @@ Elements S t (v ∷ vs) at bytes = (first rest : List ℕ) × (bytes ≡ first +
 -- that padding, which stands also where there is none; and the elements
 abbrev pub ArrayRow : (WireType → ℕ → Value → List ℕ → Type 0) → Endian → WireType → Value → ℕ
     → List ℕ → Type 0
-ArrayRow S e t v start bytes = (vs : List Value) × (body : List ℕ) × (v ≡ V.Array t vs)
+ArrayRow S e t v start bytes = (vs : List Value) × (body : List ℕ) × (v ≡ array_of t vs)
     × (length body ≤ 67_108_864)
     × (bytes ≡ number e w32 (length body) ++ (replicate (gap (alignment t) (start + 4)) 0 ++ body))
     × Elements S t vs (start + 4 + gap (alignment t) (start + 4)) body

@@ -83,6 +83,7 @@ fn copy_value(alloc: Global, value: &Value) -> Result<Value, WantOfMemory>
             let inner = copy_value(alloc, inner.get())?;
             Ok(Value::Variant(Boxed::new(alloc, inner)?))
         }
+        Value::Bytes(bytes) => Ok(Value::Bytes(List::copied(alloc, bytes.as_slice())?)),
         Value::Array { element, items } => {
             let items = copy_values(alloc, items.as_slice())?;
             Ok(Value::Array {

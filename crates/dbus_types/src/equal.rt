@@ -4,8 +4,16 @@
 //! not only that they are alike by the type's own rule.
 
 ghost use Rattle.std.specs.Prelude.{◌≡◌, IsTrue, ◌↔◌};
+ghost use Rattle.dbus_types.specs.declared.types.WireType.TheVariants as W;
 
 use crate::types::WireType;
+
+/// Says whether a type is that of bytes.
+pub fn is_byte(kind: &WireType) -> bool
+    ensures { IsTrue result ↔ (kind.now ≡ W.Byte) }
+{
+    matches!(kind, WireType::Byte)
+}
 
 /// Says whether two types are the same.
 #[cycle(same_types)]

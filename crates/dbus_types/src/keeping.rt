@@ -6,7 +6,9 @@ ghost use Rattle.std.specs.Prelude.{◌≡◌, ◌+◌, ◌<◌, ◌≤◌, ◌�
 ghost use Rattle.dbus_types.specs.Types.{role, members_role, greatest, arrays_deep, brackets_deep, type_text, types_text, IsValidType, IsVariantType};
 ghost use Rattle.dbus_types.specs.Values.{type_of, IsText, IsSignatureText, LeafKeeps, KeepsWithin, KeepsRules};
 ghost use Rattle.dbus_types.specs.declared.types.Value.{out-Value};
+ghost use Rattle.dbus_types.specs.declared.types.Value.TheVariants as V;
 
+use crate::equal::is_byte;
 use crate::names::is_object_path;
 use crate::nesting::MOST_NESTED;
 use crate::roles::Role;
@@ -22,7 +24,7 @@ fn role_of_type(value: &Value) -> Role
     ensures { result ≡ role (type_of value.now) }
 {
     match value {
-        Value::Variant(_) => Role::Single,
+        Value::Variant(_) | Value::Bytes(_) => Role::Single,
         Value::Array { element, .. } => match role_of(element) {
             Role::Nowhere => Role::Nowhere,
             _ => Role::Single,
@@ -62,6 +64,7 @@ fn type_arrays_within(value: &Value, limit: u32) -> bool
     ensures { IsTrue result ↔ (arrays_deep (type_of value.now) ≤ limit) }
 {
     match value {
+        Value::Bytes(_) => limit > 0,
         Value::Array { element, .. } => limit > 0 && arrays_within(element, limit - 1),
         Value::Struct(members) => types_arrays_within(members.as_slice(), limit),
         Value::DictEntry { key, value } => {
@@ -150,6 +153,7 @@ pub fn type_leaves(value: &Value, limit: u64) -> Option<u64>
         (λ left. left + length (type_text (type_of value.now)) ≡ limit) }
 {
     match value {
+        Value::Bytes(_) => limit.checked_sub(2),
         Value::Array { element, .. } => text_leaves(element, limit.checked_sub(1)?),
         Value::Struct(members) => types_leave(members.as_slice(), limit.checked_sub(2)?),
         Value::DictEntry { key, value } => {
@@ -231,10 +235,22 @@ fn leaf_keeps(value: &Value) -> bool
         Value::ObjectPath(text) => is_object_path(text.as_bytes()),
         Value::Signature(text) => is_signature(text.as_bytes()),
         Value::Variant(_) => false,
+        Value::Bytes(_) => false,
         Value::Array { .. } => false,
         Value::Struct(_) => false,
         Value::DictEntry { .. } => false,
     }
+}
+
+/// Says whether packed bytes may stand in an array, which itself may hold values
+/// in at most so many others.
+fn bytes_keep(bytes: &[u8], depth: u32) -> bool
+    ensures { IsTrue result ↔ KeepsWithin depth (V.Bytes bytes.now) }
+{
+    if depth == 0 {
+        return bytes.is_empty();
+    }
+    true
 }
 
 /// Says whether a value and those inside it keep the rules, and each of these
@@ -255,11 +271,16 @@ fn keeps_within(value: &Value, depth: u32) -> bool
             }
             keeps_within(inner, depth - 1)
         }
+        Value::Bytes(bytes) => bytes_keep(bytes.as_slice(), depth),
         Value::Array { element, items } => {
+            let kind = element.get();
+            if is_byte(kind) {
+                return false;
+            }
             if depth == 0 {
                 return items.is_empty();
             }
-            items_keep(items.as_slice(), element, depth - 1)
+            items_keep(items.as_slice(), kind, depth - 1)
         }
         Value::Struct(members) => {
             if depth == 0 {
@@ -309,9 +330,9 @@ fn members_keep(members: &[Value], depth: u32) -> bool
 
 /// Says whether a value keeps the rules: its type is a single complete type
 /// within the limits; texts hold no zero byte, paths and signatures have
-/// their form; each item of an array has the type of its elements, and a
-/// variant can carry the type of its value; and each value inside stands in at
-/// most 64 arrays, structs, dict entries and variants.
+/// their form; each item of an array has the type of its elements, bytes are
+/// packed, and a variant can carry the type of its value; and each value inside
+/// stands in at most 64 arrays, structs, dict entries and variants.
 ///
 /// Source: D-Bus Specification, "Type System", "Valid Signatures".
 pub fn keeps_rules(value: &Value) -> bool

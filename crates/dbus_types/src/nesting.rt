@@ -3,6 +3,7 @@
 //! Source: D-Bus Specification, "Valid Signatures" and "Message Protocol".
 
 ghost use Rattle.std.specs.Prelude.{◌≡◌, map, min};
+ghost use Rattle.dbus_types.specs.declared.types.Value.TheVariants as V;
 ghost use Rattle.dbus_types.specs.Types.{greatest};
 ghost use Rattle.dbus_types.specs.Values.{nesting as nesting_in, one_around};
 
@@ -20,6 +21,7 @@ pub fn nesting(value: &Value) -> u32
 {
     match value {
         Value::Variant(inner) => nesting(inner.get()).saturating_add(1),
+        Value::Bytes(bytes) => around_bytes(bytes.as_slice()),
         Value::Array { items, .. } => around(items.as_slice()),
         Value::Struct(members) => around(members.as_slice()),
         Value::DictEntry { key, value } => nesting(key.get())
@@ -27,6 +29,16 @@ pub fn nesting(value: &Value) -> u32
             .saturating_add(1),
         _ => 0,
     }
+}
+
+/// How deep an array of these bytes goes.
+fn around_bytes(bytes: &[u8]) -> u32
+    ensures { result ≡ min (nesting_in (V.Bytes bytes.now)) 4_294_967_295 }
+{
+    if bytes.is_empty() {
+        return 0;
+    }
+    1
 }
 
 /// How deep a container of some values goes, or 4,294,967,295.

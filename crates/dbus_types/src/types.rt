@@ -13,7 +13,7 @@ pub enum Endian {
 
 use crate::shared::Shared;
 use portal_base::boxed::Boxed;
-use portal_base::list::List;
+use portal_base::list::{ByteList, List};
 use portal_base::text::Text;
 
 /// A type of D-Bus.
@@ -91,7 +91,9 @@ pub enum Value {
     Handle(u32),
     /// A value with its type, which is known from the value.
     Variant(Boxed<Value>),
-    /// Values of one type.
+    /// An array of bytes, packed; it is the only form of one.
+    Bytes(ByteList),
+    /// Values of one type, which isn't that of bytes.
     Array {
         /// The type of each item, which arrays of one type share.
         element: Shared<WireType>,

@@ -5,7 +5,7 @@
 ghost use Rattle.std.specs.Prelude.{◌≡◌, IsTrue, ◌↔◌, map};
 ghost use Rattle.dbus_types.specs.Values.{type_of as type_in};
 
-use crate::equal::same_type;
+use crate::equal::{is_byte, same_type};
 use crate::types::{Value, WireType};
 
 /// Says whether a value has a type.
@@ -28,6 +28,10 @@ pub fn has_type(value: &Value, kind: &WireType) -> bool
         Value::Signature(_) => matches!(kind, WireType::Signature),
         Value::Handle(_) => matches!(kind, WireType::Handle),
         Value::Variant(_) => matches!(kind, WireType::Variant),
+        Value::Bytes(_) => match kind {
+            WireType::Array(other) => is_byte(other.get()),
+            _ => false,
+        },
         Value::Array { element, .. } => match kind {
             WireType::Array(other) => same_type(element, other.get()),
             _ => false,

@@ -89,6 +89,10 @@ pub fn put_type_of(out: &mut List<u8>, value: &Value) -> Result<(), WantOfMemory
         Value::Signature(_) => out.push(b'g'),
         Value::Handle(_) => out.push(b'h'),
         Value::Variant(_) => out.push(b'v'),
+        Value::Bytes(_) => {
+            out.push(b'a')?;
+            out.push(b'y')
+        }
         Value::Array { element, .. } => {
             out.push(b'a')?;
             put_type(out, element)

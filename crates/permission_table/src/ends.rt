@@ -9,7 +9,7 @@ ghost use Rattle.dbus_types.specs.declared.types.Endian.TheVariants.{Little};
 ghost use Rattle.dbus_types.specs.Types.{type_text, types_text};
 ghost use Rattle.dbus_types.specs.Values.{type_of};
 ghost use Rattle.dbus_types.specs.Spells.{gap, number};
-ghost use Rattle.dbus_types.specs.Spelling.{aligned, text_body, signature_body};
+ghost use Rattle.dbus_types.specs.Spelling.{aligned, bytes_body, text_body, signature_body};
 ghost use Rattle.permission_table.specs.Ends.{Ends};
 
 use dbus_types::types::{Value, WireType};
@@ -71,6 +71,15 @@ pub(crate) fn text_end(at: usize, text: &[u8]) -> Option<usize>
     end_of(zero, 1)
 }
 
+/// The end of bytes with their number in four bytes.
+pub(crate) fn bytes_end(at: usize, bytes: &[u8]) -> Option<usize>
+    ensures { Ends (at + length (aligned 4 (λ start. bytes_body Little bytes.now) at)) result }
+{
+    let start = padding_end(at, 4)?;
+    let first = end_of(start, 4)?;
+    end_of(first, bytes.len())
+}
+
 /// The end of a text with its length in one byte.
 pub(crate) fn signature_end(at: usize, text: &[u8]) -> Option<usize>
     ensures { Ends (at + length (signature_body text.now)) result }
@@ -120,6 +129,7 @@ pub(crate) fn type_of_end(at: usize, value: &Value) -> Option<usize>
     ensures { Ends (at + length (type_text (type_of value.now))) result }
 {
     match value {
+        Value::Bytes(_) => end_of(at, 2),
         Value::Array { element, .. } => type_end(end_of(at, 1)?, element.get()),
         Value::Struct(members) => {
             let first = end_of(at, 1)?;

@@ -12,8 +12,8 @@ ghost use Rattle.portal_model.specs.Store.{can_be_told, record_of};
 ghost use Rattle.permission_table.specs.Ends.{Ends, elements_at, inside_at};
 
 use crate::ends::{
-    LONGEST_MESSAGE, end_16, end_32, end_64, end_of, padding_end, signature_end, text_end,
-    type_of_end,
+    LONGEST_MESSAGE, bytes_end, end_16, end_32, end_64, end_of, padding_end, signature_end,
+    text_end, type_of_end,
 };
 use dbus_types::layout::alignment_of;
 use dbus_types::types::Value;
@@ -159,6 +159,7 @@ fn value_end(at: usize, value: &Value) -> Option<usize>
             let inside = inside_variant(at, inner)?;
             value_end(inside, inner)
         }
+        Value::Bytes(bytes) => bytes_end(at, bytes.as_slice()),
         Value::Array { element, items } => {
             let first = first_element(at, alignment_of(element))?;
             values_end(first, items.as_slice())

@@ -1,9 +1,10 @@
 -- Data passes its test exactly where its variant is spelled.
-use Rattle.std.proofs.Common.{◌≡◌, ℕ, zero, suc, ◌+◌, ◌<◌, ◌≤◌, ◌^◌, nat_lt, nat_le, ℤ, pos, negsuc, List, [], ◌∷◌, ◌++◌, length, map, Bool, true, false, not, ◌&&◌, cond, Result, Ok, Err, refl, sym, ap, subst, ◌∙◌, arith}
+use Rattle.std.proofs.Common.{◌≡◌, ℕ, zero, suc, ◌+◌, ◌<◌, ◌≤◌, ◌^◌, nat_lt, nat_le, ℤ, pos, negsuc, List, [], ◌∷◌, ◌++◌, length, map, Bool, true, false, not, ◌&&◌, cond, Result, Ok, Err, refl, sym, ap, subst, ◌∙◌, ◌⊎◌, inl, inr, arith}
 use Rattle.std.specs.Prelude.{All, FitsSigned}
 use Rattle.std.specs.Int.{Width, w16, w32, w64, cast_signed, cast_unsigned}
 use Rattle.std.specs.List.{list_all}
 use Rattle.std.specs.Str.{is_utf8}
+use Rattle.std.proofs.lemmas.Bool.{true≢false}
 use Rattle.std.proofs.lemmas.Bool.Decides.{nat_tests}
 use Rattle.std.proofs.lemmas.Int.{to_z-of_z}
 use Rattle.std.proofs.lemmas.List.Elements.{All-cons, All-head, All-nil, All-tail}
@@ -22,11 +23,12 @@ use Rattle.dbus_types.specs.declared.types.Value.TheVariants as V
 use Rattle.dbus_types.specs.Names.{is_path}
 use Rattle.dbus_types.specs.Reading.{whole_at}
 use Rattle.dbus_types.specs.Spells.{gap, number, bit, Aligned, ArrayRow, BoolRow, EntryRow, IsPath, NumberRow, StructRow, TextRow, Elements, Members, NoneInside, Row, Spells, SpellsWithin}
-use Rattle.dbus_types.specs.Spelling.{Spelled, aligned, array_body, in_row, spell_step, spelled, spelling, spellings, text_body}
+use Rattle.dbus_types.specs.Spelling.{Spelled, aligned, array_body, bytes_body, in_row, spell_step, spelled, spelling, spellings, text_body}
 use Rattle.dbus_types.specs.Types.{alignment, arrays_deep, brackets_deep, is_single, role, type_text, IsSignature, IsVariantType}
-use Rattle.dbus_types.specs.Values.{IsSignatureText, IsText, nesting, nesting_step, one_around, type_of, type_step}
+use Rattle.dbus_types.specs.Values.{IsSignatureText, IsText, nesting, nesting_step, one_around, type_of, type_step, array_of, byte_of}
 use Rattle.dbus_types.specs.Types.{greatest}
-use Rattle.dbus_types.proofs.OneSpelling.{one_byte, spells_same}
+use Rattle.dbus_types.proofs.OneSpelling.{one_byte, roll_byte, spells_same}
+use Rattle.dbus_types.proofs.PackedBytes.{bytes_are, bytes_in_row, byte_alignment, byte_or_not, bytes_of as packed_of, no_gap, of_bytes, of_others}
 use Rattle.dbus_types.proofs.SpelledType.{spelled_kind}
 use Rattle.dbus_types.proofs.WholeSignatures.{short_reading, whole_again}
 use Rattle.portal_base.specs.Names.{is_byte_of_path, is_same}
@@ -34,7 +36,7 @@ use Rattle.portal_base.proofs.NoZeros.{all_from_test, test_from_all}
 use Rattle.portal_model.specs.declared.records.EntryRecord.{EntryRecord}
 use Rattle.portal_model.specs.declared.store.StoredEntry.{StoredEntry}
 use Rattle.portal_model.specs.Changed.{HasDatum, IsDatum, changed_length, holds_handle, message_limit}
-use Rattle.portal_model.specs.Data.{Judged, all_keep, data_bytes, elements_at, is_data, is_of_type, is_read, is_signature, is_spelled, is_text_value, is_valid_type, is_variant_type, is_within, judge, judged, keeps_array, spelled_of}
+use Rattle.portal_model.specs.Data.{Judged, all_keep, data_bytes, elements_at, is_byte, is_data, is_of_type, is_read, is_signature, is_spelled, is_text_value, is_valid_type, is_variant_type, is_within, judge, judged, keeps_array, spelled_of}
 use Rattle.portal_model.specs.State.{is_none}
 use Rattle.portal_model.specs.Store.{can_be_told, record_of}
 use Rattle.portal_model.specs.StoreLaws.{entry_of_record}
@@ -138,6 +140,7 @@ variant_is t h =
 -- what stands inside
 abbrev Parts : (Value → Type 0) → Value-F Value → Type 0
 Parts P (Value-F.Variant x) = P x
+Parts P (Value-F.Bytes bytes) = All (λ n. P (V.Byte n)) bytes
 Parts P (Value-F.Array t vs) = All P vs
 Parts P (Value-F.Struct vs) = All P vs
 Parts P (Value-F.DictEntry k x) = P k × P x
@@ -161,11 +164,13 @@ shape_of (Value-F.ObjectPath text) = WireType-F.ObjectPath
 shape_of (Value-F.Signature text) = WireType-F.Signature
 shape_of (Value-F.Handle n) = WireType-F.Handle
 shape_of (Value-F.Variant x) = WireType-F.Variant
+shape_of (Value-F.Bytes bytes) = WireType-F.Array W.Byte
 shape_of (Value-F.Array t vs) = WireType-F.Array t
 shape_of (Value-F.Struct vs) = WireType-F.Struct (map type_of vs)
 shape_of (Value-F.DictEntry k x) = WireType-F.DictEntry (type_of k) (type_of x)
 
 out_layer : (f : Value-F Value) → out-WireType (type_step (map-Value Value WireType type_of f)) ≡ shape_of f
+out_layer (Value-F.Bytes bytes) = search type_lemmas
 out_layer (Value-F.Array t vs) = search type_lemmas
 out_layer (Value-F.Struct vs) = search type_lemmas
 out_layer (Value-F.DictEntry k x) = search type_lemmas
@@ -179,6 +184,29 @@ bytes_of f at = (spell_step Little (map-Value Value Spelled (spelled Little) f))
 
 bytes_are : (f : Value-F Value) (at : ℕ) → spelling Little at (roll-Value f) ≡ bytes_of f at
 bytes_are f at = ap (λ (s : Spelled). s.1 at) (fold-roll-Value Spelled (spell_step Little) f)
+
+-- ---- bytes, which are packed
+
+pub judged_byte : (n : ℕ) → judged (V.Byte n) ≡ judge (Value-F.Byte n)
+judged_byte n = search the_lemmas
+
+type_byte : (n : ℕ) → type_of (V.Byte n) ≡ W.Byte
+type_byte n = search the_lemmas
+
+nesting_byte : (n : ℕ) → nesting (V.Byte n) ≡ 0
+nesting_byte n = search the_lemmas
+
+pub no_byte : (t : WireType) → not (is_byte t) ≡ true → t ≡ W.Byte → ⊥
+no_byte t h is =
+    let byte : is_byte t ≡ true = ap (λ (u : WireType). is_same (type_text u) (type_text W.Byte)) is ∙ is_same-refl (type_text W.Byte) in
+    true≢false (sym h ∙ ap not byte)
+
+pub other_kind : (t : WireType) → (t ≡ W.Byte → ⊥) → not (is_byte t) ≡ true
+other_kind t none = by_test (is_byte t) refl
+  where
+    by_test : (b : Bool) → is_byte t ≡ b → not b ≡ true
+    by_test true e = absurd (none (one-type t W.Byte (is_same-eq (type_text t) (type_text W.Byte) e)))
+    by_test false e = refl
 
 -- ---- a value that passes is spelled
 
@@ -220,9 +248,12 @@ module _ (S : WireType → ℕ → Value → List ℕ → Type 0) (Inside : Valu
         elements_kept t vs (at + length first) (All-tail Inside v vs k) (second_of_both (is_of_type t (judged v)) (list_all (is_of_type t) (map judged vs)) d) two.1,
       )
 
-  array_kept : (at : ℕ) (t : WireType) (vs : List Value) → All Inside vs → keeps_array t (map judged vs) (elements_at t at) ≡ true → Row S Little (WireType-F.Array t) at (roll-Value (Value-F.Array t vs)) (bytes_of (Value-F.Array t vs) at)
-  array_kept at t vs k h =
+  array_kept : (at : ℕ) (t : WireType) (vs : List Value) → All Inside vs → (not (is_byte t) && keeps_array t (map judged vs) (elements_at t at)) ≡ true → Row S Little (WireType-F.Array t) at (roll-Value (Value-F.Array t vs)) (bytes_of (Value-F.Array t vs) at)
+  array_kept at t vs k g =
       let r : V.Array t vs ≡ roll-Value (Value-F.Array t vs) = search the_lemmas in
+      let other = not (is_byte t) in
+      let none : t ≡ W.Byte → ⊥ = no_byte t (first_of_both other (keeps_array t (map judged vs) (elements_at t at)) g) in
+      let h : keeps_array t (map judged vs) (elements_at t at) ≡ true = second_of_both other (keeps_array t (map judged vs) (elements_at t at)) g in
       let first : ℕ = elements_at t at in
       let js : List Judged = map judged vs in
       let types = list_all (is_of_type t) js in
@@ -233,10 +264,42 @@ module _ (S : WireType → ℕ → Value → List ℕ → Type 0) (Inside : Valu
       behind 4 at (ArrayRow S Little t (roll-Value (Value-F.Array t vs))) (array_body Little (alignment t) (map (spelled Little) vs)) (
         vs,
         spellings Little first vs,
-        sym r,
+        sym r ∙ sym (of_others t vs none),
         fits,
         refl,
         elements_kept t vs first k (first_of_both types (short && all_keep js first) h) (second_of_both short (all_keep js first) later),
+      )
+
+  byte_kept : (n at : ℕ) → Inside (V.Byte n) → nat_lt n (2 ^ 8) ≡ true → S W.Byte at (V.Byte n) (n ∷ [])
+  byte_kept n at k h =
+      let found : S (type_of (V.Byte n)) at (V.Byte n) (spelling Little at (V.Byte n)) = has at (V.Byte n) k (ap (λ (j : Judged). j.1 at) (judged_byte n) ∙ h) in
+      subst (λ (t : WireType). S t at (V.Byte n) (n ∷ [])) (type_byte n) (subst (S (type_of (V.Byte n)) at (V.Byte n)) (ap (λ (s : Spelled). s.1 at) (roll_byte Little n)) found)
+
+  numbers_kept : (bytes : List ℕ) (at : ℕ) → All (λ n. Inside (V.Byte n)) bytes → list_all (λ n. nat_lt n (2 ^ 8)) bytes ≡ true → Elements S W.Byte (map (λ n. V.Byte n) bytes) at bytes
+  numbers_kept [] at k h = refl
+  numbers_kept (n ∷ ns) at k h = (
+    n ∷ [],
+    ns,
+    refl,
+    byte_kept n at (All-head (λ m. Inside (V.Byte m)) n ns k) (first_of_both (nat_lt n (2 ^ 8)) (list_all (λ m. nat_lt m (2 ^ 8)) ns) h),
+    numbers_kept ns (at + 1) (All-tail (λ m. Inside (V.Byte m)) n ns k) (second_of_both (nat_lt n (2 ^ 8)) (list_all (λ m. nat_lt m (2 ^ 8)) ns) h),
+  )
+
+  bytes_kept : (at : ℕ) (bytes : List ℕ) → All (λ n. Inside (V.Byte n)) bytes → (list_all (λ n. nat_lt n (2 ^ 8)) bytes && nat_le (length bytes) 67_108_864) ≡ true
+      → Row S Little (WireType-F.Array W.Byte) at (roll-Value (Value-F.Bytes bytes)) (bytes_of (Value-F.Bytes bytes) at)
+  bytes_kept at bytes k h =
+      let r : V.Bytes bytes ≡ roll-Value (Value-F.Bytes bytes) = search the_lemmas in
+      let numbers = list_all (λ n. nat_lt n (2 ^ 8)) bytes in
+      let short = nat_le (length bytes) 67_108_864 in
+      let start : ℕ = at + gap 4 at in
+      let none : gap (alignment W.Byte) (start + 4) ≡ 0 = ap (λ (to : ℕ). gap to (start + 4)) byte_alignment ∙ no_gap (start + 4) in
+      behind 4 at (ArrayRow S Little W.Byte (roll-Value (Value-F.Bytes bytes))) (λ start. bytes_body Little bytes) (
+        map (λ n. V.Byte n) bytes,
+        bytes,
+        sym r ∙ sym (of_bytes bytes),
+        at_most (length bytes) 67_108_864 (second_of_both numbers short h),
+        ap (λ (n : ℕ). number Little w32 (length bytes) ++ (replicate n 0 ++ bytes)) (sym none),
+        numbers_kept bytes (start + 4 + gap (alignment W.Byte) (start + 4)) k (first_of_both numbers short h),
       )
 
   some_types : (vs : List Value) → not (is_none (map judged vs)) ≡ true → 0 < length (map type_of vs)
@@ -320,6 +383,7 @@ module _ (S : WireType → ℕ → Value → List ℕ → Type 0) (Inside : Valu
       let read : IsSignatureText text = signature_is text (second_of_both (is_text_value text) (is_signature text) h) in
       (text, sym r, good.0, read, ap (λ (w : List ℕ). w ++ (text ++ 0 ∷ [])) (one_byte (length text) (omega (arith, read.1.2))))
   row_kept at (Value-F.Variant x) k h = variant_kept at x k h
+  row_kept at (Value-F.Bytes bytes) k h = bytes_kept at bytes k h
   row_kept at (Value-F.Array t vs) k h = array_kept at t vs k h
   row_kept at (Value-F.Struct vs) k h = struct_kept at vs k h
   row_kept at (Value-F.DictEntry key x) k h = entry_kept at key x k.0 k.1 h
@@ -350,8 +414,17 @@ some_inside : (n : ℕ) (vs : List Value) → one_around (map nesting vs) ≤ su
 some_inside n [] h = All-nil (λ v. nesting v ≤ n)
 some_inside n (v ∷ vs) h = inside_most n (v ∷ vs) (omega arith)
 
+no_numbers : (bytes : List ℕ) → nesting_step (Value-F.Bytes bytes) ≤ 0 → All (λ n. ⊥) bytes
+no_numbers [] h = All-nil (λ n. ⊥)
+no_numbers (b ∷ bs) h = absurd (omega arith)
+
+numbers_shallow : (n : ℕ) (bytes : List ℕ) → All (λ b. nesting (V.Byte b) ≤ n) bytes
+numbers_shallow n [] = All-nil (λ b. nesting (V.Byte b) ≤ n)
+numbers_shallow n (b ∷ bs) = All-cons (λ m. nesting (V.Byte m) ≤ n) b bs (omega (arith, nesting_byte b)) (numbers_shallow n bs)
+
 no_parts : (f : Value-F Value) → nesting_step (map-Value Value ℕ nesting f) ≤ 0 → Parts (λ v. ⊥) f
 no_parts (Value-F.Variant x) h = absurd (omega arith)
+no_parts (Value-F.Bytes bytes) h = no_numbers bytes h
 no_parts (Value-F.Array t vs) h = none_inside vs h
 no_parts (Value-F.Struct vs) h = none_inside vs h
 no_parts (Value-F.DictEntry k x) h = absurd (omega arith)
@@ -359,6 +432,7 @@ no_parts f h = tt
 
 parts_within : (n : ℕ) (f : Value-F Value) → nesting_step (map-Value Value ℕ nesting f) ≤ suc n → Parts (λ v. nesting v ≤ n) f
 parts_within n (Value-F.Variant x) h = omega arith
+parts_within n (Value-F.Bytes bytes) h = numbers_shallow n bytes
 parts_within n (Value-F.Array t vs) h = some_inside n vs h
 parts_within n (Value-F.Struct vs) h = some_inside n vs h
 parts_within n (Value-F.DictEntry k x) h = (omega arith, omega arith)
@@ -516,19 +590,56 @@ module _ (S : WireType → ℕ → Value → List ℕ → Type 0) (k : ℕ) (ins
         text = h.2 ∙ (ap (λ (rest : List ℕ). first ++ rest) others.text ∙ ap (λ (f : List ℕ). f ++ spellings Little (at + length f) vs) one.text);
       }
 
-  array_passes : (t : WireType) (at : ℕ) (v : Value) (bytes : List ℕ) → Row S Little (WireType-F.Array t) at v bytes → Passes k at v
-  array_passes t at v bytes h =
-      let b = h.2 in
-      let vs : List Value = b.0 in
+  element_kinds : (t : WireType) (vs : List Value) (at : ℕ) (bytes : List ℕ) → Elements S t vs at bytes → All (λ v. type_of v ≡ t) vs
+  element_kinds t [] at bytes h = All-nil (λ v. type_of v ≡ t)
+  element_kinds t (v ∷ vs) at bytes h = All-cons (λ x. type_of x ≡ t) v vs (inside t at v h.0 h.3).kind (element_kinds t vs (at + length h.0) h.1 h.4)
+
+  numbers_pass : (ns : List ℕ) (at : ℕ) → all_keep (map judged (map (λ n. V.Byte n) ns)) at ≡ true → list_all (λ n. nat_lt n (2 ^ 8)) ns ≡ true
+  numbers_pass [] at h = refl
+  numbers_pass (n ∷ ns) at h =
+      let first = (judged (V.Byte n)).1 at in
+      let next : ℕ = at + length ((judged (V.Byte n)).0.1 at) in
+      let rest = all_keep (map judged (map (λ m. V.Byte m) ns)) next in
+      both (nat_lt n (2 ^ 8)) (list_all (λ m. nat_lt m (2 ^ 8)) ns) (sym (ap (λ (j : Judged). j.1 at) (judged_byte n)) ∙ first_of_both first rest h) (numbers_pass ns next (second_of_both first rest h))
+
+  around_numbers : (ns : List ℕ) → All Shallow (map (λ n. V.Byte n) ns) → nesting_step (Value-F.Bytes ns) ≤ k
+  around_numbers [] a = least k
+  around_numbers (n ∷ ns) a =
+      let one : nesting (V.Byte n) + 1 ≤ k = All-head Shallow (V.Byte n) (map (λ m. V.Byte m) ns) a in
+      omega (arith, one)
+
+  bytes_pass : (t : WireType) (at : ℕ) (v : Value) (vs : List Value) (body : List ℕ) → t ≡ W.Byte → v ≡ array_of t vs → All (λ x. type_of x ≡ t) vs → Listed t vs (elements_at t at) body → length body ≤ 67_108_864 → Passes k at v
+  bytes_pass t at v vs body byte is kinds m small =
+      let first : ℕ = elements_at t at in
+      let ns : List ℕ = map byte_of vs in
+      let whole : map (λ n. V.Byte n) ns ≡ vs = bytes_are vs (subst (λ (u : WireType). All (λ x. type_of x ≡ u) vs) byte kinds) in
+      let packed : v ≡ V.Bytes ns = is ∙ (ap (λ (u : WireType). array_of u vs) byte ∙ packed_of vs) in
+      let r : V.Bytes ns ≡ roll-Value (Value-F.Bytes ns) = search the_lemmas in
+      let keep : all_keep (map judged (map (λ n. V.Byte n) ns)) first ≡ true = ap (λ (ws : List Value). all_keep (map judged ws) first) whole ∙ m.keep in
+      let same : ns ≡ body = sym (bytes_in_row Little ns first) ∙ (ap (λ (ws : List Value). spellings Little first ws) whole ∙ sym m.text) in
+      let short : nat_le (length ns) 67_108_864 ≡ true = no_more (length ns) 67_108_864 (subst (λ (w : List ℕ). length w ≤ 67_108_864) (sym same) small) in
+      layer_passes k at v (Value-F.Bytes ns) (packed ∙ r)
+      (both (list_all (λ n. nat_lt n (2 ^ 8)) ns) (nat_le (length ns) 67_108_864) (numbers_pass ns first keep) short)
+      (around_numbers ns (subst (All Shallow) (sym whole) m.shallow))
+
+  others_pass : (t : WireType) (at : ℕ) (v : Value) (vs : List Value) (body : List ℕ) → (t ≡ W.Byte → ⊥) → v ≡ array_of t vs → Listed t vs (elements_at t at) body → length body ≤ 67_108_864 → Passes k at v
+  others_pass t at v vs body none is m small =
       let r : V.Array t vs ≡ roll-Value (Value-F.Array t vs) = search the_lemmas in
       let first : ℕ = elements_at t at in
       let js : List Judged = map judged vs in
-      let m = elements_pass t vs first b.1 b.5 in
       let short : nat_le (length (in_row (map spelled_of js) first)) 67_108_864 ≡ true =
-      ap (λ (ss : List Spelled). nat_le (length (in_row ss first)) 67_108_864) (all_spelled vs) ∙ (ap (λ (body : List ℕ). nat_le (length body) 67_108_864) (sym m.text) ∙ no_more (length b.1) 67_108_864 b.3) in
-      layer_passes k at v (Value-F.Array t vs) (b.2 ∙ r)
-      (both (list_all (is_of_type t) js) (nat_le (length (in_row (map spelled_of js) first)) 67_108_864 && all_keep js first) m.types (both (nat_le (length (in_row (map spelled_of js) first)) 67_108_864) (all_keep js first) short m.keep))
+      ap (λ (ss : List Spelled). nat_le (length (in_row ss first)) 67_108_864) (all_spelled vs) ∙ (ap (λ (body : List ℕ). nat_le (length body) 67_108_864) (sym m.text) ∙ no_more (length body) 67_108_864 small) in
+      layer_passes k at v (Value-F.Array t vs) (is ∙ (of_others t vs none ∙ r))
+      (both (not (is_byte t)) (keeps_array t js first) (other_kind t none)
+      (both (list_all (is_of_type t) js) (nat_le (length (in_row (map spelled_of js) first)) 67_108_864 && all_keep js first) m.types (both (nat_le (length (in_row (map spelled_of js) first)) 67_108_864) (all_keep js first) short m.keep)))
       (around_all vs m.shallow)
+
+  array_passes : (t : WireType) (at : ℕ) (v : Value) (bytes : List ℕ) → Row S Little (WireType-F.Array t) at v bytes → Passes k at v
+  array_passes t at v bytes h = by_kind (byte_or_not t)
+    where
+      by_kind : (t ≡ W.Byte) ⊎ (t ≡ W.Byte → ⊥) → Passes k at v
+      by_kind (inl byte) = bytes_pass t at v h.2.0 h.2.1 byte h.2.2 (element_kinds t h.2.0 (elements_at t at) h.2.1 h.2.5) (elements_pass t h.2.0 (elements_at t at) h.2.1 h.2.5) h.2.3
+      by_kind (inr none) = others_pass t at v h.2.0 h.2.1 none h.2.2 (elements_pass t h.2.0 (elements_at t at) h.2.1 h.2.5) h.2.3
 
   some_judged : (ts : List WireType) (vs : List Value) → 0 < length ts → length ts ≡ length vs → not (is_none (map judged vs)) ≡ true
   some_judged ts [] l e = absurd (omega arith)

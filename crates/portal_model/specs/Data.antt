@@ -9,6 +9,7 @@ use Rattle.dbus_types.specs.declared.types.Value.{Value, fold-Value}
 use Rattle.dbus_types.specs.declared.types.Value.TheOpen.{Value-F}
 use Rattle.dbus_types.specs.declared.types.Value.TheVariants as V
 use Rattle.dbus_types.specs.declared.types.WireType.{WireType}
+use Rattle.dbus_types.specs.declared.types.WireType.TheVariants as W
 use Rattle.dbus_types.specs.Names.{is_path}
 use Rattle.dbus_types.specs.Reading.{whole_at}
 use Rattle.dbus_types.specs.Spells.{gap}
@@ -61,6 +62,10 @@ all_keep (j ∷ js) at = j.1 at && all_keep js (at + length (j.0.1 at))
 abbrev pub is_of_type : WireType → Judged → Bool
 is_of_type t j = is_same (type_text j.0.0) (type_text t)
 
+-- the type of bytes, which are packed
+abbrev pub is_byte : WireType → Bool
+is_byte t = is_same (type_text t) (type_text W.Byte)
+
 -- where the first element of an array stands, behind the number of their bytes and the padding
 abbrev pub elements_at : WireType → ℕ → ℕ
 elements_at t at = let start = at + gap 4 at in start + 4 + gap (alignment t) (start + 4)
@@ -97,9 +102,13 @@ judge (Value-F.Variant j) = (
   spell_step Little (Value-F.Variant j.0),
   λ at. is_variant_type j.0.0 && j.1 (at + (1 + length (type_text j.0.0) + 1)),
 )
+judge (Value-F.Bytes bytes) = (
+  spell_step Little (Value-F.Bytes bytes),
+  λ at. list_all (λ n. nat_lt n (2 ^ 8)) bytes && nat_le (length bytes) 67_108_864,
+)
 judge (Value-F.Array t js) = (
   spell_step Little (Value-F.Array t (map spelled_of js)),
-  λ at. keeps_array t js (elements_at t at),
+  λ at. not (is_byte t) && keeps_array t js (elements_at t at),
 )
 judge (Value-F.Struct js) = (
   spell_step Little (Value-F.Struct (map spelled_of js)),

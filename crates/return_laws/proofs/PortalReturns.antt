@@ -20,7 +20,7 @@ use Rattle.dbus_dispatch.specs.declared.ask.Ask.{Ask}
 use Rattle.dbus_dispatch.specs.declared.ask.Ask.TheVariants.{Portal}
 use Rattle.dbus_dispatch.specs.declared.method.Method.{Method}
 use Rattle.dbus_dispatch.specs.declared.method.Method.TheVariants as M
-use Rattle.dbus_dispatch.specs.Arguments.{add_call, add_full_call, add_named_call, add_named_full_call, bytes_in, delete_call, delete_permission_call, get_permission_call, items_alone, list_call, lookup_call, rights_call, set_call, set_permission_call, set_value_call, text_alone}
+use Rattle.dbus_dispatch.specs.Arguments.{add_call, add_full_call, add_named_call, add_named_full_call, bytes_alone, delete_call, delete_permission_call, get_permission_call, list_call, lookup_call, rights_call, set_call, set_permission_call, set_value_call, text_alone}
 use Rattle.dbus_dispatch.specs.Asks.{ask_of, asked, asked_of_portal}
 use Rattle.dbus_dispatch.specs.Calls.{found}
 use Rattle.dbus_dispatch.specs.Replies.{body_of, error_in}
@@ -68,8 +68,8 @@ module _ (mountpoint : List ℕ) (call : Message) (s : State) (seat : ℕ) (give
 
   method_signed : (m : Method) (r : Request) → asked mountpoint call m ≡ Portal r → Signed m r
   method_signed M.Present r e =
-      made M.Present (λ path. Request.Present (bytes_in path)) (items_alone call.body) r
-      (λ path is. on_bus M.Present (Request.Present (bytes_in path)) (λ c. of_present (IsSigned mountpoint M.Present) (all_told c.seat s) c (bytes_in path) (λ place told f. number_signature place))) e
+      made M.Present Request.Present (bytes_alone call.body) r
+      (λ path is. on_bus M.Present (Request.Present path) (λ c. of_present (IsSigned mountpoint M.Present) (all_told c.seat s) c path (λ place told f. number_signature place))) e
   method_signed M.Add r e = on_add M.Add (add_call call.fds call.body) r (λ ids told f. one_text ids told.1) e
   method_signed M.AddNamed r e = on_add M.AddNamed (add_named_call call.fds call.body) r (λ ids told f. one_text ids told.1) e
   method_signed M.AddFull r e = on_add M.AddFull (add_full_call call.fds call.body) r (λ ids told f. texts_and_extra ids mountpoint) e
@@ -84,8 +84,8 @@ module _ (mountpoint : List ℕ) (call : Message) (s : State) (seat : ℕ) (give
       made M.DeleteDocument Request.DeleteDocument (text_alone call.body) r
       (λ doc is. on_bus M.DeleteDocument (Request.DeleteDocument doc) (λ c. of_delete (IsSigned mountpoint M.DeleteDocument) (all_told c.seat s) c.who doc (λ told f. refl))) e
   method_signed M.LookupDocument r e =
-      made M.LookupDocument (λ path. Request.LookupDocument (bytes_in path)) (items_alone call.body) r
-      (λ path is. on_bus M.LookupDocument (Request.LookupDocument (bytes_in path)) (λ c. of_lookup (IsSigned mountpoint M.LookupDocument) (all_told c.seat s) c.who (bytes_in path) (λ ids told f. one_text ids told.1))) e
+      made M.LookupDocument Request.LookupDocument (bytes_alone call.body) r
+      (λ path is. on_bus M.LookupDocument (Request.LookupDocument path) (λ c. of_lookup (IsSigned mountpoint M.LookupDocument) (all_told c.seat s) c.who path (λ ids told f. one_text ids told.1))) e
   method_signed M.Info r e =
       made M.Info Request.Info (text_alone call.body) r
       (λ doc is. on_bus M.Info (Request.Info doc) (λ c. of_info (IsSigned mountpoint M.Info) (all_told c.seat s) c.who doc (λ path rights told f. info_signature path rights))) e

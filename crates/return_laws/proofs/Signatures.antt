@@ -15,7 +15,7 @@ use Rattle.dbus_dispatch.specs.Asks.{closed_bytes}
 use Rattle.dbus_dispatch.specs.Properties.{dictionary, variant_of}
 use Rattle.dbus_dispatch.specs.Replies.{documents_value, each_text, extra, listed_value}
 use Rattle.dbus_dispatch.specs.Tables.{Property}
-use Rattle.dbus_dispatch.proofs.Bodies.{text_byte, text_str, text_u32, text_variant, type_array, type_str, type_u32, type_variant}
+use Rattle.dbus_dispatch.proofs.Bodies.{text_byte, text_str, text_u32, text_variant, type_array, type_bytes, type_str, type_u32, type_variant}
 
 abbrev pub signature : List Value → List ℕ
 signature body = types_text (map type_of body)
@@ -67,7 +67,7 @@ two v w t u text more e f g h = (λ i. type_text (e i) ++ (type_text (f i) ++ []
 -- ---- the types of values
 
 type_closed : (path : List ℕ) → type_of (closed_bytes path) ≡ bytes
-type_closed path = type_array W.Byte (map V.Byte (path ++ 0 ∷ []))
+type_closed path = type_bytes (path ++ 0 ∷ [])
 
 type_texts : (texts : List (List ℕ)) → type_of (texts_value texts) ≡ strings
 type_texts texts = type_array W.Str (map (λ t. V.Str t) texts)

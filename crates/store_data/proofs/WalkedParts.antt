@@ -1,7 +1,7 @@
 -- Walks past values that hold others.
-use Rattle.std.proofs.Common.{◌≡◌, ℕ, zero, suc, ◌+◌, ◌-◌, ◌%◌, ◌<◌, ◌≤◌, ◌↔◌, nat_le, List, [], ◌∷◌, ◌++◌, length, map, drop, get_or, Bool, true, false, not, ◌&&◌, Option, None, Some, refl, sym, ap, subst, ◌∙◌, arith}
+use Rattle.std.proofs.Common.{◌≡◌, ℕ, zero, suc, ◌+◌, ◌-◌, ◌%◌, ◌<◌, ◌≤◌, ◌^◌, ◌↔◌, nat_le, nat_lt, List, [], ◌∷◌, ◌++◌, length, map, drop, get_or, Bool, true, false, not, ◌&&◌, Option, None, Some, refl, sym, ap, subst, ◌∙◌, arith}
 use Rattle.std.specs.Prelude.{All, IsTrue}
-use Rattle.std.specs.Int.{w8, to_le_bytes}
+use Rattle.std.specs.Int.{w8, w32, to_le_bytes}
 use Rattle.std.specs.List.{list_all}
 use Rattle.std.proofs.lemmas.Bool.{true≢false}
 use Rattle.std.proofs.lemmas.Bool.Decides.{nat_tests}
@@ -12,25 +12,26 @@ use Rattle.std.proofs.lemmas.List.Elements.{All-get_or, All-head, All-tail, All-
 use Rattle.dbus_types.specs.declared.types.Endian.TheVariants.{Little}
 use Rattle.dbus_types.specs.declared.types.WireType.{WireType, out-WireType}
 use Rattle.dbus_types.specs.declared.types.WireType.TheOpen.{WireType-F}
+use Rattle.dbus_types.specs.declared.types.WireType.TheVariants as W
 use Rattle.dbus_types.specs.declared.types.Value.{Value, out-Value, roll-Value, the_lemmas}
 use Rattle.dbus_types.specs.declared.types.Value.TheOpen.{Value-F}
 use Rattle.dbus_types.specs.declared.types.Value.TheVariants as V
-use Rattle.dbus_types.specs.Spells.{gap}
-use Rattle.dbus_types.specs.Spelling.{Spelled, in_row, spelled, spelled_length, spelled_lengths, spelling, variant_body}
+use Rattle.dbus_types.specs.Spells.{gap, number}
+use Rattle.dbus_types.specs.Spelling.{Spelled, aligned, bytes_body, in_row, spelled, spelled_length, spelled_lengths, spelling, variant_body}
 use Rattle.dbus_types.specs.Types.{alignment, alignment_of, type_text, IsValidType, IsVariantType}
 use Rattle.dbus_types.specs.Values.{KeepsWithin, LeafKeeps, ValueKeeps, type_of}
 use Rattle.dbus_types.proofs.OneSpelling.{roll_variant}
 use Rattle.dbus_types.proofs.SpelledType.{spelled_kind}
-use Rattle.portal_model.specs.Data.{Judged, all_keep, elements_at, is_of_type, is_valid_type, is_variant_type, judge, judged, spelled_of}
+use Rattle.portal_model.specs.Data.{Judged, all_keep, elements_at, is_byte, is_of_type, is_valid_type, is_variant_type, judge, judged, keeps_array, spelled_of}
 use Rattle.portal_model.specs.State.{is_none}
 use Rattle.portal_base.specs.Names.{is_same}
-use Rattle.portal_model.proofs.DataLaws.{all_spelled, judged_text, judged_type, variant_passes}
+use Rattle.portal_model.proofs.DataLaws.{above, all_spelled, judged_text, judged_type, other_kind, variant_passes}
 use Rattle.portal_model.proofs.DocumentChanges.{both}
 use Rattle.portal_model.proofs.ListLookups.{is_same-refl}
-use Rattle.portal_model.proofs.SpelledEnds.{array-end, entry-end, struct-end, values-more}
+use Rattle.portal_model.proofs.SpelledEnds.{array-end, behind, entry-end, number_32, struct-end, values-more}
 use Rattle.store_data.specs.declared.walk.Walk.{Walk}
 use Rattle.store_data.specs.Walks.{Keeps, Passes, Stands, ahead_of_elements}
-use Rattle.store_data.proofs.WalkedLeaves.{assoc, carried}
+use Rattle.store_data.proofs.WalkedLeaves.{assoc, carried, judged-so}
 
 rolled : (v : Value) (f : Value-F Value) → out-Value v ≡ f → v ≡ roll-Value f
 rolled v f e = sym (back v) ∙ ap roll-Value e
@@ -44,6 +45,9 @@ rolls_variant x = search the_lemmas
 rolls_array : (t : WireType) (vs : List Value) → roll-Value (Value-F.Array t vs) ≡ V.Array t vs
 rolls_array t vs = search the_lemmas
 
+rolls_bytes : (bytes : List ℕ) → roll-Value (Value-F.Bytes bytes) ≡ V.Bytes bytes
+rolls_bytes bytes = search the_lemmas
+
 rolls_struct : (vs : List Value) → roll-Value (Value-F.Struct vs) ≡ V.Struct vs
 rolls_struct vs = search the_lemmas
 
@@ -54,14 +58,16 @@ rolls_entry k x = search the_lemmas
 
 abbrev Inside : (Value → Type 0) → Value-F Value → Type 0
 Inside P (Value-F.Variant x) = IsVariantType (type_of x) × P x
-Inside P (Value-F.Array t vs) = All (λ v. (type_of v ≡ t) × P v) vs
+Inside P (Value-F.Bytes bytes) = All (λ n. P (V.Byte n)) bytes
+Inside P (Value-F.Array t vs) = (t ≡ W.Byte → ⊥) × All (λ v. (type_of v ≡ t) × P v) vs
 Inside P (Value-F.Struct vs) = All P vs
 Inside P (Value-F.DictEntry k x) = P k × P x
 Inside P leaf = Unit {0}
 
 inside : (P Q : Value → Type 0) → ((v : Value) → P v → Q v) → (f : Value-F Value) → ValueKeeps P f → Inside Q f
 inside P Q more (Value-F.Variant x) h = (h.0, more x h.1)
-inside P Q more (Value-F.Array t vs) h = All-weaker (λ v. (type_of v ≡ t) × P v) (λ v. (type_of v ≡ t) × Q v) (λ v k. (k.0, more v k.1)) vs h
+inside P Q more (Value-F.Bytes bytes) h = All-weaker (λ n. P (V.Byte n)) (λ n. Q (V.Byte n)) (λ n k. more (V.Byte n) k) bytes h
+inside P Q more (Value-F.Array t vs) h = (h.0, All-weaker (λ v. (type_of v ≡ t) × P v) (λ v. (type_of v ≡ t) × Q v) (λ v k. (k.0, more v k.1)) vs h.1)
 inside P Q more (Value-F.Struct vs) h = All-weaker P Q more vs h
 inside P Q more (Value-F.DictEntry k x) h = (more k h.0, more x h.1)
 inside P Q more f h = tt
@@ -80,6 +86,12 @@ out_variant x = search the_lemmas
 out_array : (t : WireType) (vs : List Value) → out-Value (V.Array t vs) ≡ Value-F.Array t vs
 out_array t vs = search the_lemmas
 
+out_bytes : (bytes : List ℕ) → out-Value (V.Bytes bytes) ≡ Value-F.Bytes bytes
+out_bytes bytes = search the_lemmas
+
+out_byte : (n : ℕ) → out-Value (V.Byte n) ≡ Value-F.Byte n
+out_byte n = search the_lemmas
+
 out_struct : (vs : List Value) → out-Value (V.Struct vs) ≡ Value-F.Struct vs
 out_struct vs = search the_lemmas
 
@@ -90,7 +102,13 @@ pub variant-parts : (v x : Value) → v ≡ V.Variant x → Keeps v → IsVarian
 variant-parts v x is h = parts v (V.Variant x) (Value-F.Variant x) is (out_variant x) h
 
 pub array-parts : (v : Value) (t : WireType) (vs : List Value) → v ≡ V.Array t vs → Keeps v → All (λ x. (type_of x ≡ t) × Keeps x) vs
-array-parts v t vs is h = parts v (V.Array t vs) (Value-F.Array t vs) is (out_array t vs) h
+array-parts v t vs is h = (parts v (V.Array t vs) (Value-F.Array t vs) is (out_array t vs) h).1
+
+array-kind : (v : Value) (t : WireType) (vs : List Value) → v ≡ V.Array t vs → Keeps v → t ≡ W.Byte → ⊥
+array-kind v t vs is h = (parts v (V.Array t vs) (Value-F.Array t vs) is (out_array t vs) h).0
+
+bytes-parts : (v : Value) (bytes : List ℕ) → v ≡ V.Bytes bytes → Keeps v → All (λ n. Keeps (V.Byte n)) bytes
+bytes-parts v bytes is h = parts v (V.Bytes bytes) (Value-F.Bytes bytes) is (out_bytes bytes) h
 
 pub items-keep : (t : WireType) (vs : List Value) → All (λ x. (type_of x ≡ t) × Keeps x) vs → All Keeps vs
 items-keep t vs h = All-weaker (λ x. (type_of x ≡ t) × Keeps x) Keeps (λ x k. k.1) vs h
@@ -103,23 +121,24 @@ entry-parts v k x is h = parts v (V.DictEntry k x) (Value-F.DictEntry k x) is (o
 
 -- ---- a value that holds no other
 
-leaf-inside : (P : Value → Type 0) (v : Value) (f : Value-F Value) → out-Value v ≡ f → ((x : Value) → v ≡ V.Variant x → ⊥) → ((t : WireType) (vs : List Value) → v ≡ V.Array t vs → ⊥) → ((vs : List Value) → v ≡ V.Struct vs → ⊥) →
+leaf-inside : (P : Value → Type 0) (v : Value) (f : Value-F Value) → out-Value v ≡ f → ((x : Value) → v ≡ V.Variant x → ⊥) → ((bytes : List ℕ) → v ≡ V.Bytes bytes → ⊥) → ((t : WireType) (vs : List Value) → v ≡ V.Array t vs → ⊥) → ((vs : List Value) → v ≡ V.Struct vs → ⊥) →
     ((k x : Value) → v ≡ V.DictEntry k x → ⊥) → ValueKeeps P f → LeafKeeps f
-leaf-inside P v (Value-F.Variant x) e a b c d h = absurd (a x (rolled v (Value-F.Variant x) e ∙ rolls_variant x))
-leaf-inside P v (Value-F.Array t vs) e a b c d h = absurd (b t vs (rolled v (Value-F.Array t vs) e ∙ rolls_array t vs))
-leaf-inside P v (Value-F.Struct vs) e a b c d h = absurd (c vs (rolled v (Value-F.Struct vs) e ∙ rolls_struct vs))
-leaf-inside P v (Value-F.DictEntry k x) e a b c d h = absurd (d k x (rolled v (Value-F.DictEntry k x) e ∙ rolls_entry k x))
-leaf-inside P v f e a b c d h = h
+leaf-inside P v (Value-F.Variant x) e a y b c d h = absurd (a x (rolled v (Value-F.Variant x) e ∙ rolls_variant x))
+leaf-inside P v (Value-F.Bytes bytes) e a y b c d h = absurd (y bytes (rolled v (Value-F.Bytes bytes) e ∙ rolls_bytes bytes))
+leaf-inside P v (Value-F.Array t vs) e a y b c d h = absurd (b t vs (rolled v (Value-F.Array t vs) e ∙ rolls_array t vs))
+leaf-inside P v (Value-F.Struct vs) e a y b c d h = absurd (c vs (rolled v (Value-F.Struct vs) e ∙ rolls_struct vs))
+leaf-inside P v (Value-F.DictEntry k x) e a y b c d h = absurd (d k x (rolled v (Value-F.DictEntry k x) e ∙ rolls_entry k x))
+leaf-inside P v f e a y b c d h = h
 
-leaf-within : (n : ℕ) (v : Value) → ((x : Value) → v ≡ V.Variant x → ⊥) → ((t : WireType) (vs : List Value) → v ≡ V.Array t vs → ⊥) → ((vs : List Value) → v ≡ V.Struct vs → ⊥) →
+leaf-within : (n : ℕ) (v : Value) → ((x : Value) → v ≡ V.Variant x → ⊥) → ((bytes : List ℕ) → v ≡ V.Bytes bytes → ⊥) → ((t : WireType) (vs : List Value) → v ≡ V.Array t vs → ⊥) → ((vs : List Value) → v ≡ V.Struct vs → ⊥) →
     ((k x : Value) → v ≡ V.DictEntry k x → ⊥) → KeepsWithin n v → LeafKeeps (out-Value v)
 unfolding KeepsWithin
-leaf-within zero v a b c d h = leaf-inside (λ x. ⊥) v (out-Value v) refl a b c d h
-leaf-within (suc n) v a b c d h = leaf-inside (KeepsWithin n) v (out-Value v) refl a b c d h
+leaf-within zero v a y b c d h = leaf-inside (λ x. ⊥) v (out-Value v) refl a y b c d h
+leaf-within (suc n) v a y b c d h = leaf-inside (KeepsWithin n) v (out-Value v) refl a y b c d h
 
-pub leaf-keeps : (v : Value) → ((x : Value) → v ≡ V.Variant x → ⊥) → ((t : WireType) (vs : List Value) → v ≡ V.Array t vs → ⊥) → ((vs : List Value) → v ≡ V.Struct vs → ⊥) →
+pub leaf-keeps : (v : Value) → ((x : Value) → v ≡ V.Variant x → ⊥) → ((bytes : List ℕ) → v ≡ V.Bytes bytes → ⊥) → ((t : WireType) (vs : List Value) → v ≡ V.Array t vs → ⊥) → ((vs : List Value) → v ≡ V.Struct vs → ⊥) →
     ((k x : Value) → v ≡ V.DictEntry k x → ⊥) → Keeps v → LeafKeeps (out-Value v)
-leaf-keeps v a b c d h = leaf-within h.0 v a b c d h.1
+leaf-keeps v a y b c d h = leaf-within h.0 v a y b c d h.1
 
 -- ---- the judgement of a layer
 
@@ -215,14 +234,15 @@ same-kinds t (v ∷ vs) h =
     both (is_of_type t (judged v)) (list_all (is_of_type t) (map judged vs)) (same-kind t v (All-head (λ x. (type_of x ≡ t) × Keeps x) v vs h).0)
     (same-kinds t vs (All-tail (λ x. (type_of x ≡ t) × Keeps x) v vs h))
 
-array-test : (at : ℕ) (v : Value) (t : WireType) (vs : List Value) → v ≡ V.Array t vs → All (λ x. (type_of x ≡ t) × Keeps x) vs
+array-test : (at : ℕ) (v : Value) (t : WireType) (vs : List Value) → v ≡ V.Array t vs → (t ≡ W.Byte → ⊥) → All (λ x. (type_of x ≡ t) × Keeps x) vs
     → (nat_le (spelled_lengths (elements_at t at) vs) 67_108_864 && all_keep (map judged vs) (elements_at t at)) ≡ (judged v).1 at
-array-test at v t vs is h =
+array-test at v t vs is none h =
     let first : ℕ = elements_at t at in
     let js : List Judged = map judged vs in
     let short : List Spelled → Bool = λ ss. nat_le (length (in_row ss first)) 67_108_864 && all_keep js first in
     ap short (sym (all_spelled vs))
     ∙ (first_holds (list_all (is_of_type t) js) (short (map spelled_of js)) (same-kinds t vs h)
+    ∙ first_holds (not (is_byte t)) (keeps_array t js first) (other_kind t none)
     ∙ (ap (λ (j : Judged). j.1 at) (sym (judged_array t vs)) ∙ ap (λ (y : Value). (judged y).1 at) (sym is)))
 
 far : (at pad g h : ℕ) → g ≡ h → at + ((pad + 4) + g) ≡ ((at + pad) + 4) + h
@@ -236,7 +256,7 @@ pub array-stops : (at : ℕ) (v : Value) (t : WireType) (vs : List Value) → v 
 array-stops at v t vs is k h =
     let first : ℕ = elements_at t at in
     let broken : all_keep (map judged vs) first ≡ false = ap (all_keep (map judged vs)) (sym (at-elements t at)) ∙ h in
-    sym (array-test at v t vs is (array-parts v t vs is k)) ∙ second_fails (nat_le (spelled_lengths first vs) 67_108_864) (all_keep (map judged vs) first) broken
+    sym (array-test at v t vs is (array-kind v t vs is k) (array-parts v t vs is k)) ∙ second_fails (nat_le (spelled_lengths first vs) 67_108_864) (all_keep (map judged vs) first) broken
 
 pub array-passes : (passed at : ℕ) (v : Value) (t : WireType) (vs : List Value) (r : Option Walk) → v ≡ V.Array t vs → Keeps v → all_keep (map judged vs) (at + ahead_of_elements t at) ≡ true
     → (let count = spelled_lengths (at + ahead_of_elements t at) vs in Passes (nat_le count 67_108_864) ((passed + ahead_of_elements t at) + count) ((at + ahead_of_elements t at) + count) r)
@@ -249,10 +269,39 @@ array-passes passed at v t vs r is k kept h =
     let all : all_keep (map judged vs) (elements_at t at) ≡ true = ap (all_keep (map judged vs)) (sym same) ∙ kept in
     let test : nat_le count 67_108_864 ≡ (judged v).1 at =
     ap (λ (n : ℕ). nat_le n 67_108_864) moved
-    ∙ (second_holds (nat_le (spelled_lengths (elements_at t at) vs) 67_108_864) (all_keep (map judged vs) (elements_at t at)) all ∙ array-test at v t vs is (array-parts v t vs is k)) in
+    ∙ (second_holds (nat_le (spelled_lengths (elements_at t at) vs) 67_108_864) (all_keep (map judged vs) (elements_at t at)) all ∙ array-test at v t vs is (array-kind v t vs is k) (array-parts v t vs is k)) in
     let long : (at + ahead) + count ≡ at + spelled_length at v =
     ap (λ (n : ℕ). n + spelled_lengths n vs) same ∙ (array-end at t vs ∙ ap (λ (y : Value). at + spelled_length at y) (sym is)) in
     whole-passes passed at ahead count (nat_le count 67_108_864) v r test long h
+
+-- ---- packed bytes
+
+judged_bytes : (bytes : List ℕ) → judged (V.Bytes bytes) ≡ judge (Value-F.Bytes bytes)
+judged_bytes bytes = search the_lemmas
+
+byte-small : (d n : ℕ) → KeepsWithin d (V.Byte n) → n < 2 ^ 8
+unfolding KeepsWithin
+byte-small zero n h = subst (ValueKeeps (λ x. ⊥)) (out_byte n) h
+byte-small (suc d) n h = subst (ValueKeeps (KeepsWithin d)) (out_byte n) h
+
+bytes-fit : (bytes : List ℕ) → All (λ n. Keeps (V.Byte n)) bytes → list_all (λ n. nat_lt n (2 ^ 8)) bytes ≡ true
+bytes-fit [] h = refl
+bytes-fit (n ∷ ns) h =
+    let one : Keeps (V.Byte n) = All-head (λ m. Keeps (V.Byte m)) n ns h in
+    both (nat_lt n (2 ^ 8)) (list_all (λ m. nat_lt m (2 ^ 8)) ns) (above n (2 ^ 8) (byte-small one.0 n one.1)) (bytes-fit ns (All-tail (λ m. Keeps (V.Byte m)) n ns h))
+
+bytes-length : (at : ℕ) (bytes : List ℕ) → gap 4 at + (4 + length bytes) ≡ length (aligned 4 (λ start. bytes_body Little bytes) at)
+bytes-length at bytes = omega (arith, behind 4 (λ start. bytes_body Little bytes) at, length-append (number Little w32 (length bytes)) bytes, number_32 (length bytes))
+
+pub bytes-so : (passed at count : ℕ) (bytes : List ℕ) (r : Option Walk) → count ≡ length bytes → Passes (nat_le count 67_108_864) (passed + (gap 4 at + (4 + count))) (at + (gap 4 at + (4 + count))) r
+    → Passes (nat_le (length bytes) 67_108_864) (passed + (gap 4 at + (4 + length bytes))) (at + (gap 4 at + (4 + length bytes))) r
+bytes-so passed at count bytes r e h = subst (λ (n : ℕ). Passes (nat_le n 67_108_864) (passed + (gap 4 at + (4 + n))) (at + (gap 4 at + (4 + n))) r) e h
+
+pub bytes-passes : (passed at : ℕ) (bytes : List ℕ) (v : Value) (r : Option Walk) → v ≡ V.Bytes bytes → Keeps v
+    → Passes (nat_le (length bytes) 67_108_864) (passed + (gap 4 at + (4 + length bytes))) (at + (gap 4 at + (4 + length bytes))) r → Passes ((judged v).1 at) (passed + spelled_length at v) (at + spelled_length at v) r
+bytes-passes passed at bytes v r is k h =
+    judged-so passed at (gap 4 at + (4 + length bytes)) (nat_le (length bytes) 67_108_864) v (V.Bytes bytes) (judge (Value-F.Bytes bytes)) r is (judged_bytes bytes)
+    (first_holds (list_all (λ n. nat_lt n (2 ^ 8)) bytes) (nat_le (length bytes) 67_108_864) (bytes-fit bytes (bytes-parts v bytes is k))) (bytes-length at bytes) h
 
 -- ---- structs and dict entries
 

@@ -73,6 +73,7 @@ fn leaf_end(walk: Walk, value: &Value) -> Option<Walk>
             Some(passing(passing(walk, count), 2))
         }
         Value::Variant(_) => None,
+        Value::Bytes(_) => None,
         Value::Array { .. } => None,
         Value::Struct(_) => None,
         Value::DictEntry { .. } => None,
@@ -111,6 +112,18 @@ fn elements_end(first: Walk, body: Walk) -> Option<Walk>
     Some(passing(first, body.bytes))
 }
 
+/// Past an array of so many bytes.
+fn bytes_end(walk: Walk, count: usize) -> Option<Walk>
+    ensures { (passed at : ℕ) → Stands passed at walk → Passes (nat_le count 67_108_864)
+        (passed + (gap 4 at + (4 + count))) (at + (gap 4 at + (4 + count))) result }
+{
+    let count = count as u64;
+    if count > LONGEST_ARRAY {
+        return None;
+    }
+    Some(passing(padded(walk, 4), 4 + count))
+}
+
 /// Past a value that keeps the rules of values.
 #[cycle(value_end)]
 pub(crate) fn value_end(walk: Walk, value: &Value) -> Option<Walk>
@@ -124,6 +137,7 @@ pub(crate) fn value_end(walk: Walk, value: &Value) -> Option<Walk>
             let inside = signature_end(walk, inner)?;
             value_end(inside, inner)
         }
+        Value::Bytes(bytes) => bytes_end(walk, bytes.len()),
         Value::Array { element, items } => {
             let first = elements_start(walk, element);
             let body = values_end(from_here(first), items.as_slice())?;

@@ -30,6 +30,11 @@ fn put(alloc: Global, out: &mut String, value: &Value) -> Result<(), LineError> 
             put(alloc, out, inner.get())?;
             out.push('>')?;
         }
+        Value::Bytes(bytes) => {
+            out.push('[')?;
+            put_bytes(alloc, out, bytes.as_slice())?;
+            out.push(']')?;
+        }
         Value::Array { items, .. } => {
             out.push('[')?;
             put_all(alloc, out, items.as_slice())?;
@@ -63,10 +68,25 @@ fn put_all(alloc: Global, out: &mut String, values: &[Value]) -> Result<(), Line
     Ok(())
 }
 
+/// Bytes with commas between them.
+fn put_bytes(alloc: Global, out: &mut String, bytes: &[u8]) -> Result<(), LineError> {
+    for (index, byte) in bytes.iter().enumerate() {
+        if index > 0 {
+            out.push_str(", ")?;
+        }
+        out.push_str(digits(alloc, *byte)?.as_str())?;
+    }
+    Ok(())
+}
+
+fn digits(alloc: Global, byte: u8) -> Result<String, AllocError> {
+    format!(in alloc; "0x{byte:02x}")
+}
+
 /// A value that holds no other.
 fn leaf(alloc: Global, value: &Value) -> Result<String, AllocError> {
     match value {
-        Value::Byte(byte) => format!(in alloc; "0x{byte:02x}"),
+        Value::Byte(byte) => digits(alloc, *byte),
         Value::Bool(truth) => debug(alloc, truth),
         Value::I16(number) => debug(alloc, number),
         Value::U16(number) => debug(alloc, number),

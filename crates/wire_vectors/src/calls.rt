@@ -8,7 +8,9 @@ use dbus_dispatch::ask::{Ask, expects_reply, request_of};
 use dbus_dispatch::error_name::ErrorName;
 use dbus_dispatch::refused::refused_message;
 use dbus_message::write::write_message;
+use dbus_types::equal::is_byte;
 use dbus_types::message::{Message, OutMessage};
+use dbus_types::shared::Shared;
 use dbus_types::signature::read_signature;
 use dbus_types::types::{Endian, Value, WireType};
 use portal_base::boxed::Boxed;
@@ -228,12 +230,19 @@ fn blank(alloc: Global, kind: &WireType) -> Result<Value, LineError> {
         WireType::Handle => Ok(Value::Handle(0)),
         WireType::Str => Ok(Value::Str(Text::new(alloc))),
         WireType::Variant => Ok(Value::Variant(Boxed::new(alloc, Value::Byte(0))?)),
-        WireType::Array(element) => Ok(Value::Array {
-            element: element.share()?,
-            items: List::new(alloc),
-        }),
+        WireType::Array(element) => blank_array(alloc, element),
         _ => Ok(Value::Byte(0)),
     }
+}
+
+fn blank_array(alloc: Global, element: &Shared<WireType>) -> Result<Value, LineError> {
+    if is_byte(element.get()) {
+        return Ok(Value::Bytes(List::new(alloc)));
+    }
+    Ok(Value::Array {
+        element: element.share()?,
+        items: List::new(alloc),
+    })
 }
 
 pub(crate) fn shown_ask(alloc: Global, ask: &Ask) -> Result<String, LineError> {

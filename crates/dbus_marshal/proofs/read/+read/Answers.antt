@@ -1,24 +1,29 @@
-use Rattle.std.proofs.Common.{◌≡◌, refl, sym, ap, subst, ◌∙◌, ◌-◌, arith, length, map, drop, take, ltb, false, Ok}
-use Rattle.std.proofs.lemmas.Bool.{le-ltb}
+use Rattle.std.proofs.Common.{◌≡◌, refl, sym, ap, subst, ◌∙◌, ◌-◌, arith, length, drop, take, ltb, false, Ok}
+use Rattle.std.proofs.lemmas.Bool.{le-ltb, true≢false}
 use Rattle.std.proofs.lemmas.List.{drop-take, length-drop, take_all}
 use Rattle.dbus_types.specs.declared.types.Value.TheVariants as V
-use Rattle.dbus_marshal.specs.Reads.{Fails, reads, after, place}
-use Rattle.dbus_marshal.proofs.Loops.{members_step, members_end, members_fails, elements_step, elements_end, elements_fails, array_is, array_fails}
-use Rattle.dbus_marshal.proofs.Bytes.{bytes_read}
+use Rattle.dbus_types.specs.declared.types.WireType.{WireType}
+use Rattle.dbus_types.specs.declared.types.WireType.TheVariants as W
+use Rattle.dbus_marshal.specs.Reads.{Fails, reads, elements, arrayed, after, place}
+use Rattle.dbus_marshal.proofs.Loops.{members_step, members_end, members_fails, elements_step, elements_end, elements_fails, fails_as, array_is, array_fails, array_read, no_elements}
+use Rattle.dbus_marshal.proofs.Bytes.{items_arrayed, packed_fails, packed_read}
 use Rattle.std.proofs.lemmas.Result.{err_from_is_err_and}
 use Rattle.dbus_marshal.proofs.HeaderFields.{variant_gives, variant_fails}
 use Rattle.dbus_marshal.proofs.Depths.{reads_array, reads_struct, reads_entry}
 use Rattle.dbus_marshal.proofs.read.+read.Goals as goal
 
-pub read_array-returns-in_ok-element-in-Ok-clause-read : goal.read_array-returns-in_ok-element-in-Ok-clause-read
-read_array-returns-in_ok-element-in-Ok-clause-read t c =
+pub read_array-returns-in-Ok-clause-read : goal.read_array-returns-in-Ok-clause-read
+read_array-returns-in-Ok-clause-read t c =
     let bytes = c.args.bytes.now in
     let short : ltb 67_108_864 c.in_ok-count.count ≡ false = le-ltb _ _ (omega arith) in
     let whole = array_is (reads c.args.depth c.args.endian) c.args.endian c.get-element.result.now c.args.at (drop c.args.at bytes)
     (place bytes c.in_ok-start.start) (after bytes (c.in_ok-count.count, c.in_ok-count.begins)) (place bytes c.in_ok-from.from) (after bytes (c.in_ok-body.body.now, c.in_ok-body.end))
     c.in_ok-start.ensures.read c.in_ok-count.ensures.read short (rw (← c.alignment_of.ensures.known) c.in_ok-from.ensures.read) c.in_ok-body.ensures.read in
     let window : drop c.in_ok-from.from (take c.in_ok-body.end bytes) ≡ c.in_ok-body.body.now = rw (c.in_ok-body.ensures.within.0, c.in_ok-body.ensures.body) (drop-take c.in_ok-from.from c.in_ok-count.count bytes) in
-    rw (← c.get-element.ensures) (whole ∙ rw (← window, c.in-Ok.ensures.read, c.in_ok-element-in-Ok.ensures, c.get-element.ensures) refl)
+    let items = elements (length c.in_ok-body.body.now) (reads c.args.depth c.args.endian c.get-element.result.now) c.in_ok-from.from c.in_ok-body.body.now in
+    let read : arrayed c.get-element.result.now (elements (length c.in_ok-body.body.now) (reads c.args.depth c.args.endian c.get-element.result.now) c.in_ok-from.from c.in_ok-body.body.now) ≡ Ok c.in-Ok.array =
+    rw (← window, c.get-element.ensures) c.in-Ok.ensures in
+    rw (← c.get-element.ensures) (whole ∙ array_read c.get-element.result.now items c.in-Ok.array c.in_ok-body.end (drop c.in_ok-body.end bytes) read)
 
 pub read_array-returns-in-Err-clause-read : goal.read_array-returns-in-Err-clause-read
 read_array-returns-in-Err-clause-read t c =
@@ -28,7 +33,41 @@ read_array-returns-in-Err-clause-read t c =
     (place bytes c.in_ok-start.start) (after bytes (c.in_ok-count.count, c.in_ok-count.begins)) (place bytes c.in_ok-from.from) (after bytes (c.in_ok-body.body.now, c.in_ok-body.end))
     c.in_ok-start.ensures.read c.in_ok-count.ensures.read short (rw (← c.alignment_of.ensures.known) c.in_ok-from.ensures.read) c.in_ok-body.ensures.read in
     let window : drop c.in_ok-from.from (take c.in_ok-body.end bytes) ≡ c.in_ok-body.body.now = rw (c.in_ok-body.ensures.within.0, c.in_ok-body.ensures.body) (drop-take c.in_ok-from.from c.in_ok-count.count bytes) in
-    rw (← c.get-element.ensures, whole, c.array_error.ensures, ← window) (array_fails c.in-Err.error _ _ c.in-Err.ensures.read)
+    let inner = drop c.in_ok-from.from (take c.in_ok-body.end bytes) in
+    let fails = no_elements c.args.shared.now (elements (length inner) (reads c.args.depth c.args.endian c.args.shared.now) c.in_ok-from.from inner) c.in-Err.error c.in-Err.ensures in
+    let lent = subst (λ (u : WireType). Fails c.in-Err.error (elements (length inner) (reads c.args.depth c.args.endian u) c.in_ok-from.from inner)) (sym c.get-element.ensures) fails in
+    rw (← c.get-element.ensures, whole, c.array_error.ensures, ← window) (array_fails c.in-Err.error _ _ lent)
+
+pub read_items-returns-in_err-packed : goal.read_items-returns-in_err-packed
+read_items-returns-in_err-packed t c =
+    let p = err_from_is_err_and c.from_residual.result c.from_residual.ensures.1 in
+    let body = drop c.args.at c.args.bytes.now in
+    let whole = take_all (length c.args.bytes.now - c.args.at) body (omega (arith, length-drop c.args.at c.args.bytes.now)) in
+    let byte = sym c.get-element.ensures ∙ c.is_byte.ensures.0 c.if-is_byte.true in
+    rw (p.1, p.2) (packed_fails c.args.depth c.args.endian c.args.shared.now c.args.at _ body byte whole c.in_err-packed.field-0.0 (c.in_err-packed.ensures c.args.endian))
+
+pub read_items-returns-then-is_byte : goal.read_items-returns-then-is_byte
+read_items-returns-then-is_byte t c =
+    let body = drop c.args.at c.args.bytes.now in
+    let whole = take_all (length c.args.bytes.now - c.args.at) body (omega (arith, length-drop c.args.at c.args.bytes.now)) in
+    let byte = sym c.get-element.ensures ∙ c.is_byte.ensures.0 c.if-is_byte.true in
+    packed_read c.args.depth c.args.endian c.args.shared.now c.args.at _ body byte whole c.in_ok-packed.packed (c.in_ok-packed.ensures c.args.endian)
+
+pub read_items-returns-in_err-items : goal.read_items-returns-in_err-items
+read_items-returns-in_err-items t c =
+    let p = err_from_is_err_and c.from_residual-in_err-items.result c.from_residual-in_err-items.ensures.1 in
+    let body = drop c.args.at c.args.bytes.now in
+    let items = elements (length body) (reads c.args.depth c.args.endian c.args.shared.now) c.args.at body in
+    let fails = subst (λ (u : WireType). Fails c.in_err-items.field-0.0 (elements (length body) (reads c.args.depth c.args.endian u) c.args.at body)) c.get-element.ensures c.in_err-items.ensures.read in
+    rw (p.1, p.2) (fails_as c.in_err-items.field-0.0 items (arrayed c.args.shared.now) (λ d. refl) fails)
+
+pub read_items-returns : goal.read_items-returns
+read_items-returns t c =
+    let other : c.args.shared.now ≡ W.Byte → ⊥ = λ e. true≢false (sym (c.is_byte.ensures.1 (c.get-element.ensures ∙ e)) ∙ c.if-is_byte.false) in
+    let body = drop c.args.at c.args.bytes.now in
+    let items = elements (length body) (reads c.args.depth c.args.endian c.args.shared.now) c.args.at body in
+    let read = subst (λ (u : WireType). elements (length body) (reads c.args.depth c.args.endian u) c.args.at body ≡ Ok c.in_ok-items.items) c.get-element.ensures c.in_ok-items.ensures.read in
+    items_arrayed c.args.shared.now items c.in_ok-items.items other read ∙ ap (λ (u : WireType). Ok (V.Array u c.in_ok-items.items)) (sym c.in_ok-element.ensures)
 
 pub read_elements-loop-next-preserved : goal.read_elements-loop-next-preserved
 read_elements-loop-next-preserved t c =
@@ -68,11 +107,6 @@ read_within-returns-in-Struct-clause-read t c = rw (reads_struct c.args.depth c.
 
 pub read_within-returns-in-DictEntry-clause-read : goal.read_within-returns-in-DictEntry-clause-read
 read_within-returns-in-DictEntry-clause-read t c = rw (reads_entry c.args.depth c.args.endian c.args.kind.now c.in-DictEntry.key c.in-DictEntry.value c.args.at (drop c.args.at c.args.bytes.now) c.if-depth-eq0.false c.in-DictEntry.is, ← c.get.ensures, ← c.get-in-DictEntry.ensures) c.read_entry.ensures.read
-
-pub read_elements-returns-then-is_byte : goal.read_elements-returns-then-is_byte
-read_elements-returns-then-is_byte t c =
-    let body = drop c.args.at c.args.bytes.now in
-    record { read = bytes_read (length body) c.args.depth c.args.endian c.args.element.now c.args.at body (λ z. omega (arith, z, c.if-depth-gt0.true)) (c.is_byte.ensures.0 c.if-is_byte.true) (omega arith) ∙ ap (λ l. Ok l) (sym (c.in_ok-read_bytes.ensures ∙ ap (λ bs. map (λ n. V.Byte n) bs) (take_all (length c.args.bytes.now - c.args.at) body (omega (arith, length-drop c.args.at c.args.bytes.now))))) }
 
 pub read_variant-returns-in_err-value-clause-read : goal.read_variant-returns-in_err-value-clause-read
 read_variant-returns-in_err-value-clause-read t c =

@@ -3,28 +3,31 @@ use Rattle.dbus_marshal.specs.Reads.{reads, members, elements, joined, listed}
 use Rattle.dbus_marshal.proofs.read.+read.Given as goal
 
 abbrev pub decreases-read_within : goal.decreases-read_within
-decreases-read_within l = 3 * l.depth
+decreases-read_within l = 4 * l.depth
 
 abbrev pub decreases-read_array : goal.decreases-read_array
-decreases-read_array l = 3 * l.depth + 2
+decreases-read_array l = 4 * l.depth + 3
+
+abbrev pub decreases-read_items : goal.decreases-read_items
+decreases-read_items l = 4 * l.depth + 2
 
 abbrev pub decreases-read_struct : goal.decreases-read_struct
-decreases-read_struct l = 3 * l.depth + 2
+decreases-read_struct l = 4 * l.depth + 3
 
 abbrev pub decreases-read_entry : goal.decreases-read_entry
-decreases-read_entry l = 3 * l.depth + 2
+decreases-read_entry l = 4 * l.depth + 3
 
 abbrev pub decreases-read_variant : goal.decreases-read_variant
-decreases-read_variant l = 3 * l.depth + 2
+decreases-read_variant l = 4 * l.depth + 3
 
 abbrev pub decreases-read_inside : goal.decreases-read_inside
-decreases-read_inside l = 3 * l.depth + 1
+decreases-read_inside l = 4 * l.depth + 1
 
 abbrev pub decreases-read_elements : goal.decreases-read_elements
-decreases-read_elements l = 3 * l.depth + 1
+decreases-read_elements l = 4 * l.depth + 1
 
 abbrev pub decreases-read_members : goal.decreases-read_members
-decreases-read_members l = 3 * l.depth + 1
+decreases-read_members l = 4 * l.depth + 1
 
 -- the values so far, and those of the kinds that are left, are those of all
 abbrev pub invariant-read_members-loop-kind : goal.invariant-read_members-loop-kind

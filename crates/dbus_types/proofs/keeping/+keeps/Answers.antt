@@ -1,8 +1,10 @@
-use Rattle.std.proofs.Common.{◌≡◌, ◌-◌, false, refl, arith, rules}
+use Rattle.std.proofs.Common.{◌≡◌, ◌-◌, ◌↔◌, ◌∙◌, false, refl, sym, ap, subst, arith, rules}
+use Rattle.std.specs.Prelude.{IsTrue}
+use Rattle.dbus_types.specs.declared.types.Value.TheVariants as V
 use Rattle.dbus_types.specs.declared.types.Value.{Value}
 use Rattle.dbus_types.specs.Types.{IsVariantType}
 use Rattle.dbus_types.specs.Values.{type_of, KeepsWithin}
-use Rattle.dbus_types.proofs.LimitsByLayer.{all_seen, one_more, and_no, and_on, variant_deep, array_deep, struct_deep, entry_deep, variant_on, array_on, struct_on, entry_on, leaf_within}
+use Rattle.dbus_types.proofs.LimitsByLayer.{all_seen, one_more, and_no, and_on, variant_deep, array_deep, struct_deep, entry_deep, no_byte, listed_bytes, variant_on, array_on, struct_on, entry_on, leaf_within}
 use Rattle.dbus_types.proofs.keeping.+keeps.Goals as goal
 
 pub items_keep-loop-item-preserved : goal.items_keep-loop-item-preserved
@@ -21,7 +23,13 @@ pub keeps_within-returns-then-depth-eq0 : goal.keeps_within-returns-then-depth-e
 keeps_within-returns-then-depth-eq0 t c = variant_deep c.args.depth c.args.value.now c.in-Variant.inner (omega arith) c.in-Variant.is
 
 pub keeps_within-returns-then-depth-eq0-2 : goal.keeps_within-returns-then-depth-eq0-2
-keeps_within-returns-then-depth-eq0-2 t c = array_deep c.is_empty.result c.args.depth c.args.value.now c.in-Array.element c.in-Array.items c.in-Array.items (omega arith) c.in-Array.is refl c.is_empty.ensures
+keeps_within-returns-then-depth-eq0-2 t c = array_deep c.is_empty.result c.args.depth c.args.value.now c.in-Array.element c.in-Array.items c.in-Array.items (omega arith) c.in-Array.is refl (no_byte c.is_byte.result c.in-Array.element c.get-kind.result.now c.get-kind.ensures c.is_byte.ensures (cc)) c.is_empty.ensures
+
+pub keeps_within-returns-then-is_byte : goal.keeps_within-returns-then-is_byte
+keeps_within-returns-then-is_byte t c = listed_bytes c.args.depth c.args.value.now c.in-Array.element c.in-Array.items c.in-Array.is (sym c.get-kind.ensures ∙ c.is_byte.ensures.0 (cc))
+
+pub keeps_within-returns-in-Bytes : goal.keeps_within-returns-in-Bytes
+keeps_within-returns-in-Bytes t c = subst (λ (v : Value). IsTrue c.bytes_keep.result ↔ KeepsWithin c.args.depth v) (ap V.Bytes c.as_slice.ensures ∙ sym c.in-Bytes.is) c.bytes_keep.ensures
 
 pub keeps_within-returns-then-depth-eq0-3 : goal.keeps_within-returns-then-depth-eq0-3
 keeps_within-returns-then-depth-eq0-3 t c = struct_deep c.is_empty-then-depth-eq0-3.result c.args.depth c.args.value.now c.in-Struct.members c.in-Struct.members (omega arith) c.in-Struct.is refl c.is_empty-then-depth-eq0-3.ensures
@@ -30,7 +38,7 @@ pub keeps_within-returns-then-depth-eq0-4 : goal.keeps_within-returns-then-depth
 keeps_within-returns-then-depth-eq0-4 t c = entry_deep c.args.depth c.args.value.now c.in-DictEntry.key c.in-DictEntry.value (omega arith) c.in-DictEntry.is
 
 pub keeps_within-returns-in_default : goal.keeps_within-returns-in_default
-keeps_within-returns-in_default t c = leaf_within c.leaf_keeps.result c.args.depth c.args.value.now c.in_default.not-Variant c.in_default.not-Array c.in_default.not-Struct c.in_default.not-DictEntry c.leaf_keeps.ensures
+keeps_within-returns-in_default t c = leaf_within c.leaf_keeps.result c.args.depth c.args.value.now c.in_default.not-Variant c.in_default.not-Bytes c.in_default.not-Array c.in_default.not-Struct c.in_default.not-DictEntry c.leaf_keeps.ensures
 
 pub keeps_within-returns-then-not-has_variant_type : goal.keeps_within-returns-then-not-has_variant_type
 keeps_within-returns-then-not-has_variant_type t c = variant_on false c.args.depth (c.args.depth - 1) c.args.value.now c.in-Variant.inner c.get-inner.result.now (omega arith) c.in-Variant.is c.get-inner.ensures
@@ -41,7 +49,7 @@ keeps_within-returns-else-not-has_variant_type t c = variant_on c.keeps_within.r
     (and_on c.has_variant_type.result c.keeps_within.result (IsVariantType (type_of c.get-inner.result.now)) (KeepsWithin (c.args.depth - 1) c.get-inner.result.now) (cc) c.has_variant_type.ensures c.keeps_within.ensures)
 
 pub keeps_within-returns-else-depth-eq0-2 : goal.keeps_within-returns-else-depth-eq0-2
-keeps_within-returns-else-depth-eq0-2 t c = array_on c.items_keep.result c.args.depth (c.args.depth - 1) c.args.value.now c.in-Array.element c.in-Array.items c.as_slice.result.now (omega arith) c.in-Array.is c.as_slice.ensures (rw (← c.deref.ensures) c.items_keep.ensures)
+keeps_within-returns-else-depth-eq0-2 t c = array_on c.items_keep.result c.args.depth (c.args.depth - 1) c.args.value.now c.in-Array.element c.in-Array.items c.as_slice-in-Array.result.now (omega arith) c.in-Array.is c.as_slice-in-Array.ensures (no_byte c.is_byte.result c.in-Array.element c.get-kind.result.now c.get-kind.ensures c.is_byte.ensures (cc)) (rw (← c.get-kind.ensures) c.items_keep.ensures)
 
 pub keeps_within-returns-else-depth-eq0-3 : goal.keeps_within-returns-else-depth-eq0-3
 keeps_within-returns-else-depth-eq0-3 t c = struct_on c.members_keep.result c.args.depth (c.args.depth - 1) c.args.value.now c.in-Struct.members c.as_slice-in-Struct.result.now (omega arith) c.in-Struct.is c.as_slice-in-Struct.ensures c.members_keep.ensures

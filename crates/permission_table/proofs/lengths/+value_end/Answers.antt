@@ -87,9 +87,9 @@ value_end-returns-in_ok-first-in-Array t c =
     let to : c.alignment_of.result ≡ alignment element = c.alignment_of.ensures.known ∙ ap alignment c.deref.ensures in
     let begins : first ≡ start = c.in_ok-first-in-Array.ensures.0 ∙ ap (λ (n : ℕ). elements_at n at) to in
     let same = ap (λ (v : Value). at + spelled_length at v) c.in-Array.is in
-    ends-at (first + spelled_lengths first c.as_slice.result.now) (at + spelled_length at c.args.value.now) c.values_end.result
-    (ap (λ (n : ℕ). n + spelled_lengths n c.as_slice.result.now) begins
-    ∙ (ap (λ (vs : List Value). start + spelled_lengths start vs) c.as_slice.ensures ∙ (array-end at element c.in-Array.items ∙ sym same)))
+    ends-at (first + spelled_lengths first c.as_slice-in-Array.result.now) (at + spelled_length at c.args.value.now) c.values_end.result
+    (ap (λ (n : ℕ). n + spelled_lengths n c.as_slice-in-Array.result.now) begins
+    ∙ (ap (λ (vs : List Value). start + spelled_lengths start vs) c.as_slice-in-Array.ensures ∙ (array-end at element c.in-Array.items ∙ sym same)))
     c.values_end.ensures
 
 pub value_end-returns-in_ok-first-in-Struct : goal.value_end-returns-in_ok-first-in-Struct

@@ -10,7 +10,7 @@ use Rattle.dbus_types.specs.Values.{type_of}
 use Rattle.portal_model.specs.Data.{all_keep, judged}
 use Rattle.store_data.specs.Walks.{Keeps, Passes, Stands, ahead_of_elements}
 use Rattle.store_data.proofs.WalkedLeaves.{stands-at, stops}
-use Rattle.store_data.proofs.WalkedParts.{OnWay, array-parts, array-passes, array-stops, at-first, at-last, entry-parts, entry-passes, entry-stops, item-keeps, items-keep, leaf-keeps, next-left, none-left, not-empty, one-on, one-stops, signature_bytes, struct-parts, struct-passes, struct-stops, variant-parts, variant-passes, variant-stops}
+use Rattle.store_data.proofs.WalkedParts.{OnWay, array-parts, array-passes, array-stops, at-first, at-last, bytes-passes, bytes-so, entry-parts, entry-passes, entry-stops, item-keeps, items-keep, leaf-keeps, next-left, none-left, not-empty, one-on, one-stops, signature_bytes, struct-parts, struct-passes, struct-stops, variant-parts, variant-passes, variant-stops}
 use Rattle.store_data.proofs.values.+value_end.Goals as goal
 
 -- ---- a variant
@@ -31,7 +31,12 @@ value_end-returns-in_ok-inside-in-Variant t c passed at k h =
     let ahead = c.in_ok-inside-in-Variant.ensures passed at parts.0.0 h in
     variant-passes passed at value inner c.value_end.result is ahead.0 (c.value_end.ensures (passed + signature_bytes inner) (at + signature_bytes inner) parts.1 ahead.1)
 
--- ---- an array
+-- ---- an array of bytes, and another
+
+pub value_end-returns-in-Bytes : goal.value_end-returns-in-Bytes
+value_end-returns-in-Bytes t c passed at k h =
+    bytes-passes passed at c.in-Bytes.bytes c.args.value.now c.bytes_end.result c.in-Bytes.is k
+    (bytes-so passed at c.len.result c.in-Bytes.bytes c.bytes_end.result c.len.ensures (c.bytes_end.ensures passed at h))
 
 pub value_end-returns-in_err-body-in-Array : goal.value_end-returns-in_err-body-in-Array
 value_end-returns-in_err-body-in-Array t c passed at k h =
@@ -90,7 +95,7 @@ value_end-returns-in_ok-second-in-DictEntry t c passed at k h =
     entry-passes passed at value key last c.value_end-in-DictEntry-2.result is first.0 (c.value_end-in-DictEntry-2.ensures ((passed + gap 8 at) + far) (start + far) parts.1 first.1)
 
 pub value_end-returns-in_default : goal.value_end-returns-in_default
-value_end-returns-in_default t c passed at k h = c.leaf_end.ensures passed at (leaf-keeps c.args.value.now c.in_default.not-Variant c.in_default.not-Array c.in_default.not-Struct c.in_default.not-DictEntry k) h
+value_end-returns-in_default t c passed at k h = c.leaf_end.ensures passed at (leaf-keeps c.args.value.now c.in_default.not-Variant c.in_default.not-Bytes c.in_default.not-Array c.in_default.not-Struct c.in_default.not-DictEntry k) h
 
 -- ---- one after another
 
