@@ -1,7 +1,7 @@
 //! Keepers of records in databases, in the folder that the program runs in.
 //!
-//! Each line that is printed is a step, and what it answered: an open, changes,
-//! or a load with the records that came.
+//! What is printed is a heading, and what was answered: by changes, by a load with the
+//! records that came, by an open that is refused.
 #![tactic(auto)]
 
 mod making;

@@ -6,7 +6,7 @@ use portal_base::text::Text;
 use portal_model::records::{DocRecord, EntryRecord, GrantRecord, RecordChange, Row};
 use std::alloc::Global;
 
-/// A document that goes behind the others; an application gets the rights.
+/// A document is added, in which each of the applications has the rights.
 pub fn add(
     alloc: Global,
     number: u32,

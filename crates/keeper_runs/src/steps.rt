@@ -17,25 +17,63 @@ const SEVEN: &[u8] = b"\x01y\0\x07";
 /// The datum of the variant that holds the byte 8, spelled.
 const EIGHT: &[u8] = b"\x01y\0\x08";
 
-// What holds a keeper has one way out, on which it is let go by hand: its drop is proved for
-// each way out of a function.
+/// What is done with a keeper that is opened over the database, and then dropped.
+#[derive(Clone, Copy)]
+enum Step {
+    /// A new database gets records, and changes of each kind.
+    Make,
+    /// The records are loaded from a database that was closed.
+    LoadClosed,
+    /// Changes fail, and leave the records, also where an earlier one of the same
+    /// call could be made.
+    Refuse,
+    /// Rights that are none are found.
+    FindFault,
+    /// Another version is found.
+    FindVersion,
+}
 
 /// All steps.
 pub fn all(rt: &HostRuntime, alloc: Global) -> Result<String, VectorError> {
-    let mut out = String::new(alloc);
-    let made = made(rt, alloc)?;
-    out.push_str(made.as_str())?;
-    let again = again(rt, alloc)?;
-    out.push_str(again.as_str())?;
-    let refused = refused(rt, alloc)?;
-    out.push_str(refused.as_str())?;
-    let by_hand = by_hand(rt, alloc)?;
-    out.push_str(by_hand.as_str())?;
+    let mut out = over_database(rt, alloc, Step::Make)?;
+    out.push_str(close(rt, alloc)?.as_str())?;
+    out.push_str(over_database(rt, alloc, Step::LoadClosed)?.as_str())?;
+    out.push_str(over_database(rt, alloc, Step::Refuse)?.as_str())?;
+    change_by_hand(rt, alloc, "UPDATE document_grant SET rights = 300")?;
+    out.push_str(over_database(rt, alloc, Step::FindFault)?.as_str())?;
+    change_by_hand(rt, alloc, "UPDATE version SET version = 9")?;
+    out.push_str(over_database(rt, alloc, Step::FindVersion)?.as_str())?;
+    let letter = refused_open(rt, alloc, "letter.txt")?;
+    out.push_str(format!(in alloc; "a letter: {letter}")?.as_str())?;
     Ok(out)
 }
 
-fn open(rt: &HostRuntime, alloc: Global, path: &str) -> Result<SqliteKeeper, VectorError> {
-    given(alloc, SqliteKeeper::open(rt, path))
+/// Does a step. The keeper is let go on one way out, since its drop is proved for each way out
+/// of a function.
+fn over_database(rt: &HostRuntime, alloc: Global, step: Step) -> Result<String, VectorError> {
+    let mut keeper = open(rt, alloc)?;
+    let told = run(alloc, step, &mut keeper);
+    drop(keeper);
+    told
+}
+
+fn run(alloc: Global, step: Step, keeper: &mut SqliteKeeper) -> Result<String, VectorError> {
+    match step {
+        Step::Make => make(alloc, keeper),
+        Step::LoadClosed => loaded(alloc, "closed and opened again", keeper),
+        Step::Refuse => refuse(alloc, keeper),
+        Step::FindFault => find_fault(alloc, keeper),
+        Step::FindVersion => loaded(alloc, "another version", keeper),
+    }
+}
+
+fn open(rt: &HostRuntime, alloc: Global) -> Result<SqliteKeeper, VectorError> {
+    given(alloc, SqliteKeeper::open(rt, "records.db"))
+}
+
+/// Why a keeper isn't opened.
+fn refused_open(rt: &HostRuntime, alloc: Global, path: &str) -> Result<String, VectorError> {
+    Ok(debug(alloc, &SqliteKeeper::open(rt, path).err())?)
 }
 
 /// What a load answers, under a heading.
@@ -61,15 +99,7 @@ fn applied(
     }
 }
 
-/// A new database gets records, and changes of each kind.
-fn made(rt: &HostRuntime, alloc: Global) -> Result<String, VectorError> {
-    let mut keeper = open(rt, alloc, "records.db")?;
-    let told = made_by(alloc, &mut keeper);
-    drop(keeper);
-    told
-}
-
-fn made_by(alloc: Global, keeper: &mut SqliteKeeper) -> Result<String, VectorError> {
+fn make(alloc: Global, keeper: &mut SqliteKeeper) -> Result<String, VectorError> {
     let mut out = loaded(alloc, "a new database", keeper)?;
     let first = first_changes(alloc)?;
     out.push_str(applied(alloc, "first changes", keeper, &first)?.as_str())?;
@@ -114,51 +144,28 @@ fn second_changes(alloc: Global) -> Result<List<RecordChange>, VectorError> {
     Ok(changes)
 }
 
-/// The keeper of before was dropped: one that is opened over its database has
-/// the same records, and so has one over a database that was closed. No two
-/// have it at a time.
-fn again(rt: &HostRuntime, alloc: Global) -> Result<String, VectorError> {
-    let mut out = opened_again(rt, alloc)?;
-    out.push_str(opened_last(rt, alloc)?.as_str())?;
-    Ok(out)
-}
-
-fn opened_again(rt: &HostRuntime, alloc: Global) -> Result<String, VectorError> {
-    let mut keeper = open(rt, alloc, "records.db")?;
-    let told = again_by(rt, alloc, &mut keeper);
+/// A keeper over a database whose keeper was dropped has the same records; no two have
+/// it at a time; and it is closed.
+fn close(rt: &HostRuntime, alloc: Global) -> Result<String, VectorError> {
+    let mut keeper = open(rt, alloc)?;
+    let told = open_twice(rt, alloc, &mut keeper);
     let closed = keeper.close();
     given(alloc, closed)?;
     told
 }
 
-fn again_by(
+fn open_twice(
     rt: &HostRuntime,
     alloc: Global,
     keeper: &mut SqliteKeeper,
 ) -> Result<String, VectorError> {
     let mut out = loaded(alloc, "opened again", keeper)?;
-    let second = debug(alloc, &SqliteKeeper::open(rt, "records.db").err())?;
+    let second = refused_open(rt, alloc, "records.db")?;
     out.push_str(format!(in alloc; "opened meanwhile: {second}\n")?.as_str())?;
     Ok(out)
 }
 
-fn opened_last(rt: &HostRuntime, alloc: Global) -> Result<String, VectorError> {
-    let mut keeper = open(rt, alloc, "records.db")?;
-    let told = loaded(alloc, "closed and opened again", &mut keeper);
-    drop(keeper);
-    told
-}
-
-/// Changes that fail leave the records, also where an earlier one of the same
-/// call could be made.
-fn refused(rt: &HostRuntime, alloc: Global) -> Result<String, VectorError> {
-    let mut keeper = open(rt, alloc, "records.db")?;
-    let told = refused_by(alloc, &mut keeper);
-    drop(keeper);
-    told
-}
-
-fn refused_by(alloc: Global, keeper: &mut SqliteKeeper) -> Result<String, VectorError> {
+fn refuse(alloc: Global, keeper: &mut SqliteKeeper) -> Result<String, VectorError> {
     let changes = of_one_number(alloc)?;
     let mut out = applied(alloc, "a number twice", keeper, &changes)?;
     let changes = of_falling_names(alloc)?;
@@ -190,36 +197,11 @@ fn of_nothing(alloc: Global) -> Result<List<RecordChange>, VectorError> {
     Ok(changes)
 }
 
-/// Databases that were changed by hand, and a file that is none.
-fn by_hand(rt: &HostRuntime, alloc: Global) -> Result<String, VectorError> {
-    change_by_hand(rt, alloc, "UPDATE document_grant SET rights = 300")?;
-    let mut out = with_fault(rt, alloc)?;
-    change_by_hand(rt, alloc, "UPDATE version SET version = 9")?;
-    out.push_str(of_another_version(rt, alloc)?.as_str())?;
-    let letter = debug(alloc, &SqliteKeeper::open(rt, "letter.txt").err())?;
-    out.push_str(format!(in alloc; "a letter: {letter}")?.as_str())?;
-    Ok(out)
-}
-
-fn with_fault(rt: &HostRuntime, alloc: Global) -> Result<String, VectorError> {
-    let mut keeper = open(rt, alloc, "records.db")?;
-    let told = fault_by(alloc, &mut keeper);
-    drop(keeper);
-    told
-}
-
-fn fault_by(alloc: Global, keeper: &mut SqliteKeeper) -> Result<String, VectorError> {
+fn find_fault(alloc: Global, keeper: &mut SqliteKeeper) -> Result<String, VectorError> {
     let mut out = loaded(alloc, "rights that are none", keeper)?;
     let fault = debug(alloc, &keeper.last_fault())?;
     out.push_str(format!(in alloc; "their fault: {fault}\n")?.as_str())?;
     Ok(out)
-}
-
-fn of_another_version(rt: &HostRuntime, alloc: Global) -> Result<String, VectorError> {
-    let mut keeper = open(rt, alloc, "records.db")?;
-    let told = loaded(alloc, "another version", &mut keeper);
-    drop(keeper);
-    told
 }
 
 /// Runs SQL over the database.

@@ -8,11 +8,14 @@
 //!
 //! | Room | Holds |
 //! |---|---|
+//! | `answer` | what the program does for its words, and the number that it ends with |
 //! | `words`, `form` | the words, read; what `clap` is told of them |
+//! | `service` | the service that the words ask for: its devices, its posts, and how it ends |
 //! | `sockets` | the sockets of a service: the path of each, whose it is, and what it speaks |
 //! | `settings`, `guid` | what the portal of a service is set to |
 //! | `laws` | a path tells whose a socket is |
 //! | `end` | how a service ended: its number, and its line |
+//! | `line` | a word or a path as it is printed, on one line |
 //!
 //! ```text
 //! match read_words(alloc, words)? { ServeAsk::Serve(words) => .., ServeAsk::Tell(text) => .. }

@@ -2,9 +2,10 @@
 //!
 //! What is printed of the runs is the same whatever the threads do:
 //!
-//! - three times two mounts of one request each are served, and workers are held:
-//!   each at its first request until the other is at its own; the first at its
-//!   second request until the other has answered; and the second so;
+//! - three times two mounts are served, on each of which GETATTR is asked behind
+//!   Enter, and workers are held: each at its first request until the other is at
+//!   its own; the first at its second request until the other has answered; and
+//!   the second so;
 //! - a bus of the host is served whose message comes only once the handshake is
 //!   answered.
 //!
@@ -16,6 +17,7 @@
 mod devices;
 mod hold;
 mod mounts;
+mod served;
 mod told;
 mod waiting;
 

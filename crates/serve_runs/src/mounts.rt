@@ -1,14 +1,11 @@
-//! Two mounts of one request each.
+//! Two mounts, on each of which one request is asked behind its Enter.
 
-use crate::devices::{devices, settings};
 use crate::hold::{Hold, HoldGate};
-use crate::told::tell;
+use crate::served::served;
 use portal_base::list::List;
 use portal_base::names::AppId;
-use portal_base::outside::{MemorySink, MemorySource, SetClock};
+use portal_base::outside::{MemorySink, MemorySource};
 use portal_base::who::{Kind, Who};
-use script_form::devices::ScriptDevices;
-use serve_posts::serve::serve;
 use std::alloc::Global;
 use std::sync::Wait;
 use std::thread::Threads;
@@ -34,29 +31,12 @@ pub fn mounts<R: Threads + Wait + Clock + Sync>(
     alloc: Global,
     hold: Hold,
 ) -> Result<String, VectorError> {
-    let settings = settings(alloc)?;
-    let ScriptDevices {
-        tree,
-        keeper,
-        words,
-    } = devices(alloc)?;
     let app = given(alloc, AppId::read(alloc, b"org.ed"))?;
     let mut posts = List::new(alloc);
     posts.push(mount(alloc, Who::Host)?)?;
     posts.push(mount(alloc, Who::App(app))?)?;
     let gate = HoldGate::new(rt, hold);
-    let status = serve(
-        alloc,
-        rt,
-        posts,
-        tree,
-        keeper,
-        SetClock::new(0),
-        words,
-        &settings,
-        &gate,
-    );
-    let told = tell(alloc, status)?;
+    let told = served(alloc, rt, posts, &gate)?;
     if gate.ran_out() {
         return Ok(format!(in alloc; "a hold ran out\n{told}")?);
     }

@@ -3,13 +3,11 @@
 ghost use Rattle.std.specs.Prelude.{◌<◌, ℕ, None, length};
 ghost use Rattle.portal_base.specs.Outside.{ReadCounts, Reads};
 
-use crate::devices::{devices, settings};
-use crate::told::{Shown, tell};
+use crate::served::served;
+use crate::told::Shown;
 use portal_base::list::{ByteList, List};
-use portal_base::outside::{MemorySink, ReadAnswer, SetClock, Sink, Source, WriteAnswer};
+use portal_base::outside::{MemorySink, ReadAnswer, Sink, Source, WriteAnswer};
 use portal_base::who::{Kind, Who};
-use script_form::devices::ScriptDevices;
-use serve_posts::serve::serve;
 use std::alloc::Global;
 use std::sync::Wait;
 use std::sync::atomic::{AtomicBool, Ordering};
@@ -108,28 +106,11 @@ fn give(buffer: &mut [u8], bytes: &[u8]) -> ReadAnswer
 
 /// What a bus of the host is answered whose message waits.
 pub fn waiting<R: Threads + Wait + Sync>(rt: &R, alloc: Global) -> Result<String, VectorError> {
-    let settings = settings(alloc)?;
-    let ScriptDevices {
-        tree,
-        keeper,
-        words,
-    } = devices(alloc)?;
     let answered = AtomicBool::new(false);
     let post = bus(alloc, &answered)?;
     let mut posts = List::new(alloc);
     posts.push(post)?;
-    let status = serve(
-        alloc,
-        rt,
-        posts,
-        tree,
-        keeper,
-        SetClock::new(0),
-        words,
-        &settings,
-        &OpenGate,
-    );
-    tell(alloc, status)
+    served(alloc, rt, posts, &OpenGate)
 }
 
 /// A bus of the host, of one link.

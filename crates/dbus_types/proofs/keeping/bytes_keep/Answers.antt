@@ -1,5 +1,4 @@
-use Rattle.std.proofs.Common.{◌≡◌, ◌-◌, refl, arith}
-use Rattle.dbus_types.specs.declared.types.Value.TheVariants as V
+use Rattle.std.proofs.Common.{◌-◌, arith}
 use Rattle.dbus_types.proofs.LimitsByLayer.{bytes_deep, bytes_on, each_fits}
 use Rattle.dbus_types.proofs.PackedBytes.{none_there}
 use Rattle.dbus_types.proofs.keeping.bytes_keep.Goals as goal

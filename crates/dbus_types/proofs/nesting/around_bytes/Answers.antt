@@ -1,4 +1,4 @@
-use Rattle.std.proofs.Common.{◌≡◌, ◌∙◌, min, sym, arith}
+use Rattle.std.proofs.Common.{◌∙◌, sym, arith}
 use Rattle.std.proofs.lemmas.Bool.{true≢false}
 use Rattle.dbus_types.proofs.PackedBytes.{flat_bytes, deep_bytes, none_there}
 use Rattle.dbus_types.proofs.nesting.around_bytes.Goals as goal
