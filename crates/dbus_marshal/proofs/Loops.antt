@@ -7,7 +7,6 @@ use Rattle.dbus_types.specs.declared.types.Endian.{Endian}
 use Rattle.dbus_types.specs.declared.types.WireType.{WireType}
 use Rattle.dbus_types.specs.declared.types.WireType.TheOpen.{WireType-F}
 use Rattle.dbus_types.specs.declared.types.Value.{Value}
-use Rattle.dbus_types.specs.declared.types.Value.TheVariants as V
 use Rattle.dbus_marshal.specs.declared.error.ReadError.{ReadError}
 use Rattle.dbus_marshal.specs.declared.error.ReadError.TheVariants.{Short, Padding, BadBool, BadText, TooLong, BadSignature, TooDeep, BadArray, Memory}
 use Rattle.dbus_types.specs.Types.{alignment}
@@ -101,8 +100,14 @@ array_fails (TooDeep at) x f h = rw h refl
 array_fails (BadArray at) x f h = rw h refl
 
 -- an array that was read, and the place after it
-pub array_read : (t : WireType) (x : Result (List Value) ReadError) (v : Value) (next : ℕ) (rest : List ℕ) → arrayed t x ≡ Ok v → (within_array x >>= λ vs. Ok (array_of t vs, next, rest)) ≡ Ok (v, next, rest)
-array_read t (Ok vs) v next rest is = ap (λ (w : Result Value ReadError). w >>= λ u. Ok (u, next, rest)) is
+abbrev with_place : WireType → ℕ → List ℕ → List Value → Read Value
+with_place t next rest vs = Ok (array_of t vs, next, rest)
+
+abbrev told : ℕ → List ℕ → Value → Read Value
+told next rest v = Ok (v, next, rest)
+
+pub array_read : (t : WireType) (x : Result (List Value) ReadError) (v : Value) (next : ℕ) (rest : List ℕ) → arrayed t x ≡ Ok v → (within_array x >>= with_place t next rest) ≡ told next rest v
+array_read t (Ok vs) v next rest is = ap (λ (w : Result Value ReadError). w >>= told next rest) is
 array_read t (Err e) v next rest is = absurd cc
 
 abbrev unmade : Result Value ReadError → Result (List Value) ReadError

@@ -6,7 +6,7 @@ ghost use Rattle.std.specs.Prelude.{◌≡◌, ◌+◌, ◌<◌, ◌≤◌, ◌^
 ghost use Rattle.std.specs.Int.{to_le_bytes, w8, w16, w32, w64};
 ghost use Rattle.dbus_types.specs.declared.types.Endian.TheVariants.{Little};
 ghost use Rattle.dbus_types.specs.Spells.{gap, number as number_bytes};
-ghost use Rattle.dbus_types.specs.Spelling.{Extends, aligned, signature_body, text_body};
+ghost use Rattle.dbus_types.specs.Spelling.{Extends, aligned, bytes_body, signature_body, text_body};
 
 use portal_base::list::ByteList;
 use portal_base::memory::WantOfMemory;

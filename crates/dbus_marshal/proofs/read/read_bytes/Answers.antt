@@ -1,4 +1,4 @@
-use Rattle.std.proofs.Common.{◌≡◌, ◌∙◌, Ok, ap, length, map, refl, sym, arith}
+use Rattle.std.proofs.Common.{◌∙◌, Ok, ap, length, map, refl, sym, arith}
 use Rattle.dbus_types.specs.declared.types.Value.TheVariants as V
 use Rattle.dbus_types.specs.declared.types.WireType.TheVariants as W
 use Rattle.std.proofs.lemmas.Bool.{true≢false}
