@@ -1,5 +1,5 @@
 -- Data passes its test exactly where its variant is spelled.
-use Rattle.std.proofs.Common.{◌≡◌, ℕ, zero, suc, ◌+◌, ◌<◌, ◌≤◌, ◌^◌, nat_lt, nat_le, ℤ, pos, negsuc, List, [], ◌∷◌, ◌++◌, length, map, Bool, true, false, not, ◌&&◌, cond, Result, Ok, Err, refl, sym, ap, subst, ◌∙◌, ◌⊎◌, inl, inr, arith}
+use Rattle.std.proofs.Common.{◌≡◌, ℕ, zero, suc, ◌+◌, ◌<◌, ◌≤◌, ◌^◌, nat_lt, nat_le, ℤ, pos, negsuc, List, [], ◌∷◌, ◌++◌, length, map, Bool, true, false, not, ◌&&◌, cond, Result, Ok, Err, refl, sym, ap, subst, ◌∙◌, ◌⊎◌, inl, inr, arith, replicate}
 use Rattle.std.specs.Prelude.{All, FitsSigned}
 use Rattle.std.specs.Int.{Width, w16, w32, w64, cast_signed, cast_unsigned}
 use Rattle.std.specs.List.{list_all}
@@ -28,7 +28,7 @@ use Rattle.dbus_types.specs.Types.{alignment, arrays_deep, brackets_deep, is_sin
 use Rattle.dbus_types.specs.Values.{IsSignatureText, IsText, nesting, nesting_step, one_around, type_of, type_step, array_of, byte_of}
 use Rattle.dbus_types.specs.Types.{greatest}
 use Rattle.dbus_types.proofs.OneSpelling.{one_byte, roll_byte, spells_same}
-use Rattle.dbus_types.proofs.PackedBytes.{bytes_are, bytes_in_row, byte_alignment, byte_or_not, bytes_of as packed_of, no_gap, of_bytes, of_others}
+use Rattle.dbus_types.proofs.PackedBytes.{bytes_are as packed_are, bytes_in_row, byte_alignment, byte_or_not, bytes_of as packed_of, no_gap, of_bytes, of_others}
 use Rattle.dbus_types.proofs.SpelledType.{spelled_kind}
 use Rattle.dbus_types.proofs.WholeSignatures.{short_reading, whole_again}
 use Rattle.portal_base.specs.Names.{is_byte_of_path, is_same}
@@ -612,7 +612,7 @@ module _ (S : WireType → ℕ → Value → List ℕ → Type 0) (k : ℕ) (ins
   bytes_pass t at v vs body byte is kinds m small =
       let first : ℕ = elements_at t at in
       let ns : List ℕ = map byte_of vs in
-      let whole : map (λ n. V.Byte n) ns ≡ vs = bytes_are vs (subst (λ (u : WireType). All (λ x. type_of x ≡ u) vs) byte kinds) in
+      let whole : map (λ n. V.Byte n) ns ≡ vs = packed_are vs (subst (λ (u : WireType). All (λ x. type_of x ≡ u) vs) byte kinds) in
       let packed : v ≡ V.Bytes ns = is ∙ (ap (λ (u : WireType). array_of u vs) byte ∙ packed_of vs) in
       let r : V.Bytes ns ≡ roll-Value (Value-F.Bytes ns) = search the_lemmas in
       let keep : all_keep (map judged (map (λ n. V.Byte n) ns)) first ≡ true = ap (λ (ws : List Value). all_keep (map judged ws) first) whole ∙ m.keep in
