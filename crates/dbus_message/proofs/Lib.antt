@@ -7,6 +7,7 @@ pub mod Fronts
 pub mod OneMessage
 pub mod WriteMessage
 pub mod Tables
+mod FirstFound
 pub mod Ascii
 pub mod WrittenHasSpelling
 pub mod WrittenAreMessages

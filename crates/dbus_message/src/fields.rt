@@ -2,9 +2,9 @@
 //!
 //! Source: D-Bus Specification, "Header Fields".
 
-ghost use Rattle.std.specs.Prelude.{◌≡◌, ◌==◌, length, filter, find, IfOk, Some};
+ghost use Rattle.std.specs.Prelude.{◌≡◌, ◌==◌, ℕ, false, length, filter, find, Some};
 ghost use Rattle.dbus_types.specs.declared.types.Value.{out-Value};
-ghost use Rattle.std.specs.List.{list_all};
+ghost use Rattle.std.specs.List.{list_all, position};
 ghost use Rattle.std.specs.Option.{option_copied};
 ghost use Rattle.dbus_message.specs.Fields.{known_codes, field_code as code_in, field_value as value_in, is_path_value as path_holds, is_text_value as text_holds, any_text, is_number_value as number_holds, is_signature_value as signature_holds, is_in_table as table_holds, is_field as field_holds, is_once as once, are_good as good, value_of as value_under, text_in as text_inside, number_in as number_inside, text_of as text_under, number_of as number_under, has as is_there, has_needed as needed_there};
 ghost use Rattle.dbus_types.specs.Names.{is_interface_name, is_member_name};
@@ -13,9 +13,8 @@ use dbus_marshal::header::HeaderField;
 use dbus_types::message::{ERROR, METHOD_CALL, METHOD_RETURN, SIGNAL};
 use dbus_types::names::{is_interface, is_member};
 use dbus_types::types::Value;
-use portal_base::memory::{Replica, WantOfMemory};
 use portal_base::text::Text;
-use std::alloc::Global;
+use std::mem;
 
 /// The object that is called, or that signals: an object path.
 pub(crate) const PATH: u8 = 1;
@@ -237,17 +236,49 @@ pub(crate) fn text_of(fields: &[HeaderField], code: u8) -> Option<&Text>
     }
 }
 
-/// A copy of the text under a code.
-pub(crate) fn copy_of(
-    alloc: Global,
-    fields: &[HeaderField],
-    code: u8,
-) -> Result<Option<Text>, WantOfMemory>
-    ensures { IfOk result (λ text. text ≡ text_under code fields.now) }
+/// Where the first field of a code stands.
+fn place_of(fields: &[HeaderField], code: u8) -> Option<usize>
+    ensures { result ≡ position (λ f. code_in f == code) fields.now }
 {
-    match text_of(fields, code) {
-        Some(text) => Ok(Some(text.replica(alloc)?)),
-        None => Ok(None),
+    fields.iter().position(|field| field_code(field) == code)
+}
+
+/// The value under a code, which is taken out of its field: a byte is left there.
+fn take_value(fields: &mut Vec<HeaderField>, code: u8) -> Option<Value>
+    ensures value { result ≡ value_under code fields.old.items }
+    ensures others { (other : ℕ) → (other == code) ≡ false
+        → value_under other fields.new.items ≡ value_under other fields.old.items }
+{
+    match place_of(fields.as_slice(), code) {
+        Some(at) => {
+            let field = &mut fields[at];
+            Some(mem::replace(&mut field.value, Value::Byte(0)))
+        }
+        None => None,
+    }
+}
+
+/// The text that a value is.
+fn into_text(value: Value) -> Option<Text>
+    ensures { result ≡ text_inside (out-Value value) }
+{
+    match value {
+        Value::Str(text) => Some(text),
+        Value::ObjectPath(text) => Some(text),
+        Value::Signature(text) => Some(text),
+        _ => None,
+    }
+}
+
+/// The text under a code, which is taken out of its field.
+pub(crate) fn take_text(fields: &mut Vec<HeaderField>, code: u8) -> Option<Text>
+    ensures text { result ≡ text_under code fields.old.items }
+    ensures others { (other : ℕ) → (other == code) ≡ false
+        → value_under other fields.new.items ≡ value_under other fields.old.items }
+{
+    match take_value(fields, code) {
+        Some(value) => into_text(value),
+        None => None,
     }
 }
 

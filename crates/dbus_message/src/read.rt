@@ -14,7 +14,7 @@ use crate::content::{Content, read_content};
 use crate::error::{MessageError, broken};
 use crate::fields::{
     ERROR_NAME, HIGHEST_CODE, INTERFACE, MEMBER, PATH, REPLY_SERIAL, SIGNATURE, UNIX_FDS, are_good,
-    copy_of, has_needed, number_of, text_of,
+    has_needed, number_of, take_text, text_of,
 };
 use crate::header::{FIELDS_AT, SERIAL_AT, body_start, endian_of, fields_end, number_at};
 use crate::rule;
@@ -22,7 +22,6 @@ use dbus_marshal::header::{HeaderField, read_header};
 use dbus_types::message::Message;
 use dbus_types::types::Endian;
 use portal_base::list::List;
-use portal_base::memory::WantOfMemory;
 use std::alloc::Global;
 
 /// The fields of a message that have codes of the table, where its bytes are
@@ -52,34 +51,36 @@ fn are_zeros(bytes: &[u8]) -> bool
     bytes.iter().all(|byte| *byte == 0)
 }
 
-/// The message that the header, the fields and the body say.
-fn message_of(
-    alloc: Global,
-    endian: Endian,
-    bytes: &[u8],
-    fields: &[HeaderField],
-    content: Content,
-) -> Result<Message, WantOfMemory>
+/// The message that the header, the fields and the body say. Its texts are those of the
+/// fields, which no one copies.
+fn message_of(endian: Endian, bytes: &[u8], fields: List<HeaderField>, content: Content) -> Message
     requires long { 16 ≤ length bytes.now }
     requires known { endian ≡ endian_in bytes.now }
-    ensures header { IfOk result (λ m. SaysHeader bytes.now m) }
-    ensures fields { IfOk result (λ m. SaysFields fields.now m) }
-    ensures body { IfOk result (λ m. (m.signature ≡ content.types) × (m.body ≡ content.values)) }
+    ensures header { SaysHeader bytes.now result }
+    ensures fields { SaysFields fields result }
+    ensures body { (result.signature ≡ content.types) × (result.body ≡ content.values) }
 {
-    Ok(Message {
+    let reply_serial = number_of(fields.as_slice(), REPLY_SERIAL);
+    let fds = number_of(fields.as_slice(), UNIX_FDS).unwrap_or(0);
+    let mut fields = fields.into_vec();
+    let path = take_text(&mut fields, PATH);
+    let interface = take_text(&mut fields, INTERFACE);
+    let member = take_text(&mut fields, MEMBER);
+    let error = take_text(&mut fields, ERROR_NAME);
+    Message {
         endian,
         kind: bytes[1],
         flags: bytes[2],
         serial: number_at(endian, bytes, SERIAL_AT),
-        path: copy_of(alloc, fields, PATH)?,
-        interface: copy_of(alloc, fields, INTERFACE)?,
-        member: copy_of(alloc, fields, MEMBER)?,
-        error: copy_of(alloc, fields, ERROR_NAME)?,
-        reply_serial: number_of(fields, REPLY_SERIAL),
+        path,
+        interface,
+        member,
+        error,
+        reply_serial,
         signature: content.types,
-        fds: number_of(fields, UNIX_FDS).unwrap_or(0),
+        fds,
         body: content.values,
-    })
+    }
 }
 
 /// Reads a message, which is as long as its header states, and whose header
@@ -117,10 +118,7 @@ pub fn read_message(alloc: Global, bytes: &[u8]) -> Result<Message, MessageError
     }
     let signature = text_of(fields.as_slice(), SIGNATURE);
     match read_content(alloc, endian, signature, &bytes[start..]) {
-        Ok(content) => match message_of(alloc, endian, bytes, fields.as_slice(), content) {
-            Ok(message) => Ok(message),
-            Err(_) => Err(MessageError::Memory),
-        },
+        Ok(content) => Ok(message_of(endian, bytes, fields, content)),
         Err(error) => Err(error),
     }
 }

@@ -1,11 +1,9 @@
-use Rattle.std.proofs.Common.{◌≡◌, true, List, Ok, Err, sym, ap, subst, ◌∙◌}
+use Rattle.std.proofs.Common.{◌≡◌, true, Ok, Err, sym, ap, ◌∙◌}
 use Rattle.std.specs.Prelude.{IsTrue, ◌==◌}
 use Rattle.std.specs.List.{list_all}
 use Rattle.std.specs.Option.{option_copied}
-use Rattle.dbus_types.specs.declared.types.Value.{Value}
 use Rattle.dbus_message.specs.Header.{kind_of, padding_bytes}
 use Rattle.dbus_message.specs.Fields.{are_good, has_needed, text_of}
-use Rattle.dbus_message.specs.Messages.{SaysFields}
 use Rattle.dbus_message.proofs.ReadMessage.{fields_failed, bad_fields, bad_needed, bad_padding, body_failed, message_read, not_true, fields_at, padding_at, content_at}
 use Rattle.dbus_message.proofs.KnownFields.{good_from, needed_from, text_from, says_from}
 use Rattle.dbus_message.proofs.read.read_message.Goals as goal
@@ -41,8 +39,8 @@ returns-then-not-are_zeros c =
     let a = bad_padding bytes c.requires is.0.0 is.0.2 keeps all other in
     record { reading = a.reading; only = a.only; refused = a.refused }
 
-pub returns-in-Ok-message_of : goal.returns-in-Ok-message_of
-returns-in-Ok-message_of c =
+pub returns-in-Ok-read_content : goal.returns-in-Ok-read_content
+returns-in-Ok-read_content c =
     let bytes = c.args.bytes.now in
     let end = c.fields_end-end.result in
     let start = c.body_start-start.result in
@@ -51,16 +49,16 @@ returns-in-Ok-message_of c =
     let keeps : are_good fs ≡ true = sym (c.are_good.ensures ∙ (ap are_good c.as_slice.ensures ∙ good_from bytes c.in-Ok.fields is.0)) ∙ c.if-not-are_good.false in
     let all : has_needed (kind_of bytes) fs ≡ true = sym (c.has_needed.ensures ∙ (ap (has_needed (kind_of bytes)) c.as_slice-2.ensures ∙ needed_from bytes c.in-Ok.fields is.0 (kind_of bytes))) ∙ c.if-not-has_needed.false in
     let content = c.in-Ok-read_content.content in
-    let m = c.in-Ok-message_of.message in
+    let m = c.message_of.result in
     let zeros : IsTrue (list_all (λ b. b == 0) (padding_bytes bytes)) = sym (c.are_zeros.ensures ∙ ap (list_all (λ b. b == 0)) (padding_at bytes end start c.fields_end-end.ensures.at c.body_start-start.ensures.at)) ∙ c.if-not-are_zeros.false in
     let text = c.text_of-signature.ensures ∙ (ap (text_of 8) c.as_slice-3.ensures ∙ text_from bytes c.in-Ok.fields is.0) in
     let said = content_at bytes fs c.endian_of-endian.result start (option_copied c.text_of-signature.result) (Ok content) c.endian_of-endian.ensures c.body_start-start.ensures.at text c.in-Ok-read_content.ensures in
-    let fields = says_from bytes c.in-Ok.fields is.0 m (subst (λ (l : List Value). SaysFields l m) c.as_slice-in-Ok-read_content.ensures c.in-Ok-message_of.ensures.fields) in
-    let a = message_read bytes c.requires fs is.0.2 keeps all zeros content m said c.in-Ok-message_of.ensures.header fields c.in-Ok-message_of.ensures.body.0 c.in-Ok-message_of.ensures.body.1 in
+    let fields = says_from bytes c.in-Ok.fields is.0 m c.message_of.ensures.fields in
+    let a = message_read bytes c.requires fs is.0.2 keeps all zeros content m said c.message_of.ensures.header fields c.message_of.ensures.body.0 c.message_of.ensures.body.1 in
     record { reading = a.reading; only = a.only; refused = a.refused }
 
-pub returns : goal.returns
-returns c =
+pub returns-in-Err-read_content : goal.returns-in-Err-read_content
+returns-in-Err-read_content c =
     let bytes = c.args.bytes.now in
     let end = c.fields_end-end.result in
     let start = c.body_start-start.result in
