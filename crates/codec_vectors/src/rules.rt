@@ -118,7 +118,7 @@ fn array(alloc: Global, made: &mut List<Value>, words: &str) -> Result<Value, Ve
     }
 }
 
-/// The items of an array of bytes, packed.
+/// The items packed, where the type is that of bytes and all of them are bytes.
 fn packed(
     alloc: Global,
     element: &WireType,

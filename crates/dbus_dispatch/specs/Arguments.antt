@@ -1,7 +1,8 @@
 -- The arguments of the calls that ask the portal, and the requests that these are (XDG Desktop
 -- Portal documentation, "org.freedesktop.portal.Documents" and
 -- "org.freedesktop.impl.portal.PermissionStore"; "local.docportal.Files1" is our own).
--- Arguments of other types, which no call with its method's signature has, are none of a request.
+-- Arguments of other types or forms, which no call that was read with its method's signature has,
+-- are none of a request.
 use Rattle.std.specs.Prelude.{ℕ, List, [], ◌∷◌, flat_map, Bool, true, false, Option, Some, None}
 use Rattle.std.specs.Option.{option_map, option_to_list}
 use Rattle.dbus_types.specs.declared.message.Message.{Message}
@@ -35,12 +36,12 @@ abbrev pub handle_of : Value-F Value → Option ℕ
 handle_of (Value-F.Handle index) = Some index
 handle_of _ = None
 
--- the bytes of an array of them
+-- the bytes of an array of bytes
 abbrev pub bytes_of : Value-F Value → Option (List ℕ)
 bytes_of (Value-F.Bytes bytes) = Some bytes
 bytes_of _ = None
 
--- the items of an array of others
+-- the items of an array of another type
 abbrev pub items_of : Value-F Value → Option (List Value)
 items_of (Value-F.Array element items) = Some items
 items_of _ = None

@@ -64,7 +64,7 @@ pub(crate) fn bytes_of(value: &Value) -> Option<&ByteList>
     }
 }
 
-/// The items of the array that a value is, of others than bytes.
+/// The items of the array of another type than that of bytes that a value is.
 pub(crate) fn items_of(value: &Value) -> Option<&List<Value>>
     ensures { option_copied result ≡ items_of (out-Value value.now) }
 {

@@ -1,7 +1,7 @@
 //! Keepers of records in databases, in the folder that the program runs in.
 //!
-//! What is printed is a heading, and what was answered: by changes, by a load with the
-//! records that came, by an open that is refused.
+//! Behind each heading stands what was answered: by changes, by a load with the
+//! records that came, or by an open that is refused.
 #![tactic(auto)]
 
 mod making;

@@ -16,7 +16,7 @@ use worker_gate::gate::Gate;
 use worker_gate::in_memory::MemoryListener;
 use worker_gate::worker::Post;
 
-/// What the posts are answered, whose workers a gate holds.
+/// What the posts are answered, while a gate holds their workers.
 pub fn served<R, S, K, G>(
     alloc: Global,
     rt: &R,
