@@ -6,6 +6,7 @@ ghost use Rattle.portal_model.specs.Seated.{is_open, state_seen};
 use crate::client::{Client, client_of};
 use crate::portal::{opened, settings};
 use portal_base::limits::Settings;
+use portal_base::list::ByteList;
 use portal_base::outside::MemorySink;
 use portal_core::local_desk::LocalDesk;
 use portal_desk::Desk;
@@ -46,7 +47,9 @@ struct Came {
 /// Cuts the bytes of a client after so many.
 fn cut(alloc: Global, client: &Client, at: usize) -> Result<String, VectorError> {
     let mut portal = opened(alloc, client.options.documents, client.options.limit)?;
-    cut_over(alloc, &mut portal, client, at)
+    let told = cut_over(alloc, &mut portal, client, at);
+    drop(portal);
+    told
 }
 
 /// The same over a portal that has no connection yet.
@@ -58,23 +61,39 @@ fn cut_over(
 ) -> Result<String, VectorError>
     requires { portal.old.story.history ≡ [] }
 {
-    let settings = settings(alloc)?;
     let mut sink = MemorySink::new(alloc, 0);
-    let came = {
-        let mut desk = LocalDesk::new(portal, 1);
-        fed_twice(alloc, &mut desk, client, at, &settings, &mut sink)
-    };
+    let came = fed_over(alloc, portal, client, at, &mut sink)?;
+    told(alloc, came, at, sink.pieces().as_slice())
+}
+
+/// What a session over the portal came to.
+fn fed_over(
+    alloc: Global,
+    portal: &mut ScriptPortal,
+    client: &Client,
+    at: usize,
+    sink: &mut MemorySink,
+) -> Result<Came, VectorError>
+    requires { portal.old.story.history ≡ [] }
+{
+    let settings = settings(alloc)?;
+    let mut desk = LocalDesk::new(portal, 1);
+    fed_twice(alloc, &mut desk, client, at, &settings, sink)
+}
+
+/// What it came to, and the pieces that were written, where the first piece was held.
+fn told(alloc: Global, came: Came, at: usize, pieces: &[ByteList]) -> Result<String, VectorError> {
     let Came {
         first,
         held,
         second,
         served,
-    } = came?;
+    } = came;
     if held != at {
         return Ok(format!(in alloc; "{held} are held of {at}")?);
     }
     let mut out = format!(in alloc; "{first:?}, {second:?}, {served:?}")?;
-    for piece in sink.pieces().as_slice() {
+    for piece in pieces {
         out.push_str(" | ")?;
         out.push_str(digits(alloc, piece.as_slice())?.as_str())?;
     }

@@ -40,7 +40,9 @@ fn fed_to_host(
     sink: &mut MemorySink,
 ) -> Result<String, VectorError> {
     let mut portal = opened(alloc, DOCUMENTS, PLENTY)?;
-    fed_portal(alloc, &mut portal, pieces, sink)
+    let told = fed_portal(alloc, &mut portal, pieces, sink);
+    drop(portal);
+    told
 }
 
 /// The same of a portal that has no connection yet.
@@ -52,14 +54,22 @@ fn fed_portal(
 ) -> Result<String, VectorError>
     requires { portal.old.story.history ≡ [] }
 {
-    let settings = settings(alloc)?;
-    let told = {
-        let mut desk = LocalDesk::new(portal, 1);
-        fed(alloc, &mut desk, &settings, pieces, sink)
-    };
-    let told = told?;
+    let told = fed_at_desk(alloc, portal, pieces, sink)?;
     let entries = portal.history().len();
     Ok(format!(in alloc; "{told}, {entries} entries")?)
+}
+
+fn fed_at_desk(
+    alloc: Global,
+    portal: &mut ScriptPortal,
+    pieces: &[ByteList; 3],
+    sink: &mut MemorySink,
+) -> Result<String, VectorError>
+    requires { portal.old.story.history ≡ [] }
+{
+    let settings = settings(alloc)?;
+    let mut desk = LocalDesk::new(portal, 1);
+    fed(alloc, &mut desk, &settings, pieces, sink)
 }
 
 fn fed<D: Desk>(

@@ -55,7 +55,9 @@ fn dripped(alloc: Global, client: &Client, size: u64) -> Result<Drip, VectorErro
 /// Serves a client by pieces of this size, over a portal of its own.
 fn served(alloc: Global, client: &Client, size: u64) -> Result<String, VectorError> {
     let mut portal = opened(alloc, client.options.documents, client.options.limit)?;
-    served_by(alloc, &mut portal, client, size)
+    let told = served_by(alloc, &mut portal, client, size);
+    drop(portal);
+    told
 }
 
 /// The same over a portal that has no connection yet.

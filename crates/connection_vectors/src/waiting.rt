@@ -44,7 +44,9 @@ fn served_to_host<S: Source, K: Sink>(
     sink: &mut K,
 ) -> Result<Came, VectorError> {
     let mut portal = opened(alloc, DOCUMENTS, PLENTY)?;
-    serve_portal(alloc, &mut portal, &Who::Host, Kind::Bus, source, sink)
+    let came = serve_portal(alloc, &mut portal, &Who::Host, Kind::Bus, source, sink);
+    drop(portal);
+    came
 }
 
 /// A source that gives its second half only once a piece was written, and
