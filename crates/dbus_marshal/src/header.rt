@@ -28,7 +28,7 @@ const MOST_VALUES_INSIDE: u32 = 62;
 
 /// A field of a message's header, which contracts see as the struct of a byte
 /// and a variant that it is.
-#[derive(Debug, Drop)]
+#[derive(Drop)]
 pub struct HeaderField {
     /// The code of the field.
     pub code: u8,
@@ -131,7 +131,7 @@ fn read_array(
 }
 
 /// The fields of a header that were read.
-#[derive(Debug, Drop)]
+#[derive(Drop)]
 pub struct ReadHeader {
     /// The fields whose codes are at most as high as was asked, in their order.
     pub fields: List<HeaderField>,

@@ -29,7 +29,7 @@ pub enum Handle {
 }
 
 /// An open handle of a connection.
-#[derive(Debug, Drop)]
+#[derive(Drop)]
 pub struct OpenHandle {
     /// The seat of the connection.
     pub seat: u32,

@@ -13,7 +13,7 @@ use std::marker::Model;
 /// Where the numbers of those that are to fail rise, a call costs the logarithm
 /// of how many they are; else it looks at each of them, since no memory is
 /// taken to put them in order.
-#[derive(Debug, Drop)]
+#[derive(Drop)]
 pub struct CallCount {
     made: u64,
     failing: List<u64>,
