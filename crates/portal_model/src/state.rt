@@ -27,6 +27,8 @@ pub struct Document {
     pub reusable: bool,
 }
 
+// Triples stand in one order, by the document's number, the name and the right: so they don't
+// depend on the way they came to be.
 /// A right that an application has in a document.
 #[derive(Drop)]
 pub struct Triple {

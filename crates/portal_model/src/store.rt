@@ -16,6 +16,8 @@ use portal_base::memory::{Replica, WantOfMemory};
 use portal_base::text::Text;
 use std::alloc::Global;
 
+// The definitions speak of values, and the records of a keeper spell them as bytes; `KeepEntries`
+// ties both.
 /// An entry of a table.
 #[derive(Drop)]
 pub struct StoredEntry {

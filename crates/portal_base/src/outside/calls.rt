@@ -8,6 +8,7 @@ ghost use Rattle.portal_base.specs.Calls.{counted, uncalled, is_to_fail, next_ca
 use crate::list::List;
 use std::marker::Model;
 
+// The count of calls stops at the greatest `u64`, and every later call has that number.
 /// How many calls came, which of them are to fail, and how many failed.
 ///
 /// Where the numbers of those that are to fail rise, a call costs the logarithm
