@@ -6,9 +6,9 @@ use Rattle.given_laws.specs.Faulted.{FaultsChangeNothing, failure_of}
 use Rattle.given_laws.specs.OneGiven.{AreFirst}
 use Rattle.host_tree.specs.Devices.{QuietState, quiet_tree_of}
 use Rattle.portal_base.specs.Outside.{HasRisen}
-use Rattle.portal_core.specs.Answered.{Answers, TellsFault}
-use Rattle.portal_core.specs.Devices.{Drawn, TellsFailure}
-use Rattle.portal_core.specs.Story.{PortalIs, state_now}
+use Rattle.portal_steps.specs.Answered.{Answers, TellsFault}
+use Rattle.portal_steps.specs.Devices.{Drawn, TellsFailure}
+use Rattle.portal_steps.specs.Story.{PortalIs, state_now}
 use Rattle.portal_model.specs.declared.entry.Entry.{Entry}
 use Rattle.portal_model.specs.declared.entry.Fault.{Fault}
 use Rattle.portal_model.specs.declared.reply.Answer.{Answer}

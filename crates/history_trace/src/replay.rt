@@ -5,7 +5,7 @@ ghost use Rattle.app_trace.specs.Awaited.{Shows};
 ghost use Rattle.app_trace.specs.Told.{item_told};
 ghost use Rattle.app_world.specs.Touched.{is_done as was_done};
 ghost use Rattle.app_world.specs.World.{items_of};
-ghost use Rattle.portal_core.specs.Story.{cost_with, limit_of, state_now};
+ghost use Rattle.portal_steps.specs.Story.{cost_with, limit_of, state_now};
 ghost use Rattle.portal_model.specs.Lawful.{Lawful};
 ghost use Rattle.portal_model.specs.Opening.{is_told};
 ghost use Rattle.portal_model.specs.Step.{after, reply_at};

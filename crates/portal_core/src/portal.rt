@@ -10,23 +10,17 @@ ghost use Rattle.portal_model.specs.Opening.{id_of, opened_over};
 ghost use Rattle.portal_model.specs.Rows.{are_rows};
 ghost use Rattle.portal_model.specs.Seated.{is_open};
 ghost use Rattle.portal_model.specs.Valid.{Valid};
-ghost use Rattle.portal_core.specs.Answered.{Answers, KeepsState, Spends, TellsFault};
-ghost use Rattle.portal_core.specs.Devices.{TellsFailure, may_ask_in_vain, may_ask_tree_in_vain, may_change_records};
-ghost use Rattle.portal_core.specs.Documents.{is_document_call};
-ghost use Rattle.portal_core.specs.Held.{told_files};
+ghost use Rattle.portal_steps.specs.Answered.{Answers, KeepsState, Spends, TellsFault};
+ghost use Rattle.portal_steps.specs.Devices.{TellsFailure, may_ask_in_vain, may_ask_tree_in_vain, may_change_records};
+ghost use Rattle.portal_steps.specs.Documents.{is_document_call};
+ghost use Rattle.portal_steps.specs.Held.{told_files};
 ghost use Rattle.portal_core.specs.OpenFiles.{GoesByHandles, OpensByRights};
-ghost use Rattle.portal_core.specs.Started.{AreLists, HandsBack, Starts, reopened};
-ghost use Rattle.portal_core.specs.Story.{HasCause, cost_with, limit_of, state_first, state_now};
+ghost use Rattle.portal_start.specs.Loading.{AreLists};
+ghost use Rattle.portal_core.specs.Started.{HandsBack, Starts, reopened};
+ghost use Rattle.portal_steps.specs.Story.{HasCause, cost_with, limit_of, state_first, state_now};
 ghost use Rattle.store_serving.specs.Serving.{may_change_entries};
 ghost use Rattle.store_serving.specs.Waiting.{silent};
 
-use crate::additions::serve_add;
-use crate::entries::{
-    check_caller, collect_answer, entry_made, node_entry, opened_connection, silent_reply,
-};
-use crate::lists::{bus_of, connection_of, of_others};
-use crate::start::{Lists, StartRefusal, lists_of_opening, load};
-use crate::{documents, seats, store};
 use app_view::ViewBook;
 use change_signals::Outboxes;
 use document_calls::ServedCall;
@@ -49,6 +43,13 @@ use portal_model::reply::{Answer, Change, Code, Refused, Reply};
 use portal_model::request::{AddRequest, NodeRequest, Request};
 use portal_model::state::Connection;
 use portal_model::store::StoreCall;
+use portal_start::start::{Lists, StartRefusal, lists_of_opening, load};
+use portal_steps::additions::serve_add;
+use portal_steps::entries::{
+    check_caller, collect_answer, entry_made, node_entry, opened_connection, silent_reply,
+};
+use portal_steps::lists::{bus_of, connection_of, of_others};
+use portal_steps::{documents, seats, store};
 use record_keeper::Keeper;
 use std::alloc::Global;
 use std::marker::Model;
@@ -80,11 +81,11 @@ pub struct Portal<T: HostTree, K: Keeper, C: Clock, W: Words> {
 
 impl<T: HostTree, K: Keeper, C: Clock, W: Words> Model for Portal<T, K, C, W> {
     ghost use Rattle.std.specs.Prelude.{◌≡◌, ◌≤◌, length};
-    ghost use Rattle.portal_core.specs.Answered.{KeepsState};
-    ghost use Rattle.portal_core.specs.Held.{Stands};
+    ghost use Rattle.portal_steps.specs.Answered.{KeepsState};
+    ghost use Rattle.portal_steps.specs.Held.{Stands};
     ghost use Rattle.portal_model.specs.History.{run};
     ghost use Rattle.portal_model.specs.Opening.{opened_over};
-    ghost use Rattle.portal_core.specs.Story.{PortalIs};
+    ghost use Rattle.portal_steps.specs.Story.{PortalIs};
     ghost use Rattle.store_serving.specs.Serving.{HasStore};
     ghost use Rattle.dbus_types.specs.contracts.types.Value as e;
     ghost use Rattle.std.specs.Coded.{codes};

@@ -2,7 +2,7 @@
 use Rattle.std.proofs.Common.{◌≡◌, inl, inr, ℕ, ◌+◌, ◌<◌, ◌≤◌, List, [], ◌∷◌, ◌++◌, length, Some, Bool, true, false, refl, sym, ap, ◌∙◌, subst, arith}
 use Rattle.std.specs.Prelude.{◌⊎◌}
 use Rattle.portal_base.specs.Devices.{SinkState}
-use Rattle.portal_core.specs.Story.{state_first, state_now}
+use Rattle.portal_steps.specs.Story.{state_first, state_now}
 use Rattle.portal_model.specs.History.{Legal}
 use Rattle.portal_model.specs.Seated.{exchanges, rises_by}
 use Rattle.portal_model.specs.State.{State}

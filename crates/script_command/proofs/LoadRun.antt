@@ -4,7 +4,7 @@ use Rattle.std.proofs.Math.Seq.{take-suc}
 use Rattle.std.proofs.lemmas.List.{append-nil, take-append-drop, take_all}
 use Rattle.portal_base.specs.declared.outside.WriteAnswer.TheVariants.{Failed}
 use Rattle.portal_base.specs.Outside.{HasRisen, Short, WriteCounts, Writes, onto}
-use Rattle.portal_core.specs.Story.{state_first}
+use Rattle.portal_steps.specs.Story.{state_first}
 use Rattle.portal_load.specs.declared.load.Load.{Load}
 use Rattle.portal_load.specs.Lines.{load_of, most_requests}
 use Rattle.portal_load.proofs.Lengths.{are_short}

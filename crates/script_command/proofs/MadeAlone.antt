@@ -11,11 +11,11 @@ use Rattle.file_ops.specs.TreeCalls.{after_calls}
 use Rattle.host_tree.specs.Devices.{tree_of}
 use Rattle.host_tree.specs.Trees.{TreeIs, after_call}
 use Rattle.portal_base.specs.Calls.{Calls, next_call}
-use Rattle.portal_core.specs.Answered.{Spends, Went}
+use Rattle.portal_steps.specs.Answered.{Spends, Went}
 use Rattle.portal_core.specs.Chain.{Chain, answered, refused}
-use Rattle.portal_core.specs.Devices.{KeeperWentOn}
-use Rattle.portal_core.specs.Story.{state_first, state_now}
-use Rattle.portal_core.specs.TreeCalls.{entry_calls}
+use Rattle.portal_steps.specs.Devices.{KeeperWentOn}
+use Rattle.portal_steps.specs.Story.{state_first, state_now}
+use Rattle.portal_steps.specs.TreeCalls.{entry_calls}
 use Rattle.portal_model.specs.declared.state.Connection.{Connection}
 use Rattle.record_keeper.specs.Devices.{KeeperState, keeper_of}
 use Rattle.record_keeper.specs.Keepers.{KeeperIs}

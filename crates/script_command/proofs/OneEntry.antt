@@ -9,8 +9,8 @@ use Rattle.portal_base.specs.Outside.{Draws}
 use Rattle.portal_base.specs.declared.files.File.{File}
 use Rattle.portal_base.specs.declared.files.Look.{Look}
 use Rattle.portal_base.specs.declared.names.doc_id.DocId.{DocId}
-use Rattle.portal_core.specs.Devices.{Drawn}
-use Rattle.portal_core.specs.TreeCalls.{CallsAsTold, bus_calls}
+use Rattle.portal_steps.specs.Devices.{Drawn}
+use Rattle.portal_steps.specs.TreeCalls.{CallsAsTold, bus_calls}
 use Rattle.node_serving.specs.Seats.{calls_on}
 use Rattle.portal_model.specs.declared.entry.Entry.{Entry}
 use Rattle.portal_model.specs.declared.entry.Fault.{Fault}

@@ -7,7 +7,7 @@ use Rattle.portal_model.specs.History.{cost, run}
 use Rattle.portal_model.specs.State.{State}
 use Rattle.portal_model.specs.Store.{Entries}
 use Rattle.portal_model.specs.Valid.{Valid}
-use Rattle.portal_core.specs.Story.{limit_of, state_first, state_now}
+use Rattle.portal_steps.specs.Story.{limit_of, state_first, state_now}
 use Rattle.script_form.specs.declared.script.ScriptLine.{ScriptLine}
 use Rattle.script_form.specs.Lines.{text_of}
 use Rattle.record_keeper.specs.KeptEntries.{KeepEntries}

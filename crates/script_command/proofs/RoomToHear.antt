@@ -1,7 +1,7 @@
 -- Where the history has room for what bytes can ask, nothing is refused for a full history.
 use Rattle.std.proofs.Common.{◌≡◌, ℕ, ◌+◌, ◌*◌, ◌≤◌, List, [], ◌++◌, length, refl, sym, ap, subst, inl, inr, arith, length-append}
 use Rattle.portal_base.specs.Devices.{SinkState}
-use Rattle.portal_core.specs.Story.{limit_of}
+use Rattle.portal_steps.specs.Story.{limit_of}
 use Rattle.portal_model.specs.declared.request.Request.{Request}
 use Rattle.portal_model.specs.History.{cost}
 use Rattle.portal_model.specs.Seated.{Seated}

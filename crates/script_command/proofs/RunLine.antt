@@ -10,7 +10,7 @@ use Rattle.portal_base.specs.declared.limits.Settings.{Settings}
 use Rattle.portal_base.specs.declared.who.Kind.{Kind}
 use Rattle.portal_base.specs.declared.who.Who.{Who}
 use Rattle.portal_base.specs.Outside.{HasRisen, Short, onto}
-use Rattle.portal_core.specs.Story.{state_first, cost_with, limit_of, state_now}
+use Rattle.portal_steps.specs.Story.{state_first, cost_with, limit_of, state_now}
 use Rattle.portal_model.specs.declared.entry.Entry.{Entry}
 use Rattle.portal_model.specs.declared.request.Request.{Request}
 use Rattle.portal_model.specs.declared.state.Connection.{Connection}

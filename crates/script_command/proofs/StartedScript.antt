@@ -3,10 +3,11 @@ use Rattle.std.proofs.Common.{◌≡◌, ℕ, ◌≤◌, ◌==◌, List, [], ◌
 use Rattle.host_tree.specs.Devices.{TreeState, tree_of}
 use Rattle.portal_base.specs.Calls.{Calls, FailsAsTold, next_call}
 use Rattle.portal_base.specs.declared.limits.Limits.{Limits}
-use Rattle.portal_core.specs.Started.{LoadsBadly, Starts}
-use Rattle.portal_core.specs.declared.start.StartError.{StartError}
-use Rattle.portal_core.specs.declared.start.StartError.TheVariants as start_error
-use Rattle.portal_core.specs.Story.{state_first, state_now}
+use Rattle.portal_start.specs.Loading.{LoadsBadly}
+use Rattle.portal_core.specs.Started.{Starts}
+use Rattle.portal_start.specs.declared.start.StartError.{StartError}
+use Rattle.portal_start.specs.declared.start.StartError.TheVariants as start_error
+use Rattle.portal_steps.specs.Story.{state_first, state_now}
 use Rattle.portal_model.specs.declared.records.Records.{Records}
 use Rattle.portal_model.specs.History.{run}
 use Rattle.portal_model.specs.Valid.{Valid}
@@ -32,7 +33,7 @@ use Rattle.portal_model.specs.State.{State}
 use Rattle.portal_model.specs.Store.{Entries}
 use Rattle.portal_model.specs.declared.opening.OpeningDocument.{OpeningDocument}
 use Rattle.portal_model.specs.declared.records.DocRecord.{DocRecord}
-use Rattle.portal_core.specs.Started.{document_loaded, opening_loaded}
+use Rattle.portal_start.specs.Loading.{document_loaded, opening_loaded}
 use Rattle.portal_base.specs.declared.files.File.{File}
 use Rattle.portal_base.specs.declared.names.doc_id.DocId.{DocId}
 use Rattle.record_keeper.specs.BadRecords.{names_granted}

@@ -4,8 +4,8 @@
 use Rattle.std.specs.Prelude.{◌≡◌, ℕ, List, [], ◌∷◌, Bool, Option, Some, None, IfSome}
 use Rattle.document_calls.specs.KeeperCalls.{is_keeper}
 use Rattle.portal_base.specs.Calls.{Calls, FailsAsTold, next_call}
-use Rattle.portal_core.specs.Devices.{Drawn}
-use Rattle.portal_core.specs.TreeCalls.{CallsAsTold, entry_calls}
+use Rattle.portal_steps.specs.Devices.{Drawn}
+use Rattle.portal_steps.specs.TreeCalls.{CallsAsTold, entry_calls}
 use Rattle.portal_model.specs.declared.entry.Entry.{Entry}
 use Rattle.portal_model.specs.declared.entry.Fault.{Fault}
 use Rattle.portal_model.specs.declared.request.Request.{Request}

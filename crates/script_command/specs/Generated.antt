@@ -2,7 +2,7 @@
 use Rattle.std.specs.Prelude.{◌≡◌, ◌⊎◌, ℕ, Bool, true, false, List, [], ◌∷◌, ◌++◌, length, Option, codes}
 use Rattle.std.specs.Fmt.{decimal}
 use Rattle.portal_base.specs.Outside.{HasRisen, Short, onto}
-use Rattle.portal_core.specs.Story.{Story, state_first}
+use Rattle.portal_steps.specs.Story.{Story, state_first}
 use Rattle.portal_load.specs.Lines.{load_of}
 use Rattle.portal_model.specs.declared.entry.Entry.{Entry}
 use Rattle.portal_model.specs.History.{cost}

@@ -4,7 +4,7 @@ use Rattle.std.specs.Prelude.{if◌then◌else◌, slice_index_or}
 use Rattle.portal_base.specs.declared.limits.Limits.{Limits}
 use Rattle.portal_base.specs.declared.limits.Settings.{Settings}
 use Rattle.host_tree.specs.Devices.{TreeState}
-use Rattle.portal_core.specs.Story.{PortalIs}
+use Rattle.portal_steps.specs.Story.{PortalIs}
 use Rattle.portal_model.specs.Opening.{opened_over}
 use Rattle.portal_model.specs.State.{State}
 use Rattle.portal_model.specs.Store.{Entries}

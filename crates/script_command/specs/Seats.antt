@@ -4,10 +4,10 @@ use Rattle.std.specs.Prelude.{Option, Some, Result}
 use Rattle.std.proofs.Common.{inl, inr}
 use Rattle.portal_base.specs.Devices.{SinkState}
 use Rattle.host_tree.specs.Devices.{tree_of}
-use Rattle.portal_core.specs.Answered.{Spends, Went}
+use Rattle.portal_steps.specs.Answered.{Spends, Went}
 use Rattle.portal_core.specs.Chain.{Chain, refused}
 use Rattle.portal_core.specs.Lending.{GrowsByOwn, seated_at}
-use Rattle.portal_core.specs.Story.{state_first, state_now}
+use Rattle.portal_steps.specs.Story.{state_first, state_now}
 use Rattle.portal_model.specs.declared.entry.Entry.{Entry}
 use Rattle.portal_model.specs.declared.request.Request.{Request}
 use Rattle.portal_model.specs.History.{cost}

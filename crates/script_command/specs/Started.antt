@@ -1,6 +1,6 @@
 -- What a portal is that a script opens.
 use Rattle.std.specs.Prelude.{◌≡◌, List, []}
-use Rattle.portal_core.specs.Story.{state_first}
+use Rattle.portal_steps.specs.Story.{state_first}
 use Rattle.portal_model.specs.Store.{Entries}
 use Rattle.portal_model.specs.Valid.{Valid}
 use Rattle.record_keeper.specs.KeptEntries.{KeepEntries}

@@ -4,7 +4,7 @@ use Rattle.std.specs.Prelude.{Option, None, IfSome}
 use Rattle.std.specs.List.{list_any}
 use Rattle.std.specs.Option.{option_map}
 use Rattle.portal_base.specs.Outside.{HasRisen, Short, onto}
-use Rattle.portal_core.specs.Story.{state_first, state_now, limit_of}
+use Rattle.portal_steps.specs.Story.{state_first, state_now, limit_of}
 use Rattle.portal_model.specs.declared.entry.Entry.{Entry}
 use Rattle.portal_model.specs.History.{cost}
 use Rattle.portal_model.specs.Seated.{Binding, bound}

@@ -1,7 +1,7 @@
 //! A portal that counts what became of its requests.
 
 ghost use Rattle.std.specs.Prelude.{◌≡◌, ◌+◌, ◌-◌, ◌^◌, [], true, cond, min, not, ◌&&◌};
-ghost use Rattle.portal_core.specs.Story.{state_first};
+ghost use Rattle.portal_steps.specs.Story.{state_first};
 ghost use Rattle.portal_model.specs.History.{cost};
 ghost use Rattle.script_command.specs.Outcomes.{done_in, is_code, is_enter, refused_in};
 
@@ -29,7 +29,7 @@ pub struct CountedPortal {
 }
 
 impl Model for CountedPortal {
-    ghost use Rattle.portal_core.specs.Story.{state_first};
+    ghost use Rattle.portal_steps.specs.Story.{state_first};
     ghost use Rattle.script_command.specs.Outcomes.{AreCounted};
     ghost use Rattle.script_command.specs.Scenes.{ScriptPortal as PortalOfScript};
     ghost use Rattle.dbus_types.specs.contracts.types.Value as e;
@@ -98,8 +98,8 @@ impl CountedPortal {
 
 impl Storied for CountedPortal {
     ghost use Rattle.host_tree.specs.Devices.{tree_of};
-    ghost use Rattle.portal_core.specs.Answered.{Spends, Went};
-    ghost use Rattle.portal_core.specs.Story.{state_first};
+    ghost use Rattle.portal_steps.specs.Answered.{Spends, Went};
+    ghost use Rattle.portal_steps.specs.Story.{state_first};
     ghost use Rattle.record_keeper.specs.Devices.{keeper_of};
     ghost use Rattle.script_command.specs.Seats.{clock_of, words_of};
 

@@ -2,7 +2,7 @@
 
 ghost use Rattle.std.specs.Prelude.{◌≡◌, ◌≤◌, ◌++◌, ◌∷◌, [], ℕ, List, true, IfErr, IfOk, OnOk};
 ghost use Rattle.portal_base.specs.Outside.{onto};
-ghost use Rattle.portal_core.specs.Story.{state_first};
+ghost use Rattle.portal_steps.specs.Story.{state_first};
 ghost use Rattle.portal_load.specs.Lines.{most_requests};
 ghost use Rattle.script_command.specs.Generated.{Generates, RanLoad, WritesLines};
 ghost use Rattle.script_command.specs.Generated.{count_line as line_of_count, five_lines, lines_of_load, load_lines_at};

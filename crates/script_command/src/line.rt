@@ -2,7 +2,7 @@
 
 ghost use Rattle.std.specs.Prelude.{◌≡◌, ◌≤◌, ◌<◌, [], ◌∷◌, Some, map, true, IfErr, OnOk};
 ghost use Rattle.portal_base.specs.Outside.{onto};
-ghost use Rattle.portal_core.specs.Story.{state_first, state_now};
+ghost use Rattle.portal_steps.specs.Story.{state_first, state_now};
 ghost use Rattle.portal_model.specs.declared.request.Request.{Request};
 ghost use Rattle.portal_model.specs.Seated.{bound};
 ghost use Rattle.session.specs.Sessions.{ending};

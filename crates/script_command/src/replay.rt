@@ -1,7 +1,7 @@
 //! Running a script.
 
 ghost use Rattle.std.specs.Prelude.{◌≡◌, [], IfErr, OnOk};
-ghost use Rattle.portal_core.specs.Story.{state_first};
+ghost use Rattle.portal_steps.specs.Story.{state_first};
 ghost use Rattle.script_command.specs.Plays.{PlaysAll, PlayStops, status_of};
 ghost use Rattle.script_command.specs.Scenes.{run_settings};
 ghost use Rattle.script_command.specs.Steps.{MayPlay, scene};

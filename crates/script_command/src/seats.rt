@@ -2,7 +2,7 @@
 
 ghost use Rattle.std.specs.Prelude.{◌≡◌, ℕ, ◌+◌, ◌*◌, ◌≤◌, [], ◌∷◌, ◌++◌, length, true, false};
 ghost use Rattle.std.specs.Prelude.{Some, IfOk, IfErr};
-ghost use Rattle.portal_core.specs.Story.{cost_with, limit_of, state_first, state_now};
+ghost use Rattle.portal_steps.specs.Story.{cost_with, limit_of, state_first, state_now};
 ghost use Rattle.portal_model.specs.declared.request.Request.{Request};
 ghost use Rattle.portal_model.specs.History.{Legal, cost};
 ghost use Rattle.portal_model.specs.Seated.{bound, is_open};

@@ -9,7 +9,7 @@ use crate::settings::limits;
 use portal_base::memory::WantOfMemory;
 use portal_base::outside::SetClock;
 use portal_core::portal::Portal;
-use portal_core::start::StartError;
+use portal_start::start::StartError;
 use script_form::devices::{ScriptDevices, devices_of};
 use script_form::script::Script;
 use std::alloc::Global;

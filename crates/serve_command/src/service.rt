@@ -22,7 +22,7 @@ use portal_base::list::List;
 use portal_base::memory::{Replica, WantOfMemory};
 use portal_base::outside::{Sink, StdSink};
 use portal_base::text::Text;
-use portal_core::start::{StartError, StartRefusal};
+use portal_start::start::{StartError, StartRefusal};
 use serve_posts::serve::serve;
 use serve_posts::status::ServeStatus;
 use std::fmt;

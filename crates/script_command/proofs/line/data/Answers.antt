@@ -1,5 +1,5 @@
 use Rattle.std.proofs.Common.{◌∙◌, subst, sym, length, ◌+◌, ◌*◌, ◌++◌, ◌≤◌, ℕ, List}
-use Rattle.portal_core.specs.Story.{limit_of}
+use Rattle.portal_steps.specs.Story.{limit_of}
 use Rattle.portal_model.specs.History.{cost}
 use Rattle.session.specs.Standings.{longest}
 use Rattle.script_command.proofs.RunLine.{all_written, answered_at, data_passes, data_room, data_space, if_err, last_breaks, last_runs, on_ok, on_runs, pieces_break}

@@ -1,5 +1,5 @@
 use Rattle.std.proofs.Common.{◌≡◌, drop, take}
-use Rattle.portal_core.specs.Story.{state_first}
+use Rattle.portal_steps.specs.Story.{state_first}
 use Rattle.script_command.specs.Steps.{MayPlay}
 use Rattle.script_command.proofs.RunLines.{Played}
 use Rattle.script_command.proofs.replay.run_lines.Given as goal
