@@ -8,7 +8,7 @@
 
 use portal_base::list::List;
 use portal_base::text::Text;
-use script_command::status::Status;
+use script_replay::status::Status;
 use std::process::ExitCode;
 use std::sync::Wait;
 use std::thread::Threads;

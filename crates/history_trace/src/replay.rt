@@ -1,7 +1,7 @@
 //! One entry of a history, asked again.
 
 ghost use Rattle.std.specs.Prelude.{◌≡◌, ◌++◌, ◌≤◌, ◌≢◌, false, map, true, IfOk, OnOk};
-ghost use Rattle.app_trace.specs.Awaited.{Shows};
+ghost use Rattle.trace_items.specs.Awaited.{Shows};
 ghost use Rattle.app_trace.specs.Told.{item_told};
 ghost use Rattle.app_world.specs.Touched.{is_done as was_done};
 ghost use Rattle.app_world.specs.World.{items_of};
@@ -12,7 +12,7 @@ ghost use Rattle.portal_model.specs.Step.{after, reply_at};
 ghost use Rattle.history_trace.specs.Replayed.{GoesOn, HasRoom, Replies};
 
 use crate::beginning::QuietPortal;
-use app_trace::{Lent, TraceItem, come, foresee, is_done};
+use app_trace::TraceItem;
 use portal_base::files::File;
 use portal_base::list::List;
 use portal_base::memory::{Replica, WantOfMemory};
@@ -22,6 +22,7 @@ use portal_model::entry::{Entry, Fault};
 use portal_model::reply::{Refused, Reply};
 use portal_model::request::Request;
 use std::alloc::Global;
+use trace_items::{Lent, come, foresee, is_done};
 
 /// Asks an entry again, appends what it tells the application, and lets the
 /// files be those behind it.

@@ -5,17 +5,17 @@ ghost use Rattle.portal_base.specs.Devices.{count_after};
 ghost use Rattle.record_keeper.specs.Keepers.{Applies, Loads, is_done_fault, is_load_fault};
 ghost use Rattle.keeper_sqlite.specs.Kept.{CanKeep};
 ghost use Rattle.keeper_sqlite.specs.Met.{IsOfDatabase, keeper_of};
-ghost use Rattle.keeper_sqlite.specs.declared.fault.KeeperFault.TheVariants.{Unkept};
+ghost use Rattle.sqlite_tables.specs.declared.fault.KeeperFault.TheVariants.{Unkept};
 
 use crate::changes::make_all;
-use crate::fault::{DatabaseFault, KeeperFault};
 use crate::kept::can_keep_all;
 use crate::loading::read_records;
-use crate::tables::make_tables;
 use portal_base::list::List;
 use portal_model::records::RecordChange;
 use record_keeper::{Keeper, KeeperDone, KeeperLoad};
 use sqlite::{Connection, File, FileStore};
+use sqlite_tables::fault::{DatabaseFault, KeeperFault};
+use sqlite_tables::tables::make_tables;
 use std::alloc::Global;
 use std::marker::Model;
 

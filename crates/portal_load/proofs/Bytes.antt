@@ -23,7 +23,7 @@ use Rattle.fuse_reply.specs.declared.field.Field.{Field}
 use Rattle.fuse_reply.specs.declared.field.Field.TheVariants.{Two, Four, Eight}
 use Rattle.fuse_reply.specs.Fields.{spelled as spelled_fields}
 use Rattle.portal_base.specs.Names.{doc_text}
-use Rattle.script_form.specs.Lines.{AreBytes}
+use Rattle.script_lines.specs.Lines.{AreBytes}
 use Rattle.portal_load.specs.declared.draw.Asked.{Asked}
 use Rattle.portal_load.specs.declared.draw.Asked.TheVariants.{Lookup, GetAttr, Open, Read, Write, Release, Rights}
 use Rattle.portal_load.specs.declared.draw.Draw.{Draw}

@@ -15,7 +15,7 @@ use Rattle.dbus_types.specs.Spelling.{Spelled, aligned, array_body, spell_step, 
 use Rattle.dbus_types.proofs.OneSpelling.{roll_array, roll_byte, roll_path, roll_signature, roll_str, roll_struct, roll_variant}
 use Rattle.dbus_marshal.proofs.TakenFronts.{four, number_len}
 use Rattle.dbus_message.specs.Written.{field}
-use Rattle.script_form.specs.Lines.{AreBytes}
+use Rattle.script_lines.specs.Lines.{AreBytes}
 
 -- bytes, at most so many
 pub record IsSmall (k : ℕ) (bs : List ℕ) : Type 0 where

@@ -30,7 +30,7 @@ use Rattle.portal_model.proofs.ListLookups.{is_same-eq, nat_is}
 use Rattle.portal_model.proofs.StaysTold.{step_told}
 use Rattle.portal_model.proofs.TripleOrder.{is_same-refl}
 use Rattle.script_form.specs.Outside.{Outside}
-use Rattle.script_command.specs.Entries.{AreGiven, Changes, ChangesOn, IsGiven}
+use Rattle.script_replay.specs.Entries.{AreGiven, Changes, ChangesOn, IsGiven}
 use Rattle.script_command.proofs.AddAlike.{bus_alike}
 use Rattle.script_command.proofs.OneWalk.{moment_one, one_given}
 use Rattle.script_command.proofs.WalksAlike.{DrawAlike, alike_clock, alike_drawn, alike_given}

@@ -1,9 +1,9 @@
 //! The two parts of a text.
 
 ghost use Rattle.std.specs.Prelude.{MatchOption};
-ghost use Rattle.script_form.specs.Reading.{CutsAt, IsFree};
+ghost use Rattle.script_lines.specs.Reading.{CutsAt, IsFree};
 ghost use Rattle.script_command.specs.Parting.{IsParted, IsUnparted};
-ghost use Rattle.script_command.specs.Texts.{line_feed};
+ghost use Rattle.script_replay.specs.Texts.{line_feed};
 
 /// The line that parts a text, without its line feed.
 const PARTING: &[u8] = b"====";
