@@ -5,14 +5,14 @@ ghost use Rattle.open_handles.specs.Opened.{HandleTable, handle_of, opened_on};
 ghost use Rattle.portal_model.specs.declared.request.NodeOp.TheVariants as NodeOp;
 ghost use Rattle.portal_model.specs.NodeVerdict.{HandlesStay};
 ghost use Rattle.portal_model.specs.Write.{write, write_name, write_open};
-ghost use Rattle.file_ops.specs.Done.{Does, Reads};
-ghost use Rattle.file_ops.specs.TreeCalls.{WasCalled};
+ghost use Rattle.node_looks.specs.Done.{Does, Reads};
+ghost use Rattle.node_looks.specs.TreeCalls.{WasCalled};
 ghost use Rattle.file_ops.specs.Tries.{Goes, done_of_ended, moment_of};
 
 use crate::opened::{OpenFile, open_file};
-use crate::served::{FileBook, NodeCall, NodeDone};
 use crate::tried::{Ended, Tried, came_of, room_for_looks};
 use host_tree::HostTree;
+use node_looks::served::{FileBook, NodeCall, NodeDone};
 use portal_base::files::FileName;
 use portal_base::memory::WantOfMemory;
 use portal_base::outside::Clock;

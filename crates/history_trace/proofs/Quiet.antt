@@ -1,7 +1,7 @@
 -- A portal over devices that never fail: no device failed in an entry of its history.
 use Rattle.std.specs.Prelude.{IfSome, ◌≢◌}
 use Rattle.std.proofs.Common.{◌≡◌, ◌⊎◌, inl, inr, ℕ, List, [], ◌∷◌, Bool, true, Option, Some, None, refl, sym, ap, subst, ◌∙◌, arith}
-use Rattle.file_ops.specs.Done.{Reads}
+use Rattle.node_looks.specs.Done.{Reads}
 use Rattle.given_laws.specs.Faulted.{FaultsChangeNothing, failure_of}
 use Rattle.given_laws.specs.OneGiven.{AreFirst}
 use Rattle.host_tree.specs.Devices.{QuietState, quiet_tree_of}

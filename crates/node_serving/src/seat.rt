@@ -1,7 +1,7 @@
 //! A request of a seat.
 
 ghost use Rattle.std.specs.Prelude.{◌≡◌, IfOk, OnErr, false, length, option_copied};
-ghost use Rattle.file_ops.specs.Done.{Reads, Wants};
+ghost use Rattle.node_looks.specs.Done.{Reads, Wants};
 ghost use Rattle.file_ops.specs.Wanting.{may_call_in_vain, may_change_file};
 ghost use Rattle.node_serving.specs.Counted.{Counts};
 ghost use Rattle.node_serving.specs.Seats.{AreEntered, IsServedIn, ServesSeat, refused_here};

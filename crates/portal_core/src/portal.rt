@@ -4,7 +4,7 @@ ghost use Rattle.std.specs.Prelude.{◌≡◌, ◌+◌, ◌<◌, ◌≤◌, ◌^
 ghost use Rattle.std.specs.List.{list_all};
 ghost use Rattle.app_view.specs.Books.{Lends as LendsBook};
 ghost use Rattle.change_signals.specs.Unsent.{AtSeat, holding, unsent_on};
-ghost use Rattle.file_ops.specs.OpenHandles.{AreOpen};
+ghost use Rattle.node_looks.specs.OpenHandles.{AreOpen};
 ghost use Rattle.portal_model.specs.History.{Legal, cost};
 ghost use Rattle.portal_model.specs.Opening.{id_of, opened_over};
 ghost use Rattle.portal_model.specs.Rows.{are_rows};

@@ -1,6 +1,6 @@
 -- The calls of the tree that a request on documents makes: one for each look, and none but looks; and no moment is read for it.
 use Rattle.std.proofs.Common.{◌≡◌, ℕ, zero, suc, List, [], ◌∷◌, length, replicate, Bool, true, false, not, Option, Some, None, is_some, refl, sym, ap, ◌∙◌}
-use Rattle.file_ops.specs.TreeCalls.{calls_of}
+use Rattle.node_looks.specs.TreeCalls.{calls_of}
 use Rattle.portal_base.specs.declared.files.File.{File}
 use Rattle.portal_base.specs.declared.files.Look.{Look}
 use Rattle.portal_base.specs.declared.names.doc_id.DocId.{DocId}

@@ -3,7 +3,7 @@ use Rattle.std.proofs.Common.{◌≡◌, ◌≢◌, ◌+◌, ◌≤◌, ℕ, Lis
 use Rattle.change_signals.specs.Unsent.{AtSeat as BoxAtSeat, Boxes, holding}
 use Rattle.document_records.specs.Documents.{DocumentList}
 use Rattle.portal_base.specs.Outside.{HasRisen}
-use Rattle.file_ops.specs.OpenHandles.{AreOpen}
+use Rattle.node_looks.specs.OpenHandles.{AreOpen}
 use Rattle.open_handles.specs.Opened.{HandleTable}
 use Rattle.portal_base.specs.declared.files.File.{File}
 use Rattle.portal_base.specs.declared.limits.Limits.{Limits}

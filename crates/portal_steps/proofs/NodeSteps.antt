@@ -1,8 +1,8 @@
 -- What a request on a node asks of the devices, and how it is replied to.
 use Rattle.std.proofs.Common.{◌≡◌, ◌≢◌, ℕ, List, [], ◌∷◌, replicate, Bool, true, false, Option, Some, None, refl, sym, ap, subst, ◌∙◌}
-use Rattle.file_ops.specs.TreeCalls.{after_calls}
+use Rattle.node_looks.specs.TreeCalls.{after_calls}
 use Rattle.file_ops.specs.Wanting.{may_call_in_vain, may_change_file}
-use Rattle.file_ops.specs.declared.served.NodeDone.{NodeDone}
+use Rattle.node_looks.specs.declared.served.NodeDone.{NodeDone}
 use Rattle.host_tree.specs.Trees.{TreeIs, after_call}
 use Rattle.node_serving.specs.Seats.{ServesSeat}
 use Rattle.open_handles.specs.Opened.{HandleTable}

@@ -2,7 +2,7 @@
 use Rattle.std.proofs.Common.{◌≡◌, ℕ, ◌==◌, List, [], ◌∷◌, ◌++◌, map, Bool, true, false, not, ◌&&◌, cond, Option, Some, None, is_some, option_map, refl, sym, ap, subst, ◌∙◌, arith}
 use Rattle.std.specs.List.{list_all}
 use Rattle.std.proofs.lemmas.Bool.Decides.{nat_tests}
-use Rattle.file_ops.specs.OpenHandles.{AreOpen, AreOpened, numbered, open_on}
+use Rattle.node_looks.specs.OpenHandles.{AreOpen, AreOpened, numbered, open_on}
 use Rattle.node_serving.specs.Seats.{AreEntered}
 use Rattle.open_handles.specs.Opened.{AtSeat, Enters, HandleTable, Leaves, Opened, opened_on}
 use Rattle.portal_base.specs.declared.who.Kind.{Kind}

@@ -2,10 +2,10 @@
 use Rattle.std.proofs.Common.{◌≡◌, ℕ, ◌==◌, ◌+◌, nat_eq, List, [], ◌∷◌, map, Bool, true, false, ◌&&◌, ◌||◌, cond, Option, Some, None, option_map, refl, sym, ap, subst, ◌∙◌, arith}
 use Rattle.std.specs.List.{list_all, IsDistinct}
 use Rattle.change_signals.specs.Unsent.{Boxes}
-use Rattle.file_ops.specs.OpenHandles.{AreOpen}
-use Rattle.file_ops.specs.Served.{given_to}
-use Rattle.file_ops.specs.TreeCalls.{Calling, calls_of}
-use Rattle.file_ops.specs.declared.served.NodeDone.{NodeDone}
+use Rattle.node_looks.specs.OpenHandles.{AreOpen}
+use Rattle.node_looks.specs.Served.{given_to}
+use Rattle.node_looks.specs.TreeCalls.{Calling, calls_of}
+use Rattle.node_looks.specs.declared.served.NodeDone.{NodeDone}
 use Rattle.host_tree.specs.Trees.{TreeIs}
 use Rattle.node_serving.specs.Seats.{ServesSeat, calls_on, seat_step}
 use Rattle.open_handles.specs.Opened.{HandleTable}

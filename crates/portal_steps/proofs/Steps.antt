@@ -2,9 +2,9 @@
 use Rattle.std.proofs.Common.{◌≡◌, ◌+◌, ◌<◌, ◌≤◌, ◌^◌, ℕ, ◌==◌, List, [], ◌∷◌, ◌++◌, length, map, true, false, cond, Option, Some, None, is_some, option_map, unwrap_or, refl, sym, ap, ◌∙◌, subst, arith}
 use Rattle.change_signals.specs.Unsent.{AtSeat as BoxAtSeat, Boxes, IsSame, holding, left as left_box, unsent_on}
 use Rattle.document_records.specs.Documents.{DocumentList}
-use Rattle.file_ops.specs.OpenHandles.{AreOpen}
-use Rattle.file_ops.specs.declared.served.FileBook.{FileBook}
-use Rattle.file_ops.specs.declared.served.NodeDone.{NodeDone}
+use Rattle.node_looks.specs.OpenHandles.{AreOpen}
+use Rattle.node_looks.specs.declared.served.FileBook.{FileBook}
+use Rattle.node_looks.specs.declared.served.NodeDone.{NodeDone}
 use Rattle.host_tree.specs.Trees.{TreeIs}
 use Rattle.node_serving.specs.Seats.{AreEntered, IsServedIn, ServesSeat}
 use Rattle.open_handles.specs.Opened.{AtSeat, Enters, HandleTable, Leaves, opened_on}

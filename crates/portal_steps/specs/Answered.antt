@@ -17,7 +17,7 @@ use Rattle.portal_model.specs.State.{State}
 use Rattle.portal_model.specs.Step.{reply_at}
 use Rattle.record_keeper.specs.Keepers.{KeeperIs}
 use Rattle.add_calls.specs.Placing.{HasDrawn}
-use Rattle.file_ops.specs.Done.{Reads}
+use Rattle.node_looks.specs.Done.{Reads}
 use Rattle.document_calls.specs.KeeperCalls.{KeeperStays}
 use Rattle.portal_steps.specs.Devices.{Drawn, Keeping, may_ask_tree_in_vain, may_change_records}
 use Rattle.portal_steps.specs.Devices.{may_draw, may_read_clock}

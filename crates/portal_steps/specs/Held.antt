@@ -1,7 +1,7 @@
 -- What the portal's lists are, beside its history and its devices.
 use Rattle.std.specs.Prelude.{◌≡◌, ◌≤◌, ℕ, List, Option, Some, None, cond}
 use Rattle.document_records.specs.Documents.{DocumentList}
-use Rattle.file_ops.specs.OpenHandles.{AreOpen}
+use Rattle.node_looks.specs.OpenHandles.{AreOpen}
 use Rattle.open_handles.specs.Opened.{HandleTable}
 use Rattle.portal_base.specs.declared.files.File.{File}
 use Rattle.portal_base.specs.declared.limits.Limits.{Limits}

@@ -1,7 +1,7 @@
 -- The entry of a request for which only the tree is asked, and the answer to a Collect.
 use Rattle.std.specs.Prelude.{ℕ, List, [], Option, Some, None, false}
-use Rattle.file_ops.specs.Served.{given_to}
-use Rattle.file_ops.specs.declared.served.NodeDone.{NodeDone}
+use Rattle.node_looks.specs.Served.{given_to}
+use Rattle.node_looks.specs.declared.served.NodeDone.{NodeDone}
 use Rattle.portal_base.specs.declared.files.Look.{Look}
 use Rattle.portal_model.specs.declared.entry.Entry.{Entry}
 use Rattle.portal_model.specs.declared.entry.Fault.{Fault}

@@ -9,8 +9,8 @@ use Rattle.portal_model.specs.declared.state.Connection.{Connection}
 use Rattle.portal_model.specs.Bus.{bus_walk, is_tree}
 use Rattle.portal_model.specs.State.{State, connection_of}
 use Rattle.portal_model.specs.Step.{all_told, bus_of}
-use Rattle.file_ops.specs.TreeCalls.{calls_of}
-pub use Rattle.file_ops.specs.TreeCalls.{Calling, CallsAsTold, WasCalled}
+use Rattle.node_looks.specs.TreeCalls.{calls_of}
+pub use Rattle.node_looks.specs.TreeCalls.{Calling, CallsAsTold, WasCalled}
 
 -- those of a request on documents, in the state in which the connection was told what it waited for
 abbrev pub bus_calls : State → Request → Given → Option Connection → List Bool

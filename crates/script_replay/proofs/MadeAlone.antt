@@ -6,8 +6,8 @@ use Rattle.std.specs.Option.{option_map}
 use Rattle.std.specs.Prelude.{IfSome}
 use Rattle.std.proofs.lemmas.Bool.Decides.{nat_tests}
 use Rattle.std.proofs.lemmas.List.{append_cancel_left}
-use Rattle.file_ops.specs.Done.{Reads}
-use Rattle.file_ops.specs.TreeCalls.{after_calls}
+use Rattle.node_looks.specs.Done.{Reads}
+use Rattle.node_looks.specs.TreeCalls.{after_calls}
 use Rattle.host_tree.specs.Devices.{tree_of}
 use Rattle.host_tree.specs.Trees.{TreeIs, after_call}
 use Rattle.portal_base.specs.Calls.{Calls, next_call}

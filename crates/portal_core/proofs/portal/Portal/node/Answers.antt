@@ -1,6 +1,6 @@
 use Rattle.std.proofs.Common.{◌≡◌, ◌≢◌, ◌≤◌, ◌+◌, ◌∷◌, ◌++◌, [], ap, arith, refl, rules, sym, ◌∙◌}
-use Rattle.file_ops.specs.Done.{Reads}
-use Rattle.file_ops.specs.Served.{given_to}
+use Rattle.node_looks.specs.Done.{Reads}
+use Rattle.node_looks.specs.Served.{given_to}
 use Rattle.node_serving.specs.Seats.{seat_calls, seat_step}
 use Rattle.portal_model.specs.declared.entry.Entry.{Entry}
 use Rattle.portal_model.specs.declared.entry.Fault.TheVariants as Fault
