@@ -3,7 +3,7 @@ use Rattle.std.proofs.Common.{◌≡◌, ◌+◌, ◌<◌, ◌≤◌, ℕ, List,
 use Rattle.std.proofs.lemmas.List.{append-nil, append_assoc, take-append-drop}
 use Rattle.app_world.specs.TraceItem.{TraceItem}
 use Rattle.app_world.specs.World.{items, items_of}
-use Rattle.opening_lists.proofs.Loops.{one_more}
+use Rattle.document_records.proofs.Loops.{one_more}
 use Rattle.portal_steps.specs.Story.{Story, cost_with, limit_of, state_now}
 use Rattle.portal_model.specs.declared.entry.Entry.{Entry}
 use Rattle.portal_model.specs.declared.opening.OpeningState.{OpeningState}

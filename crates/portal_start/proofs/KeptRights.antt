@@ -26,7 +26,7 @@ use Rattle.portal_model.proofs.RisingLists.{Order, any-put_all, rising-put_all, 
 use Rattle.portal_model.proofs.TripleOrder.{bytes-irreflexive, bytes-through, bytes-total, is_same-eq, is_same-refl, is_same-sym, nat_is, nat-itself, triples}
 use Rattle.record_keeper.specs.SoundRecords.{IsGrant, IsRising, IsSoundDocument}
 use Rattle.rights_rule.specs.Rights.{RightSet, holds_any}
-use Rattle.opening_lists.proofs.FreshItems.{any-mapped, any_same}
+use Rattle.document_records.proofs.FreshItems.{any-mapped, any_same}
 use Rattle.portal_start.specs.Loading.{document_loaded}
 use Rattle.portal_start.proofs.Found.{Finds, all_found, any_found}
 

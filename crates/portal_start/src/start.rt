@@ -138,9 +138,12 @@ pub fn lists_of_opening(alloc: Global, opening: OpeningState) -> Result<Lists, W
     ensures lists { IfOk result AreLists }
 {
     let items = opening.documents.as_slice();
-    let documents = opening_lists::documents(alloc, items, &opening.limits)?;
-    let rights = opening_lists::rights(alloc, items)?;
-    let applications = opening_lists::applications(alloc, opening.applications.as_slice())?;
+    let documents = document_records::opening::documents(alloc, items, &opening.limits)?;
+    let rights = document_records::opening::rights(alloc, items)?;
+    let applications = document_records::opening::applications(
+        alloc,
+        opening.applications.as_slice(),
+    )?;
     let entries = opening.entries.replica(alloc)?;
     valid_entries_are_held();
     let tables = Tables::with_entries(alloc, entries);

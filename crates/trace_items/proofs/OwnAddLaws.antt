@@ -12,7 +12,7 @@ use Rattle.portal_model.specs.AddArguments.{are_presented, document_path, docume
 use Rattle.add_files.specs.declared.plan.PlanItem.{PlanItem}
 use Rattle.app_world.specs.Add.{reused_of}
 use Rattle.trace_items.specs.OwnAdds.{looked_at, presented_by, reused_here}
-use Rattle.opening_lists.proofs.Loops.{one_more}
+use Rattle.document_records.proofs.Loops.{one_more}
 
 -- ---- files that are presented
 

@@ -20,7 +20,7 @@ use Rattle.app_world.specs.Effect.{Effect, Gained}
 use Rattle.app_world.specs.Grant.{gained_if, gained_in}
 use Rattle.app_world.proofs.AddLaws.{rights-keep}
 use Rattle.app_world.proofs.UseLaws.{rights-other}
-use Rattle.opening_lists.proofs.Loops.{map-more}
+use Rattle.document_records.proofs.Loops.{map-more}
 use Rattle.trace_items.specs.OwnAdds.{Shared, gained_first, gave, is_given, none_shared, share_document, share_file, shared_files, there_for}
 
 -- ---- documents that are used again

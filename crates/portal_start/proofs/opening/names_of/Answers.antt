@@ -4,7 +4,7 @@ use Rattle.record_keeper.specs.BadRecords.{applications_of, names_granted}
 use Rattle.record_keeper.specs.Naming.{also_named}
 use Rattle.record_keeper.proofs.NamingFacts.{named_with_document}
 use Rattle.portal_model.specs.declared.records.GrantRecord.{GrantRecord}
-use Rattle.opening_lists.proofs.Loops.{one_more}
+use Rattle.document_records.proofs.Loops.{one_more}
 use Rattle.portal_start.proofs.opening.names_of.Goals as goal
 
 pub loop-item-preserved : goal.loop-item-preserved

@@ -5,7 +5,7 @@ use Rattle.std.specs.List.{IsDistinct}
 use Rattle.portal_base.specs.declared.names.doc_id.DocId.{DocId}
 use Rattle.portal_model.specs.declared.opening.OpeningDocument.{OpeningDocument}
 use Rattle.portal_model.specs.Opening.{document_kept, id_of, opened_over, rights_kept}
-use Rattle.opening_lists.proofs.ValidNames.{rights_named}
+use Rattle.document_records.proofs.ValidNames.{rights_named}
 use Rattle.portal_start.proofs.LoadedRecords.{listed_documents, numbers_kept}
 use Rattle.portal_start.proofs.start.lists_of_opening.Goals as goal
 
