@@ -7,14 +7,13 @@ ghost use Rattle.serve_command.specs.Ends.{EndsStart, end_of, is_failed, is_star
 ghost use Rattle.serve_command.specs.Posts.{bound_at, bound_of, posts_of};
 ghost use Rattle.serve_command.specs.Settings.{limits_with};
 ghost use Rattle.serve_command.specs.Sockets.{sockets_in};
-ghost use Rattle.serve_command.specs.Words.{IsInForm};
+ghost use Rattle.serve_words.specs.Words.{IsInForm};
 
 use crate::end::ServeEnd;
 use crate::guid::guid_of;
 use crate::line::on_one_line;
 use crate::settings::settings;
 use crate::sockets::{Socket, sockets_of};
-use crate::words::ServeWords;
 use host_real::{OpenError, RealTree};
 use keeper_sqlite::{DatabaseFault, SqliteKeeper};
 use portal_base::limits::Settings;
@@ -25,6 +24,7 @@ use portal_base::text::Text;
 use portal_start::start::{StartError, StartRefusal};
 use serve_posts::serve::serve;
 use serve_posts::status::ServeStatus;
+use serve_words::words::ServeWords;
 use std::fmt;
 use std::sync::Wait;
 use std::thread::Threads;

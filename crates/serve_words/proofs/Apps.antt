@@ -5,7 +5,7 @@ use Rattle.std.specs.Cmp.Lexicographic.{lists_equiv}
 use Rattle.std.proofs.lemmas.Map.Keys.{IsDistinct-push}
 use Rattle.std.proofs.lemmas.Cmp.{nat_eq_equiv}
 use Rattle.portal_base.specs.Names.{is_same}
-use Rattle.serve_command.specs.Words.{AreApps}
+use Rattle.serve_words.specs.Words.{AreApps}
 
 pub none_are : AreApps []
 unfolding IsDistinct

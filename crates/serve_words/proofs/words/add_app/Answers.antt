@@ -1,9 +1,9 @@
 use Rattle.std.proofs.Common.{rules, ◌≡◌, ◌≢◌, false, [], ◌∷◌, ◌++◌, length, sym, subst}
 use Rattle.std.specs.List.{list_any}
 use Rattle.portal_base.specs.Names.{is_same}
-use Rattle.serve_command.specs.Words.{AreApps}
-use Rattle.serve_command.proofs.Apps.{one_more_are}
-use Rattle.serve_command.proofs.words.add_app.Goals as goal
+use Rattle.serve_words.specs.Words.{AreApps}
+use Rattle.serve_words.proofs.Apps.{one_more_are}
+use Rattle.serve_words.proofs.words.add_app.Goals as goal
 
 pub returns : goal.returns
 returns c =

@@ -2,9 +2,9 @@
 use Rattle.std.specs.Prelude.{ℕ, ◌≤◌, List, length, ⊤}
 use Rattle.std.specs.List.{IsDistinct}
 use Rattle.portal_base.specs.Names.{is_same}
-use Rattle.serve_command.specs.declared.words.ServeWords.{ServeWords}
-use Rattle.serve_command.specs.declared.words.ServeAsk.{ServeAsk}
-use Rattle.serve_command.specs.declared.words.ServeAsk.TheVariants.{Serve, Tell}
+use Rattle.serve_words.specs.declared.words.ServeWords.{ServeWords}
+use Rattle.serve_words.specs.declared.words.ServeAsk.{ServeAsk}
+use Rattle.serve_words.specs.declared.words.ServeAsk.TheVariants.{Serve, Tell}
 
 -- the most posts of a listener
 abbrev pub most_workers : ℕ

@@ -3,7 +3,7 @@
 ghost use Rattle.std.specs.Prelude.{◌≡◌, ◌≤◌, IfOk, IfSome, OnOk};
 ghost use Rattle.std.specs.List.{list_any};
 ghost use Rattle.portal_base.specs.Names.{is_same};
-ghost use Rattle.serve_command.specs.Words.{AreApps, AsksInForm, IsInForm, most_history, most_workers};
+ghost use Rattle.serve_words.specs.Words.{AreApps, AsksInForm, IsInForm, most_history, most_workers};
 
 use crate::form::form;
 use clap::ArgMatches;
@@ -63,7 +63,7 @@ pub enum WordsError {
 
 impl From<WantOfMemory> for WordsError {
     ghost use Rattle.std.specs.Prelude.{◌≡◌};
-    ghost use Rattle.serve_command.specs.declared.words.WordsError.TheVariants.{Memory};
+    ghost use Rattle.serve_words.specs.declared.words.WordsError.TheVariants.{Memory};
 
     ghost from_gives = { λ _ error. error ≡ Memory };
 
@@ -74,7 +74,7 @@ impl From<WantOfMemory> for WordsError {
 
 impl From<AllocError> for WordsError {
     ghost use Rattle.std.specs.Prelude.{◌≡◌};
-    ghost use Rattle.serve_command.specs.declared.words.WordsError.TheVariants.{Memory};
+    ghost use Rattle.serve_words.specs.declared.words.WordsError.TheVariants.{Memory};
 
     ghost from_gives = { λ _ error. error ≡ Memory };
 
