@@ -63,5 +63,7 @@ pub(crate) fn truncates(flags: u32) -> bool
 pub(crate) fn opens_to_write(flags: u32) -> bool
     ensures { result ≡ opens_to_write flags }
 {
+    // POSIX leaves open what O_TRUNC does in a mode that reads: here it needs `write`, and makes
+    // the file empty.
     mode_writes(flags) || truncates(flags)
 }

@@ -178,6 +178,7 @@ fn open_shown<T: HostTree, C: Clock>(
         path: seen.document.path.replica(alloc)?,
         generation,
     };
+    // It comes ahead of O_TRUNC: where no handle can be had nothing is cut.
     if !take_room(handles, call.seat)? {
         return Ok(Ended::refused(EMFILE));
     }
@@ -188,6 +189,7 @@ fn open_shown<T: HostTree, C: Clock>(
 fn is_denied(flags: u32, may_write: bool) -> bool
     ensures { result ≡ (opens_to_write flags && not may_write) }
 {
+    // Permissions are asked where a file is opened, and by no request that goes by a handle.
     opens_to_write(flags) && !may_write
 }
 

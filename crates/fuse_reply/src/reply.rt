@@ -51,6 +51,8 @@ pub fn write_reply(
     if is_quiet(answer) {
         return Ok(None);
     }
+    // The frame is written in one buffer of its length, and the bytes that were read are copied
+    // into it once.
     let mut frame = begun(alloc, error_of(answer), unique, body_len(answer))?;
     put_body(&mut frame, answer)?;
     Ok(Some(sealed(frame)))

@@ -41,6 +41,8 @@ pub fn trace_of(
     ensures { IfOk result (λ t. trace_told t
         ≡ trace app.now (opened opening.now) history.now) }
 {
+    // The requests are asked again on a portal, so that what `Portal::ask` promises is all that
+    // the loop needs.
     let items = items_told(alloc, opening, app, history)?;
     match view_of(alloc, opening, app) {
         Ok(opening) => Ok(Trace { opening, items }),

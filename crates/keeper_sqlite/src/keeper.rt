@@ -102,6 +102,8 @@ impl Keeper for SqliteKeeper {
         match read_records(self.alloc, &mut self.conn) {
             Ok(records) => KeeperLoad::Got(records),
             Err(DatabaseFault::Memory) => KeeperLoad::Memory,
+            // A row that can't be read as a record is a fault, and not a bad record, which has a
+            // place among the records.
             Err(fault) => {
                 self.meet(KeeperFault::Database(fault));
                 KeeperLoad::Failed

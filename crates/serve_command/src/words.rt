@@ -122,6 +122,7 @@ fn told_by(alloc: Global, error: &clap::Error) -> Result<ServeAsk, WordsError>
 
 /// The lines of a message up to its first empty one, as one line without the word `error`.
 fn one_line(alloc: Global, message: &str) -> Result<String, WantOfMemory> {
+    // What `clap` says up to its first empty line, without its hint at a similar word.
     let message = message.strip_prefix("error: ").unwrap_or(message);
     let mut line = String::new(alloc);
     for part in message.lines() {
