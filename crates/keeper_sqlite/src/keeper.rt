@@ -44,6 +44,8 @@ impl SqliteKeeper {
     pub fn open(rt: &HostRuntime, path: &str) -> Result<SqliteKeeper, DatabaseFault>
         ensures { IfOk result (λ keeper. keeper ≡ record { faults = 0; last = None }) }
     {
+        // A commit is synced once, as SQLite's WAL with synchronous FULL does, on the premise that
+        // a torn write leaves each byte old or new. To take no such premise would sync twice.
         let mut conn = Connection::open(rt, path)?;
         make_tables(&mut conn)?;
         Ok(SqliteKeeper {

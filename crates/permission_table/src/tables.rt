@@ -248,6 +248,8 @@ impl Tables {
         requires { IfSome former (IsFormer table.now id.now) }
         ensures { self.new ≡ put_back table.now id.now former self.old }
     {
+        // It isn't asked that the entry is there, or was made last: what is there gets its former
+        // content in its place, or goes.
         match former {
             Some(former) => restore(&mut self.entries, table, id, former),
             None => {

@@ -206,6 +206,8 @@ fn number_of(matches: &ArgMatches<'_>, name: &str, most: u64) -> Option<u64>
 
 /// The number that decimal digits without leading zeros stand for.
 fn read_number(word: &str) -> Option<u64> {
+    // As everywhere in the program, numbers are decimal digits without a sign or a leading zero,
+    // and not what `parse` takes.
     let bytes = word.as_bytes();
     if bytes.len() > 1 && bytes[0] == b'0' {
         return None;

@@ -123,6 +123,7 @@ impl<S: Storied> Pass<S> {
             turn,
             place,
             number,
+            // The count begins anew each time that a pass sits down; what the seat knows goes on.
             refusals: 0,
         }
     }
