@@ -51,6 +51,7 @@ fn by_bytes(paths: List<HostPath>) -> List<HostPath>
     ensures same { IsPermutation paths result }
     ensures order { IsSortedBy path_less result }
 {
+    // Whatever the order in which they came: views are compared by what is found in them.
     let mut paths = paths.into_vec();
     paths.sort_unstable_by(|first, second| byte_order(first, second));
     List::from_vec(paths)

@@ -102,6 +102,7 @@ pub(crate) fn texts_in(alloc: Global, items: &[Value]) -> Result<List<Text>, Wan
     ensures { IfOk result (λ texts. texts ≡ texts_in items.now) }
 {
     let mut texts = List::new(alloc);
+    // Items of another type are in no message that was read, and are passed over.
     for item in items {
         if let Some(text) = text_of(item) {
             texts.push(text.replica(alloc)?)?;

@@ -39,6 +39,8 @@ pub enum Ask {
 pub fn expects_reply(message: &Message) -> bool
     ensures { result ≡ expects_reply message.now }
 {
+    // A call that expects no reply asks what it would ask with one, since signals that wait go out
+    // at its place too.
     message.kind == METHOD_CALL && message.flags & NO_REPLY_EXPECTED == 0
 }
 
@@ -56,6 +58,7 @@ pub fn request_of(
     if message.kind != METHOD_CALL {
         return Ok(Ask::Ignore);
     }
+    // A path on the host tells its rule here, which is what an answer with it needs to be written.
     let mountpoint = settings.mountpoint.as_bytes();
     fits(message.serial);
     match called(message) {

@@ -32,6 +32,7 @@ pub fn called(call: &Message) -> Result<Method, ErrorName>
         Ok(method) => method,
         Err(error) => return Err(error),
     };
+    // The signature is compared as its text. A message that was read has arguments of its types.
     if have_signature(call.signature.as_slice(), method.takes()) {
         Ok(method)
     } else {
@@ -45,6 +46,8 @@ pub(crate) fn found(call: &Message) -> Result<Method, ErrorName>
     ensures { result ≡ found call.now }
 {
     let object = object_of(call);
+    // A path that names no object counts as one with Peer alone, of which Ping is answered where
+    // its interface is named.
     if object == Object::Nothing && !names_ping(call) {
         return Err(ErrorName::UnknownObject);
     }

@@ -36,6 +36,8 @@ pub fn value_in(object: Object, arguments: &[Value]) -> Result<u32, ErrorName>
     let Some(interface) = interface_named(object, interface.as_bytes()) else {
         return Err(ErrorName::UnknownInterface);
     };
+    // Get and GetAll read their arguments behind the four refusals. Only the object's own
+    // interface has a property.
     match version_of(interface) {
         Some(version) if property.as_str() == VERSION => Ok(version),
         _ => Err(ErrorName::UnknownProperty),

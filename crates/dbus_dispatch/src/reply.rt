@@ -92,6 +92,7 @@ fn error_of(code: Code) -> ErrorName
         Code::NotFound => ErrorName::NotFound,
         Code::NotAllowed => ErrorName::NotAllowed,
         Code::InvalidArgument => ErrorName::InvalidArgument,
+        // An answer to a request on a node is none that the portal gives to a call.
         Code::Failed | Code::Errno(_) | Code::NotHere => ErrorName::Failed,
     }
 }
@@ -130,6 +131,7 @@ fn is_within_limit(alloc: Global, call: &Message, body: &[Value]) -> Result<bool
     if body.is_empty() {
         return Ok(true);
     }
+    // No call tells how long a spelling is without writing it, so the return is spelled once more.
     let signature = signature_len(alloc, body)?;
     let values = body_len(alloc, body)?;
     Ok(is_short(signature, values))

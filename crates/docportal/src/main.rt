@@ -23,6 +23,8 @@ fn main(rt: HostRuntime) -> ExitCode {
 
 /// Does what the words ask for: the number that the program ends with.
 fn answer<R: Threads + Wait + Sync>(rt: &R, system: &HostRuntime, words: &[Text]) -> u8 {
+    // The program is a dispatch alone, so that no function that runs scripts may wait, and each
+    // part is proved apart.
     if let Some((first, others)) = words.split_first() {
         if first.as_str() == "serve" {
             return serve_command::answer::answer(rt, system, others);

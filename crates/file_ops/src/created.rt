@@ -137,6 +137,8 @@ fn target_in<'a>(view: u32, seen: SeenDocument<'a>, name: &[u8]) -> Target<'a>
         create_in r name.now flags room (FolderOf view seen.entry.document.now.id.number
         seen.entry.document.now.path seen.entry.may_write) ≡ target_walk r flags room result }
 {
+    // In a document's folder some file may be made, so another name is denied; where none may,
+    // making one isn't permitted at all.
     if !is_name_of(&seen.document.path, name) {
         return Target::Refused(EACCES);
     }
@@ -178,6 +180,8 @@ fn make<T: HostTree, C: Clock>(
         Target::Refused(errno) => Ok(Tried::unlooked(Ended::refused(errno))),
         Target::File(path) => Ok(Tried::refused_on_file(tree, path, ENOTDIR)),
         Target::New { path, node } => {
+            // Where no handle can be had nothing is to be made, so the room for it comes ahead of
+            // the call.
             let free = take_room(handles, call.seat)?;
             if free {
                 make_new(alloc, handles, tree, clock, call, flags, path, node)
@@ -211,6 +215,7 @@ fn make_new<T: HostTree, C: Clock>(
         (Handled call.now.seat HandlesStay handles.old handles.new) }
     ensures clock_err { OnErr result (C.told clock.new ≡ C.told clock.old) }
 {
+    // Memory for the handle's path is taken ahead of the call that makes the file.
     let path_copy = path.replica(alloc)?;
     let look = tree.look(path);
     let file = FileName {
@@ -251,6 +256,7 @@ fn make_looked<T: HostTree, C: Clock>(
 {
     match look {
         LookAnswer::Is(Look::Missing) => make_file(handles, tree, clock, call, flags, file, node),
+        // Also without O_EXCL: a kernel looks the name up first, and opens what it finds.
         LookAnswer::Is(Look::Folder | Look::File { .. }) => Ok(Ended::refused(EEXIST)),
         LookAnswer::Failed => Ok(Ended::refused(EIO)),
     }

@@ -203,6 +203,8 @@ fn listed(
         look handles.old answer handles.new) }
     ensures err { OnErr result (handles.new ≡ handles.old) }
 {
+    // The handle keeps the listing of this moment, so that the offsets which the kernel reads on
+    // from go on to mean the same entries.
     let names = listing(alloc, book, call.who, place, look)?;
     let handle = Handle::Folder {
         node: call.request.node,

@@ -178,6 +178,7 @@ fn open_shown<T: HostTree, C: Clock>(
         path: seen.document.path.replica(alloc)?,
         generation,
     };
+    // It comes ahead of O_TRUNC: where no handle can be had nothing is cut.
     if !take_room(handles, call.seat)? {
         return Ok(Ended::refused(EMFILE));
     }

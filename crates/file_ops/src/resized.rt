@@ -109,6 +109,7 @@ fn set<T: HostTree, C: Clock>(
     ensures err { OnErr result (WasCalled (T.is tree.old) (T.is tree.new)) }
     ensures clock_err { OnErr result (C.told clock.new ≡ C.told clock.old) }
 {
+    // Times are passed over instead: a program that sets them behind a write is to go on.
     if sets_owner_or_mode(setting.valid) {
         return Ok(Tried::unlooked(Ended::refused(EPERM)));
     }
@@ -277,6 +278,7 @@ fn set_size<T: HostTree, C: Clock>(
     if !subject.may_write {
         return Ok(Ended::refused(subject.denial));
     }
+    // The limit binds new lengths, and not what the tree has already.
     if setting.size > setting.limit {
         return Ok(Ended::refused(EFBIG));
     }

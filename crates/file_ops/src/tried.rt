@@ -67,6 +67,8 @@ pub(crate) fn came_of(done: TreeDone) -> Result<Came, WantOfMemory>
         TreeDone::Done => Ok(Came::Done),
         TreeDone::NotFile => Ok(Came::NotFile),
         TreeDone::Failed => Ok(Came::Failed),
+        // It is the request's: no file and no handle is changed, but the tree was asked in vain,
+        // and the clock may have been read.
         TreeDone::Memory => Err(WantOfMemory),
     }
 }

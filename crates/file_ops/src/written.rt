@@ -69,6 +69,7 @@ fn written<T: HostTree, C: Clock>(
     ensures err { OnErr result (WasCalled (T.is tree.old) (T.is tree.new)) }
     ensures clock_err { OnErr result (C.told clock.new ≡ C.told clock.old) }
 {
+    // More than INIT's `max_write` is refused and not cut short.
     if content.len() > WRITE_LIMIT {
         return Ok(Ended::refused(EINVAL));
     }
@@ -135,6 +136,7 @@ fn write_named<T: HostTree, C: Clock>(
 fn is_past(limit: u64, offset: u64, len: usize) -> bool
     ensures { result ≡ nat_lt limit (offset + len) }
 {
+    // Offset and length come from the client, so they are added without a wrap.
     match offset.checked_add(len as u64) {
         Some(end) => end > limit,
         None => true,

@@ -79,6 +79,8 @@ fn ask_again(alloc: Global, portal: &mut QuietPortal, entry: &Entry) -> Result<b
 {
     match entry.given.fault {
         Fault::None => ask_the_same(alloc, portal, entry),
+        // The portal here stands over devices that never fail, and a request that met a fault
+        // changed nothing: so the seat is only told what waited for it.
         Fault::Tree | Fault::Keeper => {
             collect(alloc, portal, entry)?;
             Ok(false)

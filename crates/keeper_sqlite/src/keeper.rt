@@ -44,6 +44,8 @@ impl SqliteKeeper {
     pub fn open(rt: &HostRuntime, path: &str) -> Result<SqliteKeeper, DatabaseFault>
         ensures { IfOk result (λ keeper. keeper ≡ record { faults = 0; last = None }) }
     {
+        // A commit is synced once, as SQLite's WAL with synchronous FULL does, on the premise that
+        // a torn write leaves each byte old or new. To take no such premise would sync twice.
         let mut conn = Connection::open(rt, path)?;
         make_tables(&mut conn)?;
         Ok(SqliteKeeper {
@@ -102,6 +104,8 @@ impl Keeper for SqliteKeeper {
         match read_records(self.alloc, &mut self.conn) {
             Ok(records) => KeeperLoad::Got(records),
             Err(DatabaseFault::Memory) => KeeperLoad::Memory,
+            // A row that can't be read as a record is a fault, and not a bad record, which has a
+            // place among the records.
             Err(fault) => {
                 self.meet(KeeperFault::Database(fault));
                 KeeperLoad::Failed

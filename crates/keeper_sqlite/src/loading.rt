@@ -19,6 +19,8 @@ pub(crate) fn read_records<S: Alter>(
     conn: &mut Connection<S>,
 ) -> Result<Records, DatabaseFault> {
     let version = read_version(conn)?;
+    // The tables of another version aren't known. A portal doesn't start then, and says which
+    // version it found.
     if version != RECORDS_VERSION {
         return Ok(Records {
             version,

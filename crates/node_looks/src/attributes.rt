@@ -39,6 +39,8 @@ pub fn attr_of_file(
             FILE_MODE
         },
         links: 1,
+        // Each user finds files to be its own, so that a kernel that checks modes refuses none of
+        // them.
         uid: request.uid,
         gid: request.gid,
         block_size: PREFERRED_SIZE,

@@ -117,6 +117,8 @@ fn in_folder(mask: u32) -> Asked
     ensures { (tree : TreeIs) (folder : Folder) →
         Follows (access_folder mask folder) tree result tree }
 {
+    // ACCESS asks what a later request would: a folder may be listed and searched where it is
+    // seen.
     if writes(mask) {
         refused(EACCES)
     } else {

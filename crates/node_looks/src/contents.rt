@@ -65,6 +65,7 @@ fn content<T: HostTree>(
     ensures err { OnErr result (Calling (T.is tree.old) (false ∷ []) (T.is tree.old).told
         (T.is tree.new)) }
 {
+    // More is refused and not cut short.
     if asks_too_much(size) {
         return Ok(refused(EINVAL));
     }

@@ -70,6 +70,7 @@ fn described<T: HostTree>(
         (place_of s who.now request.now.node) (option_copied handle.entry)) (T.is tree.old) result
         (T.is tree.new) }
 {
+    // By the handle the node of the header isn't looked at.
     if names_handle(flags) {
         of_handle(book, tree, who, request, handle)
     } else {

@@ -108,6 +108,7 @@ fn in_place<T: HostTree>(
         (lookup_in request.now name.now)) (T.is tree.old) result (T.is tree.new) }
 {
     match place {
+        // A request on a file's node takes its look ahead of every check of what is there.
         SeenPlace::File { seen, .. } => in_file(tree, &seen.document.path),
         SeenPlace::Folder { view, seen } => {
             in_folder(tree, request, view, seen.document, seen.may_write, name)

@@ -19,5 +19,6 @@ pub fn forget(alloc: Global) -> NodeDone
         Forgets call.request.now.op → Does book call table tree result table tree }
     ensures unclocked { result.now ≡ None }
 {
+    // Look-ups are counted elsewhere, and no answer depends on the counts.
     unasked(alloc, Answer::Node(NodeAnswer::Quiet))
 }

@@ -56,6 +56,7 @@ fn released_dir(handles: &mut Handles, seat: u32, fh: u64) -> Answer
         (release_dir fh (handle_of (opened_on handles.old.seats seat) fh)) (NodeOp.ReleaseDir fh)
         seat handles.old tree (unasked result) handles.new tree }
 {
+    // A handle ends only by a request that is done: that of an open file stays.
     if !is_open_folder(handles, seat, fh) {
         return refusal(EBADF);
     }

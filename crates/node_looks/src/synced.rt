@@ -36,6 +36,7 @@ pub fn flush(alloc: Global, handles: &Handles, call: &NodeCall, fh: u64) -> Node
 fn flushed(handle: Option<&Handle>) -> Answer
     ensures { ComesTo (flush (option_copied handle.entry)) result }
 {
+    // No byte waits in the portal, so there is nothing to ask of the tree.
     match handle {
         Some(Handle::File { .. }) => Answer::Node(NodeAnswer::Empty),
         Some(Handle::Folder { .. }) | None => refusal(EBADF),

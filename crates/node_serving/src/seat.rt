@@ -62,6 +62,7 @@ pub fn serve<T: HostTree, C: Clock>(
     ensures connections { OnErr result (connections.new ≡ connections.old) }
     ensures kept { OnErr result (counts.new.counts ≡ counts.old.counts) }
 {
+    // Room for the count is taken ahead of the request, which can't be undone behind it.
     counts.reserve(1)?;
     let Some(connection) = mount_of(connections.as_slice(), seat) else {
         return Ok(not_here(alloc));

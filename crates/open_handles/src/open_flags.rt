@@ -63,6 +63,8 @@ pub fn truncates(flags: u32) -> bool
 pub fn opens_to_write(flags: u32) -> bool
     ensures { result ≡ opens_to_write flags }
 {
+    // POSIX leaves open what O_TRUNC does in a mode that reads: here it needs `write`, and makes
+    // the file empty.
     mode_writes(flags) || truncates(flags)
 }
 
@@ -70,5 +72,6 @@ pub fn opens_to_write(flags: u32) -> bool
 pub fn is_denied(flags: u32, may_write: bool) -> bool
     ensures { result ≡ (opens_to_write flags && not may_write) }
 {
+    // Permissions are asked where a file is opened, and by no request that goes by a handle.
     opens_to_write(flags) && !may_write
 }

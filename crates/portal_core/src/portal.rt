@@ -439,6 +439,7 @@ impl<T: HostTree, K: Keeper, C: Clock, W: Words> Portal<T, K, C, W> {
         ensures unasked { may_ask_tree_in_vain (Request.Node request) ≡ false
             → OnErr result (self.new ≡ self.old) }
     {
+        // Room is kept for this entry and for a Leave of each open connection.
         self.history.reserve(self.connections.as_slice().len() + 1)?;
         let book = FileBook {
             view: ViewBook {
@@ -592,6 +593,8 @@ impl<T: HostTree, K: Keeper, C: Clock, W: Words> Portal<T, K, C, W> {
             (Spends T.is K.is C.told W.told self.old (Request.Store call) self.new) }
         ensures unasked { may_change_entries call ≡ false → OnErr result (self.new ≡ self.old) }
     {
+        // A request of a bus takes the box of its seat ahead of all it does, and its own changes
+        // go into the boxes behind that.
         let taken = taken(
             &mut self.history,
             &mut self.outboxes,
@@ -645,6 +648,8 @@ impl<T: HostTree, K: Keeper, C: Clock, W: Words> Portal<T, K, C, W> {
             self.history.push(refused);
             return Ok(silent_reply(alloc, Answer::Refused(Code::NotHere)));
         }
+        // Enter took the room for the entry, so this needs no memory. Changes that the bus wasn't
+        // told are lost.
         let connections = mem::replace(&mut self.connections, List::new(alloc));
         self.connections = of_others(connections, seat);
         self.handles.leave(seat);
@@ -702,6 +707,8 @@ impl<T: HostTree + Drop, K: Keeper + Drop, C: Clock + Drop, W: Words + Drop> Por
         ensures { IfOk result
             (λ portal. portal ≡ reopened T.is tree keeper clock words opening) }
     {
+        // Two things that `Valid` doesn't say are asked for: the made numbers are those of the
+        // documents, and rows are in order.
         match lists_of_opening(alloc, opening) {
             Ok(lists) => Ok(Portal::over(alloc, tree, keeper, clock, words, lists)),
             Err(error) => Err(error),

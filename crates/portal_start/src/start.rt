@@ -103,6 +103,8 @@ fn lists_of(alloc: Global, records: Records, limits: &Limits) -> Result<Lists, S
     ensures valid { IfOk result (λ lists. Valid (opened_over None lists.opening)) }
     ensures bad { IfErr result (AreBad limits.now records) }
 {
+    // A document is bad with which a limit is passed, and what follows it isn't looked at: so one
+    // fault is told.
     match records_fault(alloc, &records, limits) {
         Ok(None) => match lists_of_good(alloc, records, limits) {
             Ok(lists) => Ok(lists),

@@ -37,6 +37,7 @@ fn header_length(alloc: Global) -> Result<usize, WantOfMemory>
     ensures length { IfOk result (λ bytes. bytes ≡ changed_header) }
     ensures room { IfOk result (λ bytes. bytes ≤ 2 ^ 63) }
 {
+    // The fields are spelled each time and counted, so that no length of a header is written down.
     let mut header = List::new(alloc);
     header.resize(FIXED_FIELDS, 0)?;
     write_value(&mut header, &changed_fields(alloc)?)?;

@@ -28,6 +28,7 @@ pub fn opening_over_tree(alloc: Global, script: &Script) -> Result<OpeningState,
     requires { IsScript script.now.lines }
     ensures { IfOk result (StandsFor script.now.lines) }
 {
+    // A tree has its files in order of their paths, and the script in that of its lines.
     let opening = opening_of(alloc, script, limits())?;
     let Ok(files) = files_by_path(alloc, script.lines.as_slice()) else {
         drop(opening);

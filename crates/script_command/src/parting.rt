@@ -29,6 +29,8 @@ fn cut_line(text: &[u8]) -> Option<(&[u8], &[u8])>
     ensures { MatchOption result (IsFree line_feed text.entry.now)
         (λ halves. CutsAt line_feed text.entry.now halves.0.now halves.1.now) }
 {
+    // A line is one with its line feed. `====` without one is the last line of the first script,
+    // and parts nothing.
     let end = text.iter().position(|byte| *byte == b'\n')?;
     Some((&text[..end], &text[end + 1..]))
 }

@@ -148,6 +148,8 @@ fn replay_once<K: Sink>(
         × Replays (text_of script.now.lines) pieces result }
     ensures risen { Risen result 0 0 (K.faults sink.old) (K.faults sink.new) }
 {
+    // The portal is let go in a function of its own, which has one way out: each way out of a
+    // function that lets a portal go is proved for itself.
     let mut portal = portal;
     replay_over(alloc, &mut portal, script, sink)
 }

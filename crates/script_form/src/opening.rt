@@ -160,6 +160,8 @@ pub(crate) fn time_behind(line: &ScriptLine, time: u64) -> u64
     ensures { result ≡ time_after time line.now }
 {
     match line {
+        // It gives the files behind it their moment, and sets the clock that the requests behind
+        // it read.
         ScriptLine::Now { moment } => *moment,
         _ => time,
     }
@@ -189,6 +191,8 @@ fn applications_in(alloc: Global, lines: &[ScriptLine]) -> Result<List<AppId>, W
     requires { All KeepsRules lines.now }
     ensures { IfOk result (λ named. named ≡ applications_of lines.now) }
 {
+    // Their number needs no look: each is named by at least four bytes of at most 67,108,864, and
+    // 16,777,216 may be numbered.
     let mut named = Named::new(alloc);
     for line in lines {
         add_names(alloc, &mut named, line)?;

@@ -169,6 +169,8 @@ impl Preceding {
                 let unstored = self.is_unstored(alloc, entry)?;
                 Ok(first && unstored)
             }
+            // Calls that fail are said ahead of all connections; words and moments come where they
+            // stand.
             ScriptLine::Fail { .. } => Ok(first),
             ScriptLine::Word { .. } => Ok(true),
             ScriptLine::Now { .. } => Ok(true),

@@ -6,6 +6,7 @@ use portal_base::names::host_path::HostPath;
 use portal_base::who::{Kind, Who};
 use portal_model::records::{EntryRecord, GrantRecord};
 
+// It is named, so that one form of line serves the tree and the keeper.
 /// A device of which a call may fail.
 #[derive(Clone, Copy, Debug, PartialEq, Eq)]
 pub enum Device {

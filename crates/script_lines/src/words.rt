@@ -152,6 +152,8 @@ fn read_app(alloc: Global, word: &[u8]) -> Result<Option<AppId>, WantOfMemory>
 pub fn read_name(alloc: Global, word: &[u8]) -> Result<Option<Text>, WantOfMemory>
     ensures { IfOk result (λ read. ReadsName word.now read) }
 {
+    // The permission store may hold any text without a zero byte. A script says only those that
+    // are written as names of applications, and so says them in one way.
     let Ok(text) = str::from_utf8(word) else {
         return Ok(None);
     };

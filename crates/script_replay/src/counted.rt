@@ -23,6 +23,8 @@ pub type MemoryPortal = Portal<MemoryTree, MemoryKeeper, SetClock, ListWords>;
 /// and how many refused with a code; contracts see the portal alone.
 #[derive(Drop)]
 pub struct CountedPortal {
+    // Contracts see the portal alone: the history keeps no replies, so what became of requests is
+    // counted where they are asked.
     portal: MemoryPortal,
     done: u64,
     refused: u64,

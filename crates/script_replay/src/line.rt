@@ -101,8 +101,12 @@ fn data<K: Sink>(
 {
     let mut session = match connections.take(seat) {
         Some(session) => session,
+        // A connection may end by itself; what comes behind that is passed over, as no line of a
+        // script may be faulty for what its bytes meant.
         None => return Ok(()),
     };
+    // The output of a line is gathered and written once all its items are answered: none is
+    // written of a line one of whose requests found no memory.
     let heard = match hear(alloc, portal, seat, &mut session, bytes.as_slice()) {
         Ok(heard) => heard,
         Err(error) => return Err(error),
@@ -185,6 +189,7 @@ fn write_pieces<K: Sink>(
         let Ok(line) = out_line(alloc, seat, piece.as_slice()) else {
             return Err(LineError::Memory);
         };
+        // Each line is written as one piece: so what is written at `Memory` is whole lines.
         match write(sink, line.as_slice()) {
             Ok(()) => {}
             Err(error) => return Err(error),

@@ -56,6 +56,8 @@ pub fn begin(
     match begin_at(alloc, portal, seat, who, kind, settings) {
         Ok(session) => Ok(session),
         Err(Refused::Memory) => Err(WantOfMemory),
+        // The limit of the history is eight times the longest script, and no script's requests
+        // cost so much.
         Err(Refused::Full { .. }) => unreachable!(),
     }
 }
@@ -147,6 +149,7 @@ pub fn hear(
 {
     let mut written = MemorySink::new(alloc, 0);
     let Feeding { fed, refusals } = feed(alloc, portal, seat, session, bytes, &mut written);
+    // A request that is refused ends the run, and no `ENOMEM` is written in a script.
     if refusals > 0 {
         return Err(LineError::Memory);
     }

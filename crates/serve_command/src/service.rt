@@ -74,6 +74,8 @@ pub fn run<R: Threads + Wait + Sync>(rt: &R, system: &HostRuntime, words: &Serve
 fn tell_ready(system: &HostRuntime, words: &ServeWords)
     requires { IsInForm words.now }
 {
+    // A fault of writing this isn't told: who waited for the line is gone, and those who come by
+    // the sockets have nothing to do with it.
     let count = 2 + 2 * words.apps.len();
     let Ok(folder) = on_one_line(system.alloc(), words.sockets.as_str()) else {
         return;
@@ -98,6 +100,8 @@ fn prepare<'a>(system: &'a HostRuntime, words: &ServeWords) -> Result<Service<'a
     let settings = settings(alloc, words.history, guid_of(&mut drawn))?;
     let sockets = sockets_of(alloc, &words.sockets, words.apps.as_slice())?;
     let posts = posts_at(system, sockets.as_slice(), words.workers)?;
+    // Behind the sockets, so that a second service over the same places is refused by them.
+    // Without random bytes no socket can answer, so the words come ahead.
     let keeper = open_keeper(system, words.store.as_str())?;
     let clock = SystemClock::new(system);
     Ok(Service {

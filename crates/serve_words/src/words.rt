@@ -122,6 +122,7 @@ fn told_by(alloc: Global, error: &clap::Error) -> Result<ServeAsk, WordsError>
 
 /// The lines of a message up to its first empty one, as one line without the word `error`.
 fn one_line(alloc: Global, message: &str) -> Result<String, WantOfMemory> {
+    // What `clap` says up to its first empty line, without its hint at a similar word.
     let message = message.strip_prefix("error: ").unwrap_or(message);
     let mut line = String::new(alloc);
     for part in message.lines() {
@@ -205,6 +206,8 @@ fn number_of(matches: &ArgMatches<'_>, name: &str, most: u64) -> Option<u64>
 
 /// The number that decimal digits without leading zeros stand for.
 fn read_number(word: &str) -> Option<u64> {
+    // As everywhere in the program, numbers are decimal digits without a sign or a leading zero,
+    // and not what `parse` takes.
     let bytes = word.as_bytes();
     if bytes.len() > 1 && bytes[0] == b'0' {
         return None;

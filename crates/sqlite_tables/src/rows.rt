@@ -57,6 +57,8 @@ pub fn renew_rows<S: Alter>(
     entry: i64,
     rows: &[Row],
 ) -> Result<(), DatabaseFault> {
+    // A change of one application's permissions writes that application's rows alone, however many
+    // others the entry has.
     let kept = kept_rows(alloc, transaction, entry)?;
     for row in kept.as_slice() {
         if !is_among(row, rows) {

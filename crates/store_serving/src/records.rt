@@ -34,6 +34,7 @@ pub(crate) fn record_change(
 {
     let datum = spelled(alloc, &change.datum)?;
     let kept = is_kept(alloc, former, change, &datum)?;
+    // A call that sets what is there is told, and not kept again.
     if kept {
         return Ok(None);
     }

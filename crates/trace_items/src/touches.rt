@@ -59,6 +59,7 @@ pub fn gained(
     if more.is_empty() {
         return Ok(None);
     }
+    // What is at the path is told with the rights, since the view may not have held the document.
     let content = content_at(alloc, files, &document.path)?;
     let document = document.replica(alloc)?;
     Ok(Some(TraceItem::Gained {
