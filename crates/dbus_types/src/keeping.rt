@@ -211,10 +211,10 @@ fn is_signature(text: &[u8]) -> bool
 /// Says that a number fits its type, as each does: a proof knows it of a
 /// number that is read.
 fn fits<N: Copy + Drop>(_number: N) -> bool
-    ensures { result ≡ true }
-{
     // Contracts see a number without an end, and one that is too large for its type has no
     // spelling: so that it fits is one of the rules of values.
+    ensures { result ≡ true }
+{
     true
 }
 
