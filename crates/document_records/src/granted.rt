@@ -9,7 +9,7 @@ ghost use Rattle.rights_rule.specs.Rights.{no_rights};
 ghost use Rattle.document_records.specs.Given.{given_by};
 
 use crate::known::known_name;
-use document_records::{Grant, Grants};
+use crate::{Grant, Grants};
 use portal_base::list::List;
 use portal_base::memory::WantOfMemory;
 use portal_base::names::DocId;

@@ -8,7 +8,7 @@ ghost use Rattle.portal_model.specs.Opening.{document_kept, id_of};
 ghost use Rattle.portal_model.specs.Valid.{is_made};
 
 use crate::known::known_path;
-use document_records::{DocError, Documents};
+use crate::{DocError, Documents};
 use portal_base::limits::Limits;
 use portal_base::memory::WantOfMemory;
 use portal_base::names::DocId;

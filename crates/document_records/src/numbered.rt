@@ -5,7 +5,7 @@ ghost use Rattle.std.specs.List.{IsDistinct};
 ghost use Rattle.portal_base.specs.Names.{is_same};
 ghost use Rattle.portal_model.specs.Valid.{applications_limit};
 
-use document_records::Applications;
+use crate::Applications;
 use portal_base::memory::WantOfMemory;
 use portal_base::names::AppId;
 use std::alloc::Global;
