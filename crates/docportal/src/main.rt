@@ -8,7 +8,7 @@
 
 use portal_base::list::List;
 use portal_base::text::Text;
-use script_replay::status::Status;
+use script_command::status::Status;
 use std::process::ExitCode;
 use std::sync::Wait;
 use std::thread::Threads;
@@ -23,8 +23,6 @@ fn main(rt: HostRuntime) -> ExitCode {
 
 /// Does what the words ask for: the number that the program ends with.
 fn answer<R: Threads + Wait + Sync>(rt: &R, system: &HostRuntime, words: &[Text]) -> u8 {
-    // The program is a dispatch alone, so that no function that runs scripts may wait, and each
-    // part is proved apart.
     if let Some((first, others)) = words.split_first() {
         if first.as_str() == "serve" {
             return serve_command::answer::answer(rt, system, others);
