@@ -7,8 +7,8 @@ use Rattle.dbus_types.specs.declared.types.Endian.{Endian}
 use Rattle.dbus_types.specs.declared.types.Value.{Value, out-Value, the_lemmas}
 use Rattle.dbus_types.specs.declared.types.Value.TheOpen.{Value-F}
 use Rattle.dbus_types.specs.declared.types.Value.TheVariants as V
-use Rattle.dbus_marshal.specs.declared.error.ReadError.{ReadError}
-use Rattle.dbus_marshal.specs.declared.error.ReadError.TheVariants.{Short, Padding, BadBool, BadText, TooLong, BadSignature, TooDeep, BadArray, Memory}
+use Rattle.dbus_basic.specs.declared.error.ReadError.{ReadError}
+use Rattle.dbus_basic.specs.declared.error.ReadError.TheVariants.{Short, Padding, BadBool, BadText, TooLong, BadSignature, TooDeep, BadArray, Memory}
 use Rattle.dbus_marshal.specs.Reads.{◌>>=◌, Fails, Read, after, past, padded, byte_at, reads, listed, elements, inside_at, field_at, field_code, has_code_to, kept, sifted}
 use Rattle.dbus_marshal.proofs.SpelledIsRead.{ok_is}
 use Rattle.dbus_marshal.proofs.StepBreaks.{err_is}

@@ -7,8 +7,8 @@ use Rattle.std.proofs.lemmas.List.{length-replicate}
 use Rattle.std.specs.Int.{byte_len}
 use mir.Val.{bits}
 use Rattle.dbus_types.specs.declared.types.Endian.{Endian}
-use Rattle.dbus_marshal.specs.declared.error.ReadError.{ReadError}
-use Rattle.dbus_marshal.specs.declared.error.ReadError.TheVariants.{Short, Padding, BadBool}
+use Rattle.dbus_basic.specs.declared.error.ReadError.{ReadError}
+use Rattle.dbus_basic.specs.declared.error.ReadError.TheVariants.{Short, Padding, BadBool}
 use Rattle.dbus_types.specs.Spells.{number, gap}
 use Rattle.dbus_marshal.specs.Breaks.{Break, Ends, Behind, ZerosBreak, AlignedBreaks, ByteBreaks, NumberBreaks, BytesBreak, ZeroBreaks}
 use Rattle.dbus_marshal.specs.Reads.{◌>>=◌, zeros, padded, taken, number_at, byte_at, ended, truth}
