@@ -11,7 +11,8 @@ use Rattle.dbus_basic.specs.declared.error.ReadError.{ReadError}
 use Rattle.dbus_basic.specs.declared.error.ReadError.TheVariants.{Short, Padding, BadBool, BadText, TooLong, BadSignature, TooDeep, BadArray, Memory}
 use Rattle.dbus_types.specs.Spells.{Spells}
 use Rattle.dbus_marshal.specs.Breaks.{Breaks}
-use Rattle.dbus_marshal.specs.Reads.{Fails, IsRead, IsStopped, IsRefused, Read, after, reads}
+use Rattle.dbus_basic.specs.Reading.{Fails, IsRead, IsStopped, IsRefused, Read, after}
+use Rattle.dbus_marshal.specs.Reads.{reads}
 use Rattle.dbus_marshal.proofs.TakenFronts.{IsBytes, bytes_after, Took}
 use Rattle.dbus_marshal.proofs.ReadIsSpelled.{reads_took}
 use Rattle.dbus_marshal.proofs.SpelledIsRead.{reads_again, ok_is}

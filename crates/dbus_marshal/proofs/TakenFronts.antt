@@ -12,7 +12,8 @@ use Rattle.dbus_types.specs.declared.types.Endian.TheVariants.{Little, Big}
 use Rattle.dbus_basic.specs.declared.error.ReadError.{ReadError}
 use Rattle.dbus_basic.specs.declared.error.ReadError.TheVariants.{Short}
 use Rattle.dbus_types.specs.Spells.{number}
-use Rattle.dbus_marshal.specs.Reads.{◌>>=◌, zeros, taken, number_at, byte_at, ended, from_number}
+use Rattle.dbus_basic.specs.Reading.{◌>>=◌}
+use Rattle.dbus_basic.specs.Fields.{zeros, taken, number_at, byte_at, ended, from_number}
 
 abbrev pub IsBytes : List ℕ → Type 0
 IsBytes bytes = (i : ℕ) → get_or bytes i 0 < 256

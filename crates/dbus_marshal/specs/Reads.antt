@@ -20,8 +20,8 @@ use Rattle.dbus_types.specs.Reading.{whole_at, single_at, passed}
 use Rattle.dbus_types.specs.Types.{alignment}
 use Rattle.dbus_types.specs.Values.{array_of}
 pub use Rattle.dbus_marshal.specs.Breaks.{array_error}
-pub use Rattle.dbus_basic.specs.Reading.{◌>>=◌, Fails, Gives, IsRead, IsStopped, IsRefused, Read, after, place, past, verdict}
-pub use Rattle.dbus_basic.specs.Fields.{zeros, padded, taken, from_number, number_at, byte_at, ended, truth}
+use Rattle.dbus_basic.specs.Reading.{◌>>=◌, Read}
+use Rattle.dbus_basic.specs.Fields.{padded, taken, number_at, byte_at, ended, truth}
 
 -- UTF-8 without zero bytes
 abbrev pub is_text : List ℕ → Bool

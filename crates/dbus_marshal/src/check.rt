@@ -6,7 +6,8 @@
 
 ghost use Rattle.std.specs.Prelude.{◌≡◌, ◌+◌, ◌<◌, ◌≤◌, length, drop, IfOk};
 ghost use Rattle.dbus_types.specs.declared.types.WireType.TheOpen.{WireType-F};
-ghost use Rattle.dbus_marshal.specs.Reads.{Gives, place, past, verdict, inside_at, layer, members, elements, reads};
+ghost use Rattle.dbus_basic.specs.Reading.{Gives, place, past, verdict};
+ghost use Rattle.dbus_marshal.specs.Reads.{inside_at, layer, members, elements, reads};
 
 use crate::flat::check_flat;
 use crate::read::{LONGEST_ARRAY, array_error};

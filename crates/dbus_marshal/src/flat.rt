@@ -3,7 +3,8 @@
 ghost use Rattle.std.specs.Prelude.{◌≡◌, ◌+◌, ◌<◌, ◌≤◌, ◌^◌, length, take, drop, true, false, IfOk, MatchOption};
 ghost use Rattle.std.specs.Int.{w16, w32, w64, cast_signed};
 ghost use Rattle.dbus_types.specs.declared.types.WireType.{out-WireType};
-ghost use Rattle.dbus_marshal.specs.Reads.{Gives, after, place, past, is_text, is_path_text, padded_number, text_at, signature_at as signature_in, fixed, flat};
+ghost use Rattle.dbus_basic.specs.Reading.{Gives, after, place, past};
+ghost use Rattle.dbus_marshal.specs.Reads.{is_text, is_path_text, padded_number, text_at, signature_at as signature_in, fixed, flat};
 
 use crate::signature::check_at;
 use dbus_basic::error::ReadError;

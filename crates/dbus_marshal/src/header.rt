@@ -8,7 +8,8 @@ ghost use Rattle.std.specs.Prelude.{◌≡◌, ◌+◌, ◌-◌, ◌<◌, ◌≤
 ghost use Rattle.dbus_types.specs.declared.types.Value.{Value as Value'};
 ghost use Rattle.dbus_types.specs.declared.types.Value.TheVariants as V;
 ghost use Rattle.dbus_types.specs.Spells.{Spells};
-ghost use Rattle.dbus_marshal.specs.Reads.{Gives, IsRead, after, elements, field_at, field_type, fields_type, fields_at, has_code_to, kept, sifted};
+ghost use Rattle.dbus_basic.specs.Reading.{Gives, IsRead, after};
+ghost use Rattle.dbus_marshal.specs.Reads.{elements, field_at, field_type, fields_type, fields_at, has_code_to, kept, sifted};
 
 use crate::check::check_inside;
 use crate::read::{LONGEST_ARRAY, array_error, read_inside, room_for};

@@ -14,7 +14,8 @@ ghost use Rattle.dbus_types.specs.Values.{type_of, KeepsRules};
 ghost use Rattle.dbus_basic.specs.declared.error.ReadError.{ReadError as ReadError'};
 ghost use Rattle.dbus_types.specs.Spells.{Spells};
 ghost use Rattle.dbus_marshal.specs.Breaks.{Breaks};
-ghost use Rattle.dbus_marshal.specs.Reads.{Gives, IsRead, IsStopped, IsRefused, after, array_error, arrayed, inside_at, layer, members, elements, reads};
+ghost use Rattle.dbus_basic.specs.Reading.{Gives, IsRead, IsStopped, IsRefused, after};
+ghost use Rattle.dbus_marshal.specs.Reads.{array_error, arrayed, inside_at, layer, members, elements, reads};
 
 use crate::flat::read_flat;
 use crate::signature::type_at;

@@ -3,7 +3,8 @@
 //! Source: D-Bus Specification, "Type System".
 
 ghost use Rattle.std.specs.Prelude.{◌≡◌, ◌+◌, ◌<◌, ◌≤◌, ◌^◌, ◌++◌, OnOk, OnErr, length, take, drop};
-ghost use Rattle.dbus_marshal.specs.Reads.{Gives, checked_in, type_in};
+ghost use Rattle.dbus_basic.specs.Reading.{Gives};
+ghost use Rattle.dbus_marshal.specs.Reads.{checked_in, type_in};
 ghost use Rattle.dbus_types.specs.Types.{type_text};
 ghost use Rattle.dbus_types.specs.Values.{type_of};
 ghost use Rattle.dbus_types.specs.Spelling.{Extends, signature_body};
