@@ -1,5 +1,5 @@
 -- Fields at an offset of a slice.
-use Rattle.std.proofs.Common.{◌≡◌, ℕ, zero, suc, ◌+◌, ◌-◌, ◌<◌, ◌≤◌, true, false, List, [], ◌∷◌, length, get_or, drop, Ok, Err, refl, sym, ap, subst, drop-cons, add-one, arith, inl, inr}
+use Rattle.std.proofs.Common.{◌≡◌, ℕ, zero, suc, ◌+◌, ◌-◌, ◌<◌, ◌≤◌, List, [], ◌∷◌, length, get_or, drop, Ok, Err, refl, sym, ap, subst, drop-cons, add-one, arith}
 use Rattle.std.proofs.Math.ListN.{drop_of_length-le}
 use Rattle.dbus_basic.specs.declared.error.ReadError.{ReadError}
 use Rattle.dbus_basic.specs.declared.error.ReadError.TheVariants.{Short, Padding, Memory}
