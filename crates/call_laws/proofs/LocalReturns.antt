@@ -8,16 +8,16 @@ use Rattle.dbus_types.specs.declared.types.Value.TheVariants as V
 use Rattle.portal_model.specs.declared.request.Request.{Request}
 use Rattle.dbus_dispatch.specs.declared.ask.Ask.{Ask}
 use Rattle.dbus_dispatch.specs.declared.ask.Ask.TheVariants.{Ignore, Local}
-use Rattle.dbus_dispatch.specs.declared.error_name.ErrorName.{ErrorName}
-use Rattle.dbus_dispatch.specs.declared.error_name.ErrorName.TheVariants.{InvalidArgs}
-use Rattle.dbus_dispatch.specs.declared.method.Method.{Method}
-use Rattle.dbus_dispatch.specs.declared.method.Method.TheVariants as M
-use Rattle.dbus_dispatch.specs.Arguments.{request_in}
+use Rattle.dbus_calls.specs.declared.error_name.ErrorName.{ErrorName}
+use Rattle.dbus_calls.specs.declared.error_name.ErrorName.TheVariants.{InvalidArgs}
+use Rattle.dbus_calls.specs.declared.method.Method.{Method}
+use Rattle.dbus_calls.specs.declared.method.Method.TheVariants as M
+use Rattle.dbus_requests.specs.Arguments.{request_in}
 use Rattle.dbus_dispatch.specs.Asks.{answered, ask_of, asked, asked_of_portal, closed_bytes}
-use Rattle.dbus_dispatch.specs.Calls.{found, object_of}
-use Rattle.dbus_dispatch.specs.Errors.{error_to}
+use Rattle.dbus_calls.specs.Calls.{found, object_of}
+use Rattle.dbus_calls.specs.Errors.{error_to}
 use Rattle.dbus_dispatch.specs.Properties.{dictionary, interface_in, texts, value_in, variant_of}
-use Rattle.dbus_dispatch.specs.Tables.{properties_of}
+use Rattle.dbus_calls.specs.Tables.{properties_of}
 use Rattle.call_laws.specs.Returns.{HasItsSignature}
 use Rattle.call_laws.proofs.ReturnsAsked.{by_method}
 use Rattle.call_laws.proofs.ReturnSignatures.{path_signature, properties_signature, variant_signature}

@@ -18,11 +18,11 @@ use Rattle.portal_model.specs.Step.{all_told, bus_of, bus_step, reply_at, reques
 use Rattle.portal_model.specs.Valid.{Valid}
 use Rattle.dbus_dispatch.specs.declared.ask.Ask.{Ask}
 use Rattle.dbus_dispatch.specs.declared.ask.Ask.TheVariants.{Portal}
-use Rattle.dbus_dispatch.specs.declared.method.Method.{Method}
-use Rattle.dbus_dispatch.specs.declared.method.Method.TheVariants as M
-use Rattle.dbus_dispatch.specs.Arguments.{add_call, add_full_call, add_named_call, add_named_full_call, bytes_alone, delete_call, delete_permission_call, get_permission_call, list_call, lookup_call, rights_call, set_call, set_permission_call, set_value_call, text_alone}
+use Rattle.dbus_calls.specs.declared.method.Method.{Method}
+use Rattle.dbus_calls.specs.declared.method.Method.TheVariants as M
+use Rattle.dbus_requests.specs.Arguments.{add_call, add_full_call, add_named_call, add_named_full_call, bytes_alone, delete_call, delete_permission_call, get_permission_call, list_call, lookup_call, rights_call, set_call, set_permission_call, set_value_call, text_alone}
 use Rattle.dbus_dispatch.specs.Asks.{ask_of, asked, asked_of_portal}
-use Rattle.dbus_dispatch.specs.Calls.{found}
+use Rattle.dbus_calls.specs.Calls.{found}
 use Rattle.dbus_dispatch.specs.Replies.{body_of, error_in}
 use Rattle.dbus_dispatch.specs.Writable.{IsTold}
 use Rattle.call_laws.proofs.Calls.{answers_told}

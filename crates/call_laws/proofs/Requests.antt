@@ -30,8 +30,8 @@ use Rattle.portal_model.specs.Rights.{held_by}
 use Rattle.portal_model.specs.State.{State}
 use Rattle.portal_model.specs.Valid.{Valid}
 use Rattle.portal_model.specs.Verdict.{Verdict, does}
-use Rattle.dbus_dispatch.specs.declared.method.Method.{Method}
-use Rattle.dbus_dispatch.specs.declared.method.Method.TheVariants as M
+use Rattle.dbus_calls.specs.declared.method.Method.{Method}
+use Rattle.dbus_calls.specs.declared.method.Method.TheVariants as M
 use Rattle.dbus_dispatch.specs.Writable.{IsTold, HasItsIdentifiers}
 use Rattle.dbus_dispatch.proofs.Identifiers.{identifier_text}
 use Rattle.call_laws.proofs.Texts.{empty_text, path_bytes}

@@ -14,7 +14,7 @@ use Rattle.portal_model.specs.Changed.{row_value, rows_value, texts_value}
 use Rattle.dbus_dispatch.specs.Asks.{closed_bytes}
 use Rattle.dbus_dispatch.specs.Properties.{dictionary, variant_of}
 use Rattle.dbus_dispatch.specs.Replies.{documents_value, each_text, extra, listed_value}
-use Rattle.dbus_dispatch.specs.Tables.{Property}
+use Rattle.dbus_calls.specs.Tables.{Property}
 use Rattle.dbus_dispatch.proofs.Bodies.{text_byte, text_str, text_u32, text_variant, type_array, type_bytes, type_str, type_u32, type_variant}
 
 abbrev pub signature : List Value → List ℕ

@@ -5,13 +5,13 @@ use Rattle.dbus_types.specs.Types.{types_text}
 use Rattle.dbus_types.specs.declared.message.Message.{Message}
 use Rattle.dbus_dispatch.specs.declared.ask.Ask.{Ask}
 use Rattle.dbus_dispatch.specs.declared.ask.Ask.TheVariants.{Ignore, Local}
-use Rattle.dbus_dispatch.specs.declared.error_name.ErrorName.{ErrorName}
-use Rattle.dbus_dispatch.specs.declared.error_name.ErrorName.TheVariants.{InvalidArgs}
-use Rattle.dbus_dispatch.specs.declared.method.Method.{Method}
+use Rattle.dbus_calls.specs.declared.error_name.ErrorName.{ErrorName}
+use Rattle.dbus_calls.specs.declared.error_name.ErrorName.TheVariants.{InvalidArgs}
+use Rattle.dbus_calls.specs.declared.method.Method.{Method}
 use Rattle.dbus_dispatch.specs.Asks.{asked, asked_or_refused, is_call}
-use Rattle.dbus_dispatch.specs.Calls.{called, found, with_signature}
-use Rattle.dbus_dispatch.specs.Errors.{error_to}
-use Rattle.dbus_dispatch.specs.Tables.{row}
+use Rattle.dbus_calls.specs.Calls.{called, found, with_signature}
+use Rattle.dbus_calls.specs.Errors.{error_to}
+use Rattle.dbus_calls.specs.Tables.{row}
 
 module _ (P : Ask → Type 0) (mountpoint : List ℕ) (call : Message) where
   by_signature : (method : Method) (b : Bool) → P (Local (error_to call InvalidArgs)) → P (asked mountpoint call method) → P (asked_or_refused mountpoint call (cond b (Ok method) (Err InvalidArgs)))

@@ -15,7 +15,7 @@ use Rattle.dbus_types.specs.Spelling.{aligned, text_body, array_body, bytes_body
 use Rattle.dbus_types.proofs.OneSpelling.{roll_bytes, roll_handle, roll_str, roll_array}
 use Rattle.dbus_marshal.proofs.TakenFronts.{four, number_len}
 use Rattle.portal_model.specs.History.{texts_bytes}
-use Rattle.dbus_dispatch.specs.Arguments.{text_of, bytes_of, handle_of, items_of, handles_in, texts_in}
+use Rattle.dbus_requests.specs.Arguments.{text_of, bytes_of, handle_of, items_of, handles_in, texts_in}
 
 -- ---- the outer layer of a value
 

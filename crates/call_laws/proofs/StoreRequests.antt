@@ -18,7 +18,7 @@ use Rattle.portal_model.specs.Rows.{permissions_of, stored_rows}
 use Rattle.portal_model.specs.State.{State}
 use Rattle.portal_model.specs.Store.{Entries, Outcome, becomes, becomes_if_told, can_be_told, change_of, entry_of, entry_to_set, has_row, ids_of, store_call, with_entry, with_permissions, without_entry, without_permissions}
 use Rattle.portal_model.specs.StoreRequest.{are_store_arguments, own_table, store_allowed, store_answered, store_request, store_verdict, table_of}
-use Rattle.dbus_dispatch.specs.Arguments.{delete_call, delete_of, delete_permission_call, delete_permission_of, flag_of, get_permission_call, get_permission_of, inside_of, items_of, list_call, lookup_call, lookup_of, rows_in, set_call, set_of, set_permission_call, set_permission_of, set_value_call, set_value_of, text_alone, text_of, texts_in}
+use Rattle.dbus_requests.specs.Arguments.{delete_call, delete_of, delete_permission_call, delete_permission_of, flag_of, get_permission_call, get_permission_of, inside_of, items_of, list_call, lookup_call, lookup_of, rows_in, set_call, set_of, set_permission_call, set_permission_of, set_value_call, set_value_of, text_alone, text_of, texts_in}
 use Rattle.call_laws.proofs.ReturnVerdicts.{OfVerdict, of_unless}
 
 -- ---- what the tables answer

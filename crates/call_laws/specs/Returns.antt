@@ -13,10 +13,10 @@ use Rattle.portal_model.specs.State.{State}
 use Rattle.portal_model.specs.Step.{reply_at}
 use Rattle.portal_model.specs.Valid.{Valid}
 use Rattle.dbus_dispatch.specs.declared.ask.Ask.TheVariants.{Local, Portal}
-use Rattle.dbus_dispatch.specs.declared.method.Method.{Method}
-use Rattle.dbus_dispatch.specs.declared.method.Method.TheVariants as M
+use Rattle.dbus_calls.specs.declared.method.Method.{Method}
+use Rattle.dbus_calls.specs.declared.method.Method.TheVariants as M
 use Rattle.dbus_dispatch.specs.Asks.{ask_of}
-use Rattle.dbus_dispatch.specs.Calls.{found}
+use Rattle.dbus_calls.specs.Calls.{found}
 use Rattle.dbus_dispatch.specs.Replies.{body_of, error_in}
 
 -- the signature of what each method returns

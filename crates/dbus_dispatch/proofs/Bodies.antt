@@ -18,9 +18,9 @@ use Rattle.dbus_types.proofs.PackedBytes.{entry_no_byte}
 use Rattle.dbus_types.specs.Spelling.{spellings}
 use Rattle.dbus_message.specs.Written.{IsGoodBody}
 use Rattle.dbus_message.proofs.Ascii.{member_text}
-use Rattle.dbus_dispatch.specs.declared.interface.Interface.{Interface}
-use Rattle.dbus_dispatch.specs.declared.interface.Interface.TheVariants as I
-use Rattle.dbus_dispatch.specs.Tables.{Property, version, properties_of}
+use Rattle.dbus_calls.specs.declared.interface.Interface.{Interface}
+use Rattle.dbus_calls.specs.declared.interface.Interface.TheVariants as I
+use Rattle.dbus_calls.specs.Tables.{Property, version, properties_of}
 use Rattle.dbus_dispatch.specs.Properties.{variant_of, dictionary}
 use Rattle.dbus_dispatch.specs.Asks.{closed_bytes}
 use Rattle.dbus_dispatch.proofs.Lengths.{Below, below_more, below_bytes, below_u32, below_str, below_variant, below_entry, below_array, code_u32, total, each_length}

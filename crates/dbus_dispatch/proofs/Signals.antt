@@ -30,7 +30,7 @@ use Rattle.portal_model.specs.Store.{can_be_told, record_of}
 use Rattle.portal_model.specs.Valid.{entry_told, has_entry_texts, has_texts, is_sound_change, is_text}
 use Rattle.portal_model.proofs.SpelledEnds.{behind, number_32, on, struct-end, values-more}
 use Rattle.dbus_dispatch.specs.Signals.{changed_body, signal_of}
-use Rattle.dbus_dispatch.specs.Tables.{changed}
+use Rattle.dbus_calls.specs.Tables.{changed}
 use Rattle.dbus_dispatch.specs.Writable.{IsChangeInUtf8, IsWritable}
 use Rattle.dbus_dispatch.proofs.Bodies.{text_str, text_variant, type_array, type_str, type_variant}
 use Rattle.dbus_dispatch.proofs.StoredTexts.{stored_rows_texts, stored_text}

@@ -10,7 +10,7 @@ use Rattle.portal_model.specs.declared.records.Row.{Row}
 use Rattle.portal_model.specs.declared.reply.Answer.{Answer}
 use Rattle.portal_model.specs.declared.reply.Answer.TheVariants as A
 use Rattle.portal_model.specs.Valid.{has_texts, is_text}
-use Rattle.dbus_dispatch.specs.declared.error_name.ErrorName.{ErrorName}
+use Rattle.dbus_calls.specs.declared.error_name.ErrorName.{ErrorName}
 use Rattle.dbus_dispatch.specs.Replies.{error_in}
 use Rattle.dbus_dispatch.specs.Writable.{HasTexts, IsInUtf8, IsRowInUtf8}
 use Rattle.std.specs.Prelude.{Some}

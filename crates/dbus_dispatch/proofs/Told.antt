@@ -26,8 +26,8 @@ use Rattle.portal_model.specs.declared.reply.ListedDocument.{ListedDocument}
 use Rattle.portal_model.specs.Changed.{texts_value, row_value, rows_value}
 use Rattle.portal_model.specs.Data.{is_data}
 use Rattle.portal_model.proofs.DataLaws.{data-spelled}
-use Rattle.dbus_dispatch.specs.declared.method.Method.{Method}
-use Rattle.dbus_dispatch.specs.declared.method.Method.TheVariants as M
+use Rattle.dbus_calls.specs.declared.method.Method.{Method}
+use Rattle.dbus_calls.specs.declared.method.Method.TheVariants as M
 use Rattle.dbus_dispatch.specs.Asks.{closed_bytes}
 use Rattle.dbus_dispatch.specs.Replies.{extra, listed_value, documents_value, each_text, identifiers, body_of}
 use Rattle.dbus_dispatch.specs.Writable.{HasTexts, HasItsIdentifiers, IsInUtf8, IsTold}

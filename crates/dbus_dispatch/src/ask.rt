@@ -3,16 +3,16 @@
 //! Source: D-Bus Specification, "Message Protocol" and "Standard Interfaces".
 
 ghost use Rattle.std.specs.Prelude.{◌≡◌, ◌≢◌, ◌<◌, ◌^◌, ◌↔◌, [], ◌∷◌, IfOk};
-ghost use Rattle.dbus_dispatch.specs.Arguments.{request_in};
+ghost use Rattle.dbus_requests.specs.Arguments.{request_in};
 ghost use Rattle.dbus_dispatch.specs.Asks.{ask_of, asked, asked_of_portal, returned, expects_reply};
 ghost use Rattle.dbus_dispatch.specs.Writable.{CanBeAnswered};
 
 use crate::body::{closed_bytes, only};
-use crate::call::{called, object_of};
-use crate::error_name::ErrorName;
-use crate::method::Method;
 use crate::properties::{dictionary, interface_in, value_in, variant};
-use crate::request::request_in;
+use dbus_calls::call::{called, object_of};
+use dbus_calls::error_name::ErrorName;
+use dbus_calls::method::Method;
+use dbus_requests::request::request_in;
 use dbus_types::message::{METHOD_CALL, Message, NO_REPLY_EXPECTED, OutMessage};
 use dbus_types::types::Value;
 use portal_base::limits::Settings;

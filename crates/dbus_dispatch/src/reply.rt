@@ -10,14 +10,14 @@ ghost use Rattle.dbus_types.specs.Values.{type_of};
 ghost use Rattle.dbus_types.specs.Spells.{gap};
 ghost use Rattle.portal_model.specs.Changed.{message_limit};
 ghost use Rattle.dbus_dispatch.specs.Replies.{error_of, error_in, return_or_limit, return_length, reply_of};
-ghost use Rattle.dbus_dispatch.specs.declared.method.Method.{Method as AMethod};
-ghost use Rattle.dbus_dispatch.specs.Calls.{found};
+ghost use Rattle.dbus_calls.specs.declared.method.Method.{Method as AMethod};
+ghost use Rattle.dbus_calls.specs.Calls.{found};
 ghost use Rattle.dbus_dispatch.specs.Writable.{IsInUtf8, IsToldTo, IsWritable};
 
 use crate::ask::{fits, returned};
 use crate::body::body_of;
-use crate::call::found;
-use crate::error_name::ErrorName;
+use dbus_calls::call::found;
+use dbus_calls::error_name::ErrorName;
 use dbus_marshal::write::write_value;
 use dbus_types::message::{Message, OutMessage};
 use dbus_types::types::Value;

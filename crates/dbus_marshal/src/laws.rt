@@ -7,7 +7,7 @@ ghost use Rattle.dbus_types.specs.declared.types.Value.{Value as Value'};
 ghost use Rattle.dbus_types.specs.declared.types.Endian.{Endian as Endian'};
 ghost use Rattle.dbus_types.specs.declared.types.WireType.{WireType as WireType'};
 ghost use Rattle.dbus_types.specs.Values.{type_of, KeepsRules};
-ghost use Rattle.dbus_marshal.specs.declared.error.ReadError.{ReadError as ReadError'};
+ghost use Rattle.dbus_basic.specs.declared.error.ReadError.{ReadError as ReadError'};
 ghost use Rattle.dbus_marshal.specs.Breaks.{Breaks};
 ghost use Rattle.dbus_types.specs.Spells.{Spells};
 ghost use Rattle.dbus_types.specs.Spelling.{spelling, spellings};

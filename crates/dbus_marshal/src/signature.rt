@@ -3,13 +3,14 @@
 //! Source: D-Bus Specification, "Type System".
 
 ghost use Rattle.std.specs.Prelude.{◌≡◌, ◌+◌, ◌<◌, ◌≤◌, ◌^◌, ◌++◌, OnOk, OnErr, length, take, drop};
-ghost use Rattle.dbus_marshal.specs.Reads.{Gives, checked_in, type_in};
+ghost use Rattle.dbus_basic.specs.Reading.{Gives};
+ghost use Rattle.dbus_marshal.specs.Reads.{checked_in, type_in};
 ghost use Rattle.dbus_types.specs.Types.{type_text};
 ghost use Rattle.dbus_types.specs.Values.{type_of};
 ghost use Rattle.dbus_types.specs.Spelling.{Extends, signature_body};
 
-use crate::error::ReadError;
 use crate::put::overwrite_byte;
+use dbus_basic::error::ReadError;
 use dbus_types::errors::SignatureError;
 use dbus_types::signature::{check_signature, read_single};
 use dbus_types::types::{Value, WireType};

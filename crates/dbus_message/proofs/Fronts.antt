@@ -7,7 +7,7 @@ use Rattle.std.specs.Prelude.{slice_index, ◌==◌, ◌⊎◌}
 use Rattle.std.specs.Int.{w32}
 use Rattle.dbus_types.specs.declared.types.Endian.{Endian}
 use Rattle.dbus_types.specs.declared.types.Endian.TheVariants.{Little, Big}
-use Rattle.dbus_marshal.specs.Reads.{from_number}
+use Rattle.dbus_basic.specs.Fields.{from_number}
 use Rattle.dbus_types.specs.Spells.{gap}
 use Rattle.portal_base.specs.declared.split.Split.{Split}
 use Rattle.portal_base.specs.declared.split.Split.TheVariants as S
