@@ -7,9 +7,9 @@ use Rattle.dbus_types.specs.declared.types.Endian.{Endian}
 use Rattle.dbus_types.specs.declared.types.WireType.{WireType}
 use Rattle.dbus_types.specs.declared.types.Value.{Value, out-Value}
 use Rattle.dbus_types.specs.declared.message.Message.{Message}
-use Rattle.dbus_types.specs.Spells.{Spells, Members}
-use Rattle.dbus_types.specs.Spelling.{spelling, spellings}
-use Rattle.dbus_types.proofs.OneSpelling.{spells_same}
+use Rattle.dbus_values.specs.Spells.{Spells, Members}
+use Rattle.dbus_values.specs.Spelling.{spelling, spellings}
+use Rattle.dbus_values.proofs.OneSpelling.{spells_same}
 use Rattle.dbus_message.specs.Content.{IsContent}
 use Rattle.dbus_message.specs.Fields.{signature_code, text_of as field_text}
 use Rattle.dbus_message.specs.Header.{body_bytes, body_start, endian_of}

@@ -8,7 +8,7 @@ use Rattle.portal_base.specs.Names.{doc_text, is_app_name, is_same}
 use Rattle.portal_base.specs.declared.names.doc_id.DocId.{DocId}
 use Rattle.portal_base.specs.declared.who.Who.{Who}
 use Rattle.rights_rule.specs.Rights.{rights_named}
-use Rattle.dbus_types.specs.Values.{IsText}
+use Rattle.dbus_values.specs.Values.{IsText}
 use Rattle.portal_model.specs.declared.reply.Answer.TheVariants as A
 use Rattle.portal_model.specs.declared.reply.Code.TheVariants as Code
 use Rattle.portal_model.specs.declared.request.AddRequest.{AddRequest}

@@ -9,10 +9,10 @@ use Rattle.dbus_types.specs.declared.types.Endian.TheVariants.{Little}
 use Rattle.dbus_types.specs.declared.types.Value.{Value, out-Value, roll-Value, the_lemmas}
 use Rattle.dbus_types.specs.declared.types.Value.TheOpen.{Value-F}
 use Rattle.dbus_types.specs.declared.types.Value.TheVariants as V
-use Rattle.dbus_types.specs.Spells.{gap}
-use Rattle.dbus_types.specs.Spelling.{in_row, spell_step, spelled, spelling, spellings}
-use Rattle.dbus_types.proofs.Lengths.{same_length}
-use Rattle.dbus_types.proofs.OneSpelling.{roll_entry}
+use Rattle.dbus_values.specs.Spells.{gap}
+use Rattle.dbus_values.specs.Spelling.{in_row, spell_step, spelled, spelling, spellings}
+use Rattle.dbus_values.proofs.Lengths.{same_length}
+use Rattle.dbus_values.proofs.OneSpelling.{roll_entry}
 use Rattle.portal_model.specs.declared.records.Row.{Row}
 use Rattle.portal_model.specs.declared.store.StoreCall.{StoreCall}
 use Rattle.portal_model.specs.declared.store.StoreCall.TheVariants as Call

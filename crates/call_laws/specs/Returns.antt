@@ -4,7 +4,7 @@
 use Rattle.std.specs.Prelude.{◌≡◌, ℕ, List, [], map, codes, None, Ok}
 use Rattle.portal_base.specs.declared.limits.Settings.{Settings}
 use Rattle.dbus_types.specs.Types.{types_text}
-use Rattle.dbus_types.specs.Values.{type_of}
+use Rattle.dbus_values.specs.Values.{type_of}
 use Rattle.dbus_types.specs.declared.message.Message.{Message}
 use Rattle.dbus_types.specs.declared.message.OutMessage.TheVariants.{Return}
 use Rattle.dbus_types.specs.declared.types.Value.{Value}

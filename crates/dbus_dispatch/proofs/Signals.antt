@@ -14,10 +14,10 @@ use Rattle.dbus_types.specs.declared.types.Value.TheOpen.{Value-F}
 use Rattle.dbus_types.specs.declared.types.Value.TheVariants as V
 use Rattle.dbus_types.specs.declared.message.OutMessage.{OutMessage}
 use Rattle.dbus_types.specs.Types.{role, arrays_deep, brackets_deep, type_text, types_text}
-use Rattle.dbus_types.specs.Values.{type_of, IsText, ValueKeeps, KeepsWithin, KeepsRules}
-use Rattle.dbus_types.specs.Spells.{bit, gap, number}
-use Rattle.dbus_types.specs.Spelling.{Spelled, spelling, spellings, spelled_length, spelled_lengths}
-use Rattle.dbus_types.proofs.OneSpelling.{roll_bool}
+use Rattle.dbus_values.specs.Values.{type_of, IsText, ValueKeeps, KeepsWithin, KeepsRules}
+use Rattle.dbus_values.specs.Spells.{bit, gap, number}
+use Rattle.dbus_values.specs.Spelling.{Spelled, spelling, spellings, spelled_length, spelled_lengths}
+use Rattle.dbus_values.proofs.OneSpelling.{roll_bool}
 use Rattle.dbus_types.proofs.TypeLayers.{text_array, text_entry}
 use Rattle.dbus_message.specs.Fields.{field_type, signal_kind}
 use Rattle.dbus_message.specs.Written.{IsGoodBody, field, fields_out, message_bytes}

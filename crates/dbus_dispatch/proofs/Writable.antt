@@ -17,8 +17,8 @@ use Rattle.dbus_types.specs.declared.message.OutMessage.{OutMessage}
 use Rattle.dbus_types.specs.declared.message.OutMessage.TheVariants.{Return, Error}
 use Rattle.dbus_types.specs.Names.{is_interface_name}
 use Rattle.dbus_types.specs.Types.{alignment, types_text}
-use Rattle.dbus_types.specs.Values.{type_of}
-use Rattle.dbus_types.specs.Spelling.{spelling, spellings}
+use Rattle.dbus_values.specs.Values.{type_of}
+use Rattle.dbus_values.specs.Spelling.{spelling, spellings}
 use Rattle.dbus_message.specs.Fields.{field_type}
 use Rattle.dbus_message.specs.Written.{field, signature_field, last_part, kind_out, body_out, fields_out, IsGoodBody, KeepsKinds, CanWrite, message_bytes}
 use Rattle.dbus_message.proofs.WrittenHasSpelling.{part_good}

@@ -1,7 +1,7 @@
 -- Answers that can be written (D-Bus Specification, "Message Format").
 use Rattle.std.specs.Prelude.{◌≡◌, ◌≢◌, ℕ, ◌<◌, ◌^◌, List, length, All, Ok, true, IsUtf8}
 use Rattle.std.specs.List.{list_all}
-use Rattle.dbus_types.specs.Values.{IsText}
+use Rattle.dbus_values.specs.Values.{IsText}
 use Rattle.dbus_types.specs.declared.message.Message.{Message}
 use Rattle.dbus_types.specs.declared.message.OutMessage.{OutMessage}
 use Rattle.portal_model.specs.declared.records.Row.{Row}

@@ -8,7 +8,7 @@ ghost use Rattle.dbus_dispatch.specs.Asks.{ask_of};
 ghost use Rattle.dbus_dispatch.specs.Writable.{CanBeAnswered};
 ghost use Rattle.portal_model.specs.declared.reply.Change.{Change as AChange};
 ghost use Rattle.dbus_types.specs.Types.{types_text};
-ghost use Rattle.dbus_types.specs.Values.{type_of};
+ghost use Rattle.dbus_values.specs.Values.{type_of};
 ghost use Rattle.dbus_dispatch.specs.Signals.{changed_body};
 ghost use Rattle.dbus_calls.specs.Tables.{changed};
 

@@ -4,10 +4,10 @@
 
 ghost use Rattle.std.specs.Prelude.{◌≡◌, ℕ, ◌+◌, nat_le, length, map, IfOk};
 ghost use Rattle.dbus_types.specs.declared.types.Endian.TheVariants.{Little};
-ghost use Rattle.dbus_types.specs.Spelling.{spellings};
+ghost use Rattle.dbus_values.specs.Spelling.{spellings};
 ghost use Rattle.dbus_types.specs.Types.{types_text};
-ghost use Rattle.dbus_types.specs.Values.{type_of};
-ghost use Rattle.dbus_types.specs.Spells.{gap};
+ghost use Rattle.dbus_values.specs.Values.{type_of};
+ghost use Rattle.dbus_values.specs.Spells.{gap};
 ghost use Rattle.portal_model.specs.Changed.{message_limit};
 ghost use Rattle.dbus_dispatch.specs.Replies.{error_of, error_in, return_or_limit, return_length, reply_of};
 ghost use Rattle.dbus_calls.specs.declared.method.Method.{Method as AMethod};
@@ -21,7 +21,7 @@ use dbus_calls::error_name::ErrorName;
 use dbus_marshal::write::write_value;
 use dbus_types::message::{Message, OutMessage};
 use dbus_types::types::Value;
-use dbus_types::write::signature_text;
+use dbus_values::write::signature_text;
 use portal_base::limits::Settings;
 use portal_base::list::List;
 use portal_base::memory::WantOfMemory;

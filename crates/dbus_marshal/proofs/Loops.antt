@@ -10,7 +10,7 @@ use Rattle.dbus_types.specs.declared.types.Value.{Value}
 use Rattle.dbus_basic.specs.declared.error.ReadError.{ReadError}
 use Rattle.dbus_basic.specs.declared.error.ReadError.TheVariants.{Short, Padding, BadBool, BadText, TooLong, BadSignature, TooDeep, BadArray, Memory}
 use Rattle.dbus_types.specs.Types.{alignment}
-use Rattle.dbus_types.specs.Values.{array_of}
+use Rattle.dbus_values.specs.Values.{array_of}
 use Rattle.dbus_basic.specs.Reading.{◌>>=◌, Fails, Read, after}
 use Rattle.dbus_basic.specs.Fields.{padded, taken, number_at}
 use Rattle.dbus_marshal.specs.Reads.{joined, members, listed, elements, array_error, arrayed, within_array, layer}

@@ -13,8 +13,8 @@ use Rattle.dbus_types.specs.declared.types.Value.TheVariants as V
 use Rattle.dbus_basic.specs.declared.error.ReadError.{ReadError}
 use Rattle.dbus_basic.specs.declared.error.ReadError.TheVariants.{BadText, TooLong, BadSignature}
 use Rattle.dbus_types.specs.Types.{alignment}
-use Rattle.dbus_types.specs.Values.{IsText, IsSignatureText, array_of}
-use Rattle.dbus_types.specs.Spells.{number, gap, Aligned, IsPath, bit, Members, Elements, BoolRow, NumberRow, TextRow, ArrayRow, StructRow, EntryRow, Flat, Row, NoneInside, SpellsWithin}
+use Rattle.dbus_values.specs.Values.{IsText, IsSignatureText, array_of}
+use Rattle.dbus_values.specs.Spells.{number, gap, Aligned, IsPath, bit, Members, Elements, BoolRow, NumberRow, TextRow, ArrayRow, StructRow, EntryRow, Flat, Row, NoneInside, SpellsWithin}
 use Rattle.dbus_basic.specs.Reading.{◌>>=◌, Read}
 use Rattle.dbus_basic.specs.Fields.{padded, taken, number_at, byte_at, ended, truth}
 use Rattle.dbus_marshal.specs.Reads.{numbered, is_text, is_path_text, text_at, texted, checked_in, type_in, signature_at, joined, members, listed, elements, within_array, fixed, flat, layer, reads}

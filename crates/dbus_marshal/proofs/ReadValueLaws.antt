@@ -9,7 +9,7 @@ use Rattle.dbus_types.specs.declared.types.WireType.{WireType}
 use Rattle.dbus_types.specs.declared.types.Value.{Value}
 use Rattle.dbus_basic.specs.declared.error.ReadError.{ReadError}
 use Rattle.dbus_basic.specs.declared.error.ReadError.TheVariants.{Short, Padding, BadBool, BadText, TooLong, BadSignature, TooDeep, BadArray, Memory}
-use Rattle.dbus_types.specs.Spells.{Spells}
+use Rattle.dbus_values.specs.Spells.{Spells}
 use Rattle.dbus_marshal.specs.Breaks.{Breaks}
 use Rattle.dbus_basic.specs.Reading.{Fails, IsRead, IsStopped, IsRefused, Read, after}
 use Rattle.dbus_marshal.specs.Reads.{reads}

@@ -9,7 +9,7 @@ use mir.Val.{bits}
 use Rattle.dbus_types.specs.declared.types.Endian.{Endian}
 use Rattle.dbus_basic.specs.declared.error.ReadError.{ReadError}
 use Rattle.dbus_basic.specs.declared.error.ReadError.TheVariants.{Short, Padding, BadBool}
-use Rattle.dbus_types.specs.Spells.{number, gap}
+use Rattle.dbus_values.specs.Spells.{number, gap}
 use Rattle.dbus_marshal.specs.Breaks.{Break, Ends, Behind, ZerosBreak, AlignedBreaks, ByteBreaks, NumberBreaks, BytesBreak, ZeroBreaks}
 use Rattle.dbus_basic.specs.Reading.{◌>>=◌}
 use Rattle.dbus_basic.specs.Fields.{zeros, padded, taken, number_at, byte_at, ended, truth}

@@ -11,7 +11,7 @@ use Rattle.dbus_types.specs.declared.types.Endian.{Endian}
 use Rattle.dbus_types.specs.declared.types.Endian.TheVariants.{Little, Big}
 use Rattle.dbus_basic.specs.declared.error.ReadError.{ReadError}
 use Rattle.dbus_basic.specs.declared.error.ReadError.TheVariants.{Short}
-use Rattle.dbus_types.specs.Spells.{number}
+use Rattle.dbus_values.specs.Spells.{number}
 use Rattle.dbus_basic.specs.Reading.{◌>>=◌}
 use Rattle.dbus_basic.specs.Fields.{zeros, taken, number_at, byte_at, ended, from_number}
 

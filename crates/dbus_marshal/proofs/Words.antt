@@ -7,8 +7,8 @@ use Rattle.std.proofs.lemmas.Bool.{cases_Bool, eqb-true}
 use Rattle.std.proofs.lemmas.List.Folds.{list_any_at, list_any_none}
 use Rattle.std.proofs.lemmas.Str.{IsUtf8-from_is_utf8, is_utf8-from_IsUtf8}
 use Rattle.dbus_types.specs.Names.{is_path}
-use Rattle.dbus_types.specs.Values.{IsText}
-use Rattle.dbus_types.specs.Spells.{IsPath}
+use Rattle.dbus_values.specs.Values.{IsText}
+use Rattle.dbus_values.specs.Spells.{IsPath}
 use Rattle.dbus_marshal.specs.Reads.{is_text, is_path_text}
 
 pub not_same : (a b : ℕ) → (a ≡ b → ⊥) → (a == b) ≡ false

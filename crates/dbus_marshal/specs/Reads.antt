@@ -18,7 +18,7 @@ use Rattle.dbus_types.specs.declared.errors.SignatureError.TheVariants as Stop
 use Rattle.dbus_types.specs.Names.{is_path}
 use Rattle.dbus_types.specs.Reading.{whole_at, single_at, passed}
 use Rattle.dbus_types.specs.Types.{alignment}
-use Rattle.dbus_types.specs.Values.{array_of}
+use Rattle.dbus_values.specs.Values.{array_of}
 pub use Rattle.dbus_marshal.specs.Breaks.{array_error}
 use Rattle.dbus_basic.specs.Reading.{◌>>=◌, Read}
 use Rattle.dbus_basic.specs.Fields.{padded, taken, number_at, byte_at, ended, truth}

@@ -7,7 +7,7 @@
 ghost use Rattle.std.specs.Prelude.{◌≡◌, ◌+◌, ◌-◌, ◌<◌, ◌≤◌, ◌^◌, ℕ, List, ◌++◌, length, take, drop, filter, IfOk};
 ghost use Rattle.dbus_types.specs.declared.types.Value.{Value as Value'};
 ghost use Rattle.dbus_types.specs.declared.types.Value.TheVariants as V;
-ghost use Rattle.dbus_types.specs.Spells.{Spells};
+ghost use Rattle.dbus_values.specs.Spells.{Spells};
 ghost use Rattle.dbus_basic.specs.Reading.{Gives, IsRead, after};
 ghost use Rattle.dbus_marshal.specs.Reads.{elements, field_at, field_type, fields_type, fields_at, has_code_to, kept, sifted};
 

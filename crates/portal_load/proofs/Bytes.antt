@@ -11,10 +11,10 @@ use Rattle.dbus_types.specs.declared.types.WireType.TheVariants as W
 use Rattle.dbus_types.specs.declared.types.Value.{Value, the_lemmas}
 use Rattle.dbus_types.specs.declared.types.Value.TheVariants as V
 use Rattle.dbus_types.specs.Types.{alignment, type_text, types_text}
-use Rattle.dbus_types.specs.Values.{type_of}
-use Rattle.dbus_types.specs.Spells.{number, gap}
-use Rattle.dbus_types.specs.Spelling.{spelled, spelling, spellings}
-use Rattle.dbus_types.proofs.OneSpelling.{roll_path, roll_signature, roll_str}
+use Rattle.dbus_values.specs.Values.{type_of}
+use Rattle.dbus_values.specs.Spells.{number, gap}
+use Rattle.dbus_values.specs.Spelling.{spelled, spelling, spellings}
+use Rattle.dbus_values.proofs.OneSpelling.{roll_path, roll_signature, roll_str}
 use Rattle.dbus_message.specs.Fields.{field_type}
 use Rattle.dbus_message.specs.Written.{field, signature_field}
 use Rattle.dbus_message.proofs.WrittenAreMessages.{field_alignment}
