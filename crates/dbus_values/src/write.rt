@@ -16,7 +16,7 @@ use std::alloc::Global;
 /// Puts the text of a type at the end; where memory runs out, a part of it
 /// may stand there.
 #[cycle(put)]
-#[tactic(auto, using(crate::proofs::ListFronts::extends_refl, crate::proofs::ListFronts::extends_append, crate::proofs::ListFronts::extends_trans, crate::proofs::TypeLayers::text_struct))]
+#[tactic(auto, using(crate::proofs::ListFronts::extends_refl, crate::proofs::ListFronts::extends_append, crate::proofs::ListFronts::extends_trans, dbus_types::proofs::TypeLayers::text_struct))]
 fn put_type(out: &mut List<u8>, kind: &WireType) -> Result<(), WantOfMemory>
     ensures ok { OnOk result (out.new ≡ out.old ++ type_text kind.now) }
     ensures err { OnErr result (Extends out.old out.new) }
@@ -69,7 +69,7 @@ fn put_types(out: &mut List<u8>, kinds: &[WireType]) -> Result<(), WantOfMemory>
 
 /// Puts the text of a value's type at the end.
 #[cycle(put_of)]
-#[tactic(auto, using(crate::proofs::ListFronts::extends_refl, crate::proofs::ListFronts::extends_append, crate::proofs::ListFronts::extends_trans, crate::proofs::TypeLayers::text_struct))]
+#[tactic(auto, using(crate::proofs::ListFronts::extends_refl, crate::proofs::ListFronts::extends_append, crate::proofs::ListFronts::extends_trans, dbus_types::proofs::TypeLayers::text_struct))]
 pub fn put_type_of(out: &mut List<u8>, value: &Value) -> Result<(), WantOfMemory>
     ensures ok { OnOk result (out.new ≡ out.old ++ type_text (type_of value.now)) }
     ensures err { OnErr result (Extends out.old out.new) }
