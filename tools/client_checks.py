@@ -4,13 +4,16 @@ import importlib.machinery
 import importlib.util
 import json
 import os
+import re
 import signal
+import subprocess
 import sys
 import tempfile
 import time
 
 from service import TOP, Service
-from docportal_client import DBusError, FILES, FILES_PATH, Failed, path_bytes
+from docportal_client import (
+    DBusError, FILES, FILES_PATH, Failed, MESSAGE_LIMIT, Variant, path_bytes)
 
 COMMAND = os.path.join(TOP, "contrib", "clients", "docportal-client")
 
@@ -211,12 +214,14 @@ class Checks:
               "data": {"type": "au", "value": [1, 2]}}]) + "\n")
         self.types("tables my-table", "TABLE     ENTRIES\ndevices   1\nmy-table  1\n")
         self.types("permission-show org.ed --table my-table",
-                   "TABLE     ID      PERMISSIONS  DATA\ndevices   camera  yes          s \"front\"\n"
+                   "TABLE     ID      PERMISSIONS  DATA\n"
+                   "devices   camera  yes          s \"front\"\n"
                    "my-table  one     x            au [1, 2]\n")
         self.types("permission-remove devices camera org.view")
         self.types("permission-reset org.ed --table my-table")
-        self.types("permissions devices", "TABLE    ID      APPLICATION  PERMISSIONS  DATA\n"
-                                          "devices  camera                            s \"front\"\n")
+        self.types("permissions devices",
+                   "TABLE    ID      APPLICATION  PERMISSIONS  DATA\n"
+                   "devices  camera                            s \"front\"\n")
         self.types("permission-remove devices camera")
         self.types("permission-remove my-table one")
         self.types("permissions devices camera", status=1,
@@ -257,8 +262,8 @@ class Checks:
                    said="org.freedesktop.DBus.Error.AccessDenied: only the host may use the "
                         "permission store: leave out --as")
         self.types("permission-set documents a org.ed b", status=1,
-                   said=portal + "NotAllowed: documents aren't in the store: docportal-client info, "
-                                 "grant and revoke tell and change them")
+                   said=portal + "NotAllowed: documents aren't in the store: docportal-client "
+                                 "info, grant and revoke tell and change them")
         self.types("info 1234567", status=1,
                    said="1234567 is neither an identifier (eight digits 0-9 a-f) nor a file; "
                         "docportal-client documents lists them")
@@ -282,7 +287,7 @@ class Checks:
     def wrong_words(self):
         """Words that can't be meant: one line, the usage, and status 2."""
         for line, why, usage in (
-                ("", "a verb is missing", "[OPTION..] VERB .."),
+                ("", "the following arguments are required: VERB", "[OPTION..] VERB .."),
                 ("grant 5a0c11d7", "the following arguments are required: APP, RIGHT",
                  "grant DOC APP RIGHT.."),
                 ("grant 5a0c11d7 org.ed fly", "argument RIGHT: fly is no right; they are read, "
@@ -351,37 +356,44 @@ def full_history(see, folder):
         service.kill()
 
 
-def failed_additions(see, service):
-    """An addition that fails leaves no file for the next one of its connection."""
-    secret = "/secret.txt"
-    for name in ("secret.txt", "picked.txt"):
-        file_in(service.root, name, b"x")
+SECRET = "/secret.txt"
 
+
+def ways_to_fail(service):
+    """What an addition of SECRET fails by, and the call that does."""
     def with_root_away(documents):
         os.rename(service.root, service.root + ".away")
         try:
-            documents.add(secret)
+            documents.add(SECRET)
         finally:
             os.rename(service.root + ".away", service.root)
 
     def fill_queue(documents):
         for _ in range(17):
-            documents.present(secret)
+            documents.present(SECRET)
 
-    def behind_its_back(documents):
+    def present_behind_its_back(documents):
         for _ in range(3):
-            documents._bus.call(FILES_PATH, FILES, "Present", "ay", [path_bytes(secret)])
+            documents._bus.call(FILES_PATH, FILES, "Present", "ay", [path_bytes(SECRET)])
         raise Failed
 
-    for what, fails in (
-            ("the root is away", with_root_away),
-            ("a wrong right", lambda documents: documents.add_full([secret], 1, "org.ed", ["fly"])),
-            ("a wrong application", lambda documents: documents.add_full([secret], 1, "..", [])),
-            ("a missing file", lambda documents: documents.add_full([secret, "/none"])),
-            ("a path that is none", lambda documents: documents.add_full([secret, "none"])),
-            ("17 files", lambda documents: documents.add_full([secret] * 17)),
-            ("a full queue", fill_queue),
-            ("what another part of the program presented", behind_its_back)):
+    return {
+        "the root is away": with_root_away,
+        "a wrong right": lambda documents: documents.add_full([SECRET], 1, "org.ed", ["fly"]),
+        "a wrong application": lambda documents: documents.add_full([SECRET], 1, "..", []),
+        "a missing file": lambda documents: documents.add_full([SECRET, "/none"]),
+        "a path that is none": lambda documents: documents.add_full([SECRET, "none"]),
+        "17 files": lambda documents: documents.add_full([SECRET] * 17),
+        "a full queue": fill_queue,
+        "another part of the program presented it": present_behind_its_back,
+    }
+
+
+def failed_additions(see, service):
+    """An addition that fails leaves no file for the next one of its connection."""
+    for name in ("secret.txt", "picked.txt"):
+        file_in(service.root, name, b"x")
+    for what, fails in ways_to_fail(service).items():
         with service.bus() as bus:
             try:
                 fails(bus.documents)
@@ -398,6 +410,37 @@ def failed_additions(see, service):
                 bus.documents.delete(document)
 
 
+def long_messages(see, service):
+    """A message of a mebibyte comes and goes, and one that is too long isn't sent."""
+    with service.bus() as bus:
+        data = Variant("ay", bytes(range(256)) * 4096)
+        bus.permissions.set_value("long", "one", data)
+        see("a long message", bus.permissions.lookup("long", "one"), ({}, data))
+        bus.permissions.delete("long", "one")
+        try:
+            bus.permissions.set_value("long", "two", Variant("ay", bytes(MESSAGE_LIMIT)))
+            sent = True
+        except ValueError:
+            sent = False
+        see("a message that is too long", (sent, bus.permissions.list("long")), (False, []))
+
+
+def completions(see):
+    """Bash completes each verb."""
+    script = ("source contrib/completions/docportal-client.bash; COMP_WORDS=(docportal-client ''); "
+              "COMP_CWORD=1; _docportal_client; echo \"${COMPREPLY[@]}\"")
+    done = subprocess.run(["bash", "-c", script], cwd=TOP, capture_output=True, timeout=60)
+    see("the verbs that bash completes", done.stdout.decode().split(), list(MODULE.VERBS))
+    with open(os.path.join(TOP, "contrib", "completions", "_docportal-client")) as file:
+        text = file.read()
+    see("the verbs that zsh completes", re.findall(r"""^        ['"]([a-z-]+):""", text, re.M),
+        list(MODULE.VERBS))
+    with open(os.path.join(TOP, "contrib", "docportal-client.1")) as file:
+        text = file.read()
+    found = re.findall(r"^\.BI?R? ([a-z-]+) ", text, re.M)
+    see("the verbs of the manual page", [name for name in MODULE.VERBS if name not in found], [])
+
+
 def check(see):
     """Each verb at a service that is there, at one that is gone, and at a full history."""
     with tempfile.TemporaryDirectory(prefix="docportal-") as folder:
@@ -408,8 +451,10 @@ def check(see):
         try:
             Checks(see, service, folder).all()
             failed_additions(see, service)
+            long_messages(see, service)
         finally:
             service.kill()
         gone(see, service, folder)
+    completions(see)
     with tempfile.TemporaryDirectory(prefix="docportal-") as folder:
         full_history(see, folder)

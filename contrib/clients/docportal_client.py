@@ -69,59 +69,30 @@ class DBusError(Exception):
         return error
 
 
-class UnknownObject(DBusError):
-    """There is no object at the path."""
+ERRORS = {}
 
 
-class UnknownInterface(DBusError):
-    """The object hasn't that interface."""
+def _error(prefix, name, meaning):
+    """The exception of an error's name, as a class of its own."""
+    full = prefix + name
+    ERRORS[full] = type(name, (DBusError,), {
+        "__doc__": meaning, "__module__": __name__, "name": full})
+    return ERRORS[full]
 
 
-class UnknownMethod(DBusError):
-    """The interface hasn't that method."""
-
-
-class UnknownProperty(DBusError):
-    """The interface hasn't that property."""
-
-
-class InvalidArgs(DBusError):
-    """The arguments have another signature, or a handle names no presented file."""
-
-
-class AccessDenied(DBusError):
-    """The call is the host's alone."""
-
-
-class LimitsExceeded(DBusError):
-    """A limit would be passed: of documents, of the queue, of a message, or of the history."""
-
-
-class NoMemory(DBusError):
-    """The service has no memory for the request."""
-
-
-class NotFound(DBusError):
-    """No such document or entry, or none that the caller may know of."""
-
-
-class NotAllowed(DBusError):
-    """The caller lacks a right, or may not make the call."""
-
-
-class InvalidArgument(DBusError):
-    """An argument isn't of its form, or the tree has no such file there."""
-
-
-class Failed(DBusError):
-    """The tree of files failed, or the records couldn't be kept."""
-
-
-ERRORS = {"org.freedesktop.DBus.Error." + error.__name__: error for error in (
-    UnknownObject, UnknownInterface, UnknownMethod, UnknownProperty, InvalidArgs, AccessDenied,
-    LimitsExceeded, NoMemory)}
-ERRORS.update({"org.freedesktop.portal.Error." + error.__name__: error for error in (
-    NotFound, NotAllowed, InvalidArgument, Failed)})
+_BUS, _PORTAL = "org.freedesktop.DBus.Error.", "org.freedesktop.portal.Error."
+UnknownObject = _error(_BUS, "UnknownObject", "There is no object at the path.")
+UnknownInterface = _error(_BUS, "UnknownInterface", "The object hasn't that interface.")
+UnknownMethod = _error(_BUS, "UnknownMethod", "The interface hasn't that method.")
+UnknownProperty = _error(_BUS, "UnknownProperty", "The interface hasn't that property.")
+InvalidArgs = _error(_BUS, "InvalidArgs", "Another signature, or a handle of no presented file.")
+AccessDenied = _error(_BUS, "AccessDenied", "The call is the host's alone.")
+LimitsExceeded = _error(_BUS, "LimitsExceeded", "A limit would be passed, or the history is full.")
+NoMemory = _error(_BUS, "NoMemory", "The service has no memory for the request.")
+NotFound = _error(_PORTAL, "NotFound", "Nothing is there, or nothing that the caller may know of.")
+NotAllowed = _error(_PORTAL, "NotAllowed", "The caller lacks a right, or may not make the call.")
+InvalidArgument = _error(_PORTAL, "InvalidArgument", "A text isn't of its form, or no file there.")
+Failed = _error(_PORTAL, "Failed", "The files failed, or the records couldn't be kept.")
 
 
 class MountError(OSError):
@@ -476,7 +447,7 @@ class Bus(Stream):
 
     def __init__(self, path, timeout=30.0):
         super().__init__(path, timeout)
-        self.signals = []
+        self.signals = []  # those of the host pile up here until `permissions.changes` takes them
         self.documents = Documents(self)
         self.permissions = PermissionStore(self)
         self._serial = 0
@@ -883,11 +854,11 @@ class Mount(Stream):
         return [name for name in self.readdir(ROOT) if re.fullmatch("[0-9a-f]{8}", name)]
 
     def find(self, document):
-        """The file of a document; where it isn't there, a MountError of ENOENT."""
+        """The file of a document, or None where it isn't there."""
         folder = self.lookup(ROOT, document).st_ino
         for name in self.readdir(folder):
             return Entry(name, self.lookup(folder, name))
-        raise MountError(errno.ENOENT, "the document has no file")
+        return None
 
     def open_file(self, document, mode="rb", create_as=None):
         """Opens the file of a document as `open` does: `rb`, `r+b`, or `wb`, which empties it.
@@ -895,18 +866,17 @@ class Mount(Stream):
         Where the file isn't there, `wb` makes it, if `create_as` is the document's own name.
         """
         access = {"rb": os.O_RDONLY, "r+b": os.O_RDWR, "wb": os.O_WRONLY | os.O_TRUNC}[mode]
-        try:
-            node = self.find(document).stat.st_ino
+        entry = self.find(document)
+        if entry:
+            node = entry.stat.st_ino
             handle = self.open_node(node, access)
-        except MountError as error:
-            if create_as is None or mode != "wb" or error.errno != errno.ENOENT:
-                raise
-            folder = self.lookup(ROOT, document).st_ino
-            stat, handle = self.create(folder, create_as, os.O_WRONLY)
+        elif create_as is not None and mode == "wb":
+            stat, handle = self.create(self.lookup(ROOT, document).st_ino, create_as, os.O_WRONLY)
             node = stat.st_ino
-        raw = DocumentFile(self, node, handle, mode)
+        else:
+            raise MountError(errno.ENOENT, "the document's file isn't there")
         buffered = {"rb": io.BufferedReader, "r+b": io.BufferedRandom, "wb": io.BufferedWriter}
-        return buffered[mode](raw, WRITE_LIMIT)
+        return buffered[mode](DocumentFile(self, node, handle, mode), WRITE_LIMIT)
 
     def read_document(self, document):
         """The bytes of a document."""
