@@ -298,6 +298,12 @@ class Checks:
                  "ls [DOC] [--short]"),
                 ("permission-reset", "name an application, or --all",
                  "permission-reset APP|--all [--table TABLE]"),
+                ("permission-set a b c --data 256 --type y",
+                 "--data: 256 is no value of the type y",
+                 "permission-set TABLE ID APP [PERMISSION..] [--data VALUE [--type TYPE]]"),
+                ("permission-set a b c --data {} --type a{vs}",
+                 "--data: 'a{vs}' isn't a signature: no type begins at 0",
+                 "permission-set TABLE ID APP [PERMISSION..] [--data VALUE [--type TYPE]]"),
                 ("permission-set a b c --data x --type u",
                  "--data: Expecting value: line 1 column 1 (char 0)",
                  "permission-set TABLE ID APP [PERMISSION..] [--data VALUE [--type TYPE]]")):
@@ -411,9 +417,9 @@ def failed_additions(see, service):
 
 
 def long_messages(see, service):
-    """A message of a mebibyte comes and goes, and one that is too long isn't sent."""
+    """A message beyond what is read at once comes and goes, and one that is too long isn't sent."""
     with service.bus() as bus:
-        data = Variant("ay", bytes(range(256)) * 4096)
+        data = Variant("ay", bytes(range(256)) * 1200)
         bus.permissions.set_value("long", "one", data)
         see("a long message", bus.permissions.lookup("long", "one"), ({}, data))
         bus.permissions.delete("long", "one")

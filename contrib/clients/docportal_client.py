@@ -13,7 +13,8 @@ A bus connection is a `Bus`, with the interfaces `documents` and `permissions`; 
 connection is a `Mount`. Each is for one thread at a time, and a context manager. A call that
 is answered by an error raises the `DBusError` of that name, a request on files a `MountError`,
 which is an OSError; what can't be reached raises a `ServiceError`, which is a ConnectionError,
-and what takes too long a TimeoutError. `docs/clients.md` has the rules that these follow.
+and what takes too long a TimeoutError. `docs/clients.md` has the rules that these follow. It is one
+file so that a program may take it along.
 """
 
 import enum
@@ -105,6 +106,8 @@ NUMBERS = {
     "y": (1, "B"), "n": (2, "h"), "q": (2, "H"), "i": (4, "i"), "u": (4, "I"),
     "x": (8, "q"), "t": (8, "Q"), "d": (8, "d"), "h": (4, "I"),
 }
+OBJECT_PATH = re.compile("/|(/[A-Za-z0-9_]+)+")
+BASIC = "".join(NUMBERS) + "bsog"
 
 
 class Variant(NamedTuple):
@@ -127,20 +130,21 @@ def single_types(signature):
 
 def end_of_type(signature, at):
     """Where the complete type that begins at a place ends."""
-    if at >= len(signature):
-        raise ValueError("the signature %r ends inside a type" % signature)
-    code = signature[at]
-    if code == "a":
+    code = signature[at:at + 1]
+    if code == "a" and signature[at + 1:at + 2] == "{":
+        end = end_of_type(signature, at + 3)
+        if signature[at + 2] in BASIC and signature[end:end + 1] == "}":
+            return end + 1
+    elif code == "a":
         return end_of_type(signature, at + 1)
-    if code in "({":
-        closing = ")" if code == "(" else "}"
-        at += 1
-        while signature[at:at + 1] != closing:
-            at = end_of_type(signature, at)
+    elif code == "(":
+        end = end_of_type(signature, at + 1)
+        while signature[end:end + 1] != ")":
+            end = end_of_type(signature, end)
+        return end + 1
+    elif code and code in BASIC + "v":
         return at + 1
-    if code not in NUMBERS and code not in "bsogv":
-        raise ValueError("the signature %r has no type at %d" % (signature, at))
-    return at + 1
+    raise ValueError("%r isn't a signature: no type begins at %d" % (signature, at))
 
 
 def alignment(kind):
@@ -163,7 +167,10 @@ class Writer:
     def number(self, code, value):
         size, form = NUMBERS[code]
         self.pad(size)
-        self.out += struct.pack("<" + form, value)
+        try:
+            self.out += struct.pack("<" + form, value)
+        except struct.error:
+            raise ValueError("%r is no value of the type %s" % (value, code)) from None
 
     def put(self, kind, value):
         """Writes a value of a complete type."""
@@ -173,10 +180,13 @@ class Writer:
         elif code == "b":
             self.number("u", 1 if value else 0)
         elif code in "so":
+            if "\0" in value or code == "o" and not OBJECT_PATH.fullmatch(value):
+                raise ValueError("%r is no value of the type %s" % (value, code))
             raw = value.encode()
             self.number("u", len(raw))
             self.out += raw + b"\0"
         elif code == "g":
+            single_types(value)
             self.out += bytes([len(value)]) + value.encode() + b"\0"
         elif code == "v":
             self.put("g", value.signature)
@@ -544,9 +554,11 @@ class Documents:
 
     @property
     def version(self):
+        """The version of the interface."""
         return self._bus.get_property(DOCUMENTS_PATH, DOCUMENTS, "version")
 
     def get_mount_point(self):
+        """Where the documents are mounted."""
         return path_text(self._call("GetMountPoint")[0])
 
     def present(self, path):
@@ -599,16 +611,20 @@ class Documents:
                          lambda places: [places, flags, app, list(permissions)])
 
     def add_named_full(self, folder, name, flags=AddFlags.REUSE_EXISTING, app="", permissions=()):
+        """Adds a file by its folder and name, for an application: as `add_full`."""
         return self._add("AddNamedFull", "hayusas", [folder], lambda places: [
             places[0], path_bytes(name), flags, app, list(permissions)])
 
     def grant_permissions(self, document, app, permissions):
+        """Gives an application rights in a document."""
         self._call("GrantPermissions", "ssas", [document, app, list(permissions)])
 
     def revoke_permissions(self, document, app, permissions):
+        """Takes rights in a document from an application."""
         self._call("RevokePermissions", "ssas", [document, app, list(permissions)])
 
     def delete(self, document):
+        """Takes a document away from everybody; its file stays."""
         self._call("Delete", "s", [document])
 
     def lookup(self, path):
@@ -666,6 +682,7 @@ class PermissionStore:
 
     @property
     def version(self):
+        """The version of the interface."""
         return self._bus.get_property(STORE_PATH, STORE, "version")
 
     def lookup(self, table, entry):
@@ -674,22 +691,28 @@ class PermissionStore:
         return permissions, data
 
     def set(self, table, entry, permissions, data, create=True):
+        """Gives an entry these permissions by application, and this Variant as data."""
         self._call("Set", "sbsa{sas}v", [table, create, entry, permissions, data])
 
     def delete(self, table, entry):
+        """Removes an entry."""
         self._call("Delete", "ss", [table, entry])
 
     def set_value(self, table, entry, data, create=True):
+        """Gives an entry this Variant as data."""
         self._call("SetValue", "sbsv", [table, create, entry, data])
 
     def set_permission(self, table, entry, app, permissions, create=True):
+        """Gives an application these permissions in an entry; none take its row away."""
         values = [table, create, entry, app, list(permissions)]
         self._call("SetPermission", "sbssas", values)
 
     def delete_permission(self, table, entry, app):
+        """Takes the row of an application from an entry."""
         self._call("DeletePermission", "sss", [table, entry, app])
 
     def get_permission(self, table, entry, app):
+        """The permissions of an application in an entry."""
         return self._call("GetPermission", "sss", [table, entry, app])[0]
 
     def list(self, table):
@@ -795,6 +818,7 @@ class Mount(Stream):
         return read_attr(self.ask(Opcode.LOOKUP, node, os.fsencode(name) + b"\0")[40:])
 
     def getattr(self, node):
+        """What stands at a node."""
         return read_attr(self.ask(Opcode.GETATTR, node, struct.pack("<IIQ", 0, 0, 0))[16:])
 
     def truncate(self, node, handle, length):
@@ -814,6 +838,7 @@ class Mount(Stream):
         return read_attr(got[40:]), struct.unpack_from("<Q", got, 128)[0]
 
     def read(self, node, handle, offset, size):
+        """At most so many bytes of an open file, and none at its end."""
         body = struct.pack("<QQIIQII", handle, offset, size, 0, 0, 0, 0)
         return self.ask(Opcode.READ, node, body)
 
@@ -823,9 +848,11 @@ class Mount(Stream):
         return struct.unpack_from("<I", self.ask(Opcode.WRITE, node, body + content))[0]
 
     def fsync(self, node, handle):
+        """Asks that what was written by a handle is kept."""
         self.ask(Opcode.FSYNC, node, struct.pack("<QII", handle, 0, 0))
 
     def release(self, node, handle):
+        """Gives a handle back."""
         self.ask(Opcode.RELEASE, node, struct.pack("<QIIQ", handle, 0, 0, 0))
 
     def readdir(self, node):
