@@ -419,7 +419,7 @@ def failed_additions(see, service):
 def long_messages(see, service):
     """A message beyond what is read at once comes and goes, and one that is too long isn't sent."""
     with service.bus() as bus:
-        data = Variant("ay", bytes(range(256)) * 1200)
+        data = Variant("ay", bytes(range(256)) * 300)
         bus.permissions.set_value("long", "one", data)
         see("a long message", bus.permissions.lookup("long", "one"), ({}, data))
         bus.permissions.delete("long", "one")
@@ -432,11 +432,15 @@ def long_messages(see, service):
 
 
 def completions(see):
-    """Bash completes each verb."""
+    """Bash completes each verb and its options; zsh and the manual page have each verb."""
     script = ("source contrib/completions/docportal-client.bash; COMP_WORDS=(docportal-client ''); "
-              "COMP_CWORD=1; _docportal_client; echo \"${COMPREPLY[@]}\"")
+              "COMP_CWORD=1; _docportal_client; echo \"${COMPREPLY[@]}\"; "
+              "for verb in \"${COMPREPLY[@]}\"; do _docportal_client_options $verb; done")
     done = subprocess.run(["bash", "-c", script], cwd=TOP, capture_output=True, timeout=60)
-    see("the verbs that bash completes", done.stdout.decode().split(), list(MODULE.VERBS))
+    verbs, *options = [line.split() for line in done.stdout.decode().splitlines()]
+    see("the verbs that bash completes", verbs, list(MODULE.VERBS))
+    for name, completed in zip(verbs, options):
+        see("the options of %s that bash completes" % name, set(completed), options_of(name))
     with open(os.path.join(TOP, "contrib", "completions", "_docportal-client")) as file:
         text = file.read()
     see("the verbs that zsh completes", re.findall(r"""^        ['"]([a-z-]+):""", text, re.M),
@@ -445,6 +449,14 @@ def completions(see):
         text = file.read()
     found = re.findall(r"^\.BI?R? ([a-z-]+) ", text, re.M)
     see("the verbs of the manual page", [name for name in MODULE.VERBS if name not in found], [])
+
+
+def options_of(name):
+    """The long options of a verb, without flatpak's names for some."""
+    found = {"--as", "--sockets", "--root", "--json", "--timeout", "--help"}
+    for names, _ in MODULE.VERBS[name][-1]:
+        found |= {word for word in names if word.startswith("--") and "allow" not in word}
+    return found
 
 
 def check(see):

@@ -321,7 +321,7 @@ class Message:
     def __init__(self, data):
         try:
             self._read(data)
-        except (ValueError, IndexError, struct.error) as error:
+        except (ValueError, LookupError, TypeError, RecursionError, struct.error) as error:
             raise ProtocolError("a message that can't be read: %s" % error) from error
 
     def _read(self, data):
@@ -795,6 +795,9 @@ class Mount(Stream):
         """The next answer: its number, its error and its body."""
         deadline = time.monotonic() + self.timeout
         length, error, unique = struct.unpack("<IiQ", self.take(16, deadline))
+        if length < 16:
+            self.close()
+            raise ProtocolError("a frame of %d bytes" % length)
         return unique, -error, self.take(length - 16, deadline)
 
     def ask(self, opcode, node, body=b""):
