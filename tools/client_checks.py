@@ -155,6 +155,9 @@ class Checks:
         new = self.document("export --noexist files/new.txt -a org.ed -w -r")
         self.types("--as org.ed ls " + new, "DOCUMENT  NAME       ACCESS  SIZE\n"
                                             "%s  (no file)\n" % new)
+        self.types("put --name old.txt " + new, status=1,
+                   said="EACCES: the document has another name; docportal-client info %s tells it"
+                        % new)
         self.types("--as org.ed put --name new.txt " + new, given=b"made\n")
         self.types("cat " + new, "made\n")
         self.types("unexport files/new.txt")
@@ -267,6 +270,9 @@ class Checks:
         self.types("info 1234567", status=1,
                    said="1234567 is neither an identifier (eight digits 0-9 a-f) nor a file; "
                         "docportal-client documents lists them")
+        self.types("--as org.ed revoke files/tour.txt org.ed", status=1,
+                   said="files/tour.txt is no identifier (eight digits 0-9 a-f), by which an "
+                        "application names a document")
         self.types("lookup files/other.txt", status=1,
                    said="files/other.txt is no document; docportal-client export makes it one")
         self.types("export /etc/hostname", status=1,
