@@ -238,7 +238,6 @@ class Checks:
             self.see("what watch costs", said.readline().decode(),
                      "docportal-client: asks each 0.05 s; each time costs 128 bytes of the "
                      "service's history, 221.2 MB a day\n")
-            time.sleep(0.2)
             self.types("permission-set other one org.ed yes")
             self.types("permission-set devices mic org.ed yes")
             self.types("permission-remove devices mic")
