@@ -974,3 +974,7 @@ class DocumentFile(io.RawIOBase):
                 self._mount.release(self._node, self._handle)
             except (MountError, ServiceError):
                 pass  # the handle is gone with its connection
+
+
+if __name__ == "__main__":
+    raise SystemExit("docportal_client is a library; docportal-client is the command")
