@@ -67,7 +67,7 @@ struct options {
 
 /* The bytes of a buffer that wait, from start to end. */
 struct waiting {
-    unsigned char *bytes;
+    unsigned char bytes[BUFFER];
     size_t start, end;
 };
 
@@ -686,10 +686,10 @@ static void read_words(int count, char **words, struct options *options)
 int main(int argc, char **argv)
 {
     struct options options = { .name = "docportal", .uid = geteuid(), .gid = getegid() };
-    struct carrier carrier = { .requests.bytes = malloc(BUFFER), .answers.bytes = malloc(BUFFER) };
+    static struct carrier carrier;
     int waiter = -1;
     read_words(argc, argv, &options);
-    if (!carrier.requests.bytes || !carrier.answers.bytes || catch_signals() < 0)
+    if (catch_signals() < 0)
         return STATUS_NO_MOUNT;
     char *folder = realpath(options.folder, NULL);
     if (!folder) {
@@ -701,7 +701,5 @@ int main(int argc, char **argv)
         return STATUS_NO_MOUNT;
     enum ending ending = serve_on(&options, &carrier, &waiter);
     free(folder);
-    free(carrier.requests.bytes);
-    free(carrier.answers.bytes);
     return status_of(&options, ending);
 }
