@@ -683,6 +683,21 @@ static void read_words(int count, char **words, struct options *options)
     options->folder = words[optind + 1];
 }
 
+/* The folder's whole path, or nothing where it said why not. It may be a dead mount. */
+static char *find_folder(const char *folder)
+{
+    struct stat got;
+    char *found = realpath(folder, NULL);
+    if (found && stat(found, &got) == 0 && !S_ISDIR(got.st_mode)) {
+        free(found);
+        found = NULL;
+        errno = ENOTDIR;
+    }
+    if (!found)
+        say("%s: %s", folder, strerror(errno));
+    return found;
+}
+
 int main(int argc, char **argv)
 {
     struct options options = { .name = "docportal", .uid = geteuid(), .gid = getegid() };
@@ -691,15 +706,12 @@ int main(int argc, char **argv)
     read_words(argc, argv, &options);
     if (catch_signals() < 0)
         return STATUS_NO_MOUNT;
-    char *folder = realpath(options.folder, NULL);
-    if (!folder) {
-        say("%s: %s", options.folder, strerror(errno));
+    options.folder = find_folder(options.folder);
+    if (!options.folder)
         return STATUS_NO_MOUNT;
-    }
-    options.folder = folder;
     if (options.background && (waiter = go_to_background()) < 0)
         return STATUS_NO_MOUNT;
     enum ending ending = serve_on(&options, &carrier, &waiter);
-    free(folder);
+    free(options.folder);
     return status_of(&options, ending);
 }
