@@ -125,7 +125,7 @@ COMMANDS = [
     (ANEW + 'tee -a "$NOTES" <<< tea; tail -n1 "$FILES/notes.txt"', 0, "tea\ntea"),
     (ANEW + 'echo "on the host" > "$FILES/notes.txt"; cat "$NOTES"', 0, "on the host"),
     (ANEW + 'for line in 1 2 3; do echo $line; done > "$NOTES"; cat "$NOTES"', 0, "1\n2\n3"),
-    (ANEW + '(echo a; sync "$NOTES"; echo b) >> "$NOTES"; cat "$FILES/notes.txt"', 0, "hello\na\nb"),
+    (ANEW + '(echo a; sync "$NOTES"; echo b) >> "$NOTES"; cat "$NOTES"', 0, "hello\na\nb"),
     (MODES, 0, "one\nb'ONE\\ntwo\\nthree\\n'\nour\nFileExistsError"),
     (GAPS, 0, "10 b'\\x00\\x00\\x00\\x00\\x00end\\x00\\x00' b''"),
     (WRITTEN_MAP, 0, "01abc56789"),

@@ -41,6 +41,9 @@ static_assert(__BYTE_ORDER__ == __ORDER_LITTLE_ENDIAN__, "the service's frames a
 /* A frame's longest, which the service keeps too; the kernel asks for a buffer of 131,072 bytes
  * and the headers of a write. */
 #define FRAME_MOST 135168
+/* Bytes that the kernel asks for in one read, at most: with large pages it would ask for more than
+ * a frame holds. */
+#define READ_MOST 131072
 /* Bytes of a buffer: one frame that isn't whole, and what came with it. */
 #define BUFFER (4 * FRAME_MOST)
 /* Requests that are sent at once, in bytes, where the kernel has several. */
@@ -241,9 +244,9 @@ static int mount_by_helper(const struct options *options)
 {
     char how[512];
     int pair[2];
-    snprintf(how, sizeof how, "fsname=%s,subtype=docportal,nosuid,nodev%s%s%s", options->name,
-             options->allow_other ? ",allow_other" : "", options->read_only ? ",ro" : "",
-             options->no_exec ? ",noexec" : "");
+    snprintf(how, sizeof how, "fsname=%s,subtype=docportal,nosuid,nodev,max_read=%d%s%s%s",
+             options->name, READ_MOST, options->allow_other ? ",allow_other" : "",
+             options->read_only ? ",ro" : "", options->no_exec ? ",noexec" : "");
     char *words[] = { "fusermount3", "-o", how, "--", options->folder, NULL };
     if (socketpair(AF_UNIX, SOCK_STREAM | SOCK_CLOEXEC, 0, pair) < 0)
         return say("no socket for fusermount3: %s", strerror(errno));
@@ -267,8 +270,9 @@ static int mount_directly(const struct options *options)
     int kernel = open("/dev/fuse", O_RDWR | O_CLOEXEC);
     if (kernel < 0)
         return -1;
-    snprintf(how, sizeof how, "fd=%d,rootmode=%o,user_id=%u,group_id=%u%s", kernel, S_IFDIR,
-             options->uid, options->gid, options->allow_other ? ",allow_other" : "");
+    snprintf(how, sizeof how, "fd=%d,rootmode=%o,user_id=%u,group_id=%u,max_read=%d%s", kernel,
+             S_IFDIR, options->uid, options->gid, READ_MOST,
+             options->allow_other ? ",allow_other" : "");
     if (mount(options->name, options->folder, "fuse.docportal", flags, how) < 0) {
         int why = errno;
         close(kernel);
@@ -301,14 +305,18 @@ static dev_t device_of(const char *folder)
     return makedev(got.stx_dev_major, got.stx_dev_minor);
 }
 
-/* Unmounts a folder whose program is gone; what is open there gets ENOTCONN. One that another
- * program serves is left alone. */
-static void unmount_dead(const struct options *options)
+/* How a look at the folder fails: with ENOTCONN where what is mounted there has no program any
+ * more, or 0 where it doesn't fail. */
+static int fault_of(const char *folder)
 {
     struct stat got;
+    return stat(folder, &got) == 0 ? 0 : errno;
+}
+
+/* Unmounts the folder, whatever is open there. */
+static void unmount_lazily(const struct options *options)
+{
     char *words[] = { "fusermount3", "-u", "-q", "-z", "--", options->folder, NULL };
-    if (stat(options->folder, &got) == 0 || (errno != ENOTCONN && errno != EACCES))
-        return;
     if (umount2(options->folder, MNT_DETACH | UMOUNT_NOFOLLOW) < 0 && geteuid() != 0)
         run_helper(words, -1);
 }
@@ -525,15 +533,19 @@ static void tell_mounted(const struct options *options, int *waiter)
     int nowhere = open("/dev/null", O_RDWR | O_CLOEXEC);
     for (int stream = 0; stream < 3 && nowhere >= 0; stream++)
         dup2(nowhere, stream);
+    if (nowhere > 2)
+        close(nowhere);
     (void)!write(*waiter, "", 1);
     close(*waiter);
     *waiter = -1;
 }
 
-/* Mounts the folder on a new connection, and serves it until one of the two ends. */
+/* Mounts the folder on a new connection, and serves it until one of the two ends. A dead mount
+ * of an earlier run is taken away first. */
 static enum ending serve(const struct options *options, struct carrier *carrier, int *waiter)
 {
-    unmount_dead(options);
+    if (fault_of(options->folder) == ENOTCONN)
+        unmount_lazily(options);
     carrier->kernel = mount_folder(options);
     if (carrier->kernel < 0)
         return NO_MOUNT;
@@ -543,10 +555,11 @@ static enum ending serve(const struct options *options, struct carrier *carrier,
     carrier->answers.start = carrier->answers.end = 0;
     tell_mounted(options, waiter);
     enum ending ending = carry(carrier);
-    /* With its last descriptor the mount is dead: whatever waits for it ends with an error. */
+    /* With its last descriptor the mount is dead: whatever waits for it ends with an error. A
+     * live one that is there by now is another's. */
     close(carrier->kernel);
-    if (device_of(options->folder) == device)
-        unmount_dead(options);
+    if (device_of(options->folder) == device && fault_of(options->folder) != 0)
+        unmount_lazily(options);
     return ending;
 }
 
