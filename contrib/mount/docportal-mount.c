@@ -372,7 +372,7 @@ static enum ending send_requests(struct carrier *carrier)
 }
 
 /* Takes one request of the kernel's behind those that wait: its length, 0 where there is none,
- * or -1 where the mount has ended. */
+ * or -1 where none comes any more, with the reason in errno. */
 static ssize_t take_request(struct carrier *carrier)
 {
     struct fuse_in_header request;
@@ -382,8 +382,10 @@ static ssize_t take_request(struct carrier *carrier)
     if (count < 0)
         return errno == EAGAIN || errno == EINTR || errno == ENOENT ? 0 : -1;
     memcpy(&request, to, sizeof request);
-    if ((size_t)count < sizeof request || request.len != (size_t)count)
+    if ((size_t)count < sizeof request || request.len != (size_t)count) {
+        errno = EPROTO;
         return -1;
+    }
     if (is_of_service(carrier, &request))
         answer_nothing_there(carrier, &request);
     else
@@ -397,8 +399,9 @@ static enum ending carry_requests(struct carrier *carrier)
     struct waiting *out = &carrier->requests;
     while (out->start == 0 && out->end < BATCH) {
         ssize_t count = take_request(carrier);
+        /* Where the service's INIT asked for longer frames than this carries it is EINVAL. */
         if (count < 0)
-            return UNMOUNTED;
+            return errno == ENODEV || errno == ECONNABORTED ? UNMOUNTED : NO_FRAME;
         if (count == 0)
             break;
     }
@@ -414,7 +417,7 @@ static enum ending give_answer(struct carrier *carrier, const unsigned char *fra
     /* ENOENT: who asked doesn't wait for it any more. */
     if (errno == ENOENT || errno == EINTR || errno == EAGAIN)
         return NOT_YET;
-    return errno == ENODEV || errno == EPERM ? UNMOUNTED : NO_FRAME;
+    return errno == ENODEV || errno == ECONNABORTED ? UNMOUNTED : NO_FRAME;
 }
 
 static enum ending give_answers(struct carrier *carrier)
