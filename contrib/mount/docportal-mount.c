@@ -119,8 +119,10 @@ static int catch_signals(void)
         return say("no pipe: %s", strerror(errno));
     sigaction(SIGTERM, &action, NULL);
     sigaction(SIGINT, &action, NULL);
-    sigaction(SIGHUP, &action, NULL);
     signal(SIGPIPE, SIG_IGN);
+    /* (nohup asks for it not to be caught) */
+    if (signal(SIGHUP, SIG_IGN) != SIG_IGN)
+        sigaction(SIGHUP, &action, NULL);
     return 0;
 }
 
@@ -129,7 +131,11 @@ static bool wait_readable(int descriptor, int milliseconds)
 {
     struct pollfd on[] = { { .fd = ending_pipe[0], .events = POLLIN },
                            { .fd = descriptor, .events = POLLIN } };
-    return poll(on, 2, milliseconds) > 0 && !ended;
+    int ready;
+    do
+        ready = poll(on, 2, milliseconds);
+    while (ready < 0 && errno == EINTR && !ended);
+    return ready > 0 && !ended;
 }
 
 /* ---- the service */
@@ -288,7 +294,7 @@ static int mount_folder(const struct options *options)
 {
     int kernel = geteuid() == 0 ? mount_directly(options) : -1;
     if (kernel < 0 && geteuid() == 0 && errno != EPERM && errno != EACCES)
-        return say("%s: can't be mounted: %s", options->folder, strerror(errno));
+        return say("%s: can't be mounted by /dev/fuse: %s", options->folder, strerror(errno));
     if (kernel < 0)
         kernel = mount_by_helper(options);
     if (kernel >= 0)
@@ -651,6 +657,12 @@ static bool read_number(const char *word, unsigned *number)
     return true;
 }
 
+/* Whether a text can be the name of what is mounted, here and in the words for fusermount3. */
+static bool is_name(const char *text)
+{
+    return text && *text && strlen(text) <= 255 && !strchr(text, '\\');
+}
+
 static bool read_mount_options(char *words, struct options *options)
 {
     enum { ALLOW_OTHER, READ_ONLY, NO_EXEC, NAME, UID, GID };
@@ -664,7 +676,7 @@ static bool read_mount_options(char *words, struct options *options)
         case ALLOW_OTHER: options->allow_other = true; break;
         case READ_ONLY: options->read_only = true; break;
         case NO_EXEC: options->no_exec = true; break;
-        case NAME: fine = (options->name = value) && *value && !strchr(value, '\\'); break;
+        case NAME: fine = is_name(options->name = value); break;
         case UID: fine = geteuid() == 0 && read_number(value, &options->uid); break;
         case GID: fine = geteuid() == 0 && read_number(value, &options->gid); break;
         default: fine = false;
