@@ -77,6 +77,8 @@ fn number(
 fn needs_number(applications: &Applications, app: &AppId, rights: Rights) -> bool
     ensures { result ≡ (holds_any rights && not (is_numbered applications.now app.now)) }
 {
+    // In a valid state who has a right has a number, so one is given with the first right and not
+    // before.
     !rights.is_empty() && !has_number(applications, app)
 }
 
@@ -200,7 +202,7 @@ fn take_listed_back(
 }
 
 /// What was there before the rights of one file were given.
-#[derive(Clone, Copy, Debug, PartialEq, Eq)]
+#[derive(Clone, Copy, PartialEq, Eq)]
 pub(crate) struct GivenBoth {
     /// Of the caller, where that is an application.
     pub own: Option<Given>,

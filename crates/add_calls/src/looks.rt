@@ -16,7 +16,7 @@ use portal_model::request::AddRequest;
 use std::alloc::Global;
 
 /// What a tree showed at paths, one after another.
-#[derive(Debug, Drop)]
+#[derive(Drop)]
 pub struct Shown {
     /// What it showed, in the order of its calls.
     pub looks: List<Look>,
@@ -38,6 +38,7 @@ pub fn look_all<T: HostTree>(
         Asked (T.is tree.old) (length shown.looks) shown.failed (T.is tree.new)) }
     ensures err { OnErr result (T.is tree.new ≡ T.is tree.old) }
 {
+    // All memory for looks is taken before the tree is asked.
     let mut looks = Vec::with_capacity(alloc, paths.len())?;
     for path in paths {
         match tree.look(path) {

@@ -24,7 +24,7 @@ use portal_model::state::Document;
 use std::alloc::Global;
 
 /// What was drawn for the files of a call so far.
-#[derive(Debug, Drop)]
+#[derive(Drop)]
 pub struct Drawn {
     /// The words, one for each new document.
     pub words: List<u32>,
@@ -35,7 +35,7 @@ pub struct Drawn {
 }
 
 /// The files of a plan, placed.
-#[derive(Debug, Drop)]
+#[derive(Drop)]
 pub struct PlacedFiles {
     /// What was drawn for them.
     pub drawn: Drawn,
@@ -44,7 +44,7 @@ pub struct PlacedFiles {
 }
 
 /// What one file used, and what was there before its rights.
-#[derive(Clone, Copy, Debug, PartialEq, Eq)]
+#[derive(Clone, Copy, PartialEq, Eq)]
 pub(crate) struct Use {
     /// Its document.
     pub id: DocId,
@@ -150,6 +150,7 @@ fn take_back_from(
     }
     let item = &items[at];
     let used = uses[at];
+    // The last file goes first, so that each finds the lists as they were behind it.
     take_back_from(who, plan, at + 1, uses, documents, grants, applications);
     take_item_back(who, plan, item, used, documents, grants, applications);
 }
@@ -332,6 +333,8 @@ fn take_document_back(place: PlanUse, documents: &mut Documents, id: DocId)
     ensures { (a : AddRequest) (path : List ℕ) (before : DocumentList) →
         IsMade a path place id before documents.old → documents.new ≡ before }
 {
+    // A number that was drawn for a document which is taken back is no longer made; only its word
+    // is used up.
     if matches!(place, PlanUse::New) {
         documents.take_back(id);
     }

@@ -7,7 +7,7 @@ ghost use Rattle.dbus_auth.specs.Command.{command_of, is_hex_data, starts_hex_da
 
 /// The commands that the handshake tells apart (D-Bus Specification,
 /// "Authentication Protocol").
-#[derive(Clone, Copy, Debug, PartialEq, Eq)]
+#[derive(Clone, Copy, PartialEq, Eq)]
 pub enum Command {
     /// `AUTH EXTERNAL` with the client's identity in hexadecimal behind it.
     AuthExternalWithIdentity,
@@ -32,6 +32,8 @@ pub enum Command {
 pub fn read(line: &[u8]) -> Command
     ensures { result ≡ command_of line.now }
 {
+    // Data that isn't hexadecimal is no identity: such a line is AUTH and anything else. Digits of
+    // either case are taken.
     if starts_hex_data(line, b"AUTH EXTERNAL ") {
         Command::AuthExternalWithIdentity
     } else if line == b"AUTH EXTERNAL".as_slice() {

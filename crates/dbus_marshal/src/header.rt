@@ -7,13 +7,14 @@
 ghost use Rattle.std.specs.Prelude.{◌≡◌, ◌+◌, ◌-◌, ◌<◌, ◌≤◌, ◌^◌, ℕ, List, ◌++◌, length, take, drop, filter, IfOk};
 ghost use Rattle.dbus_types.specs.declared.types.Value.{Value as Value'};
 ghost use Rattle.dbus_types.specs.declared.types.Value.TheVariants as V;
-ghost use Rattle.dbus_types.specs.Spells.{Spells};
-ghost use Rattle.dbus_marshal.specs.Reads.{Gives, IsRead, after, elements, field_at, field_type, fields_type, fields_at, has_code_to, kept, sifted};
+ghost use Rattle.dbus_values.specs.Spells.{Spells};
+ghost use Rattle.dbus_basic.specs.Reading.{Gives, IsRead, after};
+ghost use Rattle.dbus_marshal.specs.Reads.{elements, field_at, field_type, fields_type, fields_at, has_code_to, kept, sifted};
 
 use crate::check::check_inside;
-use crate::error::ReadError;
-use crate::fields::{array_error, byte_at, number_32, skip_padding, taken};
-use crate::read::{LONGEST_ARRAY, read_inside, room_for};
+use crate::read::{LONGEST_ARRAY, array_error, read_inside, room_for};
+use dbus_basic::error::ReadError;
+use dbus_basic::fields::{byte_at, number_32, skip_padding, taken};
 use dbus_types::types::{Endian, Value};
 use portal_base::list::List;
 use std::alloc::Global;
@@ -26,9 +27,10 @@ const FIELD_ALIGNMENT: usize = 8;
 /// itself counted: it stands in the array, the struct and the variant.
 const MOST_VALUES_INSIDE: u32 = 62;
 
+// Contracts see the value that it is, so that definitions speak of `a(yv)` as of any other type.
 /// A field of a message's header, which contracts see as the struct of a byte
 /// and a variant that it is.
-#[derive(Debug, Drop)]
+#[derive(Drop)]
 pub struct HeaderField {
     /// The code of the field.
     pub code: u8,
@@ -67,6 +69,7 @@ fn read_field(
 {
     let start = skip_padding(bytes, at, FIELD_ALIGNMENT)?;
     let (code, middle) = byte_at(bytes, start)?;
+    // Nobody reads the value of such a field, so it is checked and not made.
     if highest < code {
         let next = check_inside(alloc, endian, bytes, middle, MOST_VALUES_INSIDE)?;
         return Ok((None, next));
@@ -131,7 +134,7 @@ fn read_array(
 }
 
 /// The fields of a header that were read.
-#[derive(Debug, Drop)]
+#[derive(Drop)]
 pub struct ReadHeader {
     /// The fields whose codes are at most as high as was asked, in their order.
     pub fields: List<HeaderField>,

@@ -10,17 +10,18 @@ ghost use Rattle.dbus_types.specs.declared.types.WireType.{out-WireType};
 ghost use Rattle.dbus_types.specs.declared.types.Endian.{Endian as Endian'};
 ghost use Rattle.dbus_types.specs.declared.types.WireType.TheOpen.{WireType-F};
 ghost use Rattle.dbus_types.specs.Types.{IsValidType};
-ghost use Rattle.dbus_types.specs.Values.{type_of, KeepsRules};
-ghost use Rattle.dbus_marshal.specs.declared.error.ReadError.{ReadError as ReadError'};
-ghost use Rattle.dbus_types.specs.Spells.{Spells};
+ghost use Rattle.dbus_values.specs.Values.{type_of, KeepsRules};
+ghost use Rattle.dbus_basic.specs.declared.error.ReadError.{ReadError as ReadError'};
+ghost use Rattle.dbus_values.specs.Spells.{Spells};
 ghost use Rattle.dbus_marshal.specs.Breaks.{Breaks};
-ghost use Rattle.dbus_marshal.specs.Reads.{Gives, IsRead, IsStopped, IsRefused, after, arrayed, inside_at, layer, members, elements, reads};
+ghost use Rattle.dbus_basic.specs.Reading.{Gives, IsRead, IsStopped, IsRefused, after};
+ghost use Rattle.dbus_marshal.specs.Reads.{array_error, arrayed, inside_at, layer, members, elements, reads};
 
-use crate::error::ReadError;
-use crate::fields::{array_error, byte_at, ended, number_32, skip_padding, taken};
 use crate::flat::read_flat;
 use crate::signature::type_at;
 use crate::skip::count_elements;
+use dbus_basic::error::ReadError;
+use dbus_basic::fields::{byte_at, ended, number_32, skip_padding, taken};
 use dbus_types::equal::is_byte;
 use dbus_types::layout::alignment_of;
 use dbus_types::shared::Shared;
@@ -39,6 +40,23 @@ pub(crate) const LONGEST_ARRAY: u32 = 67_108_864;
 /// Source: D-Bus Specification, "Marshaling (Wire Format)": a variant must not
 /// make the depth of the containers larger than 64.
 const MOST_VALUES: u32 = 65;
+
+/// Where the bytes end inside an array, they end at its length.
+pub(crate) fn array_error(error: ReadError) -> ReadError
+    ensures { result ≡ array_error error }
+{
+    match error {
+        ReadError::Short { at } => ReadError::BadArray { at },
+        ReadError::Padding { at } => ReadError::Padding { at },
+        ReadError::BadBool { at } => ReadError::BadBool { at },
+        ReadError::BadText { at } => ReadError::BadText { at },
+        ReadError::TooLong { at } => ReadError::TooLong { at },
+        ReadError::BadSignature { at } => ReadError::BadSignature { at },
+        ReadError::TooDeep { at } => ReadError::TooDeep { at },
+        ReadError::BadArray { at } => ReadError::BadArray { at },
+        ReadError::Memory => ReadError::Memory,
+    }
+}
 
 /// The value of a type at a place, with at most so many values in each other.
 #[cycle(read)]
@@ -88,6 +106,8 @@ fn read_array(
     ensures within { IfOk result (λ r. (at < r.1) × (r.1 ≤ length bytes.now)) }
 {
     let element = shared.get();
+    // The order of the checks is that of the bytes: the length, the padding ahead of the elements,
+    // whether as many bytes are there, and then the elements.
     let start = skip_padding(bytes, at, 4)?;
     let (count, begins) = number_32(endian, bytes, start)?;
     if LONGEST_ARRAY < count {
@@ -117,6 +137,7 @@ fn read_items(
         (drop at bytes.now))) }
 {
     let element = shared.get();
+    // Bytes are copied at once, and held packed.
     if is_byte(element) {
         let packed = read_bytes(alloc, &bytes[at..], at, depth)?;
         return Ok(Value::Bytes(packed));
@@ -162,6 +183,8 @@ fn read_elements(
         (elements (length (drop at bytes.now)) (reads depth endian element.now) at
         (drop at bytes.now)) }
 {
+    // The elements are counted first, by the lengths that stand ahead of them, so that their list
+    // has exactly as many places as there are elements.
     let count = count_elements(alloc, endian, bytes, at, element, depth);
     let mut items = room_for(alloc, count)?;
     let mut next = at;
@@ -192,6 +215,8 @@ fn read_struct(
         (layer (reads depth endian) endian (WireType-F.Struct kinds.now) at (drop at bytes.now)) }
     ensures within { IfOk result (λ r. (at < r.1) × (r.1 ≤ length bytes.now)) }
 {
+    // Any type may be asked for. Of those that break the rules of types only a struct without
+    // members has no row in the table of spellings.
     if kinds.is_empty() {
         return Err(ReadError::BadSignature { at });
     }
@@ -287,6 +312,7 @@ pub(crate) fn read_inside(
 {
     let (count, begins) = byte_at(bytes, at)?;
     let (signature, end) = taken(bytes, begins, count as usize)?;
+    // An empty signature goes wrong at its own start, and a second type where it begins.
     let kind = type_at(alloc, signature, begins)?;
     let start = ended(bytes, end, ReadError::BadSignature { at: end })?;
     read_within(alloc, endian, bytes, start, &kind, depth)

@@ -19,7 +19,7 @@ use std::marker::Model;
 ///
 /// Contracts see the list, the room for entries that was taken ahead, and the
 /// limit of the cost.
-#[derive(Debug, Drop)]
+#[derive(Drop)]
 pub struct History {
     entries: Vec<Entry>,
     cost: u64,
@@ -109,6 +109,7 @@ impl History {
           limit = self.old.limit;
         } }
     {
+        // Who pushes has taken the room ahead, so that nothing is left that may fail.
         self.cost += cost_of(&entry.request);
         self.entries.push_reserved(entry);
     }
