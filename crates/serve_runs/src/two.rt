@@ -2,11 +2,8 @@
 
 ghost use Rattle.std.specs.Prelude.{◌≡◌, ◌≤◌, [], vec_capacity, IfOk};
 ghost use Rattle.turn_desk.specs.Deals.{IsDealt, Stands};
-ghost use Rattle.turn_desk.specs.Sights.{Stays};
 
 use portal_core::storied::Storied;
-use portal_model::asked::Asked;
-use portal_model::request::Request;
 use std::alloc::Global;
 use turn_desk::end::close;
 use turn_desk::seats::{Pass, Turn};
@@ -69,19 +66,4 @@ pub fn close_two<S: Storied>(
     passes.push_reserved(second);
     passes.push_reserved(first);
     close(turn, passes)
-}
-
-/// Sits down, asks once, and leaves.
-pub fn ask_once<S: Storied>(
-    alloc: Global,
-    turn: &Turn<S>,
-    pass: Pass<S>,
-    request: Request,
-) -> (Pass<S>, Asked)
-    requires { pass.table ≡ turn.now.table }
-    ensures { Stays pass result.0 }
-{
-    let mut seat = pass.sit(turn);
-    let asked = seat.try_ask(alloc, request);
-    (seat.leave(), asked)
 }

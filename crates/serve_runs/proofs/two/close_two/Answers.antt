@@ -1,7 +1,7 @@
 use Rattle.std.proofs.Common.{◌≡◌, [], ◌∷◌, ◌++◌, ap, ◌∙◌}
 use Rattle.std.specs.Prelude.{slice_get}
-use Rattle.turn_runs.proofs.Twos.{all_two}
-use Rattle.turn_runs.proofs.two.close_two.Goals as goal
+use Rattle.serve_runs.proofs.Twos.{all_two}
+use Rattle.serve_runs.proofs.two.close_two.Goals as goal
 
 pub close-requires : goal.close-requires
 close-requires g c =

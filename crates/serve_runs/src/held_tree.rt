@@ -1,51 +1,54 @@
 //! A tree in which a call is held.
 
+use crate::hold::Steps;
 use host_tree::{AttrAnswer, HostTree, LookAnswer, TreeDone, TreeRead};
 use portal_base::files::FileName;
 use portal_base::names::HostPath;
-use std::sync::{Barrier, Wait};
+use std::time::Clock;
 
-/// Where a held call and another thread meet: as the call begins, and before it
-/// goes on.
+/// How far a thread has come whose call of the tree is held, and the one beside it.
 #[derive(Drop)]
-pub struct Gate {
+pub struct Meeting {
     /// The call has begun.
-    pub come: Barrier,
-    /// The call may go on.
-    pub go: Barrier,
+    pub come: Steps,
+    /// It may go on.
+    pub go: Steps,
+    /// It was answered.
+    pub done: Steps,
 }
 
-impl Gate {
-    /// A gate for two threads.
-    pub fn new() -> Gate {
-        Gate {
-            come: Barrier::new(2),
-            go: Barrier::new(2),
+impl Meeting {
+    /// No call has begun.
+    pub fn new() -> Meeting {
+        Meeting {
+            come: Steps::new(),
+            go: Steps::new(),
+            done: Steps::new(),
         }
     }
 }
 
-/// A tree whose first look is held.
+/// A tree whose first look may be held.
 #[derive(Drop)]
-pub struct HeldTree<'a, R: Wait, T: HostTree> {
-    /// What waits.
+pub struct HeldTree<'a, R: Clock, T: HostTree> {
+    /// What sleeps.
     pub rt: &'a R,
     /// Where it is held.
-    pub gate: &'a Gate,
-    /// Whether the next look is the first.
-    pub first: bool,
+    pub meeting: &'a Meeting,
+    /// Whether the next look is held.
+    pub held: bool,
     /// The tree.
     pub tree: T,
 }
 
-impl<'a, R: Wait, T: HostTree> HostTree for HeldTree<'a, R, T> {
+impl<'a, R: Clock, T: HostTree> HostTree for HeldTree<'a, R, T> {
     ghost is = { λ t. T.is t.tree };
 
     fn look(&mut self, path: &HostPath) -> LookAnswer {
-        if self.first {
-            self.first = false;
-            self.gate.come.wait(self.rt);
-            self.gate.go.wait(self.rt);
+        if self.held {
+            self.held = false;
+            self.meeting.come.step();
+            self.meeting.go.wait(self.rt);
         }
         self.tree.look(path)
     }

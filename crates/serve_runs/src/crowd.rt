@@ -3,15 +3,14 @@
 ghost use Rattle.std.specs.Prelude.{◌≡◌, ◌≤◌, [], vec_capacity};
 ghost use Rattle.turn_desk.specs.Sights.{Stays};
 
-use crate::two::{Two, close_two, start_two};
+use crate::two::{Two, close_two};
 use portal_core::storied::Storied;
-use portal_lines::{DOCUMENTS, PLENTY, limits, opened_by};
 use portal_model::asked::Asked;
 use portal_model::request::Request;
 use std::alloc::Global;
 use std::thread::{Threads, join};
 use turn_desk::seats::{Pass, Turn};
-use vector_lines::error::{VectorError, bad};
+use vector_lines::error::VectorError;
 
 /// How often each thread asks.
 const ROUNDS: u32 = 100_000;
@@ -36,35 +35,11 @@ pub struct Worked<S: Storied> {
 
 /// Whether the history is as long as the answers are many, and how often was
 /// asked.
-pub fn crowd<R: Threads + Sync>(rt: &R, alloc: Global) -> Result<String, VectorError> {
-    let portal = opened_by(alloc, b"", limits(DOCUMENTS, PLENTY))?;
-    crowd_over(rt, alloc, portal)
-}
-
-/// The same over any portal.
-fn crowd_over<S: Storied + Send + Drop, R: Threads + Sync>(
-    rt: &R,
-    alloc: Global,
-    portal: S,
-) -> Result<String, VectorError> {
-    match start_two(alloc, portal) {
-        Ok(two) => {
-            let (same, asked) = crowd_at(rt, alloc, two);
-            Ok(format!(in alloc; "an entry for each answer: {same}\nasked {asked}")?)
-        }
-        Err(portal) => {
-            drop(portal);
-            bad()
-        }
-    }
-}
-
-/// The same at a turn of two seats.
-fn crowd_at<S: Storied + Send + Drop, R: Threads + Sync>(
+pub fn crowd_at<S: Storied + Send + Drop, R: Threads + Sync>(
     rt: &R,
     alloc: Global,
     two: Two<S>,
-) -> (bool, u64)
+) -> Result<String, VectorError>
     requires turn { two.turn.seats ≡ 2 }
     requires first { (two.first.table ≡ two.turn.table) × (two.first.knows.number ≡ 1)
         × (two.first.knows.made ≡ 2) }
@@ -92,10 +67,20 @@ fn crowd_at<S: Storied + Send + Drop, R: Threads + Sync>(
     let answered = one.counts.answered.saturating_add(two.counts.answered);
     let busy = one.counts.busy.saturating_add(two.counts.busy);
     let portal = close_two(turn, room, one.pass, two.pass);
-    (
-        portal.entry_count() == answered,
-        answered.saturating_add(busy),
-    )
+    let entries = portal.entry_count();
+    drop(portal);
+    crowd_told(alloc, entries, answered, busy)
+}
+
+fn crowd_told(
+    alloc: Global,
+    entries: u64,
+    answered: u64,
+    busy: u64,
+) -> Result<String, VectorError> {
+    let same = entries == answered;
+    let asked = answered.saturating_add(busy);
+    Ok(format!(in alloc; "an entry for each answer: {same}\nasked {asked}")?)
 }
 
 /// Asks again and again.
