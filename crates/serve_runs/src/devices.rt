@@ -1,6 +1,7 @@
 //! What the runs stand over.
 
 ghost use Rattle.std.specs.Prelude.{◌≡◌, ◌<◌, ◌≤◌, ◌^◌, IfOk, length};
+ghost use Rattle.script_form.specs.Order.{script_limit};
 
 use crate::held_tree::{HeldTree, Meeting};
 use host_tree::MemoryTree;
@@ -8,7 +9,7 @@ use portal_base::limits::Settings;
 use portal_base::names::HostPath;
 use portal_base::outside::{ListWords, SetClock};
 use portal_core::portal::Portal;
-use portal_lines::{DOCUMENTS, LONGEST, PLENTY, limits};
+use portal_lines::{DOCUMENTS, PLENTY, limits};
 use record_keeper::MemoryKeeper;
 use script_form::devices::{ScriptDevices, devices_of};
 use script_form::reader::read_script;
@@ -28,7 +29,7 @@ pub type HeldPortal<'a, R> = Portal<RunTree<'a, R>, MemoryKeeper, SetClock, List
 
 /// The devices of a script.
 pub fn devices(alloc: Global, script: &[u8]) -> Result<ScriptDevices, VectorError>
-    requires { length script.now ≤ LONGEST }
+    requires { length script.now ≤ script_limit }
     ensures { IfOk result (λ devices. devices.tree.files ≡ devices.tree.began) }
 {
     let script = given(alloc, read_script(alloc, script))?;
@@ -45,7 +46,7 @@ pub fn held_portal<'a, R: Clock>(
     meeting: &'a Meeting,
     held: bool,
 ) -> Result<HeldPortal<'a, R>, VectorError>
-    requires { length script.now ≤ LONGEST }
+    requires { length script.now ≤ script_limit }
 {
     let ScriptDevices {
         tree,

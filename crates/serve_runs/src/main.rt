@@ -32,13 +32,13 @@ mod two;
 
 use crate::hold::Hold;
 use crate::served::served;
-use crate::turns::{Turns, turns};
+use crate::turns::{TurnRun, turns};
 use std::alloc::{AllocError, Global};
 use std::io;
 use vector_lines::error::VectorError;
 
 fn main(rt: HostRuntime) -> io::Result<()> {
-    for run in [Turns::Held, Turns::Crowd] {
+    for run in [TurnRun::Held, TurnRun::Crowd] {
         let text = shown(rt.alloc(), turns(&rt, rt.alloc(), run))?;
         println!(rt; "{text}")?;
     }

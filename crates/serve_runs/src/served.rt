@@ -49,7 +49,8 @@ fn served_at<R: Threads + Wait + Clock + Sync>(
     requires made { settings.now.limits.made < 2 ^ 32 }
     requires queued { settings.now.limits.queued < 2 ^ 32 }
 {
-    if posts.is_empty() || posts.len() > 2 {
+    let count = posts.len();
+    if count < 1 || count > 2 {
         drop(posts);
         return bad();
     }

@@ -13,7 +13,7 @@ use vector_lines::error::{VectorError, bad};
 
 /// What two seats do.
 #[derive(Clone, Copy)]
-pub enum Turns {
+pub enum TurnRun {
     /// One asks while a call of the other is held.
     Held,
     /// Both ask again and again.
@@ -24,12 +24,12 @@ pub enum Turns {
 pub fn turns<R: Threads + Clock + Sync>(
     rt: &R,
     alloc: Global,
-    run: Turns,
+    run: TurnRun,
 ) -> Result<String, VectorError> {
     let meeting = Meeting::new();
     let portal = match run {
-        Turns::Held => held_portal(rt, alloc, SCRIPT, &meeting, true),
-        Turns::Crowd => held_portal(rt, alloc, b"", &meeting, false),
+        TurnRun::Held => held_portal(rt, alloc, SCRIPT, &meeting, true),
+        TurnRun::Crowd => held_portal(rt, alloc, b"", &meeting, false),
     };
     match portal {
         Ok(portal) => turns_over(rt, alloc, &meeting, run, portal),
@@ -42,13 +42,13 @@ fn turns_over<S: Storied + Send + Drop, R: Threads + Clock + Sync>(
     rt: &R,
     alloc: Global,
     meeting: &Meeting,
-    run: Turns,
+    run: TurnRun,
     portal: S,
 ) -> Result<String, VectorError> {
     match start_two(alloc, portal) {
         Ok(two) => match run {
-            Turns::Held => held_at(rt, alloc, meeting, two),
-            Turns::Crowd => crowd_at(rt, alloc, two),
+            TurnRun::Held => held_at(rt, alloc, meeting, two),
+            TurnRun::Crowd => crowd_at(rt, alloc, two),
         },
         Err(portal) => {
             drop(portal);
