@@ -55,6 +55,7 @@ pub fn clock(alloc: Global, rest: &str) -> Result<String, VectorError> {
     let (first, second) = (clock.now(), clock.now());
     let (third, fourth) = (clock.now(), clock.now());
     let faults = clock.faults();
+    drop(clock);
     Ok(format!(in alloc; "{first} {second} {third} {fourth}, faults {faults}")?)
 }
 
@@ -76,19 +77,24 @@ fn seconds<R: time::Clock>(alloc: Global, rt: &R) -> Result<u64, VectorError> {
 
 /// `words`: whether four words of one seed are those of another.
 pub fn words<R: RandomSource>(rt: &R, alloc: Global) -> Result<String, VectorError> {
+    let words = drawn(rt, alloc)?;
+    let others = drawn(rt, alloc)?;
+    Ok(debug(alloc, &(words == others))?)
+}
+
+fn drawn<R: RandomSource>(rt: &R, alloc: Global) -> Result<[u32; 4], VectorError> {
     let mut words = given(alloc, SystemWords::open(rt))?;
-    let mut others = given(alloc, SystemWords::open(rt))?;
-    let mut alike = true;
-    for _ in 0..4 {
-        alike = words.next() == others.next() && alike;
-    }
-    Ok(debug(alloc, &alike)?)
+    Ok([words.next(), words.next(), words.next(), words.next()])
 }
 
 /// `no-words`: what is said where there are no random bytes.
 pub fn no_words(alloc: Global) -> Result<String, VectorError> {
     match SystemWords::open(&NoBytes) {
         Ok(_) => Ok(String::from_str(alloc, "words")?),
-        Err(error) => Ok(format!(in alloc; "{error}")?),
+        Err(error) => {
+            let told = format!(in alloc; "{error}");
+            drop(error);
+            Ok(told?)
+        }
     }
 }

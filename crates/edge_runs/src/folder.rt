@@ -18,6 +18,8 @@ pub fn link<R: Files>(rt: &R, alloc: Global, rest: &str) -> Result<String, Vecto
 pub fn file<R: Files>(rt: &R, alloc: Global, path: &str) -> Result<String, VectorError> {
     let mut file = given(alloc, File::open(rt, path))?;
     let mut bytes = Vec::new(alloc);
-    given(alloc, file.read_to_end(&mut bytes))?;
+    let read = file.read_to_end(&mut bytes);
+    drop(file);
+    given(alloc, read)?;
     Ok(String::from_utf8_lossy(alloc, bytes.as_slice())?)
 }

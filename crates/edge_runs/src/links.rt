@@ -1,6 +1,6 @@
 //! Links over Unix sockets.
 
-use portal_base::outside::{ReadAnswer, Sink, Source};
+use portal_base::outside::{ReadAnswer, Sink, Source, WriteAnswer};
 use std::alloc::Global;
 use std::cell::Cell;
 use std::fs::Files;
@@ -19,7 +19,11 @@ use worker_gate::listener::{Accepted, Listener};
 pub fn bind<R: Files + Net>(rt: &R, alloc: Global, path: &str) -> Result<String, VectorError> {
     match SocketListener::bind(rt, path) {
         Ok(_) => mode(rt, alloc, path),
-        Err(error) => Ok(format!(in alloc; "{error}")?),
+        Err(error) => {
+            let told = format!(in alloc; "{error}");
+            drop(error);
+            Ok(told?)
+        }
     }
 }
 
@@ -32,8 +36,10 @@ fn mode<R: Files>(rt: &R, alloc: Global, path: &str) -> Result<String, VectorErr
 
 /// `live PATH`: what a second listener at a path is told while the first is there.
 pub fn live<R: Files + Net>(rt: &R, alloc: Global, path: &str) -> Result<String, VectorError> {
-    let _first = given(alloc, SocketListener::bind(rt, path))?;
-    bind(rt, alloc, path)
+    let first = given(alloc, SocketListener::bind(rt, path))?;
+    let told = bind(rt, alloc, path);
+    drop(first);
+    told
 }
 
 /// `talk PATH TEXT ANSWER`: what a client and the service hear of each other, over a
@@ -42,19 +48,62 @@ pub fn talk<R: Files + Net>(rt: &R, alloc: Global, rest: &str) -> Result<String,
     let (path, rest) = cut(rest);
     let (text, answer) = cut(rest);
     let listener = given(alloc, SocketListener::bind(rt, path))?;
-    let mut shared = given(alloc, listener.share())?;
-    let mut client = given(alloc, UnixStream::connect(rt, path))?;
-    given(alloc, client.write_all(text.as_bytes()))?;
-    let Accepted::Link {
-        mut source,
-        mut sink,
-    } = shared.accept(alloc)
-    else {
-        return bad();
+    let shared = given(alloc, listener.share());
+    let told = match shared {
+        Ok(mut shared) => {
+            let told = talk_at(rt, alloc, &mut shared, path, text, answer);
+            drop(shared);
+            told
+        }
+        Err(error) => Err(error),
     };
-    let heard = heard(alloc, &mut source)?;
-    let written = sink.write(answer.as_bytes());
-    shared.done(source, sink);
+    drop(listener);
+    told
+}
+
+fn talk_at<R: Net, L: Listener>(
+    rt: &R,
+    alloc: Global,
+    listener: &mut L,
+    path: &str,
+    text: &str,
+    answer: &str,
+) -> Result<String, VectorError> {
+    let mut client = given(alloc, UnixStream::connect(rt, path))?;
+    let told = answered(alloc, listener, &mut client, text, answer);
+    drop(client);
+    told
+}
+
+fn answered<L: Listener>(
+    alloc: Global,
+    listener: &mut L,
+    client: &mut UnixStream,
+    text: &str,
+    answer: &str,
+) -> Result<String, VectorError> {
+    given(alloc, client.write_all(text.as_bytes()))?;
+    match listener.accept(alloc) {
+        Accepted::Link {
+            mut source,
+            mut sink,
+        } => {
+            let heard = heard(alloc, &mut source);
+            let written = sink.write(answer.as_bytes());
+            listener.done(source, sink);
+            both_heard(alloc, heard, written, client)
+        }
+        Accepted::Closed | Accepted::Failed | Accepted::Memory => bad(),
+    }
+}
+
+fn both_heard(
+    alloc: Global,
+    heard: Result<String, VectorError>,
+    written: WriteAnswer,
+    client: &mut UnixStream,
+) -> Result<String, VectorError> {
+    let heard = heard?;
     let mut bytes = Vec::new(alloc);
     given(alloc, client.read_to_end(&mut bytes))?;
     let told = String::from_utf8_lossy(alloc, bytes.as_slice())?;
@@ -66,21 +115,46 @@ pub fn talk<R: Files + Net>(rt: &R, alloc: Global, rest: &str) -> Result<String,
 pub fn leave<R: Files + Net>(rt: &R, alloc: Global, rest: &str) -> Result<String, VectorError> {
     let (path, text) = cut(rest);
     let mut listener = given(alloc, SocketListener::bind(rt, path))?;
-    {
-        let mut client = given(alloc, UnixStream::connect(rt, path))?;
-        given(alloc, client.write_all(text.as_bytes()))?;
-    }
-    let Accepted::Link {
-        mut source,
-        mut sink,
-    } = listener.accept(alloc)
-    else {
-        return bad();
+    let told = match send(rt, alloc, path, text) {
+        Ok(()) => left(alloc, &mut listener),
+        Err(error) => Err(error),
     };
-    let first = heard(alloc, &mut source)?;
-    let second = heard(alloc, &mut source)?;
-    let written = sink.write(b"late");
-    listener.done(source, sink);
+    drop(listener);
+    told
+}
+
+/// A client sends a text, and leaves.
+fn send<R: Net>(rt: &R, alloc: Global, path: &str, text: &str) -> Result<(), VectorError> {
+    let mut client = given(alloc, UnixStream::connect(rt, path))?;
+    let sent = client.write_all(text.as_bytes());
+    drop(client);
+    given(alloc, sent)
+}
+
+fn left<L: Listener>(alloc: Global, listener: &mut L) -> Result<String, VectorError> {
+    match listener.accept(alloc) {
+        Accepted::Link {
+            mut source,
+            mut sink,
+        } => {
+            let first = heard(alloc, &mut source);
+            let second = heard(alloc, &mut source);
+            let written = sink.write(b"late");
+            listener.done(source, sink);
+            left_told(alloc, first, second, written)
+        }
+        Accepted::Closed | Accepted::Failed | Accepted::Memory => bad(),
+    }
+}
+
+fn left_told(
+    alloc: Global,
+    first: Result<String, VectorError>,
+    second: Result<String, VectorError>,
+    written: WriteAnswer,
+) -> Result<String, VectorError> {
+    let first = first?;
+    let second = second?;
     Ok(format!(in alloc; "heard {first}, {second}, {written:?}")?)
 }
 
@@ -123,5 +197,9 @@ pub fn patient(alloc: Global) -> Result<String, VectorError> {
         times: Cell::new(2),
     });
     let mut buffer = [0; 4];
-    Ok(debug(alloc, &reader.read(&mut buffer))?)
+    let read = reader.read(&mut buffer);
+    drop(reader);
+    let told = debug(alloc, &read);
+    drop(read);
+    Ok(told?)
 }

@@ -14,10 +14,15 @@ use vector_lines::notation::{bytes, cut, debug, digits, number, small_number};
 pub fn tree<R: Files>(rt: &R, alloc: Global, rest: &str) -> Result<String, VectorError> {
     let (root, steps) = cut(rest);
     let mut tree = given(alloc, RealTree::open(rt, alloc, root))?;
+    let told = answers(alloc, &mut tree, steps);
+    drop(tree);
+    told
+}
+
+fn answers<T: HostTree>(alloc: Global, tree: &mut T, steps: &str) -> Result<String, VectorError> {
     let mut out = String::new(alloc);
     for step in steps.split(',') {
-        let (kind, rest) = cut(step.trim());
-        out.push_str(answer(alloc, &mut tree, kind, rest)?.as_str())?;
+        out.push_str(answer(alloc, tree, step.trim())?.as_str())?;
         out.push_str("; ")?;
     }
     Ok(out)
@@ -28,36 +33,53 @@ pub fn tree<R: Files>(rt: &R, alloc: Global, rest: &str) -> Result<String, Vecto
 pub fn gone<R: Files>(rt: &R, alloc: Global, rest: &str) -> Result<String, VectorError> {
     let (root, away) = cut(rest);
     let mut tree = given(alloc, RealTree::open(rt, alloc, root))?;
+    let told = answer_away(rt, alloc, &mut tree, root, away);
+    drop(tree);
+    told
+}
+
+fn answer_away<R: Files, T: HostTree>(
+    rt: &R,
+    alloc: Global,
+    tree: &mut T,
+    root: &str,
+    away: &str,
+) -> Result<String, VectorError> {
     given(alloc, fs::rename(rt, root, away))?;
-    let mut out = answer(alloc, &mut tree, "look", "/")?;
+    let mut out = answer(alloc, tree, "look /")?;
     given(alloc, fs::rename(rt, away, root))?;
     out.push_str("; ")?;
-    out.push_str(answer(alloc, &mut tree, "look", "/")?.as_str())?;
+    out.push_str(answer(alloc, tree, "look /")?.as_str())?;
     Ok(out)
 }
 
 /// `look PATH`, `create PATH NOW`; and of the file of a path `attr PATH`, `later
 /// PATH`, which asks for its generation 1, `read PATH OFFSET SIZE`, and a change.
-fn answer<T: HostTree>(
+fn answer<T: HostTree>(alloc: Global, tree: &mut T, step: &str) -> Result<String, VectorError> {
+    let (kind, rest) = cut(step);
+    let (path, rest) = cut(rest);
+    let file = FileName {
+        path: given(alloc, HostPath::read(alloc, path.as_bytes()))?,
+        generation: u64::from(kind == "later"),
+    };
+    let told = answer_of(alloc, tree, kind, &file, rest);
+    drop(file);
+    told
+}
+
+fn answer_of<T: HostTree>(
     alloc: Global,
     tree: &mut T,
     kind: &str,
+    file: &FileName,
     rest: &str,
 ) -> Result<String, VectorError> {
-    let (path, rest) = cut(rest);
-    let path = given(alloc, HostPath::read(alloc, path.as_bytes()))?;
-    if kind == "look" {
-        return Ok(debug(alloc, &tree.look(&path))?);
-    }
-    if kind == "create" {
-        return Ok(debug(alloc, &tree.create(&path, number(rest)?))?);
-    }
-    let generation = u64::from(kind == "later");
-    let file = FileName { path, generation };
     match kind {
-        "attr" | "later" => Ok(debug(alloc, &tree.attr(&file))?),
-        "read" => read(alloc, tree, &file, rest),
-        _ => Ok(debug(alloc, &change(alloc, tree, kind, &file, rest)?)?),
+        "look" => Ok(debug(alloc, &tree.look(&file.path))?),
+        "create" => Ok(debug(alloc, &tree.create(&file.path, number(rest)?))?),
+        "attr" | "later" => Ok(debug(alloc, &tree.attr(file))?),
+        "read" => read(alloc, tree, file, rest),
+        _ => Ok(debug(alloc, &change(alloc, tree, kind, file, rest)?)?),
     }
 }
 
@@ -69,12 +91,19 @@ fn read<T: HostTree>(
     rest: &str,
 ) -> Result<String, VectorError> {
     let (offset, size) = cut(rest);
-    match tree.read(file, number(offset)?, small_number(size)?) {
+    let answer = tree.read(file, number(offset)?, small_number(size)?);
+    let told = read_told(alloc, &answer);
+    drop(answer);
+    told
+}
+
+fn read_told(alloc: Global, answer: &TreeRead) -> Result<String, VectorError> {
+    match answer {
         TreeRead::Got(bytes) => {
             let text = digits(alloc, bytes.as_slice())?;
             Ok(format!(in alloc; "Got({text})")?)
         }
-        answer => Ok(debug(alloc, &answer)?),
+        _ => Ok(debug(alloc, answer)?),
     }
 }
 

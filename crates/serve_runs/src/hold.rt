@@ -1,4 +1,4 @@
-//! A gate that holds workers.
+//! What holds threads until others have come so far.
 
 use std::fmt::{Display, Formatter, Write};
 use std::sync::atomic::{AtomicBool, AtomicU64, Ordering};
@@ -6,15 +6,53 @@ use std::time::{Clock, Duration};
 use std::{fmt, thread};
 use worker_gate::gate::{Gate, Point};
 
-/// How often a held worker sleeps at most.
+/// How often a held thread sleeps at most.
 const TURNS: u32 = 10_000;
 
 /// For how many milliseconds it sleeps each time.
 const TURN: u64 = 1;
 
+/// How often something was done.
+#[derive(Drop)]
+pub struct Steps {
+    count: AtomicU64,
+}
+
+impl Steps {
+    /// Nothing was done.
+    pub fn new() -> Steps {
+        Steps {
+            count: AtomicU64::new(0),
+        }
+    }
+
+    /// Counts one more, and tells which it is, from 1.
+    pub fn step(&self) -> u64 {
+        self.count.fetch_add(1, Ordering::SeqCst).saturating_add(1)
+    }
+
+    /// Says whether it was done.
+    pub fn came(&self) -> bool {
+        self.count.load(Ordering::SeqCst) > 0
+    }
+
+    /// Holds a thread until it was done. It says whether that came in time.
+    pub fn wait<R: Clock>(&self, rt: &R) -> bool {
+        for _ in 0..TURNS {
+            if self.came() {
+                return true;
+            }
+            thread::sleep(rt, Duration::from_millis(TURN));
+        }
+        false
+    }
+}
+
 /// Which of two workers is held, and until what.
-#[derive(Clone, Copy, Debug, PartialEq, Eq)]
+#[derive(Clone, Copy)]
 pub enum Hold {
+    /// Nobody.
+    Nobody,
     /// Each at its first request, until the other is at its own first.
     AtFirst,
     /// One at its second request, until the other has written a piece.
@@ -27,6 +65,7 @@ pub enum Hold {
 impl Display for Hold {
     fn fmt<W: Write>(&self, f: &mut Formatter<W>) -> fmt::Result {
         match self {
+            Hold::Nobody => f.write_str("a message that waits for the handshake's answer"),
             Hold::AtFirst => f.write_str("each is held at its first request"),
             Hold::AtSecond { worker } => {
                 write!(f, "worker {worker} is held at its second request")
@@ -38,8 +77,17 @@ impl Display for Hold {
 /// How far a worker has come.
 #[derive(Drop)]
 struct Progress {
-    requests: AtomicU64,
-    pieces: AtomicU64,
+    requests: Steps,
+    pieces: Steps,
+}
+
+impl Progress {
+    fn new() -> Progress {
+        Progress {
+            requests: Steps::new(),
+            pieces: Steps::new(),
+        }
+    }
 }
 
 /// A gate that holds two workers.
@@ -50,15 +98,6 @@ pub struct HoldGate<'a, R: Clock> {
     first: Progress,
     second: Progress,
     ran_out: AtomicBool,
-}
-
-impl Progress {
-    fn new() -> Progress {
-        Progress {
-            requests: AtomicU64::new(0),
-            pieces: AtomicU64::new(0),
-        }
-    }
 }
 
 impl<'a, R: Clock> HoldGate<'a, R> {
@@ -78,26 +117,18 @@ impl<'a, R: Clock> HoldGate<'a, R> {
         self.ran_out.load(Ordering::SeqCst)
     }
 
-    /// Says whether a worker need not be held any more at its request of this
-    /// number.
-    fn may_pass(&self, worker: u32, request: u64, other: &Progress) -> bool {
-        match self.hold {
-            Hold::AtFirst => request != 1 || other.requests.load(Ordering::SeqCst) > 0,
-            Hold::AtSecond { worker: held } => {
-                worker != held || request != 2 || other.pieces.load(Ordering::SeqCst) > 0
+    /// Holds a worker at its request of this number, where that is to be held.
+    fn hold_back(&self, worker: u32, request: u64, other: &Progress) {
+        let in_time = match self.hold {
+            Hold::AtFirst if request == 1 => other.requests.wait(self.rt),
+            Hold::AtSecond { worker: held } if worker == held && request == 2 => {
+                other.pieces.wait(self.rt)
             }
+            _ => true,
+        };
+        if !in_time {
+            self.ran_out.store(true, Ordering::SeqCst);
         }
-    }
-
-    /// Holds a worker at its request of this number.
-    fn wait(&self, worker: u32, request: u64, other: &Progress) {
-        for _ in 0..TURNS {
-            if self.may_pass(worker, request, other) {
-                return;
-            }
-            thread::sleep(self.rt, Duration::from_millis(TURN));
-        }
-        self.ran_out.store(true, Ordering::SeqCst);
     }
 }
 
@@ -110,11 +141,11 @@ impl<'a, R: Clock> Gate for HoldGate<'a, R> {
         };
         match point {
             Point::Read => {
-                let before = own.requests.fetch_add(1, Ordering::SeqCst);
-                self.wait(worker, before.saturating_add(1), other);
+                let request = own.requests.step();
+                self.hold_back(worker, request, other);
             }
             Point::Written => {
-                own.pieces.fetch_add(1, Ordering::SeqCst);
+                own.pieces.step();
             }
         }
     }

@@ -1,7 +1,11 @@
-//! Workers at posts, over portals in memory.
+//! Seats and workers in threads, over portals in memory.
 //!
 //! What is printed of the runs is the same whatever the threads do:
 //!
+//! - while a call of the tree is held that seat 1 asked for, seat 2 is told that
+//!   seat 1 holds the turn and gets its request back; asked again, that is answered;
+//! - two threads ask 200,000 times between them: the history is as long as the
+//!   number of answers;
 //! - three times two mounts are served, on each of which GETATTR is asked behind
 //!   Enter, and workers are held: each at its first request until the other is at
 //!   its own; the first at its second request until the other has answered; and
@@ -14,32 +18,41 @@
 //! before it answers finds a message that doesn't come.
 #![tactic(auto)]
 
+mod crowd;
 mod devices;
+mod held;
+mod held_tree;
 mod hold;
-mod mounts;
+mod links;
+mod posts;
 mod served;
 mod told;
-mod waiting;
+mod turns;
+mod two;
 
 use crate::hold::Hold;
-use crate::mounts::mounts;
-use crate::waiting::waiting;
+use crate::served::served;
+use crate::turns::{TurnRun, turns};
 use std::alloc::{AllocError, Global};
 use std::io;
 use vector_lines::error::VectorError;
 
 fn main(rt: HostRuntime) -> io::Result<()> {
+    for run in [TurnRun::Held, TurnRun::Crowd] {
+        let text = shown(rt.alloc(), turns(&rt, rt.alloc(), run))?;
+        println!(rt; "{text}")?;
+    }
     for hold in [
         Hold::AtFirst,
         Hold::AtSecond { worker: 1 },
         Hold::AtSecond { worker: 2 },
+        Hold::Nobody,
     ] {
         println!(rt; "{hold}")?;
-        let text = shown(rt.alloc(), mounts(&rt, rt.alloc(), hold))?;
+        let text = shown(rt.alloc(), served(&rt, rt.alloc(), hold))?;
         println!(rt; "{text}")?;
     }
-    let text = shown(rt.alloc(), waiting(&rt, rt.alloc()))?;
-    println!(rt; "a message that waits for the handshake's answer\n{text}")
+    Ok(())
 }
 
 /// What a run told, or why it didn't end.

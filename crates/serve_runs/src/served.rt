@@ -1,44 +1,110 @@
-//! Posts in memory, served over the devices of every run.
+//! Services in memory, whose workers are held.
 
-ghost use Rattle.std.specs.Prelude.{◌≤◌, length};
+ghost use Rattle.std.specs.Prelude.{◌≡◌, ◌≤◌, ◌<◌, ◌^◌, length};
 
-use crate::devices::{devices, settings};
-use crate::told::{Shown, tell};
+use crate::devices::{SCRIPT, devices, settings};
+use crate::held_tree::{HeldTree, Meeting};
+use crate::hold::{Hold, HoldGate, Steps};
+use crate::posts::{Posts, put_posts};
+use crate::told::tell;
+use portal_base::limits::Settings;
 use portal_base::list::List;
-use portal_base::outside::{SetClock, Sink, Source};
+use portal_base::outside::SetClock;
 use script_form::devices::ScriptDevices;
 use serve_posts::serve::serve;
 use std::alloc::Global;
 use std::sync::Wait;
 use std::thread::Threads;
-use vector_lines::error::VectorError;
-use worker_gate::gate::Gate;
-use worker_gate::in_memory::MemoryListener;
-use worker_gate::worker::Post;
+use std::time::Clock;
+use vector_lines::error::{VectorError, bad};
 
-/// What the posts are answered, while a gate holds their workers.
-pub fn served<R, S, K, G>(
-    alloc: Global,
+/// What the posts of a service are answered, whose workers are held so.
+pub fn served<R: Threads + Wait + Clock + Sync>(
     rt: &R,
-    posts: List<Post<MemoryListener<S, K>>>,
-    gate: &G,
-) -> Result<String, VectorError>
-where
-    R: Threads + Wait + Sync,
-    S: Source + Send + Drop,
-    K: Sink + Shown + Send + Drop,
-    G: Gate + Sync,
-    requires { (1 ≤ length posts) × (length posts ≤ 65535) }
-{
+    alloc: Global,
+    hold: Hold,
+) -> Result<String, VectorError> {
     let settings = settings(alloc)?;
+    let answered = Steps::new();
+    let gate = HoldGate::new(rt, hold);
+    let mut posts = List::new(alloc);
+    let told = match put_posts(alloc, &mut posts, &answered, hold) {
+        Ok(()) => served_at(rt, alloc, posts, &settings, &gate),
+        Err(error) => {
+            drop(posts);
+            Err(error)
+        }
+    };
+    with_end(alloc, told, gate.ran_out())
+}
+
+/// The same of two posts, or of one.
+fn served_at<R: Threads + Wait + Clock + Sync>(
+    rt: &R,
+    alloc: Global,
+    posts: Posts<'_>,
+    settings: &Settings,
+    gate: &HoldGate<'_, R>,
+) -> Result<String, VectorError>
+    requires made { settings.now.limits.made < 2 ^ 32 }
+    requires queued { settings.now.limits.queued < 2 ^ 32 }
+{
+    let count = posts.len();
+    if count < 1 || count > 2 {
+        drop(posts);
+        return bad();
+    }
+    match devices(alloc, SCRIPT) {
+        Ok(devices) => served_over(rt, alloc, posts, devices, settings, gate),
+        Err(error) => {
+            drop(posts);
+            Err(error)
+        }
+    }
+}
+
+/// The same over devices.
+fn served_over<R: Threads + Wait + Clock + Sync>(
+    rt: &R,
+    alloc: Global,
+    posts: Posts<'_>,
+    devices: ScriptDevices,
+    settings: &Settings,
+    gate: &HoldGate<'_, R>,
+) -> Result<String, VectorError>
+    requires count { (1 ≤ length posts) × (length posts ≤ 65535) }
+    requires made { settings.now.limits.made < 2 ^ 32 }
+    requires queued { settings.now.limits.queued < 2 ^ 32 }
+    requires told { devices.tree.files ≡ devices.tree.began }
+{
     let ScriptDevices {
         tree,
         keeper,
         words,
-    } = devices(alloc)?;
+    } = devices;
+    let meeting = Meeting::new();
+    let tree = HeldTree {
+        rt,
+        meeting: &meeting,
+        held: false,
+        tree,
+    };
     let clock = SetClock::new(0);
-    let status = serve(
-        alloc, rt, posts, tree, keeper, clock, words, &settings, gate,
-    );
-    tell(alloc, status)
+    let status = serve(alloc, rt, posts, tree, keeper, clock, words, settings, gate);
+    let told = tell(alloc, &status);
+    drop(status);
+    told
+}
+
+/// What was told, and whether a hold ran out.
+fn with_end(
+    alloc: Global,
+    told: Result<String, VectorError>,
+    ran_out: bool,
+) -> Result<String, VectorError> {
+    let told = told?;
+    if ran_out {
+        return Ok(format!(in alloc; "a hold ran out\n{told}")?);
+    }
+    Ok(told)
 }

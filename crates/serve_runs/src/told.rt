@@ -1,43 +1,22 @@
-//! What a run tells.
+//! What a service tells.
 
-use host_tree::MemoryTree;
+use crate::links::Links;
+use host_tree::HostTree;
 use portal_base::list::ByteList;
-use portal_base::outside::{ListWords, MemorySink, SetClock, Sink, Source};
+use portal_base::outside::{Clock, Words};
 use portal_model::entry::Entry;
-use record_keeper::MemoryKeeper;
+use record_keeper::Keeper;
 use serve_posts::status::ServeStatus;
 use std::alloc::Global;
 use std::fmt::Write;
 use vector_lines::error::{VectorError, bad};
 use vector_lines::notation::{debug, digits};
-use worker_gate::in_memory::MemoryListener;
 use worker_gate::worker::{Post, WorkEnd};
 
-/// What serving links in memory over devices in memory came to.
-pub type LinksStatus<S, K> = ServeStatus<
-    MemoryListener<S, K>,
-    MemoryTree,
-    MemoryKeeper,
-    SetClock,
-    ListWords,
->;
-
-/// A sink that shows its pieces.
-pub trait Shown {
-    /// The pieces that were written.
-    fn pieces(&self) -> &[ByteList];
-}
-
-impl Shown for MemorySink {
-    fn pieces(&self) -> &[ByteList] {
-        MemorySink::pieces(self).as_slice()
-    }
-}
-
 /// How each worker ended, what its links were answered, and what its seat asked.
-pub fn tell<S: Source + Drop, K: Sink + Shown + Drop>(
+pub fn tell<T: HostTree, K: Keeper, C: Clock, W: Words>(
     alloc: Global,
-    status: LinksStatus<S, K>,
+    status: &ServeStatus<Links<'_>, T, K, C, W>,
 ) -> Result<String, VectorError> {
     match status {
         ServeStatus::Ended {
@@ -55,9 +34,9 @@ pub fn tell<S: Source + Drop, K: Sink + Shown + Drop>(
     }
 }
 
-fn tell_all<S: Source, K: Sink + Shown>(
+fn tell_all(
     alloc: Global,
-    posts: &[Post<MemoryListener<S, K>>],
+    posts: &[Post<Links<'_>>],
     ends: &[WorkEnd],
     entries: &[Entry],
 ) -> Result<String, VectorError> {

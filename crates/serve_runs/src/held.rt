@@ -1,0 +1,155 @@
+//! A seat is busy while a call of another is held.
+
+ghost use Rattle.std.specs.Prelude.{◌≡◌};
+ghost use Rattle.turn_desk.specs.Sights.{Stays};
+
+use crate::held_tree::Meeting;
+use crate::two::Two;
+use portal_base::who::{Kind, Who};
+use portal_core::storied::Storied;
+use portal_model::asked::Asked;
+use portal_model::request::{NodeOp, NodeRequest, Request};
+use std::alloc::{AllocError, Global};
+use std::thread::{Threads, join};
+use std::time::Clock;
+use turn_desk::seats::{Pass, Seat, Turn};
+use vector_lines::error::{VectorError, bad};
+use vector_lines::notation::debug;
+
+/// The node of the document's file, as the host sees it.
+const NODE: u64 = 8_589_934_602;
+
+/// What seat 2 is answered while a look is held that seat 1 asked for, then
+/// what it is answered to the same request, and how long the history is.
+pub fn held_at<S: Storied + Send + Drop, R: Threads + Clock + Sync>(
+    rt: &R,
+    alloc: Global,
+    meeting: &Meeting,
+    two: Two<S>,
+) -> Result<String, VectorError>
+    requires first { two.first.table ≡ two.turn.table }
+    requires second { two.second.table ≡ two.turn.table }
+{
+    let Two {
+        turn,
+        first,
+        second,
+        room: _,
+    } = two;
+    let shared = &turn;
+    let first = enter(alloc, shared, first);
+    let second = enter(alloc, shared, second);
+    let (one, two) = join(
+        rt,
+        move || -> Result<String, AllocError>
+            requires { first.table ≡ shared.now.table }
+        { ask_held(alloc, meeting, shared, first) },
+        move || -> Result<String, VectorError>
+            requires { second.table ≡ shared.now.table }
+        { ask_meanwhile(rt, alloc, meeting, shared, second) },
+    );
+    in_lines(alloc, one, two)
+}
+
+/// A mount of the host is opened.
+fn enter<S: Storied>(alloc: Global, turn: &Turn<S>, pass: Pass<S>) -> Pass<S>
+    requires { pass.table ≡ turn.now.table }
+    ensures { Stays pass result }
+{
+    let mut seat = pass.sit(turn);
+    let enter = Request::Enter {
+        who: Who::Host,
+        kind: Kind::Mount,
+    };
+    drop(seat.try_ask(alloc, enter));
+    seat.leave()
+}
+
+/// The attributes of the document's file.
+fn attributes() -> Request {
+    Request::Node(NodeRequest {
+        node: NODE,
+        uid: 1000,
+        gid: 1000,
+        op: NodeOp::GetAttr { flags: 0, fh: 0 },
+    })
+}
+
+/// What the seat is answered whose call is held.
+fn ask_held<S: Storied>(
+    alloc: Global,
+    meeting: &Meeting,
+    turn: &Turn<S>,
+    pass: Pass<S>,
+) -> Result<String, AllocError>
+    requires { pass.table ≡ turn.now.table }
+{
+    let mut seat = pass.sit(turn);
+    let told = told(alloc, seat.try_ask(alloc, attributes()));
+    meeting.done.step();
+    told
+}
+
+/// What another seat is answered meanwhile, and then.
+fn ask_meanwhile<S: Storied, R: Clock>(
+    rt: &R,
+    alloc: Global,
+    meeting: &Meeting,
+    turn: &Turn<S>,
+    pass: Pass<S>,
+) -> Result<String, VectorError>
+    requires { pass.table ≡ turn.now.table }
+{
+    let mut seat = pass.sit(turn);
+    meeting.come.wait(rt);
+    let asked = seat.try_ask(alloc, attributes());
+    meeting.go.step();
+    meeting.done.wait(rt);
+    let meanwhile = debug(alloc, &asked);
+    match handed_back(asked) {
+        Some(request) => ask_again(alloc, &mut seat, meanwhile, request),
+        None => bad(),
+    }
+}
+
+/// What is answered to what was handed back, and how long the history is.
+fn ask_again<S: Storied>(
+    alloc: Global,
+    seat: &mut Seat<'_, S>,
+    meanwhile: Result<String, AllocError>,
+    request: Request,
+) -> Result<String, VectorError> {
+    let then = told(alloc, seat.try_ask(alloc, request));
+    let front = seat.front();
+    let meanwhile = meanwhile?;
+    let then = then?;
+    Ok(format!(in alloc; "seat 2: {meanwhile}\nseat 2: {then}\nfront {front}")?)
+}
+
+/// The request that a busy seat was handed back.
+fn handed_back(asked: Asked) -> Option<Request> {
+    match asked {
+        Asked::Busy {
+            holder: _holder,
+            request,
+        } => Some(request),
+        Asked::Answered(_reply) => None,
+        Asked::Refused(_why) => None,
+    }
+}
+
+fn told(alloc: Global, asked: Asked) -> Result<String, AllocError> {
+    let told = debug(alloc, &asked);
+    drop(asked);
+    told
+}
+
+fn in_lines(
+    alloc: Global,
+    one: Result<String, AllocError>,
+    two: Result<String, VectorError>,
+) -> Result<String, VectorError> {
+    let two = two?;
+    let one = one?;
+    Ok(format!(in alloc; "seat 1: {one}\n{two}")?)
+}
