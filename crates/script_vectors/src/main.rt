@@ -28,6 +28,7 @@ fn answer(alloc: Global, line: &str) -> Result<String, VectorError> {
         "read" => scripts::with_failing_read(alloc, rest),
         "write" => scripts::with_failing_write(alloc, rest),
         "last" => scripts::last(alloc, rest),
+        "written" => scripts::written(alloc, rest),
         "serve" => served::serve(alloc, rest),
         "items" => items::items(alloc, rest),
         _ => scripts::script(alloc, line),

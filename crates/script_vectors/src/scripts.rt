@@ -5,19 +5,23 @@
 //! between braces are words of hexadecimal digits and texts between quotes, which the
 //! input has as digits. The answer is the status, and each line of output.
 //!
-//! Each line is run four times: as it stands, and with what a `data` line brings in
-//! lines of 57 bytes at most, of 3 and of 1. The answer is one where it is the same.
+//! A line that has braces is run four times: as it stands, and with what a `data` line
+//! has between braces in lines of 57 bytes at most, of 3 and of 1. The answer is one
+//! where it is the same.
 
 ghost use Rattle.std.specs.Prelude.{◌<◌};
 
 use portal_base::list::{ByteList, List};
 use portal_base::outside::{MemorySink, MemorySource};
 use portal_base::text::Text;
+use portal_lines::LONGEST;
 use script_command::run::run;
 use script_command::status::Status;
+use script_form::reader::read_script;
+use script_form::writer::write_script;
 use std::alloc::{AllocError, Global};
-use vector_lines::error::{LineError, VectorError};
-use vector_lines::notation::{bytes, cut, digits, number, text};
+use vector_lines::error::{LineError, VectorError, bad, given};
+use vector_lines::notation::{bytes, cut, debug, digits, number, text};
 
 /// More bytes, or lines, than there are.
 const ALL: usize = 1_000_000_000;
@@ -66,8 +70,24 @@ pub fn last(alloc: Global, rest: &str) -> Result<String, VectorError> {
     ran_in_sizes(alloc, line, Way { last, ..WHOLE })
 }
 
+/// `written LINE | LINE ..`: the script that the lines are read as, written.
+pub fn written(alloc: Global, lines: &str) -> Result<String, VectorError> {
+    let lines = input(alloc, lines, ALL)?;
+    if lines.len() > LONGEST {
+        return bad();
+    }
+    let script = given(alloc, read_script(alloc, lines.as_slice()))?;
+    let text = write_script(alloc, &script);
+    drop(script);
+    let text = String::from_utf8_lossy(alloc, text?.as_slice())?;
+    Ok(debug(alloc, &text)?)
+}
+
 fn ran_in_sizes(alloc: Global, line: &str, way: Way) -> Result<String, VectorError> {
     let whole = ran(alloc, line, ALL, way)?;
+    if !line.contains('{') {
+        return Ok(whole);
+    }
     for size in [57, 3, 1] {
         let told = ran(alloc, line, size, way)?;
         if told != whole {
@@ -79,11 +99,9 @@ fn ran_in_sizes(alloc: Global, line: &str, way: Way) -> Result<String, VectorErr
 
 /// Runs a line whose data come so many bytes at a time.
 fn ran(alloc: Global, line: &str, size: usize, way: Way) -> Result<String, VectorError> {
-    let (words, lines) = match line.split_once(" | ") {
-        Some((words, lines)) => (words, input(alloc, lines, size)?),
-        None => (line, List::new(alloc)),
-    };
+    let (words, lines) = line.split_once(" | ").unwrap_or((line, ""));
     let words = words_of(alloc, words)?;
+    let lines = input(alloc, lines, size)?;
     let mut source = MemorySource::new(lines, way.read);
     let mut sink = MemorySink::new(alloc, way.write);
     let status = run(alloc, words.as_slice(), &mut source, &mut sink);
@@ -101,6 +119,9 @@ fn words_of(alloc: Global, line: &str) -> Result<List<Text>, VectorError> {
 /// The text of these lines.
 fn input(alloc: Global, lines: &str, size: usize) -> Result<ByteList, LineError> {
     let mut all = List::new(alloc);
+    if lines.is_empty() {
+        return Ok(all);
+    }
     for line in lines.split(" | ") {
         let (line, end) = match line.strip_suffix('\\') {
             Some(line) => (line, ""),
@@ -126,7 +147,11 @@ fn put_line(
     };
     let (content, rest) = rest.split_once('}').unwrap_or((rest, ""));
     let content = bytes(alloc, content)?;
-    let size = if front.starts_with("data ") { size } else { ALL };
+    let size = if front.starts_with("data ") {
+        size
+    } else {
+        ALL
+    };
     for piece in content.as_slice().chunks(size.max(1)) {
         all.extend_from_slice(front.as_bytes())?;
         all.extend_from_slice(digits(alloc, piece)?.as_bytes())?;
