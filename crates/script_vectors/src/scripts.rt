@@ -6,8 +6,8 @@
 //! input has as digits. The answer is the status, and each line of output.
 //!
 //! A line that has braces is run four times: as it stands, and with what a `data` line
-//! has between braces in lines of 57 bytes at most, of 3 and of 1. The answer is one
-//! where it is the same.
+//! has between braces in lines of 57 bytes, of 3 and of 1, or in a thousand lines where
+//! it is longer. The answer is one where it is the same.
 
 ghost use Rattle.std.specs.Prelude.{◌<◌};
 
@@ -25,6 +25,9 @@ use vector_lines::notation::{bytes, cut, debug, digits, number, text};
 
 /// More bytes, or lines, than there are.
 const ALL: usize = 1_000_000_000;
+
+/// How many lines bring what one `data` line has between braces, about and at most.
+const MOST_PIECES: usize = 1_000;
 
 /// How a line is run, and what of its output is printed.
 #[derive(Clone, Copy)]
