@@ -5,7 +5,7 @@ use portal_base::list::List;
 use portal_base::names::DocId;
 use portal_base::outside::{Clock, ListWords, SetClock, Words};
 use portal_core::portal::Portal;
-use portal_core::start::StartRefusal;
+use portal_start::start::StartRefusal;
 use portal_lines::{DOCUMENTS, PLENTY, ScriptPortal, limits};
 use portal_model::opening::OpeningState;
 use portal_model::records::{DocRecord, GrantRecord, Records};
