@@ -1,13 +1,17 @@
 //! The devices of a connection that is served.
 
+ghost use Rattle.std.specs.Prelude.{◌<◌, ◌≤◌, length};
+
 use portal_base::outside::{MemorySink, ReadAnswer, Sink, Source, WriteAnswer};
 use std::cell::Cell;
 
 /// A source that gives so many bytes at a time.
 #[derive(Drop)]
 pub struct Pieces<'a> {
-    /// The bytes that are left.
-    pub left: &'a [u8],
+    /// All its bytes.
+    pub bytes: &'a [u8],
+    /// How many it gave.
+    pub at: usize,
     /// How many it gives at a time.
     pub size: usize,
     /// How often it was read.
@@ -37,15 +41,28 @@ impl<'a> Source for Pieces<'a> {
             self.faults = self.faults.saturating_add(1);
             return ReadAnswer::Failed;
         }
-        let len = self.left.len().min(self.size).min(buffer.len());
-        if len == 0 {
+        let start = self.at.min(self.bytes.len());
+        let end = start.saturating_add(self.size).min(self.bytes.len());
+        if start >= end {
             return ReadAnswer::End;
         }
-        let (piece, left) = self.left.split_at(len);
-        buffer[..len].copy_from_slice(piece);
-        self.left = left;
+        let len = fill(buffer, &self.bytes[start..end]);
+        self.at = start + len;
         ReadAnswer::Got(len)
     }
+}
+
+/// Copies as many bytes as there is room for, and says how many.
+fn fill(buffer: &mut [u8], bytes: &[u8]) -> usize
+    requires room { 0 < length buffer.old }
+    requires some { 0 < length bytes.now }
+    ensures least { 1 ≤ result }
+    ensures most { result ≤ length buffer.new }
+    ensures there { result ≤ length bytes.now }
+{
+    let len = bytes.len().min(buffer.len());
+    buffer[..len].copy_from_slice(&bytes[..len]);
+    len
 }
 
 /// A sink that keeps its pieces, and tells how often it was written to.

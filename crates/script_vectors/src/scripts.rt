@@ -9,8 +9,6 @@
 //! has between braces in lines of 57 bytes, of 3 and of 1, or in a thousand lines where
 //! it is longer. The answer is one where it is the same.
 
-ghost use Rattle.std.specs.Prelude.{◌<◌};
-
 use portal_base::list::{ByteList, List};
 use portal_base::outside::{MemorySink, MemorySource};
 use portal_base::text::Text;
@@ -151,7 +149,7 @@ fn put_line(
     let (content, rest) = rest.split_once('}').unwrap_or((rest, ""));
     let content = bytes(alloc, content)?;
     let size = if front.starts_with("data ") {
-        size
+        size.max(content.len() / MOST_PIECES)
     } else {
         ALL
     };
@@ -187,7 +185,7 @@ fn put_counted(alloc: Global, out: &mut String, line: &str) -> Result<(), AllocE
         return out.push_str(line);
     };
     let front = front.trim_end_matches(last);
-    let count = (line.len() - front.len()) / 2;
+    let count = line.len().saturating_sub(front.len()) / 2;
     if count < 100 {
         return out.push_str(line);
     }

@@ -81,7 +81,8 @@ fn served_in_sizes(alloc: Global, client: &Client) -> Result<String, VectorError
 fn served(alloc: Global, client: &Client, size: usize) -> Result<String, VectorError> {
     let written = Cell::new(0);
     let mut source = Pieces {
-        left: client.input.as_slice(),
+        bytes: client.input.as_slice(),
+        at: 0,
         size,
         calls: 0,
         fail_at: option(client.options, "read=", 0)?,
