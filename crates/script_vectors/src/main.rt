@@ -1,4 +1,4 @@
-//! Vectors of scripts.
+//! Vectors of scripts, of connections and of traces.
 //!
 //! Reads lines from standard input. A line names a call, and what the call is
 //! given; its answer is printed as a line. Empty lines and lines that begin with
@@ -6,11 +6,14 @@
 //! numbers of those of the input. The modules say which lines there are.
 #![tactic(auto)]
 
+mod devices;
+mod items;
 mod scripts;
+mod served;
 
 use std::alloc::Global;
 use std::io;
-use vector_lines::error::{VectorError, bad};
+use vector_lines::error::VectorError;
 use vector_lines::notation::cut;
 use vector_lines::program::run;
 
@@ -18,15 +21,16 @@ fn main(rt: HostRuntime) -> io::Result<()> {
     run(&rt, answer)
 }
 
-/// The answer of a line.
+/// The answer of a line. One that names no other call is run as the program's words.
 fn answer(alloc: Global, line: &str) -> Result<String, VectorError> {
     let (kind, rest) = cut(line);
     match kind {
-        "script" => scripts::script(alloc, rest),
-        "line" => scripts::line(alloc, rest),
+        "read" => scripts::with_failing_read(alloc, rest),
+        "write" => scripts::with_failing_write(alloc, rest),
+        "last" => scripts::last(alloc, rest),
         "written" => scripts::written(alloc, rest),
-        "outside" => scripts::outside(alloc, rest),
-        "opening" => scripts::opening(alloc, rest),
-        _ => bad(),
+        "serve" => served::serve(alloc, rest),
+        "items" => items::items(alloc, rest),
+        _ => scripts::script(alloc, line),
     }
 }
