@@ -200,7 +200,7 @@ fn take_listed_back(
 }
 
 /// What was there before the rights of one file were given.
-#[derive(Clone, Copy, Debug, PartialEq, Eq)]
+#[derive(Clone, Copy, PartialEq, Eq)]
 pub(crate) struct GivenBoth {
     /// Of the caller, where that is an application.
     pub own: Option<Given>,

@@ -16,7 +16,7 @@ use portal_model::request::AddRequest;
 use std::alloc::Global;
 
 /// What a tree showed at paths, one after another.
-#[derive(Debug, Drop)]
+#[derive(Drop)]
 pub struct Shown {
     /// What it showed, in the order of its calls.
     pub looks: List<Look>,

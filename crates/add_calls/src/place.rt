@@ -24,7 +24,7 @@ use portal_model::state::Document;
 use std::alloc::Global;
 
 /// What was drawn for the files of a call so far.
-#[derive(Debug, Drop)]
+#[derive(Drop)]
 pub struct Drawn {
     /// The words, one for each new document.
     pub words: List<u32>,
@@ -35,7 +35,7 @@ pub struct Drawn {
 }
 
 /// The files of a plan, placed.
-#[derive(Debug, Drop)]
+#[derive(Drop)]
 pub struct PlacedFiles {
     /// What was drawn for them.
     pub drawn: Drawn,
@@ -44,7 +44,7 @@ pub struct PlacedFiles {
 }
 
 /// What one file used, and what was there before its rights.
-#[derive(Clone, Copy, Debug, PartialEq, Eq)]
+#[derive(Clone, Copy, PartialEq, Eq)]
 pub(crate) struct Use {
     /// Its document.
     pub id: DocId,

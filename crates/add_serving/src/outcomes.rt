@@ -17,7 +17,7 @@ use portal_model::reply::{Answer, Code};
 use std::alloc::Global;
 
 /// The files of a call, added, unless the keeper failed.
-#[derive(Debug, Drop)]
+#[derive(Drop)]
 pub(crate) struct AddedFiles {
     /// What was drawn for them.
     pub drawn: Drawn,

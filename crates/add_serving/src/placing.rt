@@ -82,7 +82,7 @@ pub(crate) fn place_kept<W: Words, K: Keeper>(
 }
 
 /// The identifiers of files, and whether the keeper failed.
-#[derive(Debug, Drop)]
+#[derive(Drop)]
 struct KeptFiles {
     /// The identifiers.
     ids: List<Text>,

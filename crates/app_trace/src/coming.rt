@@ -41,7 +41,7 @@ use portal_model::state::Connection;
 use std::alloc::Global;
 
 /// What an entry tells an application.
-#[derive(Debug, Drop)]
+#[derive(Drop)]
 pub enum News {
     /// The application makes it: this item, done or not.
     Own(TraceItem),

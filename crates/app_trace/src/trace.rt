@@ -11,7 +11,7 @@ use portal_model::state::Document;
 use rights_rule::Rights;
 
 /// An item of a trace.
-#[derive(Debug, Drop)]
+#[derive(Drop)]
 pub enum TraceItem {
     /// A request of the application, and what the outside gave to it.
     Own {
@@ -68,7 +68,7 @@ pub enum TraceItem {
 }
 
 /// What an application holds at first, and what then happens to it.
-#[derive(Debug, Drop)]
+#[derive(Drop)]
 pub struct Trace {
     /// What it holds of the state that the history begins in.
     pub opening: AppView,

@@ -31,7 +31,7 @@ pub enum Content {
 }
 
 /// A document in which the application has a right.
-#[derive(Debug, Drop)]
+#[derive(Drop)]
 pub struct HeldDocument {
     /// The document.
     pub document: Document,
@@ -40,7 +40,7 @@ pub struct HeldDocument {
 }
 
 /// An open handle of an own connection.
-#[derive(Debug, Drop)]
+#[derive(Drop)]
 pub struct OwnHandle {
     /// Its number, which no other handle of the connection ever has.
     pub fh: u64,
@@ -49,7 +49,7 @@ pub struct OwnHandle {
 }
 
 /// A connection that is bound to the application.
-#[derive(Debug, Drop)]
+#[derive(Drop)]
 pub struct OwnConnection {
     /// Its seat.
     pub seat: u32,
@@ -66,7 +66,7 @@ pub struct OwnConnection {
 }
 
 /// What the tree has at a path that a document or an open file names.
-#[derive(Debug, Drop)]
+#[derive(Drop)]
 pub struct PathContent {
     /// The path.
     pub path: HostPath,
@@ -75,7 +75,7 @@ pub struct PathContent {
 }
 
 /// What an application holds.
-#[derive(Debug, Drop)]
+#[derive(Drop)]
 pub struct AppView {
     /// The limit of the handles that a connection has open.
     pub handles: u64,

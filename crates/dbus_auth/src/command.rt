@@ -7,7 +7,7 @@ ghost use Rattle.dbus_auth.specs.Command.{command_of, is_hex_data, starts_hex_da
 
 /// The commands that the handshake tells apart (D-Bus Specification,
 /// "Authentication Protocol").
-#[derive(Clone, Copy, Debug, PartialEq, Eq)]
+#[derive(Clone, Copy, PartialEq, Eq)]
 pub enum Command {
     /// `AUTH EXTERNAL` with the client's identity in hexadecimal behind it.
     AuthExternalWithIdentity,

@@ -22,7 +22,7 @@ use portal_model::request::Request;
 use std::alloc::Global;
 
 /// What a message asks.
-#[derive(Debug, Drop)]
+#[derive(Drop)]
 pub enum Ask {
     /// This answer, and nothing of the portal. It is written only where the
     /// call expects a reply.

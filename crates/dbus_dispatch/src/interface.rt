@@ -6,7 +6,7 @@ ghost use Rattle.dbus_dispatch.specs.Calls.{interface_among, interface_named};
 use crate::object::Object;
 
 /// An interface.
-#[derive(Clone, Copy, Debug, PartialEq, Eq)]
+#[derive(Clone, Copy, PartialEq, Eq)]
 pub enum Interface {
     /// `org.freedesktop.portal.Documents`
     Documents,

@@ -9,7 +9,7 @@ use crate::interface::Interface;
 use crate::object::Object;
 
 /// A method of one of the interfaces.
-#[derive(Clone, Copy, Debug, PartialEq, Eq)]
+#[derive(Clone, Copy, PartialEq, Eq)]
 pub enum Method {
     /// Documents: where the file view is mounted.
     GetMountPoint,

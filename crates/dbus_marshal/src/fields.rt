@@ -32,6 +32,7 @@ fn skip_zeros(bytes: &[u8], at: usize, count: usize) -> Result<usize, ReadError>
     let mut left = count;
     while left > 0 {
         match bytes.get(next) {
+            // Of padding it is the byte that is missing.
             None => return Err(ReadError::Short { at: next }),
             Some(0) => {
                 next += 1;
@@ -63,6 +64,7 @@ pub(crate) fn taken(bytes: &[u8], at: usize, count: usize) -> Result<(&[u8], usi
     ensures within { IfOk result (λ r. (r.1 ≡ at + count) × (r.1 ≤ length bytes.now)
         × (length r.0.now ≡ count)) }
 {
+    // A field that the bytes end in is short at its first byte, not where they end.
     if bytes.len() - at < count {
         return Err(ReadError::Short { at });
     }

@@ -58,6 +58,7 @@ fn string_at(endian: Endian, bytes: &[u8], at: usize) -> Result<(&str, usize), R
 {
     let (count, start) = number_32(endian, bytes, at)?;
     let (raw, end) = taken(bytes, start, count as usize)?;
+    // The bytes of a text come before the zero byte behind it.
     match as_text(raw) {
         Some(text) => {
             let next = ended(bytes, end, ReadError::BadText { at: end })?;

@@ -26,9 +26,10 @@ const FIELD_ALIGNMENT: usize = 8;
 /// itself counted: it stands in the array, the struct and the variant.
 const MOST_VALUES_INSIDE: u32 = 62;
 
+// Contracts see the value that it is, so that definitions speak of `a(yv)` as of any other type.
 /// A field of a message's header, which contracts see as the struct of a byte
 /// and a variant that it is.
-#[derive(Debug, Drop)]
+#[derive(Drop)]
 pub struct HeaderField {
     /// The code of the field.
     pub code: u8,
@@ -67,6 +68,7 @@ fn read_field(
 {
     let start = skip_padding(bytes, at, FIELD_ALIGNMENT)?;
     let (code, middle) = byte_at(bytes, start)?;
+    // Nobody reads the value of such a field, so it is checked and not made.
     if highest < code {
         let next = check_inside(alloc, endian, bytes, middle, MOST_VALUES_INSIDE)?;
         return Ok((None, next));
@@ -131,7 +133,7 @@ fn read_array(
 }
 
 /// The fields of a header that were read.
-#[derive(Debug, Drop)]
+#[derive(Drop)]
 pub struct ReadHeader {
     /// The fields whose codes are at most as high as was asked, in their order.
     pub fields: List<HeaderField>,

@@ -83,6 +83,7 @@ fn put_signature(out: &mut ByteList, values: &[Value]) -> Result<(), WantOfMemor
         ++ signature_body (types_text (map type_of values.now))) }
     ensures err { OnErr result (Extends out.old out.new) }
 {
+    // The types are put at once, and counted behind, so that no text of them is made.
     let hole = out.len();
     out.push(0)?;
     let begins = out.len();

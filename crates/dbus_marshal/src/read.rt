@@ -88,6 +88,8 @@ fn read_array(
     ensures within { IfOk result (λ r. (at < r.1) × (r.1 ≤ length bytes.now)) }
 {
     let element = shared.get();
+    // The order of the checks is that of the bytes: the length, the padding ahead of the elements,
+    // whether as many bytes are there, and then the elements.
     let start = skip_padding(bytes, at, 4)?;
     let (count, begins) = number_32(endian, bytes, start)?;
     if LONGEST_ARRAY < count {
@@ -117,6 +119,7 @@ fn read_items(
         (drop at bytes.now))) }
 {
     let element = shared.get();
+    // Bytes are copied at once, and held packed.
     if is_byte(element) {
         let packed = read_bytes(alloc, &bytes[at..], at, depth)?;
         return Ok(Value::Bytes(packed));
@@ -162,6 +165,8 @@ fn read_elements(
         (elements (length (drop at bytes.now)) (reads depth endian element.now) at
         (drop at bytes.now)) }
 {
+    // The elements are counted first, by the lengths that stand ahead of them, so that their list
+    // has exactly as many places as there are elements.
     let count = count_elements(alloc, endian, bytes, at, element, depth);
     let mut items = room_for(alloc, count)?;
     let mut next = at;
@@ -192,6 +197,8 @@ fn read_struct(
         (layer (reads depth endian) endian (WireType-F.Struct kinds.now) at (drop at bytes.now)) }
     ensures within { IfOk result (λ r. (at < r.1) × (r.1 ≤ length bytes.now)) }
 {
+    // Any type may be asked for. Of those that break the rules of types only a struct without
+    // members has no row in the table of spellings.
     if kinds.is_empty() {
         return Err(ReadError::BadSignature { at });
     }
@@ -287,6 +294,7 @@ pub(crate) fn read_inside(
 {
     let (count, begins) = byte_at(bytes, at)?;
     let (signature, end) = taken(bytes, begins, count as usize)?;
+    // An empty signature goes wrong at its own start, and a second type where it begins.
     let kind = type_at(alloc, signature, begins)?;
     let start = ended(bytes, end, ReadError::BadSignature { at: end })?;
     read_within(alloc, endian, bytes, start, &kind, depth)

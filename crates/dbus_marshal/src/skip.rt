@@ -198,6 +198,7 @@ pub(crate) fn count_elements(
                 count += 1;
                 next = end;
             }
+            // What goes wrong is told by the reader, which comes to the same place.
             Err(_) => return count,
         }
     }

@@ -70,6 +70,8 @@ fn write_array(out: &mut ByteList, to: usize, items: &[Value]) -> Result<(), Wan
     ensures err { OnErr result (Extends out.old out.new) }
 {
     pad(out, 4)?;
+    // The length is written over behind the elements: to know it ahead each would have to be
+    // spelled twice.
     let hole = out.len();
     put_length(out, 0)?;
     pad(out, to)?;

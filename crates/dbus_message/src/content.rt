@@ -81,6 +81,8 @@ pub(crate) fn read_content(
             }
         }
         None => {
+            // Such a body breaks the rule that it be explained, and not the one that it be a
+            // spelling.
             if !bytes.is_empty() {
                 return Err(MessageError::Bad {
                     rule: rule::EXPLAINED,

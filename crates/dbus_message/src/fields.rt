@@ -128,10 +128,12 @@ fn is_in_table(code: u8, value: &Value) -> bool
         MEMBER => is_member_value(value),
         ERROR_NAME => is_interface_value(value),
         REPLY_SERIAL => is_number_value(value),
+        // There is no bus that would route by these two names, so only their type is looked at.
         DESTINATION => is_text_value(value),
         SENDER => is_text_value(value),
         SIGNATURE => is_signature_value(value),
         UNIX_FDS => is_number_value(value),
+        // Codes that aren't in the table are passed over, and may stand more than once.
         _ => true,
     }
 }
@@ -252,6 +254,8 @@ fn take_value(fields: &mut Vec<HeaderField>, code: u8) -> Option<Value>
     match place_of(fields.as_slice(), code) {
         Some(at) => {
             let field = &mut fields[at];
+            // The text is moved out and not copied; who reads the fields behind that asks for
+            // other codes.
             Some(mem::replace(&mut field.value, Value::Byte(0)))
         }
         None => None,

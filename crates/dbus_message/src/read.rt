@@ -36,6 +36,8 @@ fn read_fields(
 {
     match read_header(alloc, endian, bytes, FIELDS_AT, HIGHEST_CODE) {
         Ok(read) => {
+            // A path or a signature of another form has failed as a spelling by now, and so breaks
+            // this rule; a name of another form breaks the next.
             if read.next < bytes.len() {
                 return Err(MessageError::Bad { rule: rule::FIELDS });
             }
@@ -51,8 +53,8 @@ fn are_zeros(bytes: &[u8]) -> bool
     bytes.iter().all(|byte| *byte == 0)
 }
 
-/// The message that the header, the fields and the body say. Its texts are those of the
-/// fields, which no one copies.
+/// The message that the header, the fields and the body say. Its texts are moved out
+/// of the fields, and not copied.
 fn message_of(endian: Endian, bytes: &[u8], fields: List<HeaderField>, content: Content) -> Message
     requires long { 16 ≤ length bytes.now }
     requires known { endian ≡ endian_in bytes.now }

@@ -50,6 +50,8 @@ pub fn split(bytes: &[u8]) -> Split
     if bytes.len() < FIXED_LEN {
         return Split::More;
     }
+    // A header that breaks a rule is told as soon as it is there, however many bytes it says will
+    // follow.
     match broken_header(bytes) {
         Some(rule) => Split::Bad { rule },
         None => {

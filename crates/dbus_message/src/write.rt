@@ -43,6 +43,7 @@ fn put_return_fields(out: &mut ByteList, to: u32, body: &[Value]) -> Result<(), 
         ++ spellings Little (length out.old) (return_fields to body.now)) }
 {
     write_number_field(out, REPLY_SERIAL, to)?;
+    // A return without a body has no SIGNATURE, where a signal has one.
     if body.is_empty() {
         return Ok(());
     }
@@ -149,6 +150,8 @@ pub fn write_message(
     // What was written is read again.
     ensures message { IfOk result (λ bytes. IsMessage bytes (stands_for message.now serial)) }
 {
+    // That the parts are of their kinds and that it is short enough is asked for, and not checked
+    // again.
     match message {
         OutMessage::Return { body, .. } => write_with(alloc, message, body.as_slice(), serial),
         OutMessage::Signal { body, .. } => write_with(alloc, message, body.as_slice(), serial),

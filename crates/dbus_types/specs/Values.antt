@@ -38,7 +38,7 @@ abbrev pub byte_in : Value-F Value → ℕ
 byte_in (Value-F.Byte n) = n
 byte_in _ = 0
 
--- the number of a byte
+-- the number of a byte; 0 of any other value
 abbrev pub byte_of : Value → ℕ
 byte_of v = byte_in (out-Value v)
 

@@ -1,6 +1,6 @@
-//! Whether two types are the same.
+//! Whether two types are the same, and whether a type is that of bytes.
 //!
-//! It stands where Rust has `==`: its contract says that the two are equal, and
+//! `same_type` stands where Rust has `==`: its contract says that the two are equal, and
 //! not only that they are alike by the type's own rule.
 
 ghost use Rattle.std.specs.Prelude.{◌≡◌, IsTrue, ◌↔◌};

@@ -211,6 +211,8 @@ fn is_signature(text: &[u8]) -> bool
 /// Says that a number fits its type, as each does: a proof knows it of a
 /// number that is read.
 fn fits<N: Copy + Drop>(_number: N) -> bool
+    // Contracts see a number without an end, and one that is too large for its type has no
+    // spelling: so that it fits is one of the rules of values.
     ensures { result ≡ true }
 {
     true
@@ -242,8 +244,8 @@ fn leaf_keeps(value: &Value) -> bool
     }
 }
 
-/// Says whether packed bytes may stand in an array, which itself may hold values
-/// in at most so many others.
+/// Says whether an array of packed bytes keeps the rules, and each of its bytes
+/// stands in at most so many arrays of it: in one, and in none where it is empty.
 fn bytes_keep(bytes: &[u8], depth: u32) -> bool
     ensures { IsTrue result ↔ KeepsWithin depth (V.Bytes bytes.now) }
 {
@@ -274,6 +276,7 @@ fn keeps_within(value: &Value, depth: u32) -> bool
         Value::Bytes(bytes) => bytes_keep(bytes.as_slice(), depth),
         Value::Array { element, items } => {
             let kind = element.get();
+            // Bytes are packed, as `Value::Bytes`.
             if is_byte(kind) {
                 return false;
             }
@@ -338,5 +341,7 @@ fn members_keep(members: &[Value], depth: u32) -> bool
 pub fn keeps_rules(value: &Value) -> bool
     ensures { IsTrue result ↔ KeepsRules value.now }
 {
+    // The lengths of arrays and texts aren't looked at: they bound spellings alone, and a spelling
+    // that is too long isn't one.
     has_valid_type(value) && keeps_within(value, MOST_NESTED)
 }

@@ -21,6 +21,8 @@ pub const SIGNAL: u8 = 4;
 /// The flag that no reply is expected.
 pub const NO_REPLY_EXPECTED: u8 = 1;
 
+// Messages as plain data stand below the crates that read and write bytes, so that what makes and
+// answers them needs neither.
 /// A message that was read.
 #[derive(Debug, Drop)]
 pub struct Message {

@@ -19,6 +19,7 @@ pub const MOST_NESTED: u32 = 64;
 pub fn nesting(value: &Value) -> u32
     ensures { result ≡ min (nesting_in value.now) 4_294_967_295 }
 {
+    // Counting stops at the greatest `u32`, so that no limit on values is asked for.
     match value {
         Value::Variant(inner) => nesting(inner.get()).saturating_add(1),
         Value::Bytes(bytes) => around_bytes(bytes.as_slice()),

@@ -73,6 +73,7 @@ fn read_key(text: &[u8], at: usize) -> Result<(WireType, usize), SignatureError>
 {
     match text.get(at) {
         None => Err(SignatureError::BadSignature { at: at as u32 }),
+        // The standard lets a key be of basic type alone, and a variant is none.
         Some(b'v') => Err(SignatureError::BadSignature { at: at as u32 }),
         Some(_) => read_code(text, at),
     }
@@ -183,6 +184,7 @@ fn read_members(
         (members_at (type_at arrays brackets) at (drop at text.now)) }
     ensures within { IfOk result (λ r. (at < r.1) × (r.1 ≤ length text.now)) }
 {
+    // `()` is no type, and breaks at its `)`: a first member is read whatever stands there.
     let (first, mut next) = read_type(alloc, text, at, arrays, brackets)?;
     let mut members = List::new(alloc);
     members.push(first)?;
@@ -206,6 +208,7 @@ fn read_list(alloc: Global, text: &[u8]) -> Result<List<WireType>, SignatureErro
     requires short { length text.now ≤ 255 }
     ensures { Gives (λ ts. ts) result (whole_at 32 32 text.now) }
 {
+    // A signature is a list of types, so the empty text is one, of no types.
     let mut kinds = List::new(alloc);
     let mut next = 0;
     while next < text.len() {
@@ -234,6 +237,8 @@ pub fn read_single(alloc: Global, text: &[u8]) -> Result<WireType, SignatureErro
 {
     match read_type(alloc, text, 0, MOST_ARRAYS, MOST_BRACKETS) {
         Ok((kind, end)) => {
+            // A variant's signature is the text of one type: a second one is refused where it
+            // begins.
             if end < text.len() {
                 return Err(SignatureError::BadSignature { at: end as u32 });
             }
@@ -350,6 +355,8 @@ fn check_list(text: &[u8]) -> Result<(), SignatureError>
 pub fn check_signature(text: &[u8]) -> Result<(), SignatureError>
     ensures checked { IsChecked text.now result }
 {
+    // A longer text breaks at byte 255, unless it goes wrong ahead of that; one of at most 255
+    // bytes that could only be finished beyond them breaks where it ends.
     if text.len() <= LONGEST {
         return check_list(text);
     }
@@ -371,6 +378,7 @@ pub fn read_signature(alloc: Global, text: &[u8]) -> Result<List<WireType>, Sign
     ensures reading { IsReading text.now result }
     ensures only { (ts : List TheType) → IsSignature ts text.now → IsReadAs ts result }
 {
+    // It is checked first, so that no memory is taken for types of a text that is none.
     match check_signature(text) {
         Ok(()) => read_list(alloc, text),
         Err(error) => Err(error),

@@ -91,10 +91,14 @@ pub enum Value {
     Handle(u32),
     /// A value with its type, which is known from the value.
     Variant(Boxed<Value>),
+    // Packed bytes are a variant of their own, since readers match on variants and a value is to
+    // have only one form: an `Array` of bytes breaks the rules of values, and no reader makes one.
     /// An array of bytes, packed; it is the only form of one.
     Bytes(ByteList),
     /// Values of one type, which isn't that of bytes.
     Array {
+        // A copy for each array would take gigabytes for two million empty arrays of a struct of
+        // 251 members.
         /// The type of each item, which arrays of one type share.
         element: Shared<WireType>,
         /// The items.

@@ -14,7 +14,7 @@ use portal_model::reply::{Answer, Code};
 use std::alloc::Global;
 
 /// A request that was served.
-#[derive(Debug, Drop)]
+#[derive(Drop)]
 pub struct ServedCall {
     /// What the outside gave.
     pub given: Given,

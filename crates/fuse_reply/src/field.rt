@@ -8,7 +8,7 @@ use byteorder::{ByteOrder, LittleEndian};
 use portal_base::memory::WantOfMemory;
 
 /// A number of a frame, by its width.
-#[derive(Clone, Copy, Debug, PartialEq, Eq)]
+#[derive(Clone, Copy, PartialEq, Eq)]
 pub enum Field {
     /// Two bytes.
     Two(u16),

@@ -38,7 +38,7 @@ pub fn split(bytes: &[u8]) -> Split
 
 /// The header of a frame: the fields of `fuse_in_header` that requests are told
 /// by, in their order.
-#[derive(Clone, Copy, Debug, PartialEq, Eq)]
+#[derive(Clone, Copy, PartialEq, Eq)]
 pub struct InHeader {
     /// The length of the whole frame.
     pub len: u32,

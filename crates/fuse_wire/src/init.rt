@@ -37,7 +37,7 @@ const TIME_GRAN: u32 = 1;
 const INIT_IN_LEN: usize = 16;
 
 /// What a kernel asks for: the fields of `fuse_init_in`.
-#[derive(Clone, Copy, Debug, PartialEq, Eq)]
+#[derive(Clone, Copy, PartialEq, Eq)]
 pub struct InitIn {
     /// The major version that it speaks.
     pub major: u32,

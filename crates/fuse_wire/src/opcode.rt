@@ -4,7 +4,7 @@ ghost use Rattle.std.specs.Prelude.{◌≡◌};
 ghost use Rattle.fuse_wire.specs.Opcodes.{opcode_of};
 
 /// An opcode of `enum fuse_opcode`, as far as requests with it are told apart.
-#[derive(Clone, Copy, Debug, PartialEq, Eq)]
+#[derive(Clone, Copy, PartialEq, Eq)]
 pub enum Opcode {
     /// FUSE_LOOKUP.
     Lookup,

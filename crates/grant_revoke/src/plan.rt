@@ -5,7 +5,7 @@ use rights_rule::Rights;
 use thiserror::Error;
 
 /// Which way rights go.
-#[derive(Clone, Copy, Debug, PartialEq, Eq)]
+#[derive(Clone, Copy, PartialEq, Eq)]
 pub enum RightsKind {
     /// GrantPermissions: the application gets the listed rights.
     Grant,

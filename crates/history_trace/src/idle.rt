@@ -6,7 +6,7 @@ use record_keeper::{Keeper, KeeperDone, KeeperLoad};
 
 /// A keeper that takes every change and keeps none: it never fails, and tells
 /// nothing.
-#[derive(Debug, Drop)]
+#[derive(Drop)]
 pub(crate) struct IdleKeeper;
 
 impl Keeper for IdleKeeper {

@@ -23,7 +23,7 @@ use std::{fs, io};
 const MOST_BYTES: usize = 4_095;
 
 /// What the system shows of a file.
-#[derive(Clone, Copy, Debug, PartialEq, Eq)]
+#[derive(Clone, Copy, PartialEq, Eq)]
 pub struct Attributes {
     /// Its length in bytes.
     pub size: u64,

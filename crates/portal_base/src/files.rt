@@ -47,6 +47,7 @@ impl Replica for FileName {
     }
 }
 
+// It stands in this crate so that trees and the portal's state speak of the same files.
 /// A file of a tree.
 #[derive(Debug, Drop)]
 pub struct File {

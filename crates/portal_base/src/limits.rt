@@ -5,7 +5,7 @@ use crate::names::host_path::HostPath;
 use std::alloc::Global;
 
 /// The limits of a portal, in items or bytes.
-#[derive(Clone, Copy, Debug, PartialEq, Eq)]
+#[derive(Clone, Copy, PartialEq, Eq)]
 pub struct Limits {
     /// Live documents.
     pub documents: u64,
@@ -28,7 +28,7 @@ impl Replica for Limits {
 }
 
 /// What a portal is set to.
-#[derive(Debug, Drop)]
+#[derive(Drop)]
 pub struct Settings {
     /// The limits.
     pub limits: Limits,

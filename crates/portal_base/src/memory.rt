@@ -20,6 +20,8 @@ impl<T: Drop> From<AllocFailed<T>> for WantOfMemory {
     }
 }
 
+// It stands beside `Clone`, which takes memory by another error, and whose copy is only what the
+// type's own rule calls one.
 /// A value that can be copied where there is memory for the copy.
 ///
 /// `Clone` says only that a copy stands for its original by the type's own

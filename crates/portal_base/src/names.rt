@@ -15,6 +15,9 @@ pub use host_path::HostPath;
 /// Why a text is no name.
 #[derive(Clone, Copy, Debug, PartialEq, Eq, Error)]
 pub enum NameError {
+    // The place is the least at which the text can't go on to be a name. A length that is stated
+    // of a name is a limit apart from its form: a path of 4,095 bytes that ends in `/` breaks at
+    // its length.
     /// The text breaks the rule of the name first at this place, in bytes from
     /// its start.
     #[error("the name breaks its rule at byte {at}")]

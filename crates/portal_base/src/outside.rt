@@ -26,6 +26,8 @@ pub enum ReadAnswer {
     Failed,
 }
 
+// A fault and want of memory are told apart everywhere: no fault of a device can hide behind want
+// of memory, since its count of faults rises.
 /// The answer of a write.
 #[derive(Clone, Copy, Debug, PartialEq, Eq)]
 pub enum WriteAnswer {

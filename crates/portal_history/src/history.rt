@@ -19,7 +19,7 @@ use std::marker::Model;
 ///
 /// Contracts see the list, the room for entries that was taken ahead, and the
 /// limit of the cost.
-#[derive(Debug, Drop)]
+#[derive(Drop)]
 pub struct History {
     entries: Vec<Entry>,
     cost: u64,

@@ -32,7 +32,7 @@ pub enum Asked {
 }
 
 /// What is drawn of a number.
-#[derive(Clone, Copy, Debug, PartialEq, Eq)]
+#[derive(Clone, Copy, PartialEq, Eq)]
 pub struct Draw {
     /// The application, from 0 to 3.
     pub app: u32,

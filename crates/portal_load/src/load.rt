@@ -13,7 +13,7 @@ use script_form::script::{Script, ScriptLine};
 use std::alloc::Global;
 
 /// A script of requests.
-#[derive(Debug, Drop)]
+#[derive(Drop)]
 pub struct Load {
     /// Its lines. Each request has one, and all stand at the end.
     pub script: Script,

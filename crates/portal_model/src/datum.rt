@@ -84,6 +84,7 @@ impl Replica for Datum {
 pub fn holds_handle(value: &Value) -> bool
     ensures { result ≡ holds_handle_in value.now }
 {
+    // Packed bytes hold none, nor does an array without items, whatever its type.
     match value {
         Value::Handle(_) => true,
         Value::Variant(inner) => holds_handle(inner.get()),

@@ -4,6 +4,8 @@ use crate::reply::DirName;
 use portal_base::files::FileName;
 use portal_base::list::List;
 
+// An open file keeps what it may do, as POSIX says of open file descriptions: permissions are
+// asked where a file is opened, and by no request that goes by a handle.
 /// What an open handle stands for. It keeps that, whatever becomes of the
 /// document and of the rights in it.
 #[derive(Debug, Drop)]
@@ -29,7 +31,7 @@ pub enum Handle {
 }
 
 /// An open handle of a connection.
-#[derive(Debug, Drop)]
+#[derive(Drop)]
 pub struct OpenHandle {
     /// The seat of the connection.
     pub seat: u32,

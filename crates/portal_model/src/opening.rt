@@ -10,7 +10,7 @@ use portal_base::names::doc_id::DocId;
 use std::alloc::Global;
 
 /// A document that is live from the start.
-#[derive(Debug, Drop)]
+#[derive(Drop)]
 pub struct OpeningDocument {
     /// The document and the rights in it.
     pub kept: DocRecord,
@@ -19,7 +19,7 @@ pub struct OpeningDocument {
 }
 
 /// A file of the tree that is there from the start.
-#[derive(Debug, Drop)]
+#[derive(Drop)]
 pub struct FileItem {
     /// Its path on the host.
     pub path: ByteList,
@@ -30,7 +30,7 @@ pub struct FileItem {
 }
 
 /// The state that a portal opens with.
-#[derive(Debug, Drop)]
+#[derive(Drop)]
 pub struct OpeningState {
     /// The limits.
     pub limits: Limits,

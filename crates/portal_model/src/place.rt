@@ -5,6 +5,9 @@ ghost use Rattle.portal_model.specs.Place.{id_of_node, is_own_file};
 
 use portal_base::names::doc_id::DocId;
 
+// A number is made of the view, the kind and the number of the document or the application, and
+// stands in no table: nothing has to be looked up first, and no number comes to name another node
+// while the portal runs.
 /// Where the view stands in a node's number, which is
 /// `view * 2^36 + kind * 2^32 + id`.
 const VIEW_SHIFT: u32 = 36;

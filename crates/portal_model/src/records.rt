@@ -101,7 +101,7 @@ pub struct Records {
 }
 
 /// One change of the records.
-#[derive(Debug, Drop)]
+#[derive(Drop)]
 pub enum RecordChange {
     /// A document goes behind the others.
     AddDocument(DocRecord),

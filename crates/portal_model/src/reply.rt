@@ -182,6 +182,8 @@ pub enum Answer {
     Node(NodeAnswer),
 }
 
+// It is what the signal tells: the tables answer it, unsent signals are lists of it, and a reply
+// brings it, so that all three speak of one type.
 /// A change of the permission store, as it is told to hosts.
 #[derive(Debug, Drop)]
 pub struct Change {

@@ -131,6 +131,8 @@ const FUSE_GETATTR_FH: u32 = 1;
 pub fn names_handle(flags: u32) -> bool
     ensures { result ≡ is_by_handle flags }
 {
+    // A GETATTR with the flag goes by the handle where it is of a file, by the node where it is of
+    // a folder; other bits are passed over.
     flags & FUSE_GETATTR_FH != 0
 }
 
@@ -183,6 +185,8 @@ pub struct RightsCall {
     pub names: List<Text>,
 }
 
+// Texts stand here as they came, with the zero byte that ends a path: each byte of them is counted
+// in the cost of the history.
 /// A request to the portal. An identifier, an application's name and a path are
 /// held as they came, whatever is in them.
 #[derive(Debug, Drop)]

@@ -1,7 +1,7 @@
 //! Rights in a document.
 
 /// A right that an application may have in a document.
-#[derive(Clone, Copy, Debug, PartialEq, Eq)]
+#[derive(Clone, Copy, PartialEq, Eq)]
 pub enum Right {
     /// To see the document and read its file.
     Read,

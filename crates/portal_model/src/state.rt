@@ -15,7 +15,7 @@ use std::alloc::Global;
 pub const APPLICATIONS_LIMIT: u32 = 16_777_216;
 
 /// A live document.
-#[derive(Debug, Drop)]
+#[derive(Drop)]
 pub struct Document {
     /// Its number.
     pub id: DocId,
@@ -27,8 +27,10 @@ pub struct Document {
     pub reusable: bool,
 }
 
+// Triples stand in one order, by the document's number, the name and the right: so they don't
+// depend on the way they came to be.
 /// A right that an application has in a document.
-#[derive(Debug, Drop)]
+#[derive(Drop)]
 pub struct Triple {
     /// The application.
     pub app: AppId,
@@ -39,7 +41,7 @@ pub struct Triple {
 }
 
 /// An open connection.
-#[derive(Debug, Drop)]
+#[derive(Drop)]
 pub struct Connection {
     /// Its seat, from 1.
     pub seat: u32,

@@ -16,8 +16,10 @@ use portal_base::memory::{Replica, WantOfMemory};
 use portal_base::text::Text;
 use std::alloc::Global;
 
+// The definitions speak of values, and the records of a keeper spell them as bytes; `KeepEntries`
+// ties both.
 /// An entry of a table.
-#[derive(Debug, Drop)]
+#[derive(Drop)]
 pub struct StoredEntry {
     /// The table.
     pub table: Text,
@@ -30,7 +32,7 @@ pub struct StoredEntry {
 }
 
 /// What an entry had, to be put back.
-#[derive(Debug, Drop)]
+#[derive(Drop)]
 pub struct TableEntry {
     /// The rows, in byte order of the applications' keys. None is empty.
     pub rows: List<Row>,

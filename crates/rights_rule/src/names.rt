@@ -49,6 +49,7 @@ pub fn read_names(names: &List<Text>) -> Result<Rights, UnknownPermission>
 fn told_place(at: usize) -> u32
     ensures { result ≡ told_place at }
 {
+    // An unknown name that stands further behind is told at the greatest `u32`.
     u32::try_from(at).unwrap_or(u32::MAX)
 }
 
@@ -75,6 +76,7 @@ impl Rights {
     pub fn names(self, alloc: Global) -> Result<List<Text>, WantOfMemory>
         ensures { IfOk result (λ names. names ≡ names_of self) }
     {
+        // The order is one, so that what is told doesn't depend on the way the set came to be.
         let mut names = List::new(alloc);
         push_if(alloc, &mut names, self.contains(Rights::READ), READ)?;
         push_if(alloc, &mut names, self.contains(Rights::WRITE), WRITE)?;

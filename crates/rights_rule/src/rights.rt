@@ -16,6 +16,7 @@ pub struct Rights {
     delete: bool,
 }
 
+// Contracts see four truth values, whatever the code keeps.
 impl Model for Rights {
     ghost use Rattle.rights_rule.specs.Rights.{RightSet};
 
@@ -53,6 +54,7 @@ impl Rights {
         delete: true,
     };
 
+    // A single right is a set of one, so that a set is asked for it as for any other.
     /// To see the document and read its file.
     pub const READ: Rights = Rights {
         read: true,

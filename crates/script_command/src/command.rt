@@ -11,7 +11,7 @@ use script_form::read_number;
 use std::alloc::Global;
 
 /// What the words of the program ask for.
-#[derive(Debug, Drop)]
+#[derive(Drop)]
 pub enum Command {
     /// `replay`: a script is run.
     Replay,

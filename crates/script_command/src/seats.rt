@@ -27,7 +27,7 @@ use session::session::Session;
 use std::alloc::Global;
 
 /// What bytes on a connection came to.
-#[derive(Debug, Drop)]
+#[derive(Drop)]
 pub struct Heard {
     /// The pieces that answer them, in order.
     pub written: MemorySink,
@@ -84,7 +84,7 @@ fn begin_at(
 }
 
 /// What bytes came to at the desk of a seat.
-#[derive(Clone, Copy, Debug, PartialEq, Eq)]
+#[derive(Clone, Copy, PartialEq, Eq)]
 struct Feeding {
     /// What the session made of them.
     fed: Fed,

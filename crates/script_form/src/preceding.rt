@@ -24,7 +24,7 @@ const DOCUMENT_LIMIT: usize = 65_536;
 const SEATS: usize = 65_536;
 
 /// What became of a connection's number.
-#[derive(Clone, Copy, Debug)]
+#[derive(Clone, Copy)]
 pub enum Number {
     /// No line opens it.
     Unopened,

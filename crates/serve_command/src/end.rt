@@ -8,7 +8,7 @@ use portal_base::text::Text;
 use std::fmt;
 
 /// How a service ended, or why none began.
-#[derive(Debug, Drop)]
+#[derive(Drop)]
 pub enum ServeEnd {
     /// Every socket was closed.
     Closed,

@@ -11,7 +11,7 @@ use portal_base::who::{Kind, Who};
 use std::alloc::Global;
 
 /// A socket of a service.
-#[derive(Debug, Drop)]
+#[derive(Drop)]
 pub struct Socket {
     /// Where it is.
     pub path: Text,

@@ -25,7 +25,7 @@ const MOST_HISTORY: u64 = 4_294_967_296;
 const MOST_APPS: usize = 64;
 
 /// What a service is to be.
-#[derive(Debug, Drop)]
+#[derive(Drop)]
 pub struct ServeWords {
     /// The folder below which paths on the host are looked up.
     pub root: Text,
@@ -42,7 +42,7 @@ pub struct ServeWords {
 }
 
 /// What the words ask for.
-#[derive(Debug, Drop)]
+#[derive(Drop)]
 pub enum ServeAsk {
     /// A service.
     Serve(ServeWords),

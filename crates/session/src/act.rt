@@ -10,7 +10,7 @@ use portal_model::request::{NodeRequest, Request};
 use thiserror::Error;
 
 /// The client of a connection, and what the portal that it meets is set to.
-#[derive(Debug, Drop)]
+#[derive(Drop)]
 pub struct Client {
     /// Whom the connection's socket is bound to.
     pub who: Who,

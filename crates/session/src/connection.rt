@@ -24,7 +24,7 @@ use std::alloc::Global;
 const LONGEST_PIECE: usize = 262_144;
 
 /// Why no more pieces are read.
-#[derive(Clone, Copy, Debug, PartialEq, Eq)]
+#[derive(Clone, Copy, PartialEq, Eq)]
 pub enum Pumped {
     /// The source ended.
     End,

@@ -36,7 +36,7 @@ use portal_model::request::{NodeRequest, Request};
 use std::alloc::Global;
 
 /// How far a stream has come.
-#[derive(Debug, Drop)]
+#[derive(Drop)]
 pub struct Stage {
     /// What is due next.
     pub phase: Phase,
@@ -45,7 +45,7 @@ pub struct Stage {
 }
 
 /// How far the whole items of some bytes reach, and why no more are taken.
-#[derive(Clone, Copy, Debug, PartialEq, Eq)]
+#[derive(Clone, Copy, PartialEq, Eq)]
 pub struct Run {
     /// The length of the items together, in bytes.
     pub len: usize,

@@ -56,7 +56,7 @@ pub enum Fed {
 }
 
 /// Why no more items are taken: what stands behind the last whole one.
-#[derive(Clone, Copy, Debug, PartialEq, Eq)]
+#[derive(Clone, Copy, PartialEq, Eq)]
 pub enum Stop {
     /// Too few bytes to tell, or none.
     More,

@@ -20,7 +20,7 @@ use portal_model::reply::Change;
 use std::alloc::Global;
 
 /// The bytes of messages, and the serial of the last of them.
-#[derive(Debug, Drop)]
+#[derive(Drop)]
 pub struct Speech {
     /// The bytes, each message a piece.
     pub pieces: List<ByteList>,

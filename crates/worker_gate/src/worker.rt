@@ -16,7 +16,7 @@ use std::sync::Wait;
 
 /// Where the clients of one caller come: a listener, whom its links are bound
 /// to, and what they speak.
-#[derive(Debug, Drop)]
+#[derive(Drop)]
 pub struct Post<L> {
     /// Where the links come from.
     pub listener: L,

@@ -55,6 +55,8 @@ impl AppId {
     pub fn is_name(text: &[u8]) -> bool
         ensures { result ≡ is_app_name text.now }
     {
+        // Who asks by words of a command line needs to know whether one is a name also where there
+        // is no memory for it.
         match first_break(text) {
             Some(_) => false,
             None => true,
@@ -106,6 +108,8 @@ fn first_break(text: &[u8]) -> Option<u32>
     ensures some { IfSome result (IsFirstBreak has_app_form app_limit text.now) }
 {
     for (at, byte) in text.iter().enumerate() {
+        // The length is a limit apart from the form: a text of good bytes breaks at the first one
+        // that is too many.
         if at == LIMIT {
             return Some(at as u32);
         }

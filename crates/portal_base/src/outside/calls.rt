@@ -8,12 +8,13 @@ ghost use Rattle.portal_base.specs.Calls.{counted, uncalled, is_to_fail, next_ca
 use crate::list::List;
 use std::marker::Model;
 
+// The count of calls stops at the greatest `u64`, and every later call has that number.
 /// How many calls came, which of them are to fail, and how many failed.
 ///
 /// Where the numbers of those that are to fail rise, a call costs the logarithm
 /// of how many they are; else it looks at each of them, since no memory is
 /// taken to put them in order.
-#[derive(Debug, Drop)]
+#[derive(Drop)]
 pub struct CallCount {
     made: u64,
     failing: List<u64>,

@@ -9,7 +9,7 @@ use std::alloc::Global;
 use std::marker::Model;
 
 /// A source of bytes in memory.
-#[derive(Debug, Drop)]
+#[derive(Drop)]
 pub struct MemorySource {
     bytes: ByteList,
     at: usize,
@@ -94,7 +94,7 @@ fn fill(buffer: &mut [u8], rest: &[u8]) -> usize
 }
 
 /// A sink in memory, which keeps its pieces.
-#[derive(Debug, Drop)]
+#[derive(Drop)]
 pub struct MemorySink {
     alloc: Global,
     pieces: List<ByteList>,
@@ -175,7 +175,7 @@ fn put(alloc: Global, pieces: &mut List<ByteList>, bytes: &[u8]) -> bool
 }
 
 /// A clock that shows what it is set to, which contracts see as its seconds.
-#[derive(Clone, Copy, Debug, Drop)]
+#[derive(Clone, Copy, Drop)]
 pub struct SetClock {
     seconds: u64,
 }
@@ -217,7 +217,7 @@ impl Clock for SetClock {
 }
 
 /// Words out of a list, and then 0, which contracts see as the words to come.
-#[derive(Debug, Drop)]
+#[derive(Drop)]
 pub struct ListWords {
     words: List<u32>,
     at: usize,
