@@ -28,11 +28,7 @@ fn lists(alloc: Global, book: &ViewBook) -> Result<String, VectorError> {
     Ok(out)
 }
 
-fn put_document(
-    alloc: Global,
-    document: &Document,
-    out: &mut String,
-) -> Result<(), VectorError> {
+fn put_document(alloc: Global, document: &Document, out: &mut String) -> Result<(), VectorError> {
     let id = document.id.number;
     let persists = if document.persistent { "p" } else { "" };
     let again = if document.reusable { "r" } else { "" };

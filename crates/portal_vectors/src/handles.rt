@@ -17,9 +17,11 @@ pub fn handles(alloc: Global, rest: &str) -> Result<String, VectorError> {
     let mut handles = Handles::new(alloc, &limits(number(limit)?));
     handles.enter(SEAT)?;
     let mut out = String::new(alloc);
-    for step in steps.split(' ') {
+    for (index, step) in steps.split(' ').enumerate() {
+        if index > 0 {
+            out.push(' ')?;
+        }
         out.push_str(answer(alloc, &mut handles, step)?.as_str())?;
-        out.push(' ')?;
     }
     Ok(out)
 }

@@ -59,11 +59,7 @@ fn answered(
 }
 
 /// How many entries the history has, and their cost.
-fn put_history(
-    alloc: Global,
-    portal: &ScriptPortal,
-    out: &mut String,
-) -> Result<(), VectorError> {
+fn put_history(alloc: Global, portal: &ScriptPortal, out: &mut String) -> Result<(), VectorError> {
     let entries = portal.history().len();
     let cost = portal.history().cost();
     out.push_str(format!(in alloc; "{entries} entries of {cost}")?.as_str())?;
@@ -94,11 +90,7 @@ fn put_step(
 }
 
 /// Sets the clock of a portal.
-fn put_moment(
-    portal: &mut ScriptPortal,
-    moment: u64,
-    out: &mut String,
-) -> Result<(), VectorError> {
+fn put_moment(portal: &mut ScriptPortal, moment: u64, out: &mut String) -> Result<(), VectorError> {
     portal.clock_mut().set(moment);
     out.push_str("set")?;
     Ok(())
