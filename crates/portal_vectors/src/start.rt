@@ -4,7 +4,7 @@ use host_tree::MemoryTree;
 use portal_base::list::List;
 use portal_base::outside::{Clock, ListWords, SetClock, Words};
 use portal_core::portal::Portal;
-use portal_core::start::StartRefusal;
+use portal_start::start::StartRefusal;
 use portal_lines::{DOCUMENTS, PLENTY, limits};
 use portal_model::records::{DocRecord, GrantRecord, Records};
 use record_keeper::{Keeper, KeeperLoad, MemoryKeeper};

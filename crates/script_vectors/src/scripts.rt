@@ -11,7 +11,7 @@ use portal_model::store::StoredEntry;
 use script_form::opening::opening_of;
 use script_form::outside::outside_of;
 use script_form::reader::read_script;
-use script_form::script::{Device, Script, ScriptLine};
+use script_lines::script::{Device, Script, ScriptLine};
 use script_form::writer::write_script;
 use std::alloc::Global;
 use vector_lines::error::{VectorError, bad, given};
