@@ -15,13 +15,23 @@ const SEAT: u32 = 1;
 pub fn handles(alloc: Global, rest: &str) -> Result<String, VectorError> {
     let (limit, steps) = cut(rest);
     let mut handles = Handles::new(alloc, &limits(number(limit)?));
+    let answers = answers(alloc, &mut handles, steps);
+    drop(handles);
+    answers
+}
+
+/// What each step is answered, on a connection that is entered first.
+fn answers(alloc: Global, handles: &mut Handles, steps: &str) -> Result<String, VectorError> {
+    if handles.is_entered(SEAT) {
+        return bad();
+    }
     handles.enter(SEAT)?;
     let mut out = String::new(alloc);
     for (index, step) in steps.split(' ').enumerate() {
         if index > 0 {
             out.push(' ')?;
         }
-        out.push_str(answer(alloc, &mut handles, step)?.as_str())?;
+        out.push_str(answer(alloc, handles, step)?.as_str())?;
     }
     Ok(out)
 }

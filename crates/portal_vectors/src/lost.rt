@@ -11,6 +11,7 @@ use host_tree::MemoryTree;
 use open_handles::{Handle, Handles};
 use portal_base::files::FileName;
 use portal_base::list::List;
+use portal_base::memory::WantOfMemory;
 use portal_base::names::HostPath;
 use portal_base::outside::SetClock;
 use portal_base::who::Who;
@@ -34,6 +35,35 @@ pub fn lost(alloc: Global, rest: &str) -> Result<String, VectorError> {
 }
 
 fn asked(alloc: Global, request: &NodeRequest) -> Result<String, VectorError> {
+    let mut handles = Handles::new(alloc, &limits(1));
+    let shown = match put_file(alloc, &mut handles) {
+        Ok(()) => asked_by(alloc, &mut handles, request),
+        Err(error) => Err(error),
+    };
+    drop(handles);
+    shown
+}
+
+/// A connection that has a file open which the tree has not.
+fn put_file(alloc: Global, handles: &mut Handles) -> Result<(), VectorError> {
+    if handles.is_entered(SEAT) {
+        return bad();
+    }
+    handles.enter(SEAT)?;
+    let file = file(alloc)?;
+    if !handles.is_entered(SEAT) {
+        return bad();
+    }
+    given(alloc, handles.add(SEAT, file))?;
+    Ok(())
+}
+
+/// What is answered on that connection.
+fn asked_by(
+    alloc: Global,
+    handles: &mut Handles,
+    request: &NodeRequest,
+) -> Result<String, VectorError> {
     let documents = Documents::new(alloc, &limits(1));
     let grants = Grants::new(alloc);
     let applications = Applications::new(alloc);
@@ -45,13 +75,10 @@ fn asked(alloc: Global, request: &NodeRequest) -> Result<String, VectorError> {
         },
         file_limit: 100,
     };
-    let mut handles = Handles::new(alloc, &limits(1));
-    handles.enter(SEAT)?;
-    asked_over(alloc, &book, &mut handles, request)
+    served(alloc, &book, handles, request)
 }
 
-/// The same over these records, by the handle that is added.
-fn asked_over(
+fn served(
     alloc: Global,
     book: &FileBook,
     handles: &mut Handles,
@@ -60,27 +87,21 @@ fn asked_over(
     if !handles.is_entered(SEAT) {
         return bad();
     }
-    given(alloc, handles.add(SEAT, file(alloc)?))?;
     let call = NodeCall {
         seat: SEAT,
         who: &Who::Host,
         request,
     };
-    served(alloc, book, handles, &call)
-}
-
-fn served(
-    alloc: Global,
-    book: &FileBook,
-    handles: &mut Handles,
-    call: &NodeCall,
-) -> Result<String, VectorError> {
-    if !handles.is_entered(call.seat) {
-        return bad();
-    }
     let mut tree = MemoryTree::new(alloc, List::new(alloc));
     let mut clock = SetClock::new(9);
-    let done = serve_node(alloc, book, handles, &mut tree, &mut clock, call)?;
+    let done = serve_node(alloc, book, handles, &mut tree, &mut clock, &call);
+    drop(tree);
+    told(alloc, done)
+}
+
+/// What was done, where there was memory.
+fn told(alloc: Global, done: Result<NodeDone, WantOfMemory>) -> Result<String, VectorError> {
+    let done = done?;
     let shown = shown(alloc, &done);
     drop(done);
     shown

@@ -62,13 +62,15 @@ fn entry(alloc: Global, rest: &str) -> Result<Request, VectorError> {
 /// `fds=N handles=N,.. flags=N app=NAME names=NAME,.. name=BYTES`: an addition of so many
 /// presented files, or of the first, which is by name where there is a name.
 fn addition(alloc: Global, words: &str, full: bool) -> Result<AddRequest, VectorError> {
+    let fds = number_or(words, "fds=", 1)?;
+    let flags = number_or(words, "flags=", 0)?;
     let mut add = AddRequest {
         named: value(words, "name=").is_some(),
         full,
         handles: List::new(alloc),
-        fds: number_or(words, "fds=", 1)?,
+        fds,
         name: List::new(alloc),
-        flags: number_or(words, "flags=", 0)?,
+        flags,
         app: List::new(alloc),
         names: List::new(alloc),
     };

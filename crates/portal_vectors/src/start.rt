@@ -4,9 +4,9 @@ use host_tree::MemoryTree;
 use portal_base::list::List;
 use portal_base::outside::{Clock, ListWords, SetClock, Words};
 use portal_core::portal::Portal;
-use portal_start::start::StartRefusal;
 use portal_lines::{DOCUMENTS, PLENTY, limits};
 use portal_model::records::{DocRecord, GrantRecord, Records};
+use portal_start::start::StartRefusal;
 use record_keeper::{Keeper, KeeperLoad, MemoryKeeper};
 use std::alloc::Global;
 use vector_lines::error::{LineError, VectorError};
@@ -20,21 +20,21 @@ type Refusal = StartRefusal<MemoryTree, MemoryKeeper, SetClock, ListWords>;
 /// as `APP=RIGHTS,..`; and what the devices give that come back: the clock, which shows 5, the
 /// words, of which the first is 7, and the keeper. `started` where one starts.
 pub fn start(alloc: Global, rest: &str) -> Result<String, VectorError> {
-    match started(alloc, rest)? {
-        Some(refusal) => handed_back(alloc, refusal),
-        None => Ok(String::from_str(alloc, "started")?),
-    }
-}
-
-/// The refusal of a start over such a keeper.
-fn started(alloc: Global, rest: &str) -> Result<Option<Refusal>, VectorError> {
     let words = ListWords::new(List::copied(alloc, [7].as_slice())?);
     let keeper = keeper(alloc, rest)?;
+    started(alloc, keeper, words)
+}
+
+/// What a portal starts with over a keeper.
+fn started(alloc: Global, keeper: MemoryKeeper, words: ListWords) -> Result<String, VectorError> {
     let tree = MemoryTree::new(alloc, List::new(alloc));
     let clock = SetClock::new(5);
     match Portal::start(alloc, tree, keeper, clock, words, limits(DOCUMENTS, PLENTY)) {
-        Ok(_portal) => Ok(None),
-        Err(refusal) => Ok(Some(refusal)),
+        Ok(portal) => {
+            drop(portal);
+            Ok(String::from_str(alloc, "started")?)
+        }
+        Err(refusal) => handed_back(alloc, refusal),
     }
 }
 
@@ -49,15 +49,19 @@ fn keeper(alloc: Global, rest: &str) -> Result<MemoryKeeper, VectorError> {
 
 /// The records of this version, of the documents behind the first `|`.
 fn records(alloc: Global, version: u32, rest: &str) -> Result<Records, VectorError> {
+    Ok(Records {
+        version,
+        documents: documents(alloc, rest)?,
+        entries: List::new(alloc),
+    })
+}
+
+fn documents(alloc: Global, rest: &str) -> Result<List<DocRecord>, VectorError> {
     let mut documents = List::new(alloc);
     for part in rest.split('|').skip(1) {
         documents.push(document(alloc, part.trim())?)?;
     }
-    Ok(Records {
-        version,
-        documents,
-        entries: List::new(alloc),
-    })
+    Ok(documents)
 }
 
 fn document(alloc: Global, part: &str) -> Result<DocRecord, VectorError> {
