@@ -129,11 +129,7 @@ fn path_content(alloc: Global, files: &[File], path: &HostPath) -> Result<PathCo
 }
 
 /// What is at a path.
-pub fn content_at(
-    alloc: Global,
-    files: &[File],
-    path: &HostPath,
-) -> Result<Content, WantOfMemory>
+pub fn content_at(alloc: Global, files: &[File], path: &HostPath) -> Result<Content, WantOfMemory>
     ensures { IfOk result
         (λ content. content_told content ≡ content_of_tree files.now path.now) }
 {

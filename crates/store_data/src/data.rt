@@ -8,9 +8,9 @@ ghost use Rattle.portal_model.specs.Data.{data_bytes as bytes_of_data, is_data a
 
 use crate::values::{signature_end, value_end};
 use crate::walk::Walk;
+use dbus_types::types::Value;
 use dbus_values::keeping::keeps_rules;
 use dbus_values::nesting::{MOST_NESTED, nesting};
-use dbus_types::types::Value;
 use portal_model::datum::holds_handle;
 
 /// Whether a value may be the data of an entry: it keeps the rules of values and of

@@ -14,9 +14,9 @@ ghost use Rattle.portal_model.specs.Data.{all_keep, is_variant_type, judged};
 ghost use Rattle.store_data.specs.Walks.{Keeps, Passes, Stands, ahead_of_elements};
 
 use crate::walk::{Walk, from_here, padded, passing};
-use dbus_values::keeping::type_leaves;
 use dbus_types::layout::alignment_of;
 use dbus_types::types::{Value, WireType};
+use dbus_values::keeping::type_leaves;
 
 /// How many bytes the elements of an array may have.
 const LONGEST_ARRAY: u64 = 67_108_864;
