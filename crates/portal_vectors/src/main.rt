@@ -1,4 +1,6 @@
-//! Vectors of the portal: its requests, one after another, and its starts.
+//! Vectors of the portal: its requests, one after another, and its starts; and what
+//! no request shows: counts of nodes, numbers of nodes, room for handles, and open
+//! files that are gone.
 //!
 //! Reads lines from standard input. A line names a call, and what the call is
 //! given; its answer is printed as a line. Empty lines and lines that begin with
@@ -6,10 +8,20 @@
 //! numbers of those of the input. The modules say which lines there are.
 #![tactic(auto)]
 
+mod answers;
+mod book;
+mod desk;
+mod given;
+mod handles;
+mod inodes;
+mod limits;
+mod lost;
 mod nodes;
+mod places;
 mod portal;
 mod requests;
 mod start;
+mod words;
 
 use std::alloc::Global;
 use std::io;
@@ -25,9 +37,13 @@ fn main(rt: HostRuntime) -> io::Result<()> {
 fn answer(alloc: Global, line: &str) -> Result<String, VectorError> {
     let (kind, rest) = cut(line);
     match kind {
-        "portal" => portal::portal(alloc, rest),
-        "history" => portal::history(alloc),
+        "portal" => portal::portal(alloc, rest, false),
+        "given" => portal::portal(alloc, rest, true),
         "start" => start::start(alloc, rest),
+        "inodes" => inodes::inodes(alloc, rest),
+        "handles" => handles::handles(alloc, rest),
+        "lost" => lost::lost(alloc, rest),
+        "place" => places::place(alloc, rest),
         _ => bad(),
     }
 }

@@ -1,69 +1,96 @@
-//! Requests on nodes as lines name them, by user and group 1000.
+//! Requests on nodes as lines name them, by the user 1000 and the group 1001.
 
-use portal_model::request::{NodeOp, NodeRequest, Request};
+use portal_model::request::{NodeOp, NodeRequest};
 use std::alloc::Global;
 use vector_lines::error::{VectorError, bad};
 use vector_lines::notation::{cut, number, small_number, text};
 
-/// Whether a word names a request on a node.
-pub fn is_on_node(word: &str) -> bool {
-    matches!(
-        word,
-        "getattr" | "named" | "access" | "open" | "create" | "read" | "write" | "release"
-    )
-}
-
-/// The request of a word, of the node ahead of what else it is given.
-pub fn node_request(alloc: Global, word: &str, rest: &str) -> Result<Request, VectorError> {
+/// The request of a word, of the node ahead of what else it is given: `named NODE NAME` for a
+/// LOOKUP, `forget NODE COUNT`, `getattr NODE FLAGS FH`, `setattr NODE VALID FH SIZE`, `open
+/// NODE FLAGS`, `create NODE FLAGS NAME`, `read NODE FH OFFSET SIZE`, `write NODE FH OFFSET
+/// TEXT`, `flush NODE FH`, `fsync NODE FH`, `release NODE FH`, `opendir NODE`, `readdir NODE FH
+/// OFFSET SIZE`, `releasedir NODE FH` and `access NODE MASK`.
+pub fn node_request(alloc: Global, word: &str, rest: &str) -> Result<NodeRequest, VectorError> {
     let (node, rest) = cut(rest);
-    Ok(Request::Node(NodeRequest {
+    Ok(NodeRequest {
         node: number(node)?,
         uid: 1000,
-        gid: 1000,
+        gid: 1001,
         op: op(alloc, word, rest)?,
-    }))
+    })
 }
 
 fn op(alloc: Global, word: &str, rest: &str) -> Result<NodeOp, VectorError> {
     let (first, more) = cut(rest);
     match word {
-        "getattr" => Ok(NodeOp::GetAttr {
-            flags: small_number(first)?,
-            fh: number(more)?,
-        }),
         "named" => Ok(NodeOp::Lookup {
             name: text(alloc, rest)?,
-        }),
-        "access" => Ok(NodeOp::Access {
-            mask: small_number(rest)?,
-        }),
-        "open" => Ok(NodeOp::Open {
-            flags: small_number(rest)?,
         }),
         "create" => Ok(NodeOp::Create {
             name: text(alloc, more)?,
             flags: small_number(first)?,
         }),
-        "release" => Ok(NodeOp::Release { fh: number(rest)? }),
-        _ => moved(alloc, word, number(first)?, more),
+        "opendir" => Ok(NodeOp::OpenDir),
+        "write" => written(alloc, number(first)?, more),
+        "open" | "access" => flagged(word, small_number(first)?),
+        "getattr" => Ok(NodeOp::GetAttr {
+            flags: small_number(first)?,
+            fh: number(more)?,
+        }),
+        "setattr" => resized(small_number(first)?, more),
+        _ => numbered(word, number(first)?, more),
     }
 }
 
-/// A READ or a WRITE by the number of a handle.
-fn moved(alloc: Global, word: &str, fh: u64, rest: &str) -> Result<NodeOp, VectorError> {
-    let (offset, more) = cut(rest);
+/// A WRITE by the number of a handle.
+fn written(alloc: Global, fh: u64, rest: &str) -> Result<NodeOp, VectorError> {
+    let (offset, content) = cut(rest);
     let offset = number(offset)?;
+    Ok(NodeOp::Write {
+        fh,
+        offset,
+        content: text(alloc, content)?,
+    })
+}
+
+/// An OPEN or an ACCESS.
+fn flagged(word: &str, flags: u32) -> Result<NodeOp, VectorError> {
     match word {
-        "read" => Ok(NodeOp::Read {
-            fh,
-            offset,
-            size: small_number(more)?,
-        }),
-        "write" => Ok(NodeOp::Write {
-            fh,
-            offset,
-            content: text(alloc, more)?,
-        }),
+        "open" => Ok(NodeOp::Open { flags }),
+        _ => Ok(NodeOp::Access { mask: flags }),
+    }
+}
+
+/// A SETATTR.
+fn resized(valid: u32, rest: &str) -> Result<NodeOp, VectorError> {
+    let (fh, size) = cut(rest);
+    Ok(NodeOp::SetAttr {
+        valid,
+        fh: number(fh)?,
+        size: number(size)?,
+    })
+}
+
+/// A request by the number of a handle; or a FORGET, by its count.
+fn numbered(word: &str, fh: u64, rest: &str) -> Result<NodeOp, VectorError> {
+    match word {
+        "forget" => Ok(NodeOp::Forget { count: fh }),
+        "flush" => Ok(NodeOp::Flush { fh }),
+        "fsync" => Ok(NodeOp::Fsync { fh }),
+        "release" => Ok(NodeOp::Release { fh }),
+        "releasedir" => Ok(NodeOp::ReleaseDir { fh }),
+        _ => part(word, fh, rest),
+    }
+}
+
+/// A READ or a READDIR.
+fn part(word: &str, fh: u64, rest: &str) -> Result<NodeOp, VectorError> {
+    let (offset, size) = cut(rest);
+    let offset = number(offset)?;
+    let size = small_number(size)?;
+    match word {
+        "read" => Ok(NodeOp::Read { fh, offset, size }),
+        "readdir" => Ok(NodeOp::ReadDir { fh, offset, size }),
         _ => bad(),
     }
 }

@@ -1,46 +1,38 @@
-//! Requests as lines name them, and how their answers are printed.
+//! Requests as lines name them.
 
-use crate::nodes::{is_on_node, node_request};
+use crate::nodes::node_request;
+use crate::words::{bytes_of, number_or, numbers_of, texts, texts_of, value};
 use portal_base::list::List;
-use portal_base::names::DocId;
-use portal_base::text::Text;
 use portal_lines::{kind, who};
-use portal_model::records::Row;
-use portal_model::reply::{Answer, ListedDocument, NodeAnswer, Refused, Reply};
 use portal_model::request::{AddRequest, Request, RightsCall};
-use record_lines::{addition, number_or};
 use std::alloc::Global;
-use vector_lines::error::{LineError, VectorError};
-use vector_lines::notation::{cut, debug, number, small_number, text};
+use vector_lines::error::VectorError;
+use vector_lines::notation::{cut, text};
 
-/// The request of a line's words.
+/// The request of a line's words: `enter WHO KIND`, `leave`, `collect`; on documents `present
+/// PATH`, `add ARGUMENT ..` and `addfull ARGUMENT ..`, `grant DOCUMENT APPLICATION RIGHT,RIGHT
+/// ..`, `revoke ..`, `delete DOCUMENT`, `lookup PATH`, `info DOCUMENT` and `list APPLICATION`;
+/// and those on nodes.
 pub fn request_of(alloc: Global, words: &str) -> Result<Request, VectorError> {
     let (word, rest) = cut(words);
     match word {
-        "enter" => {
-            let (name, speaks) = cut(rest);
-            Ok(Request::Enter {
-                who: who(alloc, name)?,
-                kind: kind(speaks)?,
-            })
-        }
+        "enter" => entry(alloc, rest),
         "leave" => Ok(Request::Leave),
         "collect" => Ok(Request::Collect),
-        _ if is_on_node(word) => node_request(alloc, word, rest),
-        _ => document_request(alloc, word, rest),
+        "add" => Ok(Request::Add(addition(alloc, rest, false)?)),
+        "addfull" => Ok(Request::Add(addition(alloc, rest, true)?)),
+        "grant" => Ok(Request::Grant(rights_call(alloc, rest)?)),
+        "revoke" => Ok(Request::Revoke(rights_call(alloc, rest)?)),
+        _ => named_request(alloc, word, rest),
     }
 }
 
-/// A request on documents.
-fn document_request(alloc: Global, word: &str, rest: &str) -> Result<Request, VectorError> {
+/// A request of one text, or on a node.
+fn named_request(alloc: Global, word: &str, rest: &str) -> Result<Request, VectorError> {
     match word {
         "present" => Ok(Request::Present {
             path: text(alloc, rest)?,
         }),
-        "add" => Ok(Request::Add(add(alloc, rest, false)?)),
-        "addfull" => Ok(Request::Add(add(alloc, rest, true)?)),
-        "grant" => Ok(Request::Grant(rights_call(alloc, rest)?)),
-        "revoke" => Ok(Request::Revoke(rights_call(alloc, rest)?)),
         "delete" => Ok(Request::DeleteDocument {
             doc: text(alloc, rest)?,
         }),
@@ -53,111 +45,64 @@ fn document_request(alloc: Global, word: &str, rest: &str) -> Result<Request, Ve
         "list" => Ok(Request::ListDocuments {
             app: text(alloc, rest)?,
         }),
-        _ => Err(VectorError::Line(LineError::BadLine)),
+        _ => Ok(Request::Node(node_request(alloc, word, rest)?)),
     }
 }
 
-/// `fds=N ARGUMENT ..`: an addition of so many presented files, or of the first.
-fn add(alloc: Global, words: &str, full: bool) -> Result<AddRequest, VectorError> {
-    let files = number_or(words, "fds=", 1)?;
-    let add = addition(alloc, words, files as usize)?;
-    Ok(AddRequest { full, ..add })
-}
-
-/// A document, an application and rights between commas.
-fn rights_call(alloc: Global, rest: &str) -> Result<RightsCall, VectorError> {
-    let (doc, rest) = cut(rest);
-    let (app, names) = cut(rest);
-    let names = names_of(alloc, names)?;
-    Ok(RightsCall {
-        doc: text(alloc, doc)?,
-        app: text(alloc, app)?,
-        names,
+/// `WHO KIND`: an Enter.
+fn entry(alloc: Global, rest: &str) -> Result<Request, VectorError> {
+    let (name, speaks) = cut(rest);
+    let kind = kind(speaks)?;
+    Ok(Request::Enter {
+        who: who(alloc, name)?,
+        kind,
     })
 }
 
-/// Texts between commas.
-fn names_of(alloc: Global, words: &str) -> Result<List<Text>, VectorError> {
-    let mut names = List::new(alloc);
-    for name in words.split(',') {
-        names.push(Text::copied(alloc, name)?)?;
-    }
-    Ok(names)
-}
-
-/// What a request is answered.
-pub fn shown(alloc: Global, reply: &Result<Reply, Refused>) -> Result<String, VectorError> {
-    match reply {
-        Ok(reply) => answer(alloc, &reply.answer),
-        Err(refused) => Ok(debug(alloc, refused)?),
-    }
-}
-
-fn answer(alloc: Global, answer: &Answer) -> Result<String, VectorError> {
-    match answer {
-        Answer::Ids(ids) => identifiers(alloc, ids.as_slice()),
-        Answer::Info { path, rights } => {
-            let mut out = format!(in alloc; "Info ")?;
-            put_bytes(alloc, &mut out, path.as_slice())?;
-            put_rows(&mut out, rights.as_slice())?;
-            Ok(out)
+/// `fds=N handles=N,.. flags=N app=NAME names=NAME,.. name=BYTES`: an addition of so many
+/// presented files, or of the first, which is by name where there is a name.
+fn addition(alloc: Global, words: &str, full: bool) -> Result<AddRequest, VectorError> {
+    let fds = number_or(words, "fds=", 1)?;
+    let flags = number_or(words, "flags=", 0)?;
+    let mut add = AddRequest {
+        named: value(words, "name=").is_some(),
+        full,
+        handles: List::new(alloc),
+        fds,
+        name: List::new(alloc),
+        flags,
+        app: List::new(alloc),
+        names: List::new(alloc),
+    };
+    match put_lists(alloc, &mut add, words) {
+        Ok(()) => Ok(add),
+        Err(error) => {
+            drop(add);
+            Err(error)
         }
-        Answer::Listed(documents) => listed(alloc, documents.as_slice()),
-        Answer::Node(NodeAnswer::Content(content)) => {
-            let mut out = format!(in alloc; "Content ")?;
-            put_bytes(alloc, &mut out, content.as_slice())?;
-            Ok(out)
-        }
-        _ => Ok(debug(alloc, answer)?),
     }
 }
 
-fn identifiers(alloc: Global, ids: &[Text]) -> Result<String, VectorError> {
-    let mut out = format!(in alloc; "Ids")?;
-    for id in ids {
-        out.push_str(if id.as_str().is_empty() { " -" } else { " " })?;
-        out.push_str(id.as_str())?;
-    }
-    Ok(out)
-}
-
-fn listed(alloc: Global, documents: &[ListedDocument]) -> Result<String, VectorError> {
-    let mut out = format!(in alloc; "Listed")?;
-    for document in documents {
-        out.push_str(" ")?;
-        put_id(alloc, &mut out, document.id)?;
-        out.push_str(" ")?;
-        put_bytes(alloc, &mut out, document.path.as_slice())?;
-    }
-    Ok(out)
-}
-
-fn put_rows(out: &mut String, rows: &[Row]) -> Result<(), VectorError> {
-    for row in rows {
-        out.push_str(" ")?;
-        out.push_str(row.app.as_str())?;
-        out.push_str("=")?;
-        put_names(out, row.names.as_slice())?;
-    }
+/// The arguments of an addition that are lists.
+fn put_lists(alloc: Global, add: &mut AddRequest, words: &str) -> Result<(), VectorError> {
+    add.handles = numbers_of(alloc, words, "handles=")?;
+    add.name = bytes_of(alloc, words, "name=")?;
+    add.app = bytes_of(alloc, words, "app=")?;
+    add.names = texts_of(alloc, words, "names=")?;
     Ok(())
 }
 
-fn put_names(out: &mut String, names: &[Text]) -> Result<(), VectorError> {
-    for (index, name) in names.iter().enumerate() {
-        if index > 0 {
-            out.push_str(",")?;
-        }
-        out.push_str(name.as_str())?;
-    }
-    Ok(())
-}
-
-fn put_id(alloc: Global, out: &mut String, id: DocId) -> Result<(), VectorError> {
-    out.push_str(String::from_utf8_lossy(alloc, id.text().as_slice())?.as_str())?;
-    Ok(())
-}
-
-fn put_bytes(alloc: Global, out: &mut String, bytes: &[u8]) -> Result<(), VectorError> {
-    out.push_str(String::from_utf8_lossy(alloc, bytes)?.as_str())?;
-    Ok(())
+/// A document, an application and rights between commas; none where there is no word.
+fn rights_call(alloc: Global, rest: &str) -> Result<RightsCall, VectorError> {
+    let (doc, rest) = cut(rest);
+    let (app, names) = rest.split_once(' ').unwrap_or((rest, ""));
+    Ok(RightsCall {
+        doc: text(alloc, doc)?,
+        app: text(alloc, app)?,
+        names: if rest.contains(' ') {
+            texts(alloc, names)?
+        } else {
+            List::new(alloc)
+        },
+    })
 }

@@ -9,10 +9,16 @@ use vector_lines::notation::{cut, number, small_number};
 /// first.
 pub fn inodes(alloc: Global, rest: &str) -> Result<String, VectorError> {
     let mut inodes = InodeTable::new(alloc);
+    let answers = answers(alloc, &mut inodes, rest);
+    drop(inodes);
+    answers
+}
+
+fn answers(alloc: Global, inodes: &mut InodeTable, rest: &str) -> Result<String, VectorError> {
     let mut out = String::new(alloc);
     for step in rest.split(", ") {
         let (word, rest) = cut(step);
-        out.push_str(answer(alloc, &mut inodes, word, rest)?.as_str())?;
+        out.push_str(answer(alloc, inodes, word, rest)?.as_str())?;
     }
     Ok(out)
 }

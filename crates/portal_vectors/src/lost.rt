@@ -1,0 +1,128 @@
+//! Requests by a handle whose file is gone.
+
+use crate::answers::answer;
+use crate::given::{put_fault, put_seen};
+use crate::handles::limits;
+use crate::nodes::node_request;
+use app_view::ViewBook;
+use document_records::{Applications, Documents, Grants};
+use file_ops::{FileBook, NodeCall, NodeDone, serve_node};
+use host_tree::MemoryTree;
+use open_handles::{Handle, Handles};
+use portal_base::files::FileName;
+use portal_base::list::List;
+use portal_base::memory::WantOfMemory;
+use portal_base::names::HostPath;
+use portal_base::outside::SetClock;
+use portal_base::who::Who;
+use portal_model::request::NodeRequest;
+use std::alloc::Global;
+use vector_lines::error::{VectorError, bad, given};
+use vector_lines::notation::cut;
+
+/// The seat of the one connection.
+const SEAT: u32 = 1;
+
+/// `lost REQUEST`: what a request on a node is answered, and what the outside gave to it, on a
+/// connection of the host that has the file of node 8589934602 open by the number 1, to read and
+/// to write, where the tree has no file. A file may have 100 bytes.
+pub fn lost(alloc: Global, rest: &str) -> Result<String, VectorError> {
+    let (word, rest) = cut(rest);
+    let request = node_request(alloc, word, rest)?;
+    let shown = asked(alloc, &request);
+    drop(request);
+    shown
+}
+
+fn asked(alloc: Global, request: &NodeRequest) -> Result<String, VectorError> {
+    let mut handles = Handles::new(alloc, &limits(1));
+    let shown = match put_file(alloc, &mut handles) {
+        Ok(()) => asked_by(alloc, &mut handles, request),
+        Err(error) => Err(error),
+    };
+    drop(handles);
+    shown
+}
+
+/// A connection that has a file open which the tree has not.
+fn put_file(alloc: Global, handles: &mut Handles) -> Result<(), VectorError> {
+    if handles.is_entered(SEAT) {
+        return bad();
+    }
+    handles.enter(SEAT)?;
+    let file = file(alloc)?;
+    if !handles.is_entered(SEAT) {
+        return bad();
+    }
+    given(alloc, handles.add(SEAT, file))?;
+    Ok(())
+}
+
+/// What is answered on that connection.
+fn asked_by(
+    alloc: Global,
+    handles: &mut Handles,
+    request: &NodeRequest,
+) -> Result<String, VectorError> {
+    let documents = Documents::new(alloc, &limits(1));
+    let grants = Grants::new(alloc);
+    let applications = Applications::new(alloc);
+    let book = FileBook {
+        view: ViewBook {
+            documents: &documents,
+            grants: &grants,
+            applications: &applications,
+        },
+        file_limit: 100,
+    };
+    served(alloc, &book, handles, request)
+}
+
+fn served(
+    alloc: Global,
+    book: &FileBook,
+    handles: &mut Handles,
+    request: &NodeRequest,
+) -> Result<String, VectorError> {
+    if !handles.is_entered(SEAT) {
+        return bad();
+    }
+    let call = NodeCall {
+        seat: SEAT,
+        who: &Who::Host,
+        request,
+    };
+    let mut tree = MemoryTree::new(alloc, List::new(alloc));
+    let mut clock = SetClock::new(9);
+    let done = serve_node(alloc, book, handles, &mut tree, &mut clock, &call);
+    drop(tree);
+    told(alloc, done)
+}
+
+/// What was done, where there was memory.
+fn told(alloc: Global, done: Result<NodeDone, WantOfMemory>) -> Result<String, VectorError> {
+    let done = done?;
+    let shown = shown(alloc, &done);
+    drop(done);
+    shown
+}
+
+/// A handle that reads and writes a file.
+fn file(alloc: Global) -> Result<Handle, VectorError> {
+    Ok(Handle::File {
+        name: FileName {
+            path: given(alloc, HostPath::read(alloc, b"/home/b.txt".as_slice()))?,
+            generation: 0,
+        },
+        node: 8_589_934_602,
+        read: true,
+        write: true,
+    })
+}
+
+fn shown(alloc: Global, done: &NodeDone) -> Result<String, VectorError> {
+    let mut out = answer(alloc, &done.answer)?;
+    put_seen(alloc, done.looks.len(), done.now, &mut out)?;
+    put_fault(done.fault, &mut out)?;
+    Ok(out)
+}

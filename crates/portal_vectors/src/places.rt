@@ -1,0 +1,32 @@
+//! The numbers of nodes.
+
+use app_view::{node_of, place_of};
+use portal_model::place::Place;
+use std::alloc::Global;
+use vector_lines::error::VectorError;
+use vector_lines::notation::{debug, number};
+
+/// More than any view.
+const VIEWS: u32 = 0x1000_0000;
+
+/// `place NODE`: the place that a number names, and the number of that place.
+pub fn place(alloc: Global, rest: &str) -> Result<String, VectorError> {
+    match place_of(number(rest)?) {
+        Some(place) => there_and_back(alloc, place),
+        None => Ok(String::from_str(alloc, "none")?),
+    }
+}
+
+fn there_and_back(alloc: Global, place: Place) -> Result<String, VectorError> {
+    let node = numbered(place);
+    Ok(format!(in alloc; "{place:?} {node:?}")?)
+}
+
+/// The number of a place, where there is such a view.
+fn numbered(place: Place) -> Option<u64> {
+    match place {
+        Place::Root { view } | Place::Folder { view, .. } | Place::File { view, .. }
+            if view >= VIEWS => None,
+        _ => Some(node_of(place)),
+    }
+}
