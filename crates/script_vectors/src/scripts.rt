@@ -1,245 +1,194 @@
-//! Scripts, as they are read.
+//! The program's words over an input, as a run of it.
+//!
+//! A line is `WORDS | LINE | LINE ..`: the words behind the program's name, and the
+//! lines of its input, each with its line feed but for one that ends in `\`. Bytes
+//! between braces are words of hexadecimal digits and texts between quotes, which the
+//! input has as digits. The answer is the status, and each line of output.
+//!
+//! A line that has braces is run four times: as it stands, and with what a `data` line
+//! has between braces in lines of 57 bytes, of 3 and of 1, or in a thousand lines where
+//! it is longer. The answer is one where it is the same.
 
-ghost use Rattle.script_form.specs.Opening.{HoldsScripts};
-
-use portal_base::limits::Limits;
-use portal_base::names::AppId;
-use portal_base::who::{Kind, Who};
-use portal_model::opening::{FileItem, OpeningDocument};
-use portal_model::records::{EntryRecord, GrantRecord};
-use portal_model::store::StoredEntry;
-use script_form::opening::opening_of;
-use script_form::outside::outside_of;
+use portal_base::list::{ByteList, List};
+use portal_base::outside::{MemorySink, MemorySource};
+use portal_base::text::Text;
+use portal_lines::LONGEST;
+use script_command::run::run;
+use script_command::status::Status;
 use script_form::reader::read_script;
 use script_form::writer::write_script;
-use script_lines::script::{Device, Script, ScriptLine};
-use std::alloc::Global;
-use vector_lines::error::{VectorError, bad, given};
-use vector_lines::notation::{self, debug, digits};
-use vector_lines::values;
+use std::alloc::{AllocError, Global};
+use vector_lines::error::{LineError, VectorError, bad, given};
+use vector_lines::notation::{bytes, cut, debug, digits, number, text};
 
-/// The most bytes that a script may have.
-const LONGEST: usize = 67_108_864;
+/// More bytes, or lines, than there are.
+const ALL: usize = 1_000_000_000;
 
-/// The limits of the portal that a script opens.
-fn limits() -> Limits
-    ensures { HoldsScripts result }
-{
-    Limits {
-        documents: 65_536,
-        made: 1_048_576,
-        history: 536_870_912,
-        handles: 1_024,
-        queued: 16,
-        file_bytes: 268_435_456,
-    }
+/// How many lines bring what one `data` line has between braces, about and at most.
+const MOST_PIECES: usize = 1_000;
+
+/// How a line is run, and what of its output is printed.
+#[derive(Clone, Copy)]
+struct Way {
+    /// The read of the input that fails; none where it is 0.
+    read: u64,
+    /// The write of the output that fails; none where it is 0.
+    write: u64,
+    /// How many lines of the output are printed: the last ones.
+    last: usize,
 }
 
-/// Reads the script that a text is.
-fn read(alloc: Global, rest: &str) -> Result<Script, VectorError> {
-    let text = notation::text(alloc, rest)?;
-    if text.len() > LONGEST {
+const WHOLE: Way = Way {
+    read: 0,
+    write: 0,
+    last: ALL,
+};
+
+/// `WORDS | LINE | LINE ..`.
+pub fn script(alloc: Global, line: &str) -> Result<String, VectorError> {
+    ran_in_sizes(alloc, line, WHOLE)
+}
+
+/// `read K WORDS | LINE ..`: the same where the K-th read of the input fails.
+pub fn with_failing_read(alloc: Global, rest: &str) -> Result<String, VectorError> {
+    let (read, line) = cut(rest);
+    let read = number(read)?;
+    ran_in_sizes(alloc, line, Way { read, ..WHOLE })
+}
+
+/// `write K WORDS | LINE ..`: the same where the K-th write of the output fails.
+pub fn with_failing_write(alloc: Global, rest: &str) -> Result<String, VectorError> {
+    let (write, line) = cut(rest);
+    let write = number(write)?;
+    ran_in_sizes(alloc, line, Way { write, ..WHOLE })
+}
+
+/// `last N WORDS | LINE ..`: the same, of which the last N lines of output are
+/// printed.
+pub fn last(alloc: Global, rest: &str) -> Result<String, VectorError> {
+    let (last, line) = cut(rest);
+    let last = number(last)? as usize;
+    ran_in_sizes(alloc, line, Way { last, ..WHOLE })
+}
+
+/// `written LINE | LINE ..`: the script that the lines are read as, written.
+pub fn written(alloc: Global, lines: &str) -> Result<String, VectorError> {
+    let lines = input(alloc, lines, ALL)?;
+    if lines.len() > LONGEST {
         return bad();
     }
-    given(alloc, read_script(alloc, text.as_slice()))
-}
-
-/// `script TEXT`: how many lines the script has, or the number of the first
-/// that is no line of a script.
-pub fn script(alloc: Global, rest: &str) -> Result<String, VectorError> {
-    let count = read(alloc, rest)?.lines.len();
-    Ok(format!(in alloc; "{count} lines")?)
-}
-
-/// `line TEXT`: what the lines of the script say.
-pub fn line(alloc: Global, rest: &str) -> Result<String, VectorError> {
-    let script = read(alloc, rest)?;
-    let mut out = String::new(alloc);
-    for (index, line) in script.lines.iter().enumerate() {
-        if index > 0 {
-            out.push_str("; ")?;
-        }
-        out.push_str(shown(alloc, line)?.as_str())?;
-    }
-    Ok(out)
-}
-
-/// `written TEXT`: the script that the text is read as, written.
-pub fn written(alloc: Global, rest: &str) -> Result<String, VectorError> {
-    let text = notation::text(alloc, rest)?;
-    if text.len() > LONGEST {
-        return bad();
-    }
-    let script = given(alloc, read_script(alloc, text.as_slice()))?;
-    let text = write_script(alloc, &script)?;
-    let text = String::from_utf8_lossy(alloc, text.as_slice())?;
+    let script = given(alloc, read_script(alloc, lines.as_slice()))?;
+    let text = write_script(alloc, &script);
+    drop(script);
+    let text = String::from_utf8_lossy(alloc, text?.as_slice())?;
     Ok(debug(alloc, &text)?)
 }
 
-/// `outside TEXT`: the words of the script, and the numbers of the calls of the
-/// tree and of the keeper that fail.
-pub fn outside(alloc: Global, rest: &str) -> Result<String, VectorError> {
-    let script = read(alloc, rest)?;
-    let told = outside_of(alloc, &script)?;
-    let words = debug(alloc, &told.words.as_slice())?;
-    let tree = debug(alloc, &told.tree_fails.as_slice())?;
-    let keeper = debug(alloc, &told.keeper_fails.as_slice())?;
-    Ok(format!(in alloc; "words {words}; of the tree {tree}; of the keeper {keeper}")?)
-}
-
-/// What a line says, in the order of its words.
-fn shown(alloc: Global, line: &ScriptLine) -> Result<String, VectorError> {
-    match line {
-        ScriptLine::File { path, content } => {
-            let path = String::from_utf8_lossy(alloc, path.as_bytes())?;
-            let content = digits(alloc, content.as_slice())?;
-            Ok(format!(in alloc; "file {path} of bytes {content}")?)
-        }
-        ScriptLine::Doc {
-            id,
-            reusable,
-            path,
-            grants,
-        } => {
-            let number = id.number;
-            let path = String::from_utf8_lossy(alloc, path.as_bytes())?;
-            let grants = shown_grants(alloc, grants.as_slice())?;
-            Ok(format!(in alloc;
-                "document {number} reusable {reusable} of {path} granted{grants}"
-            )?)
-        }
-        ScriptLine::Entry(entry) => shown_entry(alloc, entry),
-        ScriptLine::Fail { device, call } => {
-            let device = shown_device(*device);
-            Ok(format!(in alloc; "call {call} of {device} fails")?)
-        }
-        ScriptLine::Word { word } => Ok(format!(in alloc; "word {word}")?),
-        ScriptLine::Now { moment } => Ok(format!(in alloc; "the clock shows {moment}")?),
-        ScriptLine::Open { seat, kind, who } => {
-            let kind = shown_kind(*kind);
-            let who = shown_who(alloc, who)?;
-            Ok(format!(in alloc; "{seat} opens {kind} of {who}")?)
-        }
-        ScriptLine::Data { seat, bytes } => {
-            let bytes = digits(alloc, bytes.as_slice())?;
-            Ok(format!(in alloc; "{seat} gets bytes {bytes}")?)
-        }
-        ScriptLine::Close { seat } => Ok(format!(in alloc; "{seat} closes")?),
+fn ran_in_sizes(alloc: Global, line: &str, way: Way) -> Result<String, VectorError> {
+    let whole = ran(alloc, line, ALL, way)?;
+    if !line.contains('{') {
+        return Ok(whole);
     }
-}
-
-fn shown_device(device: Device) -> &'static str {
-    match device {
-        Device::Tree => "the tree",
-        Device::Keeper => "the keeper",
-    }
-}
-
-/// An entry with its data and rows, each application with its permissions.
-fn shown_entry(alloc: Global, entry: &EntryRecord) -> Result<String, VectorError> {
-    let table = entry.table.as_str();
-    let id = entry.id.as_str();
-    let datum = digits(alloc, entry.datum.as_slice())?;
-    let mut out = format!(in alloc; "entry {id} of {table} holds {datum}")?;
-    for row in entry.rows.iter() {
-        let app = row.app.as_str();
-        out.push_str(format!(in alloc; " {app}")?.as_str())?;
-        for name in row.names.iter() {
-            let name = name.as_str();
-            out.push_str(format!(in alloc; " +{name}")?.as_str())?;
+    for size in [57, 3, 1] {
+        let told = ran(alloc, line, size, way)?;
+        if told != whole {
+            return Ok(format!(in alloc; "{whole}; but by {size}: {told}")?);
         }
     }
-    Ok(out)
+    Ok(whole)
 }
 
-fn shown_kind(kind: Kind) -> &'static str {
-    match kind {
-        Kind::Bus => "a bus",
-        Kind::Mount => "a mount",
+/// Runs a line whose data come so many bytes at a time.
+fn ran(alloc: Global, line: &str, size: usize, way: Way) -> Result<String, VectorError> {
+    let (words, lines) = line.split_once(" | ").unwrap_or((line, ""));
+    let words = words_of(alloc, words)?;
+    let lines = input(alloc, lines, size)?;
+    let mut source = MemorySource::new(lines, way.read);
+    let mut sink = MemorySink::new(alloc, way.write);
+    let status = run(alloc, words.as_slice(), &mut source, &mut sink);
+    told(alloc, status, sink.pieces().as_slice(), way.last)
+}
+
+fn words_of(alloc: Global, line: &str) -> Result<List<Text>, VectorError> {
+    let mut words = List::new(alloc);
+    for word in line.split(' ') {
+        words.push(Text::from_string(String::from_str(alloc, word)?))?;
     }
+    Ok(words)
 }
 
-fn shown_who(alloc: Global, who: &Who) -> Result<String, VectorError> {
-    match who {
-        Who::Host => Ok(String::from_str(alloc, "the host")?),
-        Who::App(app) => Ok(String::from_utf8_lossy(alloc, app.as_bytes())?),
+/// The text of these lines.
+fn input(alloc: Global, lines: &str, size: usize) -> Result<ByteList, LineError> {
+    let mut all = List::new(alloc);
+    if lines.is_empty() {
+        return Ok(all);
     }
-}
-
-/// Each application with the sum of its rights: read 1, write 2,
-/// grant-permissions 4, delete 8.
-fn shown_grants(alloc: Global, grants: &[GrantRecord]) -> Result<String, VectorError> {
-    let mut out = String::new(alloc);
-    for grant in grants {
-        let app = String::from_utf8_lossy(alloc, grant.app.as_slice())?;
-        let rights = grant.rights;
-        out.push_str(format!(in alloc; " {app} {rights}")?.as_str())?;
+    for line in lines.split(" | ") {
+        let (line, end) = match line.strip_suffix('\\') {
+            Some(line) => (line, ""),
+            None => (line, "\n"),
+        };
+        put_line(alloc, &mut all, line, end, size)?;
     }
-    Ok(out)
+    Ok(all)
 }
 
-/// `opening TEXT`: the state that the script opens with: its applications in
-/// the order of their numbers, its documents, its files and its entries with
-/// their data.
-pub fn opening(alloc: Global, rest: &str) -> Result<String, VectorError> {
-    let text = notation::text(alloc, rest)?;
-    if text.len() > LONGEST {
-        return bad();
-    }
-    let script = given(alloc, read_script(alloc, text.as_slice()))?;
-    let opening = opening_of(alloc, &script, limits())?;
-    let mut out = String::new(alloc);
-    put_applications(alloc, &mut out, opening.applications.as_slice())?;
-    put_documents(alloc, &mut out, opening.documents.as_slice())?;
-    let made = opening.made.len();
-    out.push_str(format!(in alloc; "; made {made}")?.as_str())?;
-    put_files(alloc, &mut out, opening.files.as_slice())?;
-    put_entries(alloc, &mut out, opening.entries.as_slice())?;
-    Ok(out)
-}
-
-fn put_applications(alloc: Global, out: &mut String, apps: &[AppId]) -> Result<(), VectorError> {
-    out.push_str("applications")?;
-    for app in apps {
-        let name = String::from_utf8_lossy(alloc, app.as_bytes())?;
-        out.push_str(format!(in alloc; " {name}")?.as_str())?;
-    }
-    Ok(())
-}
-
-fn put_documents(
+/// Puts a line, or one for each piece of the bytes that a `data` line has between
+/// braces.
+fn put_line(
     alloc: Global,
-    out: &mut String,
-    documents: &[OpeningDocument],
-) -> Result<(), VectorError> {
-    for document in documents {
-        let number = document.kept.number;
-        let persistent = document.persistent;
-        out.push_str(format!(in alloc; "; document {number} kept {persistent}")?.as_str())?;
+    all: &mut ByteList,
+    line: &str,
+    end: &str,
+    size: usize,
+) -> Result<(), LineError> {
+    let Some((front, rest)) = line.split_once('{') else {
+        all.extend_from_slice(text(alloc, line)?.as_slice())?;
+        return Ok(all.extend_from_slice(end.as_bytes())?);
+    };
+    let (content, rest) = rest.split_once('}').unwrap_or((rest, ""));
+    let content = bytes(alloc, content)?;
+    let size = if front.starts_with("data ") {
+        size.max(content.len() / MOST_PIECES)
+    } else {
+        ALL
+    };
+    for piece in content.as_slice().chunks(size.max(1)) {
+        all.extend_from_slice(front.as_bytes())?;
+        all.extend_from_slice(digits(alloc, piece)?.as_bytes())?;
+        all.extend_from_slice(rest.as_bytes())?;
+        all.extend_from_slice(end.as_bytes())?;
     }
     Ok(())
 }
 
-fn put_files(alloc: Global, out: &mut String, files: &[FileItem]) -> Result<(), VectorError> {
-    for file in files {
-        let path = String::from_utf8_lossy(alloc, file.path.as_slice())?;
-        let content = digits(alloc, file.content.as_slice())?;
-        let moment = file.moment;
-        out.push_str(format!(in alloc; "; file {path} at {moment} of bytes {content}")?.as_str())?;
-    }
-    Ok(())
-}
-
-fn put_entries(
+/// How a run ended, and its last lines of output.
+fn told(
     alloc: Global,
-    out: &mut String,
-    entries: &[StoredEntry],
-) -> Result<(), VectorError> {
-    for entry in entries {
-        let table = entry.table.as_str();
-        let id = entry.id.as_str();
-        let datum = values::value(alloc, entry.datum.value())?;
-        out.push_str(format!(in alloc; "; entry {id} of {table} holds {datum}")?.as_str())?;
+    status: Status,
+    pieces: &[ByteList],
+    last: usize,
+) -> Result<String, VectorError> {
+    let mut out = format!(in alloc; "{status}")?;
+    for piece in pieces.iter().skip(pieces.len().saturating_sub(last)) {
+        let line = String::from_utf8_lossy(alloc, piece.as_slice())?;
+        out.push_str(" | ")?;
+        put_counted(alloc, &mut out, line.as_str().trim_end())?;
     }
-    Ok(())
+    Ok(out)
+}
+
+/// Puts a line, whose last byte is told as `<N DIGITS>` where it stands N times, and
+/// that is a hundred times at least.
+fn put_counted(alloc: Global, out: &mut String, line: &str) -> Result<(), AllocError> {
+    let Some((front, last)) = line.split_at_checked(line.len().saturating_sub(2)) else {
+        return out.push_str(line);
+    };
+    let front = front.trim_end_matches(last);
+    let count = line.len().saturating_sub(front.len()) / 2;
+    if count < 100 {
+        return out.push_str(line);
+    }
+    out.push_str(front)?;
+    out.push_str(format!(in alloc; "<{count} {last}>")?.as_str())
 }
