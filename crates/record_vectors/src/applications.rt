@@ -1,75 +1,66 @@
 //! Applications that get numbers.
 
+use crate::names::{app_of, put_bytes};
 use document_records::Applications;
-use portal_base::names::AppId;
 use portal_model::state::APPLICATIONS_LIMIT;
 use std::alloc::Global;
-use vector_lines::error::{VectorError, bad, given};
-use vector_lines::notation::{cut, debug, small_number};
+use std::fmt::Write;
+use vector_lines::error::{VectorError, bad};
+use vector_lines::notation::{cut, small_number};
 
-/// `applications STEP, STEP ..`: what each step answers, over none at first.
-pub fn applications(alloc: Global, rest: &str) -> Result<String, VectorError> {
+/// `applications STEP, STEP ..`: what each step answers, over none at first; and
+/// how many there are at last.
+pub fn applications(alloc: Global, out: &mut String, rest: &str) -> Result<(), VectorError> {
     let mut applications = Applications::new(alloc);
-    let mut out = String::new(alloc);
-    for step in rest.split(", ") {
-        let (word, rest) = cut(step);
-        out.push_str(answer(alloc, &mut applications, word, rest)?.as_str())?;
+    let put = put_steps(alloc, out, &mut applications, rest);
+    drop(applications);
+    put
+}
+
+fn put_steps(
+    alloc: Global,
+    out: &mut String,
+    applications: &mut Applications,
+    steps: &str,
+) -> Result<(), VectorError> {
+    for step in steps.split(", ") {
+        put_step(alloc, out, applications, step)?;
         out.push_str("; ")?;
     }
     let len = applications.len();
-    out.push_str(format!(in alloc; "{len}")?.as_str())?;
-    Ok(out)
+    write!(out, "{len}")?;
+    Ok(())
 }
 
-fn answer(
-    alloc: Global,
-    applications: &mut Applications,
-    word: &str,
-    rest: &str,
-) -> Result<String, VectorError> {
-    match word {
-        "number" => numbered(alloc, applications, rest),
-        "of" => of(alloc, applications, rest),
-        "name" => name(alloc, applications, rest),
-        "back" => back(alloc, applications),
-        _ => bad(),
-    }
-}
-
-/// `number APP`: the number that the application has or gets.
-fn numbered(
-    alloc: Global,
-    applications: &mut Applications,
-    rest: &str,
-) -> Result<String, VectorError> {
-    let app = given(alloc, AppId::read(alloc, rest.as_bytes()))?;
-    if applications.len() >= APPLICATIONS_LIMIT {
-        return bad();
-    }
-    let number = applications.number(&app)?;
-    Ok(format!(in alloc; "{number}")?)
-}
-
-/// `of APP`: the number of the application.
-fn of(alloc: Global, applications: &Applications, rest: &str) -> Result<String, VectorError> {
-    let app = given(alloc, AppId::read(alloc, rest.as_bytes()))?;
-    let number = applications.of(&app);
-    Ok(debug(alloc, &number)?)
-}
-
-/// `name NUMBER`: the application of the number.
-fn name(alloc: Global, applications: &Applications, rest: &str) -> Result<String, VectorError> {
-    match applications.name(small_number(rest)?) {
-        Some(app) => Ok(String::from_utf8_lossy(alloc, app.as_bytes())?),
-        None => Ok(String::from_str(alloc, "none")?),
-    }
-}
-
+/// `number APP`: the number that the application has or gets. `of APP`: the
+/// number of the application. `name NUMBER`: the application of the number.
 /// `back`: the last number is taken back.
-fn back(alloc: Global, applications: &mut Applications) -> Result<String, VectorError> {
-    if applications.len() == 0 {
-        return bad();
+fn put_step(
+    alloc: Global,
+    out: &mut String,
+    applications: &mut Applications,
+    step: &str,
+) -> Result<(), VectorError> {
+    let (word, rest) = cut(step);
+    let count = applications.len();
+    match word {
+        "number" if count < APPLICATIONS_LIMIT => {
+            let number = applications.number(&app_of(alloc, rest)?)?;
+            write!(out, "{number}")?;
+        }
+        "of" => {
+            let number = applications.of(&app_of(alloc, rest)?);
+            write!(out, "{number:?}")?;
+        }
+        "name" => match applications.name(small_number(rest)?) {
+            Some(app) => put_bytes(alloc, out, app.as_bytes())?,
+            None => out.push_str("none")?,
+        },
+        "back" if count > 0 => {
+            applications.take_back();
+            out.push_str("back")?;
+        }
+        _ => return bad(),
     }
-    applications.take_back();
-    Ok(String::from_str(alloc, "back")?)
+    Ok(())
 }

@@ -14,10 +14,10 @@ use portal_model::request::{NodeOp, NodeRequest, Request};
 use portal_model::rights::Right;
 use portal_model::state::{Document, Triple};
 use std::alloc::Global;
-use vector_lines::error::{VectorError, bad, given};
+use vector_lines::error::{LineError, VectorError, bad, given};
 
 /// `copy KIND`: `copied`, once a value of each type of the kind was.
-pub fn copy(alloc: Global, kind: &str) -> Result<String, VectorError> {
+pub fn copy(alloc: Global, out: &mut String, kind: &str) -> Result<(), VectorError> {
     match kind {
         "numbers" => numbers(alloc)?,
         "texts" => texts(alloc)?,
@@ -32,35 +32,43 @@ pub fn copy(alloc: Global, kind: &str) -> Result<String, VectorError> {
         "requests" => requests(alloc)?,
         _ => return bad(),
     }
-    Ok(String::from_str(alloc, "copied")?)
-}
-
-/// Makes a copy.
-fn copied<T: Replica>(alloc: Global, value: &T) -> Result<(), VectorError> {
-    let _copy = value.replica(alloc)?;
+    out.push_str("copied")?;
     Ok(())
 }
 
+/// Makes a copy, and lets it and its original go here alone.
+fn copied<T: Replica>(alloc: Global, value: T) -> Result<(), VectorError> {
+    let copy = value.replica(alloc);
+    drop(value);
+    match copy {
+        Ok(copy) => {
+            drop(copy);
+            Ok(())
+        }
+        Err(_) => Err(VectorError::Line(LineError::Memory)),
+    }
+}
+
 fn numbers(alloc: Global) -> Result<(), VectorError> {
-    copied(alloc, &true)?;
-    copied(alloc, &1u8)?;
-    copied(alloc, &2u16)?;
-    copied(alloc, &3u32)?;
-    copied(alloc, &4u64)?;
-    copied(alloc, &5usize)?;
-    copied(alloc, &Some(6u8))
+    copied(alloc, true)?;
+    copied(alloc, 1u8)?;
+    copied(alloc, 2u16)?;
+    copied(alloc, 3u32)?;
+    copied(alloc, 4u64)?;
+    copied(alloc, 5usize)?;
+    copied(alloc, Some(6u8))
 }
 
 fn texts(alloc: Global) -> Result<(), VectorError> {
-    copied(alloc, &Text::copied(alloc, "déjà vu")?)?;
-    copied(alloc, &List::copied(alloc, &[7u8, 8])?)
+    copied(alloc, Text::copied(alloc, "déjà vu")?)?;
+    copied(alloc, List::copied(alloc, &[7u8, 8])?)
 }
 
 fn owners(alloc: Global) -> Result<(), VectorError> {
     let one = Boxed::new(alloc, 4u32)?;
-    copied(alloc, &one)?;
     let again = one.clone()?;
-    if again == one && again.into_inner() == 4 {
+    copied(alloc, one)?;
+    if again.into_inner() == 4 {
         Ok(())
     } else {
         bad()
@@ -68,23 +76,23 @@ fn owners(alloc: Global) -> Result<(), VectorError> {
 }
 
 fn names(alloc: Global) -> Result<(), VectorError> {
-    copied(alloc, &given(alloc, AppId::read(alloc, b"org.a"))?)?;
-    copied(alloc, &given(alloc, HostPath::read(alloc, b"/home/a.txt"))?)?;
-    copied(alloc, &DocId { number: 10 })
+    copied(alloc, given(alloc, AppId::read(alloc, b"org.a"))?)?;
+    copied(alloc, given(alloc, HostPath::read(alloc, b"/home/a.txt"))?)?;
+    copied(alloc, DocId { number: 10 })
 }
 
 fn callers(alloc: Global) -> Result<(), VectorError> {
-    copied(alloc, &Kind::Bus)?;
-    copied(alloc, &Who::Host)?;
-    copied(alloc, &Who::App(given(alloc, AppId::read(alloc, b"a"))?))
+    copied(alloc, Kind::Bus)?;
+    copied(alloc, Who::Host)?;
+    copied(alloc, Who::App(given(alloc, AppId::read(alloc, b"a"))?))
 }
 
 fn files(alloc: Global) -> Result<(), VectorError> {
     let path = given(alloc, HostPath::read(alloc, b"/a"))?;
-    copied(alloc, &Look::Folder)?;
+    copied(alloc, Look::Folder)?;
     copied(
         alloc,
-        &FileName {
+        FileName {
             path,
             generation: 1,
         },
@@ -93,7 +101,7 @@ fn files(alloc: Global) -> Result<(), VectorError> {
     let bytes = List::copied(alloc, b"hello")?;
     copied(
         alloc,
-        &File {
+        File {
             path,
             generation: 2,
             bytes,
@@ -115,7 +123,7 @@ fn settings(alloc: Global) -> Result<(), VectorError> {
         mountpoint: given(alloc, HostPath::read(alloc, b"/run/doc"))?,
         guid: [9; 16],
     };
-    copied(alloc, &settings)
+    copied(alloc, settings)
 }
 
 fn records(alloc: Global) -> Result<(), VectorError> {
@@ -132,7 +140,7 @@ fn records(alloc: Global) -> Result<(), VectorError> {
     };
     copied(
         alloc,
-        &OpeningDocument {
+        OpeningDocument {
             kept,
             persistent: true,
         },
@@ -141,7 +149,7 @@ fn records(alloc: Global) -> Result<(), VectorError> {
     let content = List::copied(alloc, b"hello")?;
     copied(
         alloc,
-        &FileItem {
+        FileItem {
             path,
             content,
             moment: 7,
@@ -161,7 +169,7 @@ fn entries(alloc: Global) -> Result<(), VectorError> {
         datum: List::copied(alloc, b"\x01y\x00\x00")?,
         rows,
     };
-    copied(alloc, &entry)
+    copied(alloc, entry)
 }
 
 fn documents(alloc: Global) -> Result<(), VectorError> {
@@ -169,7 +177,7 @@ fn documents(alloc: Global) -> Result<(), VectorError> {
     let path = given(alloc, HostPath::read(alloc, b"/home/a.txt"))?;
     copied(
         alloc,
-        &Document {
+        Document {
             id,
             path,
             persistent: true,
@@ -178,19 +186,14 @@ fn documents(alloc: Global) -> Result<(), VectorError> {
     )?;
     let app = given(alloc, AppId::read(alloc, b"org.ed"))?;
     let right = Right::Write;
-    copied(alloc, &Triple { app, id, right })
+    copied(alloc, Triple { app, id, right })
 }
 
 fn requests(alloc: Global) -> Result<(), VectorError> {
-    copied_request(alloc, entering(alloc)?)?;
-    copied_request(alloc, Request::Leave)?;
-    copied_request(alloc, Request::Collect)?;
-    copied_request(alloc, asking())
-}
-
-/// Makes a copy of a request, which is let go here alone.
-fn copied_request(alloc: Global, request: Request) -> Result<(), VectorError> {
-    copied(alloc, &request)
+    copied(alloc, entering(alloc)?)?;
+    copied(alloc, Request::Leave)?;
+    copied(alloc, Request::Collect)?;
+    copied(alloc, asking())
 }
 
 fn entering(alloc: Global) -> Result<Request, VectorError> {

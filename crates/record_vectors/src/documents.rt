@@ -1,29 +1,27 @@
 //! Documents that are added, looked up, removed and taken back.
 
-use crate::rights::{document_id, shown_found, shown_id};
+ghost use Rattle.std.specs.Prelude.{◌≡◌, IfOk};
+
+use crate::names::put_bytes;
+use crate::rights::{document_id, put_found};
 use document_records::{Document, Documents};
 use portal_base::limits::Limits;
-use portal_base::list::List;
 use portal_base::names::{DocId, HostPath};
 use std::alloc::Global;
+use std::fmt::Write;
 use vector_lines::error::{VectorError, bad, given};
-use vector_lines::notation::{cut, debug, small_number};
+use vector_lines::notation::{cut, small_number};
 
 /// `documents LIVE MADE STEP, STEP ..`: what each step answers over records with
 /// these limits, which are empty at first.
-pub fn documents(alloc: Global, rest: &str) -> Result<String, VectorError> {
+pub fn documents(alloc: Global, out: &mut String, rest: &str) -> Result<(), VectorError> {
     let (live, rest) = cut(rest);
     let (made, steps) = cut(rest);
     let limits = limits(small_number(live)?, small_number(made)?);
     let mut documents = Documents::new(alloc, &limits);
-    let mut out = String::new(alloc);
-    for step in steps.split(", ") {
-        let (word, rest) = cut(step);
-        out.push_str(answer(alloc, &mut documents, word, rest)?.as_str())?;
-        out.push_str("; ")?;
-    }
-    out.push_str(ids(alloc, &documents)?.as_str())?;
-    Ok(out)
+    let put = put_steps(alloc, out, &mut documents, steps);
+    drop(documents);
+    put
 }
 
 /// Limits of which those of documents count here.
@@ -40,113 +38,96 @@ fn limits(live: u32, made: u32) -> Limits
     }
 }
 
-ghost use Rattle.std.specs.Prelude.{◌≡◌};
-
-fn answer(
+/// What each step answers, and the live numbers.
+fn put_steps(
     alloc: Global,
+    out: &mut String,
+    documents: &mut Documents,
+    steps: &str,
+) -> Result<(), VectorError> {
+    for step in steps.split(", ") {
+        let (word, rest) = cut(step);
+        put_step(alloc, out, documents, word, rest)?;
+        out.push_str("; ")?;
+    }
+    out.push_str("live")?;
+    for id in documents.ids()?.iter() {
+        out.push(' ')?;
+        put_found(alloc, out, Some(*id))?;
+    }
+    Ok(())
+}
+
+fn put_step(
+    alloc: Global,
+    out: &mut String,
     documents: &mut Documents,
     word: &str,
     rest: &str,
-) -> Result<String, VectorError> {
+) -> Result<(), VectorError> {
+    let (first, second) = cut(rest);
     match word {
-        "add" => add(alloc, documents, rest),
-        "try" => add_and_take_back(alloc, documents, rest),
-        "remove" => remove(alloc, documents, rest),
-        "find" => find(alloc, documents, rest),
-        "reusable" => reusable(alloc, documents, rest),
-        "first" => first(alloc, documents, rest),
-        "room" => room(alloc, documents),
+        "add" | "try" => add(alloc, out, documents, word == "try", first, second),
+        "remove" => match documents.remove(document_id(first)?) {
+            Some(document) => put_bytes(alloc, out, document.path.as_bytes()),
+            None => Ok(out.push_str("none")?),
+        },
+        "find" => match documents.find(document_id(first)?) {
+            Some(document) => put_bytes(alloc, out, document.path.as_bytes()),
+            None => Ok(out.push_str("none")?),
+        },
+        "reusable" => {
+            let path = path_of(alloc, second)?;
+            put_found(alloc, out, documents.reusable(&path, first.contains('p')))
+        }
+        "first" => {
+            let path = path_of(alloc, first)?;
+            put_found(alloc, out, documents.first_of(&path))
+        }
+        "room" => {
+            let room = documents.room();
+            Ok(write!(out, "{room}")?)
+        }
         _ => bad(),
     }
 }
 
+fn path_of(alloc: Global, path: &str) -> Result<HostPath, VectorError> {
+    given(alloc, HostPath::read(alloc, path.as_bytes()))
+}
+
 /// `add WORD FLAGS PATH`: the number of a document that is added with the first
 /// unused number from the word on; a flag `r` is for reuse, `p` for persistent.
-fn add(alloc: Global, documents: &mut Documents, rest: &str) -> Result<String, VectorError> {
-    let (word, rest) = cut(rest);
+/// `try WORD FLAGS PATH`: the same, and the addition is taken back.
+fn add(
+    alloc: Global,
+    out: &mut String,
+    documents: &mut Documents,
+    is_taken_back: bool,
+    word: &str,
+    rest: &str,
+) -> Result<(), VectorError> {
     let id = documents.unused_from(document_id(word)?.number);
     let document = document_of(alloc, id, rest)?;
     match documents.add(document) {
-        Ok(()) => shown_id(alloc, id),
-        Err(error) => Ok(debug(alloc, &error)?),
+        Ok(()) => {
+            if is_taken_back {
+                documents.take_back(id);
+            }
+            put_found(alloc, out, Some(id))
+        }
+        Err(error) => Ok(write!(out, "{error:?}")?),
     }
-}
-
-/// `try WORD FLAGS PATH`: the same, and the addition is taken back.
-fn add_and_take_back(
-    alloc: Global,
-    documents: &mut Documents,
-    rest: &str,
-) -> Result<String, VectorError> {
-    let (word, rest) = cut(rest);
-    let id = documents.unused_from(document_id(word)?.number);
-    let document = document_of(alloc, id, rest)?;
-    given(alloc, documents.add(document))?;
-    documents.take_back(id);
-    shown_id(alloc, id)
 }
 
 fn document_of(alloc: Global, id: DocId, rest: &str) -> Result<Document, VectorError>
     ensures { IfOk result (λ document. document.id ≡ id) }
 {
     let (flags, path) = cut(rest);
-    let path = given(alloc, HostPath::read(alloc, path.as_bytes()))?;
     Ok(Document {
         id,
-        path,
+        path: path_of(alloc, path)?,
         persistent: flags.contains('p'),
         reusable: flags.contains('r'),
     })
-}
-
-ghost use Rattle.std.specs.Prelude.{IfOk};
-
-/// `remove ID`: the path of the document that is taken out.
-fn remove(alloc: Global, documents: &mut Documents, rest: &str) -> Result<String, VectorError> {
-    match documents.remove(document_id(rest)?) {
-        Some(document) => path_of(alloc, &document),
-        None => Ok(String::from_str(alloc, "none")?),
-    }
-}
-
-/// `find ID`: the path of the document.
-fn find(alloc: Global, documents: &Documents, rest: &str) -> Result<String, VectorError> {
-    match documents.find(document_id(rest)?) {
-        Some(document) => path_of(alloc, document),
-        None => Ok(String::from_str(alloc, "none")?),
-    }
-}
-
-fn path_of(alloc: Global, document: &Document) -> Result<String, VectorError> {
-    Ok(String::from_utf8_lossy(alloc, document.path.as_bytes())?)
-}
-
-/// `reusable FLAGS PATH`: the document that may stand for a new one.
-fn reusable(alloc: Global, documents: &Documents, rest: &str) -> Result<String, VectorError> {
-    let (flags, path) = cut(rest);
-    let path = given(alloc, HostPath::read(alloc, path.as_bytes()))?;
-    shown_found(alloc, documents.reusable(&path, flags.contains('p')))
-}
-
-/// `first PATH`: the first document of the path.
-fn first(alloc: Global, documents: &Documents, rest: &str) -> Result<String, VectorError> {
-    let path = given(alloc, HostPath::read(alloc, rest.as_bytes()))?;
-    shown_found(alloc, documents.first_of(&path))
-}
-
-/// `room`: how many more may be added.
-fn room(alloc: Global, documents: &Documents) -> Result<String, VectorError> {
-    let room = documents.room();
-    Ok(format!(in alloc; "{room}")?)
-}
-
-/// The live numbers.
-fn ids(alloc: Global, documents: &Documents) -> Result<String, VectorError> {
-    let mut out = String::from_str(alloc, "live")?;
-    let ids: List<DocId> = documents.ids()?;
-    for id in ids.iter() {
-        out.push(' ')?;
-        out.push_str(shown_id(alloc, *id)?.as_str())?;
-    }
-    Ok(out)
 }

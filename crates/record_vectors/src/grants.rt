@@ -1,48 +1,56 @@
 //! Rights that are added, taken away and forgotten.
 
-use crate::rights::{document_id, rights, shown_rights};
+use crate::names::app_of;
+use crate::rights::{document_id, put_rights, rights};
 use document_records::Grants;
-use portal_base::names::AppId;
 use std::alloc::Global;
-use vector_lines::error::{VectorError, bad, given};
+use vector_lines::error::{VectorError, bad};
 use vector_lines::notation::cut;
 
 /// `grants STEP, STEP ..`: what each step that looks answers, over no rights at
 /// first.
-pub fn grants(alloc: Global, rest: &str) -> Result<String, VectorError> {
+pub fn grants(alloc: Global, out: &mut String, rest: &str) -> Result<(), VectorError> {
     let mut grants = Grants::new(alloc);
-    let mut out = String::new(alloc);
-    for step in rest.split(", ") {
+    let put = put_steps(alloc, out, &mut grants, rest);
+    drop(grants);
+    put
+}
+
+fn put_steps(
+    alloc: Global,
+    out: &mut String,
+    grants: &mut Grants,
+    steps: &str,
+) -> Result<(), VectorError> {
+    for step in steps.split(", ") {
         let (word, rest) = cut(step);
-        out.push_str(answer(alloc, &mut grants, word, rest)?.as_str())?;
+        put_step(alloc, out, grants, word, rest)?;
     }
-    Ok(out)
+    Ok(())
 }
 
 /// `add APP ID NAME ..`, `remove APP ID NAME ..`, `forget ID`, and `rights APP ID`,
 /// which looks.
-fn answer(
+fn put_step(
     alloc: Global,
+    out: &mut String,
     grants: &mut Grants,
     word: &str,
     rest: &str,
-) -> Result<String, VectorError> {
+) -> Result<(), VectorError> {
     let (first, rest) = cut(rest);
     if word == "forget" {
         grants.forget(document_id(first)?);
-        return Ok(String::new(alloc));
+        return Ok(());
     }
-    let app = given(alloc, AppId::read(alloc, first.as_bytes()))?;
     let (id, names) = cut(rest);
     let id = document_id(id)?;
+    let app = app_of(alloc, first)?;
     match word {
         "add" => grants.add(&app, id, rights(alloc, names)?)?,
         "remove" => grants.remove(&app, id, rights(alloc, names)?),
-        "rights" => {
-            let held = shown_rights(alloc, grants.rights(&app, id))?;
-            return Ok(format!(in alloc; "[{held} ]")?);
-        }
+        "rights" => put_rights(alloc, out, grants.rights(&app, id))?,
         _ => return bad(),
     }
-    Ok(String::new(alloc))
+    Ok(())
 }

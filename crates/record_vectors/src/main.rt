@@ -1,4 +1,6 @@
-//! Vectors of names and lists, and of rights and records.
+//! Vectors of names, lists and copies; of rights, documents and applications;
+//! of devices, trees of files and keepers of records; and of the tables of the
+//! permission store.
 //!
 //! Reads lines from standard input. A line names a call, and what the call is
 //! given; its answer is printed as a line. Empty lines and lines that begin with
@@ -8,13 +10,20 @@
 
 mod applications;
 mod copies;
+mod devices;
 mod documents;
 mod grants;
+mod keepers;
+mod kept;
 mod lists;
 mod names;
+mod readings;
 mod rights;
+mod scripted;
+mod shown;
+mod store;
+mod trees;
 
-use rights_rule::Rights;
 use std::alloc::Global;
 use std::io;
 use vector_lines::error::{VectorError, bad};
@@ -27,24 +36,38 @@ fn main(rt: HostRuntime) -> io::Result<()> {
 
 /// The answer of a line.
 fn answer(alloc: Global, line: &str) -> Result<String, VectorError> {
+    let mut out = String::new(alloc);
+    match put_answer(alloc, &mut out, line) {
+        Ok(()) => Ok(out),
+        Err(error) => Err(error),
+    }
+}
+
+/// The answer by the first word of the line.
+fn put_answer(alloc: Global, out: &mut String, line: &str) -> Result<(), VectorError> {
     let (kind, rest) = cut(line);
     match kind {
-        "application" => names::application(alloc, rest),
-        "path" => names::path(alloc, rest),
-        "document" => names::document(alloc, rest),
-        "child" => names::child(alloc, rest),
-        "parent" => names::parent(alloc, rest),
-        "last" => names::last(alloc, rest),
-        "own" => names::own(alloc, rest),
-        "list" => lists::list(alloc, rest),
-        "text" => lists::text(alloc, rest),
-        "copy" => copies::copy(alloc, rest),
-        "rights" => rights::rights_named(alloc, rest),
-        "all" => rights::listed(alloc, Rights::all()),
-        "none" => rights::listed(alloc, Rights::empty()),
-        "documents" => documents::documents(alloc, rest),
-        "grants" => grants::grants(alloc, rest),
-        "applications" => applications::applications(alloc, rest),
+        "application" => names::application(alloc, out, rest),
+        "path" | "parent" | "last" | "child" | "own" => names::path(alloc, out, kind, rest),
+        "document" => names::document(alloc, out, rest),
+        "list" => lists::list(alloc, out, rest),
+        "text" => lists::text(alloc, out, rest),
+        "copy" => copies::copy(alloc, out, rest),
+        "rights" | "all" | "none" => rights::rights_named(alloc, out, kind, rest),
+        "documents" => documents::documents(alloc, out, rest),
+        "grants" => grants::grants(alloc, out, rest),
+        "applications" => applications::applications(alloc, out, rest),
+        "source" => devices::source(alloc, out, rest),
+        "sink" => devices::sink(alloc, out, rest),
+        "memory-source" => devices::memory_source(alloc, out, rest),
+        "memory-sink" => devices::memory_sink(alloc, out, rest),
+        "clock" => devices::clock(out, rest),
+        "words" => devices::words(alloc, out, rest),
+        "tree" => trees::tree(alloc, out, rest),
+        "quiet" => trees::quiet(alloc, out, rest),
+        "keeper" => keepers::keeper(alloc, out, rest),
+        "records" => kept::records(alloc, out, rest),
+        "store" => store::store(alloc, out, rest),
         _ => bad(),
     }
 }

@@ -2,69 +2,84 @@
 
 use portal_base::names::{AppId, DocId, HostPath};
 use std::alloc::Global;
+use std::fmt::Write;
 use vector_lines::error::{VectorError, given};
 use vector_lines::notation::{self, cut};
 
 /// Bytes that stand for a text.
-fn shown(alloc: Global, bytes: &[u8]) -> Result<String, VectorError> {
-    Ok(String::from_utf8_lossy(alloc, bytes)?)
+pub fn put_bytes(alloc: Global, out: &mut String, bytes: &[u8]) -> Result<(), VectorError> {
+    out.push_str(String::from_utf8_lossy(alloc, bytes)?.as_str())?;
+    Ok(())
+}
+
+/// The application of a name.
+pub fn app_of(alloc: Global, name: &str) -> Result<AppId, VectorError> {
+    given(alloc, AppId::read(alloc, name.as_bytes()))
 }
 
 /// `application TEXT`: the name of an application, or where it breaks.
-pub fn application(alloc: Global, rest: &str) -> Result<String, VectorError> {
+pub fn application(alloc: Global, out: &mut String, rest: &str) -> Result<(), VectorError> {
     let text = notation::text(alloc, rest)?;
     let app = given(alloc, AppId::read(alloc, text.as_slice()))?;
-    shown(alloc, app.as_bytes())
-}
-
-/// `path TEXT`: the path of a file, or where it breaks.
-pub fn path(alloc: Global, rest: &str) -> Result<String, VectorError> {
-    let text = notation::text(alloc, rest)?;
-    let path = given(alloc, HostPath::read(alloc, text.as_slice()))?;
-    shown(alloc, path.as_bytes())
+    put_bytes(alloc, out, app.as_bytes())
 }
 
 /// `document TEXT`: the number of a document's identifier, and its text again.
-pub fn document(alloc: Global, rest: &str) -> Result<String, VectorError> {
+pub fn document(alloc: Global, out: &mut String, rest: &str) -> Result<(), VectorError> {
     match DocId::read(rest.as_bytes()) {
         Some(id) => {
-            let text = id.text();
-            let text = shown(alloc, text.as_slice())?;
             let number = id.number;
-            Ok(format!(in alloc; "{number} {text}")?)
+            write!(out, "{number} ")?;
+            put_bytes(alloc, out, id.text().as_slice())
         }
-        None => Ok(String::from_str(alloc, "none")?),
+        None => Ok(out.push_str("none")?),
     }
 }
 
-/// `child PATH NAME`: the path with the name behind it, or where that breaks.
-pub fn child(alloc: Global, rest: &str) -> Result<String, VectorError> {
-    let (path, name) = cut(rest);
-    let path = given(alloc, HostPath::read(alloc, path.as_bytes()))?;
+/// The path of a file:
+///
+/// - `path TEXT`: the path, or where it breaks.
+/// - `parent PATH`: the path without its last part.
+/// - `last PATH`: the last part of the path, between quotes.
+/// - `child PATH NAME`: the path with the name behind it, or where that breaks.
+/// - `own APPLICATION PATH`: whether the path is the application's own folder, or below it.
+pub fn path(alloc: Global, out: &mut String, kind: &str, rest: &str) -> Result<(), VectorError> {
+    let (first, second) = cut(rest);
+    let text = match kind {
+        "child" => first,
+        "own" => second,
+        _ => rest,
+    };
+    let text = notation::text(alloc, text)?;
+    let path = given(alloc, HostPath::read(alloc, text.as_slice()))?;
+    match kind {
+        "path" => put_bytes(alloc, out, path.as_bytes()),
+        "parent" => put_bytes(alloc, out, path.parent(alloc)?.as_bytes()),
+        "last" => put_last(alloc, out, &path),
+        "child" => put_child(alloc, out, &path, second),
+        _ => put_own(alloc, out, &path, first),
+    }
+}
+
+fn put_last(alloc: Global, out: &mut String, path: &HostPath) -> Result<(), VectorError> {
+    out.push('"')?;
+    put_bytes(alloc, out, path.name())?;
+    out.push('"')?;
+    Ok(())
+}
+
+fn put_child(
+    alloc: Global,
+    out: &mut String,
+    path: &HostPath,
+    name: &str,
+) -> Result<(), VectorError> {
     let child = given(alloc, path.child(alloc, name.as_bytes()))?;
-    shown(alloc, child.as_bytes())
+    put_bytes(alloc, out, child.as_bytes())
 }
 
-/// `parent PATH`: the path without its last part.
-pub fn parent(alloc: Global, rest: &str) -> Result<String, VectorError> {
-    let path = given(alloc, HostPath::read(alloc, rest.as_bytes()))?;
-    let parent = path.parent(alloc)?;
-    shown(alloc, parent.as_bytes())
-}
-
-/// `last PATH`: the last part of the path, between quotes.
-pub fn last(alloc: Global, rest: &str) -> Result<String, VectorError> {
-    let path = given(alloc, HostPath::read(alloc, rest.as_bytes()))?;
-    let name = shown(alloc, path.name())?;
-    Ok(format!(in alloc; "\"{name}\"")?)
-}
-
-/// `own APPLICATION PATH`: whether the path is the application's own folder, or
-/// below it.
-pub fn own(alloc: Global, rest: &str) -> Result<String, VectorError> {
-    let (app, path) = cut(rest);
-    let app = given(alloc, AppId::read(alloc, app.as_bytes()))?;
-    let path = given(alloc, HostPath::read(alloc, path.as_bytes()))?;
-    let own = path.in_folder_of(&app);
-    Ok(format!(in alloc; "{own}")?)
+fn put_own(alloc: Global, out: &mut String, path: &HostPath, app: &str) -> Result<(), VectorError> {
+    let is_own = path.in_folder_of(&app_of(alloc, app)?);
+    write!(out, "{is_own}")?;
+    Ok(())
 }

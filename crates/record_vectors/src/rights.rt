@@ -1,5 +1,6 @@
 //! Sets of rights; and how lines write identifiers and names of rights.
 
+use crate::names::put_bytes;
 use portal_base::list::List;
 use portal_base::names::DocId;
 use portal_base::text::Text;
@@ -7,15 +8,20 @@ use rights_rule::{Rights, read_names};
 use std::alloc::Global;
 use vector_lines::error::{LineError, VectorError, given};
 
-/// `rights NAME ..`: the names of the rights that are named, in their order.
-pub fn rights_named(alloc: Global, rest: &str) -> Result<String, VectorError> {
-    listed(alloc, rights(alloc, rest)?)
-}
-
+/// `rights NAME ..`: the names of the rights that are named, in their order;
 /// `all`, `none`: the names of every right, and of none.
-pub fn listed(alloc: Global, rights: Rights) -> Result<String, VectorError> {
-    let names = shown_rights(alloc, rights)?;
-    Ok(format!(in alloc; "[{names} ]")?)
+pub fn rights_named(
+    alloc: Global,
+    out: &mut String,
+    kind: &str,
+    rest: &str,
+) -> Result<(), VectorError> {
+    let rights = match kind {
+        "all" => Rights::all(),
+        "none" => Rights::empty(),
+        _ => rights(alloc, rest)?,
+    };
+    put_rights(alloc, out, rights)
 }
 
 /// A document's identifier.
@@ -32,26 +38,21 @@ pub fn rights(alloc: Global, words: &str) -> Result<Rights, VectorError> {
     given(alloc, read_names(&names))
 }
 
-/// The names of rights, each behind a space.
-pub fn shown_rights(alloc: Global, rights: Rights) -> Result<String, VectorError> {
-    let mut out = String::new(alloc);
+/// The names of rights, each behind a space, between brackets.
+pub fn put_rights(alloc: Global, out: &mut String, rights: Rights) -> Result<(), VectorError> {
+    out.push('[')?;
     for name in rights.names(alloc)?.iter() {
         out.push(' ')?;
         out.push_str(name.as_str())?;
     }
-    Ok(out)
+    out.push_str(" ]")?;
+    Ok(())
 }
 
-/// The eight digits of an identifier.
-pub fn shown_id(alloc: Global, id: DocId) -> Result<String, VectorError> {
-    let text = id.text();
-    Ok(String::from_utf8_lossy(alloc, text.as_slice())?)
-}
-
-/// An identifier that may be missing.
-pub fn shown_found(alloc: Global, id: Option<DocId>) -> Result<String, VectorError> {
+/// The eight digits of an identifier, which may be missing.
+pub fn put_found(alloc: Global, out: &mut String, id: Option<DocId>) -> Result<(), VectorError> {
     match id {
-        Some(id) => shown_id(alloc, id),
-        None => Ok(String::from_str(alloc, "none")?),
+        Some(id) => put_bytes(alloc, out, id.text().as_slice()),
+        None => Ok(out.push_str("none")?),
     }
 }

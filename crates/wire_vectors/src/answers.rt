@@ -1,60 +1,38 @@
-//! Answers of the portal, and what they are told as.
+//! Answers of the portal, and the messages that tell of them.
 
-use crate::calls::{call_of, settings, shown_message};
-use dbus_dispatch::reply::reply_message;
-use dbus_types::message::{Message, OutMessage};
+use crate::calls::put_made;
+use dbus_dispatch::error_name::ErrorName;
+use dbus_dispatch::signal::signal_message;
+use dbus_types::message::OutMessage;
+use dbus_types::types::Value;
 use portal_base::list::{ByteList, List};
 use portal_base::names::doc_id::DocId;
 use portal_base::text::Text;
 use portal_model::datum::Datum;
 use portal_model::records::Row;
-use portal_model::reply::{Answer, Code, ListedDocument};
+use portal_model::reply::{Answer, Change, Code, ListedDocument};
 use std::alloc::Global;
+use std::fmt::Write;
 use vector_lines::error::LineError;
 use vector_lines::notation::{cut, repeated, small_number};
-
-/// `told PATH MEMBER ANSWER`: the reply to a call of this member, whose serial
-/// is 7, with this answer.
-pub fn told(alloc: Global, rest: &str) -> Result<String, LineError> {
-    let (path, rest) = cut(rest);
-    let (member, rest) = cut(rest);
-    let call = call_of(alloc, format!(in alloc; "{path} - {member} -")?.as_str())?;
-    told_to(alloc, &call, rest)
-}
-
-/// What a call is told with this answer.
-fn told_to(alloc: Global, call: &Message, words: &str) -> Result<String, LineError> {
-    let answer = answer_of(alloc, words)?;
-    shown_reply(alloc, call, &answer)
-}
-
-fn shown_reply(alloc: Global, call: &Message, answer: &Answer) -> Result<String, LineError> {
-    let reply = reply_to(alloc, call, answer)?;
-    shown_message(alloc, &reply)
-}
-
-/// The reply to a call with this answer.
-fn reply_to(alloc: Global, call: &Message, answer: &Answer) -> Result<OutMessage, LineError> {
-    let settings = settings(alloc)?;
-    Ok(reply_message(alloc, answer, call, &settings)?)
-}
+use vector_lines::values;
 
 /// `done`, `place N`, `ids TEXT ..` (`-` is the empty text),
 /// `info PATH APP=NAME+NAME ..`, `listed ID=PATH ..`, `entry APP=NAME+NAME ..`
 /// with the byte 0 as data, `names TEXT ..` or `refused CODE`.
-fn answer_of(alloc: Global, words: &str) -> Result<Answer, LineError> {
+pub fn answer_of(alloc: Global, words: &str) -> Result<Answer, LineError> {
     let (kind, rest) = cut(words);
     match kind {
         "done" => Ok(Answer::Done),
         "place" => Ok(Answer::Place(small_number(rest)?)),
-        "ids" => Ok(Answer::Ids(texts(alloc, rest)?)),
+        "ids" => Ok(Answer::Ids(texts(alloc, rest, ' ')?)),
         "info" => info(alloc, rest),
         "listed" => listed(alloc, rest),
         "entry" => Ok(Answer::Entry {
             rows: rows(alloc, rest)?,
             datum: Datum::zero(),
         }),
-        "names" => Ok(Answer::Names(texts(alloc, rest)?)),
+        "names" => Ok(Answer::Names(texts(alloc, rest, ' ')?)),
         "refused" => Ok(Answer::Refused(code(rest)?)),
         _ => Err(LineError::BadLine),
     }
@@ -73,17 +51,18 @@ fn code(word: &str) -> Result<Code, LineError> {
     }
 }
 
-pub(crate) fn text(alloc: Global, word: &str) -> Result<Text, LineError> {
-    match word {
-        "-" => Ok(Text::new(alloc)),
-        _ => Ok(Text::copied(alloc, word)?),
-    }
+fn text(alloc: Global, word: &str) -> Result<Text, LineError> {
+    let text = if word == "-" { "" } else { word };
+    Ok(Text::copied(alloc, text)?)
 }
 
-fn texts(alloc: Global, words: &str) -> Result<List<Text>, LineError> {
+/// Texts with this letter between them; none where there is no word.
+fn texts(alloc: Global, words: &str, between: char) -> Result<List<Text>, LineError> {
     let mut texts = List::new(alloc);
-    for word in words.split_whitespace() {
-        texts.push(text(alloc, word)?)?;
+    if !words.is_empty() {
+        for word in words.split(between) {
+            texts.push(text(alloc, word)?)?;
+        }
     }
     Ok(texts)
 }
@@ -100,77 +79,32 @@ fn info(alloc: Global, words: &str) -> Result<Answer, LineError> {
     })
 }
 
-pub(crate) fn rows(alloc: Global, words: &str) -> Result<List<Row>, LineError> {
+fn rows(alloc: Global, words: &str) -> Result<List<Row>, LineError> {
     let mut rows = List::new(alloc);
     for word in words.split_whitespace() {
-        rows.push(row(alloc, word)?)?;
+        let (app, names) = word.split_once('=').ok_or(LineError::BadLine)?;
+        rows.push(Row {
+            app: text(alloc, app)?,
+            names: texts(alloc, names, '+')?,
+        })?;
     }
     Ok(rows)
-}
-
-fn row(alloc: Global, word: &str) -> Result<Row, LineError> {
-    let (app, names) = word.split_once('=').ok_or(LineError::BadLine)?;
-    let mut row = Row {
-        app: text(alloc, app)?,
-        names: List::new(alloc),
-    };
-    for name in names.split('+') {
-        row.names.push(text(alloc, name)?)?;
-    }
-    Ok(row)
 }
 
 fn listed(alloc: Global, words: &str) -> Result<Answer, LineError> {
     let mut documents = List::new(alloc);
     for word in words.split_whitespace() {
-        documents.push(document(alloc, word)?)?;
+        let (id, path) = word.split_once('=').ok_or(LineError::BadLine)?;
+        documents.push(ListedDocument {
+            id: DocId::read(id.as_bytes()).ok_or(LineError::BadLine)?,
+            path: path_of(alloc, path)?,
+        })?;
     }
     Ok(Answer::Listed(documents))
 }
 
-fn document(alloc: Global, word: &str) -> Result<ListedDocument, LineError> {
-    let (id, path) = word.split_once('=').ok_or(LineError::BadLine)?;
-    Ok(ListedDocument {
-        id: DocId::read(id.as_bytes()).ok_or(LineError::BadLine)?,
-        path: path_of(alloc, path)?,
-    })
-}
-
-/// `long N`: what an identifier of N letters is told as, in the reply to a
-/// Lookup: `returns`, or the error in its place.
-pub fn long(alloc: Global, rest: &str) -> Result<String, LineError> {
-    let answer = long_answer(alloc, small_number(rest)?)?;
-    long_reply(alloc, &answer)
-}
-
-/// An identifier of so many letters.
-fn long_answer(alloc: Global, count: u32) -> Result<Answer, LineError> {
-    let mut ids = List::new(alloc);
-    ids.push(Text::from_string(letters(alloc, count)?))?;
-    Ok(Answer::Ids(ids))
-}
-
-fn long_reply(alloc: Global, answer: &Answer) -> Result<String, LineError> {
-    let call = call_of(alloc, "/org/freedesktop/portal/documents - Lookup -")?;
-    let told = returned(alloc, &call, answer);
-    drop(call);
-    told
-}
-
-fn returned(alloc: Global, call: &Message, answer: &Answer) -> Result<String, LineError> {
-    let reply = reply_to(alloc, call, answer)?;
-    returns(alloc, &reply)
-}
-
-fn returns(alloc: Global, reply: &OutMessage) -> Result<String, LineError> {
-    match reply {
-        OutMessage::Return { .. } => Ok(String::from_str(alloc, "returns")?),
-        reply => shown_message(alloc, reply),
-    }
-}
-
 /// So many letters.
-fn letters(alloc: Global, count: u32) -> Result<String, LineError> {
+pub fn letters(alloc: Global, count: u32) -> Result<String, LineError> {
     let many = repeated(alloc, "<4096 a>")?;
     let mut letters = String::new(alloc);
     for _ in 0..count / 4096 {
@@ -180,4 +114,76 @@ fn letters(alloc: Global, count: u32) -> Result<String, LineError> {
         letters.push('a')?;
     }
     Ok(letters)
+}
+
+/// `signal TABLE ID GONE APP=NAME+NAME ..`: what a host is told of an entry with
+/// the byte 0 as data and these rows, which is gone where GONE is `true`.
+pub fn signal(alloc: Global, out: &mut String, rest: &str) -> Result<(), LineError> {
+    let (table, rest) = cut(rest);
+    let (id, rest) = cut(rest);
+    let (gone, rest) = cut(rest);
+    let change = Change {
+        table: text(alloc, table)?,
+        id: text(alloc, id)?,
+        deleted: gone == "true",
+        rows: rows(alloc, rest)?,
+        datum: Datum::zero(),
+    };
+    let put = put_made(alloc, out, signal_message(alloc, &change), false);
+    drop(change);
+    put
+}
+
+/// A return with its values, or an error by its name, to the call of serial 7;
+/// a signal with its path, its name, and the values that it carries.
+pub fn put_message(alloc: Global, out: &mut String, message: &OutMessage) -> Result<(), LineError> {
+    match message {
+        OutMessage::Return { to: 7, body } => put_values(alloc, out, "returns", body),
+        OutMessage::Error { to: 7, name } => Ok(out.push_str(name.as_str())?),
+        OutMessage::Signal {
+            path,
+            interface,
+            member,
+            body,
+        } => {
+            let (path, interface) = (path.as_str(), interface.as_str());
+            let member = member.as_str();
+            write!(out, "{path} {interface} ")?;
+            put_values(alloc, out, member, body)
+        }
+        _ => Ok(out.push_str("another message")?),
+    }
+}
+
+/// A word, and values behind it.
+fn put_values(
+    alloc: Global,
+    out: &mut String,
+    word: &str,
+    values: &List<Value>,
+) -> Result<(), LineError> {
+    let values = values::values(alloc, values.as_slice())?;
+    write!(out, "{word} ({values})")?;
+    Ok(())
+}
+
+/// `error NAME`: the name that the error has on the wire.
+pub fn error(out: &mut String, rest: &str) -> Result<(), LineError> {
+    let error = match rest {
+        "UnknownObject" => ErrorName::UnknownObject,
+        "UnknownInterface" => ErrorName::UnknownInterface,
+        "UnknownMethod" => ErrorName::UnknownMethod,
+        "UnknownProperty" => ErrorName::UnknownProperty,
+        "InvalidArgs" => ErrorName::InvalidArgs,
+        "AccessDenied" => ErrorName::AccessDenied,
+        "LimitsExceeded" => ErrorName::LimitsExceeded,
+        "NoMemory" => ErrorName::NoMemory,
+        "NotFound" => ErrorName::NotFound,
+        "NotAllowed" => ErrorName::NotAllowed,
+        "InvalidArgument" => ErrorName::InvalidArgument,
+        "Failed" => ErrorName::Failed,
+        _ => return Err(LineError::BadLine),
+    };
+    out.push_str(error.name())?;
+    Ok(())
 }

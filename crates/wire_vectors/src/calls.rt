@@ -1,12 +1,13 @@
-//! Calls, and what they are answered without the portal.
+//! Calls: what they ask, and what they are told.
 
-ghost use Rattle.std.specs.Prelude.{◌≢◌, IfOk};
 ghost use Rattle.dbus_dispatch.specs.Writable.{CanBeAnswered};
 
-use crate::asks;
+use crate::answers::{answer_of, letters, put_message};
+use crate::requests::put_request;
+use crate::stack::byte;
 use dbus_dispatch::ask::{Ask, expects_reply, request_of};
-use dbus_dispatch::error_name::ErrorName;
 use dbus_dispatch::refused::refused_message;
+use dbus_dispatch::reply::reply_message;
 use dbus_message::write::write_message;
 use dbus_types::equal::is_byte;
 use dbus_types::message::{Message, OutMessage};
@@ -16,178 +17,112 @@ use dbus_types::types::{Endian, Value, WireType};
 use portal_base::boxed::Boxed;
 use portal_base::limits::{Limits, Settings};
 use portal_base::list::List;
+use portal_base::memory::WantOfMemory;
 use portal_base::names::host_path::HostPath;
 use portal_base::text::Text;
-use portal_model::reply::Refused;
+use portal_model::reply::{Answer, Refused};
 use std::alloc::Global;
+use std::fmt::Write;
 use vector_lines::error::LineError;
 use vector_lines::notation::{cut, digits, small_number};
-use vector_lines::values;
 
-/// `call PATH INTERFACE MEMBER SIGNATURE ARGUMENT ..`: what the call is
-/// answered. `-` stands for no interface and for no arguments' types; each
-/// argument is a text. `*` is for each type its first value.
-pub fn call(alloc: Global, rest: &str) -> Result<String, LineError> {
-    let call = call_of(alloc, rest)?;
-    asked(alloc, &call)
-}
-
-/// What a message asks.
-pub(crate) fn asked(alloc: Global, message: &Message) -> Result<String, LineError> {
-    let ask = ask_of(alloc, message)?;
-    shown_ask(alloc, &ask)
-}
-
-/// What a message asks, by the settings of these lines.
-pub(crate) fn ask_of(alloc: Global, message: &Message) -> Result<Ask, LineError>
-    ensures { IfOk result CanBeAnswered }
-{
-    let settings = settings(alloc)?;
-    Ok(request_of(alloc, message, &settings)?)
-}
-
-/// `reply SERIAL PATH INTERFACE MEMBER SIGNATURE ARGUMENT ..`: the bytes of
-/// the answer to the same call, whose own serial is 7, with that serial.
-pub fn reply(alloc: Global, rest: &str) -> Result<String, LineError> {
-    let (serial, rest) = cut(rest);
-    let serial = small_number(serial)?;
-    if serial == 0 {
-        return Err(LineError::BadLine);
-    }
-    let call = call_of(alloc, rest)?;
-    answered(alloc, &call, serial)
-}
-
-/// The bytes of the answer to a call with this serial.
-fn answered(alloc: Global, call: &Message, serial: u32) -> Result<String, LineError>
-    requires { serial ≢ 0 }
-{
-    let ask = ask_of(alloc, call)?;
-    let answer = answered_with(alloc, &ask, serial);
-    drop(ask);
-    answer
-}
-
-/// The bytes of what is answered without the portal, with this serial.
-fn answered_with(alloc: Global, ask: &Ask, serial: u32) -> Result<String, LineError>
-    requires answers { CanBeAnswered ask.now }
-    requires serial { serial ≢ 0 }
-{
-    match ask {
-        Ask::Local(message) => {
-            let bytes = write_message(alloc, message, serial)?;
-            Ok(digits(alloc, bytes.as_slice())?)
-        }
-        ask => shown_ask(alloc, ask),
-    }
-}
-
-/// `ping TYPE FLAGS`: what a message of this type and these flags is answered
-/// that names Ping on `/`, and whether the answer is written.
-pub fn ping(alloc: Global, rest: &str) -> Result<String, LineError> {
-    let (kind, flags) = cut(rest);
-    let kind = byte(kind)?;
-    let flags = byte(flags)?;
-    let mut message = call_of(alloc, "/ org.freedesktop.DBus.Peer Ping -")?;
-    message.kind = kind;
-    message.flags = flags;
-    asked_and_written(alloc, &message)
-}
-
-/// What a message asks, and whether its answer is written.
-fn asked_and_written(alloc: Global, message: &Message) -> Result<String, LineError> {
-    let shown = asked(alloc, message)?;
-    let written = expects_reply(message);
-    Ok(format!(in alloc; "{shown} {written}")?)
-}
-
-/// `refused memory` or `refused full`: what a call is answered whose request is
-/// no entry of the history.
-pub fn refused(alloc: Global, rest: &str) -> Result<String, LineError> {
-    let refused = match rest {
-        "memory" => Refused::Memory,
-        "full" => Refused::Full {
-            cost: 262,
-            limit: 262,
-        },
-        _ => return Err(LineError::BadLine),
-    };
-    let call = call_of(alloc, "/ - Add hbb")?;
-    let told = told_refused(alloc, &refused, &call);
+/// What a call with the serial 7 is answered:
+///
+/// - `call PATH INTERFACE MEMBER SIGNATURE ARGUMENT ..`: without the portal, or what it asks the
+///   portal. `-` stands for no interface and for no arguments' types; each argument is a text. `*`
+///   is for each type its first value.
+/// - `reply SERIAL PATH INTERFACE MEMBER SIGNATURE ARGUMENT ..`: the bytes of the answer to the
+///   same call, with that serial.
+/// - `ping TYPE FLAGS`: to a message of this type and these flags that names Ping on `/`, and
+///   whether the answer is written.
+/// - `told PATH MEMBER ANSWER`: with this answer of the portal.
+/// - `long N`: with an identifier of N letters, `returns`, or the error in its place.
+/// - `refused memory` or `refused full`: where the request is no entry of the history.
+pub fn call(alloc: Global, out: &mut String, kind: &str, rest: &str) -> Result<(), LineError> {
+    let mut call = first_call(alloc);
+    let put = put_by_kind(alloc, out, kind, &mut call, rest);
     drop(call);
-    told
+    put
 }
 
-/// What a call is told that was refused.
-fn told_refused(alloc: Global, refused: &Refused, call: &Message) -> Result<String, LineError> {
-    let message = refused_message(alloc, refused, call)?;
-    shown_message(alloc, &message)
-}
-
-/// `error NAME`: the name that the error has on the wire.
-pub fn error(alloc: Global, rest: &str) -> Result<String, LineError> {
-    let error = match rest {
-        "UnknownObject" => ErrorName::UnknownObject,
-        "UnknownInterface" => ErrorName::UnknownInterface,
-        "UnknownMethod" => ErrorName::UnknownMethod,
-        "UnknownProperty" => ErrorName::UnknownProperty,
-        "InvalidArgs" => ErrorName::InvalidArgs,
-        "AccessDenied" => ErrorName::AccessDenied,
-        "LimitsExceeded" => ErrorName::LimitsExceeded,
-        "NoMemory" => ErrorName::NoMemory,
-        "NotFound" => ErrorName::NotFound,
-        "NotAllowed" => ErrorName::NotAllowed,
-        "InvalidArgument" => ErrorName::InvalidArgument,
-        "Failed" => ErrorName::Failed,
-        _ => return Err(LineError::BadLine),
-    };
-    Ok(String::from_str(alloc, error.name())?)
-}
-
-fn byte(word: &str) -> Result<u8, LineError> {
-    word.parse::<u8>().map_err(|_| LineError::BadLine)
-}
-
-pub(crate) fn settings(alloc: Global) -> Result<Settings, LineError> {
-    Ok(Settings {
-        limits: Limits {
-            documents: 1,
-            made: 1,
-            history: 1,
-            handles: 1,
-            queued: 1,
-            file_bytes: 1,
-        },
-        mountpoint: HostPath::read(alloc, b"/run/doc")?,
-        guid: [0; 16],
-    })
-}
-
-/// The call with serial 7 that a line's words name.
-pub(crate) fn call_of(alloc: Global, words: &str) -> Result<Message, LineError> {
-    let (path, rest) = cut(words);
-    let (interface, rest) = cut(rest);
-    let (member, rest) = cut(rest);
-    let (signature, arguments) = cut(rest);
-    let signature = field(alloc, signature)?.unwrap_or(Text::new(alloc));
-    Ok(Message {
+/// A call without a path, a name or arguments.
+fn first_call(alloc: Global) -> Message {
+    Message {
         endian: Endian::Big,
         kind: 1,
         flags: 0,
         serial: 7,
-        path: field(alloc, path)?,
-        interface: field(alloc, interface)?,
-        member: field(alloc, member)?,
+        path: None,
+        interface: None,
+        member: None,
         error: None,
         reply_serial: None,
-        signature: read_signature(alloc, signature.as_bytes())?,
+        signature: List::new(alloc),
         fds: 0,
-        body: values_of(alloc, &signature, arguments)?,
-    })
+        body: List::new(alloc),
+    }
+}
+
+fn put_by_kind(
+    alloc: Global,
+    out: &mut String,
+    kind: &str,
+    call: &mut Message,
+    rest: &str,
+) -> Result<(), LineError> {
+    let (first, words) = cut(rest);
+    match kind {
+        "call" => {
+            fill(alloc, call, rest)?;
+            put_asked(alloc, out, call, None)
+        }
+        "reply" => {
+            fill(alloc, call, words)?;
+            put_asked(alloc, out, call, Some(small_number(first)?))
+        }
+        "ping" => {
+            fill(alloc, call, "/ org.freedesktop.DBus.Peer Ping -")?;
+            put_ping(alloc, out, call, byte(first)?, byte(words)?)
+        }
+        "told" => {
+            let (member, words) = cut(words);
+            call.path = field(alloc, first)?;
+            call.member = field(alloc, member)?;
+            put_told(alloc, out, call, words)
+        }
+        "long" => {
+            fill(alloc, call, "/org/freedesktop/portal/documents - Lookup -")?;
+            put_long(alloc, out, call, small_number(first)?)
+        }
+        _ => {
+            fill(alloc, call, "/ - Add hbb")?;
+            put_refused(alloc, out, call, rest)
+        }
+    }
+}
+
+/// Gives a call what the words of a line name.
+fn fill(alloc: Global, call: &mut Message, words: &str) -> Result<(), LineError> {
+    let (path, rest) = cut(words);
+    let (interface, rest) = cut(rest);
+    let (member, rest) = cut(rest);
+    let (signature, arguments) = cut(rest);
+    call.path = field(alloc, path)?;
+    call.interface = field(alloc, interface)?;
+    call.member = field(alloc, member)?;
+    if signature != "-" {
+        call.signature
+            .append(read_signature(alloc, signature.as_bytes())?)?;
+    }
+    if arguments == "*" {
+        put_blanks(alloc, &mut call.body, call.signature.as_slice())
+    } else {
+        put_texts(alloc, &mut call.body, arguments)
+    }
 }
 
 /// A text, or nothing for `-`.
-pub(crate) fn field(alloc: Global, word: &str) -> Result<Option<Text>, LineError> {
+fn field(alloc: Global, word: &str) -> Result<Option<Text>, LineError> {
     match word {
         "-" => Ok(None),
         _ => Ok(Some(Text::copied(alloc, word)?)),
@@ -195,32 +130,25 @@ pub(crate) fn field(alloc: Global, word: &str) -> Result<Option<Text>, LineError
 }
 
 /// Texts with spaces between them as values; `-` is the empty text.
-fn texts(alloc: Global, words: &str) -> Result<List<Value>, LineError> {
-    let mut values = List::new(alloc);
+fn put_texts(alloc: Global, values: &mut List<Value>, words: &str) -> Result<(), LineError> {
     for word in words.split_whitespace() {
-        let text = field(alloc, word)?.unwrap_or(Text::new(alloc));
-        values.push(Value::Str(text))?;
+        let text = if word == "-" { "" } else { word };
+        values.push(Value::Str(Text::copied(alloc, text)?))?;
     }
-    Ok(values)
-}
-
-/// The values that a line's last words are, for types with this text.
-fn values_of(alloc: Global, signature: &Text, words: &str) -> Result<List<Value>, LineError> {
-    if words != "*" {
-        return texts(alloc, words);
-    }
-    let kinds = read_signature(alloc, signature.as_bytes())?;
-    blanks(alloc, kinds.as_slice())
+    Ok(())
 }
 
 /// For each type its first value: an empty text or array, 0 or false, and in a
 /// variant the byte 0.
-fn blanks(alloc: Global, kinds: &[WireType]) -> Result<List<Value>, LineError> {
-    let mut values = List::new(alloc);
+fn put_blanks(
+    alloc: Global,
+    values: &mut List<Value>,
+    kinds: &[WireType],
+) -> Result<(), LineError> {
     for kind in kinds {
         values.push(blank(alloc, kind)?)?;
     }
-    Ok(values)
+    Ok(())
 }
 
 fn blank(alloc: Global, kind: &WireType) -> Result<Value, LineError> {
@@ -245,22 +173,150 @@ fn blank_array(alloc: Global, element: &Shared<WireType>) -> Result<Value, LineE
     })
 }
 
-pub(crate) fn shown_ask(alloc: Global, ask: &Ask) -> Result<String, LineError> {
-    match ask {
-        Ask::Local(message) => shown_message(alloc, message),
-        Ask::Ignore => Ok(String::from_str(alloc, "ignored")?),
-        Ask::Portal(request) => asks::shown_request(alloc, request),
+fn settings(alloc: Global) -> Result<Settings, LineError> {
+    Ok(Settings {
+        limits: Limits {
+            documents: 1,
+            made: 1,
+            history: 1,
+            handles: 1,
+            queued: 1,
+            file_bytes: 1,
+        },
+        mountpoint: HostPath::read(alloc, b"/run/doc")?,
+        guid: [0; 16],
+    })
+}
+
+/// What a message asks. With a serial what is answered without the portal is in bytes.
+pub fn put_asked(
+    alloc: Global,
+    out: &mut String,
+    message: &Message,
+    serial: Option<u32>,
+) -> Result<(), LineError> {
+    let settings = settings(alloc)?;
+    match request_of(alloc, message, &settings) {
+        Ok(ask) => {
+            let put = put_ask(alloc, out, &ask, serial);
+            drop(ask);
+            put
+        }
+        Err(_) => Err(LineError::Memory),
     }
 }
 
-/// A return with its values, or an error by its name, to the call of serial 7.
-pub(crate) fn shown_message(alloc: Global, message: &OutMessage) -> Result<String, LineError> {
-    match message {
-        OutMessage::Return { to: 7, body } => {
-            let body = values::values(alloc, body.as_slice())?;
-            Ok(format!(in alloc; "returns ({body})")?)
+fn put_ask(alloc: Global, out: &mut String, ask: &Ask, serial: Option<u32>) -> Result<(), LineError>
+    requires { CanBeAnswered ask.now }
+{
+    match ask {
+        Ask::Local(message) => match serial {
+            None => put_message(alloc, out, message),
+            Some(0) => Err(LineError::BadLine),
+            Some(serial) => {
+                let bytes = write_message(alloc, message, serial)?;
+                out.push_str(digits(alloc, bytes.as_slice())?.as_str())?;
+                Ok(())
+            }
+        },
+        Ask::Ignore => Ok(out.push_str("ignored")?),
+        Ask::Portal(request) => put_request(alloc, out, request),
+    }
+}
+
+/// What a message of a type and flags asks, and whether its answer is written.
+fn put_ping(
+    alloc: Global,
+    out: &mut String,
+    message: &mut Message,
+    kind: u8,
+    flags: u8,
+) -> Result<(), LineError> {
+    message.kind = kind;
+    message.flags = flags;
+    put_asked(alloc, out, message, None)?;
+    let written = expects_reply(message);
+    write!(out, " {written}")?;
+    Ok(())
+}
+
+/// What a call is told with this answer.
+fn put_told(alloc: Global, out: &mut String, call: &Message, words: &str) -> Result<(), LineError> {
+    let answer = answer_of(alloc, words)?;
+    let put = put_reply(alloc, out, call, &answer, false);
+    drop(answer);
+    put
+}
+
+/// What a call is told with an identifier of so many letters.
+fn put_long(alloc: Global, out: &mut String, call: &Message, count: u32) -> Result<(), LineError> {
+    let mut ids = List::new(alloc);
+    ids.push(Text::from_string(letters(alloc, count)?))?;
+    let answer = Answer::Ids(ids);
+    let put = put_reply(alloc, out, call, &answer, true);
+    drop(answer);
+    put
+}
+
+fn put_reply(
+    alloc: Global,
+    out: &mut String,
+    call: &Message,
+    answer: &Answer,
+    is_brief: bool,
+) -> Result<(), LineError> {
+    let settings = settings(alloc)?;
+    put_made(
+        alloc,
+        out,
+        reply_message(alloc, answer, call, &settings),
+        is_brief,
+    )
+}
+
+/// What a call is told that was refused.
+fn put_refused(
+    alloc: Global,
+    out: &mut String,
+    call: &Message,
+    word: &str,
+) -> Result<(), LineError> {
+    let refused = match word {
+        "memory" => Refused::Memory,
+        "full" => Refused::Full {
+            cost: 262,
+            limit: 262,
+        },
+        _ => return Err(LineError::BadLine),
+    };
+    put_made(alloc, out, refused_message(alloc, &refused, call), false)
+}
+
+/// A message that was made, which is let go here alone; of a brief one no
+/// values.
+pub fn put_made(
+    alloc: Global,
+    out: &mut String,
+    made: Result<OutMessage, WantOfMemory>,
+    is_brief: bool,
+) -> Result<(), LineError> {
+    match made {
+        Ok(message) => {
+            let put = if is_brief {
+                put_briefly(alloc, out, &message)
+            } else {
+                put_message(alloc, out, &message)
+            };
+            drop(message);
+            put
         }
-        OutMessage::Error { to: 7, name } => Ok(String::from_str(alloc, name.as_str())?),
-        _ => Ok(String::from_str(alloc, "another message")?),
+        Err(_) => Err(LineError::Memory),
+    }
+}
+
+fn put_briefly(alloc: Global, out: &mut String, message: &OutMessage) -> Result<(), LineError> {
+    match message {
+        OutMessage::Return { .. } => Ok(out.push_str("returns")?),
+        message => put_message(alloc, out, message),
     }
 }

@@ -8,145 +8,136 @@ use portal_base::list::List;
 use portal_base::split::Split;
 use portal_model::reply::{Attr, DirName, NodeAnswer};
 use std::alloc::Global;
+use std::fmt::Write;
 use vector_lines::error::LineError;
-use vector_lines::notation::{bytes, cut, debug, digits, number, small_number};
+use vector_lines::notation::{bytes, cut, digits, number, small_number};
 
 /// `frame BYTES`: whether a frame stands at the front of the bytes; and where
-/// they are one, its number and what it asks.
-pub fn frame(alloc: Global, rest: &str) -> Result<String, LineError> {
+/// they are one, its number and what it asks. `local BYTES`: the frame that
+/// answers a request that is answered without the portal.
+pub fn frame(alloc: Global, out: &mut String, kind: &str, rest: &str) -> Result<(), LineError> {
     let bytes = bytes(alloc, rest)?;
     let bytes = bytes.as_slice();
     match split(bytes) {
-        Split::Whole { len } if len == bytes.len() => {
-            let unique = unique_of(bytes);
-            let asked = read_request(alloc, bytes)?;
-            Ok(format!(in alloc; "{unique}: {asked:?}")?)
-        }
-        split => Ok(debug(alloc, &split)?),
+        Split::Whole { len } if len == bytes.len() => match read_request(alloc, bytes) {
+            Ok(ask) => {
+                let put = put_ask(alloc, out, kind, unique_of(bytes), &ask);
+                drop(ask);
+                put
+            }
+            Err(_) => Err(LineError::Memory),
+        },
+        found => Ok(write!(out, "{found:?}")?),
     }
 }
 
-/// `attributes UNIQUE NODE SIZE BLOCKS MOMENT MODE LINKS UID GID BLOCK_SIZE`: the
-/// frame that tells attributes. MODE is in octal digits.
-pub fn attributes(alloc: Global, rest: &str) -> Result<String, LineError> {
-    let (unique, rest) = cut(rest);
-    written(alloc, number(unique)?, &NodeAnswer::Attr(attr(rest)?))
-}
-
-/// `entry UNIQUE NODE .. BLOCK_SIZE`: the frame that tells of a node that was
-/// found.
-pub fn entry(alloc: Global, rest: &str) -> Result<String, LineError> {
-    let (unique, rest) = cut(rest);
-    written(alloc, number(unique)?, &NodeAnswer::Entry(attr(rest)?))
-}
-
-/// `created UNIQUE FH NODE .. BLOCK_SIZE`: the frame that tells of a file that
-/// was made, and of its handle.
-pub fn created(alloc: Global, rest: &str) -> Result<String, LineError> {
-    let (unique, rest) = cut(rest);
-    let (fh, rest) = cut(rest);
-    let answer = NodeAnswer::Created {
-        attr: attr(rest)?,
-        fh: number(fh)?,
-    };
-    written(alloc, number(unique)?, &answer)
-}
-
-/// `opened UNIQUE FH`: the frame that tells of a handle.
-pub fn opened(alloc: Global, rest: &str) -> Result<String, LineError> {
-    let (unique, fh) = cut(rest);
-    let answer = NodeAnswer::Opened { fh: number(fh)? };
-    written(alloc, number(unique)?, &answer)
-}
-
-/// `content UNIQUE BYTES`: the frame that tells bytes that were read.
-pub fn content(alloc: Global, rest: &str) -> Result<String, LineError> {
-    let (unique, rest) = cut(rest);
-    let answer = NodeAnswer::Content(bytes(alloc, rest)?);
-    written(alloc, number(unique)?, &answer)
-}
-
-/// `written UNIQUE SIZE`: the frame that tells how many bytes were written.
-pub fn written_size(alloc: Global, rest: &str) -> Result<String, LineError> {
-    let (unique, size) = cut(rest);
-    let answer = NodeAnswer::Written {
-        size: small_number(size)?,
-    };
-    written(alloc, number(unique)?, &answer)
-}
-
-/// `answer UNIQUE WORD`: the frame of an answer without a part: `empty`,
-/// `quiet` or `statfs`.
-pub fn answer(alloc: Global, rest: &str) -> Result<String, LineError> {
-    let (unique, word) = cut(rest);
-    let answer = match word {
-        "empty" => NodeAnswer::Empty,
-        "quiet" => NodeAnswer::Quiet,
-        "statfs" => NodeAnswer::Statfs,
-        _ => return Err(LineError::BadLine),
-    };
-    written(alloc, number(unique)?, &answer)
-}
-
-/// `names UNIQUE OFFSET SIZE ENTRIES`: the frame that tells the entries of a
-/// folder. Each entry is `NODE/d/NAME` of a folder, and `NODE/f/NAME` of a
-/// file.
-pub fn names(alloc: Global, rest: &str) -> Result<String, LineError> {
-    let (unique, rest) = cut(rest);
-    let (offset, rest) = cut(rest);
-    let (size, entries) = cut(rest);
-    let answer = NodeAnswer::Names {
-        names: dir_names(alloc, entries)?,
-        offset: number(offset)?,
-        size: small_number(size)?,
-    };
-    written(alloc, number(unique)?, &answer)
-}
-
-/// `dirents OFFSET SIZE ENTRIES`: the entries of a folder from an offset that
-/// fit into a size.
-pub fn dirents(alloc: Global, rest: &str) -> Result<String, LineError> {
-    let (offset, rest) = cut(rest);
-    let (size, entries) = cut(rest);
-    let names = dir_names(alloc, entries)?;
-    let filled = fill_dirents(alloc, &names, number(offset)?, small_number(size)?)?;
-    Ok(digits(alloc, filled.as_slice())?)
-}
-
-/// `local BYTES`: the frame that answers a request that is answered without
-/// the portal.
-pub fn local(alloc: Global, rest: &str) -> Result<String, LineError> {
-    let bytes = bytes(alloc, rest)?;
-    let bytes = bytes.as_slice();
-    match split(bytes) {
-        Split::Whole { len } if len == bytes.len() => match read_request(alloc, bytes)? {
-            FuseAsk::Local(answer) => written(alloc, unique_of(bytes), &answer),
-            FuseAsk::Portal(_) | FuseAsk::Ignore => Err(LineError::BadLine),
-        },
+fn put_ask(
+    alloc: Global,
+    out: &mut String,
+    kind: &str,
+    unique: u64,
+    ask: &FuseAsk,
+) -> Result<(), LineError> {
+    match ask {
+        ask if kind == "frame" => Ok(write!(out, "{unique}: {ask:?}")?),
+        FuseAsk::Local(answer) => put_reply(alloc, out, unique, answer),
         _ => Err(LineError::BadLine),
     }
 }
 
-fn dir_names(alloc: Global, entries: &str) -> Result<List<DirName>, LineError> {
+/// The frame that tells an answer to the request with a number:
+///
+/// - `attributes UNIQUE ATTR`: the attributes, written as `attr` reads them.
+/// - `entry UNIQUE ATTR`: the node that was found.
+/// - `created UNIQUE FH ATTR`: the file that was made, and its handle.
+/// - `opened UNIQUE FH`: the handle.
+/// - `content UNIQUE BYTES`: the bytes that were read.
+/// - `written UNIQUE SIZE`: how many bytes were written.
+/// - `names UNIQUE OFFSET SIZE ENTRIES`: the entries of a folder.
+/// - `errno UNIQUE NUMBER`: an error.
+/// - `answer UNIQUE WORD`: an answer without a part: `empty`, `quiet` or `statfs`.
+pub fn answer(alloc: Global, out: &mut String, kind: &str, rest: &str) -> Result<(), LineError> {
+    let (unique, rest) = cut(rest);
+    match answer_of(alloc, kind, rest) {
+        Ok(answer) => {
+            let put = match number(unique) {
+                Ok(unique) => put_reply(alloc, out, unique, &answer),
+                Err(error) => Err(error),
+            };
+            drop(answer);
+            put
+        }
+        Err(error) => Err(error),
+    }
+}
+
+fn answer_of(alloc: Global, kind: &str, rest: &str) -> Result<NodeAnswer, LineError> {
+    let (first, behind) = cut(rest);
+    match kind {
+        "attributes" => Ok(NodeAnswer::Attr(attr(rest)?)),
+        "entry" => Ok(NodeAnswer::Entry(attr(rest)?)),
+        "created" => Ok(NodeAnswer::Created {
+            attr: attr(behind)?,
+            fh: number(first)?,
+        }),
+        "opened" => Ok(NodeAnswer::Opened { fh: number(rest)? }),
+        "content" => Ok(NodeAnswer::Content(bytes(alloc, rest)?)),
+        "written" => Ok(NodeAnswer::Written {
+            size: small_number(rest)?,
+        }),
+        "names" => {
+            let (size, entries) = cut(behind);
+            Ok(NodeAnswer::Names {
+                offset: number(first)?,
+                size: small_number(size)?,
+                names: names(alloc, entries)?,
+            })
+        }
+        "errno" => Ok(NodeAnswer::Error {
+            errno: small_number(rest)?,
+        }),
+        "answer" => part(rest),
+        _ => Err(LineError::BadLine),
+    }
+}
+
+/// An answer without a part.
+fn part(word: &str) -> Result<NodeAnswer, LineError> {
+    match word {
+        "empty" => Ok(NodeAnswer::Empty),
+        "quiet" => Ok(NodeAnswer::Quiet),
+        "statfs" => Ok(NodeAnswer::Statfs),
+        _ => Err(LineError::BadLine),
+    }
+}
+
+/// `dirents OFFSET SIZE ENTRIES`: the entries of a folder from an offset that
+/// fit into a size.
+pub fn dirents(alloc: Global, out: &mut String, rest: &str) -> Result<(), LineError> {
+    let (offset, rest) = cut(rest);
+    let (size, entries) = cut(rest);
+    let names = names(alloc, entries)?;
+    let filled = fill_dirents(alloc, &names, number(offset)?, small_number(size)?)?;
+    out.push_str(digits(alloc, filled.as_slice())?.as_str())?;
+    Ok(())
+}
+
+/// Entries of a folder: each is `NODE/d/NAME` of a folder, and `NODE/f/NAME` of
+/// a file.
+fn names(alloc: Global, entries: &str) -> Result<List<DirName>, LineError> {
     let mut names = List::new(alloc);
     for entry in entries.split_whitespace() {
-        names.push(dir_name(alloc, entry)?)?;
+        let mut parts = entry.split('/');
+        let node = number(parts.next().unwrap_or(""))?;
+        let folder = parts.next().unwrap_or("") == "d";
+        let name = List::copied(alloc, parts.next().unwrap_or("").as_bytes())?;
+        names.push(DirName { node, name, folder })?;
     }
     Ok(names)
 }
 
-fn dir_name(alloc: Global, entry: &str) -> Result<DirName, LineError> {
-    let mut parts = entry.split('/');
-    let node = number(parts.next().unwrap_or(""))?;
-    let kind = parts.next().unwrap_or("");
-    let name = parts.next().unwrap_or("");
-    Ok(DirName {
-        node,
-        name: List::copied(alloc, name.as_bytes())?,
-        folder: kind == "d",
-    })
-}
-
+/// `NODE SIZE BLOCKS MOMENT MODE LINKS UID GID BLOCK_SIZE`, with MODE in octal
+/// digits.
 fn attr(words: &str) -> Result<Attr, LineError> {
     let mut words = words.split_whitespace();
     Ok(Attr {
@@ -162,22 +153,19 @@ fn attr(words: &str) -> Result<Attr, LineError> {
     })
 }
 
-/// `errno UNIQUE NUMBER`: the frame that tells an error.
-pub fn errno(alloc: Global, rest: &str) -> Result<String, LineError> {
-    let (unique, errno) = cut(rest);
-    let answer = NodeAnswer::Error {
-        errno: small_number(errno)?,
-    };
-    written(alloc, number(unique)?, &answer)
-}
-
 fn octal(word: &str) -> Result<u32, LineError> {
     u32::from_str_radix(word, 8).map_err(|_| LineError::BadLine)
 }
 
-fn written(alloc: Global, unique: u64, answer: &NodeAnswer) -> Result<String, LineError> {
+fn put_reply(
+    alloc: Global,
+    out: &mut String,
+    unique: u64,
+    answer: &NodeAnswer,
+) -> Result<(), LineError> {
     match write_reply(alloc, unique, answer)? {
-        Some(frame) => Ok(digits(alloc, frame.as_slice())?),
-        None => Ok(String::from_str(alloc, "quiet")?),
+        Some(frame) => out.push_str(digits(alloc, frame.as_slice())?.as_str())?,
+        None => out.push_str("quiet")?,
     }
+    Ok(())
 }

@@ -15,35 +15,51 @@ const LONGEST: usize = 1024;
 
 /// `cell LINE`: what the line is answered ahead of OK, during the wait for DATA
 /// and behind OK; and behind each answer the state that it leads to.
-pub fn cell(alloc: Global, rest: &str) -> Result<String, LineError> {
+pub fn cell(alloc: Global, out: &mut String, rest: &str) -> Result<(), LineError> {
     let line = notation::text(alloc, rest)?;
     let line = line.as_slice();
-    let mut before_ok = Auth::new(&GUID);
-    let mut during_wait = Auth::new(&GUID);
-    say(alloc, &mut during_wait, b"AUTH EXTERNAL")?;
-    let mut after_ok = Auth::new(&GUID);
-    say(alloc, &mut after_ok, b"AUTH EXTERNAL 30")?;
-    let first = said_and_state(alloc, &mut before_ok, line)?;
-    let second = said_and_state(alloc, &mut during_wait, line)?;
-    let third = said_and_state(alloc, &mut after_ok, line)?;
-    Ok(format!(in alloc; "{first} | {second} | {third}")?)
+    put_cell(alloc, out, "", line)?;
+    out.push_str(" | ")?;
+    put_cell(alloc, out, "AUTH EXTERNAL", line)?;
+    out.push_str(" | ")?;
+    put_cell(alloc, out, "AUTH EXTERNAL 30", line)
+}
+
+/// What a line is answered behind another one, if there is one, and the state behind it. The
+/// state is told by two more lines: BEGIN, which leaves it as it is and isn't
+/// early behind OK alone, and then DATA, which is answered OK during the wait
+/// for it alone.
+fn put_cell(alloc: Global, out: &mut String, former: &str, line: &[u8]) -> Result<(), LineError> {
+    let mut auth = Auth::new(&GUID);
+    if !former.is_empty() {
+        said(alloc, &mut auth, former.as_bytes())?;
+    }
+    out.push_str(said(alloc, &mut auth, line)?.as_str())?;
+    let begins = said(alloc, &mut auth, b"BEGIN")?.as_str() == "(messages follow)";
+    let waits = said(alloc, &mut auth, b"DATA")?.as_str().starts_with("OK");
+    let state = match (begins, waits) {
+        (true, _) => ", after",
+        (false, true) => ", wait",
+        (false, false) => ", before",
+    };
+    out.push_str(state)?;
+    Ok(())
 }
 
 /// `talk LINE | LINE ..`: what each line of a client is answered.
-pub fn talk(alloc: Global, rest: &str) -> Result<String, LineError> {
+pub fn talk(alloc: Global, out: &mut String, rest: &str) -> Result<(), LineError> {
     let mut auth = Auth::new(&GUID);
-    let mut out = String::new(alloc);
     for (index, line) in rest.split('|').enumerate() {
         if index > 0 {
             out.push_str(" | ")?;
         }
-        out.push_str(say(alloc, &mut auth, line.trim().as_bytes())?.as_str())?;
+        out.push_str(said(alloc, &mut auth, line.trim().as_bytes())?.as_str())?;
     }
-    Ok(out)
+    Ok(())
 }
 
 /// What a line is answered, without its CR LF.
-fn say(alloc: Global, auth: &mut Auth, line: &[u8]) -> Result<String, LineError> {
+fn said(alloc: Global, auth: &mut Auth, line: &[u8]) -> Result<String, LineError> {
     if line.len() > LONGEST {
         return Err(LineError::BadLine);
     }
@@ -56,21 +72,4 @@ fn say(alloc: Global, auth: &mut Auth, line: &[u8]) -> Result<String, LineError>
         AuthAnswer::Begin => Ok(String::from_str(alloc, "(messages follow)")?),
         AuthAnswer::Early => Ok(String::from_str(alloc, "(too early)")?),
     }
-}
-
-/// What a line is answered, and the state behind it. The state is told by two
-/// more lines: BEGIN, which leaves it as it is and isn't early behind OK alone,
-/// and then DATA, which is answered OK during the wait for it alone.
-fn said_and_state(alloc: Global, auth: &mut Auth, line: &[u8]) -> Result<String, LineError> {
-    let said = say(alloc, auth, line)?;
-    let begin = say(alloc, auth, b"BEGIN")?;
-    let data = say(alloc, auth, b"DATA")?;
-    let state = if begin.as_str() == "(messages follow)" {
-        "after"
-    } else if data.as_str().starts_with("OK") {
-        "wait"
-    } else {
-        "before"
-    };
-    Ok(format!(in alloc; "{said}, {state}")?)
 }

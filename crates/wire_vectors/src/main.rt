@@ -1,4 +1,5 @@
-//! Vectors of handshakes and calls of D-Bus, and of frames of FUSE.
+//! Vectors of the names, signatures, types, values and messages of D-Bus; of
+//! its handshakes and calls; and of frames of FUSE.
 //!
 //! Reads lines from standard input. A line names a call, and what the call is
 //! given; its answer is printed as a line. Empty lines and lines that begin with
@@ -7,11 +8,15 @@
 #![tactic(auto)]
 
 mod answers;
-mod asks;
 mod calls;
 mod frames;
 mod handshake;
-mod store;
+mod messages;
+mod names;
+mod requests;
+mod rules;
+mod stack;
+mod values;
 
 use std::alloc::Global;
 use std::io;
@@ -25,36 +30,43 @@ fn main(rt: HostRuntime) -> io::Result<()> {
 
 /// The answer of a line.
 fn answer(alloc: Global, line: &str) -> Result<String, VectorError> {
-    Ok(answer_of_kind(alloc, line)?)
+    let mut out = String::new(alloc);
+    match put_answer(alloc, &mut out, line) {
+        Ok(()) => Ok(out),
+        Err(error) => Err(error),
+    }
 }
 
-/// The same: its kind is its first word.
-fn answer_of_kind(alloc: Global, line: &str) -> Result<String, LineError> {
+/// The answer by the first word of the line.
+fn put_answer(alloc: Global, out: &mut String, line: &str) -> Result<(), VectorError> {
     let (kind, rest) = cut(line);
     match kind {
-        "cell" => handshake::cell(alloc, rest),
-        "talk" => handshake::talk(alloc, rest),
-        "call" => calls::call(alloc, rest),
-        "reply" => calls::reply(alloc, rest),
-        "asks" => asks::asks(alloc, rest),
-        "told" => answers::told(alloc, rest),
-        "long" => answers::long(alloc, rest),
-        "signal" => store::signal(alloc, rest),
-        "ping" => calls::ping(alloc, rest),
-        "error" => calls::error(alloc, rest),
-        "refused" => calls::refused(alloc, rest),
-        "frame" => frames::frame(alloc, rest),
-        "attributes" => frames::attributes(alloc, rest),
-        "errno" => frames::errno(alloc, rest),
-        "entry" => frames::entry(alloc, rest),
-        "created" => frames::created(alloc, rest),
-        "opened" => frames::opened(alloc, rest),
-        "content" => frames::content(alloc, rest),
-        "written" => frames::written_size(alloc, rest),
-        "answer" => frames::answer(alloc, rest),
-        "names" => frames::names(alloc, rest),
-        "dirents" => frames::dirents(alloc, rest),
-        "local" => frames::local(alloc, rest),
-        _ => Err(LineError::BadLine),
+        "signature" => names::signature(alloc, out, rest),
+        "type" => rules::kind(alloc, out, rest),
+        "same" => rules::same(alloc, out, rest),
+        "keeps" => rules::keeps(alloc, out, rest),
+        "has" => rules::has(alloc, out, rest),
+        "value" => values::value(alloc, out, rest),
+        "message" => messages::message(alloc, out, rest),
+        _ => Ok(put_unrefused(alloc, out, kind, rest)?),
+    }
+}
+
+/// The answers of calls that refuse nothing.
+fn put_unrefused(alloc: Global, out: &mut String, kind: &str, rest: &str) -> Result<(), LineError> {
+    match kind {
+        "name" => names::name(alloc, out, rest),
+        "split" => messages::split_bytes(alloc, out, rest),
+        "asks" => messages::asks(alloc, out, rest),
+        "cell" => handshake::cell(alloc, out, rest),
+        "talk" => handshake::talk(alloc, out, rest),
+        "call" | "reply" | "ping" | "told" | "long" | "refused" => {
+            calls::call(alloc, out, kind, rest)
+        }
+        "signal" => answers::signal(alloc, out, rest),
+        "error" => answers::error(out, rest),
+        "frame" | "local" => frames::frame(alloc, out, kind, rest),
+        "dirents" => frames::dirents(alloc, out, rest),
+        _ => frames::answer(alloc, out, kind, rest),
     }
 }

@@ -1,0 +1,163 @@
+//! Calls of the permission store, over tables without entries at first.
+
+ghost use Rattle.std.specs.Prelude.{◌≡◌, true};
+ghost use Rattle.portal_model.specs.Valid.{is_text};
+
+use crate::readings::{datum, names, rows, text};
+use crate::shown::put_told;
+use permission_table::Tables;
+use portal_base::text::Text;
+use std::alloc::Global;
+use vector_lines::error::{VectorError, bad};
+use vector_lines::notation::cut;
+
+/// `store CALL, CALL ..`: what each call answers. TABLE, ID and APP are texts,
+/// where `""` is the empty one. A call that ends in `+` makes the entry where
+/// there is none.
+pub fn store(alloc: Global, out: &mut String, calls: &str) -> Result<(), VectorError> {
+    let mut tables = Tables::new(alloc);
+    let put = put_calls(alloc, out, &mut tables, calls);
+    drop(tables);
+    put
+}
+
+fn put_calls(
+    alloc: Global,
+    out: &mut String,
+    tables: &mut Tables,
+    calls: &str,
+) -> Result<(), VectorError> {
+    for (index, call) in calls.split(", ").enumerate() {
+        if index > 0 {
+            out.push_str("; ")?;
+        }
+        let (word, rest) = cut(call);
+        match word {
+            "try" => put_attempt(alloc, out, tables, rest)?,
+            _ => put_call(alloc, out, tables, word, rest)?,
+        }
+    }
+    Ok(())
+}
+
+/// `try CALL`: what the call answers, which is then taken back.
+fn put_attempt(
+    alloc: Global,
+    out: &mut String,
+    tables: &mut Tables,
+    call: &str,
+) -> Result<(), VectorError> {
+    let (word, words) = cut(call);
+    let (table, rest) = cut(words);
+    let (id, _) = cut(rest);
+    let table = text(alloc, table)?;
+    let id = text(alloc, id)?;
+    match tables.former(&table, &id) {
+        Ok(former) => {
+            let put = put_call(alloc, out, tables, word, words);
+            tables.put_back(&table, &id, former);
+            put
+        }
+        Err(error) => Err(VectorError::from(error)),
+    }
+}
+
+/// What a call answers:
+///
+/// - `lookup TABLE ID`: the rows and the data of an entry.
+/// - `set TABLE ID ROWS DATUM`: replaces rows and data.
+/// - `value TABLE ID DATUM`: replaces the data.
+/// - `permit TABLE ID APP NAMES`: replaces the row of an application.
+/// - `forbid TABLE ID APP`: the row of an application goes.
+/// - `get TABLE ID APP`: the permissions of an application.
+/// - `delete TABLE ID`: the entry goes.
+/// - `list TABLE`: the identifiers of a table.
+fn put_call(
+    alloc: Global,
+    out: &mut String,
+    tables: &mut Tables,
+    word: &str,
+    rest: &str,
+) -> Result<(), VectorError> {
+    let (table, rest) = cut(rest);
+    let (id, rest) = cut(rest);
+    let table = text(alloc, table)?;
+    let id = text(alloc, id)?;
+    let create = word.ends_with('+');
+    match word {
+        "lookup" => Ok(put_told(alloc, out, tables.lookup(&table, &id))?),
+        "delete" => Ok(put_told(alloc, out, tables.delete(&table, &id))?),
+        "list" => Ok(put_told(alloc, out, tables.list(&table))?),
+        "set" | "set+" => set(alloc, out, tables, create, &table, &id, rest),
+        "value" | "value+" => set_value(alloc, out, tables, create, &table, &id, rest),
+        "permit" | "permit+" => permit(alloc, out, tables, create, &table, &id, rest),
+        "forbid" => {
+            let app = text(alloc, rest)?;
+            let told = tables.delete_permission(&table, &id, &app);
+            Ok(put_told(alloc, out, told)?)
+        }
+        "get" => {
+            let app = text(alloc, rest)?;
+            let told = tables.get_permission(&table, &id, &app);
+            Ok(put_told(alloc, out, told)?)
+        }
+        _ => bad(),
+    }
+}
+
+fn set(
+    alloc: Global,
+    out: &mut String,
+    tables: &mut Tables,
+    create: bool,
+    table: &Text,
+    id: &Text,
+    rest: &str,
+) -> Result<(), VectorError>
+    requires table { is_text table.now ≡ true }
+    requires id { is_text id.now ≡ true }
+{
+    let (written, data) = cut(rest);
+    let rows = rows(alloc, written)?;
+    let datum = datum(alloc, data)?;
+    let told = tables.set(table, create, id, &rows, &datum);
+    drop(datum);
+    Ok(put_told(alloc, out, told)?)
+}
+
+fn set_value(
+    alloc: Global,
+    out: &mut String,
+    tables: &mut Tables,
+    create: bool,
+    table: &Text,
+    id: &Text,
+    data: &str,
+) -> Result<(), VectorError>
+    requires table { is_text table.now ≡ true }
+    requires id { is_text id.now ≡ true }
+{
+    let datum = datum(alloc, data)?;
+    let told = tables.set_value(table, create, id, &datum);
+    drop(datum);
+    Ok(put_told(alloc, out, told)?)
+}
+
+fn permit(
+    alloc: Global,
+    out: &mut String,
+    tables: &mut Tables,
+    create: bool,
+    table: &Text,
+    id: &Text,
+    rest: &str,
+) -> Result<(), VectorError>
+    requires table { is_text table.now ≡ true }
+    requires id { is_text id.now ≡ true }
+{
+    let (app, written) = cut(rest);
+    let app = text(alloc, app)?;
+    let names = names(alloc, written)?;
+    let told = tables.set_permission(table, create, id, &app, &names);
+    Ok(put_told(alloc, out, told)?)
+}

@@ -1,0 +1,140 @@
+//! Trees of files in memory.
+
+ghost use Rattle.std.specs.Prelude.{◌≡◌, ◌≢◌};
+ghost use Rattle.portal_base.specs.Names.{root};
+
+use host_tree::{HostTree, MemoryTree, QuietTree, TreeRead};
+use portal_base::files::FileName;
+use portal_base::names::HostPath;
+use std::alloc::Global;
+use std::fmt::Write;
+use vector_lines::error::{VectorError, bad, given};
+use vector_lines::notation::{bytes, cut, digits, number, numbers, small_number};
+
+/// `tree FAILS | FILE | STEP, STEP ..`: what each step answers over a tree whose
+/// calls of these numbers fail, and which has the file, if one is written:
+/// `PATH MOMENT BYTES`.
+pub fn tree(alloc: Global, out: &mut String, rest: &str) -> Result<(), VectorError> {
+    let mut parts = rest.split('|');
+    let fails = parts.next().unwrap_or("");
+    let file = parts.next().unwrap_or("");
+    let mut tree = tree_of(alloc, fails, file.trim())?;
+    let put = put_answers(alloc, out, &mut tree, parts.next().unwrap_or(""));
+    drop(tree);
+    put
+}
+
+fn tree_of(alloc: Global, fails: &str, file: &str) -> Result<MemoryTree, VectorError> {
+    let fails = numbers(alloc, fails)?;
+    let mut tree = MemoryTree::new(alloc, fails);
+    if !file.is_empty() {
+        let (path, rest) = cut(file);
+        let (moment, content) = cut(rest);
+        let path = given(alloc, HostPath::read(alloc, path.as_bytes()))?;
+        if path.as_bytes() != b"/".as_slice() {
+            tree.add_file(path, bytes(alloc, content)?, number(moment)?)?;
+        }
+    }
+    Ok(tree)
+}
+
+/// `quiet STEP, STEP ..`: what each step answers over an empty tree that never
+/// fails.
+pub fn quiet(alloc: Global, out: &mut String, rest: &str) -> Result<(), VectorError> {
+    let mut tree = QuietTree::new(alloc);
+    let put = put_answers(alloc, out, &mut tree, rest);
+    drop(tree);
+    put
+}
+
+/// What each step answers.
+fn put_answers<T: HostTree>(
+    alloc: Global,
+    out: &mut String,
+    tree: &mut T,
+    steps: &str,
+) -> Result<(), VectorError> {
+    for step in steps.split(',') {
+        let (kind, rest) = cut(step.trim());
+        let (path, rest) = cut(rest);
+        let path = given(alloc, HostPath::read(alloc, path.as_bytes()))?;
+        put_answer(alloc, out, tree, kind, path, rest)?;
+        out.push_str("; ")?;
+    }
+    Ok(())
+}
+
+/// `look PATH`, `create PATH NOW`; and of the file of a path `attr PATH`,
+/// `read PATH OFFSET SIZE`, `write PATH OFFSET NOW BYTES`, `len PATH SIZE NOW`,
+/// `sync PATH`, `later PATH`, which asks for its generation 1.
+fn put_answer<T: HostTree>(
+    alloc: Global,
+    out: &mut String,
+    tree: &mut T,
+    kind: &str,
+    path: HostPath,
+    rest: &str,
+) -> Result<(), VectorError> {
+    let (first, rest) = cut(rest);
+    if kind == "look" {
+        let answer = tree.look(&path);
+        return Ok(write!(out, "{answer:?}")?);
+    }
+    if kind == "create" {
+        let answer = tree.create(&path, number(first)?);
+        return Ok(write!(out, "{answer:?}")?);
+    }
+    let generation = u64::from(kind == "later");
+    let file = FileName { path, generation };
+    match kind {
+        "attr" | "later" => {
+            let answer = tree.attr(&file);
+            Ok(write!(out, "{answer:?}")?)
+        }
+        "read" => put_read(alloc, out, tree, &file, first, rest),
+        _ => put_change(alloc, out, tree, kind, &file, first, rest),
+    }
+}
+
+/// The bytes that are read, as digits, or why none came.
+fn put_read<T: HostTree>(
+    alloc: Global,
+    out: &mut String,
+    tree: &mut T,
+    file: &FileName,
+    offset: &str,
+    size: &str,
+) -> Result<(), VectorError> {
+    match tree.read(file, number(offset)?, small_number(size)?) {
+        TreeRead::Got(bytes) => {
+            let text = digits(alloc, bytes.as_slice())?;
+            Ok(write!(out, "Got({text})")?)
+        }
+        answer => Ok(write!(out, "{answer:?}")?),
+    }
+}
+
+/// What a change answers.
+fn put_change<T: HostTree>(
+    alloc: Global,
+    out: &mut String,
+    tree: &mut T,
+    kind: &str,
+    file: &FileName,
+    first: &str,
+    rest: &str,
+) -> Result<(), VectorError> {
+    let (second, content) = cut(rest);
+    let answer = match kind {
+        "write" => tree.write(
+            file,
+            number(first)?,
+            bytes(alloc, content)?.as_slice(),
+            number(second)?,
+        ),
+        "len" => tree.set_len(file, number(first)?, number(second)?),
+        "sync" => tree.sync(file),
+        _ => return bad(),
+    };
+    Ok(write!(out, "{answer:?}")?)
+}

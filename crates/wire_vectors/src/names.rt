@@ -1,0 +1,53 @@
+//! Names and signatures.
+
+use dbus_types::names::{is_interface, is_member, is_object_path};
+use dbus_types::signature::{check_signature, read_signature};
+use dbus_types::types::WireType;
+use dbus_values::write::write_signature;
+use portal_base::list::List;
+use std::alloc::Global;
+use std::fmt::Write;
+use vector_lines::error::{LineError, VectorError, given};
+use vector_lines::notation;
+
+/// `name TEXT`: of what the text is a name, each of which is told.
+pub fn name(alloc: Global, out: &mut String, rest: &str) -> Result<(), LineError> {
+    let text = notation::text(alloc, rest)?;
+    let text = text.as_slice();
+    if is_object_path(text) {
+        out.push_str("path")?;
+    }
+    if is_interface(text) {
+        out.push_str("interface")?;
+    }
+    if is_member(text) {
+        out.push_str("member")?;
+    }
+    if out.is_empty() {
+        out.push_str("nothing")?;
+    }
+    Ok(())
+}
+
+/// `signature TEXT`: how many types it has, and their text; or where it breaks.
+pub fn signature(alloc: Global, out: &mut String, rest: &str) -> Result<(), VectorError> {
+    let text = notation::text(alloc, rest)?;
+    given(alloc, check_signature(text.as_slice()))?;
+    let kinds = kinds_of(alloc, text.as_slice())?;
+    let count = kinds.len();
+    write!(out, "{count} ")?;
+    put_kinds(alloc, out, kinds.as_slice())
+}
+
+/// The types of a signature.
+pub fn kinds_of(alloc: Global, text: &[u8]) -> Result<List<WireType>, VectorError> {
+    given(alloc, read_signature(alloc, text))
+}
+
+/// Types as a signature.
+pub fn put_kinds(alloc: Global, out: &mut String, kinds: &[WireType]) -> Result<(), VectorError> {
+    let text = write_signature(alloc, kinds)?;
+    let text = String::from_utf8_lossy(alloc, text.as_slice())?;
+    out.push_str(text.as_str())?;
+    Ok(())
+}
