@@ -1,24 +1,104 @@
-#!/usr/bin/env python3
-"""A client of `docportal serve`, in Python's standard library alone.
+"""A client of `docportal serve`, in Python 3.8's standard library alone.
 
-It speaks D-Bus at the sockets `host.bus` and `app.NAME.bus`, and FUSE frames at
-`host.mount` and `app.NAME.mount`. As a program it makes one call, or a tour of most
-of them, and prints what it got:
+    from docportal_client import Bus, Mount
 
-    docportal_client.py SOCKETS tour /notes.txt org.ed
-    docportal_client.py SOCKETS add /notes.txt
-    docportal_client.py SOCKETS grant 1f0c9a52 org.ed read write
-    docportal_client.py SOCKETS --as org.ed cat 1f0c9a52
+    with Bus.open() as host:                        # host.bus of the service
+        document = host.documents.add("/notes.txt", persistent=True)
+        host.documents.grant_permissions(document, "org.ed", ["read", "write"])
+    with Mount.open("org.ed") as mount:             # app.org.ed.mount
+        with mount.open_file(document, "rb") as file:
+            print(file.read())
 
-SOCKETS is the folder that was given as `--sockets`. As a module it has `Bus`,
-`Documents`, `Store` and `Mount`; `docs/clients.md` has the rules that they follow.
+A bus connection is a `Bus`, with the interfaces `documents` and `permissions`; a mount
+connection is a `Mount`. Each is for one thread at a time, and a context manager. A call that
+is answered by an error raises the `DBusError` of that name, a request on files a `MountError`,
+which is an OSError; what can't be reached raises a `ServiceError`, which is a ConnectionError,
+and what takes too long a TimeoutError. `docs/clients.md` has the rules that these follow. It is one
+file so that a program may take it along.
 """
 
-import argparse
+import enum
+import errno
+import io
 import os
+import re
 import socket
 import struct
-import sys
+import time
+from typing import NamedTuple
+
+MESSAGE_LIMIT = 16_777_216
+WRITE_LIMIT = 131_072
+RIGHTS = ("read", "write", "grant-permissions", "delete")
+
+
+# ---- errors
+
+class ServiceError(ConnectionError):
+    """The service can't be reached, or its connection was lost."""
+
+
+class NoService(ServiceError):
+    """Nothing answers at the socket."""
+
+
+class ConnectionClosed(ServiceError):
+    """The service closed the connection: `at_once` where it was ahead of any answer."""
+
+    def __init__(self, text, at_once=False):
+        super().__init__(text)
+        self.at_once = at_once
+
+
+class ProtocolError(ServiceError):
+    """What came isn't what the protocol says."""
+
+
+class DBusError(Exception):
+    """A call that was answered by an error; `name` is the error's whole name."""
+
+    name = ""
+
+    def __str__(self):
+        return self.name
+
+    @staticmethod
+    def of(name):
+        """The exception of an error's name."""
+        error = ERRORS.get(name, DBusError)()
+        error.name = name
+        return error
+
+
+ERRORS = {}
+
+
+def _error(prefix, name, meaning):
+    """The exception of an error's name, as a class of its own."""
+    full = prefix + name
+    ERRORS[full] = type(name, (DBusError,), {
+        "__doc__": meaning, "__module__": __name__, "name": full})
+    return ERRORS[full]
+
+
+_BUS, _PORTAL = "org.freedesktop.DBus.Error.", "org.freedesktop.portal.Error."
+UnknownObject = _error(_BUS, "UnknownObject", "There is no object at the path.")
+UnknownInterface = _error(_BUS, "UnknownInterface", "The object hasn't that interface.")
+UnknownMethod = _error(_BUS, "UnknownMethod", "The interface hasn't that method.")
+UnknownProperty = _error(_BUS, "UnknownProperty", "The interface hasn't that property.")
+InvalidArgs = _error(_BUS, "InvalidArgs", "Another signature, or a handle of no presented file.")
+AccessDenied = _error(_BUS, "AccessDenied", "The call is the host's alone.")
+LimitsExceeded = _error(_BUS, "LimitsExceeded", "A limit would be passed, or the history is full.")
+NoMemory = _error(_BUS, "NoMemory", "The service has no memory for the request.")
+NotFound = _error(_PORTAL, "NotFound", "Nothing is there, or nothing that the caller may know of.")
+NotAllowed = _error(_PORTAL, "NotAllowed", "The caller lacks a right, or may not make the call.")
+InvalidArgument = _error(_PORTAL, "InvalidArgument", "A text isn't of its form, or no file there.")
+Failed = _error(_PORTAL, "Failed", "The files failed, or the records couldn't be kept.")
+
+
+class MountError(OSError):
+    """A request on a mount that was answered by an error number."""
+
 
 # ---- values of D-Bus as bytes (D-Bus Specification, "Marshaling")
 
@@ -26,21 +106,15 @@ NUMBERS = {
     "y": (1, "B"), "n": (2, "h"), "q": (2, "H"), "i": (4, "i"), "u": (4, "I"),
     "x": (8, "q"), "t": (8, "Q"), "d": (8, "d"), "h": (4, "I"),
 }
+OBJECT_PATH = re.compile("/|(/[A-Za-z0-9_]+)+")
+BASIC = "".join(NUMBERS) + "bsog"
 
 
-class Variant:
+class Variant(NamedTuple):
     """A value with its type, as a variant carries it."""
 
-    def __init__(self, signature, value):
-        self.signature = signature
-        self.value = value
-
-    def __eq__(self, other):
-        return (isinstance(other, Variant) and self.signature == other.signature
-                and self.value == other.value)
-
-    def __repr__(self):
-        return "<%s %r>" % (self.signature, self.value)
+    signature: str
+    value: object
 
 
 def single_types(signature):
@@ -56,16 +130,21 @@ def single_types(signature):
 
 def end_of_type(signature, at):
     """Where the complete type that begins at a place ends."""
-    code = signature[at]
-    if code == "a":
+    code = signature[at:at + 1]
+    if code == "a" and signature[at + 1:at + 2] == "{":
+        end = end_of_type(signature, at + 3)
+        if signature[at + 2] in BASIC and signature[end:end + 1] == "}":
+            return end + 1
+    elif code == "a":
         return end_of_type(signature, at + 1)
-    if code in "({":
-        closing = ")" if code == "(" else "}"
-        at += 1
-        while signature[at] != closing:
-            at = end_of_type(signature, at)
+    elif code == "(":
+        end = end_of_type(signature, at + 1)
+        while signature[end:end + 1] != ")":
+            end = end_of_type(signature, end)
+        return end + 1
+    elif code and code in BASIC + "v":
         return at + 1
-    return at + 1
+    raise ValueError("%r isn't a signature: no type begins at %d" % (signature, at))
 
 
 def alignment(kind):
@@ -77,7 +156,7 @@ def alignment(kind):
 
 
 class Writer:
-    """Bytes that are written from an offset on, with the lowest byte first."""
+    """Values that are written one behind another, with the lowest byte first."""
 
     def __init__(self):
         self.out = bytearray()
@@ -88,12 +167,10 @@ class Writer:
     def number(self, code, value):
         size, form = NUMBERS[code]
         self.pad(size)
-        self.out += struct.pack("<" + form, value)
-
-    def text(self, value):
-        raw = value.encode()
-        self.number("u", len(raw))
-        self.out += raw + b"\0"
+        try:
+            self.out += struct.pack("<" + form, value)
+        except struct.error:
+            raise ValueError("%r is no value of the type %s" % (value, code)) from None
 
     def put(self, kind, value):
         """Writes a value of a complete type."""
@@ -103,8 +180,13 @@ class Writer:
         elif code == "b":
             self.number("u", 1 if value else 0)
         elif code in "so":
-            self.text(value)
+            if "\0" in value or code == "o" and not OBJECT_PATH.fullmatch(value):
+                raise ValueError("%r is no value of the type %s" % (value, code))
+            raw = value.encode()
+            self.number("u", len(raw))
+            self.out += raw + b"\0"
         elif code == "g":
+            single_types(value)
             self.out += bytes([len(value)]) + value.encode() + b"\0"
         elif code == "v":
             self.put("g", value.signature)
@@ -124,15 +206,13 @@ class Writer:
         if element == "y":
             self.out += bytes(items)
         else:
-            if isinstance(items, dict):
-                items = items.items()
-            for item in items:
+            for item in items.items() if isinstance(items, dict) else items:
                 self.put(element, item)
         struct.pack_into("<I", self.out, counted, len(self.out) - start)
 
 
 class Reader:
-    """Bytes that are read from an offset on."""
+    """Values that are read one behind another."""
 
     def __init__(self, data, at=0, order="<"):
         self.data = data
@@ -164,11 +244,9 @@ class Reader:
         if code == "b":
             return self.number("u") == 1
         if code in "so":
-            raw = self.take(self.number("u") + 1)
-            return raw[:-1].decode()
+            return self.take(self.number("u") + 1)[:-1].decode()
         if code == "g":
-            raw = self.take(self.number("y") + 1)
-            return raw[:-1].decode()
+            return self.take(self.number("y") + 1)[:-1].decode()
         if code == "v":
             signature = self.get("g")
             return Variant(signature, self.get(signature))
@@ -186,97 +264,184 @@ class Reader:
         items = []
         while self.at < end:
             items.append(self.get(element))
+        if self.at != end:
+            raise ValueError("an array has another length than it states")
         return dict(items) if element[0] == "{" else items
 
 
 # ---- messages (D-Bus Specification, "Message Format")
 
-CALL, RETURN, ERROR, SIGNAL = 1, 2, 3, 4
-FIELD_TYPES = {1: "o", 2: "s", 3: "s", 4: "s", 5: "u", 6: "s", 7: "s", 8: "g", 9: "u"}
-PATH, INTERFACE, MEMBER, ERROR_NAME, REPLY_SERIAL = 1, 2, 3, 4, 5
-SIGNATURE, UNIX_FDS = 8, 9
+class MessageType(enum.IntEnum):
+    METHOD_CALL = 1
+    METHOD_RETURN = 2
+    ERROR = 3
+    SIGNAL = 4
 
 
-def write_call(serial, path, interface, member, signature="", values=(), fds=0, flags=0):
+class Field(enum.IntEnum):
+    PATH = 1
+    INTERFACE = 2
+    MEMBER = 3
+    ERROR_NAME = 4
+    REPLY_SERIAL = 5
+    DESTINATION = 6
+    SENDER = 7
+    SIGNATURE = 8
+    UNIX_FDS = 9
+
+
+def write_call(serial, path, interface, member, signature="", values=(), fds=0):
     """A call as bytes. `fds` says how many presented files it takes."""
     body = Writer()
-    for kind, value in zip(single_types(signature), values):
+    types = single_types(signature)
+    if len(types) != len(values):
+        raise TypeError("%s takes %d arguments" % (member, len(types)))
+    for kind, value in zip(types, values):
         body.put(kind, value)
-    fields = [(PATH, Variant("o", path)), (INTERFACE, Variant("s", interface)),
-              (MEMBER, Variant("s", member))]
+    fields = [(Field.PATH, Variant("o", path)), (Field.INTERFACE, Variant("s", interface)),
+              (Field.MEMBER, Variant("s", member))]
     if signature:
-        fields.append((SIGNATURE, Variant("g", signature)))
+        fields.append((Field.SIGNATURE, Variant("g", signature)))
     if fds:
-        fields.append((UNIX_FDS, Variant("u", fds)))
+        fields.append((Field.UNIX_FDS, Variant("u", fds)))
     head = Writer()
-    head.out += bytes([ord("l"), CALL, flags, 1])
+    head.out += bytes([ord("l"), MessageType.METHOD_CALL, 0, 1])
     head.number("u", len(body.out))
     head.number("u", serial)
     head.put("a(yv)", fields)
     head.pad(8)
+    if len(head.out) + len(body.out) > MESSAGE_LIMIT:
+        raise ValueError("the call is longer than a message may be, %d bytes" % MESSAGE_LIMIT)
     return bytes(head.out + body.out)
 
 
 class Message:
-    """A message that came."""
+    """A message that came: its `type`, `serial`, `fields` by code, and the values of its `body`."""
 
     def __init__(self, data):
+        try:
+            self._read(data)
+        except (ValueError, LookupError, TypeError, RecursionError, struct.error) as error:
+            raise ProtocolError("a message that can't be read: %s" % error) from error
+
+    def _read(self, data):
         order = "<" if data[:1] == b"l" else ">"
         reader = Reader(data, 4, order)
-        self.kind = data[1]
+        self.type = data[1]
         length = reader.number("u")
         self.serial = reader.number("u")
         self.fields = {code: value.value for code, value in reader.get("a(yv)")}
         reader.pad(8)
         if len(data) != reader.at + length:
-            raise ValueError("the message has another length than it states")
-        types = single_types(self.fields.get(SIGNATURE, ""))
-        self.body = [reader.get(kind) for kind in types]
+            raise ValueError("it has another length than it states")
+        body = Reader(data[reader.at:], 0, order)
+        self.body = [body.get(kind) for kind in single_types(self.fields.get(Field.SIGNATURE, ""))]
 
 
 def length_of(head):
     """How many bytes the message has whose first 16 bytes these are."""
     order = "<" if head[:1] == b"l" else ">"
     body, _serial, fields = struct.unpack_from(order + "III", head, 4)
-    return 16 + fields + -(16 + fields) % 8 + body
+    length = 16 + fields + -(16 + fields) % 8 + body
+    if length > MESSAGE_LIMIT:
+        raise ProtocolError("a message of %d bytes" % length)
+    return length
 
 
-class CallError(Exception):
-    """A call that was answered by an error."""
+# ---- sockets
 
-    def __init__(self, name):
-        super().__init__(name)
-        self.name = name
+def sockets_folder():
+    """The folder of the sockets: DOCPORTAL_SOCKETS, or docportal in the runtime directory."""
+    runtime = os.environ.get("XDG_RUNTIME_DIR") or "/run/user/%d" % os.getuid()
+    return os.environ.get("DOCPORTAL_SOCKETS") or os.path.join(runtime, "docportal")
+
+
+def is_app_name(name):
+    """Whether a text is a name of an application."""
+    return re.fullmatch(r"[A-Za-z0-9._-]{1,255}", name) is not None and name not in (".", "..")
+
+
+def socket_path(folder, app, kind):
+    """Where a socket is: the host's (None), or an application's by its name; `bus` or `mount`."""
+    if app is not None and not is_app_name(app):
+        raise ValueError("%r is no name of an application" % app)
+    return os.path.join(folder, "%s.%s" % ("host" if app is None else "app." + app, kind))
 
 
 class Stream:
-    """A socket that is connected, and what came of it."""
+    """A connected socket. `timeout` is how many seconds an item may take to be sent or to come."""
 
-    def __init__(self, path, timeout=30):
-        self.socket = socket.socket(socket.AF_UNIX, socket.SOCK_STREAM)
-        self.socket.settimeout(timeout)
-        self.socket.connect(path)
+    kind = ""
+
+    def __init__(self, path, timeout=30.0):
+        self.path = path
+        self.timeout = timeout
+        self._held = bytearray()
+        self._got_any = False
+        self._socket = socket.socket(socket.AF_UNIX, socket.SOCK_STREAM)
+        deadline = time.monotonic() + timeout
+        try:
+            self._socket.settimeout(timeout)
+            while not self._connects(path, deadline):
+                time.sleep(0.02)
+        except OSError as error:
+            self._socket.close()
+            if isinstance(error, TimeoutError):
+                raise
+            raise NoService("no service at %s: %s" % (path, error.strerror or error)) from error
+
+    @classmethod
+    def open(cls, app=None, sockets=None, timeout=30.0):
+        """Connects as the host, or as an application by its name, in a folder of sockets."""
+        return cls(socket_path(sockets or sockets_folder(), app, cls.kind), timeout)
+
+    def _connects(self, path, deadline):
+        """Connects, or says that so many wait already that the socket takes no more."""
+        try:
+            self._socket.connect(path)
+        except (BlockingIOError, socket.timeout):
+            if time.monotonic() < deadline:
+                return False
+            raise TimeoutError("%s took no connection within %g s" % (path, self.timeout)) from None
+        return True
+
+    def _within(self, deadline, action, *arguments):
+        """What the socket does ahead of a moment; where it doesn't, the connection is closed."""
+        try:
+            self._socket.settimeout(max(deadline - time.monotonic(), 1e-6))
+            return action(*arguments)
+        except (socket.timeout, BlockingIOError):
+            self.close()
+            raise TimeoutError("%s: no answer within %g s" % (self.path, self.timeout)) from None
+        except OSError as error:
+            self.close()
+            raise self._closed() from error
+
+    def _closed(self):
+        return ConnectionClosed("%s: the connection was closed" % self.path, not self._got_any)
 
     def send(self, data):
-        self.socket.sendall(data)
+        """Sends bytes."""
+        self._within(time.monotonic() + self.timeout, self._socket.sendall, data)
 
-    def take(self, count):
-        got = bytearray()
-        while len(got) < count:
-            piece = self.socket.recv(count - len(got))
+    def take(self, count, deadline=None):
+        """The next bytes that come, so many."""
+        deadline = deadline or time.monotonic() + self.timeout
+        held = self._held
+        while len(held) < count:
+            piece = self._within(deadline, self._socket.recv, max(65536, count - len(held)))
             if not piece:
-                raise ConnectionError("the connection was closed")
-            got += piece
-        return bytes(got)
-
-    def line(self):
-        got = bytearray()
-        while not got.endswith(b"\r\n"):
-            got += self.take(1)
-        return bytes(got[:-2])
+                self.close()
+                raise self._closed()
+            self._got_any = True
+            held += piece
+        got = bytes(held[:count])
+        del held[:count]
+        return got
 
     def close(self):
-        self.socket.close()
+        """Closes the connection; what it presented and opened is gone with it."""
+        self._socket.close()
 
     def __enter__(self):
         return self
@@ -286,47 +451,64 @@ class Stream:
 
 
 class Bus(Stream):
-    """A bus connection: the handshake is made, and messages follow."""
+    """A bus connection: the handshake is made, and calls follow."""
 
-    def __init__(self, path, timeout=30):
+    kind = "bus"
+
+    def __init__(self, path, timeout=30.0):
         super().__init__(path, timeout)
-        self.serial = 0
-        self.signals = []
+        self.signals = []  # those of the host pile up here until `permissions.changes` takes them
+        self.documents = Documents(self)
+        self.permissions = PermissionStore(self)
+        self._serial = 0
+        self.guid = self._shake_hands()
+
+    def _shake_hands(self):
         identity = str(os.getuid()).encode().hex()
         self.send(b"\0AUTH EXTERNAL " + identity.encode() + b"\r\n")
-        answer = self.line()
-        if not answer.startswith(b"OK "):
-            raise ConnectionError("the handshake was answered %r" % answer)
-        self.guid = answer[3:].decode()
+        deadline = time.monotonic() + self.timeout
+        line = bytearray()
+        while not line.endswith(b"\r\n"):
+            line += self.take(1, deadline)
+        if not line.startswith(b"OK "):
+            self.close()
+            raise ProtocolError("the handshake was answered %r" % bytes(line))
         self.send(b"BEGIN\r\n")
+        return line[3:-2].decode()
 
     def message(self):
         """The next message, whatever it is."""
-        head = self.take(16)
-        return Message(head + self.take(length_of(head) - 16))
+        deadline = time.monotonic() + self.timeout
+        head = self.take(16, deadline)
+        return Message(head + self.take(length_of(head) - 16, deadline))
 
     def post(self, path, interface, member, signature="", values=(), fds=0):
-        """Sends a call and doesn't wait for its answer."""
-        self.serial += 1
-        self.send(write_call(self.serial, path, interface, member, signature, values, fds))
-        return self.serial
+        """Sends a call and doesn't wait for its answer: the serial, which `answer` takes."""
+        self._serial += 1
+        self.send(write_call(self._serial, path, interface, member, signature, values, fds))
+        return self._serial
 
-    def call(self, path, interface, member, signature="", values=(), fds=0):
-        """Makes a call: the values of its return. Signals ahead of it are kept."""
-        serial = self.post(path, interface, member, signature, values, fds)
+    def answer(self, serial):
+        """The values that a call returns, of calls in their order. Signals ahead are kept."""
         while True:
             message = self.message()
-            if message.kind == SIGNAL:
+            if message.type == MessageType.SIGNAL:
                 self.signals.append(message)
-            elif message.fields.get(REPLY_SERIAL) == serial:
-                if message.kind == ERROR:
-                    raise CallError(message.fields[ERROR_NAME])
+            elif message.fields.get(Field.REPLY_SERIAL) == serial:
+                if message.type == MessageType.ERROR:
+                    raise DBusError.of(message.fields.get(Field.ERROR_NAME, ""))
                 return message.body
 
+    def call(self, path, interface, member, signature="", values=(), fds=0):
+        """Makes a call: the values that it returns."""
+        return self.answer(self.post(path, interface, member, signature, values, fds))
+
     def ping(self):
+        """Asks for nothing; the signals that waited come ahead of the answer."""
         self.call("/", "org.freedesktop.DBus.Peer", "Ping")
 
-    def property(self, path, interface, name):
+    def get_property(self, path, interface, name):
+        """The value of a property."""
         got = self.call(path, "org.freedesktop.DBus.Properties", "Get", "ss", [interface, name])
         return got[0].value
 
@@ -340,7 +522,15 @@ STORE = "org.freedesktop.impl.portal.PermissionStore"
 FILES_PATH = "/local/docportal/files"
 FILES = "local.docportal.Files1"
 
-REUSE, PERSISTENT, AS_NEEDED = 1, 2, 4
+
+class AddFlags(enum.IntFlag):
+    """The flags of AddFull and AddNamedFull."""
+
+    REUSE_EXISTING = 1
+    PERSISTENT = 2
+    AS_NEEDED_BY_APP = 4
+    # No flag of the portal: a call with it is refused, and takes the presented files all the same.
+    REFUSED = 1 << 31
 
 
 def path_bytes(path):
@@ -353,56 +543,92 @@ def path_text(raw):
 
 
 class Documents:
-    """The calls on documents of a bus connection."""
+    """org.freedesktop.portal.Documents of a bus connection. Paths are those of the portal."""
 
     def __init__(self, bus):
-        self.bus = bus
+        self._bus = bus
+        self._queued = 0
 
     def _call(self, member, signature="", values=(), fds=0):
-        return self.bus.call(DOCUMENTS_PATH, DOCUMENTS, member, signature, values, fds)
+        return self._bus.call(DOCUMENTS_PATH, DOCUMENTS, member, signature, values, fds)
 
+    @property
     def version(self):
-        return self.bus.property(DOCUMENTS_PATH, DOCUMENTS, "version")
+        """The version of the interface."""
+        return self._bus.get_property(DOCUMENTS_PATH, DOCUMENTS, "version")
 
-    def mount_point(self):
+    def get_mount_point(self):
+        """Where the documents are mounted."""
         return path_text(self._call("GetMountPoint")[0])
 
     def present(self, path):
-        """Queues a path on the host for the next addition: its place in the queue."""
-        return self.bus.call(FILES_PATH, FILES, "Present", "ay", [path_bytes(path)])[0]
+        """Queues a path for an addition: its place in the queue."""
+        place = self._bus.call(FILES_PATH, FILES, "Present", "ay", [path_bytes(path)])[0]
+        self._queued = place + 1
+        return place
 
-    def add(self, path, reuse=True, persistent=False):
-        """Presents a file and adds it: its identifier."""
-        self.present(path)
-        return self._call("Add", "hbb", [0, reuse, persistent], fds=1)[0]
+    def drop_presented(self):
+        """Empties the queue of what was presented and not added."""
+        if not self._queued:
+            return
+        values = [[], AddFlags.REFUSED, "", []]
+        try:
+            self._call("AddFull", "ahusas", values, fds=self._queued)
+        except (InvalidArgument, InvalidArgs):
+            self._queued = 0
+        except DBusError:
+            pass  # it stays there; the next addition goes by the places that Present answers
 
-    def add_named(self, folder, name, reuse=True, persistent=False):
-        self.present(folder)
-        values = [0, path_bytes(name), reuse, persistent]
-        return self._call("AddNamed", "haybb", values, fds=1)[0]
+    def _add(self, member, signature, paths, values):
+        """Presents files and makes the call that adds them.
 
-    def add_full(self, paths, flags=REUSE, app="", rights=()):
-        """Presents files and adds them: their identifiers, and what else is told."""
-        for path in paths:
-            self.present(path)
-        values = [list(range(len(paths))), flags, app, list(rights)]
-        return self._call("AddFull", "ahusas", values, fds=len(paths))
+        Its handles are the places that Present answered, so that it never takes a file that
+        another addition left in the queue; and where it fails, nothing of it is left there.
+        """
+        self.drop_presented()
+        try:
+            places = [self.present(path) for path in paths]
+            got = self._call(member, signature, values(places), fds=max(places, default=-1) + 1)
+        except DBusError:
+            self.drop_presented()
+            raise
+        self._queued = 0
+        return got
 
-    def add_named_full(self, folder, name, flags=REUSE, app="", rights=()):
-        self.present(folder)
-        values = [0, path_bytes(name), flags, app, list(rights)]
-        return self._call("AddNamedFull", "hayusas", values, fds=1)
+    def add(self, path, reuse_existing=True, persistent=False):
+        """Adds a file: its identifier."""
+        return self._add("Add", "hbb", [path],
+                         lambda places: [places[0], reuse_existing, persistent])[0]
 
-    def grant(self, document, app, rights):
-        self._call("GrantPermissions", "ssas", [document, app, list(rights)])
+    def add_named(self, folder, name, reuse_existing=True, persistent=False):
+        """Adds a file by its folder and name, be it there or not: its identifier."""
+        return self._add("AddNamed", "haybb", [folder], lambda places: [
+            places[0], path_bytes(name), reuse_existing, persistent])[0]
 
-    def revoke(self, document, app, rights):
-        self._call("RevokePermissions", "ssas", [document, app, list(rights)])
+    def add_full(self, paths, flags=AddFlags.REUSE_EXISTING, app="", permissions=()):
+        """Adds files, for an application or for none: their identifiers, and what else is told."""
+        return self._add("AddFull", "ahusas", paths,
+                         lambda places: [places, flags, app, list(permissions)])
+
+    def add_named_full(self, folder, name, flags=AddFlags.REUSE_EXISTING, app="", permissions=()):
+        """Adds a file by its folder and name, for an application: as `add_full`."""
+        return self._add("AddNamedFull", "hayusas", [folder], lambda places: [
+            places[0], path_bytes(name), flags, app, list(permissions)])
+
+    def grant_permissions(self, document, app, permissions):
+        """Gives an application rights in a document."""
+        self._call("GrantPermissions", "ssas", [document, app, list(permissions)])
+
+    def revoke_permissions(self, document, app, permissions):
+        """Takes rights in a document from an application."""
+        self._call("RevokePermissions", "ssas", [document, app, list(permissions)])
 
     def delete(self, document):
+        """Takes a document away from everybody; its file stays."""
         self._call("Delete", "s", [document])
 
     def lookup(self, path):
+        """The document of a path that was added first, or the empty text."""
         return self._call("Lookup", "ay", [path_bytes(path)])[0]
 
     def info(self, document):
@@ -411,72 +637,130 @@ class Documents:
         return path_text(path), apps
 
     def list(self, app=""):
+        """The paths of the documents of an application, or of all, by identifier."""
         documents = self._call("List", "s", [app])[0]
         return {document: path_text(path) for document, path in documents.items()}
 
+    def infos(self, documents):
+        """`info` of each document that is there, by identifier, asked many at a time."""
+        documents, found = list(documents), {}
+        for start in range(0, len(documents), 64):
+            asked = [(document, self._bus.post(DOCUMENTS_PATH, DOCUMENTS, "Info", "s", [document]))
+                     for document in documents[start:start + 64]]
+            failed = None
+            for document, serial in asked:
+                try:
+                    path, apps = self._bus.answer(serial)
+                    found[document] = path_text(path), apps
+                except NotFound:
+                    pass  # deleted meanwhile
+                except DBusError as error:
+                    failed = error
+            if failed:
+                raise failed
+        return found
 
-class Store:
-    """The calls on the permission store, of a bus connection of the host."""
+
+class Change(NamedTuple):
+    """What a signal Changed tells: an entry as it is now, or a deleted one as it was."""
+
+    table: str
+    id: str
+    deleted: bool
+    data: Variant
+    permissions: dict
+
+
+class PermissionStore:
+    """org.freedesktop.impl.portal.PermissionStore of a bus connection of the host."""
 
     def __init__(self, bus):
-        self.bus = bus
+        self._bus = bus
 
     def _call(self, member, signature, values):
-        return self.bus.call(STORE_PATH, STORE, member, signature, values)
+        return self._bus.call(STORE_PATH, STORE, member, signature, values)
 
+    @property
     def version(self):
-        return self.bus.property(STORE_PATH, STORE, "version")
+        """The version of the interface."""
+        return self._bus.get_property(STORE_PATH, STORE, "version")
 
     def lookup(self, table, entry):
-        """The rows of an entry, and its data."""
-        return self._call("Lookup", "ss", [table, entry])
+        """The permissions of each application in an entry, and its data."""
+        permissions, data = self._call("Lookup", "ss", [table, entry])
+        return permissions, data
 
-    def set(self, table, entry, rows, data, create=True):
-        self._call("Set", "sbsa{sas}v", [table, create, entry, rows, data])
+    def set(self, table, entry, permissions, data, create=True):
+        """Gives an entry these permissions by application, and this Variant as data."""
+        self._call("Set", "sbsa{sas}v", [table, create, entry, permissions, data])
 
     def delete(self, table, entry):
+        """Removes an entry."""
         self._call("Delete", "ss", [table, entry])
 
     def set_value(self, table, entry, data, create=True):
+        """Gives an entry this Variant as data."""
         self._call("SetValue", "sbsv", [table, create, entry, data])
 
     def set_permission(self, table, entry, app, permissions, create=True):
+        """Gives an application these permissions in an entry; none take its row away."""
         values = [table, create, entry, app, list(permissions)]
         self._call("SetPermission", "sbssas", values)
 
     def delete_permission(self, table, entry, app):
+        """Takes the row of an application from an entry."""
         self._call("DeletePermission", "sss", [table, entry, app])
 
     def get_permission(self, table, entry, app):
+        """The permissions of an application in an entry."""
         return self._call("GetPermission", "sss", [table, entry, app])[0]
 
     def list(self, table):
+        """The identifiers of a table's entries."""
         return self._call("List", "s", [table])[0]
+
+    def changes(self):
+        """Each Change that came since they were last asked for."""
+        came = [signal for signal in self._bus.signals
+                if signal.fields.get(Field.MEMBER) == "Changed"]
+        self._bus.signals.clear()
+        return [Change(*signal.body) for signal in came]
+
+    def watch(self, every=1.0):
+        """Each Change as it comes, without end. It asks by a Ping, so many seconds apart."""
+        while True:
+            self._bus.ping()
+            yield from self.changes()
+            time.sleep(every)
 
 
 # ---- frames (include/uapi/linux/fuse.h, all numbers with the lowest byte first)
 
-LOOKUP, GETATTR, SETATTR, OPEN, READ, WRITE, RELEASE = 1, 3, 4, 14, 15, 16, 18
-FSYNC, INIT, OPENDIR, READDIR, RELEASEDIR, CREATE = 20, 26, 27, 28, 29, 35
+class Opcode(enum.IntEnum):
+    LOOKUP = 1
+    GETATTR = 3
+    SETATTR = 4
+    OPEN = 14
+    READ = 15
+    WRITE = 16
+    RELEASE = 18
+    FSYNC = 20
+    INIT = 26
+    OPENDIR = 27
+    READDIR = 28
+    RELEASEDIR = 29
+    CREATE = 35
+
+
 ROOT = 1
-FATTR_SIZE = 8
+FATTR_SIZE, FATTR_FH = 8, 64
 
 
-class FrameError(OSError):
-    """A request that was answered by an error."""
-
-
-class Attributes:
-    """What a file or a folder is."""
-
-    def __init__(self, data):
-        fields = struct.unpack_from("<QQQQQQIIIIIIIIII", data)
-        self.node, self.size = fields[0], fields[1]
-        self.moment = fields[4]
-        self.mode = fields[9]
-
-    def __repr__(self):
-        return "node %d, %d bytes, mode %o" % (self.node, self.size, self.mode)
+def read_attr(data):
+    """A `struct fuse_attr` as os.stat gives it."""
+    (node, size, _blocks, atime, mtime, ctime, _, _, _, mode, links, uid, gid) = (
+        struct.unpack_from("<QQQQQQIIIIIII", data))
+    return os.stat_result((mode, node, 0, links, uid, gid, size, atime, mtime, ctime))
 
 
 def write_frame(opcode, node, body, unique):
@@ -485,81 +769,104 @@ def write_frame(opcode, node, body, unique):
     return struct.pack("<IIQQIIII", 40 + len(body), opcode, unique, node, *ids) + body
 
 
-class Mount(Stream):
-    """A mount connection."""
+class Entry(NamedTuple):
+    """The file of a document."""
 
-    def __init__(self, path, timeout=30):
+    name: str
+    stat: os.stat_result
+
+
+class Mount(Stream):
+    """A mount connection: requests on nodes by their names in FUSE, and files of documents."""
+
+    kind = "mount"
+
+    def __init__(self, path, timeout=30.0):
         super().__init__(path, timeout)
-        self.unique = 0
+        self._unique = 0
 
     def post(self, opcode, node, body=b""):
         """Sends a request and doesn't wait for its answer."""
-        self.unique += 1
-        self.send(write_frame(opcode, node, body, self.unique))
-        return self.unique
+        self._unique += 1
+        self.send(write_frame(opcode, node, body, self._unique))
+        return self._unique
 
     def reply(self):
         """The next answer: its number, its error and its body."""
-        head = self.take(16)
-        length, error, unique = struct.unpack("<IiQ", head)
-        return unique, -error, self.take(length - 16)
+        deadline = time.monotonic() + self.timeout
+        length, error, unique = struct.unpack("<IiQ", self.take(16, deadline))
+        if length < 16:
+            self.close()
+            raise ProtocolError("a frame of %d bytes" % length)
+        return unique, -error, self.take(length - 16, deadline)
 
     def ask(self, opcode, node, body=b""):
         """Makes a request: the body of its answer."""
         sent = self.post(opcode, node, body)
         unique, error, got = self.reply()
         if unique != sent:
-            raise ValueError("the answer %d came to request %d" % (unique, sent))
+            self.close()
+            raise ProtocolError("the answer %d came to request %d" % (unique, sent))
         if error:
-            raise FrameError(error, os.strerror(error))
+            raise MountError(error, os.strerror(error))
         return got
 
     def init(self):
-        """The version that is spoken."""
-        return struct.unpack_from("<II", self.ask(INIT, 0, struct.pack("<IIII", 7, 31, 0, 0)))
+        """The version of the protocol that is spoken."""
+        body = struct.pack("<IIII", 7, 31, 0, 0)
+        return struct.unpack_from("<II", self.ask(Opcode.INIT, 0, body))
 
     def lookup(self, node, name):
-        return Attributes(self.ask(LOOKUP, node, os.fsencode(name) + b"\0")[40:])
+        """What stands by a name in a folder."""
+        return read_attr(self.ask(Opcode.LOOKUP, node, os.fsencode(name) + b"\0")[40:])
 
-    def attributes(self, node):
-        return Attributes(self.ask(GETATTR, node, struct.pack("<IIQ", 0, 0, 0))[16:])
+    def getattr(self, node):
+        """What stands at a node."""
+        return read_attr(self.ask(Opcode.GETATTR, node, struct.pack("<IIQ", 0, 0, 0))[16:])
 
-    def open(self, node, flags=os.O_RDONLY):
+    def truncate(self, node, handle, length):
+        """Gives the file of a handle a length, by SETATTR."""
+        body = struct.pack("<IIQQ", FATTR_SIZE | FATTR_FH, 0, handle, length) + bytes(64)
+        return read_attr(self.ask(Opcode.SETATTR, node, body)[16:])
+
+    def open_node(self, node, flags=os.O_RDONLY):
         """A handle of the file at a node."""
-        got = self.ask(OPEN, node, struct.pack("<II", flags, 0))
+        got = self.ask(Opcode.OPEN, node, struct.pack("<II", flags, 0))
         return struct.unpack_from("<Q", got)[0]
 
     def create(self, folder, name, flags=os.O_RDWR):
+        """Makes a document's file where it isn't there: what it is, and a handle."""
         body = struct.pack("<IIII", flags, 0o600, 0, 0) + os.fsencode(name) + b"\0"
-        got = self.ask(CREATE, folder, body)
-        return Attributes(got[40:]), struct.unpack_from("<Q", got, 128)[0]
+        got = self.ask(Opcode.CREATE, folder, body)
+        return read_attr(got[40:]), struct.unpack_from("<Q", got, 128)[0]
 
     def read(self, node, handle, offset, size):
+        """At most so many bytes of an open file, and none at its end."""
         body = struct.pack("<QQIIQII", handle, offset, size, 0, 0, 0, 0)
-        return self.ask(READ, node, body)
+        return self.ask(Opcode.READ, node, body)
 
     def write(self, node, handle, offset, content):
+        """Writes at most 131,072 bytes: how many were written."""
         body = struct.pack("<QQIIQII", handle, offset, len(content), 0, 0, 0, 0)
-        return struct.unpack_from("<I", self.ask(WRITE, node, body + content))[0]
+        return struct.unpack_from("<I", self.ask(Opcode.WRITE, node, body + content))[0]
 
-    def set_length(self, node, length):
-        body = struct.pack("<II", FATTR_SIZE, 0) + struct.pack("<QQ", 0, length) + bytes(64)
-        return Attributes(self.ask(SETATTR, node, body)[16:])
-
-    def keep(self, node, handle):
-        self.ask(FSYNC, node, struct.pack("<QII", handle, 0, 0))
+    def fsync(self, node, handle):
+        """Asks that what was written by a handle is kept."""
+        self.ask(Opcode.FSYNC, node, struct.pack("<QII", handle, 0, 0))
 
     def release(self, node, handle):
-        self.ask(RELEASE, node, struct.pack("<QIIQ", handle, 0, 0, 0))
+        """Gives a handle back."""
+        self.ask(Opcode.RELEASE, node, struct.pack("<QIIQ", handle, 0, 0, 0))
 
-    def names(self, node):
+    def readdir(self, node):
         """The names in a folder, without `.` and `..`."""
-        handle = struct.unpack_from("<Q", self.ask(OPENDIR, node, struct.pack("<II", 0, 0)))[0]
+        got = self.ask(Opcode.OPENDIR, node, struct.pack("<II", 0, 0))
+        handle = struct.unpack_from("<Q", got)[0]
         names = []
         offset = 0
         while True:
             body = struct.pack("<QQIIQII", handle, offset, 65536, 0, 0, 0, 0)
-            got = self.ask(READDIR, node, body)
+            got = self.ask(Opcode.READDIR, node, body)
             if not got:
                 break
             at = 0
@@ -567,166 +874,107 @@ class Mount(Stream):
                 _node, offset, length, _kind = struct.unpack_from("<QQII", got, at)
                 names.append(os.fsdecode(got[at + 24:at + 24 + length]))
                 at += 24 + length + -length % 8
-        self.ask(RELEASEDIR, node, struct.pack("<QIIQ", handle, 0, 0, 0))
+        self.ask(Opcode.RELEASEDIR, node, struct.pack("<QIIQ", handle, 0, 0, 0))
         return [name for name in names if name not in (".", "..")]
 
-    def file_of(self, document):
-        """The file of a document: its folder's node, and its name and attributes."""
-        folder = self.lookup(ROOT, document).node
-        names = self.names(folder)
-        if not names:
-            raise FrameError(2, "the document has no file")
-        return folder, names[0], self.lookup(folder, names[0])
+    # files of documents
 
-    def content(self, document):
-        """The bytes of a document."""
-        _folder, _name, attributes = self.file_of(document)
-        handle = self.open(attributes.node)
-        content = bytearray()
-        while True:
-            piece = self.read(attributes.node, handle, len(content), 131072)
-            if not piece:
-                break
-            content += piece
-        self.release(attributes.node, handle)
-        return bytes(content)
+    def documents(self):
+        """The identifiers of the documents that the caller may read."""
+        return [name for name in self.readdir(ROOT) if re.fullmatch("[0-9a-f]{8}", name)]
 
-    def put(self, document, content):
-        """Writes a document anew."""
-        _folder, _name, attributes = self.file_of(document)
-        handle = self.open(attributes.node, os.O_WRONLY | os.O_TRUNC)
-        for at in range(0, len(content), 131072):
-            self.write(attributes.node, handle, at, content[at:at + 131072])
-        self.keep(attributes.node, handle)
-        self.release(attributes.node, handle)
+    def find(self, document):
+        """The file of a document, or None where it isn't there."""
+        folder = self.lookup(ROOT, document).st_ino
+        for name in self.readdir(folder):
+            return Entry(name, self.lookup(folder, name))
+        return None
 
+    def open_file(self, document, mode="rb", create_as=None):
+        """Opens the file of a document as `open` does: `rb`, `r+b`, or `wb`, which empties it.
 
-# ---- the program
-
-def socket_path(folder, who, kind):
-    """Where the socket of a caller is: the host's, or an application's by its name."""
-    name = "host" if who is None else "app." + who
-    return os.path.join(folder, name + "." + kind)
-
-
-def tour(folder, path, app):
-    """Makes each call once, and prints what it got."""
-    with Bus(socket_path(folder, None, "bus")) as bus:
-        bus.ping()
-        print("server      ", bus.guid)
-        documents = Documents(bus)
-        print("version     ", documents.version())
-        print("mount point ", documents.mount_point())
-        print("Present     ", documents.present(path))
-        got = documents._call("Add", "hbb", [0, True, True], fds=1)
-        document = got[0]
-        print("Add         ", document)
-        print("Info        ", documents.info(document))
-        documents.grant(document, app, ["read", "write"])
-        print("Grant        done")
-        print("List        ", documents.list(app))
-        print("Lookup      ", documents.lookup(path))
-        with Mount(socket_path(folder, app, "mount")) as mount:
-            print("INIT        ", mount.init())
-            print("names       ", mount.names(ROOT))
-            print("attributes  ", mount.file_of(document)[2])
-            print("content     ", mount.content(document))
-        documents.revoke(document, app, ["write"])
-        print("Revoke       done")
-        print("Info        ", documents.info(document))
-        documents.delete(document)
-        print("Delete       done")
-        print("Lookup      ", repr(documents.lookup(path)))
-        tour_of_store(Store(bus), app)
-
-
-def tour_of_store(store, app):
-    print("store        version", store.version())
-    store.set("tour", "entry", {app: ["yes"]}, Variant("s", "data"))
-    print("Set          done")
-    print("Lookup      ", store.lookup("tour", "entry"))
-    store.set_value("tour", "entry", Variant("u", 7))
-    print("SetValue     done")
-    store.set_permission("tour", "entry", app + ".other", ["no", "ask"])
-    print("SetPermission done")
-    print("GetPermission", store.get_permission("tour", "entry", app + ".other"))
-    store.delete_permission("tour", "entry", app)
-    print("DeletePermission done")
-    print("List        ", store.list("tour"))
-    store.delete("tour", "entry")
-    print("Delete       done")
-    store.bus.ping()
-    for signal in store.bus.signals:
-        print(signal.fields[MEMBER].ljust(12), *signal.body)
-
-
-def bus_call(bus, words):
-    """Makes the call on documents or on the store that the words say; what to print."""
-    name, arguments = words[0], words[1:]
-    documents, store = Documents(bus), Store(bus)
-    calls = {
-        "ping": lambda: bus.ping() or "done",
-        "add": lambda path, *rest: documents.add_full(
-            [path], REUSE | PERSISTENT, rest[0] if rest else "", rest[1:])[0][0],
-        "add-once": lambda path: documents.add(path, reuse=False),
-        "info": lambda document: documents.info(document),
-        "list": lambda app="": documents.list(app),
-        "lookup": lambda path: documents.lookup(path),
-        "grant": lambda document, app, *rights: documents.grant(document, app, rights) or "done",
-        "revoke": lambda document, app, *rights: documents.revoke(document, app, rights) or "done",
-        "delete": lambda document: documents.delete(document) or "done",
-        "store-lookup": lambda table, entry: store.lookup(table, entry),
-        "store-set": lambda table, entry, app, *permissions: store.set_permission(
-            table, entry, app, permissions) or "done",
-        "store-list": lambda table: store.list(table),
-        "store-delete": lambda table, entry: store.delete(table, entry) or "done",
-    }
-    return calls[name](*arguments)
-
-
-def mount_call(mount, words):
-    """Makes the requests that the words say; what to print."""
-    name, arguments = words[0], words[1:]
-    if name == "ls":
-        return "\n".join(mount.names(ROOT))
-    if name == "stat":
-        return mount.file_of(arguments[0])[2]
-    if name == "cat":
-        return mount.content(arguments[0]).decode(errors="replace")
-    mount.put(arguments[0], sys.stdin.buffer.read())
-    return "done"
-
-
-MOUNT_CALLS = ("ls", "stat", "cat", "put")
-HELP = """calls on a bus: ping, add PATH [APP RIGHT..], add-once PATH, info DOCUMENT, list [APP],
-lookup PATH, grant DOCUMENT APP RIGHT.., revoke DOCUMENT APP RIGHT.., delete DOCUMENT,
-store-set TABLE ENTRY APP PERMISSION.., store-lookup TABLE ENTRY, store-list TABLE,
-store-delete TABLE ENTRY. Calls on a mount: ls, stat DOCUMENT, cat DOCUMENT, put DOCUMENT
-(from standard input). Most of them: tour PATH APP."""
-
-
-def main():
-    parser = argparse.ArgumentParser(description=__doc__.splitlines()[0], epilog=HELP)
-    parser.add_argument("sockets", help="the folder of the sockets")
-    parser.add_argument("--as", dest="app", metavar="APP", help="call as an application")
-    parser.add_argument("call", nargs="+", help="the call and its arguments")
-    options = parser.parse_args()
-    try:
-        if options.call[0] == "tour":
-            tour(options.sockets, *options.call[1:])
-        elif options.call[0] in MOUNT_CALLS:
-            with Mount(socket_path(options.sockets, options.app, "mount")) as mount:
-                print(mount_call(mount, options.call))
+        Where the file isn't there, `wb` makes it, if `create_as` is the document's own name.
+        """
+        access = {"rb": os.O_RDONLY, "r+b": os.O_RDWR, "wb": os.O_WRONLY | os.O_TRUNC}[mode]
+        entry = self.find(document)
+        if entry:
+            node = entry.stat.st_ino
+            handle = self.open_node(node, access)
+        elif create_as is not None and mode == "wb":
+            stat, handle = self.create(self.lookup(ROOT, document).st_ino, create_as, os.O_WRONLY)
+            node = stat.st_ino
         else:
-            with Bus(socket_path(options.sockets, options.app, "bus")) as bus:
-                print(bus_call(bus, options.call))
-    except CallError as error:
-        sys.exit("docportal_client: " + error.name)
-    except OSError as error:
-        sys.exit("docportal_client: " + (error.strerror or str(error)))
-    except (KeyError, TypeError):
-        sys.exit("docportal_client: no such call: " + " ".join(options.call))
+            raise MountError(errno.ENOENT, "the document's file isn't there")
+        buffered = {"rb": io.BufferedReader, "r+b": io.BufferedRandom, "wb": io.BufferedWriter}
+        return buffered[mode](DocumentFile(self, node, handle, mode), WRITE_LIMIT)
+
+    def read_document(self, document):
+        """The bytes of a document."""
+        with self.open_file(document, "rb") as file:
+            return file.read()
+
+    def write_document(self, document, content):
+        """Writes a document anew, and asks that it is kept."""
+        with self.open_file(document, "wb") as file:
+            file.write(content)
+            file.flush()
+            file.raw.fsync()
+
+
+class DocumentFile(io.RawIOBase):
+    """An open file of a document; `Mount.open_file` puts a buffer over it."""
+
+    def __init__(self, mount, node, handle, mode):
+        super().__init__()
+        self._mount, self._node, self._handle, self._mode = mount, node, handle, mode
+        self._at = 0
+
+    def readable(self):
+        return self._mode != "wb"
+
+    def writable(self):
+        return self._mode != "rb"
+
+    def seekable(self):
+        return True
+
+    def readinto(self, buffer):
+        got = self._mount.read(self._node, self._handle, self._at, min(len(buffer), 1 << 20))
+        buffer[:len(got)] = got
+        self._at += len(got)
+        return len(got)
+
+    def write(self, content):
+        written = self._mount.write(self._node, self._handle, self._at,
+                                    bytes(content[:WRITE_LIMIT]))
+        self._at += written
+        return written
+
+    def seek(self, offset, whence=os.SEEK_SET):
+        if whence == os.SEEK_CUR:
+            offset += self._at
+        elif whence == os.SEEK_END:
+            offset += self._mount.getattr(self._node).st_size
+        self._at = offset
+        return offset
+
+    def truncate(self, size=None):
+        size = self._at if size is None else size
+        self._mount.truncate(self._node, self._handle, size)
+        return size
+
+    def fsync(self):
+        """Asks that what was written is kept."""
+        self._mount.fsync(self._node, self._handle)
+
+    def close(self):
+        if not self.closed:
+            super().close()
+            try:
+                self._mount.release(self._node, self._handle)
+            except (MountError, ServiceError):
+                pass  # the handle is gone with its connection
 
 
 if __name__ == "__main__":
-    main()
+    raise SystemExit("docportal_client is a library; docportal-client is the command")

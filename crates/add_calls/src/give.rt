@@ -77,6 +77,8 @@ fn number(
 fn needs_number(applications: &Applications, app: &AppId, rights: Rights) -> bool
     ensures { result ≡ (holds_any rights && not (is_numbered applications.now app.now)) }
 {
+    // In a valid state who has a right has a number, so one is given with the first right and not
+    // before.
     !rights.is_empty() && !has_number(applications, app)
 }
 

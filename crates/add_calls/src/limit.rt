@@ -24,6 +24,8 @@ pub fn exceeds(
 ) -> bool
     ensures { result ≡ exceeds_planned documents.now applications.now who.now plan.now }
 {
+    // It is tested on the plan, ahead of any word: whether a limit is passed doesn't depend on the
+    // numbers that are drawn.
     let more = new_applications(applications, who, plan);
     documents.room() < plan.used as u64 || applications.len() + more > APPLICATIONS_LIMIT
 }

@@ -38,6 +38,7 @@ pub fn look_all<T: HostTree>(
         Asked (T.is tree.old) (length shown.looks) shown.failed (T.is tree.new)) }
     ensures err { OnErr result (T.is tree.new ≡ T.is tree.old) }
 {
+    // All memory for looks is taken before the tree is asked.
     let mut looks = Vec::with_capacity(alloc, paths.len())?;
     for path in paths {
         match tree.look(path) {

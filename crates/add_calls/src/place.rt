@@ -150,6 +150,7 @@ fn take_back_from(
     }
     let item = &items[at];
     let used = uses[at];
+    // The last file goes first, so that each finds the lists as they were behind it.
     take_back_from(who, plan, at + 1, uses, documents, grants, applications);
     take_item_back(who, plan, item, used, documents, grants, applications);
 }
@@ -332,6 +333,8 @@ fn take_document_back(place: PlanUse, documents: &mut Documents, id: DocId)
     ensures { (a : AddRequest) (path : List ℕ) (before : DocumentList) →
         IsMade a path place id before documents.old → documents.new ≡ before }
 {
+    // A number that was drawn for a document which is taken back is no longer made; only its word
+    // is used up.
     if matches!(place, PlanUse::New) {
         documents.take_back(id);
     }

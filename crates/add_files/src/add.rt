@@ -57,6 +57,7 @@ pub fn plan_add(
     if let Err(error) = plan_files(alloc, documents, who, add, &app, paths, &mut items) {
         return Err(error);
     }
+    // The rights are looked at after all files are placed, so that an argument is refused first.
     if !may_list(grants, who, add, &app, rights, items.as_slice()) {
         return Err(AddError::NotAllowed);
     }

@@ -73,6 +73,7 @@ pub fn file_name(alloc: Global, add: &AddRequest) -> Result<(), AddError>
         return Ok(());
     }
     let name = add.name.as_slice();
+    // The name comes with the zero byte that ends it, and has at most 255 bytes without it.
     if !has_end(name) {
         return Err(AddError::InvalidArgument);
     }

@@ -115,6 +115,7 @@ fn new_place(add: &AddRequest, ahead: &[PlanItem], path: &HostPath) -> PlanUse
 fn is_left_out(add: &AddRequest, app: &Option<AppId>, path: &HostPath) -> bool
     ensures { result ≡ left_out add.now app.now path.now }
 {
+    // The folder is that of the document's path, and not of the presented one.
     match app {
         None => false,
         Some(app) => is_as_needed(add) && path.in_folder_of(app),
@@ -166,6 +167,8 @@ fn own_of(who: &Who, add: &AddRequest, place: PlanUse) -> Rights
     ensures { result ≡ own_of who.now add.now place }
 {
     match (who, place) {
+        // The host may do everything already, and who adds a file that is left out gets no
+        // document.
         (Who::Host, _) | (_, PlanUse::LeftOut) => Rights::NONE,
         _ => adding_rights(add),
     }

@@ -192,6 +192,8 @@ fn add_planned<T: HostTree, W: Words, K: Keeper>(
     if shown.failed {
         return Ok(unseen(alloc, shown.looks));
     }
+    // All looks are made first, also at files that are left out, and then the kinds of all files
+    // are looked at.
     if !are_of_kind(add, shown.looks.as_slice()) {
         return Ok(refused(alloc, Code::InvalidArgument, shown.looks));
     }

@@ -117,6 +117,7 @@ fn keep_placed<K: Keeper>(
         (K.is keeper.old) done.failed (K.is keeper.new)) }
     ensures err { OnErr result (KeeperStays (K.is keeper.old) (K.is keeper.new)) }
 {
+    // Memory for the answer is taken ahead of the keeper, whose call can't be undone.
     let ids = match identifiers(alloc, used) {
         Ok(ids) => ids,
         Err(error) => return Err(error),
@@ -144,6 +145,8 @@ fn keep_changes<K: Keeper>(
         (K.is keeper.old) failed (K.is keeper.new)) }
     ensures err { OnErr result (KeeperStays (K.is keeper.old) (K.is keeper.new)) }
 {
+    // The keeper is asked only where the records change: so no fault of it can meet any other
+    // addition.
     if !asks {
         return Ok(false);
     }

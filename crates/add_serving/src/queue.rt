@@ -40,6 +40,7 @@ pub(crate) fn leave(queue: &mut List<HostPath>, count: u32, fault: Fault)
 {
     match fault {
         Fault::None => take_first(queue, count),
+        // Where a device failed all is as before, the queue too.
         Fault::Tree | Fault::Keeper => {}
     }
 }

@@ -2,9 +2,3 @@ pub mod Told
 pub mod Matches
 pub mod Held
 pub mod Contents
-pub mod Touches
-pub mod OwnAdds
-pub mod FilesChanged
-pub mod Awaited
-pub mod Named
-pub mod Sharings

@@ -22,7 +22,7 @@ use std::cmp::Ordering;
 
 /// What is at the path of each document, in byte order of the paths, of which
 /// none is repeated. For each path the files are looked through.
-pub(crate) fn contents_of(
+pub fn contents_of(
     alloc: Global,
     files: &[File],
     held: &[HeldDocument],
@@ -51,6 +51,7 @@ fn by_bytes(paths: List<HostPath>) -> List<HostPath>
     ensures same { IsPermutation paths result }
     ensures order { IsSortedBy path_less result }
 {
+    // Whatever the order in which they came: views are compared by what is found in them.
     let mut paths = paths.into_vec();
     paths.sort_unstable_by(|first, second| byte_order(first, second));
     List::from_vec(paths)
@@ -128,11 +129,7 @@ fn path_content(alloc: Global, files: &[File], path: &HostPath) -> Result<PathCo
 }
 
 /// What is at a path.
-pub(crate) fn content_at(
-    alloc: Global,
-    files: &[File],
-    path: &HostPath,
-) -> Result<Content, WantOfMemory>
+pub fn content_at(alloc: Global, files: &[File], path: &HostPath) -> Result<Content, WantOfMemory>
     ensures { IfOk result
         (λ content. content_told content ≡ content_of_tree files.now path.now) }
 {
@@ -143,7 +140,7 @@ pub(crate) fn content_at(
 }
 
 /// What a file is.
-pub(crate) fn file_content(alloc: Global, file: &File) -> Result<Content, WantOfMemory>
+pub fn file_content(alloc: Global, file: &File) -> Result<Content, WantOfMemory>
     ensures { IfOk result (λ content. content_told content
         ≡ OfFile file.now.generation file.now.bytes file.now.moment) }
 {

@@ -5,7 +5,7 @@ ghost use Rattle.portal_base.specs.Names.{is_host_path};
 ghost use Rattle.portal_model.specs.Opening.{file_of, opened};
 ghost use Rattle.portal_model.specs.Valid.{Valid};
 
-use opening_lists::known_path;
+use document_records::opening::known_path;
 use portal_base::files::File;
 use portal_base::memory::{Replica, WantOfMemory};
 use portal_model::opening::{FileItem, OpeningState};

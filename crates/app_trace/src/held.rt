@@ -13,7 +13,7 @@ ghost use Rattle.app_trace.specs.Told.{held_told};
 
 use crate::view::HeldDocument;
 use document_records::Grants;
-use opening_lists::document;
+use document_records::opening::document;
 use portal_base::list::List;
 use portal_base::memory::WantOfMemory;
 use portal_base::names::{AppId, DocId};

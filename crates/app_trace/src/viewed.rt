@@ -10,7 +10,7 @@ use crate::contents::contents_of;
 use crate::files::files_of;
 use crate::held::held_documents;
 use crate::view::AppView;
-use opening_lists::rights;
+use document_records::opening::rights;
 use portal_base::list::List;
 use portal_base::memory::WantOfMemory;
 use portal_base::names::AppId;

@@ -44,6 +44,8 @@ pub fn subject_of<'a>(book: &ViewBook<'a>, who: &'a Who, view: u32) -> Option<Su
 {
     match who {
         Who::Host if view == OWN_VIEW => Some(Subject::Host),
+        // The view of an application shows what that application may do, also to the host: what it
+        // may not write the host can't write there.
         Who::Host => Some(Subject::App(application(book.applications, view)?)),
         Who::App(app) if view == OWN_VIEW => Some(Subject::App(app)),
         Who::App(_) => None,

@@ -114,6 +114,7 @@ fn names_in_root(
         let id = DocId { number: *number };
         names.push(folder_entry(alloc, folder_node(view, id), id.text().as_slice())?)?;
     }
+    // It stands behind them all, also behind those that begin with `c` to `f`.
     if has_views {
         names.push(folder_entry(alloc, by_app_node(), BY_APP)?)?;
     }

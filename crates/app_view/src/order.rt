@@ -31,6 +31,7 @@ pub(crate) fn numbers_seen(
         book.now.grants.now (who_is subject.entry) book.now.documents.now.live) }
 {
     let mut numbers = numbers_readable(alloc, book.documents.live(), book.grants, subject)?;
+    // By number, which is the byte order of identifiers.
     numbers.sort_unstable();
     Ok(numbers)
 }
@@ -71,6 +72,7 @@ fn views(alloc: Global, applications: &Applications) -> Result<List<DirName>, Wa
     ensures known { AreNumbered applications.now }
 {
     let mut views = List::new(alloc);
+    // Each application that has a number is listed, whatever it may do today.
     for index in 0..applications.len() {
         push_view(alloc, &mut views, applications, index + 1)?;
     }

@@ -53,6 +53,8 @@ fn is_seen(book: &ViewBook, who: &Who, place: Place) -> bool
     match place {
         Place::Root { view } => subject_of(book, who, view).is_some(),
         Place::ByApp => *who == Who::Host,
+        // A document that may not be read isn't seen: who may not read isn't told whether it is
+        // there.
         Place::Folder { view, id } => seen_document(book, who, view, id).is_some(),
         Place::File { view, id } => seen_document(book, who, view, id).is_some(),
     }

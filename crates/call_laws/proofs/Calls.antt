@@ -18,14 +18,14 @@ use Rattle.portal_model.specs.Step.{all_told, bus_of, reply_at, request_step}
 use Rattle.portal_model.specs.Valid.{Valid}
 use Rattle.portal_model.proofs.ValidLaws.{all_told-Valid}
 use Rattle.dbus_dispatch.specs.declared.ask.Ask.TheVariants.{Ignore, Portal}
-use Rattle.dbus_dispatch.specs.declared.error_name.ErrorName.{ErrorName}
-use Rattle.dbus_dispatch.specs.declared.error_name.ErrorName.TheVariants.{InvalidArgs}
-use Rattle.dbus_dispatch.specs.declared.method.Method.{Method}
-use Rattle.dbus_dispatch.specs.declared.method.Method.TheVariants as M
-use Rattle.dbus_dispatch.specs.Tables.{row}
-use Rattle.dbus_dispatch.specs.Arguments.{text_of, flag_of, number_of, bytes_of, handle_of, items_of, text_alone, bytes_alone, rights_call, add_of, add_call, add_named_of, add_named_call, add_full_call, add_named_full_of, add_named_full_call, lookup_call, set_call, delete_call, list_call, set_value_call, set_permission_call, delete_permission_call, get_permission_call, request_in}
+use Rattle.dbus_calls.specs.declared.error_name.ErrorName.{ErrorName}
+use Rattle.dbus_calls.specs.declared.error_name.ErrorName.TheVariants.{InvalidArgs}
+use Rattle.dbus_calls.specs.declared.method.Method.{Method}
+use Rattle.dbus_calls.specs.declared.method.Method.TheVariants as M
+use Rattle.dbus_calls.specs.Tables.{row}
+use Rattle.dbus_requests.specs.Arguments.{text_of, flag_of, number_of, bytes_of, handle_of, items_of, text_alone, bytes_alone, rights_call, add_of, add_call, add_named_of, add_named_call, add_full_call, add_named_full_of, add_named_full_call, lookup_call, set_call, delete_call, list_call, set_value_call, set_permission_call, delete_permission_call, get_permission_call, request_in}
 use Rattle.dbus_dispatch.specs.Asks.{ask_of, asked, asked_of_portal, asked_or_refused, is_call}
-use Rattle.dbus_dispatch.specs.Calls.{called, found, with_signature}
+use Rattle.dbus_calls.specs.Calls.{called, found, with_signature}
 use Rattle.dbus_dispatch.specs.Writable.{HasItsIdentifiers, IsTold, IsToldTo}
 use Rattle.call_laws.specs.Answers.{IsOnRecords}
 use Rattle.call_laws.proofs.Requests.{present_told, grant_told, revoke_told, delete_told, lookup_told, info_told, list_told, add_told}

@@ -7,9 +7,9 @@ use Rattle.dbus_types.specs.declared.types.Endian.{Endian}
 use Rattle.dbus_types.specs.declared.types.WireType.{WireType}
 use Rattle.dbus_types.specs.declared.types.Value.{Value, out-Value}
 use Rattle.dbus_types.specs.declared.message.Message.{Message}
-use Rattle.dbus_types.specs.Spells.{Spells, Members}
-use Rattle.dbus_types.specs.Spelling.{spelling, spellings}
-use Rattle.dbus_types.proofs.OneSpelling.{spells_same}
+use Rattle.dbus_values.specs.Spells.{Spells, Members}
+use Rattle.dbus_values.specs.Spelling.{spelling, spellings}
+use Rattle.dbus_values.proofs.OneSpelling.{spells_same}
 use Rattle.dbus_message.specs.Content.{IsContent}
 use Rattle.dbus_message.specs.Fields.{signature_code, text_of as field_text}
 use Rattle.dbus_message.specs.Header.{body_bytes, body_start, endian_of}
@@ -20,9 +20,9 @@ use Rattle.portal_model.specs.declared.request.RightsCall.{RightsCall}
 use Rattle.portal_model.specs.declared.store.StoreCall.{StoreCall}
 use Rattle.portal_model.specs.History.{add_bytes, cost_of, cost_of_bytes, rights_call_bytes, store_bytes}
 use Rattle.dbus_dispatch.specs.declared.ask.Ask.TheVariants.{Portal}
-use Rattle.dbus_dispatch.specs.declared.method.Method.{Method}
-use Rattle.dbus_dispatch.specs.declared.method.Method.TheVariants as M
-use Rattle.dbus_dispatch.specs.Arguments.{text_of, flag_of, number_of, bytes_of, handle_of, items_of, text_alone, bytes_alone, rights_of, rights_call, add_of, add_call, add_named_of, add_named_call, add_full_of, add_full_call, add_named_full_of, add_named_full_call, lookup_call, set_call, delete_call, list_call, set_value_call, set_permission_call, delete_permission_call, get_permission_call, request_in}
+use Rattle.dbus_calls.specs.declared.method.Method.{Method}
+use Rattle.dbus_calls.specs.declared.method.Method.TheVariants as M
+use Rattle.dbus_requests.specs.Arguments.{text_of, flag_of, number_of, bytes_of, handle_of, items_of, text_alone, bytes_alone, rights_of, rights_call, add_of, add_call, add_named_of, add_named_call, add_full_of, add_full_call, add_named_full_of, add_named_full_call, lookup_call, set_call, delete_call, list_call, set_value_call, set_permission_call, delete_permission_call, get_permission_call, request_in}
 use Rattle.dbus_dispatch.specs.Asks.{ask_of}
 use Rattle.call_laws.proofs.Calls.{asks_request}
 use Rattle.call_laws.proofs.StoreCosts.{StoreWithin, lookup_within, set_within, delete_within, list_within, set_value_within, set_permission_within, delete_permission_within, get_permission_within}

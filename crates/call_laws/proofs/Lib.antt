@@ -9,3 +9,10 @@ mod Sizes
 mod Shifts
 mod StoreCosts
 pub mod Costs
+pub mod ReturnSignatures
+pub mod ReturnVerdicts
+pub mod ReturnRequests
+pub mod StoreRequests
+pub mod ReturnsAsked
+pub mod PortalReturns
+pub mod LocalReturns

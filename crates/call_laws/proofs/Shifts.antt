@@ -9,8 +9,8 @@ use Rattle.dbus_types.specs.declared.types.Value.{Value}
 use Rattle.dbus_types.specs.declared.types.Value.TheOpen.{Value-F}
 use Rattle.dbus_types.specs.declared.types.Value.TheFolds.{ind-Value, map-Value, fold-roll-Value}
 use Rattle.dbus_types.specs.Types.{alignment, alignment_of, type_text}
-use Rattle.dbus_types.specs.Spells.{number, gap, bit}
-use Rattle.dbus_types.specs.Spelling.{aligned, in_row, text_body, signature_body, array_body, bytes_body, variant_body, Spelled, spell_step, spelled, spelling}
+use Rattle.dbus_values.specs.Spells.{number, gap, bit}
+use Rattle.dbus_values.specs.Spelling.{aligned, in_row, text_body, signature_body, array_body, bytes_body, variant_body, Spelled, spell_step, spelled, spelling}
 
 -- What begins later ends no sooner, and eight bytes later it is as long.
 abbrev Shifts : (ℕ → List ℕ) → Type 0

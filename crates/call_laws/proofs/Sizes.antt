@@ -10,12 +10,12 @@ use Rattle.dbus_types.specs.declared.types.Value.{Value, out-Value, roll-Value, 
 use Rattle.dbus_types.specs.declared.types.Value.TheVariants as V
 use Rattle.dbus_types.specs.declared.types.Value.TheOpen.{Value-F}
 use Rattle.dbus_types.specs.Types.{alignment}
-use Rattle.dbus_types.specs.Spells.{number, gap}
-use Rattle.dbus_types.specs.Spelling.{aligned, text_body, array_body, bytes_body, Spelled, spell_step, spelled, spelling, spellings}
-use Rattle.dbus_types.proofs.OneSpelling.{roll_bytes, roll_handle, roll_str, roll_array}
+use Rattle.dbus_values.specs.Spells.{number, gap}
+use Rattle.dbus_values.specs.Spelling.{aligned, text_body, array_body, bytes_body, Spelled, spell_step, spelled, spelling, spellings}
+use Rattle.dbus_values.proofs.OneSpelling.{roll_bytes, roll_handle, roll_str, roll_array}
 use Rattle.dbus_marshal.proofs.TakenFronts.{four, number_len}
 use Rattle.portal_model.specs.History.{texts_bytes}
-use Rattle.dbus_dispatch.specs.Arguments.{text_of, bytes_of, handle_of, items_of, handles_in, texts_in}
+use Rattle.dbus_requests.specs.Arguments.{text_of, bytes_of, handle_of, items_of, handles_in, texts_in}
 
 -- ---- the outer layer of a value
 

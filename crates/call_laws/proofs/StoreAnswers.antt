@@ -22,7 +22,7 @@ use Rattle.portal_model.specs.Store.{Entries, Outcome, becomes, becomes_if_told,
 use Rattle.portal_model.specs.StoreRequest.{are_store_arguments, own_table, store_allowed, store_answered, store_request, store_verdict, table_of}
 use Rattle.portal_model.specs.Valid.{Valid, has_entry_texts, has_texts, is_text, is_valid_entry}
 use Rattle.portal_model.proofs.ListLookups.{found_in_all}
-use Rattle.dbus_dispatch.specs.declared.method.Method.{Method}
+use Rattle.dbus_calls.specs.declared.method.Method.{Method}
 use Rattle.call_laws.proofs.Records.{all_put}
 use Rattle.call_laws.proofs.Verdicts.{VerdictTold, unless_told}
 

@@ -9,17 +9,17 @@ use Rattle.dbus_types.specs.declared.types.Endian.TheVariants.{Little}
 use Rattle.dbus_types.specs.declared.types.Value.{Value, out-Value, roll-Value, the_lemmas}
 use Rattle.dbus_types.specs.declared.types.Value.TheOpen.{Value-F}
 use Rattle.dbus_types.specs.declared.types.Value.TheVariants as V
-use Rattle.dbus_types.specs.Spells.{gap}
-use Rattle.dbus_types.specs.Spelling.{in_row, spell_step, spelled, spelling, spellings}
-use Rattle.dbus_types.proofs.Lengths.{same_length}
-use Rattle.dbus_types.proofs.OneSpelling.{roll_entry}
+use Rattle.dbus_values.specs.Spells.{gap}
+use Rattle.dbus_values.specs.Spelling.{in_row, spell_step, spelled, spelling, spellings}
+use Rattle.dbus_values.proofs.Lengths.{same_length}
+use Rattle.dbus_values.proofs.OneSpelling.{roll_entry}
 use Rattle.portal_model.specs.declared.records.Row.{Row}
 use Rattle.portal_model.specs.declared.store.StoreCall.{StoreCall}
 use Rattle.portal_model.specs.declared.store.StoreCall.TheVariants as Call
 use Rattle.portal_model.specs.Data.{data_bytes, is_spelled}
 use Rattle.portal_model.specs.History.{store_bytes, texts_bytes}
 use Rattle.portal_model.specs.StoreRequest.{texts_of_row}
-use Rattle.dbus_dispatch.specs.Arguments.{text_of, flag_of, items_of, inside_of, row_named, row_of, rows_in, texts_in, lookup_of, lookup_call, set_of, set_call, delete_of, delete_call, list_call, set_value_of, set_value_call, set_permission_of, set_permission_call, delete_permission_of, delete_permission_call, get_permission_of, get_permission_call}
+use Rattle.dbus_requests.specs.Arguments.{text_of, flag_of, items_of, inside_of, row_named, row_of, rows_in, texts_in, lookup_of, lookup_call, set_of, set_call, delete_of, delete_call, list_call, set_value_of, set_value_call, set_permission_of, set_permission_call, delete_permission_of, delete_permission_call, get_permission_of, get_permission_call}
 use Rattle.call_laws.proofs.Shifts.{at_most_eight}
 use Rattle.call_laws.proofs.Sizes.{ArrayWithin, ItemsWithin, TextWithin, array_takes_in, items_take, least_aligned, least_as, rolled, text_takes, texts_append}
 

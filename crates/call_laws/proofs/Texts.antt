@@ -10,7 +10,7 @@ use Rattle.std.proofs.lemmas.Str.{IsUtf8-from_ascii}
 use Rattle.std.proofs.lemmas.Str.Ascii.{IsAscii-from_all}
 use Rattle.portal_base.specs.Names.{is_app_name, is_name_byte, is_same, is_slash, is_rooted, root, is_byte_of_path, has_path_form, path_limit, is_host_path}
 use Rattle.rights_rule.specs.Rights.{RightSet, name_if, names_of, read_name, write_name, grant_permissions_name, delete_name}
-use Rattle.dbus_types.specs.Values.{IsText}
+use Rattle.dbus_values.specs.Values.{IsText}
 use Rattle.dbus_dispatch.proofs.Utf8.{utf8_bytes}
 
 abbrev Plain : ℕ → Type 0

@@ -14,7 +14,7 @@ use Rattle.portal_model.specs.State.{State}
 use Rattle.portal_model.specs.Step.{all_told, bus_step}
 use Rattle.portal_model.specs.Verdict.{Doing, Verdict, Refuses, Does, unless, walk_unless}
 use Rattle.portal_model.specs.Walk.{Walk, Answers, Looks, Ends, walked, looks_at_all}
-use Rattle.dbus_dispatch.specs.declared.method.Method.{Method}
+use Rattle.dbus_calls.specs.declared.method.Method.{Method}
 use Rattle.dbus_dispatch.specs.Writable.{IsTold}
 
 abbrev pub VerdictTold : Method → Verdict → Type 0

@@ -5,10 +5,11 @@
 //! after every call, and that a call for one connection touches no other. A change
 //! that is posted stands last on all connections, or on none where there was no
 //! memory; taking the last post back leaves all as they were before it, and takes
-//! no memory.
+//! no memory. Only the host hears of changes, on its connections to the bus.
 //!
 //! | Room | Holds |
 //! |---|---|
+//! | `hearing` | [`hearing::hears_of_changes`]: who is told of changes |
 //! | `outboxes` | [`Outboxes`]: the unsent signals by seat |
 //!
 //! ```text
@@ -21,6 +22,7 @@
 //! `org.freedesktop.impl.portal.PermissionStore`, signal `Changed`.
 #![tactic(auto)]
 
+pub mod hearing;
 pub mod outboxes;
 
 pub use outboxes::Outboxes;

@@ -71,6 +71,8 @@ impl Outboxes {
             ≡ unwrap_or (unsent_on self.old seat) []) }
         ensures rest { AtSeat (holding []) self.old self.new seat }
     {
+        // It has the form of a call that may want memory, so that another form of the boxes may
+        // copy them; this one never does.
         Ok(exchange(&mut self.boxes, seat, List::new(self.alloc)))
     }
 
@@ -98,6 +100,7 @@ impl Outboxes {
         requires { IfSome (unsent_on self.old seat) (λ signals. signals ≡ []) }
         ensures { AtSeat (holding taken) self.old self.new seat }
     {
+        // The box is empty, as is required: to put changes ahead of others would take memory.
         exchange(&mut self.boxes, seat, taken);
     }
 }

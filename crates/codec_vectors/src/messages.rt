@@ -5,7 +5,7 @@ use dbus_message::read::read_message;
 use dbus_message::split::split;
 use dbus_types::message::Message;
 use dbus_types::types::Endian;
-use dbus_types::write::write_signature;
+use dbus_values::write::write_signature;
 use portal_base::split::Split;
 use portal_base::text::Text;
 use std::alloc::Global;

@@ -2,7 +2,7 @@
 
 use dbus_types::names::{is_interface, is_member, is_object_path};
 use dbus_types::signature::{check_signature, read_signature};
-use dbus_types::write::write_signature;
+use dbus_values::write::write_signature;
 use std::alloc::Global;
 use vector_lines::error::{VectorError, given};
 use vector_lines::notation;

@@ -2,13 +2,13 @@
 
 use crate::values::kind_of;
 use dbus_types::equal::{is_byte, same_type};
-use dbus_types::keeping::keeps_rules;
 use dbus_types::layout::alignment_of;
-use dbus_types::nesting::nesting;
 use dbus_types::rules::{arrays_within, brackets_within, role_of};
 use dbus_types::types::{Value, WireType};
-use dbus_types::typing::has_type;
-use dbus_types::write::signature_text;
+use dbus_values::keeping::keeps_rules;
+use dbus_values::nesting::nesting;
+use dbus_values::typing::has_type;
+use dbus_values::write::signature_text;
 use portal_base::boxed::Boxed;
 use portal_base::list::{ByteList, List};
 use portal_base::memory::Replica;

@@ -32,6 +32,8 @@ pub enum Command {
 pub fn read(line: &[u8]) -> Command
     ensures { result ≡ command_of line.now }
 {
+    // Data that isn't hexadecimal is no identity: such a line is AUTH and anything else. Digits of
+    // either case are taken.
     if starts_hex_data(line, b"AUTH EXTERNAL ") {
         Command::AuthExternalWithIdentity
     } else if line == b"AUTH EXTERNAL".as_slice() {

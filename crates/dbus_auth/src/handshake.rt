@@ -101,8 +101,10 @@ fn cell(
     ensures begin_needs_no_memory { command ≡ Command.Begin → IsOk result }
 {
     let (reply, next) = match (command, state) {
+        // No line is due after BEGIN, and so no memory is wanted for it.
         (Command::Begin, AuthState::WaitingForBegin) => return Ok((AuthAnswer::Begin, state)),
         (Command::Begin, _) => return Ok((AuthAnswer::Early, state)),
+        // Any identity is taken: the socket already says who calls.
         (Command::AuthExternalWithIdentity, AuthState::WaitingForAuth)
         | (Command::Data, AuthState::WaitingForData) => {
             (ok_line(alloc, guid)?, AuthState::WaitingForBegin)

@@ -12,15 +12,15 @@ use Rattle.dbus_types.specs.declared.types.Value.TheVariants as V
 use Rattle.dbus_types.specs.declared.roles.Role.{Role}
 use Rattle.dbus_types.specs.declared.roles.Role.TheVariants.{Basic, Single}
 use Rattle.dbus_types.specs.Types.{is_single, array_role, entry_role, role, arrays_deep, brackets_deep, alignment, type_text, IsValidType, IsVariantType}
-use Rattle.dbus_types.specs.Values.{type_of, IsText, ValueKeeps, KeepsWithin, KeepsRules}
+use Rattle.dbus_values.specs.Values.{type_of, IsText, ValueKeeps, KeepsWithin, KeepsRules}
 use Rattle.dbus_types.proofs.TypeLayers.{text_array, text_entry, role_array, role_entry, role_byte, arrays_array, arrays_entry, brackets_array, brackets_entry}
-use Rattle.dbus_types.proofs.PackedBytes.{entry_no_byte}
-use Rattle.dbus_types.specs.Spelling.{spellings}
+use Rattle.dbus_values.proofs.PackedBytes.{entry_no_byte}
+use Rattle.dbus_values.specs.Spelling.{spellings}
 use Rattle.dbus_message.specs.Written.{IsGoodBody}
 use Rattle.dbus_message.proofs.Ascii.{member_text}
-use Rattle.dbus_dispatch.specs.declared.interface.Interface.{Interface}
-use Rattle.dbus_dispatch.specs.declared.interface.Interface.TheVariants as I
-use Rattle.dbus_dispatch.specs.Tables.{Property, version, properties_of}
+use Rattle.dbus_calls.specs.declared.interface.Interface.{Interface}
+use Rattle.dbus_calls.specs.declared.interface.Interface.TheVariants as I
+use Rattle.dbus_calls.specs.Tables.{Property, version, properties_of}
 use Rattle.dbus_dispatch.specs.Properties.{variant_of, dictionary}
 use Rattle.dbus_dispatch.specs.Asks.{closed_bytes}
 use Rattle.dbus_dispatch.proofs.Lengths.{Below, below_more, below_bytes, below_u32, below_str, below_variant, below_entry, below_array, code_u32, total, each_length}

@@ -7,7 +7,7 @@ use Rattle.std.proofs.lemmas.List.Elements.{All-nil, All-cons, All-weaker}
 use Rattle.std.proofs.lemmas.Str.{IsUtf8-from_ascii}
 use Rattle.std.proofs.lemmas.Str.Ascii.{IsAscii-from_all}
 use Rattle.portal_base.specs.Names.{doc_text}
-use Rattle.dbus_types.specs.Values.{IsText}
+use Rattle.dbus_values.specs.Values.{IsText}
 
 abbrev Plain : ℕ → Type 0
 Plain b = (0 < b) × (b < 128)

@@ -12,10 +12,10 @@ use Rattle.dbus_types.specs.declared.types.Value.{Value}
 use Rattle.dbus_types.specs.declared.types.Value.TheVariants as V
 use Rattle.dbus_types.specs.declared.types.Value.TheOpen.{Value-F}
 use Rattle.dbus_types.specs.Types.{alignment, type_text}
-use Rattle.dbus_types.specs.Spells.{number, gap}
-use Rattle.dbus_types.specs.Spelling.{aligned, in_row, text_body, array_body, bytes_body, Spelled, spell_step, spelled, spelling, spellings}
+use Rattle.dbus_values.specs.Spells.{number, gap}
+use Rattle.dbus_values.specs.Spelling.{aligned, in_row, text_body, array_body, bytes_body, Spelled, spell_step, spelled, spelling, spellings}
 use Rattle.dbus_marshal.proofs.TakenFronts.{four, number_len}
-use Rattle.dbus_types.proofs.OneSpelling.{roll_byte, roll_u32, roll_str, roll_signature, roll_variant, roll_array, roll_bytes, roll_struct, roll_entry}
+use Rattle.dbus_values.proofs.OneSpelling.{roll_byte, roll_u32, roll_str, roll_signature, roll_variant, roll_array, roll_bytes, roll_struct, roll_entry}
 use Rattle.dbus_message.specs.Written.{field}
 
 -- at each offset the value takes at most so many bytes

@@ -1,5 +1,3 @@
-pub mod Behind
-pub mod Methods
 pub mod Utf8
 pub mod Identifiers
 pub mod Lengths

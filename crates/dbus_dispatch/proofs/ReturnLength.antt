@@ -13,10 +13,10 @@ use Rattle.dbus_types.specs.declared.types.Value.TheVariants as V
 use Rattle.dbus_types.specs.declared.types.Value.TheOpen.{Value-F}
 use Rattle.dbus_types.specs.declared.message.OutMessage.TheVariants.{Return}
 use Rattle.dbus_types.specs.Types.{alignment, type_text, types_text}
-use Rattle.dbus_types.specs.Values.{type_of}
-use Rattle.dbus_types.specs.Spells.{number, gap}
-use Rattle.dbus_types.specs.Spelling.{aligned, in_row, array_body, Spelled, spell_step, spelled, spelling, spellings}
-use Rattle.dbus_types.proofs.OneSpelling.{roll_byte, roll_u32, roll_signature, roll_variant, roll_array, roll_struct}
+use Rattle.dbus_values.specs.Values.{type_of}
+use Rattle.dbus_values.specs.Spells.{number, gap}
+use Rattle.dbus_values.specs.Spelling.{aligned, in_row, array_body, Spelled, spell_step, spelled, spelling, spellings}
+use Rattle.dbus_values.proofs.OneSpelling.{roll_byte, roll_u32, roll_signature, roll_variant, roll_array, roll_struct}
 use Rattle.dbus_marshal.proofs.TakenFronts.{four, number_len}
 use Rattle.dbus_message.specs.Fields.{field_type, return_kind}
 use Rattle.dbus_message.specs.Written.{field, signature_field, message_bytes}

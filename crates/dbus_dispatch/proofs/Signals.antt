@@ -14,10 +14,10 @@ use Rattle.dbus_types.specs.declared.types.Value.TheOpen.{Value-F}
 use Rattle.dbus_types.specs.declared.types.Value.TheVariants as V
 use Rattle.dbus_types.specs.declared.message.OutMessage.{OutMessage}
 use Rattle.dbus_types.specs.Types.{role, arrays_deep, brackets_deep, type_text, types_text}
-use Rattle.dbus_types.specs.Values.{type_of, IsText, ValueKeeps, KeepsWithin, KeepsRules}
-use Rattle.dbus_types.specs.Spells.{bit, gap, number}
-use Rattle.dbus_types.specs.Spelling.{Spelled, spelling, spellings, spelled_length, spelled_lengths}
-use Rattle.dbus_types.proofs.OneSpelling.{roll_bool}
+use Rattle.dbus_values.specs.Values.{type_of, IsText, ValueKeeps, KeepsWithin, KeepsRules}
+use Rattle.dbus_values.specs.Spells.{bit, gap, number}
+use Rattle.dbus_values.specs.Spelling.{Spelled, spelling, spellings, spelled_length, spelled_lengths}
+use Rattle.dbus_values.proofs.OneSpelling.{roll_bool}
 use Rattle.dbus_types.proofs.TypeLayers.{text_array, text_entry}
 use Rattle.dbus_message.specs.Fields.{field_type, signal_kind}
 use Rattle.dbus_message.specs.Written.{IsGoodBody, field, fields_out, message_bytes}
@@ -30,7 +30,7 @@ use Rattle.portal_model.specs.Store.{can_be_told, record_of}
 use Rattle.portal_model.specs.Valid.{entry_told, has_entry_texts, has_texts, is_sound_change, is_text}
 use Rattle.portal_model.proofs.SpelledEnds.{behind, number_32, on, struct-end, values-more}
 use Rattle.dbus_dispatch.specs.Signals.{changed_body, signal_of}
-use Rattle.dbus_dispatch.specs.Tables.{changed}
+use Rattle.dbus_calls.specs.Tables.{changed}
 use Rattle.dbus_dispatch.specs.Writable.{IsChangeInUtf8, IsWritable}
 use Rattle.dbus_dispatch.proofs.Bodies.{text_str, text_variant, type_array, type_str, type_variant}
 use Rattle.dbus_dispatch.proofs.StoredTexts.{stored_rows_texts, stored_text}

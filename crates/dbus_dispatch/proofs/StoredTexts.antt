@@ -5,12 +5,12 @@ use Rattle.std.specs.List.{list_all}
 use Rattle.std.proofs.lemmas.Bool.{and_parts}
 use Rattle.std.proofs.lemmas.List.Elements.{All-nil, All-cons, All-head, All-tail}
 use Rattle.portal_base.proofs.NoZeros.{all_from_test}
-use Rattle.dbus_types.specs.Values.{IsText}
+use Rattle.dbus_values.specs.Values.{IsText}
 use Rattle.portal_model.specs.declared.records.Row.{Row}
 use Rattle.portal_model.specs.declared.reply.Answer.{Answer}
 use Rattle.portal_model.specs.declared.reply.Answer.TheVariants as A
 use Rattle.portal_model.specs.Valid.{has_texts, is_text}
-use Rattle.dbus_dispatch.specs.declared.error_name.ErrorName.{ErrorName}
+use Rattle.dbus_calls.specs.declared.error_name.ErrorName.{ErrorName}
 use Rattle.dbus_dispatch.specs.Replies.{error_in}
 use Rattle.dbus_dispatch.specs.Writable.{HasTexts, IsInUtf8, IsRowInUtf8}
 use Rattle.std.specs.Prelude.{Some}

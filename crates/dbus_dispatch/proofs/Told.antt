@@ -11,12 +11,12 @@ use Rattle.dbus_types.specs.declared.types.Value.TheVariants as V
 use Rattle.dbus_types.specs.declared.roles.Role.{Role}
 use Rattle.dbus_types.specs.declared.roles.Role.TheVariants.{Basic, Single}
 use Rattle.dbus_types.specs.Types.{is_single, array_role, entry_role, role, arrays_deep, brackets_deep, type_text, IsValidType, IsVariantType}
-use Rattle.dbus_types.specs.Values.{type_of, IsText, ValueKeeps, KeepsWithin, KeepsRules}
+use Rattle.dbus_values.specs.Values.{type_of, IsText, ValueKeeps, KeepsWithin, KeepsRules}
 use Rattle.dbus_types.proofs.TypeLayers.{text_array, text_entry, role_array, role_entry, role_byte, arrays_array, arrays_entry, brackets_array, brackets_entry}
-use Rattle.dbus_types.proofs.PackedBytes.{entry_no_byte, text_no_byte}
+use Rattle.dbus_values.proofs.PackedBytes.{entry_no_byte, text_no_byte}
 use Rattle.dbus_marshal.proofs.SpelledKeepsRules.{spelled_keeps}
 use Rattle.dbus_types.specs.declared.types.Endian.TheVariants.{Little}
-use Rattle.dbus_types.specs.Spelling.{spelling}
+use Rattle.dbus_values.specs.Spelling.{spelling}
 use Rattle.dbus_message.specs.Written.{IsGoodBody}
 use Rattle.dbus_message.proofs.Ascii.{member_text}
 use Rattle.portal_model.specs.declared.records.Row.{Row}
@@ -26,8 +26,8 @@ use Rattle.portal_model.specs.declared.reply.ListedDocument.{ListedDocument}
 use Rattle.portal_model.specs.Changed.{texts_value, row_value, rows_value}
 use Rattle.portal_model.specs.Data.{is_data}
 use Rattle.portal_model.proofs.DataLaws.{data-spelled}
-use Rattle.dbus_dispatch.specs.declared.method.Method.{Method}
-use Rattle.dbus_dispatch.specs.declared.method.Method.TheVariants as M
+use Rattle.dbus_calls.specs.declared.method.Method.{Method}
+use Rattle.dbus_calls.specs.declared.method.Method.TheVariants as M
 use Rattle.dbus_dispatch.specs.Asks.{closed_bytes}
 use Rattle.dbus_dispatch.specs.Replies.{extra, listed_value, documents_value, each_text, identifiers, body_of}
 use Rattle.dbus_dispatch.specs.Writable.{HasTexts, HasItsIdentifiers, IsInUtf8, IsTold}

@@ -17,8 +17,8 @@ use Rattle.dbus_types.specs.declared.message.OutMessage.{OutMessage}
 use Rattle.dbus_types.specs.declared.message.OutMessage.TheVariants.{Return, Error}
 use Rattle.dbus_types.specs.Names.{is_interface_name}
 use Rattle.dbus_types.specs.Types.{alignment, types_text}
-use Rattle.dbus_types.specs.Values.{type_of}
-use Rattle.dbus_types.specs.Spelling.{spelling, spellings}
+use Rattle.dbus_values.specs.Values.{type_of}
+use Rattle.dbus_values.specs.Spelling.{spelling, spellings}
 use Rattle.dbus_message.specs.Fields.{field_type}
 use Rattle.dbus_message.specs.Written.{field, signature_field, last_part, kind_out, body_out, fields_out, IsGoodBody, KeepsKinds, CanWrite, message_bytes}
 use Rattle.dbus_message.proofs.WrittenHasSpelling.{part_good}
@@ -26,21 +26,21 @@ use Rattle.dbus_message.proofs.WriteMessage.{whole_len}
 use Rattle.portal_model.specs.Changed.{message_limit}
 use Rattle.portal_model.specs.declared.reply.Answer.{Answer}
 use Rattle.portal_model.specs.declared.request.Request.{Request}
-use Rattle.dbus_dispatch.specs.declared.object.Object.{Object}
-use Rattle.dbus_dispatch.specs.declared.interface.Interface.{Interface}
-use Rattle.dbus_dispatch.specs.declared.interface.Interface.TheVariants as I
-use Rattle.dbus_dispatch.specs.declared.method.Method.{Method}
-use Rattle.dbus_dispatch.specs.declared.method.Method.TheVariants as M
-use Rattle.dbus_dispatch.specs.declared.error_name.ErrorName.{ErrorName}
-use Rattle.dbus_dispatch.specs.declared.error_name.ErrorName.TheVariants as E
-use Rattle.dbus_dispatch.specs.declared.error_name.ErrorName.TheVariants.{UnknownProperty}
+use Rattle.dbus_calls.specs.declared.object.Object.{Object}
+use Rattle.dbus_calls.specs.declared.interface.Interface.{Interface}
+use Rattle.dbus_calls.specs.declared.interface.Interface.TheVariants as I
+use Rattle.dbus_calls.specs.declared.method.Method.{Method}
+use Rattle.dbus_calls.specs.declared.method.Method.TheVariants as M
+use Rattle.dbus_calls.specs.declared.error_name.ErrorName.{ErrorName}
+use Rattle.dbus_calls.specs.declared.error_name.ErrorName.TheVariants as E
+use Rattle.dbus_calls.specs.declared.error_name.ErrorName.TheVariants.{UnknownProperty}
 use Rattle.dbus_dispatch.specs.declared.ask.Ask.{Ask}
 use Rattle.dbus_dispatch.specs.declared.ask.Ask.TheVariants.{Local, Ignore}
-use Rattle.dbus_dispatch.specs.Tables.{Property, version, properties_of}
-use Rattle.dbus_dispatch.specs.Errors.{error_name, error_to}
-use Rattle.dbus_dispatch.specs.Calls.{object_of, found, called}
+use Rattle.dbus_calls.specs.Tables.{Property, version, properties_of}
+use Rattle.dbus_calls.specs.Errors.{error_name, error_to}
+use Rattle.dbus_calls.specs.Calls.{object_of, found, called}
 use Rattle.dbus_dispatch.specs.Properties.{texts, interface_or, value_named, value_or, value_in, interface_in, variant_of, dictionary}
-use Rattle.dbus_dispatch.specs.Arguments.{request_in}
+use Rattle.dbus_requests.specs.Arguments.{request_in}
 use Rattle.dbus_dispatch.specs.Asks.{is_call, answered, closed_bytes, asked_of_portal, asked, asked_or_refused, ask_of}
 use Rattle.dbus_dispatch.specs.Replies.{error_in, body_of, return_length, told, reply_by, reply_of}
 use Rattle.dbus_dispatch.specs.Writable.{CanBeAnswered, IsInUtf8, IsTold, IsToldTo, IsWritable}

@@ -8,16 +8,16 @@ use Rattle.dbus_types.specs.declared.message.Message.{Message}
 use Rattle.dbus_types.specs.declared.message.OutMessage.{OutMessage}
 use Rattle.dbus_types.specs.declared.message.OutMessage.TheVariants.{Return}
 use Rattle.portal_model.specs.declared.request.Request.{Request}
-use Rattle.dbus_dispatch.specs.declared.method.Method.{Method}
-use Rattle.dbus_dispatch.specs.declared.method.Method.TheVariants as M
+use Rattle.dbus_calls.specs.declared.method.Method.{Method}
+use Rattle.dbus_calls.specs.declared.method.Method.TheVariants as M
 use Rattle.dbus_dispatch.specs.declared.ask.Ask.{Ask}
 use Rattle.dbus_dispatch.specs.declared.ask.Ask.TheVariants.{Local, Ignore, Portal}
-use Rattle.dbus_dispatch.specs.declared.error_name.ErrorName.{ErrorName}
-use Rattle.dbus_dispatch.specs.declared.error_name.ErrorName.TheVariants.{InvalidArgs}
-use Rattle.dbus_dispatch.specs.Tables.{properties_of}
-use Rattle.dbus_dispatch.specs.Errors.{error_to}
-use Rattle.dbus_dispatch.specs.Calls.{object_of, called}
-use Rattle.dbus_dispatch.specs.Arguments.{request_in}
+use Rattle.dbus_calls.specs.declared.error_name.ErrorName.{ErrorName}
+use Rattle.dbus_calls.specs.declared.error_name.ErrorName.TheVariants.{InvalidArgs}
+use Rattle.dbus_calls.specs.Tables.{properties_of}
+use Rattle.dbus_calls.specs.Errors.{error_to}
+use Rattle.dbus_calls.specs.Calls.{object_of, called}
+use Rattle.dbus_requests.specs.Arguments.{request_in}
 use Rattle.dbus_dispatch.specs.Properties.{texts, value_in, interface_in, variant_of, dictionary}
 
 -- METHOD_CALL

@@ -1,8 +1,3 @@
-pub mod Signatures
-pub mod Tables
-pub mod Errors
-pub mod Calls
-pub mod Arguments
 pub mod Properties
 pub mod Asks
 pub mod Replies

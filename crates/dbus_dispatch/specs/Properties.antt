@@ -5,13 +5,13 @@ use Rattle.std.specs.Str.{bytes_eq}
 use Rattle.dbus_types.specs.declared.types.WireType.TheVariants as W
 use Rattle.dbus_types.specs.declared.types.Value.{Value, out-Value}
 use Rattle.dbus_types.specs.declared.types.Value.TheVariants as V
-use Rattle.dbus_dispatch.specs.declared.object.Object.{Object}
-use Rattle.dbus_dispatch.specs.declared.interface.Interface.{Interface}
-use Rattle.dbus_dispatch.specs.declared.error_name.ErrorName.{ErrorName}
-use Rattle.dbus_dispatch.specs.declared.error_name.ErrorName.TheVariants.{UnknownInterface, UnknownProperty, InvalidArgs}
-use Rattle.dbus_dispatch.specs.Tables.{Property, properties_of}
-use Rattle.dbus_dispatch.specs.Arguments.{text_of}
-use Rattle.dbus_dispatch.specs.Calls.{interface_named}
+use Rattle.dbus_calls.specs.declared.object.Object.{Object}
+use Rattle.dbus_calls.specs.declared.interface.Interface.{Interface}
+use Rattle.dbus_calls.specs.declared.error_name.ErrorName.{ErrorName}
+use Rattle.dbus_calls.specs.declared.error_name.ErrorName.TheVariants.{UnknownInterface, UnknownProperty, InvalidArgs}
+use Rattle.dbus_calls.specs.Tables.{Property, properties_of}
+use Rattle.dbus_requests.specs.Arguments.{text_of}
+use Rattle.dbus_calls.specs.Calls.{interface_named}
 
 -- the texts that the arguments of a call are
 abbrev pub texts : List Value → List (Option (List ℕ))

@@ -14,13 +14,15 @@ use Rattle.portal_model.specs.declared.reply.Answer.TheVariants as A
 use Rattle.portal_model.specs.declared.reply.Code.{Code}
 use Rattle.portal_model.specs.declared.reply.Code.TheVariants as C
 use Rattle.portal_model.specs.declared.reply.ListedDocument.{ListedDocument}
+use Rattle.portal_model.specs.declared.reply.Refused.{Refused}
+use Rattle.portal_model.specs.declared.reply.Refused.TheVariants.{Memory, Full}
 use Rattle.portal_model.specs.Changed.{message_limit, rows_value, texts_value}
-use Rattle.dbus_dispatch.specs.declared.method.Method.{Method}
-use Rattle.dbus_dispatch.specs.declared.method.Method.TheVariants as M
-use Rattle.dbus_dispatch.specs.declared.error_name.ErrorName.{ErrorName}
-use Rattle.dbus_dispatch.specs.declared.error_name.ErrorName.TheVariants as E
-use Rattle.dbus_dispatch.specs.Errors.{error_to}
-use Rattle.dbus_dispatch.specs.Calls.{found}
+use Rattle.dbus_calls.specs.declared.method.Method.{Method}
+use Rattle.dbus_calls.specs.declared.method.Method.TheVariants as M
+use Rattle.dbus_calls.specs.declared.error_name.ErrorName.{ErrorName}
+use Rattle.dbus_calls.specs.declared.error_name.ErrorName.TheVariants as E
+use Rattle.dbus_calls.specs.Errors.{error_to}
+use Rattle.dbus_calls.specs.Calls.{found}
 use Rattle.dbus_dispatch.specs.Asks.{closed_bytes, returned}
 
 -- ---- errors
@@ -36,6 +38,11 @@ error_of C.InvalidArgument = E.InvalidArgument
 error_of C.Failed = E.Failed
 error_of (C.Errno errno) = E.Failed
 error_of C.NotHere = E.Failed
+
+-- the error of a request that is no entry of the history
+abbrev pub refusal_of : Refused → ErrorName
+refusal_of Memory = E.NoMemory
+refusal_of (Full cost limit) = E.LimitsExceeded
 
 -- the error that an answer is; one to a request on a node is none to a call
 abbrev pub error_in : Answer → Option ErrorName

@@ -7,9 +7,9 @@ use Rattle.dbus_types.specs.declared.message.OutMessage.{OutMessage}
 use Rattle.dbus_types.specs.declared.message.OutMessage.TheVariants.{Signal}
 use Rattle.portal_model.specs.declared.reply.Change.{Change}
 use Rattle.portal_model.specs.Changed.{rows_value}
-use Rattle.dbus_dispatch.specs.declared.interface.Interface.TheVariants as I
-use Rattle.dbus_dispatch.specs.declared.object.Object.TheVariants as O
-use Rattle.dbus_dispatch.specs.Tables.{changed, interface_name, path_of}
+use Rattle.dbus_calls.specs.declared.interface.Interface.TheVariants as I
+use Rattle.dbus_calls.specs.declared.object.Object.TheVariants as O
+use Rattle.dbus_calls.specs.Tables.{changed, interface_name, path_of}
 
 -- table (s), id (s), deleted (b), data (v), permissions (a{sas})
 abbrev pub changed_body : Change → List Value

@@ -1,7 +1,7 @@
 -- Answers that can be written (D-Bus Specification, "Message Format").
 use Rattle.std.specs.Prelude.{◌≡◌, ◌≢◌, ℕ, ◌<◌, ◌^◌, List, length, All, Ok, true, IsUtf8}
 use Rattle.std.specs.List.{list_all}
-use Rattle.dbus_types.specs.Values.{IsText}
+use Rattle.dbus_values.specs.Values.{IsText}
 use Rattle.dbus_types.specs.declared.message.Message.{Message}
 use Rattle.dbus_types.specs.declared.message.OutMessage.{OutMessage}
 use Rattle.portal_model.specs.declared.records.Row.{Row}
@@ -10,10 +10,10 @@ use Rattle.portal_model.specs.declared.reply.Answer.TheVariants as A
 use Rattle.portal_model.specs.declared.reply.Change.{Change}
 use Rattle.portal_model.specs.Data.{is_data}
 use Rattle.portal_model.specs.Valid.{has_texts, is_text}
-use Rattle.dbus_dispatch.specs.declared.method.Method.{Method}
-use Rattle.dbus_dispatch.specs.declared.method.Method.TheVariants as M
+use Rattle.dbus_calls.specs.declared.method.Method.{Method}
+use Rattle.dbus_calls.specs.declared.method.Method.TheVariants as M
 use Rattle.dbus_message.specs.Written.{CanWrite}
-use Rattle.dbus_dispatch.specs.Calls.{found}
+use Rattle.dbus_calls.specs.Calls.{found}
 use Rattle.dbus_dispatch.specs.declared.ask.Ask.{Ask}
 use Rattle.dbus_dispatch.specs.declared.ask.Ask.TheVariants.{Local, Ignore, Portal}
 

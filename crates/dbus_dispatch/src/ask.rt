@@ -3,16 +3,16 @@
 //! Source: D-Bus Specification, "Message Protocol" and "Standard Interfaces".
 
 ghost use Rattle.std.specs.Prelude.{◌≡◌, ◌≢◌, ◌<◌, ◌^◌, ◌↔◌, [], ◌∷◌, IfOk};
-ghost use Rattle.dbus_dispatch.specs.Arguments.{request_in};
+ghost use Rattle.dbus_requests.specs.Arguments.{request_in};
 ghost use Rattle.dbus_dispatch.specs.Asks.{ask_of, asked, asked_of_portal, returned, expects_reply};
 ghost use Rattle.dbus_dispatch.specs.Writable.{CanBeAnswered};
 
 use crate::body::{closed_bytes, only};
-use crate::call::{called, object_of};
-use crate::error_name::ErrorName;
-use crate::method::Method;
 use crate::properties::{dictionary, interface_in, value_in, variant};
-use crate::request::request_in;
+use dbus_calls::call::{called, object_of};
+use dbus_calls::error_name::ErrorName;
+use dbus_calls::method::Method;
+use dbus_requests::request::request_in;
 use dbus_types::message::{METHOD_CALL, Message, NO_REPLY_EXPECTED, OutMessage};
 use dbus_types::types::Value;
 use portal_base::limits::Settings;
@@ -39,6 +39,8 @@ pub enum Ask {
 pub fn expects_reply(message: &Message) -> bool
     ensures { result ≡ expects_reply message.now }
 {
+    // A call that expects no reply asks what it would ask with one, since signals that wait go out
+    // at its place too.
     message.kind == METHOD_CALL && message.flags & NO_REPLY_EXPECTED == 0
 }
 
@@ -56,6 +58,7 @@ pub fn request_of(
     if message.kind != METHOD_CALL {
         return Ok(Ask::Ignore);
     }
+    // A path on the host tells its rule here, which is what an answer with it needs to be written.
     let mountpoint = settings.mountpoint.as_bytes();
     fits(message.serial);
     match called(message) {

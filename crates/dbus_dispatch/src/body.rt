@@ -12,7 +12,7 @@ ghost use Rattle.dbus_dispatch.specs.Asks.{closed_bytes};
 ghost use Rattle.dbus_dispatch.specs.Replies.{extra, listed_value, documents_value, each_text, identifiers, body_of};
 ghost use Rattle.dbus_dispatch.specs.Writable.{IsInUtf8, IsRowInUtf8};
 
-use crate::method::Method;
+use dbus_calls::method::Method;
 use dbus_types::shared::Shared;
 use dbus_types::types::{Value, WireType};
 use portal_base::boxed::Boxed;

@@ -1,8 +1,6 @@
-//! Laws of the tables, and of what is answered.
+//! Laws of what is answered.
 
-ghost use Rattle.dbus_dispatch.specs.declared.object.Object.{Object as AnObject};
-ghost use Rattle.std.specs.Prelude.{◌≡◌, ◌<◌, ◌^◌, IsTrue, true, map};
-ghost use Rattle.std.specs.List.{flat_map};
+ghost use Rattle.std.specs.Prelude.{◌≡◌, ◌<◌, ◌^◌, true, map};
 ghost use Rattle.portal_base.specs.declared.limits.Settings.{Settings as TheSettings};
 ghost use Rattle.portal_base.specs.Names.{is_host_path};
 ghost use Rattle.dbus_types.specs.declared.message.Message.{Message as AMessage};
@@ -10,21 +8,9 @@ ghost use Rattle.dbus_dispatch.specs.Asks.{ask_of};
 ghost use Rattle.dbus_dispatch.specs.Writable.{CanBeAnswered};
 ghost use Rattle.portal_model.specs.declared.reply.Change.{Change as AChange};
 ghost use Rattle.dbus_types.specs.Types.{types_text};
-ghost use Rattle.dbus_types.specs.Values.{type_of};
+ghost use Rattle.dbus_values.specs.Values.{type_of};
 ghost use Rattle.dbus_dispatch.specs.Signals.{changed_body};
-ghost use Rattle.dbus_dispatch.specs.Tables.{changed, objects, path_of, interfaces_of, interface_name, methods_of, row, are_apart};
-
-/// The objects have different paths, the interfaces of an object different
-/// names, and so have all the methods of these: a member stands in one of an
-/// object's interfaces at most.
-pub fn names_are_told_apart()
-    ensures paths { IsTrue (are_apart (map path_of objects)) }
-    ensures interfaces { (object : AnObject)
-        → IsTrue (are_apart (map interface_name (interfaces_of object))) }
-    ensures members { (object : AnObject)
-        → IsTrue (are_apart (map (λ method. (row method).member)
-        (flat_map methods_of (interfaces_of object)))) }
-{}
+ghost use Rattle.dbus_calls.specs.Tables.{changed};
 
 /// What a message is answered can be written, with each serial that isn't 0:
 /// its values keep the rules, and it is no longer than a message may be. The

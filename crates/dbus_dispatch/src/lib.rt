@@ -7,12 +7,11 @@
 //! | Room | Holds |
 //! |---|---|
 //! | `ask` | [`ask::request_of`]: what a message asks |
-//! | `object`, `interface`, `method` | the tables |
-//! | `call`, `signature` | the method that a call names, or its error |
-//! | `arguments`, `request`, `store_request` | what the arguments of a call ask the portal |
+//! | `object`, `interface`, `method`, `call` | the tables and what a call names, of `dbus_calls` |
 //! | `reply`, `body` | [`reply::reply_message`]: what an answer of the portal is told as |
 //! | `signal` | [`signal::signal_message`]: what a host is told of a change |
-//! | `properties`, `refused`, `error_name` | answers that need no portal |
+//! | `properties`, `refused` | answers that need no portal |
+//! | `error_name` | the names of errors, of `dbus_calls` |
 //! | `laws` | laws of these answers |
 //!
 //! ```text
@@ -27,19 +26,12 @@
 //! of errors; `docs/permission-store.md` has the calls of the permission store.
 #![tactic(auto)]
 
-mod arguments;
 pub mod ask;
 mod body;
-pub mod call;
-pub mod error_name;
-pub mod interface;
 pub mod laws;
-pub mod method;
-pub mod object;
 pub mod properties;
 pub mod refused;
 pub mod reply;
-mod request;
 pub mod signal;
-mod signature;
-mod store_request;
+
+pub use dbus_calls::{call, error_name, interface, method, object};

@@ -4,13 +4,13 @@
 
 ghost use Rattle.std.specs.Prelude.{◌≡◌, IfOk};
 ghost use Rattle.std.specs.Option.{option_map, option_to_list};
-ghost use Rattle.dbus_dispatch.specs.Tables.{properties_of, version};
+ghost use Rattle.dbus_calls.specs.Tables.{properties_of, version};
 ghost use Rattle.dbus_dispatch.specs.Properties.{texts, value_in, interface_in, variant_of, dictionary};
 
-use crate::arguments::text_of;
-use crate::error_name::ErrorName;
-use crate::interface::{Interface, interface_named};
-use crate::object::Object;
+use dbus_calls::error_name::ErrorName;
+use dbus_calls::interface::{Interface, interface_named};
+use dbus_calls::object::Object;
+use dbus_requests::arguments::text_of;
 use dbus_types::shared::Shared;
 use dbus_types::types::{Value, WireType};
 use portal_base::boxed::Boxed;
@@ -36,6 +36,8 @@ pub fn value_in(object: Object, arguments: &[Value]) -> Result<u32, ErrorName>
     let Some(interface) = interface_named(object, interface.as_bytes()) else {
         return Err(ErrorName::UnknownInterface);
     };
+    // Get and GetAll read their arguments behind the four refusals. Only the object's own
+    // interface has a property.
     match version_of(interface) {
         Some(version) if property.as_str() == VERSION => Ok(version),
         _ => Err(ErrorName::UnknownProperty),

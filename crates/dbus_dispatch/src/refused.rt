@@ -1,11 +1,12 @@
 //! The answer to a call whose request is no entry of the history.
 
 ghost use Rattle.std.specs.Prelude.{◌≡◌, IfOk};
-ghost use Rattle.dbus_dispatch.specs.Errors.{error_to, refusal_of};
+ghost use Rattle.dbus_calls.specs.Errors.{error_to};
+ghost use Rattle.dbus_dispatch.specs.Replies.{refusal_of};
 ghost use Rattle.dbus_dispatch.specs.Writable.{IsWritable};
 
 use crate::ask::fits;
-use crate::error_name::ErrorName;
+use dbus_calls::error_name::ErrorName;
 use dbus_types::message::{Message, OutMessage};
 use portal_base::memory::WantOfMemory;
 use portal_model::reply::Refused;

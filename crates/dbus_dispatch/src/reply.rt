@@ -4,24 +4,24 @@
 
 ghost use Rattle.std.specs.Prelude.{◌≡◌, ℕ, ◌+◌, nat_le, length, map, IfOk};
 ghost use Rattle.dbus_types.specs.declared.types.Endian.TheVariants.{Little};
-ghost use Rattle.dbus_types.specs.Spelling.{spellings};
+ghost use Rattle.dbus_values.specs.Spelling.{spellings};
 ghost use Rattle.dbus_types.specs.Types.{types_text};
-ghost use Rattle.dbus_types.specs.Values.{type_of};
-ghost use Rattle.dbus_types.specs.Spells.{gap};
+ghost use Rattle.dbus_values.specs.Values.{type_of};
+ghost use Rattle.dbus_values.specs.Spells.{gap};
 ghost use Rattle.portal_model.specs.Changed.{message_limit};
 ghost use Rattle.dbus_dispatch.specs.Replies.{error_of, error_in, return_or_limit, return_length, reply_of};
-ghost use Rattle.dbus_dispatch.specs.declared.method.Method.{Method as AMethod};
-ghost use Rattle.dbus_dispatch.specs.Calls.{found};
+ghost use Rattle.dbus_calls.specs.declared.method.Method.{Method as AMethod};
+ghost use Rattle.dbus_calls.specs.Calls.{found};
 ghost use Rattle.dbus_dispatch.specs.Writable.{IsInUtf8, IsToldTo, IsWritable};
 
 use crate::ask::{fits, returned};
 use crate::body::body_of;
-use crate::call::found;
-use crate::error_name::ErrorName;
+use dbus_calls::call::found;
+use dbus_calls::error_name::ErrorName;
 use dbus_marshal::write::write_value;
 use dbus_types::message::{Message, OutMessage};
 use dbus_types::types::Value;
-use dbus_types::write::signature_text;
+use dbus_values::write::signature_text;
 use portal_base::limits::Settings;
 use portal_base::list::List;
 use portal_base::memory::WantOfMemory;
@@ -92,6 +92,7 @@ fn error_of(code: Code) -> ErrorName
         Code::NotFound => ErrorName::NotFound,
         Code::NotAllowed => ErrorName::NotAllowed,
         Code::InvalidArgument => ErrorName::InvalidArgument,
+        // An answer to a request on a node is none that the portal gives to a call.
         Code::Failed | Code::Errno(_) | Code::NotHere => ErrorName::Failed,
     }
 }
@@ -130,6 +131,7 @@ fn is_within_limit(alloc: Global, call: &Message, body: &[Value]) -> Result<bool
     if body.is_empty() {
         return Ok(true);
     }
+    // No call tells how long a spelling is without writing it, so the return is spelled once more.
     let signature = signature_len(alloc, body)?;
     let values = body_len(alloc, body)?;
     Ok(is_short(signature, values))

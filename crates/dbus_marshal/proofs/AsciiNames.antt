@@ -14,7 +14,7 @@ use Rattle.dbus_types.specs.declared.errors.SignatureError.{SignatureError}
 use Rattle.dbus_types.specs.Names.{is_word_byte, is_part, is_path}
 use Rattle.dbus_types.specs.Reading.{coded}
 use Rattle.dbus_types.specs.Types.{type_text, types_text, IsValidType, Fits}
-use Rattle.dbus_types.specs.Values.{IsText, IsSignatureText}
+use Rattle.dbus_values.specs.Values.{IsText, IsSignatureText}
 use Rattle.dbus_types.specs.declared.roles.Role.{Role}
 use Rattle.dbus_types.proofs.TypeLayers.{text_array, text_struct, text_entry, arrays_entry, brackets_entry}
 use Rattle.dbus_types.proofs.Codes.{Code, shape}

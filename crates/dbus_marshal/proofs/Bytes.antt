@@ -6,11 +6,13 @@ use Rattle.dbus_types.specs.declared.types.WireType.TheOpen.{WireType-F}
 use Rattle.dbus_types.specs.declared.types.WireType.TheVariants as W
 use Rattle.dbus_types.specs.declared.types.Value.{Value}
 use Rattle.dbus_types.specs.declared.types.Value.TheVariants as V
-use Rattle.dbus_types.specs.Values.{array_of}
-use Rattle.dbus_types.proofs.PackedBytes.{of_bytes, of_others}
-use Rattle.dbus_marshal.specs.declared.error.ReadError.{ReadError}
-use Rattle.dbus_marshal.specs.declared.error.ReadError.TheVariants.{TooDeep}
-use Rattle.dbus_marshal.specs.Reads.{Fails, Read, arrayed, byte_at, flat, layer, elements, reads}
+use Rattle.dbus_values.specs.Values.{array_of}
+use Rattle.dbus_values.proofs.PackedBytes.{of_bytes, of_others}
+use Rattle.dbus_basic.specs.declared.error.ReadError.{ReadError}
+use Rattle.dbus_basic.specs.declared.error.ReadError.TheVariants.{TooDeep}
+use Rattle.dbus_basic.specs.Reading.{Fails, Read}
+use Rattle.dbus_basic.specs.Fields.{byte_at}
+use Rattle.dbus_marshal.specs.Reads.{arrayed, flat, layer, elements, reads}
 use Rattle.dbus_marshal.proofs.Depths.{reads_more, out_byte}
 use Rattle.dbus_marshal.proofs.Loops.{fails_as}
 

@@ -4,7 +4,7 @@ use Rattle.dbus_types.specs.declared.types.Endian.{Endian}
 use Rattle.dbus_types.specs.declared.types.WireType.{WireType, out-WireType, roll-WireType, the_lemmas}
 use Rattle.dbus_types.specs.declared.types.WireType.TheOpen.{WireType-F}
 use Rattle.dbus_types.specs.declared.types.WireType.TheVariants as W
-use Rattle.dbus_marshal.specs.declared.error.ReadError.TheVariants.{TooDeep}
+use Rattle.dbus_basic.specs.declared.error.ReadError.TheVariants.{TooDeep}
 use Rattle.dbus_marshal.specs.Reads.{fixed, flat, layer, reads}
 
 roll_out : (t : WireType) → roll-WireType (out-WireType t) ≡ t

@@ -16,13 +16,13 @@ use Rattle.dbus_types.specs.declared.types.Value.TheOpen.{Value-F}
 use Rattle.dbus_types.specs.declared.types.Value.TheVariants as V
 use Rattle.dbus_types.specs.declared.roles.Role.{Role}
 use Rattle.dbus_types.specs.Types.{role, alignment, type_text, arrays_deep, brackets_deep, Fits, IsVariantType}
-use Rattle.dbus_types.specs.Values.{type_of, IsText, LeafKeeps, ValueKeeps, KeepsWithin, KeepsRules, array_of}
+use Rattle.dbus_values.specs.Values.{type_of, IsText, LeafKeeps, ValueKeeps, KeepsWithin, KeepsRules, array_of}
 use Rattle.dbus_types.proofs.TypesWithinLimits.{Stands, ElementFits, fits_element, fits_array, fits_struct, element_entry, element_fits, array_complete, struct_complete}
-use Rattle.dbus_types.specs.Spells.{number, gap, bit, IsPath, Aligned, BoolRow, NumberRow, TextRow, ArrayRow, StructRow, EntryRow, Members, Elements, Flat, Row, NoneInside, SpellsWithin, Spells}
-use Rattle.dbus_types.specs.Spelling.{aligned, in_row, text_body, array_body, Spelled, spell_step, spelled, spelling, spellings}
+use Rattle.dbus_values.specs.Spells.{number, gap, bit, IsPath, Aligned, BoolRow, NumberRow, TextRow, ArrayRow, StructRow, EntryRow, Members, Elements, Flat, Row, NoneInside, SpellsWithin, Spells}
+use Rattle.dbus_values.specs.Spelling.{aligned, in_row, text_body, array_body, Spelled, spell_step, spelled, spelling, spellings}
 use Rattle.dbus_marshal.proofs.SpelledKeepsRules.{type_byte, type_bool, type_i16, type_u16, type_i32, type_u32, type_i64, type_u64, type_double, type_handle, type_str, type_path, type_signature, type_variant, type_array, type_struct, type_entry, rolls_struct, rolls_entry}
-use Rattle.dbus_types.proofs.PackedBytes.{array_spelled, of_bytes, of_others, type_array as array_type}
-use Rattle.dbus_types.proofs.OneSpelling.{roll_byte, roll_bool, roll_i16, roll_u16, roll_i32, roll_u32, roll_i64, roll_u64, roll_double, roll_handle, roll_str, roll_path, roll_signature, roll_variant, roll_struct, roll_entry, one_byte, spells_same}
+use Rattle.dbus_values.proofs.PackedBytes.{array_spelled, of_bytes, of_others, type_array as array_type}
+use Rattle.dbus_values.proofs.OneSpelling.{roll_byte, roll_bool, roll_i16, roll_u16, roll_i32, roll_u32, roll_i64, roll_u64, roll_double, roll_handle, roll_str, roll_path, roll_signature, roll_variant, roll_struct, roll_entry, one_byte, spells_same}
 use Rattle.dbus_marshal.proofs.AsciiNames.{path_text, signature_text}
 
 -- no longer than the elements of an array may be

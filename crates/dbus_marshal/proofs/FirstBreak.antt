@@ -14,15 +14,17 @@ use Rattle.dbus_types.specs.declared.errors.SignatureError.{SignatureError}
 use Rattle.dbus_types.specs.declared.errors.SignatureError.TheVariants as Stop
 use Rattle.dbus_types.specs.Reading.{whole_at, single_at, passed}
 use Rattle.dbus_types.specs.Types.{alignment, type_text, IsVariantType}
-use Rattle.dbus_types.specs.Values.{IsText, IsSignatureText, array_of}
+use Rattle.dbus_values.specs.Values.{IsText, IsSignatureText, array_of}
 use Rattle.dbus_types.proofs.WholeSignatures.{short_reading, stops_no_memory}
 use Rattle.dbus_types.proofs.OneTypeRead.{single_reading, single_no_memory}
 use Rattle.dbus_types.proofs.OneBreak.{reading_stops, single_stops}
-use Rattle.dbus_marshal.specs.declared.error.ReadError.{ReadError}
-use Rattle.dbus_marshal.specs.declared.error.ReadError.TheVariants.{BadBool, BadText, TooLong, BadSignature, TooDeep}
-use Rattle.dbus_types.specs.Spells.{IsPath, Elements, NoneInside, SpellsWithin}
+use Rattle.dbus_basic.specs.declared.error.ReadError.{ReadError}
+use Rattle.dbus_basic.specs.declared.error.ReadError.TheVariants.{BadBool, BadText, TooLong, BadSignature, TooDeep}
+use Rattle.dbus_values.specs.Spells.{IsPath, Elements, NoneInside, SpellsWithin}
 use Rattle.dbus_marshal.specs.Breaks.{Break, Never, Ends, Behind, AlignedBreaks, BytesBreak, ZeroBreaks, BoolBreaks, TextBreaks, IsNoSignature, IsNoType, SignatureBreaks, VariantBreaks, MembersBreak, array_error, ElementsBreak, ArrayBreaks, RowBreaks, TooDeepInside, BreaksWithin}
-use Rattle.dbus_marshal.specs.Reads.{◌>>=◌, Read, moved, checked_in, type_in, padded, number_at, ended, is_text, is_path_text, ended_with, text_at, numbered, texted, signature_with, signature_at, members, joined, elements, listed, within_array, fixed, flat, layer, reads}
+use Rattle.dbus_basic.specs.Reading.{◌>>=◌, Read}
+use Rattle.dbus_basic.specs.Fields.{padded, number_at, ended}
+use Rattle.dbus_marshal.specs.Reads.{moved, checked_in, type_in, is_text, is_path_text, ended_with, text_at, numbered, texted, signature_with, signature_at, members, joined, elements, listed, within_array, fixed, flat, layer, reads}
 use Rattle.dbus_marshal.proofs.TakenFronts.{Wide, two, four, eight, width, size, IsBytes, bytes_after, Took}
 use Rattle.dbus_marshal.proofs.AsciiNames.{signature_text}
 use Rattle.dbus_marshal.proofs.Words.{text_is, is_text_of, path_is, is_path_of}

@@ -9,9 +9,11 @@ use Rattle.dbus_types.specs.declared.types.WireType.TheVariants as W
 use Rattle.dbus_types.specs.declared.types.Value.{Value, out-Value, the_lemmas as value_lemmas}
 use Rattle.dbus_types.specs.declared.types.Value.TheOpen.{Value-F}
 use Rattle.dbus_types.specs.declared.types.Value.TheVariants as V
-use Rattle.dbus_marshal.specs.declared.error.ReadError.{ReadError}
-use Rattle.dbus_marshal.specs.declared.error.ReadError.TheVariants.{Short, Padding, BadBool, BadText, TooLong, BadSignature, TooDeep, BadArray, Memory}
-use Rattle.dbus_marshal.specs.Reads.{◌>>=◌, Fails, Read, padded, byte_at, taken, type_in, ended, flat, layer, members, joined, reads, number_at, listed, elements, within_array, inside_at, field_at, fields_at, field_type, fields_type, has_code_to, sifted}
+use Rattle.dbus_basic.specs.declared.error.ReadError.{ReadError}
+use Rattle.dbus_basic.specs.declared.error.ReadError.TheVariants.{Short, Padding, BadBool, BadText, TooLong, BadSignature, TooDeep, BadArray, Memory}
+use Rattle.dbus_basic.specs.Reading.{◌>>=◌, Fails, Read}
+use Rattle.dbus_basic.specs.Fields.{padded, byte_at, taken, ended, number_at}
+use Rattle.dbus_marshal.specs.Reads.{type_in, flat, layer, members, joined, reads, listed, elements, within_array, inside_at, field_at, fields_at, field_type, fields_type, has_code_to, sifted}
 use Rattle.dbus_marshal.proofs.Depths.{reads_more, reads_array, reads_struct, out_byte, out_struct}
 use Rattle.dbus_marshal.proofs.Loops.{fails_as}
 use Rattle.dbus_marshal.proofs.SpelledIsRead.{ok_is}

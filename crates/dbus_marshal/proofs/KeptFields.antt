@@ -7,9 +7,11 @@ use Rattle.dbus_types.specs.declared.types.Endian.{Endian}
 use Rattle.dbus_types.specs.declared.types.Value.{Value, out-Value, the_lemmas}
 use Rattle.dbus_types.specs.declared.types.Value.TheOpen.{Value-F}
 use Rattle.dbus_types.specs.declared.types.Value.TheVariants as V
-use Rattle.dbus_marshal.specs.declared.error.ReadError.{ReadError}
-use Rattle.dbus_marshal.specs.declared.error.ReadError.TheVariants.{Short, Padding, BadBool, BadText, TooLong, BadSignature, TooDeep, BadArray, Memory}
-use Rattle.dbus_marshal.specs.Reads.{◌>>=◌, Fails, Read, after, past, padded, byte_at, reads, listed, elements, inside_at, field_at, field_code, has_code_to, kept, sifted}
+use Rattle.dbus_basic.specs.declared.error.ReadError.{ReadError}
+use Rattle.dbus_basic.specs.declared.error.ReadError.TheVariants.{Short, Padding, BadBool, BadText, TooLong, BadSignature, TooDeep, BadArray, Memory}
+use Rattle.dbus_basic.specs.Reading.{◌>>=◌, Fails, Read, after, past}
+use Rattle.dbus_basic.specs.Fields.{padded, byte_at}
+use Rattle.dbus_marshal.specs.Reads.{reads, listed, elements, inside_at, field_at, field_code, has_code_to, kept, sifted}
 use Rattle.dbus_marshal.proofs.SpelledIsRead.{ok_is}
 use Rattle.dbus_marshal.proofs.StepBreaks.{err_is}
 use Rattle.dbus_marshal.proofs.Loops.{fails_as, elements_step, elements_end, elements_fails}

@@ -1,4 +1,3 @@
-pub mod Places
 pub mod Depths
 pub mod TakenFronts
 pub mod Words

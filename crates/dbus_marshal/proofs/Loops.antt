@@ -7,11 +7,13 @@ use Rattle.dbus_types.specs.declared.types.Endian.{Endian}
 use Rattle.dbus_types.specs.declared.types.WireType.{WireType}
 use Rattle.dbus_types.specs.declared.types.WireType.TheOpen.{WireType-F}
 use Rattle.dbus_types.specs.declared.types.Value.{Value}
-use Rattle.dbus_marshal.specs.declared.error.ReadError.{ReadError}
-use Rattle.dbus_marshal.specs.declared.error.ReadError.TheVariants.{Short, Padding, BadBool, BadText, TooLong, BadSignature, TooDeep, BadArray, Memory}
+use Rattle.dbus_basic.specs.declared.error.ReadError.{ReadError}
+use Rattle.dbus_basic.specs.declared.error.ReadError.TheVariants.{Short, Padding, BadBool, BadText, TooLong, BadSignature, TooDeep, BadArray, Memory}
 use Rattle.dbus_types.specs.Types.{alignment}
-use Rattle.dbus_types.specs.Values.{array_of}
-use Rattle.dbus_marshal.specs.Reads.{◌>>=◌, Fails, Read, after, padded, taken, number_at, joined, members, listed, elements, array_error, arrayed, within_array, layer}
+use Rattle.dbus_values.specs.Values.{array_of}
+use Rattle.dbus_basic.specs.Reading.{◌>>=◌, Fails, Read, after}
+use Rattle.dbus_basic.specs.Fields.{padded, taken, number_at}
+use Rattle.dbus_marshal.specs.Reads.{joined, members, listed, elements, array_error, arrayed, within_array, layer}
 
 at_item : {A : Type 0} (xs : List A) (i : ℕ) (x : A) → i < length xs → x ≡ get_or xs i x → drop i xs ≡ x ∷ drop (i + 1) xs
 at_item xs i x lt e = rw (drop-cons xs i x lt, ← e, add-one) refl

@@ -6,9 +6,9 @@ use Rattle.dbus_types.specs.declared.types.Endian.{Endian}
 use Rattle.dbus_types.specs.declared.types.Value.{Value}
 use Rattle.dbus_types.specs.declared.types.Value.TheVariants as V
 use Rattle.dbus_types.specs.Types.{type_text}
-use Rattle.dbus_types.specs.Spells.{gap}
-use Rattle.dbus_types.specs.Spelling.{Spelled, spelled, spelling, spellings, signature_body}
-use Rattle.dbus_types.proofs.OneSpelling.{roll_struct, roll_entry, roll_variant}
+use Rattle.dbus_values.specs.Spells.{gap}
+use Rattle.dbus_values.specs.Spelling.{Spelled, spelled, spelling, spellings, signature_body}
+use Rattle.dbus_values.proofs.OneSpelling.{roll_struct, roll_entry, roll_variant}
 
 pub variant_whole : (e : Endian) (out one two : List ℕ) (v x : Value) → v ≡ V.Variant x → one ≡ out ++ signature_body (type_text (spelled e x).0) → two ≡ one ++ spelling e (length one) x → two ≡ out ++ spelling e (length out) v
 variant_whole e out one two v x is a b =

@@ -10,12 +10,14 @@ use Rattle.dbus_types.specs.declared.types.WireType.{WireType, out-WireType}
 use Rattle.dbus_types.specs.declared.types.WireType.TheOpen.{WireType-F}
 use Rattle.dbus_types.specs.declared.types.Value.{Value}
 use Rattle.dbus_types.specs.declared.types.Value.TheVariants as V
-use Rattle.dbus_marshal.specs.declared.error.ReadError.{ReadError}
-use Rattle.dbus_marshal.specs.declared.error.ReadError.TheVariants.{BadText, TooLong, BadSignature}
+use Rattle.dbus_basic.specs.declared.error.ReadError.{ReadError}
+use Rattle.dbus_basic.specs.declared.error.ReadError.TheVariants.{BadText, TooLong, BadSignature}
 use Rattle.dbus_types.specs.Types.{alignment}
-use Rattle.dbus_types.specs.Values.{IsText, IsSignatureText, array_of}
-use Rattle.dbus_types.specs.Spells.{number, gap, Aligned, IsPath, bit, Members, Elements, BoolRow, NumberRow, TextRow, ArrayRow, StructRow, EntryRow, Flat, Row, NoneInside, SpellsWithin}
-use Rattle.dbus_marshal.specs.Reads.{◌>>=◌, Read, padded, taken, numbered, number_at, byte_at, ended, truth, is_text, is_path_text, text_at, texted, checked_in, type_in, signature_at, joined, members, listed, elements, within_array, fixed, flat, layer, reads}
+use Rattle.dbus_values.specs.Values.{IsText, IsSignatureText, array_of}
+use Rattle.dbus_values.specs.Spells.{number, gap, Aligned, IsPath, bit, Members, Elements, BoolRow, NumberRow, TextRow, ArrayRow, StructRow, EntryRow, Flat, Row, NoneInside, SpellsWithin}
+use Rattle.dbus_basic.specs.Reading.{◌>>=◌, Read}
+use Rattle.dbus_basic.specs.Fields.{padded, taken, number_at, byte_at, ended, truth}
+use Rattle.dbus_marshal.specs.Reads.{numbered, is_text, is_path_text, text_at, texted, checked_in, type_in, signature_at, joined, members, listed, elements, within_array, fixed, flat, layer, reads}
 use Rattle.dbus_marshal.proofs.Signatures.{types_took, type_took}
 use Rattle.dbus_marshal.proofs.Words.{text_is, path_is}
 use Rattle.dbus_marshal.proofs.TakenFronts.{Wide, two, four, eight, width, IsBytes, bytes_before, Took, took, Then, took_then, took_as, number_len, bind, guard, guard_then, zeros_took, taken_took, byte_took, ended_took, number_took}

@@ -7,11 +7,12 @@ use Rattle.std.proofs.lemmas.List.{take_at, get_or_past}
 use Rattle.dbus_types.specs.declared.types.Endian.{Endian}
 use Rattle.dbus_types.specs.declared.types.WireType.{WireType}
 use Rattle.dbus_types.specs.declared.types.Value.{Value}
-use Rattle.dbus_marshal.specs.declared.error.ReadError.{ReadError}
-use Rattle.dbus_marshal.specs.declared.error.ReadError.TheVariants.{Short, Padding, BadBool, BadText, TooLong, BadSignature, TooDeep, BadArray, Memory}
-use Rattle.dbus_types.specs.Spells.{Spells}
+use Rattle.dbus_basic.specs.declared.error.ReadError.{ReadError}
+use Rattle.dbus_basic.specs.declared.error.ReadError.TheVariants.{Short, Padding, BadBool, BadText, TooLong, BadSignature, TooDeep, BadArray, Memory}
+use Rattle.dbus_values.specs.Spells.{Spells}
 use Rattle.dbus_marshal.specs.Breaks.{Breaks}
-use Rattle.dbus_marshal.specs.Reads.{Fails, IsRead, IsStopped, IsRefused, Read, after, reads}
+use Rattle.dbus_basic.specs.Reading.{Fails, IsRead, IsStopped, IsRefused, Read, after}
+use Rattle.dbus_marshal.specs.Reads.{reads}
 use Rattle.dbus_marshal.proofs.TakenFronts.{IsBytes, bytes_after, Took}
 use Rattle.dbus_marshal.proofs.ReadIsSpelled.{reads_took}
 use Rattle.dbus_marshal.proofs.SpelledIsRead.{reads_again, ok_is}

@@ -3,9 +3,9 @@ use Rattle.std.proofs.Common.{◌≡◌, ℕ, ◌≤◌, List, length, ◌+◌, 
 use Rattle.std.specs.Prelude.{IfOk}
 use Rattle.dbus_types.specs.declared.errors.SignatureError.{SignatureError}
 use Rattle.dbus_types.specs.declared.types.WireType.{WireType}
-use Rattle.dbus_marshal.specs.declared.error.ReadError.TheVariants.{BadSignature, TooDeep}
+use Rattle.dbus_basic.specs.declared.error.ReadError.TheVariants.{BadSignature, TooDeep}
 use Rattle.dbus_types.specs.Reading.{whole_at, single_at, passed}
-use Rattle.dbus_types.specs.Values.{IsSignatureText}
+use Rattle.dbus_values.specs.Values.{IsSignatureText}
 use Rattle.dbus_types.specs.Types.{type_text, IsVariantType, IsSignature}
 use Rattle.dbus_types.proofs.WholeSignatures.{short_reading, whole_again}
 use Rattle.dbus_types.specs.Breaks.{IsChecked, IsSingleReading}

@@ -8,12 +8,14 @@ use Rattle.dbus_types.specs.declared.types.WireType.{WireType, out-WireType}
 use Rattle.dbus_types.specs.declared.types.WireType.TheOpen.{WireType-F}
 use Rattle.dbus_types.specs.declared.types.Value.{Value}
 use Rattle.dbus_types.specs.declared.types.Value.TheVariants as V
-use Rattle.dbus_marshal.specs.declared.error.ReadError.{ReadError}
-use Rattle.dbus_marshal.specs.declared.error.ReadError.TheVariants.{BadText, BadSignature}
+use Rattle.dbus_basic.specs.declared.error.ReadError.{ReadError}
+use Rattle.dbus_basic.specs.declared.error.ReadError.TheVariants.{BadText, BadSignature}
 use Rattle.dbus_types.specs.Types.{alignment, type_text}
-use Rattle.dbus_types.specs.Values.{IsText, IsSignatureText, array_of}
-use Rattle.dbus_types.specs.Spells.{number, gap, Aligned, IsPath, bit, Members, Elements, BoolRow, NumberRow, TextRow, ArrayRow, StructRow, EntryRow, Flat, Row, NoneInside, SpellsWithin}
-use Rattle.dbus_marshal.specs.Reads.{◌>>=◌, Read, padded, number_at, byte_at, ended, truth, is_text, is_path_text, text_at, numbered, texted, signature_at, members, elements, fixed, flat, layer, reads}
+use Rattle.dbus_values.specs.Values.{IsText, IsSignatureText, array_of}
+use Rattle.dbus_values.specs.Spells.{number, gap, Aligned, IsPath, bit, Members, Elements, BoolRow, NumberRow, TextRow, ArrayRow, StructRow, EntryRow, Flat, Row, NoneInside, SpellsWithin}
+use Rattle.dbus_basic.specs.Reading.{◌>>=◌, Read}
+use Rattle.dbus_basic.specs.Fields.{padded, number_at, byte_at, ended, truth}
+use Rattle.dbus_marshal.specs.Reads.{is_text, is_path_text, text_at, numbered, texted, signature_at, members, elements, fixed, flat, layer, reads}
 use Rattle.dbus_marshal.proofs.Signatures.{types_again, type_again}
 use Rattle.dbus_marshal.proofs.Words.{is_text_of, is_path_of}
 use Rattle.dbus_marshal.proofs.TakenFronts.{Wide, two, four, eight, width, size, zeros_again, taken_again, number_again, number_len}

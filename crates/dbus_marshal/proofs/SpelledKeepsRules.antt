@@ -12,9 +12,9 @@ use Rattle.dbus_types.specs.declared.types.Value.{Value, out-Value, the_lemmas}
 use Rattle.dbus_types.specs.declared.types.Value.TheOpen.{Value-F}
 use Rattle.dbus_types.specs.declared.types.Value.TheVariants as V
 use Rattle.dbus_types.specs.Types.{IsValidType, IsVariantType}
-use Rattle.dbus_types.specs.Values.{type_of, LeafKeeps, ValueKeeps, KeepsWithin, KeepsRules, array_of}
-use Rattle.dbus_types.specs.Spells.{Members, Elements, Flat, Row, NoneInside, SpellsWithin, Spells}
-use Rattle.dbus_types.proofs.PackedBytes.{array_keeps, type_array as array_type}
+use Rattle.dbus_values.specs.Values.{type_of, LeafKeeps, ValueKeeps, KeepsWithin, KeepsRules, array_of}
+use Rattle.dbus_values.specs.Spells.{Members, Elements, Flat, Row, NoneInside, SpellsWithin, Spells}
+use Rattle.dbus_values.proofs.PackedBytes.{array_keeps, type_array as array_type}
 
 out_byte : (n : ℕ) → out-Value (V.Byte n) ≡ Value-F.Byte n
 out_byte n = search the_lemmas

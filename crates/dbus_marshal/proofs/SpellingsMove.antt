@@ -8,8 +8,8 @@ use Rattle.dbus_types.specs.declared.types.Value.{Value}
 use Rattle.dbus_types.specs.declared.types.Value.TheOpen.{Value-F}
 use Rattle.dbus_types.specs.declared.types.Value.TheFolds.{ind-Value, map-Value, fold-roll-Value}
 use Rattle.dbus_types.specs.Types.{alignment_of, alignment, type_text}
-use Rattle.dbus_types.specs.Spells.{number, gap}
-use Rattle.dbus_types.specs.Spelling.{Spelled, in_row, aligned, array_body, variant_body, spell_step, spelled, spelling, spellings}
+use Rattle.dbus_values.specs.Spells.{number, gap}
+use Rattle.dbus_values.specs.Spelling.{Spelled, in_row, aligned, array_body, variant_body, spell_step, spelled, spelling, spellings}
 
 -- the same modulo 8
 abbrev Alike : ℕ → ℕ → Type 0

@@ -7,11 +7,12 @@ use Rattle.std.proofs.lemmas.List.{length-replicate}
 use Rattle.std.specs.Int.{byte_len}
 use mir.Val.{bits}
 use Rattle.dbus_types.specs.declared.types.Endian.{Endian}
-use Rattle.dbus_marshal.specs.declared.error.ReadError.{ReadError}
-use Rattle.dbus_marshal.specs.declared.error.ReadError.TheVariants.{Short, Padding, BadBool}
-use Rattle.dbus_types.specs.Spells.{number, gap}
+use Rattle.dbus_basic.specs.declared.error.ReadError.{ReadError}
+use Rattle.dbus_basic.specs.declared.error.ReadError.TheVariants.{Short, Padding, BadBool}
+use Rattle.dbus_values.specs.Spells.{number, gap}
 use Rattle.dbus_marshal.specs.Breaks.{Break, Ends, Behind, ZerosBreak, AlignedBreaks, ByteBreaks, NumberBreaks, BytesBreak, ZeroBreaks}
-use Rattle.dbus_marshal.specs.Reads.{◌>>=◌, zeros, padded, taken, number_at, byte_at, ended, truth}
+use Rattle.dbus_basic.specs.Reading.{◌>>=◌}
+use Rattle.dbus_basic.specs.Fields.{zeros, padded, taken, number_at, byte_at, ended, truth}
 use Rattle.dbus_marshal.proofs.TakenFronts.{Wide, width, size, IsBytes, bytes_before, bytes_after, Took, zeros_took, zeros_again, taken_took, taken_again, number_took, number_again, number_len, len_is}
 
 -- it stops with just the errors of which D holds

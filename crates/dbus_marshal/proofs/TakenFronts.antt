@@ -9,10 +9,11 @@ use Rattle.std.proofs.lemmas.List.{take_at, drop_at, take-append-drop, length-ap
 use Rattle.std.proofs.lemmas.Nat.{le_bytes_2, be_bytes_2, from_le_bytes-to_le_bytes_2, from_be_bytes-to_be_bytes_2, le_bytes_4, be_bytes_4, from_le_bytes-to_le_bytes_4, from_be_bytes-to_be_bytes_4, le_bytes_8, be_bytes_8, from_le_bytes-to_le_bytes_8, from_be_bytes-to_be_bytes_8}
 use Rattle.dbus_types.specs.declared.types.Endian.{Endian}
 use Rattle.dbus_types.specs.declared.types.Endian.TheVariants.{Little, Big}
-use Rattle.dbus_marshal.specs.declared.error.ReadError.{ReadError}
-use Rattle.dbus_marshal.specs.declared.error.ReadError.TheVariants.{Short}
-use Rattle.dbus_types.specs.Spells.{number}
-use Rattle.dbus_marshal.specs.Reads.{◌>>=◌, zeros, taken, number_at, byte_at, ended, from_number}
+use Rattle.dbus_basic.specs.declared.error.ReadError.{ReadError}
+use Rattle.dbus_basic.specs.declared.error.ReadError.TheVariants.{Short}
+use Rattle.dbus_values.specs.Spells.{number}
+use Rattle.dbus_basic.specs.Reading.{◌>>=◌}
+use Rattle.dbus_basic.specs.Fields.{zeros, taken, number_at, byte_at, ended, from_number}
 
 abbrev pub IsBytes : List ℕ → Type 0
 IsBytes bytes = (i : ℕ) → get_or bytes i 0 < 256

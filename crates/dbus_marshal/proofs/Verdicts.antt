@@ -8,9 +8,11 @@ use Rattle.dbus_types.specs.declared.types.WireType.TheVariants as W
 use Rattle.dbus_types.specs.declared.types.Value.{Value}
 use Rattle.dbus_types.specs.declared.types.Value.TheVariants as V
 use Rattle.dbus_types.specs.Types.{alignment}
-use Rattle.dbus_marshal.specs.declared.error.ReadError.{ReadError}
-use Rattle.dbus_marshal.specs.declared.error.ReadError.TheVariants.{Short, Padding, BadBool, BadText, TooLong, BadSignature, TooDeep, BadArray, Memory}
-use Rattle.dbus_marshal.specs.Reads.{◌>>=◌, Fails, Read, place, past, verdict, padded, taken, number_at, joined, members, listed, elements, array_error, inside_at, layer, reads}
+use Rattle.dbus_basic.specs.declared.error.ReadError.{ReadError}
+use Rattle.dbus_basic.specs.declared.error.ReadError.TheVariants.{Short, Padding, BadBool, BadText, TooLong, BadSignature, TooDeep, BadArray, Memory}
+use Rattle.dbus_basic.specs.Reading.{◌>>=◌, Fails, Read, place, past, verdict}
+use Rattle.dbus_basic.specs.Fields.{padded, taken, number_at}
+use Rattle.dbus_marshal.specs.Reads.{joined, members, listed, elements, array_error, inside_at, layer, reads}
 use Rattle.dbus_marshal.proofs.SpelledIsRead.{ok_is}
 use Rattle.dbus_marshal.proofs.StepBreaks.{err_is}
 use Rattle.dbus_marshal.proofs.Loops.{fails_as, members_step, members_end, members_fails, elements_step, elements_end, elements_fails, array_is, array_fails}

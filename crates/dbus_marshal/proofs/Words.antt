@@ -1,14 +1,14 @@
 -- Texts that are good, and the tests for them.
 use Rattle.std.proofs.Common.{◌≡◌, ℕ, Bool, true, false, cond, List, refl, get_or, inl, inr}
-use Rattle.std.specs.Prelude.{◌==◌, All}
+use Rattle.std.specs.Prelude.{◌==◌, All, IsUtf8}
 use Rattle.std.specs.List.{list_any}
 use Rattle.std.specs.Str.{is_utf8}
 use Rattle.std.proofs.lemmas.Bool.{cases_Bool, eqb-true}
 use Rattle.std.proofs.lemmas.List.Folds.{list_any_at, list_any_none}
 use Rattle.std.proofs.lemmas.Str.{IsUtf8-from_is_utf8, is_utf8-from_IsUtf8}
 use Rattle.dbus_types.specs.Names.{is_path}
-use Rattle.dbus_types.specs.Values.{IsText}
-use Rattle.dbus_types.specs.Spells.{IsPath}
+use Rattle.dbus_values.specs.Values.{IsText}
+use Rattle.dbus_values.specs.Spells.{IsPath}
 use Rattle.dbus_marshal.specs.Reads.{is_text, is_path_text}
 
 pub not_same : (a b : ℕ) → (a ≡ b → ⊥) → (a == b) ≡ false
@@ -43,3 +43,9 @@ path_is text h = let p = both (is_text text) (is_path text) h in (text_is text p
 
 pub is_path_of : (text : List ℕ) → IsPath text → is_path_text text ≡ true
 is_path_of text h = rw (is_text_of text h.0, h.1) refl
+
+pub not_utf8 : (text : List ℕ) → (IsUtf8 text → ⊥) → is_utf8 text ≡ false
+not_utf8 text h = elim (cases_Bool (is_utf8 text)) [ inl e ↦ absurd (h (IsUtf8-from_is_utf8 text e)) | inr e ↦ e ]
+
+pub utf8 : (text : List ℕ) → IsUtf8 text → is_utf8 text ≡ true
+utf8 text h = is_utf8-from_IsUtf8 text h

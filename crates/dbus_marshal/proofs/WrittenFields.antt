@@ -8,9 +8,9 @@ use Rattle.dbus_types.specs.declared.types.WireType.TheVariants as W
 use Rattle.dbus_types.specs.declared.types.Value.{Value}
 use Rattle.dbus_types.specs.declared.types.Value.TheVariants as V
 use Rattle.dbus_types.specs.Types.{type_text}
-use Rattle.dbus_types.specs.Spells.{gap, number}
-use Rattle.dbus_types.specs.Spelling.{Spelled, aligned, spelled, spelling, spellings, signature_body, text_body}
-use Rattle.dbus_types.proofs.OneSpelling.{roll_byte, roll_variant, roll_u32, roll_str, roll_path, roll_signature}
+use Rattle.dbus_values.specs.Spells.{gap, number}
+use Rattle.dbus_values.specs.Spelling.{Spelled, aligned, spelled, spelling, spellings, signature_body, text_body}
+use Rattle.dbus_values.proofs.OneSpelling.{roll_byte, roll_variant, roll_u32, roll_str, roll_path, roll_signature}
 use Rattle.dbus_marshal.proofs.PiecesJoined.{struct_whole}
 
 text_u32 : type_text W.U32 ≡ 117 ∷ []

@@ -10,10 +10,10 @@ use Rattle.dbus_types.specs.declared.types.WireType.TheOpen.{WireType-F}
 use Rattle.dbus_types.specs.declared.types.Value.{Value}
 use Rattle.dbus_types.specs.Breaks.{IsBadAt, IsTooDeepAt, IsNoTypeAt, IsTypeTooDeepAt}
 use Rattle.dbus_types.specs.Types.{alignment, type_text, IsVariantType}
-use Rattle.dbus_types.specs.Values.{IsText, IsSignatureText}
-use Rattle.dbus_marshal.specs.declared.error.ReadError.{ReadError}
-use Rattle.dbus_marshal.specs.declared.error.ReadError.TheVariants.{Short, Padding, BadBool, BadText, TooLong, BadSignature, TooDeep, BadArray}
-use Rattle.dbus_types.specs.Spells.{number, gap, IsPath, Elements, NoneInside, SpellsWithin}
+use Rattle.dbus_values.specs.Values.{IsText, IsSignatureText}
+use Rattle.dbus_basic.specs.declared.error.ReadError.{ReadError}
+use Rattle.dbus_basic.specs.declared.error.ReadError.TheVariants.{Short, Padding, BadBool, BadText, TooLong, BadSignature, TooDeep, BadArray}
+use Rattle.dbus_values.specs.Spells.{number, gap, IsPath, Elements, NoneInside, SpellsWithin}
 
 -- from this offset these bytes go wrong so
 abbrev pub Break : Type 1

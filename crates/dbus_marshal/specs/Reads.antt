@@ -1,67 +1,27 @@
 -- Reading a value of a type from an offset, with the first break that is met. What is read from is
 -- the offset and the list of the bytes from there on.
-use Rattle.std.specs.Prelude.{ℕ, zero, suc, ◌+◌, ◌==◌, List, [], ◌∷◌, ◌++◌, length, take, drop, filter, Option, Some, None, Result, Ok, Err, nat_lt, nat_le, if◌then◌else◌, Bool, true, false}
-use Rattle.std.specs.Int.{Width, w16, w32, w64, byte_len, from_le_bytes, from_be_bytes, cast_signed}
+use Rattle.std.specs.Prelude.{ℕ, zero, suc, ◌+◌, ◌==◌, List, [], ◌∷◌, ◌++◌, length, filter, Option, Some, None, Result, Ok, Err, nat_lt, nat_le, if◌then◌else◌, Bool, true, false}
+use Rattle.std.specs.Int.{Width, w16, w32, w64, cast_signed}
 use Rattle.std.specs.List.{list_any}
 use Rattle.std.specs.Str.{is_utf8}
 use Rattle.dbus_types.specs.declared.types.Endian.{Endian}
-use Rattle.dbus_types.specs.declared.types.Endian.TheVariants.{Little, Big}
 use Rattle.dbus_types.specs.declared.types.WireType.{WireType, out-WireType}
 use Rattle.dbus_types.specs.declared.types.WireType.TheOpen.{WireType-F}
 use Rattle.dbus_types.specs.declared.types.WireType.TheVariants as W
 use Rattle.dbus_types.specs.declared.types.Value.{Value, out-Value}
 use Rattle.dbus_types.specs.declared.types.Value.TheOpen.{Value-F}
 use Rattle.dbus_types.specs.declared.types.Value.TheVariants as V
-use Rattle.dbus_marshal.specs.declared.error.ReadError.{ReadError}
-use Rattle.dbus_marshal.specs.declared.error.ReadError.TheVariants.{Short, Padding, BadBool, BadText, TooLong, BadSignature, TooDeep, Memory}
+use Rattle.dbus_basic.specs.declared.error.ReadError.{ReadError}
+use Rattle.dbus_basic.specs.declared.error.ReadError.TheVariants.{Short, BadText, TooLong, BadSignature, TooDeep, Memory}
 use Rattle.dbus_types.specs.declared.errors.SignatureError.{SignatureError}
 use Rattle.dbus_types.specs.declared.errors.SignatureError.TheVariants as Stop
 use Rattle.dbus_types.specs.Names.{is_path}
 use Rattle.dbus_types.specs.Reading.{whole_at, single_at, passed}
 use Rattle.dbus_types.specs.Types.{alignment}
-use Rattle.dbus_types.specs.Values.{array_of}
-use Rattle.dbus_types.specs.Spells.{gap}
+use Rattle.dbus_values.specs.Values.{array_of}
 pub use Rattle.dbus_marshal.specs.Breaks.{array_error}
-pub use Rattle.dbus_marshal.specs.Reading.{◌>>=◌, Fails, Gives, IsRead, IsStopped, IsRefused, Read, after, place, past, verdict}
-
--- so many zero bytes
-unfoldable pub zeros : ℕ → ℕ → List ℕ → Result (ℕ × List ℕ) ReadError
-zeros zero at bytes = Ok (at, bytes)
-zeros (suc n) at [] = Err (Short at)
-zeros (suc n) at (zero ∷ bytes) = zeros n (at + 1) bytes
-zeros (suc n) at (suc b ∷ bytes) = Err (Padding at)
-
-abbrev pub padded : ℕ → ℕ → List ℕ → Result (ℕ × List ℕ) ReadError
-padded to at bytes = zeros (gap to at) at bytes
-
--- so many bytes
-unfoldable pub taken : ℕ → ℕ → List ℕ → Read (List ℕ)
-taken n at bytes = if nat_lt (length bytes) n then Err (Short at)
-    else Ok (take n bytes, at + n, drop n bytes)
-
-abbrev pub from_number : Endian → Width → List ℕ → ℕ
-from_number Little w bytes = from_le_bytes w bytes
-from_number Big w bytes = from_be_bytes w bytes
-
-unfoldable pub number_at : Endian → Width → ℕ → List ℕ → Read ℕ
-number_at e w at bytes = do
-  x ← taken (byte_len w) at bytes
-  Ok (from_number e w x.0, x.1, x.2)
-
-unfoldable pub byte_at : ℕ → List ℕ → Read ℕ
-byte_at at [] = Err (Short at)
-byte_at at (b ∷ bytes) = Ok (b, at + 1, bytes)
-
--- the zero byte behind a text
-unfoldable pub ended : ReadError → ℕ → List ℕ → Result (ℕ × List ℕ) ReadError
-ended e at [] = Err (Short at)
-ended e at (zero ∷ bytes) = Ok (at + 1, bytes)
-ended e at (suc b ∷ bytes) = Err e
-
-unfoldable pub truth : ℕ → ℕ → Result Bool ReadError
-truth at zero = Ok false
-truth at (suc zero) = Ok true
-truth at _ = Err (BadBool at)
+use Rattle.dbus_basic.specs.Reading.{◌>>=◌, Read}
+use Rattle.dbus_basic.specs.Fields.{padded, taken, number_at, byte_at, ended, truth}
 
 -- UTF-8 without zero bytes
 abbrev pub is_text : List ℕ → Bool

@@ -6,13 +6,14 @@
 
 ghost use Rattle.std.specs.Prelude.{◌≡◌, ◌+◌, ◌<◌, ◌≤◌, length, drop, IfOk};
 ghost use Rattle.dbus_types.specs.declared.types.WireType.TheOpen.{WireType-F};
-ghost use Rattle.dbus_marshal.specs.Reads.{Gives, place, past, verdict, inside_at, layer, members, elements, reads};
+ghost use Rattle.dbus_basic.specs.Reading.{Gives, place, past, verdict};
+ghost use Rattle.dbus_marshal.specs.Reads.{inside_at, layer, members, elements, reads};
 
-use crate::error::ReadError;
-use crate::fields::{array_error, byte_at, ended, number_32, skip_padding, taken};
 use crate::flat::check_flat;
-use crate::read::LONGEST_ARRAY;
+use crate::read::{LONGEST_ARRAY, array_error};
 use crate::signature::type_at;
+use dbus_basic::error::ReadError;
+use dbus_basic::fields::{byte_at, ended, number_32, skip_padding, taken};
 use dbus_types::equal::is_byte;
 use dbus_types::layout::alignment_of;
 use dbus_types::types::{Endian, WireType};

@@ -3,13 +3,14 @@
 ghost use Rattle.std.specs.Prelude.{◌≡◌, ◌+◌, ◌<◌, ◌≤◌, ◌^◌, length, take, drop, true, false, IfOk, MatchOption};
 ghost use Rattle.std.specs.Int.{w16, w32, w64, cast_signed};
 ghost use Rattle.dbus_types.specs.declared.types.WireType.{out-WireType};
-ghost use Rattle.dbus_marshal.specs.Reads.{Gives, after, place, past, is_text, is_path_text, padded_number, text_at, signature_at as signature_in, fixed, flat};
+ghost use Rattle.dbus_basic.specs.Reading.{Gives, after, place, past};
+ghost use Rattle.dbus_marshal.specs.Reads.{is_text, is_path_text, padded_number, text_at, signature_at as signature_in, fixed, flat};
 
-use crate::error::ReadError;
-use crate::fields::{
+use crate::signature::check_at;
+use dbus_basic::error::ReadError;
+use dbus_basic::fields::{
     byte_at, ended, has_zero, number_16, number_32, number_64, skip_padding, taken, truth,
 };
-use crate::signature::check_at;
 use dbus_types::names::is_object_path;
 use dbus_types::types::{Endian, Value, WireType};
 use portal_base::text::Text;
@@ -17,7 +18,7 @@ use std::alloc::Global;
 use std::str;
 
 /// The bytes as a text, where they are UTF-8 without zero bytes.
-#[tactic(auto, using(crate::proofs::Places::not_utf8, crate::proofs::Places::utf8))]
+#[tactic(auto, using(crate::proofs::Words::not_utf8, crate::proofs::Words::utf8))]
 fn as_text(raw: &[u8]) -> Option<&str>
     ensures { MatchOption result (is_text raw.now ≡ false) (λ text. (is_text raw.now ≡ true)
         × (text.now ≡ raw.now)) }

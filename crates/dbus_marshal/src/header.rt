@@ -7,13 +7,14 @@
 ghost use Rattle.std.specs.Prelude.{◌≡◌, ◌+◌, ◌-◌, ◌<◌, ◌≤◌, ◌^◌, ℕ, List, ◌++◌, length, take, drop, filter, IfOk};
 ghost use Rattle.dbus_types.specs.declared.types.Value.{Value as Value'};
 ghost use Rattle.dbus_types.specs.declared.types.Value.TheVariants as V;
-ghost use Rattle.dbus_types.specs.Spells.{Spells};
-ghost use Rattle.dbus_marshal.specs.Reads.{Gives, IsRead, after, elements, field_at, field_type, fields_type, fields_at, has_code_to, kept, sifted};
+ghost use Rattle.dbus_values.specs.Spells.{Spells};
+ghost use Rattle.dbus_basic.specs.Reading.{Gives, IsRead, after};
+ghost use Rattle.dbus_marshal.specs.Reads.{elements, field_at, field_type, fields_type, fields_at, has_code_to, kept, sifted};
 
 use crate::check::check_inside;
-use crate::error::ReadError;
-use crate::fields::{array_error, byte_at, number_32, skip_padding, taken};
-use crate::read::{LONGEST_ARRAY, read_inside, room_for};
+use crate::read::{LONGEST_ARRAY, array_error, read_inside, room_for};
+use dbus_basic::error::ReadError;
+use dbus_basic::fields::{byte_at, number_32, skip_padding, taken};
 use dbus_types::types::{Endian, Value};
 use portal_base::list::List;
 use std::alloc::Global;

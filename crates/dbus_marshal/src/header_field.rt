@@ -8,20 +8,20 @@
 ghost use Rattle.std.specs.Prelude.{◌≡◌, ◌++◌, [], ◌∷◌, OnOk, OnErr, length, map, replicate};
 ghost use Rattle.dbus_types.specs.declared.types.Endian.TheVariants.{Little};
 ghost use Rattle.dbus_types.specs.declared.types.Value.TheVariants as V;
-ghost use Rattle.dbus_types.specs.Spells.{gap};
-ghost use Rattle.dbus_types.specs.Spelling.{Extends, signature_body, spelling};
+ghost use Rattle.dbus_values.specs.Spells.{gap};
+ghost use Rattle.dbus_values.specs.Spelling.{Extends, signature_body, spelling};
 ghost use Rattle.dbus_types.specs.Types.{types_text};
-ghost use Rattle.dbus_types.specs.Values.{type_of};
+ghost use Rattle.dbus_values.specs.Values.{type_of};
 
 use crate::put::{overwrite_byte, pad, put_32, put_text};
 use dbus_types::types::Value;
-use dbus_types::write::put_type_of;
+use dbus_values::write::put_type_of;
 use portal_base::list::ByteList;
 use portal_base::memory::WantOfMemory;
 
 /// Puts the code of a field and the signature of its value, which is of one
 /// letter.
-#[tactic(auto, using(dbus_types::proofs::ListFronts::extends_refl, dbus_types::proofs::ListFronts::extends_append, dbus_types::proofs::ListFronts::extends_trans))]
+#[tactic(auto, using(dbus_values::proofs::ListFronts::extends_refl, dbus_values::proofs::ListFronts::extends_append, dbus_values::proofs::ListFronts::extends_trans))]
 fn put_head(out: &mut ByteList, code: u8, letter: u8) -> Result<(), WantOfMemory>
     ensures ok { OnOk result (out.new ≡ (out.old ++ replicate (gap 8 (length out.old)) 0)
         ++ (code ∷ 1 ∷ letter ∷ 0 ∷ [])) }
@@ -32,7 +32,7 @@ fn put_head(out: &mut ByteList, code: u8, letter: u8) -> Result<(), WantOfMemory
 }
 
 /// Puts the field of a code whose value is a number of 32 bits.
-#[tactic(auto, using(dbus_types::proofs::ListFronts::extends_refl, dbus_types::proofs::ListFronts::extends_append, dbus_types::proofs::ListFronts::extends_trans))]
+#[tactic(auto, using(dbus_values::proofs::ListFronts::extends_refl, dbus_values::proofs::ListFronts::extends_append, dbus_values::proofs::ListFronts::extends_trans))]
 pub fn write_number_field(out: &mut ByteList, code: u8, number: u32) -> Result<(), WantOfMemory>
     ensures ok { OnOk result (out.new ≡ out.old ++ spelling Little (length out.old)
         (V.Struct (V.Byte code ∷ V.Variant (V.U32 number) ∷ []))) }
@@ -43,7 +43,7 @@ pub fn write_number_field(out: &mut ByteList, code: u8, number: u32) -> Result<(
 }
 
 /// Puts the field of a code whose value is a text.
-#[tactic(auto, using(dbus_types::proofs::ListFronts::extends_refl, dbus_types::proofs::ListFronts::extends_append, dbus_types::proofs::ListFronts::extends_trans))]
+#[tactic(auto, using(dbus_values::proofs::ListFronts::extends_refl, dbus_values::proofs::ListFronts::extends_append, dbus_values::proofs::ListFronts::extends_trans))]
 pub fn write_text_field(out: &mut ByteList, code: u8, text: &[u8]) -> Result<(), WantOfMemory>
     ensures ok { OnOk result (out.new ≡ out.old ++ spelling Little (length out.old)
         (V.Struct (V.Byte code ∷ V.Variant (V.Str text.now) ∷ []))) }
@@ -54,7 +54,7 @@ pub fn write_text_field(out: &mut ByteList, code: u8, text: &[u8]) -> Result<(),
 }
 
 /// Puts the field of a code whose value is the path of an object.
-#[tactic(auto, using(dbus_types::proofs::ListFronts::extends_refl, dbus_types::proofs::ListFronts::extends_append, dbus_types::proofs::ListFronts::extends_trans))]
+#[tactic(auto, using(dbus_values::proofs::ListFronts::extends_refl, dbus_values::proofs::ListFronts::extends_append, dbus_values::proofs::ListFronts::extends_trans))]
 pub fn write_path_field(out: &mut ByteList, code: u8, path: &[u8]) -> Result<(), WantOfMemory>
     ensures ok { OnOk result (out.new ≡ out.old ++ spelling Little (length out.old)
         (V.Struct (V.Byte code ∷ V.Variant (V.ObjectPath path.now) ∷ []))) }
@@ -65,7 +65,7 @@ pub fn write_path_field(out: &mut ByteList, code: u8, path: &[u8]) -> Result<(),
 }
 
 /// Puts the texts of values' types, one after another.
-#[tactic(auto, using(dbus_types::proofs::ListFronts::extends_refl, dbus_types::proofs::ListFronts::extends_append, dbus_types::proofs::ListFronts::extends_trans))]
+#[tactic(auto, using(dbus_values::proofs::ListFronts::extends_refl, dbus_values::proofs::ListFronts::extends_append, dbus_values::proofs::ListFronts::extends_trans))]
 fn put_types(out: &mut ByteList, values: &[Value]) -> Result<(), WantOfMemory>
     ensures ok { OnOk result (out.new ≡ out.old ++ types_text (map type_of values.now)) }
     ensures err { OnErr result (Extends out.old out.new) }
@@ -77,7 +77,7 @@ fn put_types(out: &mut ByteList, values: &[Value]) -> Result<(), WantOfMemory>
 }
 
 /// Puts the signature of values, behind its length.
-#[tactic(auto, using(dbus_types::proofs::ListFronts::extends_refl, dbus_types::proofs::ListFronts::extends_append, dbus_types::proofs::ListFronts::extends_trans))]
+#[tactic(auto, using(dbus_values::proofs::ListFronts::extends_refl, dbus_values::proofs::ListFronts::extends_append, dbus_values::proofs::ListFronts::extends_trans))]
 fn put_signature(out: &mut ByteList, values: &[Value]) -> Result<(), WantOfMemory>
     ensures ok { OnOk result (out.new ≡ out.old
         ++ signature_body (types_text (map type_of values.now))) }
@@ -94,7 +94,7 @@ fn put_signature(out: &mut ByteList, values: &[Value]) -> Result<(), WantOfMemor
 }
 
 /// Puts the field of a code whose value is the signature of a body.
-#[tactic(auto, using(dbus_types::proofs::ListFronts::extends_refl, dbus_types::proofs::ListFronts::extends_append, dbus_types::proofs::ListFronts::extends_trans))]
+#[tactic(auto, using(dbus_values::proofs::ListFronts::extends_refl, dbus_values::proofs::ListFronts::extends_append, dbus_values::proofs::ListFronts::extends_trans))]
 pub fn write_signature_field(
     out: &mut ByteList,
     code: u8,

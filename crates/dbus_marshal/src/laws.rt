@@ -6,11 +6,11 @@ ghost use Rattle.std.specs.Prelude.{◌≡◌, ◌<◌, ◌≤◌, ◌%◌, ◌�
 ghost use Rattle.dbus_types.specs.declared.types.Value.{Value as Value'};
 ghost use Rattle.dbus_types.specs.declared.types.Endian.{Endian as Endian'};
 ghost use Rattle.dbus_types.specs.declared.types.WireType.{WireType as WireType'};
-ghost use Rattle.dbus_types.specs.Values.{type_of, KeepsRules};
-ghost use Rattle.dbus_marshal.specs.declared.error.ReadError.{ReadError as ReadError'};
+ghost use Rattle.dbus_values.specs.Values.{type_of, KeepsRules};
+ghost use Rattle.dbus_basic.specs.declared.error.ReadError.{ReadError as ReadError'};
 ghost use Rattle.dbus_marshal.specs.Breaks.{Breaks};
-ghost use Rattle.dbus_types.specs.Spells.{Spells};
-ghost use Rattle.dbus_types.specs.Spelling.{spelling, spellings};
+ghost use Rattle.dbus_values.specs.Spells.{Spells};
+ghost use Rattle.dbus_values.specs.Spelling.{spelling, spellings};
 
 /// A value that keeps the rules has a spelling, in either order of bytes and
 /// at each offset: what is written for it, where that has at most 67,108,864

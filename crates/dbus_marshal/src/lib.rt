@@ -12,9 +12,9 @@
 //! | `header` | [`header::read_header`]: the fields of a message's header |
 //! | `header_field` | the fields of a header that is written |
 //! | `write` | [`write::write_value`]: the spelling of a value behind others, and of several |
-//! | `error` | [`error::ReadError`]: where and why a spelling breaks |
+//! | `error` | [`error::ReadError`] of `dbus_basic`: where and why a spelling breaks |
 //! | `check` | values of which only the place after them is asked |
-//! | `flat`, `fields`, `signature`, `skip`, `put` | the pieces that values are spelled with |
+//! | `flat`, `signature`, `skip`, `put` | what values are spelled with, over the pieces of `dbus_basic` |
 //! | `laws` | that each value has a spelling, that bytes are spelled or break, and that spellings move |
 //!
 //! ```text
@@ -26,8 +26,6 @@
 #![tactic(auto)]
 
 mod check;
-pub mod error;
-mod fields;
 mod flat;
 pub mod header;
 pub mod header_field;
@@ -37,3 +35,5 @@ pub mod read;
 mod signature;
 mod skip;
 pub mod write;
+
+pub use dbus_basic::error;

@@ -5,14 +5,14 @@
 ghost use Rattle.std.specs.Prelude.{◌≡◌, ◌+◌, ◌<◌, ◌≤◌, ◌^◌, ◌++◌, OnOk, OnErr, length, take, drop, replicate, slice_set};
 ghost use Rattle.std.specs.Int.{to_le_bytes, w8, w16, w32, w64};
 ghost use Rattle.dbus_types.specs.declared.types.Endian.TheVariants.{Little};
-ghost use Rattle.dbus_types.specs.Spells.{gap, number as number_bytes};
-ghost use Rattle.dbus_types.specs.Spelling.{Extends, aligned, bytes_body, signature_body, text_body};
+ghost use Rattle.dbus_values.specs.Spells.{gap, number as number_bytes};
+ghost use Rattle.dbus_values.specs.Spelling.{Extends, aligned, bytes_body, signature_body, text_body};
 
 use portal_base::list::ByteList;
 use portal_base::memory::WantOfMemory;
 
 /// Puts zero bytes behind others up to a multiple of an alignment.
-#[tactic(auto, using(dbus_types::proofs::ListFronts::extends_append))]
+#[tactic(auto, using(dbus_values::proofs::ListFronts::extends_append))]
 pub fn pad(out: &mut ByteList, to: usize) -> Result<(), WantOfMemory>
     requires { 0 < to }
     ensures ok { OnOk result (out.new ≡ out.old ++ replicate (gap to (length out.old)) 0) }
@@ -66,7 +66,7 @@ pub(crate) fn overwrite_byte(out: &mut ByteList, at: usize, number: usize)
     out.set(at, bytes[0]);
 }
 
-#[tactic(auto, using(dbus_types::proofs::ListFronts::extends_refl))]
+#[tactic(auto, using(dbus_values::proofs::ListFronts::extends_refl))]
 pub(crate) fn put_length(out: &mut ByteList, number: usize) -> Result<(), WantOfMemory>
     ensures ok { OnOk result (out.new ≡ out.old ++ to_le_bytes w32 number) }
     ensures err { OnErr result (Extends out.old out.new) }
@@ -74,7 +74,7 @@ pub(crate) fn put_length(out: &mut ByteList, number: usize) -> Result<(), WantOf
     out.extend_from_slice(&four_bytes(number))
 }
 
-#[tactic(auto, using(dbus_types::proofs::ListFronts::extends_refl, dbus_types::proofs::ListFronts::extends_append, dbus_types::proofs::ListFronts::extends_trans))]
+#[tactic(auto, using(dbus_values::proofs::ListFronts::extends_refl, dbus_values::proofs::ListFronts::extends_append, dbus_values::proofs::ListFronts::extends_trans))]
 pub(crate) fn put_16(out: &mut ByteList, number: u16) -> Result<(), WantOfMemory>
     ensures ok { OnOk result (out.new ≡ out.old
         ++ aligned 2 (λ start. number_bytes Little w16 number) (length out.old)) }
@@ -84,7 +84,7 @@ pub(crate) fn put_16(out: &mut ByteList, number: u16) -> Result<(), WantOfMemory
     out.extend_from_slice(&number.to_le_bytes())
 }
 
-#[tactic(auto, using(dbus_types::proofs::ListFronts::extends_refl, dbus_types::proofs::ListFronts::extends_append, dbus_types::proofs::ListFronts::extends_trans))]
+#[tactic(auto, using(dbus_values::proofs::ListFronts::extends_refl, dbus_values::proofs::ListFronts::extends_append, dbus_values::proofs::ListFronts::extends_trans))]
 pub(crate) fn put_32(out: &mut ByteList, number: u32) -> Result<(), WantOfMemory>
     ensures ok { OnOk result (out.new ≡ out.old
         ++ aligned 4 (λ start. number_bytes Little w32 number) (length out.old)) }
@@ -94,7 +94,7 @@ pub(crate) fn put_32(out: &mut ByteList, number: u32) -> Result<(), WantOfMemory
     out.extend_from_slice(&number.to_le_bytes())
 }
 
-#[tactic(auto, using(dbus_types::proofs::ListFronts::extends_refl, dbus_types::proofs::ListFronts::extends_append, dbus_types::proofs::ListFronts::extends_trans))]
+#[tactic(auto, using(dbus_values::proofs::ListFronts::extends_refl, dbus_values::proofs::ListFronts::extends_append, dbus_values::proofs::ListFronts::extends_trans))]
 pub(crate) fn put_64(out: &mut ByteList, number: u64) -> Result<(), WantOfMemory>
     ensures ok { OnOk result (out.new ≡ out.old
         ++ aligned 8 (λ start. number_bytes Little w64 number) (length out.old)) }
@@ -105,7 +105,7 @@ pub(crate) fn put_64(out: &mut ByteList, number: u64) -> Result<(), WantOfMemory
 }
 
 /// A text with its length in four bytes.
-#[tactic(auto, using(dbus_types::proofs::ListFronts::extends_refl, dbus_types::proofs::ListFronts::extends_append, dbus_types::proofs::ListFronts::extends_trans))]
+#[tactic(auto, using(dbus_values::proofs::ListFronts::extends_refl, dbus_values::proofs::ListFronts::extends_append, dbus_values::proofs::ListFronts::extends_trans))]
 pub(crate) fn put_text(out: &mut ByteList, text: &[u8]) -> Result<(), WantOfMemory>
     ensures ok { OnOk result (out.new ≡ out.old
         ++ aligned 4 (λ start. text_body Little text.now) (length out.old)) }
@@ -118,7 +118,7 @@ pub(crate) fn put_text(out: &mut ByteList, text: &[u8]) -> Result<(), WantOfMemo
 }
 
 /// Bytes with their number in four bytes.
-#[tactic(auto, using(dbus_types::proofs::ListFronts::extends_refl, dbus_types::proofs::ListFronts::extends_append, dbus_types::proofs::ListFronts::extends_trans))]
+#[tactic(auto, using(dbus_values::proofs::ListFronts::extends_refl, dbus_values::proofs::ListFronts::extends_append, dbus_values::proofs::ListFronts::extends_trans))]
 pub(crate) fn put_bytes(out: &mut ByteList, bytes: &[u8]) -> Result<(), WantOfMemory>
     ensures ok { OnOk result (out.new ≡ out.old
         ++ aligned 4 (λ start. bytes_body Little bytes.now) (length out.old)) }
@@ -130,7 +130,7 @@ pub(crate) fn put_bytes(out: &mut ByteList, bytes: &[u8]) -> Result<(), WantOfMe
 }
 
 /// A text with its length in one byte.
-#[tactic(auto, using(dbus_types::proofs::ListFronts::extends_refl, dbus_types::proofs::ListFronts::extends_append, dbus_types::proofs::ListFronts::extends_trans))]
+#[tactic(auto, using(dbus_values::proofs::ListFronts::extends_refl, dbus_values::proofs::ListFronts::extends_append, dbus_values::proofs::ListFronts::extends_trans))]
 pub(crate) fn put_short_text(out: &mut ByteList, text: &[u8]) -> Result<(), WantOfMemory>
     ensures ok { OnOk result (out.new ≡ out.old ++ signature_body text.now) }
     ensures err { OnErr result (Extends out.old out.new) }

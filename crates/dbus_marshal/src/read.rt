@@ -10,17 +10,18 @@ ghost use Rattle.dbus_types.specs.declared.types.WireType.{out-WireType};
 ghost use Rattle.dbus_types.specs.declared.types.Endian.{Endian as Endian'};
 ghost use Rattle.dbus_types.specs.declared.types.WireType.TheOpen.{WireType-F};
 ghost use Rattle.dbus_types.specs.Types.{IsValidType};
-ghost use Rattle.dbus_types.specs.Values.{type_of, KeepsRules};
-ghost use Rattle.dbus_marshal.specs.declared.error.ReadError.{ReadError as ReadError'};
-ghost use Rattle.dbus_types.specs.Spells.{Spells};
+ghost use Rattle.dbus_values.specs.Values.{type_of, KeepsRules};
+ghost use Rattle.dbus_basic.specs.declared.error.ReadError.{ReadError as ReadError'};
+ghost use Rattle.dbus_values.specs.Spells.{Spells};
 ghost use Rattle.dbus_marshal.specs.Breaks.{Breaks};
-ghost use Rattle.dbus_marshal.specs.Reads.{Gives, IsRead, IsStopped, IsRefused, after, arrayed, inside_at, layer, members, elements, reads};
+ghost use Rattle.dbus_basic.specs.Reading.{Gives, IsRead, IsStopped, IsRefused, after};
+ghost use Rattle.dbus_marshal.specs.Reads.{array_error, arrayed, inside_at, layer, members, elements, reads};
 
-use crate::error::ReadError;
-use crate::fields::{array_error, byte_at, ended, number_32, skip_padding, taken};
 use crate::flat::read_flat;
 use crate::signature::type_at;
 use crate::skip::count_elements;
+use dbus_basic::error::ReadError;
+use dbus_basic::fields::{byte_at, ended, number_32, skip_padding, taken};
 use dbus_types::equal::is_byte;
 use dbus_types::layout::alignment_of;
 use dbus_types::shared::Shared;
@@ -39,6 +40,23 @@ pub(crate) const LONGEST_ARRAY: u32 = 67_108_864;
 /// Source: D-Bus Specification, "Marshaling (Wire Format)": a variant must not
 /// make the depth of the containers larger than 64.
 const MOST_VALUES: u32 = 65;
+
+/// Where the bytes end inside an array, they end at its length.
+pub(crate) fn array_error(error: ReadError) -> ReadError
+    ensures { result ≡ array_error error }
+{
+    match error {
+        ReadError::Short { at } => ReadError::BadArray { at },
+        ReadError::Padding { at } => ReadError::Padding { at },
+        ReadError::BadBool { at } => ReadError::BadBool { at },
+        ReadError::BadText { at } => ReadError::BadText { at },
+        ReadError::TooLong { at } => ReadError::TooLong { at },
+        ReadError::BadSignature { at } => ReadError::BadSignature { at },
+        ReadError::TooDeep { at } => ReadError::TooDeep { at },
+        ReadError::BadArray { at } => ReadError::BadArray { at },
+        ReadError::Memory => ReadError::Memory,
+    }
+}
 
 /// The value of a type at a place, with at most so many values in each other.
 #[cycle(read)]

@@ -3,17 +3,18 @@
 //! Source: D-Bus Specification, "Type System".
 
 ghost use Rattle.std.specs.Prelude.{◌≡◌, ◌+◌, ◌<◌, ◌≤◌, ◌^◌, ◌++◌, OnOk, OnErr, length, take, drop};
-ghost use Rattle.dbus_marshal.specs.Reads.{Gives, checked_in, type_in};
+ghost use Rattle.dbus_basic.specs.Reading.{Gives};
+ghost use Rattle.dbus_marshal.specs.Reads.{checked_in, type_in};
 ghost use Rattle.dbus_types.specs.Types.{type_text};
-ghost use Rattle.dbus_types.specs.Values.{type_of};
-ghost use Rattle.dbus_types.specs.Spelling.{Extends, signature_body};
+ghost use Rattle.dbus_values.specs.Values.{type_of};
+ghost use Rattle.dbus_values.specs.Spelling.{Extends, signature_body};
 
-use crate::error::ReadError;
 use crate::put::overwrite_byte;
+use dbus_basic::error::ReadError;
 use dbus_types::errors::SignatureError;
 use dbus_types::signature::{check_signature, read_single};
 use dbus_types::types::{Value, WireType};
-use dbus_types::write::put_type_of;
+use dbus_values::write::put_type_of;
 use portal_base::list::ByteList;
 use portal_base::memory::WantOfMemory;
 use std::alloc::Global;
@@ -57,7 +58,7 @@ pub(crate) fn type_at(alloc: Global, text: &[u8], at: usize) -> Result<WireType,
 }
 
 /// The signature of a value's type.
-#[tactic(auto, using(dbus_types::proofs::ListFronts::extends_refl, dbus_types::proofs::ListFronts::extends_append, dbus_types::proofs::ListFronts::extends_trans))]
+#[tactic(auto, using(dbus_values::proofs::ListFronts::extends_refl, dbus_values::proofs::ListFronts::extends_append, dbus_values::proofs::ListFronts::extends_trans))]
 pub(crate) fn put_signature(out: &mut ByteList, value: &Value) -> Result<(), WantOfMemory>
     ensures ok { OnOk result (out.new ≡ out.old ++ signature_body (type_text (type_of value.now))) }
     ensures err { OnErr result (Extends out.old out.new) }

@@ -6,9 +6,9 @@
 
 ghost use Rattle.std.specs.Prelude.{◌≡◌, ◌+◌, ◌<◌, ◌≤◌, length, IfOk};
 
-use crate::error::ReadError;
-use crate::fields::{byte_at, number_32, skip_padding, taken};
 use crate::signature::type_at;
+use dbus_basic::error::ReadError;
+use dbus_basic::fields::{byte_at, number_32, skip_padding, taken};
 use dbus_types::layout::alignment_of;
 use dbus_types::types::{Endian, WireType};
 use std::alloc::Global;

@@ -9,8 +9,8 @@ ghost use Rattle.dbus_types.specs.declared.types.Value.TheVariants as V;
 ghost use Rattle.dbus_types.specs.declared.types.WireType.{WireType as WireType'};
 ghost use Rattle.dbus_types.specs.declared.types.Endian.{Endian as Endian'};
 ghost use Rattle.dbus_types.specs.declared.types.Endian.TheVariants.{Little};
-ghost use Rattle.dbus_types.specs.Spells.{Spells, gap};
-ghost use Rattle.dbus_types.specs.Spelling.{Extends, aligned, spelled, spelling, spellings, signature_body, text_body, array_body, bytes_body};
+ghost use Rattle.dbus_values.specs.Spells.{Spells, gap};
+ghost use Rattle.dbus_values.specs.Spelling.{Extends, aligned, spelled, spelling, spellings, signature_body, text_body, array_body, bytes_body};
 
 pub use crate::put::{overwrite_length, pad};
 use crate::put::{put_16, put_32, put_64, put_bytes, put_length, put_short_text, put_text};
@@ -21,7 +21,7 @@ use portal_base::list::ByteList;
 use portal_base::memory::WantOfMemory;
 
 #[cycle(write)]
-#[tactic(auto, using(dbus_types::proofs::ListFronts::extends_refl, dbus_types::proofs::ListFronts::extends_append, dbus_types::proofs::ListFronts::extends_trans))]
+#[tactic(auto, using(dbus_values::proofs::ListFronts::extends_refl, dbus_values::proofs::ListFronts::extends_append, dbus_values::proofs::ListFronts::extends_trans))]
 fn write(out: &mut ByteList, value: &Value) -> Result<(), WantOfMemory>
     ensures ok { OnOk result (out.new ≡ out.old ++ spelling Little (length out.old) value.now) }
     ensures err { OnErr result (Extends out.old out.new) }
@@ -61,7 +61,7 @@ fn write(out: &mut ByteList, value: &Value) -> Result<(), WantOfMemory>
 }
 
 #[cycle(write)]
-#[tactic(auto, using(dbus_types::proofs::ListFronts::extends_refl, dbus_types::proofs::ListFronts::extends_append, dbus_types::proofs::ListFronts::extends_trans))]
+#[tactic(auto, using(dbus_values::proofs::ListFronts::extends_refl, dbus_values::proofs::ListFronts::extends_append, dbus_values::proofs::ListFronts::extends_trans))]
 fn write_array(out: &mut ByteList, to: usize, items: &[Value]) -> Result<(), WantOfMemory>
     requires { 0 < to }
     ensures ok { OnOk result (out.new ≡ out.old ++ (replicate (gap 4 (length out.old)) 0
@@ -87,7 +87,7 @@ fn write_array(out: &mut ByteList, to: usize, items: &[Value]) -> Result<(), Wan
 ///
 /// Where there is no memory the list begins with what it had.
 #[cycle(write)]
-#[tactic(auto, using(dbus_types::proofs::ListFronts::extends_refl, dbus_types::proofs::ListFronts::extends_append, dbus_types::proofs::ListFronts::extends_trans))]
+#[tactic(auto, using(dbus_values::proofs::ListFronts::extends_refl, dbus_values::proofs::ListFronts::extends_append, dbus_values::proofs::ListFronts::extends_trans))]
 pub fn write_all(out: &mut ByteList, values: &[Value]) -> Result<(), WantOfMemory>
     ensures ok { OnOk result (out.new ≡ out.old ++ spellings Little (length out.old) values.now) }
     ensures err { OnErr result (Extends out.old out.new) }

@@ -8,10 +8,10 @@ use Rattle.dbus_types.specs.declared.types.WireType.TheVariants as W
 use Rattle.dbus_types.specs.declared.types.Value.{Value, out-Value, the_lemmas}
 use Rattle.dbus_types.specs.declared.types.Value.TheOpen.{Value-F}
 use Rattle.dbus_types.specs.declared.types.Value.TheVariants as V
-use Rattle.dbus_marshal.specs.declared.error.ReadError.{ReadError}
-use Rattle.dbus_types.specs.Spells.{Spells, Row, SpellsWithin}
-use Rattle.dbus_marshal.specs.Reads.{IsRead}
-use Rattle.dbus_types.proofs.PackedBytes.{of_others, struct_no_byte}
+use Rattle.dbus_basic.specs.declared.error.ReadError.{ReadError}
+use Rattle.dbus_values.specs.Spells.{Spells, Row, SpellsWithin}
+use Rattle.dbus_basic.specs.Reading.{IsRead}
+use Rattle.dbus_values.proofs.PackedBytes.{of_others, struct_no_byte}
 use Rattle.dbus_marshal.proofs.SpelledIsRead.{one_spelling}
 use Rattle.dbus_message.specs.declared.error.MessageError.TheVariants.{Bad}
 use Rattle.dbus_message.specs.Header.{endian_of, field_bytes}

@@ -9,7 +9,7 @@ use Rattle.std.proofs.lemmas.List.Splits.{join_with_byte-slice_split}
 use Rattle.std.proofs.lemmas.Str.{IsUtf8-from_ascii}
 use Rattle.std.proofs.lemmas.Str.Ascii.{IsAscii-from_all}
 use Rattle.dbus_types.specs.Names.{is_word_byte, is_first_byte, is_element, is_interface_name, is_member_name}
-use Rattle.dbus_types.specs.Values.{IsText}
+use Rattle.dbus_values.specs.Values.{IsText}
 use Rattle.dbus_message.specs.Written.{last_part}
 
 abbrev Plain : ℕ → Type 0

@@ -4,10 +4,10 @@ use Rattle.std.proofs.lemmas.List.{take-append-drop, drop-drop, drop_at, length-
 use Rattle.dbus_types.specs.declared.types.Endian.{Endian}
 use Rattle.dbus_types.specs.declared.types.WireType.{WireType}
 use Rattle.dbus_types.specs.declared.types.Value.{Value}
-use Rattle.dbus_types.specs.Spells.{Spells, Members}
-use Rattle.dbus_marshal.specs.declared.error.ReadError.{ReadError}
-use Rattle.dbus_marshal.specs.declared.error.ReadError.TheVariants.{Short, Padding, BadBool, BadText, TooLong, BadSignature, TooDeep, BadArray, Memory}
-use Rattle.dbus_marshal.specs.Reads.{IsRead}
+use Rattle.dbus_values.specs.Spells.{Spells, Members}
+use Rattle.dbus_basic.specs.declared.error.ReadError.{ReadError}
+use Rattle.dbus_basic.specs.declared.error.ReadError.TheVariants.{Short, Padding, BadBool, BadText, TooLong, BadSignature, TooDeep, BadArray, Memory}
+use Rattle.dbus_basic.specs.Reading.{IsRead}
 use Rattle.dbus_message.specs.Content.{IsBody}
 use Rattle.dbus_message.specs.Errors.{error_of}
 use Rattle.dbus_message.specs.Answers.{FindsOne, IsReadBody}

@@ -9,10 +9,10 @@ use Rattle.dbus_types.specs.declared.types.Value.TheOpen.{Value-F}
 use Rattle.dbus_types.specs.declared.types.Value.TheVariants as V
 use Rattle.dbus_types.specs.declared.message.OutMessage.TheVariants.{Return}
 use Rattle.dbus_types.specs.Types.{type_text}
-use Rattle.dbus_types.specs.Values.{KeepsRules}
-use Rattle.dbus_types.specs.Spells.{number}
-use Rattle.dbus_types.specs.Spelling.{aligned, array_body, variant_body, Spelled, spell_step, spelled, spelling}
-use Rattle.dbus_types.proofs.OneSpelling.{roll_byte, roll_u32, roll_variant, roll_array, roll_struct}
+use Rattle.dbus_values.specs.Values.{KeepsRules}
+use Rattle.dbus_values.specs.Spells.{number}
+use Rattle.dbus_values.specs.Spelling.{aligned, array_body, variant_body, Spelled, spell_step, spelled, spelling}
+use Rattle.dbus_values.proofs.OneSpelling.{roll_byte, roll_u32, roll_variant, roll_array, roll_struct}
 use Rattle.dbus_message.specs.Fields.{field_type}
 use Rattle.dbus_message.specs.Written.{field, CanWrite}
 use Rattle.dbus_message.proofs.WrittenAreMessages.{field_alignment}

@@ -7,8 +7,8 @@ use Rattle.std.specs.Prelude.{slice_index, ◌==◌, ◌⊎◌}
 use Rattle.std.specs.Int.{w32}
 use Rattle.dbus_types.specs.declared.types.Endian.{Endian}
 use Rattle.dbus_types.specs.declared.types.Endian.TheVariants.{Little, Big}
-use Rattle.dbus_marshal.specs.Reads.{from_number}
-use Rattle.dbus_types.specs.Spells.{gap}
+use Rattle.dbus_basic.specs.Fields.{from_number}
+use Rattle.dbus_values.specs.Spells.{gap}
 use Rattle.portal_base.specs.declared.split.Split.{Split}
 use Rattle.portal_base.specs.declared.split.Split.TheVariants as S
 use Rattle.dbus_message.specs.Header.{body_len, body_start, endian_of, fields_end, kind_of, number_at, serial_of, stated_len, version_of}

@@ -10,12 +10,12 @@ use Rattle.dbus_types.specs.declared.types.WireType.TheVariants as W
 use Rattle.dbus_types.specs.declared.types.Value.{Value, out-Value}
 use Rattle.dbus_types.specs.declared.types.Value.TheVariants as V
 use Rattle.dbus_types.specs.declared.message.Message.{Message}
-use Rattle.dbus_types.specs.Spells.{Spells, SpellsWithin, Row, Members, Elements}
+use Rattle.dbus_values.specs.Spells.{Spells, SpellsWithin, Row, Members, Elements}
 use Rattle.dbus_marshal.specs.Reads.{has_code_to}
 use Rattle.dbus_message.specs.Fields.{AreFieldsOf, field_type, field_code, field_value, known, is_in_table, is_field, is_once, known_codes, are_good, value_of, text_in, number_in, text_of, number_of, has, has_needed}
 use Rattle.dbus_message.specs.Header.{endian_of, field_bytes}
 use Rattle.dbus_message.specs.Messages.{SaysFields}
-use Rattle.dbus_types.proofs.PackedBytes.{of_others}
+use Rattle.dbus_values.proofs.PackedBytes.{of_others}
 use Rattle.dbus_message.proofs.Arrays.{no_byte, same_items}
 use Rattle.dbus_message.proofs.Tables.{out_struct, out_variant}
 

@@ -10,9 +10,9 @@ use Rattle.dbus_types.specs.declared.types.Value.TheVariants as V
 use Rattle.dbus_types.specs.declared.message.Message.{Message}
 use Rattle.dbus_types.specs.declared.message.OutMessage.{OutMessage}
 use Rattle.dbus_types.specs.Types.{IsSignature}
-use Rattle.dbus_types.specs.Values.{type_of}
-use Rattle.dbus_types.specs.Spells.{Members}
-use Rattle.dbus_types.proofs.OneSpelling.{spells_same}
+use Rattle.dbus_values.specs.Values.{type_of}
+use Rattle.dbus_values.specs.Spells.{Members}
+use Rattle.dbus_values.proofs.OneSpelling.{spells_same}
 use Rattle.dbus_types.proofs.WholeSignatures.{whole_again}
 use Rattle.dbus_marshal.proofs.SpelledIsRead.{one_spelling}
 use Rattle.dbus_message.specs.declared.content.Content.{Content}

@@ -6,7 +6,7 @@ use Rattle.std.proofs.lemmas.List.{take_all, drop-take, length-drop}
 use Rattle.dbus_types.specs.declared.types.Endian.{Endian}
 use Rattle.dbus_types.specs.declared.types.WireType.{WireType}
 use Rattle.dbus_types.specs.declared.types.Value.{Value}
-use Rattle.dbus_types.specs.Spells.{gap}
+use Rattle.dbus_values.specs.Spells.{gap}
 use Rattle.dbus_message.specs.declared.content.Content.{Content}
 use Rattle.dbus_types.specs.declared.message.Message.{Message}
 use Rattle.dbus_message.specs.declared.error.MessageError.{MessageError}

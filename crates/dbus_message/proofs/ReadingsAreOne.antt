@@ -15,8 +15,9 @@ use Rattle.dbus_types.specs.Types.{IsSignature}
 use Rattle.dbus_types.specs.declared.errors.SignatureError.{SignatureError}
 use Rattle.dbus_types.specs.Reading.{whole_at}
 use Rattle.dbus_types.proofs.WholeSignatures.{short_reading, whole_again}
-use Rattle.dbus_marshal.specs.Reads.{Read, reads}
-use Rattle.dbus_types.specs.Spells.{Members, Spells}
+use Rattle.dbus_basic.specs.Reading.{Read}
+use Rattle.dbus_marshal.specs.Reads.{reads}
+use Rattle.dbus_values.specs.Spells.{Members, Spells}
 use Rattle.dbus_marshal.proofs.ReadIsSpelled.{reads_took}
 use Rattle.dbus_marshal.proofs.TakenFronts.{IsBytes, Took, bytes_after, bytes_before}
 use Rattle.dbus_marshal.proofs.SpelledIsRead.{one_spelling, reads_again}

@@ -6,7 +6,7 @@ use Rattle.dbus_types.specs.declared.types.Value.TheOpen.{Value-F}
 use Rattle.dbus_types.specs.declared.types.Value.TheVariants as V
 use Rattle.dbus_types.specs.Types.{types_text}
 use Rattle.dbus_types.specs.Names.{is_path, is_interface_name, is_member_name}
-use Rattle.dbus_types.specs.Values.{type_of}
+use Rattle.dbus_values.specs.Values.{type_of}
 use Rattle.dbus_types.specs.declared.message.OutMessage.{OutMessage}
 use Rattle.dbus_types.specs.declared.message.OutMessage.TheVariants.{Return, Error, Signal}
 use Rattle.dbus_message.specs.Fields.{field_code, field_value, are_good, has_needed, text_of}

@@ -7,10 +7,10 @@ use Rattle.std.proofs.lemmas.List.{take_at, drop_at, drop-drop, drop-take, lengt
 use Rattle.std.proofs.lemmas.Nat.{from_le_bytes-to_le_bytes_4}
 use Rattle.dbus_types.specs.declared.types.Endian.TheVariants.{Little}
 use Rattle.dbus_types.specs.declared.types.Value.{Value}
-use Rattle.dbus_types.specs.Values.{type_of}
-use Rattle.dbus_types.specs.Spells.{Members, number, gap}
-use Rattle.dbus_types.specs.Spelling.{spelling, spellings}
-use Rattle.dbus_types.proofs.OneSpelling.{spells_same}
+use Rattle.dbus_values.specs.Values.{type_of}
+use Rattle.dbus_values.specs.Spells.{Members, number, gap}
+use Rattle.dbus_values.specs.Spelling.{spelling, spellings}
+use Rattle.dbus_values.proofs.OneSpelling.{spells_same}
 use Rattle.dbus_marshal.proofs.TakenFronts.{four, number_len}
 use Rattle.dbus_message.specs.Header.{number_at}
 use Rattle.dbus_message.specs.Written.{laid}

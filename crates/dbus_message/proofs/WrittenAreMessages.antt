@@ -11,8 +11,8 @@ use Rattle.dbus_types.specs.declared.types.WireType.TheVariants as W
 use Rattle.dbus_types.specs.declared.types.Value.{Value}
 use Rattle.dbus_types.specs.declared.types.Value.TheVariants as V
 use Rattle.dbus_types.specs.Types.{alignment, types_text, IsSignature}
-use Rattle.dbus_types.specs.Values.{type_of}
-use Rattle.dbus_types.specs.Spells.{Spells, Row, SpellsWithin, number, gap}
+use Rattle.dbus_values.specs.Values.{type_of}
+use Rattle.dbus_values.specs.Spells.{Spells, Row, SpellsWithin, number, gap}
 use Rattle.dbus_marshal.proofs.TakenFronts.{four, number_len}
 use Rattle.dbus_types.specs.declared.message.OutMessage.{OutMessage}
 use Rattle.dbus_types.specs.declared.message.OutMessage.TheVariants.{Return, Error, Signal}

@@ -15,11 +15,11 @@ use Rattle.dbus_types.specs.declared.roles.Role.{Role}
 use Rattle.dbus_types.specs.declared.roles.Role.TheVariants.{Basic, Single}
 use Rattle.dbus_types.specs.Names.{is_path, is_interface_name}
 use Rattle.dbus_types.specs.Types.{is_single, struct_role, array_role, role, greatest, arrays_deep, brackets_deep, type_text, types_text, IsValidType, IsVariantType, IsSignature}
-use Rattle.dbus_types.specs.Values.{type_of, IsText, IsSignatureText, ValueKeeps, KeepsWithin, KeepsRules}
+use Rattle.dbus_values.specs.Values.{type_of, IsText, IsSignatureText, ValueKeeps, KeepsWithin, KeepsRules}
 use Rattle.dbus_types.proofs.TypeLayers.{role_byte, role_array, role_struct, arrays_array, arrays_struct, brackets_array, brackets_struct}
-use Rattle.dbus_types.proofs.PackedBytes.{struct_no_byte}
-use Rattle.dbus_types.specs.Spells.{Spells, Members}
-use Rattle.dbus_types.specs.Spelling.{spelling, spellings}
+use Rattle.dbus_values.proofs.PackedBytes.{struct_no_byte}
+use Rattle.dbus_values.specs.Spells.{Spells, Members}
+use Rattle.dbus_values.specs.Spelling.{spelling, spellings}
 use Rattle.dbus_marshal.proofs.EveryValueIsSpelled.{every_spelled}
 use Rattle.dbus_message.specs.Fields.{field_type}
 use Rattle.dbus_message.specs.Written.{field, signature_field, last_part, kind_out, body_out, return_fields, fields_out, message_bytes, IsWritten, IsGoodBody, KeepsKinds, CanWrite}

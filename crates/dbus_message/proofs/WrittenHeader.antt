@@ -5,9 +5,9 @@ use Rattle.std.specs.Int.{w32}
 use Rattle.dbus_types.specs.declared.types.Endian.TheVariants.{Little}
 use Rattle.dbus_types.specs.declared.types.Value.{Value}
 use Rattle.dbus_types.specs.declared.types.Value.TheVariants as V
-use Rattle.dbus_types.specs.Spells.{number, gap}
-use Rattle.dbus_types.specs.Spelling.{Spelled, spelling, spellings}
-use Rattle.dbus_types.proofs.OneSpelling.{roll_array}
+use Rattle.dbus_values.specs.Spells.{number, gap}
+use Rattle.dbus_values.specs.Spelling.{Spelled, spelling, spellings}
+use Rattle.dbus_values.proofs.OneSpelling.{roll_array}
 use Rattle.dbus_marshal.proofs.TakenFronts.{four, number_len}
 use Rattle.dbus_message.specs.Fields.{field_type}
 use Rattle.dbus_message.proofs.WrittenAreMessages.{field_alignment}

@@ -6,7 +6,7 @@ use Rattle.dbus_types.specs.declared.types.WireType.TheVariants as W
 use Rattle.dbus_types.specs.declared.types.Value.{Value}
 use Rattle.dbus_types.specs.declared.types.Value.TheVariants as V
 use Rattle.dbus_types.specs.Types.{IsSignature}
-use Rattle.dbus_types.specs.Spells.{Spells}
+use Rattle.dbus_values.specs.Spells.{Spells}
 use Rattle.dbus_message.specs.declared.error.MessageError.{MessageError}
 use Rattle.dbus_message.specs.declared.error.MessageError.TheVariants.{Bad, Memory}
 use Rattle.dbus_message.specs.declared.content.Content.{Content}

@@ -5,7 +5,7 @@ use Rattle.dbus_types.specs.declared.types.Endian.{Endian}
 use Rattle.dbus_types.specs.declared.types.WireType.{WireType}
 use Rattle.dbus_types.specs.declared.types.Value.{Value}
 use Rattle.dbus_types.specs.Types.{IsSignature}
-use Rattle.dbus_types.specs.Spells.{Spells, Members}
+use Rattle.dbus_values.specs.Spells.{Spells, Members}
 
 -- The bytes are the spellings of the values of these types, one after another. Offsets count from
 -- the body's first byte, which stands at a multiple of 8.

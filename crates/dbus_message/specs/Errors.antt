@@ -1,7 +1,7 @@
 -- Errors of values as errors of messages.
 use Rattle.std.specs.Prelude.{ℕ}
-use Rattle.dbus_marshal.specs.declared.error.ReadError.{ReadError}
-use Rattle.dbus_marshal.specs.declared.error.ReadError.TheVariants as R
+use Rattle.dbus_basic.specs.declared.error.ReadError.{ReadError}
+use Rattle.dbus_basic.specs.declared.error.ReadError.TheVariants as R
 use Rattle.dbus_message.specs.declared.error.MessageError.{MessageError}
 use Rattle.dbus_message.specs.declared.error.MessageError.TheVariants.{Bad, Memory}
 

@@ -6,7 +6,7 @@ use Rattle.dbus_types.specs.declared.types.Value.{Value, out-Value}
 use Rattle.dbus_types.specs.declared.types.Value.TheVariants as V
 use Rattle.dbus_types.specs.declared.types.Value.TheOpen.{Value-F}
 use Rattle.dbus_types.specs.Names.{is_interface_name, is_member_name}
-use Rattle.dbus_types.specs.Spells.{Spells}
+use Rattle.dbus_values.specs.Spells.{Spells}
 use Rattle.dbus_message.specs.Header.{endian_of, field_bytes}
 use Rattle.dbus_marshal.specs.Reads.{members_of, has_code_to}
 -- a field is `(yv)`: a byte that is its code, and its value in a variant

@@ -3,8 +3,8 @@ use Rattle.std.specs.Prelude.{ℕ, ◌+◌, ◌==◌, List, take, drop, slice_in
 use Rattle.std.specs.Int.{w32}
 use Rattle.dbus_types.specs.declared.types.Endian.{Endian}
 use Rattle.dbus_types.specs.declared.types.Endian.TheVariants.{Little, Big}
-use Rattle.dbus_marshal.specs.Reads.{from_number}
-use Rattle.dbus_types.specs.Spells.{gap}
+use Rattle.dbus_basic.specs.Fields.{from_number}
+use Rattle.dbus_values.specs.Spells.{gap}
 
 -- the number of 32 bits at an offset
 abbrev pub number_at : Endian → List ℕ → ℕ → ℕ

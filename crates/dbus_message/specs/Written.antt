@@ -8,9 +8,9 @@ use Rattle.dbus_types.specs.declared.types.Value.{Value}
 use Rattle.dbus_types.specs.declared.types.Value.TheVariants as V
 use Rattle.dbus_types.specs.Names.{is_path, is_interface_name, is_member_name}
 use Rattle.dbus_types.specs.Types.{types_text}
-use Rattle.dbus_types.specs.Values.{type_of, KeepsRules}
-use Rattle.dbus_types.specs.Spells.{Spells, number, gap}
-use Rattle.dbus_types.specs.Spelling.{spelling, spellings}
+use Rattle.dbus_values.specs.Values.{type_of, KeepsRules}
+use Rattle.dbus_values.specs.Spells.{Spells, number, gap}
+use Rattle.dbus_values.specs.Spelling.{spelling, spellings}
 use Rattle.dbus_types.specs.declared.message.Message.{Message}
 use Rattle.dbus_types.specs.declared.message.OutMessage.{OutMessage}
 use Rattle.dbus_types.specs.declared.message.OutMessage.TheVariants.{Return, Error, Signal}

@@ -6,8 +6,8 @@ ghost use Rattle.std.specs.Prelude.{◌≡◌, ◌≢◌, ◌++◌, ◌==◌, []
 ghost use Rattle.std.specs.Int.{w32};
 ghost use Rattle.dbus_types.specs.declared.types.Endian.TheVariants.{Little};
 ghost use Rattle.dbus_types.specs.declared.types.Value.TheVariants as V;
-ghost use Rattle.dbus_types.specs.Spells.{number};
-ghost use Rattle.dbus_types.specs.Spelling.{spelling, spellings};
+ghost use Rattle.dbus_values.specs.Spells.{number};
+ghost use Rattle.dbus_values.specs.Spelling.{spelling, spellings};
 ghost use Rattle.dbus_message.specs.Fields.{field_type};
 ghost use Rattle.dbus_message.specs.Messages.{IsMessage};
 ghost use Rattle.dbus_message.specs.Written.{last_part as part_after, kind_out, body_out, return_fields, fields_out, IsWritten, CanWrite, stands_for};

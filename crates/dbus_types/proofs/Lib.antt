@@ -8,10 +8,3 @@ pub mod ReadingStops
 pub mod WholeSignatures
 pub mod OneTypeRead
 pub mod OneBreak
-pub mod Ascii
-pub mod ListFronts
-pub mod LimitsByLayer
-pub mod PackedBytes
-pub mod OneSpelling
-pub mod SpelledType
-pub mod Lengths

@@ -1,9 +1,5 @@
 pub mod Types
-pub mod Extends
 pub mod Reading
 pub mod Breaks
 pub mod Names
-pub mod Values
-pub mod Spells
-pub mod Spelling
 pub mod formers

@@ -12,6 +12,7 @@ use std::alloc::Global;
 pub fn ended_path(alloc: Global, bytes: &[u8]) -> Result<Option<HostPath>, WantOfMemory>
     ensures { IfOk result (λ path. path ≡ path_if_ended bytes.now) }
 {
+    // A path without the zero byte that ends it is refused as one that is none.
     if !has_end(bytes) {
         return Ok(None);
     }

@@ -157,6 +157,8 @@ fn give_rights<K: Keeper>(
     ensures grants { OnErr result (grants.new ≡ grants.old) }
     ensures keeper { OnErr result (KeeperStays (K.is keeper.old) (K.is keeper.new)) }
 {
+    // The rights are added first, the record is built from them, and only what was new is taken
+    // back.
     let gained = plan.rights.minus(grants.rights(&plan.app, plan.id));
     let kept = is_kept(documents, plan.id) && !gained.is_empty();
     grants.add(&plan.app, plan.id, plan.rights)?;

@@ -147,6 +147,7 @@ fn by_number(list: List<ListedDocument>) -> List<ListedDocument>
     ensures same { IsPermutation list result }
     ensures order { IsNonDecreasingBy number_listed result }
 {
+    // A listing goes by number, whatever the order in which documents were added.
     let mut items = list.into_vec();
     items.sort_unstable_by_key(|document| document.id.number);
     List::from_vec(items)

@@ -69,6 +69,8 @@ fn take<K: Keeper>(
     ensures grants { OnErr result (grants.new ≡ grants.old) }
     ensures keeper { OnErr result (KeeperStays (K.is keeper.old) (K.is keeper.new)) }
 {
+    // The record is built from the rights as they will be, and they go once the keeper has it:
+    // taking rights wants no memory.
     let change = loss(documents, grants, plan)?;
     let failed = keep_change(alloc, keeper, change)?;
     if !failed {

@@ -6,3 +6,8 @@ pub mod GrantsTogether
 mod AsciiTexts
 pub mod HeldInDocument
 pub mod KeptDocuments
+pub mod NameLemmas
+pub mod Loops
+pub mod OpeningRights
+pub mod ValidNames
+pub mod FreshItems

@@ -4,3 +4,4 @@ pub mod DocumentIndex
 pub mod Documents
 pub mod Grants
 pub mod Holdings
+pub mod Given

@@ -44,6 +44,7 @@ pub struct Documents {
     most_made: u64,
     live: List<Document>,
     made: List<DocId>,
+    // The list has the order in which they were made, which contracts see; the set finds them.
     /// The made numbers, to be looked up.
     numbers: BTreeSet<u32>,
 }
@@ -87,6 +88,8 @@ impl Documents {
         ensures room { result ≡ room self.now }
         ensures kept { AreKept self.now }
     {
+        // A caller can look at the limit before it draws a word: an addition is refused exactly
+        // where there is no room.
         room(self.most_live, self.most_made, &self.live, &self.made)
     }
 
@@ -125,6 +128,8 @@ impl Documents {
     pub fn unused_from(&self, word: u32) -> DocId
         ensures { IsUnused self.now.made word result.number }
     {
+        // As many look-ups as made numbers are in the way, and one more. There is a free one,
+        // since fewer than 2^32 may be made.
         let mut number = word;
         while self.numbers.contains(&number) {
             number = number.wrapping_add(1);

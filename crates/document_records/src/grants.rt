@@ -36,6 +36,8 @@ pub struct Grant {
 #[derive(Drop)]
 pub struct Grants {
     alloc: Global,
+    // In order of the number and then of the name, whatever way they came: so they are found by
+    // halving.
     grants: Vec<Grant>,
 }
 

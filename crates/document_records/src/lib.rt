@@ -4,7 +4,8 @@
 //!
 //! **It promises** that each is the list of its definition after every call, equal
 //! in every place that the call doesn't name; `Full` comes exactly at a limit; a
-//! removed document's number stays made; a refusal changes nothing.
+//! removed document's number stays made; a refusal changes nothing. The lists that an
+//! opening state begins with are those that the definitions make of it.
 //!
 //! | Room | Holds |
 //! |---|---|
@@ -13,6 +14,11 @@
 //! | `holdings` | the rights in a document, as they are told and as they are kept |
 //! | `texts` | identifiers and names as texts |
 //! | `applications` | [`Applications`]: the numbers of applications, from 1 |
+//! | `opening` | the lists of an opening state, with the four below |
+//! | `live` | its live documents, with the numbers that were made |
+//! | `granted` | the rights that are held in them |
+//! | `numbered` | the numbers of applications |
+//! | `known` | names by texts that are known to be such |
 //!
 //! ```text
 //! let id = documents.unused_from(word);
@@ -26,8 +32,13 @@
 
 pub mod applications;
 pub mod documents;
+mod granted;
 pub mod grants;
 mod holdings;
+mod known;
+mod live;
+mod numbered;
+pub mod opening;
 mod texts;
 
 pub use applications::Applications;

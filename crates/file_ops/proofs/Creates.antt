@@ -26,16 +26,16 @@ use Rattle.portal_model.specs.State.{State}
 use Rattle.portal_model.specs.Walk.{AtPath, Ends, Looks, Makes, Walk, is_found}
 use Rattle.app_view.specs.Books.{Lends}
 use Rattle.file_ops.specs.Creates.{Opening, OpeningBehind, made_walk, target_walk}
-use Rattle.file_ops.specs.Done.{Does, room_in}
-use Rattle.file_ops.specs.OpenHandles.{Handled}
+use Rattle.node_looks.specs.Done.{Does, room_in}
+use Rattle.node_looks.specs.OpenHandles.{Handled}
 use Rattle.file_ops.specs.Tries.{Goes, done_behind, done_of_ended, ended_by, refuses}
 use Rattle.file_ops.specs.declared.created.Target.{Target as NewTarget}
-use Rattle.file_ops.specs.declared.served.FileBook.{FileBook}
-use Rattle.file_ops.specs.declared.served.NodeCall.{NodeCall}
-use Rattle.file_ops.specs.declared.served.NodeDone.{NodeDone}
+use Rattle.node_looks.specs.declared.served.FileBook.{FileBook}
+use Rattle.node_looks.specs.declared.served.NodeCall.{NodeCall}
+use Rattle.node_looks.specs.declared.served.NodeDone.{NodeDone}
 use Rattle.file_ops.specs.declared.tried.Came.TheVariants as came
 use Rattle.file_ops.specs.declared.tried.Ended.{Ended}
-use Rattle.file_ops.proofs.DoneLemmas.{IsExact, done-in, handled-after, handles-stay, room-is, room-stays, walk-is}
+use Rattle.node_looks.proofs.DoneLemmas.{IsExact, done-in, handled-after, handles-stay, room-is, room-stays, walk-is}
 use Rattle.file_ops.proofs.Tries.{behind-goes, ends-done, ends-failed, ends-missing, goes-done, refuses-goes, shows-path}
 
 -- ---- a file that isn't there

@@ -1,13 +1,6 @@
-mod NumberedNames
-mod SeenNumbers
-mod Follow
-mod OpenTable
-mod DoneLemmas
-mod OpenFiles
 mod OneLook
 mod OpenedDirs
 mod Tries
 mod Sets
 mod Creates
 mod Openings
-mod FoundBytes

@@ -12,11 +12,11 @@ use Rattle.portal_model.specs.declared.request.NodeOp.{NodeOp}
 use Rattle.portal_model.specs.Node.{files_after}
 use Rattle.portal_model.specs.NodeVerdict.{FileChange, FilesStay, HandleChange, HandlesStay, NodeVerdict, Errs, OnFile, Yields, at_file, if_file}
 use Rattle.portal_model.specs.Walk.{Answers, AtPath, Ends, Gives, IsShown, Looks, Walk, reads_clock, walked}
-use Rattle.file_ops.specs.Done.{DoneBy, answer_of, done_with, file_change, handle_change}
-use Rattle.file_ops.specs.OpenHandles.{Handled}
-use Rattle.file_ops.specs.TreeCalls.{Calling, WasCalled, calls_of, with_files}
-use Rattle.file_ops.specs.Walks.{ComesTo, ComesToBehind}
-use Rattle.file_ops.proofs.DoneLemmas.{IsExact, handles-stay, same-answer, told-still}
+use Rattle.node_looks.specs.Done.{DoneBy, answer_of, done_with, file_change, handle_change}
+use Rattle.node_looks.specs.OpenHandles.{Handled}
+use Rattle.node_looks.specs.TreeCalls.{Calling, WasCalled, calls_of, with_files}
+use Rattle.node_looks.specs.Walks.{ComesTo, ComesToBehind}
+use Rattle.node_looks.proofs.DoneLemmas.{IsExact, handles-stay, same-answer, told-still}
 
 -- ---- the call
 

@@ -21,17 +21,17 @@ use Rattle.portal_model.specs.State.{State}
 use Rattle.portal_model.specs.Walk.{Answers, AtPath, Looks, Walk}
 use Rattle.app_view.specs.Books.{Lends}
 use Rattle.app_view.specs.Entries.{behind_look, opened_with}
-use Rattle.file_ops.specs.Done.{Does, DoneBy, Wants, done_with, room_in}
-use Rattle.file_ops.specs.OpenHandles.{Handled}
+use Rattle.node_looks.specs.Done.{Does, DoneBy, Wants, done_with, room_in}
+use Rattle.node_looks.specs.OpenHandles.{Handled}
 use Rattle.file_ops.specs.OpenedFolders.{ListsBehind, path_in}
-use Rattle.file_ops.specs.TreeCalls.{WasCalled}
-use Rattle.file_ops.specs.declared.asked.Asked.{Asked}
-use Rattle.file_ops.specs.declared.served.FileBook.{FileBook}
-use Rattle.file_ops.specs.declared.served.NodeCall.{NodeCall}
-use Rattle.file_ops.specs.declared.served.NodeDone.{NodeDone}
-use Rattle.file_ops.proofs.DoneLemmas.{as-op, done-in, handled-after, room-is, room-stays, walk-is}
+use Rattle.node_looks.specs.TreeCalls.{WasCalled}
+use Rattle.node_looks.specs.declared.asked.Asked.{Asked}
+use Rattle.node_looks.specs.declared.served.FileBook.{FileBook}
+use Rattle.node_looks.specs.declared.served.NodeCall.{NodeCall}
+use Rattle.node_looks.specs.declared.served.NodeDone.{NodeDone}
+use Rattle.node_looks.proofs.DoneLemmas.{as-op, done-in, handled-after, room-is, room-stays, walk-is}
 use Rattle.file_ops.proofs.OneLook.{failed-by, looked-by}
-use Rattle.file_ops.proofs.OpenTable.{stay-open}
+use Rattle.node_looks.proofs.OpenTable.{stay-open}
 
 -- ---- the folder of a document, behind its look
 

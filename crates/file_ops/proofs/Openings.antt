@@ -22,17 +22,17 @@ use Rattle.portal_model.specs.Place.{place_of}
 use Rattle.portal_model.specs.State.{State}
 use Rattle.portal_model.specs.Walk.{Answers, AtPath, Changes, Ends, Looks, Walk}
 use Rattle.app_view.specs.Books.{Lends}
-use Rattle.file_ops.specs.Done.{Does, Wants, room_in}
-use Rattle.file_ops.specs.OpenHandles.{Handled}
+use Rattle.node_looks.specs.Done.{Does, Wants, room_in}
+use Rattle.node_looks.specs.OpenHandles.{Handled}
 use Rattle.file_ops.specs.Creates.{Opening, OpeningBehind}
 use Rattle.file_ops.specs.Tries.{Goes, done_behind, done_of_ended, ended_by}
-use Rattle.file_ops.specs.declared.served.FileBook.{FileBook}
-use Rattle.file_ops.specs.declared.served.NodeCall.{NodeCall}
-use Rattle.file_ops.specs.declared.served.NodeDone.{NodeDone}
+use Rattle.node_looks.specs.declared.served.FileBook.{FileBook}
+use Rattle.node_looks.specs.declared.served.NodeCall.{NodeCall}
+use Rattle.node_looks.specs.declared.served.NodeDone.{NodeDone}
 use Rattle.file_ops.specs.declared.tried.Came.TheVariants as came
 use Rattle.file_ops.specs.declared.tried.Ended.{Ended}
-use Rattle.file_ops.proofs.DoneLemmas.{IsExact, done-in, handled-after, handles-stay, room-is, room-stays, walk-is}
-use Rattle.file_ops.proofs.OpenTable.{stay-open}
+use Rattle.node_looks.proofs.DoneLemmas.{IsExact, done-in, handled-after, handles-stay, room-is, room-stays, walk-is}
+use Rattle.node_looks.proofs.OpenTable.{stay-open}
 use Rattle.file_ops.proofs.Tries.{behind-goes, called-behind, ends-failed, ends-missing, goes-done, shows-path}
 
 -- ---- where room was taken first

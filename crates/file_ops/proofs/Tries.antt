@@ -27,7 +27,7 @@ use Rattle.portal_model.specs.NodeVerdict.{NodeVerdict, Errs, FileChange, FilesS
 use Rattle.portal_model.specs.Place.{Folder, Sight, SightOfFolder, place_of}
 use Rattle.portal_model.specs.Walk.{AtPath, Ends, Gives, IsFound, IsShown, LastCall, Looks, Named, Target, Walk, changes_file, is_found, look_of_file}
 use Rattle.app_view.specs.declared.book.ViewBook.{ViewBook}
-use Rattle.file_ops.specs.TreeCalls.{Calling, CallsAsTold, WasCalled, after_calls, with_files}
+use Rattle.node_looks.specs.TreeCalls.{Calling, CallsAsTold, WasCalled, after_calls, with_files}
 use Rattle.open_handles.specs.Opened.{HandleTable, handle_of as handle_in, opened_on}
 use Rattle.portal_model.specs.declared.handle.Handle.{Handle}
 use Rattle.portal_model.specs.declared.request.NodeOp.{NodeOp}
@@ -35,16 +35,16 @@ use Rattle.portal_model.specs.SetAttr.{SetsAttr, set_attr}
 use Rattle.portal_model.specs.State.{State, handle_of}
 use Rattle.portal_model.specs.Write.{write}
 use Rattle.app_view.specs.Books.{Lends}
-use Rattle.file_ops.specs.Walks.{ComesToBehind}
-use Rattle.file_ops.specs.declared.served.FileBook.{FileBook}
-use Rattle.file_ops.specs.declared.served.NodeCall.{NodeCall}
-use Rattle.file_ops.specs.Done.{Does, DoneBy, answer_of, file_change, handle_change}
-use Rattle.file_ops.specs.OpenHandles.{Handled}
-use Rattle.file_ops.proofs.DoneLemmas.{IsExact, done-in, handle-is, handles-stay, same-answer, walk-is}
-use Rattle.file_ops.specs.Sights.{sight_of}
+use Rattle.node_looks.specs.Walks.{ComesToBehind}
+use Rattle.node_looks.specs.declared.served.FileBook.{FileBook}
+use Rattle.node_looks.specs.declared.served.NodeCall.{NodeCall}
+use Rattle.node_looks.specs.Done.{Does, DoneBy, answer_of, file_change, handle_change}
+use Rattle.node_looks.specs.OpenHandles.{Handled}
+use Rattle.node_looks.proofs.DoneLemmas.{IsExact, done-in, handle-is, handles-stay, same-answer, walk-is}
+use Rattle.node_looks.specs.Sights.{sight_of}
 use Rattle.file_ops.specs.Tries.{Goes, GoesBehind, ShowsAt, done_behind, done_of_ended, ended_by, fault_of_call, found_nothing, refuses, says, shown_behind, tree_done}
-use Rattle.file_ops.specs.declared.served.NodeDone.{NodeDone}
-use Rattle.file_ops.specs.declared.sight.SeenPlace.{SeenPlace}
+use Rattle.node_looks.specs.declared.served.NodeDone.{NodeDone}
+use Rattle.node_looks.specs.declared.sight.SeenPlace.{SeenPlace}
 use Rattle.file_ops.specs.declared.tried.Came.{Came}
 use Rattle.file_ops.specs.declared.tried.Came.TheVariants as came
 use Rattle.file_ops.specs.declared.tried.CallMade.{CallMade}

@@ -10,10 +10,10 @@ use Rattle.portal_model.specs.Create.{create_there}
 use Rattle.portal_model.specs.Errno.{eio, emfile, enotdir}
 use Rattle.portal_model.specs.NodeVerdict.{NodeVerdict, HandleChange, HandlesStay, Room, at_file, errs, errs_if, errs_on_file}
 use Rattle.portal_model.specs.Walk.{AtPath, Looks, Walk}
-use Rattle.file_ops.specs.OpenHandles.{Handled}
+use Rattle.node_looks.specs.OpenHandles.{Handled}
 use Rattle.file_ops.specs.Tries.{Goes, done_of_ended, refuses}
 use Rattle.file_ops.specs.declared.created.Target.{Target}
-use Rattle.file_ops.specs.declared.served.NodeDone.{NodeDone}
+use Rattle.node_looks.specs.declared.served.NodeDone.{NodeDone}
 use Rattle.file_ops.specs.declared.tried.Ended.{Ended}
 
 -- ---- by the target

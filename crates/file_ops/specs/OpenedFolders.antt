@@ -16,8 +16,8 @@ use Rattle.portal_model.specs.Place.{FolderOf, RootOf, Sight, SightOfFile, Sight
 use Rattle.portal_model.specs.Walk.{Answers}
 use Rattle.app_view.specs.Entries.{behind_look, opened_with}
 use Rattle.open_handles.specs.Opened.{HandleTable}
-use Rattle.file_ops.specs.Done.{room_in}
-use Rattle.file_ops.specs.OpenHandles.{Handled}
+use Rattle.node_looks.specs.Done.{room_in}
+use Rattle.node_looks.specs.OpenHandles.{Handled}
 
 -- the folder that is seen is opened with the entries that it has where a look shows this
 pub record Lists (r : NodeRequest) (sight : Option Sight) (seat : ℕ) (shown : Look)

@@ -16,10 +16,10 @@ use Rattle.portal_model.specs.Errno.{eio, enoent}
 use Rattle.portal_model.specs.Node.{files_after}
 use Rattle.portal_model.specs.NodeVerdict.{NodeVerdict, HandleChange, HandlesStay}
 use Rattle.portal_model.specs.Walk.{Gives, IsShown, Target, Walk, reads_clock, walked}
-use Rattle.file_ops.specs.Done.{answer_of, file_change, handle_change}
-use Rattle.file_ops.specs.TreeCalls.{Calling, calls_of}
-use Rattle.file_ops.specs.Walks.{taken}
-use Rattle.file_ops.specs.declared.served.NodeDone.{NodeDone}
+use Rattle.node_looks.specs.Done.{answer_of, file_change, handle_change}
+use Rattle.node_looks.specs.TreeCalls.{Calling, calls_of}
+use Rattle.node_looks.specs.Walks.{taken}
+use Rattle.node_looks.specs.declared.served.NodeDone.{NodeDone}
 use Rattle.file_ops.specs.declared.tried.Came.{Came}
 use Rattle.file_ops.specs.declared.tried.Came.TheVariants as came
 use Rattle.file_ops.specs.declared.tried.CallMade.{CallMade}

@@ -16,22 +16,22 @@ ghost use Rattle.portal_model.specs.State.{State};
 ghost use Rattle.app_view.specs.Books.{Lends};
 ghost use Rattle.app_view.specs.declared.book.ViewBook.{ViewBook};
 ghost use Rattle.file_ops.specs.Creates.{Opening, OpeningBehind, made_walk, target_walk};
-ghost use Rattle.file_ops.specs.Done.{Does, Reads, Wants, room_in};
-ghost use Rattle.file_ops.specs.OpenHandles.{Handled};
-ghost use Rattle.file_ops.specs.Sights.{sight_of, view_of};
-ghost use Rattle.file_ops.specs.TreeCalls.{WasCalled};
+ghost use Rattle.node_looks.specs.Done.{Does, Reads, Wants, room_in};
+ghost use Rattle.node_looks.specs.OpenHandles.{Handled};
+ghost use Rattle.node_looks.specs.Sights.{sight_of, view_of};
+ghost use Rattle.node_looks.specs.TreeCalls.{WasCalled};
 ghost use Rattle.file_ops.specs.Tries.{done_of_ended, done_of_tried, moment_of};
 
-use crate::attributes::attr_of_file;
-use crate::entry::{is_name_of, is_too_long};
-use crate::handed::{hand_out, take_room};
-use crate::open_flags::{file_handle, has_no_mode};
-use crate::served::{FileBook, NodeCall, NodeDone};
-use crate::sight::{SeenPlace, seen_place};
 use crate::tried::{Came, Ended, Tried, came_of, room_for_looks};
 use app_view::{SeenDocument, ViewBook, node_of};
 use host_tree::{HostTree, LookAnswer};
+use node_looks::attributes::attr_of_file;
+use node_looks::entry::{is_name_of, is_too_long};
+use node_looks::handed::{hand_out, take_room};
+use node_looks::served::{FileBook, NodeCall, NodeDone};
+use node_looks::sight::{SeenPlace, seen_place};
 use open_handles::Handles;
+use open_handles::open_flags::{file_handle, has_no_mode};
 use portal_base::files::{FileName, Look};
 use portal_base::memory::{Replica, WantOfMemory};
 use portal_base::names::HostPath;
@@ -137,6 +137,8 @@ fn target_in<'a>(view: u32, seen: SeenDocument<'a>, name: &[u8]) -> Target<'a>
         create_in r name.now flags room (FolderOf view seen.entry.document.now.id.number
         seen.entry.document.now.path seen.entry.may_write) ≡ target_walk r flags room result }
 {
+    // In a document's folder some file may be made, so another name is denied; where none may,
+    // making one isn't permitted at all.
     if !is_name_of(&seen.document.path, name) {
         return Target::Refused(EACCES);
     }
@@ -178,6 +180,8 @@ fn make<T: HostTree, C: Clock>(
         Target::Refused(errno) => Ok(Tried::unlooked(Ended::refused(errno))),
         Target::File(path) => Ok(Tried::refused_on_file(tree, path, ENOTDIR)),
         Target::New { path, node } => {
+            // Where no handle can be had nothing is to be made, so the room for it comes ahead of
+            // the call.
             let free = take_room(handles, call.seat)?;
             if free {
                 make_new(alloc, handles, tree, clock, call, flags, path, node)
@@ -211,6 +215,7 @@ fn make_new<T: HostTree, C: Clock>(
         (Handled call.now.seat HandlesStay handles.old handles.new) }
     ensures clock_err { OnErr result (C.told clock.new ≡ C.told clock.old) }
 {
+    // Memory for the handle's path is taken ahead of the call that makes the file.
     let path_copy = path.replica(alloc)?;
     let look = tree.look(path);
     let file = FileName {
@@ -251,6 +256,7 @@ fn make_looked<T: HostTree, C: Clock>(
 {
     match look {
         LookAnswer::Is(Look::Missing) => make_file(handles, tree, clock, call, flags, file, node),
+        // Also without O_EXCL: a kernel looks the name up first, and opens what it finds.
         LookAnswer::Is(Look::Folder | Look::File { .. }) => Ok(Ended::refused(EEXIST)),
         LookAnswer::Failed => Ok(Ended::refused(EIO)),
     }

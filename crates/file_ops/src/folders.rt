@@ -13,17 +13,17 @@ ghost use Rattle.portal_model.specs.State.{State};
 ghost use Rattle.app_view.specs.Books.{Lends};
 ghost use Rattle.app_view.specs.Places.{IsFolder};
 ghost use Rattle.app_view.specs.declared.book.ViewBook.{ViewBook};
-ghost use Rattle.file_ops.specs.Done.{Does, DoneBy, Wants, done_with, room_in};
+ghost use Rattle.node_looks.specs.Done.{Does, DoneBy, Wants, done_with, room_in};
 ghost use Rattle.file_ops.specs.OpenedFolders.{Lists, ListsBehind, path_in};
-ghost use Rattle.file_ops.specs.Sights.{sight_of};
+ghost use Rattle.node_looks.specs.Sights.{sight_of};
 
-use crate::asked::{Asked, done, refusal, refusal_on_file, room_for_look};
-use crate::handed::{hand_out, take_room};
-use crate::served::{FileBook, NodeCall, NodeDone};
-use crate::sight::{SeenPlace, seen_at};
 use app_view::{ViewBook, listing, place_of};
 use document_records::Document;
 use host_tree::{HostTree, LookAnswer};
+use node_looks::asked::{Asked, done, refusal, refusal_on_file, room_for_look};
+use node_looks::handed::{hand_out, take_room};
+use node_looks::served::{FileBook, NodeCall, NodeDone};
+use node_looks::sight::{SeenPlace, seen_at};
 use open_handles::{Handle, Handles};
 use portal_base::files::Look;
 use portal_base::memory::WantOfMemory;
@@ -203,6 +203,8 @@ fn listed(
         look handles.old answer handles.new) }
     ensures err { OnErr result (handles.new ≡ handles.old) }
 {
+    // The handle keeps the listing of this moment, so that the offsets which the kernel reads on
+    // from go on to mean the same entries.
     let names = listing(alloc, book, call.who, place, look)?;
     let handle = Handle::Folder {
         node: call.request.node,

@@ -54,6 +54,8 @@ pub(crate) fn look_named<T: HostTree>(tree: &mut T, name: &FileName) -> LookAnsw
     ensures asks { Asks (T.is tree.old) (is_look_fault result) (T.is tree.new) }
     ensures shows { ShowsAt (T.is tree.old).told (Named name.now) result }
 {
+    // The file is told by its path: what the host puts there under the same path is the same file
+    // to a handle.
     match tree.attr(name) {
         AttrAnswer::Is { size, moment } => LookAnswer::Is(Look::File {
             generation: name.generation,

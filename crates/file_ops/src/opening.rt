@@ -1,28 +1,28 @@
 //! FUSE_OPEN: a file is opened, by the flags of open(2).
 
-ghost use Rattle.std.specs.Prelude.{◌≡◌, ◌&&◌, ℕ, IfOk, IsSome, IsSomeAnd, OnErr, false, not, true};
+ghost use Rattle.std.specs.Prelude.{◌≡◌, ℕ, IfOk, IsSome, IsSomeAnd, OnErr, false, true};
 ghost use Rattle.host_tree.specs.Trees.{is_look_fault};
 ghost use Rattle.open_handles.specs.Opened.{CanAdd, opened_on};
 ghost use Rattle.portal_model.specs.declared.reply.NodeAnswer.TheVariants as NodeAnswer;
 ghost use Rattle.portal_model.specs.declared.request.NodeOp.TheVariants as NodeOp;
 ghost use Rattle.portal_model.specs.NodeVerdict.{Opens, at_file, if_file, next_handle};
-ghost use Rattle.portal_model.specs.Open.{file_handle, open_file, open_name, open_node, opens_to_write, truncates};
+ghost use Rattle.portal_model.specs.Open.{file_handle, open_file, open_name, open_node, truncates};
 ghost use Rattle.portal_model.specs.Place.{place_of};
 ghost use Rattle.portal_model.specs.State.{State};
 ghost use Rattle.app_view.specs.Books.{Lends};
-ghost use Rattle.file_ops.specs.Done.{Does, Reads, Wants, room_in};
-ghost use Rattle.file_ops.specs.OpenHandles.{Handled};
+ghost use Rattle.node_looks.specs.Done.{Does, Reads, Wants, room_in};
+ghost use Rattle.node_looks.specs.OpenHandles.{Handled};
 ghost use Rattle.file_ops.specs.Creates.{Opening, OpeningBehind};
 ghost use Rattle.file_ops.specs.Tries.{done_of_ended, done_of_tried, moment_of};
 
-use crate::handed::{hand_out, take_room};
-use crate::open_flags::{file_handle, has_no_mode, opens_to_write, truncates};
-use crate::served::{FileBook, NodeCall, NodeDone};
-use crate::sight::{SeenPlace, seen_place};
 use crate::tried::{Came, Ended, Tried, came_of, room_for_looks};
 use app_view::{SeenDocument, ViewBook};
 use host_tree::{HostTree, LookAnswer};
+use node_looks::handed::{hand_out, take_room};
+use node_looks::served::{FileBook, NodeCall, NodeDone};
+use node_looks::sight::{SeenPlace, seen_place};
 use open_handles::Handles;
+use open_handles::open_flags::{file_handle, has_no_mode, is_denied, truncates};
 use portal_base::files::{FileName, Look};
 use portal_base::memory::{Replica, WantOfMemory};
 use portal_base::outside::Clock;
@@ -178,17 +178,11 @@ fn open_shown<T: HostTree, C: Clock>(
         path: seen.document.path.replica(alloc)?,
         generation,
     };
+    // It comes ahead of O_TRUNC: where no handle can be had nothing is cut.
     if !take_room(handles, call.seat)? {
         return Ok(Ended::refused(EMFILE));
     }
     open_name(handles, tree, clock, call, flags, name)
-}
-
-/// Says whether a file is opened to be changed by one who may not write it.
-fn is_denied(flags: u32, may_write: bool) -> bool
-    ensures { result ≡ (opens_to_write flags && not may_write) }
-{
-    opens_to_write(flags) && !may_write
 }
 
 /// How the request ends on a file for which there is room among the handles.

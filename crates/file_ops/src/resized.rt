@@ -10,20 +10,20 @@ ghost use Rattle.portal_model.specs.Place.{Folder, place_of};
 ghost use Rattle.portal_model.specs.SetAttr.{set_attr, set_attr_at, set_attr_of, set_attr_of_folder, set_attr_open, sets_by_handle, sets_owner_or_mode, sets_size};
 ghost use Rattle.portal_model.specs.State.{State};
 ghost use Rattle.app_view.specs.Books.{Lends};
-ghost use Rattle.file_ops.specs.Done.{Does, Reads};
+ghost use Rattle.node_looks.specs.Done.{Does, Reads};
 ghost use Rattle.file_ops.specs.Opened.{by_open_file};
 ghost use Rattle.file_ops.specs.Sets.{generation_of, set_subject, sets_length, sets_of};
-ghost use Rattle.file_ops.specs.Sights.{sight_of};
-ghost use Rattle.file_ops.specs.TreeCalls.{WasCalled};
+ghost use Rattle.node_looks.specs.Sights.{sight_of};
+ghost use Rattle.node_looks.specs.TreeCalls.{WasCalled};
 ghost use Rattle.file_ops.specs.Tries.{Goes, GoesBehind, done_of_ended, done_of_tried, moment_of};
 
-use crate::attributes::{attr_of_file, attr_of_folder};
 use crate::opened::{OpenFile, look_named, open_file};
-use crate::served::{FileBook, NodeCall, NodeDone};
-use crate::sight::{SeenPlace, seen_place};
 use crate::tried::{Ended, Tried, came_of, room_for_looks};
 use app_view::ViewBook;
 use host_tree::{HostTree, LookAnswer};
+use node_looks::attributes::{attr_of_file, attr_of_folder};
+use node_looks::served::{FileBook, NodeCall, NodeDone};
+use node_looks::sight::{SeenPlace, seen_place};
 use portal_base::files::{FileName, Look};
 use portal_base::memory::{Replica, WantOfMemory};
 use portal_base::names::HostPath;
@@ -109,6 +109,7 @@ fn set<T: HostTree, C: Clock>(
     ensures err { OnErr result (WasCalled (T.is tree.old) (T.is tree.new)) }
     ensures clock_err { OnErr result (C.told clock.new ≡ C.told clock.old) }
 {
+    // Times are passed over instead: a program that sets them behind a write is to go on.
     if sets_owner_or_mode(setting.valid) {
         return Ok(Tried::unlooked(Ended::refused(EPERM)));
     }
@@ -277,6 +278,7 @@ fn set_size<T: HostTree, C: Clock>(
     if !subject.may_write {
         return Ok(Ended::refused(subject.denial));
     }
+    // The limit binds new lengths, and not what the tree has already.
     if setting.size > setting.limit {
         return Ok(Ended::refused(EFBIG));
     }

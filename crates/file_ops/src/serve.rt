@@ -2,24 +2,18 @@
 
 ghost use Rattle.std.specs.Prelude.{◌≡◌, IfOk, IsSome, OnErr, false};
 ghost use Rattle.open_handles.specs.Opened.{opened_on};
-ghost use Rattle.file_ops.specs.Done.{Does, Reads, Wants};
+ghost use Rattle.node_looks.specs.Done.{Does, Reads, Wants};
 ghost use Rattle.file_ops.specs.Wanting.{may_call_in_vain, may_change_file};
 
-use crate::checked::access;
-use crate::contents::read;
 use crate::created::create;
-use crate::described::get_attr;
-use crate::entry::lookup;
 use crate::folders::open_dir;
-use crate::forgotten::forget;
-use crate::listed::read_dir;
 use crate::opening::open;
-use crate::released::{release, release_dir};
 use crate::resized::set_attr;
-use crate::served::{FileBook, NodeCall, NodeDone};
-use crate::synced::{flush, fsync};
 use crate::written::write;
 use host_tree::HostTree;
+use node_looks::entry::lookup;
+use node_looks::served::{FileBook, NodeCall, NodeDone};
+use node_looks::{access, flush, forget, fsync, get_attr, read, read_dir, release, release_dir};
 use open_handles::Handles;
 use portal_base::memory::WantOfMemory;
 use portal_base::outside::Clock;

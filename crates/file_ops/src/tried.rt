@@ -6,12 +6,12 @@ ghost use Rattle.host_tree.specs.Trees.{TreeIs};
 ghost use Rattle.portal_model.specs.declared.reply.NodeAnswer.TheVariants as NodeAnswer;
 ghost use Rattle.portal_model.specs.NodeVerdict.{HandlesStay, at_file, errs, errs_on_file, told};
 ghost use Rattle.file_ops.specs.Tries.{Goes, done_of_ended, done_of_tried, ended_by, fault_by, fault_behind, fault_of_call, found_nothing, is_not_file, moment_of, refuses, says, shown_behind, tree_done};
-ghost use Rattle.file_ops.specs.Walks.{taken};
+ghost use Rattle.node_looks.specs.Walks.{taken};
 ghost use Rattle.file_ops.specs.declared.tried.Came.TheVariants as came;
 
-use crate::asked::{refusal, refusal_on_file, room_for_look};
-use crate::served::NodeDone;
 use host_tree::{HostTree, LookAnswer, TreeDone};
+use node_looks::asked::{refusal, refusal_on_file, room_for_look};
+use node_looks::served::NodeDone;
 use portal_base::files::Look;
 use portal_base::list::List;
 use portal_base::memory::WantOfMemory;
@@ -67,6 +67,8 @@ pub(crate) fn came_of(done: TreeDone) -> Result<Came, WantOfMemory>
         TreeDone::Done => Ok(Came::Done),
         TreeDone::NotFile => Ok(Came::NotFile),
         TreeDone::Failed => Ok(Came::Failed),
+        // It is the request's: no file and no handle is changed, but the tree was asked in vain,
+        // and the clock may have been read.
         TreeDone::Memory => Err(WantOfMemory),
     }
 }

@@ -5,14 +5,14 @@ ghost use Rattle.open_handles.specs.Opened.{HandleTable, handle_of, opened_on};
 ghost use Rattle.portal_model.specs.declared.request.NodeOp.TheVariants as NodeOp;
 ghost use Rattle.portal_model.specs.NodeVerdict.{HandlesStay};
 ghost use Rattle.portal_model.specs.Write.{write, write_name, write_open};
-ghost use Rattle.file_ops.specs.Done.{Does, Reads};
-ghost use Rattle.file_ops.specs.TreeCalls.{WasCalled};
+ghost use Rattle.node_looks.specs.Done.{Does, Reads};
+ghost use Rattle.node_looks.specs.TreeCalls.{WasCalled};
 ghost use Rattle.file_ops.specs.Tries.{Goes, done_of_ended, moment_of};
 
 use crate::opened::{OpenFile, open_file};
-use crate::served::{FileBook, NodeCall, NodeDone};
 use crate::tried::{Ended, Tried, came_of, room_for_looks};
 use host_tree::HostTree;
+use node_looks::served::{FileBook, NodeCall, NodeDone};
 use portal_base::files::FileName;
 use portal_base::memory::WantOfMemory;
 use portal_base::outside::Clock;
@@ -69,6 +69,7 @@ fn written<T: HostTree, C: Clock>(
     ensures err { OnErr result (WasCalled (T.is tree.old) (T.is tree.new)) }
     ensures clock_err { OnErr result (C.told clock.new ≡ C.told clock.old) }
 {
+    // More than INIT's `max_write` is refused and not cut short.
     if content.len() > WRITE_LIMIT {
         return Ok(Ended::refused(EINVAL));
     }
@@ -135,6 +136,7 @@ fn write_named<T: HostTree, C: Clock>(
 fn is_past(limit: u64, offset: u64, len: usize) -> bool
     ensures { result ≡ nat_lt limit (offset + len) }
 {
+    // Offset and length come from the client, so they are added without a wrap.
     match offset.checked_add(len as u64) {
         Some(end) => end > limit,
         None => true,

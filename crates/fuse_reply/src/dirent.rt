@@ -59,6 +59,8 @@ pub fn put_dirents(
 pub fn fitting_len(names: &[DirName], offset: u64, size: u32) -> usize {
     let mut left = size;
     for place in offset as usize..names.len() {
+        // The first that doesn't fit ends the listing, also where a later one would fit: places
+        // are told on from there.
         let Some(size) = fitting_size(names[place].name.len(), left) else {
             return (size - left) as usize;
         };

@@ -51,6 +51,7 @@ pub fn write_reply(
     if is_quiet(answer) {
         return Ok(None);
     }
+    // So the bytes that were read are copied into it once.
     let mut frame = begun(alloc, error_of(answer), unique, body_len(answer))?;
     put_body(&mut frame, answer)?;
     Ok(Some(sealed(frame)))
@@ -108,6 +109,8 @@ fn sealed(mut frame: Vec<u8>) -> ByteList
     requires { 4 ≤ length frame.items }
     ensures { result ≡ little_bytes 4 (length frame.items % 2 ^ 32) ++ drop 4 frame.items }
 {
+    // The length is a number of 32 bits, so it is told exactly of a frame of less than 2^32 bytes.
+    // No condition asks for that.
     let len = (frame.len() & 0xffff_ffff) as u32;
     LittleEndian::write_u32(&mut frame, len);
     List::from_vec(frame)

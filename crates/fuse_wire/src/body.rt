@@ -71,6 +71,8 @@ pub fn batch_forget(alloc: Global, body: &[u8]) -> Result<Option<NodeOp>, WantOf
         return Ok(None);
     }
     let count = u32_at(body, 0) as usize;
+    // The length has to be the one that the count says: a longer body is refused as a shorter one
+    // is.
     if body.len() != BATCH_FORGET_IN_LEN + FORGET_ONE_LEN * count {
         return Ok(None);
     }
@@ -125,6 +127,7 @@ pub fn setattr(body: &[u8]) -> Option<NodeOp>
     if body.len() != SETATTR_IN_LEN {
         return None;
     }
+    // Fields that no answer depends on aren't looked at, whatever is in them.
     Some(NodeOp::SetAttr {
         valid: u32_at(body, 0),
         fh: u64_at(body, 8),
@@ -183,6 +186,7 @@ pub fn write(alloc: Global, body: &[u8]) -> Result<Option<NodeOp>, WantOfMemory>
         return Ok(None);
     }
     let size = u32_at(body, 16) as usize;
+    // As in FUSE_BATCH_FORGET, the length has to be the one that the size says.
     if body.len() != WRITE_IN_LEN + size {
         return Ok(None);
     }
@@ -285,6 +289,7 @@ fn name_of(alloc: Global, bytes: &[u8]) -> Result<Option<ByteList>, WantOfMemory
     if !is_name(bytes) {
         return Ok(None);
     }
+    // A name is held without the zero byte that ends it.
     Ok(Some(List::copied(alloc, &bytes[..bytes.len() - 1])?))
 }
 

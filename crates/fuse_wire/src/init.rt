@@ -19,6 +19,7 @@ const LEAST_MINOR_VERSION: u32 = 23;
 const FUSE_ATOMIC_O_TRUNC: u32 = 8;
 /// FUSE_BIG_WRITES: a write carries more than a page.
 const FUSE_BIG_WRITES: u32 = 32;
+// FUSE_EXPORT_SUPPORT is not among them: so `.` and `..` are no names to look up.
 /// The abilities that are granted, where they are asked for.
 const GRANTED_FLAGS: u32 = FUSE_ATOMIC_O_TRUNC | FUSE_BIG_WRITES;
 
@@ -54,6 +55,7 @@ pub struct InitIn {
 pub fn init(body: &[u8]) -> Option<NodeAnswer>
     ensures { result ≡ init_ask body.now }
 {
+    // Of all bodies this one alone may be longer than its struct, which newer kernels make longer.
     if body.len() < INIT_IN_LEN {
         return None;
     }

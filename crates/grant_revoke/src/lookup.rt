@@ -26,6 +26,7 @@ pub fn reach(documents: &Documents, grants: &Grants, who: &Who, doc: &[u8]) -> O
 {
     let id = document_named(documents, doc)?;
     let held = held_by(grants, who, id);
+    // Who has no right in a document isn't told whether it is there.
     if held.is_empty() {
         return None;
     }

@@ -3,8 +3,8 @@ use Rattle.std.proofs.Common.{◌≡◌, ◌+◌, ◌<◌, ◌≤◌, ℕ, List,
 use Rattle.std.proofs.lemmas.List.{append-nil, append_assoc, take-append-drop}
 use Rattle.app_world.specs.TraceItem.{TraceItem}
 use Rattle.app_world.specs.World.{items, items_of}
-use Rattle.opening_lists.proofs.Loops.{one_more}
-use Rattle.portal_core.specs.Story.{Story, cost_with, limit_of, state_now}
+use Rattle.document_records.proofs.Loops.{one_more}
+use Rattle.portal_steps.specs.Story.{Story, cost_with, limit_of, state_now}
 use Rattle.portal_model.specs.declared.entry.Entry.{Entry}
 use Rattle.portal_model.specs.declared.opening.OpeningState.{OpeningState}
 use Rattle.portal_model.specs.History.{EachLawful, cost, cost_of, run}

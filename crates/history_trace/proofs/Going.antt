@@ -4,7 +4,7 @@ use Rattle.std.proofs.Common.{◌≡◌, ◌+◌, ◌≤◌, ℕ, List, [], ◌�
 use Rattle.given_laws.specs.Faulted.{FaultsChangeNothing, collecting}
 use Rattle.given_laws.specs.OneGiven.{AreFirst, LawfulEntriesAreOne}
 use Rattle.host_tree.specs.Devices.{QuietState}
-use Rattle.portal_core.specs.Story.{PortalIs, Story, cost_with, limit_of, state_first, state_now}
+use Rattle.portal_steps.specs.Story.{PortalIs, Story, cost_with, limit_of, state_first, state_now}
 use Rattle.portal_model.specs.declared.entry.Entry.{Entry}
 use Rattle.portal_model.specs.declared.entry.Fault.{Fault}
 use Rattle.portal_model.specs.declared.reply.Reply.{Reply}

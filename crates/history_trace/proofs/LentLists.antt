@@ -1,9 +1,9 @@
 -- What a portal over told files lends is what its state shows.
 use Rattle.std.proofs.Common.{◌≡◌, ℕ, map, true, Option, Some, None, sym, ap, ◌∙◌}
-use Rattle.app_trace.specs.Awaited.{HasOpen, Shows}
-use Rattle.app_trace.specs.declared.lent.Lent.{Lent}
+use Rattle.trace_items.specs.Awaited.{HasOpen, Shows}
+use Rattle.trace_items.specs.declared.lent.Lent.{Lent}
 use Rattle.app_view.specs.Books.{Lends}
-use Rattle.file_ops.specs.OpenHandles.{AreOpen, AreOpened, open_on}
+use Rattle.node_looks.specs.OpenHandles.{AreOpen, AreOpened, open_on}
 use Rattle.open_handles.specs.Opened.{Opened, opened_on}
 use Rattle.portal_model.specs.declared.state.Connection.{Connection}
 use Rattle.portal_model.specs.State.{State, connection_of}

@@ -1,14 +1,14 @@
 -- A portal over devices that never fail: no device failed in an entry of its history.
 use Rattle.std.specs.Prelude.{IfSome, ◌≢◌}
 use Rattle.std.proofs.Common.{◌≡◌, ◌⊎◌, inl, inr, ℕ, List, [], ◌∷◌, Bool, true, Option, Some, None, refl, sym, ap, subst, ◌∙◌, arith}
-use Rattle.file_ops.specs.Done.{Reads}
+use Rattle.node_looks.specs.Done.{Reads}
 use Rattle.given_laws.specs.Faulted.{FaultsChangeNothing, failure_of}
 use Rattle.given_laws.specs.OneGiven.{AreFirst}
 use Rattle.host_tree.specs.Devices.{QuietState, quiet_tree_of}
 use Rattle.portal_base.specs.Outside.{HasRisen}
-use Rattle.portal_core.specs.Answered.{Answers, TellsFault}
-use Rattle.portal_core.specs.Devices.{Drawn, TellsFailure}
-use Rattle.portal_core.specs.Story.{PortalIs, state_now}
+use Rattle.portal_steps.specs.Answered.{Answers, TellsFault}
+use Rattle.portal_steps.specs.Devices.{Drawn, TellsFailure}
+use Rattle.portal_steps.specs.Story.{PortalIs, state_now}
 use Rattle.portal_model.specs.declared.entry.Entry.{Entry}
 use Rattle.portal_model.specs.declared.entry.Fault.{Fault}
 use Rattle.portal_model.specs.declared.reply.Answer.{Answer}

@@ -6,7 +6,7 @@ use Rattle.std.specs.Ordering.{is_lt, ordering_reverse}
 use Rattle.std.proofs.lemmas.List.{take-append-drop}
 use Rattle.std.proofs.lemmas.List.Folds.{list_any-append}
 use Rattle.host_tree.specs.Trees.{put_file}
-use Rattle.opening_lists.proofs.Loops.{all_map, map-append, map-more}
+use Rattle.document_records.proofs.Loops.{all_map, map-append, map-more}
 use Rattle.portal_base.specs.Content.{ArePlaced, is_above, paths_of}
 use Rattle.portal_base.specs.Names.{is_host_path, is_same, root}
 use Rattle.portal_base.specs.PathOrder.{path_order}

@@ -15,7 +15,7 @@ use Rattle.app_trace.specs.Told.{item_told}
 use Rattle.app_trace.specs.declared.trace.TraceItem.{TraceItem}
 use Rattle.app_world.specs.World.{items}
 use Rattle.given_laws.specs.OneGiven.{AreFirst}
-use Rattle.portal_core.specs.Story.{PortalIs, Story, cost_with, limit_of, state_now}
+use Rattle.portal_steps.specs.Story.{PortalIs, Story, cost_with, limit_of, state_now}
 
 -- ---- how it begins
 

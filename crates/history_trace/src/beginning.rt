@@ -12,8 +12,8 @@ ghost use Rattle.portal_model.specs.Valid.{Valid};
 ghost use Rattle.history_trace.specs.Replayed.{Begins, tree_with, without_files};
 
 use crate::idle::IdleKeeper;
+use document_records::opening::known_path;
 use host_tree::QuietTree;
-use opening_lists::known_path;
 use portal_base::list::List;
 use portal_base::memory::{Replica, WantOfMemory};
 use portal_base::outside::{ListWords, SetClock};

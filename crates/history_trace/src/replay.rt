@@ -1,18 +1,18 @@
 //! One entry of a history, asked again.
 
 ghost use Rattle.std.specs.Prelude.{◌≡◌, ◌++◌, ◌≤◌, ◌≢◌, false, map, true, IfOk, OnOk};
-ghost use Rattle.app_trace.specs.Awaited.{Shows};
+ghost use Rattle.trace_items.specs.Awaited.{Shows};
 ghost use Rattle.app_trace.specs.Told.{item_told};
 ghost use Rattle.app_world.specs.Touched.{is_done as was_done};
 ghost use Rattle.app_world.specs.World.{items_of};
-ghost use Rattle.portal_core.specs.Story.{cost_with, limit_of, state_now};
+ghost use Rattle.portal_steps.specs.Story.{cost_with, limit_of, state_now};
 ghost use Rattle.portal_model.specs.Lawful.{Lawful};
 ghost use Rattle.portal_model.specs.Opening.{is_told};
 ghost use Rattle.portal_model.specs.Step.{after, reply_at};
 ghost use Rattle.history_trace.specs.Replayed.{GoesOn, HasRoom, Replies};
 
 use crate::beginning::QuietPortal;
-use app_trace::{Lent, TraceItem, come, foresee, is_done};
+use app_trace::TraceItem;
 use portal_base::files::File;
 use portal_base::list::List;
 use portal_base::memory::{Replica, WantOfMemory};
@@ -22,6 +22,7 @@ use portal_model::entry::{Entry, Fault};
 use portal_model::reply::{Refused, Reply};
 use portal_model::request::Request;
 use std::alloc::Global;
+use trace_items::{Lent, come, foresee, is_done};
 
 /// Asks an entry again, appends what it tells the application, and lets the
 /// files be those behind it.
@@ -78,6 +79,8 @@ fn ask_again(alloc: Global, portal: &mut QuietPortal, entry: &Entry) -> Result<b
 {
     match entry.given.fault {
         Fault::None => ask_the_same(alloc, portal, entry),
+        // The portal here stands over devices that never fail, and a request that met a fault
+        // changed nothing: so the seat is only told what waited for it.
         Fault::Tree | Fault::Keeper => {
             collect(alloc, portal, entry)?;
             Ok(false)

@@ -41,6 +41,10 @@ pub fn trace_of(
     ensures { IfOk result (λ t. trace_told t
         ≡ trace app.now (opened opening.now) history.now) }
 {
+    // The requests are asked again on a portal, so that what `Portal::ask` promises is all that
+    // the loop needs.
+    // A slice of entries stands here and no `History`, so that any list of them will do. For the
+    // same reason their cost is asked for.
     let items = items_told(alloc, opening, app, history)?;
     match view_of(alloc, opening, app) {
         Ok(opening) => Ok(Trace { opening, items }),

@@ -116,6 +116,8 @@ impl<R: Files> FilesBelow<R> {
         }
         let mut file = self.opened(OpenOptions::new().write(true))?;
         file.seek(SeekFrom::Start(offset))?;
+        // What the write made longer is cut back; bytes that it wrote over are lost. No contract
+        // says otherwise, since a real tree tells no files.
         if let Err(error) = file.write_all(content) {
             let _ = file.set_len(len);
             return Err(TreeError::from(error));
@@ -167,6 +169,7 @@ impl<R: Files> FilesBelow<R> {
         self.path.clear();
         self.path.push_str(self.root.as_str())?;
         self.path.push_str(text)?;
+        // A root that is gone is a fault, since a tree always has a folder at `/`.
         if self.has_root()? {
             return Ok(());
         }
@@ -184,6 +187,8 @@ impl<R: Files> FilesBelow<R> {
 
     /// Says whether every path above, but for the root, is a folder and no link.
     fn is_below_folders(&self) -> Result<bool, TreeError> {
+        // Each folder on the way is asked for, and none by a link: std has no call that opens a
+        // file below an open folder. The root itself may be reached by links.
         let root_len = self.root.len();
         for end in 1..self.path.len() {
             let Some((above, rest)) = self.path.split_at_checked(end) else {
@@ -235,6 +240,7 @@ fn look_of(metadata: &Metadata) -> Look {
 /// Says whether an error means that nothing stands at a path: it isn't there, it
 /// lies below a file, or no file can have such a name.
 fn is_missing(error: &io::Error) -> bool {
+    // A name or a path that is too long for the system is one at which nothing stands.
     matches!(
         error.kind(),
         ErrorKind::NotFound | ErrorKind::NotADirectory | ErrorKind::InvalidFilename
@@ -245,6 +251,8 @@ fn is_missing(error: &io::Error) -> bool {
 /// the one that the system itself gave to the change.
 fn set_moment<F: OpenFile>(file: &F, now: u64) {
     if let Some(moment) = UNIX_EPOCH.checked_add(Duration::from_secs(now)) {
+        // Where the system refuses, as of a file of another owner, its own moment stays, and
+        // nobody is told of a fault.
         let _ = file.set_times(FileTimes::new().set_modified(moment));
     }
 }

@@ -31,6 +31,7 @@ impl Stored {
         ensures ok { OnOk result (self.new ≡ stored_written offset content.now now self.old) }
         ensures err { OnErr result (self.new ≡ self.old) }
     {
+        // As POSIX says of `write`: the moment stays too, wherever the offset lies.
         if content.is_empty() {
             return Ok(());
         }
@@ -76,6 +77,9 @@ pub(crate) fn bytes_from(bytes: &[u8], offset: u64, size: u32) -> &[u8]
     rest.split_at(len).0
 }
 
+// Paths are ordered part by part, as std's `Path` is: a slash comes ahead of every other byte. So
+// what lies below a path comes right behind it; in byte order `/a-b` would stand between `/a` and
+// `/a/c`.
 /// Files by path, which contracts see as a list in the order of the paths.
 #[derive(Drop)]
 pub(crate) struct Files {

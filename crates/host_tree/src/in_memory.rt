@@ -20,6 +20,7 @@ use std::marker::Model;
 #[derive(Drop)]
 pub struct MemoryTree {
     alloc: Global,
+    // Contracts speak of the files that it began with too, so each file takes its room twice.
     began: Files,
     files: Files,
     count: CallCount,

@@ -114,6 +114,7 @@ pub trait HostTree {
     fn sync(&mut self, file: &FileName) -> TreeDone
         ensures { Changes (has_file file.now) as_before (is self.old) result (is self.new) };
 
+    // No law of a trait can say this of every value, so it is a method, which costs no call.
     /// What is true at each moment: the files that are told are those of a
     /// tree. It is no call of the tree.
     fn known(&self)

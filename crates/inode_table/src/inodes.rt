@@ -20,6 +20,8 @@ pub struct SeatNode {
 /// The counts of look-ups, each from 1, by seat and node.
 #[derive(Drop)]
 pub struct InodeTable {
+    // Contracts see a number for each seat and node, 0 where there is none, since the map's order
+    // says nothing.
     counts: IndexMap<SeatNode, u64>,
 }
 
@@ -141,6 +143,7 @@ fn leave_others(counts: &mut IndexMap<SeatNode, u64>, seat: u32)
     ensures counts { counts.new.entries ≡ filter (is_elsewhere seat) counts.old.entries }
     ensures room { spare counts.old ≤ spare counts.new }
 {
+    // It goes over all counts, once for each seat that leaves.
     counts.retain(
         |held: &SeatNode, count: &mut u64| -> bool
             ensures { (result ≡ not (held.now.seat == seat)) × (count.new ≡ count.old) }

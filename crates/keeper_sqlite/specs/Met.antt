@@ -1,10 +1,10 @@
 -- What contracts see of a keeper in a database: the faults that it met. It tells neither the
 -- records that it has nor its calls.
 use Rattle.std.specs.Prelude.{◌≡◌, ◌≢◌, ℕ, Option, Some, None}
-use Rattle.keeper_sqlite.specs.declared.fault.DatabaseFault.{DatabaseFault}
-use Rattle.keeper_sqlite.specs.declared.fault.DatabaseFault.TheVariants as database
-use Rattle.keeper_sqlite.specs.declared.fault.KeeperFault.{KeeperFault}
-use Rattle.keeper_sqlite.specs.declared.fault.KeeperFault.TheVariants as keeper
+use Rattle.sqlite_tables.specs.declared.fault.DatabaseFault.{DatabaseFault}
+use Rattle.sqlite_tables.specs.declared.fault.DatabaseFault.TheVariants as database
+use Rattle.sqlite_tables.specs.declared.fault.KeeperFault.{KeeperFault}
+use Rattle.sqlite_tables.specs.declared.fault.KeeperFault.TheVariants as keeper
 use Rattle.record_keeper.specs.Keepers.{KeeperIs}
 
 -- how many there were, and the last one

@@ -1,10 +1,10 @@
 //! Making changes.
 
-use crate::documents::{add_document, remove_document, set_grants};
-use crate::entries::{remove_entry, set_entry};
-use crate::fault::DatabaseFault;
 use portal_model::records::RecordChange;
 use sqlite::{Alter, Connection, Error, ErrorCode, Transaction};
+use sqlite_tables::documents::{add_document, remove_document, set_grants};
+use sqlite_tables::entries::{remove_entry, set_entry};
+use sqlite_tables::fault::DatabaseFault;
 use std::alloc::Global;
 
 /// Makes the changes one after another, in one transaction: all of them, or none.

@@ -5,17 +5,17 @@ ghost use Rattle.portal_base.specs.Devices.{count_after};
 ghost use Rattle.record_keeper.specs.Keepers.{Applies, Loads, is_done_fault, is_load_fault};
 ghost use Rattle.keeper_sqlite.specs.Kept.{CanKeep};
 ghost use Rattle.keeper_sqlite.specs.Met.{IsOfDatabase, keeper_of};
-ghost use Rattle.keeper_sqlite.specs.declared.fault.KeeperFault.TheVariants.{Unkept};
+ghost use Rattle.sqlite_tables.specs.declared.fault.KeeperFault.TheVariants.{Unkept};
 
 use crate::changes::make_all;
-use crate::fault::{DatabaseFault, KeeperFault};
 use crate::kept::can_keep_all;
 use crate::loading::read_records;
-use crate::tables::make_tables;
 use portal_base::list::List;
 use portal_model::records::RecordChange;
 use record_keeper::{Keeper, KeeperDone, KeeperLoad};
 use sqlite::{Connection, File, FileStore};
+use sqlite_tables::fault::{DatabaseFault, KeeperFault};
+use sqlite_tables::tables::make_tables;
 use std::alloc::Global;
 use std::marker::Model;
 
@@ -44,6 +44,8 @@ impl SqliteKeeper {
     pub fn open(rt: &HostRuntime, path: &str) -> Result<SqliteKeeper, DatabaseFault>
         ensures { IfOk result (λ keeper. keeper ≡ record { faults = 0; last = None }) }
     {
+        // A commit is synced once, as SQLite's WAL with synchronous FULL does, on the premise that
+        // a torn write leaves each byte old or new. To take no such premise would sync twice.
         let mut conn = Connection::open(rt, path)?;
         make_tables(&mut conn)?;
         Ok(SqliteKeeper {
@@ -102,6 +104,8 @@ impl Keeper for SqliteKeeper {
         match read_records(self.alloc, &mut self.conn) {
             Ok(records) => KeeperLoad::Got(records),
             Err(DatabaseFault::Memory) => KeeperLoad::Memory,
+            // A row that can't be read as a record is a fault, and not a bad record, which has a
+            // place among the records.
             Err(fault) => {
                 self.meet(KeeperFault::Database(fault));
                 KeeperLoad::Failed

@@ -43,6 +43,8 @@ impl OfApplication for GrantRecord {
 pub(crate) fn can_keep_all(changes: &[RecordChange]) -> bool
     ensures { IsTrue result ↔ All CanKeep changes.now }
 {
+    // What it keeps is what it was given: changes whose applications don't rise are refused rather
+    // than put in order.
     for change in changes {
         if !can_keep(change) {
             return false;

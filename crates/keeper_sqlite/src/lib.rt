@@ -16,13 +16,10 @@
 //! | Room | Holds |
 //! |---|---|
 //! | `keeper` | [`SqliteKeeper`] |
-//! | `tables` | the tables of the database, and how they are made |
 //! | `loading` | the records that the tables hold |
-//! | `documents`, `entries` | reading and changing these |
-//! | `rows` | the rows of an entry, and how some become others |
 //! | `kept`, `changes` | which changes can be kept, and making them |
-//! | `calls` | the calls of SQLite |
-//! | `fault` | [`DatabaseFault`], [`KeeperFault`] |
+//!
+//! The tables, their rows and what may go wrong with them stand in `sqlite_tables`.
 //!
 //! ```text
 //! let mut keeper = SqliteKeeper::open(&rt, "store.db")?;
@@ -30,16 +27,10 @@
 //! ```
 #![tactic(auto)]
 
-mod calls;
 mod changes;
-mod documents;
-mod entries;
-mod fault;
 mod keeper;
 mod kept;
 mod loading;
-mod rows;
-mod tables;
 
-pub use fault::{DatabaseFault, KeeperFault};
 pub use keeper::SqliteKeeper;
+pub use sqlite_tables::fault::{DatabaseFault, KeeperFault};

@@ -1,13 +1,13 @@
 //! The records that the tables hold.
 
-use crate::calls::{lines_of, number_at};
-use crate::documents::read_documents;
-use crate::entries::read_entries;
-use crate::fault::DatabaseFault;
 use portal_base::list::List;
 use portal_model::records::Records;
 use record_keeper::RECORDS_VERSION;
 use sqlite::{Alter, Connection};
+use sqlite_tables::calls::{lines_of, number_at};
+use sqlite_tables::documents::read_documents;
+use sqlite_tables::entries::read_entries;
+use sqlite_tables::fault::DatabaseFault;
 use std::alloc::Global;
 
 const VERSION: &str = "SELECT version FROM version";
@@ -19,6 +19,8 @@ pub(crate) fn read_records<S: Alter>(
     conn: &mut Connection<S>,
 ) -> Result<Records, DatabaseFault> {
     let version = read_version(conn)?;
+    // The tables of another version aren't known. A portal doesn't start then, and says which
+    // version it found.
     if version != RECORDS_VERSION {
         return Ok(Records {
             version,

@@ -2,13 +2,13 @@
 use Rattle.std.proofs.Common.{◌≡◌, ◌≢◌, ℕ, ◌+◌, ◌==◌, ◌≤◌, nat_eq, List, [], ◌∷◌, map, Bool, true, false, cond, Option, Some, None, refl, sym, ap, subst, ◌∙◌, arith}
 use Rattle.std.specs.List.{AllByRecursion, IsDistinct, list_any}
 use Rattle.std.proofs.lemmas.Bool.Decides.{nat_tests}
-use Rattle.file_ops.specs.Done.{Does, DoneIn, IsAnswer}
-use Rattle.file_ops.specs.OpenHandles.{AreOpen}
-use Rattle.file_ops.specs.Served.{given_to}
-use Rattle.file_ops.specs.TreeCalls.{Calling, after_calls, calls_of}
-use Rattle.file_ops.specs.declared.served.FileBook.{FileBook}
-use Rattle.file_ops.specs.declared.served.NodeCall.{NodeCall}
-use Rattle.file_ops.specs.declared.served.NodeDone.{NodeDone}
+use Rattle.node_looks.specs.Done.{Does, DoneIn, IsAnswer}
+use Rattle.node_looks.specs.OpenHandles.{AreOpen}
+use Rattle.node_looks.specs.Served.{given_to}
+use Rattle.node_looks.specs.TreeCalls.{Calling, after_calls, calls_of}
+use Rattle.node_looks.specs.declared.served.FileBook.{FileBook}
+use Rattle.node_looks.specs.declared.served.NodeCall.{NodeCall}
+use Rattle.node_looks.specs.declared.served.NodeDone.{NodeDone}
 use Rattle.host_tree.specs.Trees.{TreeIs, after_call}
 use Rattle.open_handles.specs.Opened.{HandleTable}
 use Rattle.portal_base.specs.Outside.{HasRisen}

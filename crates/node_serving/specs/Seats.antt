@@ -1,11 +1,11 @@
 -- A request of a seat on a node that was served.
 use Rattle.std.specs.Prelude.{◌≡◌, ◌≢◌, ℕ, List, [], Bool, true, Option, Some, None, is_some}
 use Rattle.app_view.specs.Books.{Lends}
-use Rattle.file_ops.specs.OpenHandles.{AreOpen}
-use Rattle.file_ops.specs.Served.{given_to}
-use Rattle.file_ops.specs.TreeCalls.{Calling, calls_of}
-use Rattle.file_ops.specs.declared.served.FileBook.{FileBook}
-use Rattle.file_ops.specs.declared.served.NodeDone.{NodeDone}
+use Rattle.node_looks.specs.OpenHandles.{AreOpen}
+use Rattle.node_looks.specs.Served.{given_to}
+use Rattle.node_looks.specs.TreeCalls.{Calling, calls_of}
+use Rattle.node_looks.specs.declared.served.FileBook.{FileBook}
+use Rattle.node_looks.specs.declared.served.NodeDone.{NodeDone}
 use Rattle.host_tree.specs.Trees.{TreeIs}
 use Rattle.open_handles.specs.Opened.{HandleTable, opened_on}
 use Rattle.portal_base.specs.Outside.{HasRisen}

@@ -1,7 +1,7 @@
 //! A request of a seat.
 
 ghost use Rattle.std.specs.Prelude.{◌≡◌, IfOk, OnErr, false, length, option_copied};
-ghost use Rattle.file_ops.specs.Done.{Reads, Wants};
+ghost use Rattle.node_looks.specs.Done.{Reads, Wants};
 ghost use Rattle.file_ops.specs.Wanting.{may_call_in_vain, may_change_file};
 ghost use Rattle.node_serving.specs.Counted.{Counts};
 ghost use Rattle.node_serving.specs.Seats.{AreEntered, IsServedIn, ServesSeat, refused_here};
@@ -62,6 +62,7 @@ pub fn serve<T: HostTree, C: Clock>(
     ensures connections { OnErr result (connections.new ≡ connections.old) }
     ensures kept { OnErr result (counts.new.counts ≡ counts.old.counts) }
 {
+    // Room for the count is taken ahead of the request, which can't be undone behind it.
     counts.reserve(1)?;
     let Some(connection) = mount_of(connections.as_slice(), seat) else {
         return Ok(not_here(alloc));

@@ -17,6 +17,9 @@ use std::marker::Model;
 pub struct Handles {
     alloc: Global,
     most: u64,
+    // A map by hashing finds an entry at once and can take room ahead, which std's ordered map
+    // can't; a slab would give the number of a closed handle again. Seats and handles are the
+    // portal's own numbers, so no caller picks them, and the hasher's seed may be fixed.
     seats: IndexMap<u32, SeatHandles>,
 }
 
@@ -54,6 +57,8 @@ impl Handles {
         ensures ok { OnOk result (AtSeat Enters self.old.seats self.new.seats seat) }
         ensures err { OnErr result (self.new.seats ≡ self.old.seats) }
     {
+        // Each connection has a place, of either kind, though a bus opens nothing: one rule for
+        // every Enter and Leave.
         self.seats.insert(seat, SeatHandles::new(self.alloc))?;
         Ok(())
     }

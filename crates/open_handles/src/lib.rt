@@ -4,12 +4,14 @@
 //! after every call, and that no call touches those of another. Numbers run from
 //! 1 on each connection, and none is given again on it. `Full` comes exactly
 //! where a connection has as many handles open as the limit allows; a refusal
-//! changes nothing; after a granted `reserve` the next `add` is done.
+//! changes nothing; after a granted `reserve` the next `add` is done. Whether a file may be
+//! opened goes by the right to write of that moment.
 //!
 //! | Room | Holds |
 //! |---|---|
 //! | `handles` | [`Handles`]: the connections by seat |
 //! | `opened` | what one connection has open |
+//! | `open_flags` | the flags that a file is opened with, and whether who asks may |
 //!
 //! ```text
 //! handles.enter(seat)?;
@@ -22,6 +24,7 @@
 #![tactic(auto)]
 
 pub mod handles;
+pub mod open_flags;
 mod opened;
 
 pub use handles::Handles;

@@ -114,6 +114,8 @@ impl SeatHandles {
         ensures handle { result ≡ handle_of (Some self.old) fh }
         ensures rest { Releases fh self.old self.new }
     {
+        // The order of opening stays: those behind it move up, at most as many as a connection may
+        // have open.
         self.handles.shift_remove(&fh)
     }
 }

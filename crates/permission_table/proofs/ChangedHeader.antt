@@ -8,10 +8,10 @@ use Rattle.dbus_types.specs.declared.types.WireType.TheVariants as W
 use Rattle.dbus_types.specs.declared.types.Value.{Value, the_lemmas}
 use Rattle.dbus_types.specs.declared.types.Value.TheVariants as V
 use Rattle.dbus_types.specs.Types.{alignment, type_text}
-use Rattle.dbus_types.specs.Values.{type_of}
-use Rattle.dbus_types.specs.Spells.{gap}
-use Rattle.dbus_types.specs.Spelling.{Spelled, spelled_length, spelled_lengths}
-use Rattle.dbus_types.proofs.OneSpelling.{roll_byte, roll_str, roll_path, roll_signature}
+use Rattle.dbus_values.specs.Values.{type_of}
+use Rattle.dbus_values.specs.Spells.{gap}
+use Rattle.dbus_values.specs.Spelling.{Spelled, spelled_length, spelled_lengths}
+use Rattle.dbus_values.proofs.OneSpelling.{roll_byte, roll_str, roll_path, roll_signature}
 use Rattle.portal_model.specs.Changed.{changed_fields, changed_header, header_field, message_limit}
 use Rattle.permission_table.specs.Ends.{elements_at, inside_at}
 use Rattle.permission_table.proofs.EndLemmas.{on, struct-end, array-end, variant-end}

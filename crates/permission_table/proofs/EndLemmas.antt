@@ -7,11 +7,11 @@ use Rattle.dbus_types.specs.declared.types.WireType.{WireType}
 use Rattle.dbus_types.specs.declared.types.Value.{Value}
 use Rattle.dbus_types.specs.declared.types.Value.TheVariants as V
 use Rattle.dbus_types.specs.Types.{type_text}
-use Rattle.dbus_types.specs.Values.{type_of}
-use Rattle.dbus_types.specs.Spells.{number}
-use Rattle.dbus_types.specs.Spelling.{Spelled, text_body, signature_body, variant_body, spelled, spelling, spelled_length}
-use Rattle.dbus_types.proofs.OneSpelling.{roll_variant}
-use Rattle.dbus_types.proofs.SpelledType.{spelled_kind}
+use Rattle.dbus_values.specs.Values.{type_of}
+use Rattle.dbus_values.specs.Spells.{number}
+use Rattle.dbus_values.specs.Spelling.{Spelled, text_body, signature_body, variant_body, spelled, spelling, spelled_length}
+use Rattle.dbus_values.proofs.OneSpelling.{roll_variant}
+use Rattle.dbus_values.proofs.SpelledType.{spelled_kind}
 use Rattle.portal_model.specs.Changed.{message_limit}
 pub use Rattle.portal_model.proofs.SpelledEnds.{array-end, behind, entry-end, number_32, on, rows-end, struct-end, texts-end}
 use Rattle.permission_table.specs.Ends.{Ends, inside_at}

@@ -2,7 +2,7 @@
 -- "Marshaling (Wire Format)".
 use Rattle.std.specs.Prelude.{◌≡◌, ℕ, ◌+◌, ◌<◌, ◌≤◌, length, Option, Some, None}
 use Rattle.dbus_types.specs.declared.types.WireType.{WireType}
-use Rattle.dbus_types.specs.Spells.{gap}
+use Rattle.dbus_values.specs.Spells.{gap}
 use Rattle.dbus_types.specs.Types.{type_text}
 use Rattle.portal_model.specs.Changed.{message_limit}
 

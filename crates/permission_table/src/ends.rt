@@ -7,9 +7,9 @@ ghost use Rattle.std.specs.Prelude.{◌≡◌, ℕ, ◌+◌, ◌<◌, length, ma
 ghost use Rattle.std.specs.Int.{w16, w32, w64};
 ghost use Rattle.dbus_types.specs.declared.types.Endian.TheVariants.{Little};
 ghost use Rattle.dbus_types.specs.Types.{type_text, types_text};
-ghost use Rattle.dbus_types.specs.Values.{type_of};
-ghost use Rattle.dbus_types.specs.Spells.{gap, number};
-ghost use Rattle.dbus_types.specs.Spelling.{aligned, bytes_body, text_body, signature_body};
+ghost use Rattle.dbus_values.specs.Values.{type_of};
+ghost use Rattle.dbus_values.specs.Spells.{gap, number};
+ghost use Rattle.dbus_values.specs.Spelling.{aligned, bytes_body, text_body, signature_body};
 ghost use Rattle.permission_table.specs.Ends.{Ends};
 
 use dbus_types::types::{Value, WireType};

@@ -5,8 +5,8 @@
 
 ghost use Rattle.std.specs.Prelude.{◌≡◌, ◌+◌, ◌<◌, false, map};
 ghost use Rattle.dbus_types.specs.declared.types.Value.TheVariants as V;
-ghost use Rattle.dbus_types.specs.Spelling.{spelled_length, spelled_lengths};
-ghost use Rattle.dbus_types.specs.Values.{type_of};
+ghost use Rattle.dbus_values.specs.Spelling.{spelled_length, spelled_lengths};
+ghost use Rattle.dbus_values.specs.Values.{type_of};
 ghost use Rattle.portal_model.specs.Changed.{changed_value, row_value, rows_value, texts_value};
 ghost use Rattle.portal_model.specs.Store.{can_be_told, record_of};
 ghost use Rattle.permission_table.specs.Ends.{Ends, elements_at, inside_at};

@@ -64,6 +64,8 @@ pub(crate) fn put_in_order<T: Keyed + Drop>(items: &mut Vec<T>, item: T) -> Resu
         ≡ put (λ a b. bytes_less (T.key_of a) (T.key_of b)) item items.old.items) }
     ensures err { OnErr result (items.new.items ≡ items.old.items) }
 {
+    // The order is that of the bytes of the key alone; permissions stay as they came, also where
+    // one comes twice.
     let at = place_of(items, item.key());
     if is_at(items, at, item.key()) {
         items[at] = item;

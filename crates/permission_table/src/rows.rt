@@ -20,6 +20,8 @@ pub(crate) fn stored_rows(alloc: Global, rows: &[Row]) -> Result<List<Row>, Want
     for row in rows {
         put_in_order(&mut stored, row.replica(alloc)?)?;
     }
+    // Of two rows for one application the last stands, and then it isn't stored where it is empty:
+    // so the empty ones go last.
     leave_named(&mut stored);
     Ok(List::from_vec(stored))
 }

@@ -195,6 +195,8 @@ impl Tables {
             return Ok(StoreAnswer::Kept);
         }
         let left = without_permissions(self.alloc, entry, app)?;
+        // It leaves fewer rows than before, and what was there could be told: so it is never too
+        // long.
         self.put(left)
     }
 
@@ -246,6 +248,8 @@ impl Tables {
         requires { IfSome former (IsFormer table.now id.now) }
         ensures { self.new ≡ put_back table.now id.now former self.old }
     {
+        // It isn't asked that the entry is there, or was made last: what is there gets its former
+        // content in its place, or goes.
         match former {
             Some(former) => restore(&mut self.entries, table, id, former),
             None => {
@@ -259,6 +263,8 @@ impl Tables {
         requires { IsSound entry }
         ensures { Gives (becomes_if_told entry self.old) self.old self.new result }
     {
+        // Each entry is told in one message whenever it changes, so that none is stored which a
+        // message can't hold.
         if !can_be_told(&entry) {
             return Err(StoreError::TooLong);
         }

@@ -1,47 +1,30 @@
 -- A portal that starts: its lists are those of a valid state, and the keeper's records stand for it.
 use Rattle.std.specs.Prelude.{IfSome}
-use Rattle.std.proofs.Common.{◌≡◌, ◌<◌, ◌^◌, ℕ, List, [], ◌∷◌, map, true, cond, Option, Some, None, refl, sym, ap, subst, ◌∙◌, arith}
-use Rattle.std.specs.List.{IsDistinct, list_all}
+use Rattle.std.proofs.Common.{◌≡◌, ℕ, List, [], map, cond, Option, Some, None, refl, sym, ap, subst, ◌∙◌, arith}
+use Rattle.std.specs.List.{IsDistinct}
 use Rattle.document_records.specs.Documents.{DocumentList}
-use Rattle.file_ops.specs.OpenHandles.{AreOpened, open_on}
+use Rattle.node_looks.specs.OpenHandles.{AreOpened, open_on}
 use Rattle.open_handles.specs.Opened.{HandleTable, Opened, opened_on}
 use Rattle.portal_base.specs.Content.{IsTree}
 use Rattle.portal_base.specs.declared.files.File.{File}
 use Rattle.portal_base.specs.declared.limits.Limits.{Limits}
-use Rattle.portal_model.specs.declared.opening.OpeningDocument.{OpeningDocument}
 use Rattle.portal_model.specs.declared.opening.OpeningState.{OpeningState}
 use Rattle.portal_model.specs.declared.records.Records.{Records}
-use Rattle.portal_model.specs.declared.state.Document.{Document}
 use Rattle.portal_model.specs.declared.state.Triple.{Triple}
 use Rattle.portal_model.specs.Kept.{records_of}
-use Rattle.portal_model.specs.Opening.{SoundOpening, document_kept, files_of, id_of, is_told, opened_over, rights_kept}
-use Rattle.portal_model.specs.Store.{Entries}
+use Rattle.portal_model.specs.Opening.{document_kept, files_of, is_told, opened_over, rights_kept}
 use Rattle.portal_model.specs.Valid.{Valid}
-use Rattle.record_keeper.specs.BadRecords.{AreGood}
-use Rattle.record_keeper.specs.KeptEntries.{KeepEntries}
 use Rattle.record_keeper.specs.Keepers.{KeeperIs}
-use Rattle.portal_core.specs.Answered.{KeepsState}
-use Rattle.portal_core.specs.Held.{Stands}
-use Rattle.portal_core.specs.Started.{IsOpening, LoadsGood, is_narrow, opening_loaded}
-use Rattle.portal_core.proofs.GoodRecords.{all_sound, numbers_apart, over_any, sound_records, valid_quiet}
-use Rattle.portal_core.proofs.KeptRights.{all_back}
+use Rattle.portal_steps.specs.Answered.{KeepsState}
+use Rattle.portal_steps.specs.Held.{Stands}
+use Rattle.portal_start.specs.Loading.{LoadsGood}
+use Rattle.portal_start.proofs.GoodRecords.{over_any}
+use Rattle.portal_start.proofs.LoadedRecords.{back}
 
 -- the files that a state tells that began so
 told_by : (began : Option (List File)) → cond (is_told began) (Some (files_of began)) None ≡ began
 told_by None = refl
 told_by (Some files) = refl
-
-pub sound_loaded : (limits : Limits) (records : Records) (o : OpeningState) → IsOpening limits records o → AreGood limits records → list_all is_narrow o.made ≡ true → limits.made < 2 ^ 32 → limits.queued < 2 ^ 32 → SoundOpening o
-sound_loaded limits records o e good narrow made queued =
-    subst SoundOpening (sym e.whole) (sound_records limits records o.entries e.entries good (ap (λ (x : OpeningState). list_all is_narrow x.made) (sym e.whole) ∙ narrow) made queued)
-
-pub valid_loaded : (limits : Limits) (records : Records) (o : OpeningState) → IsOpening limits records o → AreGood limits records → list_all is_narrow o.made ≡ true → limits.made < 2 ^ 32 → limits.queued < 2 ^ 32 → Valid (opened_over None o)
-valid_loaded limits records o e good narrow made queued = valid_quiet o (sound_loaded limits records o e good narrow made queued)
-
--- the numbers of documents are those of their records
-pub numbers_kept : (ds : List OpeningDocument) → map (λ (d : Document). d.id.number) (map document_kept ds) ≡ map (λ (d : OpeningDocument). d.kept.number) ds
-numbers_kept [] = refl
-numbers_kept (d ∷ ds) = ap (λ (ns : List ℕ). d.kept.number ∷ ns) (numbers_kept ds)
 
 -- a state that is valid over some files is valid over a tree that tells nothing
 pub valid_untold : (o : OpeningState) (began : Option (List File)) → Valid (opened_over began o) → Valid (opened_over None o)
@@ -71,25 +54,6 @@ valid_untold o began v = record {
   applications_within = v.applications_within;
   made_limit = v.made_limit;
   queued_limit = v.queued_limit;
-}
-
--- documents that are listed with their own numbers as those that were made
-pub listed_documents : (o : OpeningState) (items : List OpeningDocument) (ds : DocumentList) →
-    ds ≡ record { most_live = o.limits.documents; most_made = o.limits.made; live = map document_kept items; made = map (λ (d : OpeningDocument). id_of d.kept.number) items } → items ≡ o.documents →
-    o.made ≡ map (λ (d : OpeningDocument). id_of d.kept.number) o.documents → ds ≡ record { most_live = o.limits.documents; most_made = o.limits.made; live = map document_kept o.documents; made = o.made }
-listed_documents o items ds e i m = e ∙ (λ j. record {
-  most_live = o.limits.documents;
-  most_made = o.limits.made;
-  live = map document_kept (i j);
-  made = (ap (map (λ (d : OpeningDocument). id_of d.kept.number)) i ∙ sym m) j;
-})
-
--- the records that stand for the state that records open are those records
-back : (limits : Limits) (records : Records) (began : Option (List File)) (entries : Entries) → KeepEntries records.entries entries → AreGood limits records → records_of (opened_over began (opening_loaded entries limits records)) ≡ records
-back limits records began entries kept good = λ i. record {
-  version = sym good.version i;
-  documents = all_back records.documents (numbers_apart limits records.documents good.documents) (all_sound limits records.documents [] good.documents) i;
-  entries = kept.kept i;
 }
 
 module _ (began : Option (List File)) (o : OpeningState) (ds : DocumentList) (rs : List Triple) (apps : List (List ℕ)) (k : ds ≡ record { most_live = o.limits.documents; most_made = o.limits.made; live = map document_kept o.documents; made = o.made }) (r : rs ≡ rights_kept o.documents) (a : apps ≡ o.applications) where

@@ -1,14 +1,6 @@
-pub mod Story
-pub mod TreeCalls
-pub mod Devices
-pub mod Answered
-pub mod Served
-pub mod Documents
 pub mod Started
-pub mod Held
 pub mod Growth
 pub mod OpenFiles
 pub mod Chain
 pub mod Lending
 pub mod Borrowing
-pub mod Stored

@@ -9,7 +9,7 @@ use Rattle.portal_model.specs.declared.request.NodeRequest.{NodeRequest}
 use Rattle.portal_model.specs.declared.request.Request.{Request}
 use Rattle.portal_model.specs.History.{run}
 use Rattle.portal_model.specs.Step.{after, reply_at}
-use Rattle.portal_core.specs.Story.{Story, state_first}
+use Rattle.portal_steps.specs.Story.{Story, state_first}
 
 -- Each OPEN of an application that was done, and each earlier entry: what that took of the right to
 -- read the document, and of the right to write it where the OPEN writes or truncates, was given

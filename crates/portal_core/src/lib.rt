@@ -17,16 +17,11 @@
 //! | Room | Holds |
 //! |---|---|
 //! | `portal` | [`portal::Portal`]: the state as lists, and `ask` |
-//! | `start` | why a portal doesn't start, and what it starts with |
 //! | `storied` | [`storied::Storied`]: what anything that keeps a history promises |
 //! | `local_desk` | [`local_desk::LocalDesk`]: the desk of one seat, on one thread |
-//! | `opening` | the opening state that records stand for |
-//! | `entries` | the entries of requests, and the replies to them |
-//! | `lists` | what is looked up among connections |
-//! | `seats` | the connections of seats, each with its open handles |
-//! | `documents` | the requests on documents that neither ask the tree nor draw a word |
-//! | `additions` | Add |
-//! | `store` | the calls of the permission store |
+//!
+//! What it starts with is made in `portal_start`, and single requests are served in
+//! `portal_steps`.
 //!
 //! ```text
 //! let mut portal = Portal::start(alloc, tree, keeper, clock, words, limits)?;
@@ -34,14 +29,8 @@
 //! ```
 #![tactic(auto)]
 
-mod additions;
-mod documents;
-mod entries;
-mod lists;
 pub mod local_desk;
-mod opening;
 pub mod portal;
-mod seats;
-pub mod start;
-mod store;
 pub mod storied;
+
+pub use portal_start::start;

@@ -4,29 +4,23 @@ ghost use Rattle.std.specs.Prelude.{◌≡◌, ◌+◌, ◌<◌, ◌≤◌, ◌^
 ghost use Rattle.std.specs.List.{list_all};
 ghost use Rattle.app_view.specs.Books.{Lends as LendsBook};
 ghost use Rattle.change_signals.specs.Unsent.{AtSeat, holding, unsent_on};
-ghost use Rattle.file_ops.specs.OpenHandles.{AreOpen};
+ghost use Rattle.node_looks.specs.OpenHandles.{AreOpen};
 ghost use Rattle.portal_model.specs.History.{Legal, cost};
 ghost use Rattle.portal_model.specs.Opening.{id_of, opened_over};
 ghost use Rattle.portal_model.specs.Rows.{are_rows};
 ghost use Rattle.portal_model.specs.Seated.{is_open};
 ghost use Rattle.portal_model.specs.Valid.{Valid};
-ghost use Rattle.portal_core.specs.Answered.{Answers, KeepsState, Spends, TellsFault};
-ghost use Rattle.portal_core.specs.Devices.{TellsFailure, may_ask_in_vain, may_ask_tree_in_vain, may_change_records};
-ghost use Rattle.portal_core.specs.Documents.{is_document_call};
-ghost use Rattle.portal_core.specs.Held.{told_files};
+ghost use Rattle.portal_steps.specs.Answered.{Answers, KeepsState, Spends, TellsFault};
+ghost use Rattle.portal_steps.specs.Devices.{TellsFailure, may_ask_in_vain, may_ask_tree_in_vain, may_change_records};
+ghost use Rattle.portal_steps.specs.Documents.{is_document_call};
+ghost use Rattle.portal_steps.specs.Held.{told_files};
 ghost use Rattle.portal_core.specs.OpenFiles.{GoesByHandles, OpensByRights};
-ghost use Rattle.portal_core.specs.Started.{AreLists, HandsBack, Starts, reopened};
-ghost use Rattle.portal_core.specs.Story.{HasCause, cost_with, limit_of, state_first, state_now};
+ghost use Rattle.portal_start.specs.Loading.{AreLists};
+ghost use Rattle.portal_core.specs.Started.{HandsBack, Starts, reopened};
+ghost use Rattle.portal_steps.specs.Story.{HasCause, cost_with, limit_of, state_first, state_now};
 ghost use Rattle.store_serving.specs.Serving.{may_change_entries};
 ghost use Rattle.store_serving.specs.Waiting.{silent};
 
-use crate::additions::serve_add;
-use crate::entries::{
-    check_caller, collect_answer, entry_made, node_entry, opened_connection, silent_reply,
-};
-use crate::lists::{bus_of, connection_of, of_others};
-use crate::start::{Lists, StartRefusal, lists_of_opening, load};
-use crate::{documents, seats, store};
 use app_view::ViewBook;
 use change_signals::Outboxes;
 use document_calls::ServedCall;
@@ -49,6 +43,13 @@ use portal_model::reply::{Answer, Change, Code, Refused, Reply};
 use portal_model::request::{AddRequest, NodeRequest, Request};
 use portal_model::state::Connection;
 use portal_model::store::StoreCall;
+use portal_start::start::{Lists, StartRefusal, lists_of_opening, load};
+use portal_steps::additions::serve_add;
+use portal_steps::entries::{
+    check_caller, collect_answer, entry_made, node_entry, opened_connection, silent_reply,
+};
+use portal_steps::lists::{bus_of, connection_of, of_others};
+use portal_steps::{documents, seats, store};
 use record_keeper::Keeper;
 use std::alloc::Global;
 use std::marker::Model;
@@ -80,11 +81,11 @@ pub struct Portal<T: HostTree, K: Keeper, C: Clock, W: Words> {
 
 impl<T: HostTree, K: Keeper, C: Clock, W: Words> Model for Portal<T, K, C, W> {
     ghost use Rattle.std.specs.Prelude.{◌≡◌, ◌≤◌, length};
-    ghost use Rattle.portal_core.specs.Answered.{KeepsState};
-    ghost use Rattle.portal_core.specs.Held.{Stands};
+    ghost use Rattle.portal_steps.specs.Answered.{KeepsState};
+    ghost use Rattle.portal_steps.specs.Held.{Stands};
     ghost use Rattle.portal_model.specs.History.{run};
     ghost use Rattle.portal_model.specs.Opening.{opened_over};
-    ghost use Rattle.portal_core.specs.Story.{PortalIs};
+    ghost use Rattle.portal_steps.specs.Story.{PortalIs};
     ghost use Rattle.store_serving.specs.Serving.{HasStore};
     ghost use Rattle.dbus_types.specs.contracts.types.Value as e;
     ghost use Rattle.std.specs.Coded.{codes};
@@ -438,6 +439,7 @@ impl<T: HostTree, K: Keeper, C: Clock, W: Words> Portal<T, K, C, W> {
         ensures unasked { may_ask_tree_in_vain (Request.Node request) ≡ false
             → OnErr result (self.new ≡ self.old) }
     {
+        // Room is kept for this entry and for a Leave of each open connection.
         self.history.reserve(self.connections.as_slice().len() + 1)?;
         let book = FileBook {
             view: ViewBook {
@@ -591,6 +593,8 @@ impl<T: HostTree, K: Keeper, C: Clock, W: Words> Portal<T, K, C, W> {
             (Spends T.is K.is C.told W.told self.old (Request.Store call) self.new) }
         ensures unasked { may_change_entries call ≡ false → OnErr result (self.new ≡ self.old) }
     {
+        // A request of a bus takes the box of its seat ahead of all it does, and its own changes
+        // go into the boxes behind that.
         let taken = taken(
             &mut self.history,
             &mut self.outboxes,
@@ -644,6 +648,8 @@ impl<T: HostTree, K: Keeper, C: Clock, W: Words> Portal<T, K, C, W> {
             self.history.push(refused);
             return Ok(silent_reply(alloc, Answer::Refused(Code::NotHere)));
         }
+        // Enter took the room for the entry, so this needs no memory. Changes that the bus wasn't
+        // told are lost.
         let connections = mem::replace(&mut self.connections, List::new(alloc));
         self.connections = of_others(connections, seat);
         self.handles.leave(seat);
@@ -701,6 +707,8 @@ impl<T: HostTree + Drop, K: Keeper + Drop, C: Clock + Drop, W: Words + Drop> Por
         ensures { IfOk result
             (λ portal. portal ≡ reopened T.is tree keeper clock words opening) }
     {
+        // Two things that `Valid` doesn't say are asked for: the made numbers are those of the
+        // documents, and rows are in order.
         match lists_of_opening(alloc, opening) {
             Ok(lists) => Ok(Portal::over(alloc, tree, keeper, clock, words, lists)),
             Err(error) => Err(error),

@@ -85,8 +85,8 @@ pub trait Storied {
 
 impl<T: HostTree, K: Keeper, C: Clock, W: Words> Storied for Portal<T, K, C, W> {
     ghost use Rattle.std.specs.Prelude.{◌≡◌};
-    ghost use Rattle.portal_core.specs.Answered.{Spends, Went};
-    ghost use Rattle.portal_core.specs.Story.{state_first};
+    ghost use Rattle.portal_steps.specs.Answered.{Spends, Went};
+    ghost use Rattle.portal_steps.specs.Story.{state_first};
 
     ghost opening = { λ p. state_first p.story };
 

@@ -32,6 +32,7 @@ pub fn cost_of(request: &Request) -> u64
 {
     match request {
         Request::Enter { who, .. } => REQUEST_COST.saturating_add(name_length(who)),
+        // A full history still takes it, also one that is `NotHere`.
         Request::Leave => 0,
         Request::Collect => REQUEST_COST,
         Request::Present { path } | Request::LookupDocument { path } => carrying(path.len() as u64),
@@ -140,6 +141,7 @@ fn node_bytes(op: &NodeOp) -> u64
         NodeOp::Lookup { name } | NodeOp::Create { name, .. } => name.len() as u64,
         NodeOp::Write { content, .. } => content.len() as u64,
         NodeOp::BatchForget { nodes } => FORGET_COST.saturating_mul(nodes.len() as u64),
+        // It carries no bytes, and the one node that it forgets is the node of the request.
         NodeOp::Forget { .. }
         | NodeOp::GetAttr { .. }
         | NodeOp::SetAttr { .. }

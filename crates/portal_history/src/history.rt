@@ -109,6 +109,7 @@ impl History {
           limit = self.old.limit;
         } }
     {
+        // Who pushes has taken the room ahead, so that nothing is left that may fail.
         self.cost += cost_of(&entry.request);
         self.entries.push_reserved(entry);
     }

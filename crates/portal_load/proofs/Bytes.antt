@@ -11,10 +11,10 @@ use Rattle.dbus_types.specs.declared.types.WireType.TheVariants as W
 use Rattle.dbus_types.specs.declared.types.Value.{Value, the_lemmas}
 use Rattle.dbus_types.specs.declared.types.Value.TheVariants as V
 use Rattle.dbus_types.specs.Types.{alignment, type_text, types_text}
-use Rattle.dbus_types.specs.Values.{type_of}
-use Rattle.dbus_types.specs.Spells.{number, gap}
-use Rattle.dbus_types.specs.Spelling.{spelled, spelling, spellings}
-use Rattle.dbus_types.proofs.OneSpelling.{roll_path, roll_signature, roll_str}
+use Rattle.dbus_values.specs.Values.{type_of}
+use Rattle.dbus_values.specs.Spells.{number, gap}
+use Rattle.dbus_values.specs.Spelling.{spelled, spelling, spellings}
+use Rattle.dbus_values.proofs.OneSpelling.{roll_path, roll_signature, roll_str}
 use Rattle.dbus_message.specs.Fields.{field_type}
 use Rattle.dbus_message.specs.Written.{field, signature_field}
 use Rattle.dbus_message.proofs.WrittenAreMessages.{field_alignment}
@@ -23,7 +23,7 @@ use Rattle.fuse_reply.specs.declared.field.Field.{Field}
 use Rattle.fuse_reply.specs.declared.field.Field.TheVariants.{Two, Four, Eight}
 use Rattle.fuse_reply.specs.Fields.{spelled as spelled_fields}
 use Rattle.portal_base.specs.Names.{doc_text}
-use Rattle.script_form.specs.Lines.{AreBytes}
+use Rattle.script_lines.specs.Lines.{AreBytes}
 use Rattle.portal_load.specs.declared.draw.Asked.{Asked}
 use Rattle.portal_load.specs.declared.draw.Asked.TheVariants.{Lookup, GetAttr, Open, Read, Write, Release, Rights}
 use Rattle.portal_load.specs.declared.draw.Draw.{Draw}

@@ -4,7 +4,7 @@ use Rattle.std.proofs.lemmas.List.{length-append}
 use Rattle.std.specs.Int.{w32}
 use Rattle.std.specs.Prelude.{OnOk, Result, Ok, Err}
 use Rattle.dbus_types.specs.declared.types.Endian.TheVariants.{Little}
-use Rattle.dbus_types.specs.Spells.{number, gap}
+use Rattle.dbus_values.specs.Spells.{number, gap}
 use Rattle.dbus_marshal.proofs.TakenFronts.{four, number_len}
 use Rattle.portal_load.specs.Calls.{laid}
 

@@ -10,9 +10,9 @@ use Rattle.std.proofs.lemmas.List.{length-append, length-replicate}
 use Rattle.std.proofs.lemmas.List.FromFn.{length-map-range_with_len}
 use Rattle.hex.specs.Hex.{encode_lower, encode_with}
 use Rattle.portal_base.specs.Names.{doc_text}
-use Rattle.script_form.specs.Lines.{hex_text, line_text, text_of}
+use Rattle.script_lines.specs.Lines.{hex_text, line_text, text_of}
 use Rattle.script_form.specs.Order.{script_limit}
-use Rattle.script_form.specs.declared.script.ScriptLine.{ScriptLine}
+use Rattle.script_lines.specs.declared.script.ScriptLine.{ScriptLine}
 use Rattle.portal_load.specs.Calls.{app_name}
 use Rattle.portal_load.specs.Draws.{drawn}
 use Rattle.portal_load.specs.Lines.{bus_line, bytes_of, doc_line, doc_lines, file_content, file_line, file_lines, file_path, handshake, handshake_line, lines_ahead, load_of, most_requests, mount_line, open_lines, request_line, request_lines, seat_of}

@@ -1,8 +1,8 @@
 -- The lines of a load, put one behind another.
 use Rattle.std.proofs.Common.{◌≡◌, ℕ, ◌+◌, ◌/◌, ◌^◌, List, [], ◌∷◌, ◌++◌, refl, ap, sym, ◌∙◌, append_assoc, arith, add-one}
 use Rattle.std.proofs.lemmas.List.FromFn.{map-range_with_len_more}
-use Rattle.script_form.specs.declared.script.ScriptLine.{ScriptLine}
-use Rattle.script_form.specs.declared.script.ScriptLine.TheVariants.{Data}
+use Rattle.script_lines.specs.declared.script.ScriptLine.{ScriptLine}
+use Rattle.script_lines.specs.declared.script.ScriptLine.TheVariants.{Data}
 use Rattle.script_form.proofs.ScriptFacts.{append_nil}
 use Rattle.portal_load.specs.declared.draw.Draw.{Draw}
 use Rattle.portal_load.specs.Draws.{draw_of, next, number_of}

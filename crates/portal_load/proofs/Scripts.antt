@@ -12,10 +12,10 @@ use Rattle.portal_model.specs.Opening.{each, first_named, names_kept}
 use Rattle.portal_model.specs.Valid.{applications_limit}
 use Rattle.portal_model.specs.declared.opening.OpeningDocument.{OpeningDocument}
 use Rattle.record_keeper.specs.SoundRecords.{IsGrant}
-use Rattle.script_form.specs.Lines.{KeepsRules, is_plain}
+use Rattle.script_lines.specs.Lines.{KeepsRules, is_plain}
 use Rattle.script_form.specs.Opening.{applications_of, document_in, documents_of}
 use Rattle.script_form.specs.Order.{IsScript, MayStand, StandBehind, closes, goes_with, opens}
-use Rattle.script_form.specs.declared.script.ScriptLine.{ScriptLine}
+use Rattle.script_lines.specs.declared.script.ScriptLine.{ScriptLine}
 use Rattle.script_form.proofs.ScriptFacts.{append_nil, stand_push}
 use Rattle.portal_load.specs.declared.draw.Asked.{Asked}
 use Rattle.portal_load.specs.declared.draw.Asked.TheVariants.{Lookup, GetAttr, Open, Read, Write, Release, Rights}

@@ -10,12 +10,12 @@ use Rattle.dbus_types.specs.declared.types.Value.{Value}
 use Rattle.dbus_types.specs.declared.types.Value.TheVariants as V
 use Rattle.dbus_types.specs.declared.types.Value.TheOpen.{Value-F}
 use Rattle.dbus_types.specs.Types.{alignment, type_text}
-use Rattle.dbus_types.specs.Spells.{number, gap}
-use Rattle.dbus_types.specs.Spelling.{Spelled, aligned, array_body, spell_step, spelled, spelling, spellings, text_body}
-use Rattle.dbus_types.proofs.OneSpelling.{roll_array, roll_byte, roll_path, roll_signature, roll_str, roll_struct, roll_variant}
+use Rattle.dbus_values.specs.Spells.{number, gap}
+use Rattle.dbus_values.specs.Spelling.{Spelled, aligned, array_body, spell_step, spelled, spelling, spellings, text_body}
+use Rattle.dbus_values.proofs.OneSpelling.{roll_array, roll_byte, roll_path, roll_signature, roll_str, roll_struct, roll_variant}
 use Rattle.dbus_marshal.proofs.TakenFronts.{four, number_len}
 use Rattle.dbus_message.specs.Written.{field}
-use Rattle.script_form.specs.Lines.{AreBytes}
+use Rattle.script_lines.specs.Lines.{AreBytes}
 
 -- bytes, at most so many
 pub record IsSmall (k : ℕ) (bs : List ℕ) : Type 0 where

@@ -6,8 +6,8 @@ use Rattle.dbus_types.specs.declared.types.Endian.TheVariants.{Little}
 use Rattle.dbus_types.specs.declared.types.WireType.TheVariants as W
 use Rattle.dbus_types.specs.declared.types.Value.{Value}
 use Rattle.dbus_types.specs.declared.types.Value.TheVariants as V
-use Rattle.dbus_types.specs.Spells.{number, gap}
-use Rattle.dbus_types.specs.Spelling.{spelling, spellings}
+use Rattle.dbus_values.specs.Spells.{number, gap}
+use Rattle.dbus_values.specs.Spelling.{spelling, spellings}
 use Rattle.dbus_message.specs.Fields.{field_type, path_code, interface_code, member_code}
 use Rattle.dbus_message.specs.Written.{field, signature_field}
 use Rattle.portal_base.specs.Names.{doc_text}

@@ -7,7 +7,7 @@ use Rattle.portal_base.specs.Names.{doc_text}
 use Rattle.portal_base.specs.declared.split.Split.TheVariants.{Whole}
 use Rattle.portal_model.specs.declared.request.NodeOp.{NodeOp}
 use Rattle.portal_model.specs.declared.request.NodeOp.TheVariants as op
-use Rattle.script_form.specs.Lines.{text_of}
+use Rattle.script_lines.specs.Lines.{text_of}
 use Rattle.script_form.specs.Order.{IsScript, script_limit}
 use Rattle.portal_load.specs.declared.draw.Asked.{Asked}
 use Rattle.portal_load.specs.declared.draw.Asked.TheVariants.{Lookup, GetAttr, Open, Read, Write, Release, Rights}

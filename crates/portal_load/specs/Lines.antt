@@ -3,8 +3,8 @@ use Rattle.std.specs.Prelude.{ℕ, ◌+◌, ◌/◌, ◌%◌, true, List, [], �
 use Rattle.std.specs.List.{range_with_len}
 use Rattle.portal_base.specs.declared.who.Who.TheVariants.{Host, App}
 use Rattle.portal_base.specs.declared.who.Kind.TheVariants.{Bus, Mount}
-use Rattle.script_form.specs.declared.script.ScriptLine.{ScriptLine}
-use Rattle.script_form.specs.declared.script.ScriptLine.TheVariants.{File, Doc, Open, Data}
+use Rattle.script_lines.specs.declared.script.ScriptLine.{ScriptLine}
+use Rattle.script_lines.specs.declared.script.ScriptLine.TheVariants.{File, Doc, Open, Data}
 use Rattle.portal_load.specs.declared.draw.Asked.{Asked}
 use Rattle.portal_load.specs.declared.draw.Asked.TheVariants.{Rights}
 use Rattle.portal_load.specs.declared.draw.Draw.{Draw}

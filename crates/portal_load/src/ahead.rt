@@ -14,7 +14,7 @@ use portal_base::names::doc_id::DocId;
 use portal_base::names::host_path::HostPath;
 use portal_base::who::{Kind, Who};
 use portal_model::records::GrantRecord;
-use script_form::script::ScriptLine;
+use script_lines::script::ScriptLine;
 use std::alloc::Global;
 
 /// How many files there are, and documents.

@@ -4,8 +4,8 @@ ghost use Rattle.std.specs.Prelude.{◌≡◌, [], ◌∷◌, ◌++◌, length, 
 ghost use Rattle.std.specs.Int.{w32};
 ghost use Rattle.dbus_types.specs.declared.types.Endian.TheVariants.{Little};
 ghost use Rattle.dbus_types.specs.declared.types.Value.TheVariants as V;
-ghost use Rattle.dbus_types.specs.Spells.{number};
-ghost use Rattle.dbus_types.specs.Spelling.{spelling, spellings};
+ghost use Rattle.dbus_values.specs.Spells.{number};
+ghost use Rattle.dbus_values.specs.Spelling.{spelling, spellings};
 ghost use Rattle.dbus_message.specs.Fields.{field_type};
 ghost use Rattle.portal_base.specs.Names.{doc_text};
 ghost use Rattle.portal_load.specs.Calls.{app_name, call_asked, call_fields, call_of, documents_interface, documents_path, member_at, read_and_write, rights_body};

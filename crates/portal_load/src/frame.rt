@@ -101,6 +101,7 @@ fn node_of(asked: Asked, document: u32) -> u64
     match asked {
         Asked::Lookup => ROOT,
         Asked::GetAttr | Asked::Open => FIRST_FILE + u64::from(document),
+        // A frame that goes by a handle names no node, since the portal looks at none there.
         _ => 0,
     }
 }

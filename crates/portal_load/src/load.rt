@@ -9,7 +9,7 @@ use crate::draw::{Asked, Draw, FIRST, draw_of, next};
 use crate::frame::frame_asked;
 use portal_base::list::ByteList;
 use portal_base::memory::WantOfMemory;
-use script_form::script::{Script, ScriptLine};
+use script_lines::script::{Script, ScriptLine};
 use std::alloc::Global;
 
 /// A script of requests.

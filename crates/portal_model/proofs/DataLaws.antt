@@ -22,14 +22,14 @@ use Rattle.dbus_types.specs.declared.types.Value.TheOpen.{Value-F}
 use Rattle.dbus_types.specs.declared.types.Value.TheVariants as V
 use Rattle.dbus_types.specs.Names.{is_path}
 use Rattle.dbus_types.specs.Reading.{whole_at}
-use Rattle.dbus_types.specs.Spells.{gap, number, bit, Aligned, ArrayRow, BoolRow, EntryRow, IsPath, NumberRow, StructRow, TextRow, Elements, Members, NoneInside, Row, Spells, SpellsWithin}
-use Rattle.dbus_types.specs.Spelling.{Spelled, aligned, array_body, bytes_body, in_row, spell_step, spelled, spelling, spellings, text_body}
+use Rattle.dbus_values.specs.Spells.{gap, number, bit, Aligned, ArrayRow, BoolRow, EntryRow, IsPath, NumberRow, StructRow, TextRow, Elements, Members, NoneInside, Row, Spells, SpellsWithin}
+use Rattle.dbus_values.specs.Spelling.{Spelled, aligned, array_body, bytes_body, in_row, spell_step, spelled, spelling, spellings, text_body}
 use Rattle.dbus_types.specs.Types.{alignment, arrays_deep, brackets_deep, is_single, role, type_text, IsSignature, IsVariantType}
-use Rattle.dbus_types.specs.Values.{IsSignatureText, IsText, nesting, nesting_step, one_around, type_of, type_step, array_of, byte_of}
+use Rattle.dbus_values.specs.Values.{IsSignatureText, IsText, nesting, nesting_step, one_around, type_of, type_step, array_of, byte_of}
 use Rattle.dbus_types.specs.Types.{greatest}
-use Rattle.dbus_types.proofs.OneSpelling.{one_byte, roll_byte, spells_same}
-use Rattle.dbus_types.proofs.PackedBytes.{bytes_are as packed_are, bytes_in_row, byte_alignment, byte_or_not, bytes_of as packed_of, no_gap, of_bytes, of_others}
-use Rattle.dbus_types.proofs.SpelledType.{spelled_kind}
+use Rattle.dbus_values.proofs.OneSpelling.{one_byte, roll_byte, spells_same}
+use Rattle.dbus_values.proofs.PackedBytes.{bytes_are as packed_are, bytes_in_row, byte_alignment, byte_or_not, bytes_of as packed_of, no_gap, of_bytes, of_others}
+use Rattle.dbus_values.proofs.SpelledType.{spelled_kind}
 use Rattle.dbus_types.proofs.WholeSignatures.{short_reading, whole_again}
 use Rattle.portal_base.specs.Names.{is_byte_of_path, is_same}
 use Rattle.portal_base.proofs.NoZeros.{all_from_test, test_from_all}

@@ -5,9 +5,9 @@ use Rattle.std.proofs.lemmas.Bool.Decides.{nat_tests}
 use Rattle.dbus_types.specs.declared.types.Endian.TheVariants.{Little}
 use Rattle.dbus_types.specs.declared.types.Value.{Value}
 use Rattle.dbus_types.specs.declared.types.Value.TheVariants as V
-use Rattle.dbus_types.specs.Spells.{gap}
-use Rattle.dbus_types.specs.Spelling.{Spelled, text_body, spelled_length, spelled_lengths}
-use Rattle.dbus_types.proofs.OneSpelling.{roll_str}
+use Rattle.dbus_values.specs.Spells.{gap}
+use Rattle.dbus_values.specs.Spelling.{Spelled, text_body, spelled_length, spelled_lengths}
+use Rattle.dbus_values.proofs.OneSpelling.{roll_str}
 use Rattle.portal_model.specs.Changed.{changed_header, row_value, rows_value, texts_value}
 use Rattle.portal_model.specs.Rows.{is_row_of}
 use Rattle.portal_model.specs.Store.{can_be_told, without_permissions}

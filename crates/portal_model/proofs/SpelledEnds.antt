@@ -8,9 +8,9 @@ use Rattle.dbus_types.specs.declared.types.WireType.TheVariants as W
 use Rattle.dbus_types.specs.declared.types.Value.{Value}
 use Rattle.dbus_types.specs.declared.types.Value.TheVariants as V
 use Rattle.dbus_types.specs.Types.{alignment}
-use Rattle.dbus_types.specs.Spells.{gap, number}
-use Rattle.dbus_types.specs.Spelling.{Spelled, aligned, in_row, array_body, spelled, spelling, spelled_length, spelled_lengths}
-use Rattle.dbus_types.proofs.OneSpelling.{roll_struct, roll_entry, roll_array}
+use Rattle.dbus_values.specs.Spells.{gap, number}
+use Rattle.dbus_values.specs.Spelling.{Spelled, aligned, in_row, array_body, spelled, spelling, spelled_length, spelled_lengths}
+use Rattle.dbus_values.proofs.OneSpelling.{roll_struct, roll_entry, roll_array}
 use Rattle.portal_model.specs.Changed.{row_value, rows_value, texts_value}
 use Rattle.portal_model.specs.declared.records.Row.{Row}
 

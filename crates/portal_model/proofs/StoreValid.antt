@@ -8,7 +8,7 @@ use Rattle.dbus_types.specs.declared.types.Value.TheVariants as V
 use Rattle.dbus_types.specs.declared.types.WireType.{the_lemmas as type_lemmas}
 use Rattle.dbus_types.specs.declared.types.WireType.TheVariants as W
 use Rattle.dbus_types.specs.Types.{arrays_deep, brackets_deep}
-use Rattle.dbus_types.specs.Values.{nesting}
+use Rattle.dbus_values.specs.Values.{nesting}
 use Rattle.dbus_types.proofs.TypeLayers.{role_byte, text_byte}
 use Rattle.portal_base.specs.Names.{is_same}
 use Rattle.portal_base.specs.declared.who.Who.{Who}

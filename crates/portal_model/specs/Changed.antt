@@ -8,8 +8,8 @@ use Rattle.dbus_types.specs.declared.types.WireType.TheVariants as W
 use Rattle.dbus_types.specs.declared.types.Value.{Value, fold-Value}
 use Rattle.dbus_types.specs.declared.types.Value.TheVariants as V
 use Rattle.dbus_types.specs.declared.types.Value.TheOpen.{Value-F}
-use Rattle.dbus_types.specs.Spells.{Spells, gap}
-use Rattle.dbus_types.specs.Spelling.{spelled_length}
+use Rattle.dbus_values.specs.Spells.{Spells, gap}
+use Rattle.dbus_values.specs.Spelling.{spelled_length}
 use Rattle.portal_model.specs.declared.records.EntryRecord.{EntryRecord}
 use Rattle.portal_model.specs.declared.records.Row.{Row}
 

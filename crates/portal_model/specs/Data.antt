@@ -12,10 +12,10 @@ use Rattle.dbus_types.specs.declared.types.WireType.{WireType}
 use Rattle.dbus_types.specs.declared.types.WireType.TheVariants as W
 use Rattle.dbus_types.specs.Names.{is_path}
 use Rattle.dbus_types.specs.Reading.{whole_at}
-use Rattle.dbus_types.specs.Spells.{gap}
-use Rattle.dbus_types.specs.Spelling.{Spelled, in_row, spell_step, spelling}
+use Rattle.dbus_values.specs.Spells.{gap}
+use Rattle.dbus_values.specs.Spelling.{Spelled, in_row, spell_step, spelling}
 use Rattle.dbus_types.specs.Types.{alignment, arrays_deep, brackets_deep, is_single, role, type_text}
-use Rattle.dbus_types.specs.Values.{nesting}
+use Rattle.dbus_values.specs.Values.{nesting}
 use Rattle.portal_base.specs.Names.{is_same, is_byte_of_path}
 use Rattle.portal_model.specs.Changed.{holds_handle}
 use Rattle.portal_model.specs.State.{is_none}

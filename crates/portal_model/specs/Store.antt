@@ -8,7 +8,7 @@ use Rattle.std.specs.List.{filter, find, list_any}
 use Rattle.dbus_types.specs.declared.types.Endian.TheVariants.{Little}
 use Rattle.dbus_types.specs.declared.types.Value.{Value}
 use Rattle.dbus_types.specs.declared.types.Value.TheVariants as V
-use Rattle.dbus_types.specs.Spelling.{spelling}
+use Rattle.dbus_values.specs.Spelling.{spelling}
 use Rattle.portal_base.specs.Names.{is_same}
 use Rattle.portal_model.specs.declared.records.EntryRecord.{EntryRecord}
 use Rattle.portal_model.specs.declared.records.Row.{Row}

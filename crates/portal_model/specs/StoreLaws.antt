@@ -5,8 +5,8 @@ use Rattle.dbus_types.specs.declared.types.Endian.TheVariants.{Little}
 use Rattle.dbus_types.specs.declared.types.Value.{Value}
 use Rattle.dbus_types.specs.declared.types.Value.TheVariants as V
 use Rattle.dbus_types.specs.declared.types.WireType.TheVariants as W
-use Rattle.dbus_types.specs.Spelling.{spelling}
-use Rattle.dbus_types.specs.Spells.{Spells}
+use Rattle.dbus_values.specs.Spelling.{spelling}
+use Rattle.dbus_values.specs.Spells.{Spells}
 use Rattle.portal_model.specs.declared.records.EntryRecord.{EntryRecord}
 use Rattle.portal_model.specs.declared.store.StoredEntry.{StoredEntry}
 use Rattle.portal_model.specs.Changed.{HasDatum, IsDatum}

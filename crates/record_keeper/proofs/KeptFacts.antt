@@ -10,8 +10,8 @@ use Rattle.dbus_types.specs.declared.types.Value.TheVariants as V
 use Rattle.dbus_types.specs.declared.types.WireType.{WireType, out-WireType, the_lemmas as type_lemmas}
 use Rattle.dbus_types.specs.declared.types.WireType.TheOpen.{WireType-F}
 use Rattle.dbus_types.specs.declared.types.WireType.TheVariants as W
-use Rattle.dbus_types.specs.Spelling.{spelling}
-use Rattle.dbus_types.specs.Spells.{Row, Spells, SpellsWithin}
+use Rattle.dbus_values.specs.Spelling.{spelling}
+use Rattle.dbus_values.specs.Spells.{Row, Spells, SpellsWithin}
 use Rattle.dbus_marshal.proofs.SpelledIsRead.{one_spelling}
 use Rattle.portal_model.specs.Changed.{HasDatum, IsDatum, holds_handle}
 use Rattle.portal_model.specs.Store.{Entries, record_of}

@@ -1,8 +1,8 @@
 -- A reader that stopped.
 use Rattle.std.proofs.Common.{◌≡◌, List, [], ◌∷◌, ◌++◌, Err, refl, ap}
-use Rattle.dbus_marshal.specs.Reading.{IsRead}
-use Rattle.dbus_marshal.specs.declared.error.ReadError.{ReadError}
-use Rattle.dbus_marshal.specs.declared.error.ReadError.TheVariants.{Memory}
+use Rattle.dbus_basic.specs.Reading.{IsRead}
+use Rattle.dbus_basic.specs.declared.error.ReadError.{ReadError}
+use Rattle.dbus_basic.specs.declared.error.ReadError.TheVariants.{Memory}
 
 -- with another error than want of memory, nothing that was there would have been read
 pub stopped : {X : Type 0} (error : ReadError) (P : X → Type 0) → (error ≡ Memory → ⊥) → IsRead {X = X} (Err error) P → ⊥

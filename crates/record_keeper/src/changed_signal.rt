@@ -2,7 +2,7 @@
 //! store: how long it is.
 
 ghost use Rattle.std.specs.Prelude.{◌≡◌, ◌≤◌, ◌^◌, IfOk};
-ghost use Rattle.dbus_types.specs.Spelling.{spelled_length};
+ghost use Rattle.dbus_values.specs.Spelling.{spelled_length};
 ghost use Rattle.portal_model.specs.Changed.{changed_length, changed_header, changed_fields as the_fields, header_field as field_of, changed_value as value_of_change, rows_value as value_of_rows, row_value as value_of_row, texts_value as value_of_texts};
 
 use dbus_marshal::write::write_value;
@@ -37,6 +37,7 @@ fn header_length(alloc: Global) -> Result<usize, WantOfMemory>
     ensures length { IfOk result (λ bytes. bytes ≡ changed_header) }
     ensures room { IfOk result (λ bytes. bytes ≤ 2 ^ 63) }
 {
+    // The fields are spelled each time and counted, so that no length of a header is written down.
     let mut header = List::new(alloc);
     header.resize(FIXED_FIELDS, 0)?;
     write_value(&mut header, &changed_fields(alloc)?)?;

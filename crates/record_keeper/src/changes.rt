@@ -83,6 +83,7 @@ fn set_grants(documents: &mut Vec<DocRecord>, number: u32, grants: List<GrantRec
 fn place_of_document(documents: &[DocRecord], number: u32) -> Option<usize>
     ensures { result ≡ position (is_numbered number) documents.now }
 {
+    // Of several records of one number a change goes to the first.
     documents
         .iter()
         .position(|document| document.number == number)

@@ -54,6 +54,8 @@ impl EarlierDocuments {
     ) -> Result<bool, WantOfMemory>
         ensures { IfOk result (TakesDocument limits.now self.old document.now self.new) }
     {
+        // The record with which a limit is passed is the bad one, though the one before it would
+        // do.
         if self.count >= limits.documents || self.count >= limits.made {
             return Ok(false);
         }

@@ -46,6 +46,7 @@ pub fn records_fault(
 ) -> Result<Option<RecordsFault>, WantOfMemory>
     ensures { IfOk result (IsWrong limits.now records.now) }
 {
+    // The version comes ahead of every record: those of another version have no meaning here.
     let found = records.version;
     if found != RECORDS_VERSION {
         return Ok(Some(RecordsFault::BadVersion { found }));

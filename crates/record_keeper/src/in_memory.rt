@@ -16,6 +16,7 @@ use std::marker::Model;
 #[derive(Drop)]
 pub struct MemoryKeeper {
     alloc: Global,
+    // Contracts speak of the records that it began with too.
     began: Records,
     version: u32,
     documents: Vec<DocRecord>,
@@ -113,6 +114,8 @@ fn reserve(
     ensures documents { OnOk result (vec_len documents.new + count ≤ vec_capacity documents.new) }
     ensures entries { OnOk result (vec_len entries.new + count ≤ vec_capacity entries.new) }
 {
+    // Room for all changes is taken ahead of the first: they are then made in place, and none can
+    // be refused.
     documents.reserve(count)?;
     entries.reserve(count)?;
     Ok(())

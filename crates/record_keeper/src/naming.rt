@@ -91,6 +91,8 @@ impl Named {
         ensures { OnOk result (self.new
             ≡ fold also_named self.old (map (λ grant. grant.app) grants.now)) }
     {
+        // An application is numbered as a right first names it. In records that aren't bad each
+        // grant has a right, so the names in their grants are these.
         for grant in grants {
             self.add(alloc, grant.app.as_slice())?;
         }

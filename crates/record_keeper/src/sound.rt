@@ -27,6 +27,7 @@ const LONGEST_MESSAGE: usize = 16_777_216;
 pub fn is_sound_entry(alloc: Global, entry: &EntryRecord) -> Result<bool, WantOfMemory>
     ensures { IfOk result (λ sound. IsTrue sound ↔ IsSoundEntry entry.now) }
 {
+    // The table of documents is the portal's own, and no call of the permission store reaches it.
     if !has_sound_texts(entry) || entry.table.as_bytes() == b"documents".as_slice() {
         return Ok(false);
     }

@@ -1,8 +1,8 @@
 -- A run of the program, of a script, of two scripts or of a load.
 use Rattle.std.proofs.Common.{◌≡◌, ℕ, List, [], Option, refl, sym, subst, inl, inr}
 use Rattle.script_command.specs.declared.command.Command.TheVariants.{Generate, Worlds}
-use Rattle.script_command.specs.declared.status.Status.{Status}
-use Rattle.script_command.specs.declared.status.Status.TheVariants.{Done, Usage, ScriptFault, ReadFault, WriteFault, Memory, TooLong}
+use Rattle.script_replay.specs.declared.status.Status.{Status}
+use Rattle.script_replay.specs.declared.status.Status.TheVariants.{Done, Usage, ScriptFault, ReadFault, WriteFault, Memory, TooLong}
 use Rattle.script_command.specs.Commands.{IsCommand, IsNoCommand, NamesApp, replay_words}
 use Rattle.script_command.specs.Generated.{RanAny}
 use Rattle.script_command.specs.Runs.{Ran, Risen}
@@ -10,7 +10,7 @@ use Rattle.script_command.specs.Worlds.{RanWorlds}
 use Rattle.script_command.proofs.BytesAhead.{behind_none}
 use Rattle.script_command.proofs.LoadRun.{Generated}
 use Rattle.script_command.proofs.ReplayScript.{ran_unknown}
-use Rattle.script_command.proofs.RunLines.{onto_none}
+use Rattle.script_replay.proofs.RunLines.{onto_none}
 
 pub any_replay : (words : List (List ℕ)) (left left' : Option (List ℕ)) (told told' : Option (List (List ℕ))) (status : Status) → words ≡ replay_words → Ran replay_words left left' told told' status → RanAny words left left' told told' status
 any_replay words left left' told told' status w r = inr (inr (subst (λ (x : List (List ℕ)). Ran x left left' told told' status) (sym w) r))

@@ -4,7 +4,7 @@ use Rattle.std.proofs.Math.Seq.{take-suc}
 use Rattle.std.proofs.lemmas.List.{append-nil, take-append-drop, take_all}
 use Rattle.portal_base.specs.declared.outside.WriteAnswer.TheVariants.{Failed}
 use Rattle.portal_base.specs.Outside.{HasRisen, Short, WriteCounts, Writes, onto}
-use Rattle.portal_core.specs.Story.{state_first}
+use Rattle.portal_steps.specs.Story.{state_first}
 use Rattle.portal_load.specs.declared.load.Load.{Load}
 use Rattle.portal_load.specs.Lines.{load_of, most_requests}
 use Rattle.portal_load.proofs.Lengths.{are_short}
@@ -13,21 +13,21 @@ use Rattle.portal_model.specs.declared.entry.Entry.{Entry}
 use Rattle.portal_model.specs.History.{cost}
 use Rattle.portal_model.specs.State.{State}
 use Rattle.portal_model.specs.Store.{Entries}
-use Rattle.script_form.specs.declared.script.ScriptLine.{ScriptLine}
-use Rattle.script_form.specs.Lines.{text_of}
+use Rattle.script_lines.specs.declared.script.ScriptLine.{ScriptLine}
+use Rattle.script_lines.specs.Lines.{text_of}
 use Rattle.script_form.specs.Order.{IsRead, IsScript}
-use Rattle.script_command.specs.declared.status.Status.{Status}
-use Rattle.script_command.specs.declared.status.Status.TheVariants.{Done, Usage, ScriptFault, ReadFault, WriteFault, Memory, TooLong}
-use Rattle.script_command.specs.Outcomes.{done_in, refused_in}
+use Rattle.script_replay.specs.declared.status.Status.{Status}
+use Rattle.script_replay.specs.declared.status.Status.TheVariants.{Done, Usage, ScriptFault, ReadFault, WriteFault, Memory, TooLong}
+use Rattle.script_replay.specs.Outcomes.{done_in, refused_in}
 use Rattle.script_command.specs.Generated.{five_lines, Generates, RanLoad, WritesLines, lines_of_load, load_lines, load_lines_at}
 use Rattle.script_command.specs.Inputs.{script_limit}
-use Rattle.script_command.specs.Plays.{Plays, PlaysAll, PlayStops}
+use Rattle.script_replay.specs.Plays.{Plays, PlaysAll, PlayStops}
 use Rattle.script_command.specs.Runs.{Risen}
-use Rattle.script_command.specs.Scenes.{Scene, ScriptPortal, first_scene, opening_state}
-use Rattle.script_command.specs.Started.{StartsScript}
-use Rattle.script_command.specs.Steps.{MayPlay, scene}
+use Rattle.script_replay.specs.Scenes.{Scene, ScriptPortal, first_scene, opening_state}
+use Rattle.script_replay.specs.Started.{StartsScript}
+use Rattle.script_replay.specs.Steps.{MayPlay, scene}
 use Rattle.script_command.proofs.ReplayScript.{is_replay_with, itself, may_replay, scene_is}
-use Rattle.script_command.proofs.RunLines.{onto_more, onto_none, short_front}
+use Rattle.script_replay.proofs.RunLines.{onto_more, onto_none, short_front}
 
 -- ---- at the portal that the load's script opens
 

@@ -9,8 +9,8 @@ use Rattle.portal_base.specs.Outside.{Draws}
 use Rattle.portal_base.specs.declared.files.File.{File}
 use Rattle.portal_base.specs.declared.files.Look.{Look}
 use Rattle.portal_base.specs.declared.names.doc_id.DocId.{DocId}
-use Rattle.portal_core.specs.Devices.{Drawn}
-use Rattle.portal_core.specs.TreeCalls.{CallsAsTold, bus_calls}
+use Rattle.portal_steps.specs.Devices.{Drawn}
+use Rattle.portal_steps.specs.TreeCalls.{CallsAsTold, bus_calls}
 use Rattle.node_serving.specs.Seats.{calls_on}
 use Rattle.portal_model.specs.declared.entry.Entry.{Entry}
 use Rattle.portal_model.specs.declared.entry.Fault.{Fault}
@@ -30,7 +30,7 @@ use Rattle.portal_model.proofs.ListLookups.{is_same-eq, nat_is}
 use Rattle.portal_model.proofs.StaysTold.{step_told}
 use Rattle.portal_model.proofs.TripleOrder.{is_same-refl}
 use Rattle.script_form.specs.Outside.{Outside}
-use Rattle.script_command.specs.Entries.{AreGiven, Changes, ChangesOn, IsGiven}
+use Rattle.script_replay.specs.Entries.{AreGiven, Changes, ChangesOn, IsGiven}
 use Rattle.script_command.proofs.AddAlike.{bus_alike}
 use Rattle.script_command.proofs.OneWalk.{moment_one, one_given}
 use Rattle.script_command.proofs.WalksAlike.{DrawAlike, alike_clock, alike_drawn, alike_given}

@@ -4,9 +4,9 @@ use Rattle.portal_model.specs.declared.entry.Entry.{Entry}
 use Rattle.portal_model.specs.declared.request.Request.{Request}
 use Rattle.portal_model.specs.History.{run}
 use Rattle.portal_model.specs.State.{State}
-use Rattle.script_form.specs.declared.script.ScriptLine.{ScriptLine}
-use Rattle.script_form.specs.declared.script.ScriptLine.TheVariants.{File, Doc, Fail, Word, Now, Open, Data, Close}
-use Rattle.script_form.specs.declared.script.ScriptLine.TheVariants as line
+use Rattle.script_lines.specs.declared.script.ScriptLine.{ScriptLine}
+use Rattle.script_lines.specs.declared.script.ScriptLine.TheVariants.{File, Doc, Fail, Word, Now, Open, Data, Close}
+use Rattle.script_lines.specs.declared.script.ScriptLine.TheVariants as line
 use Rattle.script_form.specs.Outside.{Outside}
 use Rattle.session.specs.declared.act.Act.{Act}
 use Rattle.session.specs.declared.act.Client.{Client}
@@ -21,11 +21,11 @@ use Rattle.session.specs.Sessions.{fed_of}
 use Rattle.session.specs.Standings.{Standing, stage}
 use Rattle.session.proofs.ItemsAreOne.{are_one}
 use Rattle.session.proofs.AnswersAsked.{say_alike}
-use Rattle.script_command.specs.Entries.{AreGiven, made_of}
-use Rattle.script_command.specs.Lines.{Comes, CloseDoes, DataDoes, Does, Goes, Hears, Passes}
-use Rattle.script_command.specs.Plays.{Plays}
-use Rattle.script_command.specs.Scenes.{Scene, placed}
-use Rattle.script_command.proofs.GivenEntries.{run_told}
+use Rattle.script_replay.specs.Entries.{AreGiven, made_of}
+use Rattle.script_replay.specs.Lines.{Comes, CloseDoes, DataDoes, Does, Goes, Hears, Passes}
+use Rattle.script_replay.specs.Plays.{Plays}
+use Rattle.script_replay.specs.Scenes.{Scene, placed}
+use Rattle.script_replay.proofs.GivenEntries.{run_told}
 use Rattle.script_command.proofs.OneEntry.{entries_one}
 use Rattle.script_command.proofs.SoundHistory.{does_lead}
 

@@ -1,7 +1,7 @@
 -- Over a tree that tells its files and its calls, one thing is given to a walk.
 use Rattle.std.proofs.Common.{◌≡◌, ℕ, List, [], ◌∷◌, Bool, true, false, Option, Some, None, is_some, refl, sym, ap, subst, ◌∙◌}
 use Rattle.std.specs.Prelude.{IfSome}
-use Rattle.file_ops.specs.TreeCalls.{CallsAsTold, calls_of}
+use Rattle.node_looks.specs.TreeCalls.{CallsAsTold, calls_of}
 use Rattle.portal_base.specs.Calls.{Calls, next_call}
 use Rattle.portal_base.specs.declared.files.File.{File}
 use Rattle.portal_base.specs.declared.files.Look.{Look}

@@ -4,9 +4,9 @@ use Rattle.std.proofs.Math.Seq.{take-append_seam}
 use Rattle.std.proofs.lemmas.Grind.{flat_map-append}
 use Rattle.std.proofs.lemmas.List.{append-nil}
 use Rattle.std.proofs.lemmas.List.Elements.{All-push}
-use Rattle.script_form.specs.Reading.{CutsAt}
+use Rattle.script_lines.specs.Reading.{CutsAt}
 use Rattle.script_command.specs.Parting.{IsOther, IsParted, parting, with_feeds}
-use Rattle.script_command.specs.Texts.{line_feed}
+use Rattle.script_replay.specs.Texts.{line_feed}
 
 -- lines that don't part stand ahead of the rest
 pub record StandAhead (text rest : List ℕ) : Type 0 where

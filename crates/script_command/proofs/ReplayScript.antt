@@ -7,9 +7,9 @@ use Rattle.portal_model.specs.History.{cost, run}
 use Rattle.portal_model.specs.State.{State}
 use Rattle.portal_model.specs.Store.{Entries}
 use Rattle.portal_model.specs.Valid.{Valid}
-use Rattle.portal_core.specs.Story.{limit_of, state_first, state_now}
-use Rattle.script_form.specs.declared.script.ScriptLine.{ScriptLine}
-use Rattle.script_form.specs.Lines.{text_of}
+use Rattle.portal_steps.specs.Story.{limit_of, state_first, state_now}
+use Rattle.script_lines.specs.declared.script.ScriptLine.{ScriptLine}
+use Rattle.script_lines.specs.Lines.{text_of}
 use Rattle.record_keeper.specs.KeptEntries.{KeepEntries}
 use Rattle.record_keeper.proofs.KeptFacts.{kept_in_one_way}
 use Rattle.script_form.specs.Opening.{entries_of}
@@ -17,19 +17,19 @@ use Rattle.script_form.specs.Outside.{Outside}
 use Rattle.script_form.specs.Order.{IsRead, IsFault, IsScript, StandBehind}
 use Rattle.script_command.specs.declared.input.InputError.{InputError}
 use Rattle.script_command.specs.declared.input.InputError.TheVariants as input
-use Rattle.script_command.specs.declared.status.Status.{Status}
-use Rattle.script_command.specs.declared.status.Status.TheVariants.{Done, Usage, ScriptFault, ReadFault, WriteFault, Memory, TooLong}
+use Rattle.script_replay.specs.declared.status.Status.{Status}
+use Rattle.script_replay.specs.declared.status.Status.TheVariants.{Done, Usage, ScriptFault, ReadFault, WriteFault, Memory, TooLong}
 use Rattle.script_command.specs.Inputs.{script_limit, AtEnd, IsWhole, Stops}
-use Rattle.script_command.specs.Plays.{Plays, PlaysAll, PlaysPart, PlayStops}
+use Rattle.script_replay.specs.Plays.{Plays, PlaysAll, PlaysPart, PlayStops}
 use Rattle.script_command.specs.Commands.{replay_words, IsNoCommand}
 use Rattle.script_command.specs.Runs.{Cause, IsReplay, Ran, Replays, Risen, WroteFront}
-use Rattle.script_command.specs.Scenes.{Scene, ScriptPortal, first_scene, held_in, opening_state, outside_at, run_limits, sessions_of}
-use Rattle.script_command.specs.Steps.{Agrees, AreFirst, MayPlay, scene}
-use Rattle.script_command.specs.Started.{StartsScript}
+use Rattle.script_replay.specs.Scenes.{Scene, ScriptPortal, first_scene, held_in, opening_state, outside_at, run_limits, sessions_of}
+use Rattle.script_replay.specs.Steps.{Agrees, AreFirst, MayPlay, scene}
+use Rattle.script_replay.specs.Started.{StartsScript}
 use Rattle.script_command.proofs.BytesAhead.{behind_none}
-use Rattle.script_command.proofs.HeldBytes.{nothing_held}
+use Rattle.script_replay.proofs.HeldBytes.{nothing_held}
 use Rattle.script_command.proofs.OneOutput.{plays_one}
-use Rattle.script_command.proofs.RunLines.{onto_none, plays_cost, text_joined}
+use Rattle.script_replay.proofs.RunLines.{onto_none, plays_cost, text_joined}
 use Rattle.script_command.proofs.SoundHistory.{sound}
 
 -- ---- a text

@@ -7,18 +7,18 @@ use Rattle.portal_model.specs.State.{State}
 use Rattle.portal_model.specs.Valid.{Valid}
 use Rattle.portal_model.proofs.Histories.{EachLawful-append}
 use Rattle.app_world.proofs.WorldLaws.{replies_of_trace}
-use Rattle.script_form.specs.declared.script.ScriptLine.{ScriptLine}
-use Rattle.script_form.specs.declared.script.ScriptLine.TheVariants.{File, Doc, Fail, Word, Now, Open, Data, Close}
-use Rattle.script_form.specs.declared.script.ScriptLine.TheVariants as line
+use Rattle.script_lines.specs.declared.script.ScriptLine.{ScriptLine}
+use Rattle.script_lines.specs.declared.script.ScriptLine.TheVariants.{File, Doc, Fail, Word, Now, Open, Data, Close}
+use Rattle.script_lines.specs.declared.script.ScriptLine.TheVariants as line
 use Rattle.session.specs.declared.served.Stop.{Stop}
 use Rattle.session.specs.declared.served.Stop.TheVariants as stop
 use Rattle.session.specs.Standings.{Standing}
-use Rattle.script_command.specs.Lines.{Comes, CloseDoes, DataDoes, Does, Goes, Passes, Sets}
-use Rattle.script_command.specs.Plays.{Plays}
+use Rattle.script_replay.specs.Lines.{Comes, CloseDoes, DataDoes, Does, Goes, Passes, Sets}
+use Rattle.script_replay.specs.Plays.{Plays}
 use Rattle.script_command.specs.Runs.{IsSound}
 use Rattle.portal_model.specs.Store.{Entries}
-use Rattle.script_command.specs.Scenes.{Scene, first_scene, opening_state}
-use Rattle.script_command.proofs.GivenEntries.{given_lawful}
+use Rattle.script_replay.specs.Scenes.{Scene, first_scene, opening_state}
+use Rattle.script_replay.proofs.GivenEntries.{given_lawful}
 
 -- entries are lawful from a scene, and lead to the portal of another
 pub record Leads (a : Scene) (entries : List Entry) (b : Scene) : Type 0 where

@@ -15,11 +15,11 @@ use Rattle.portal_base.specs.PathOrder.{path_order}
 use Rattle.portal_model.specs.declared.opening.FileItem.{FileItem}
 use Rattle.portal_model.specs.declared.opening.OpeningState.{OpeningState}
 use Rattle.portal_model.specs.Opening.{file_of}
-use Rattle.script_form.specs.declared.script.ScriptLine.{ScriptLine}
+use Rattle.script_lines.specs.declared.script.ScriptLine.{ScriptLine}
 use Rattle.script_form.specs.Devices.{tree_files}
 use Rattle.script_form.specs.Opening.{IsOpening, opening_with}
 use Rattle.script_command.specs.Openings.{AreAtTheirs, StandsFor, files_in}
-use Rattle.script_command.specs.Scenes.{run_limits}
+use Rattle.script_replay.specs.Scenes.{run_limits}
 
 abbrev Table : Type 0
 Table = List (List ℕ × FileItem)

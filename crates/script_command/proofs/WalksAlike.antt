@@ -1,6 +1,6 @@
 -- Walks of requests on documents that look alike: over a tree that tells its files and its calls, what is given to the one is given to the other.
 use Rattle.std.proofs.Common.{◌≡◌, ℕ, List, [], ◌∷◌, Bool, false, Some, refl, sym, ap, subst, ◌∙◌}
-use Rattle.file_ops.specs.TreeCalls.{CallsAsTold, calls_of}
+use Rattle.node_looks.specs.TreeCalls.{CallsAsTold, calls_of}
 use Rattle.portal_base.specs.Calls.{Calls, next_call}
 use Rattle.portal_base.specs.declared.files.File.{File}
 use Rattle.portal_base.specs.declared.files.Look.{Look}

@@ -17,8 +17,8 @@ use Rattle.portal_model.specs.State.{State}
 use Rattle.portal_model.specs.Store.{Entries}
 use Rattle.record_keeper.proofs.HeldEntries.{good_rows}
 use Rattle.record_keeper.proofs.KeptFacts.{kept_in_one_way}
-use Rattle.script_form.specs.declared.script.ScriptLine.{ScriptLine}
-use Rattle.script_form.specs.Lines.{text_of}
+use Rattle.script_lines.specs.declared.script.ScriptLine.{ScriptLine}
+use Rattle.script_lines.specs.Lines.{text_of}
 use Rattle.script_form.specs.Devices.{tree_files}
 use Rattle.script_form.specs.Opening.{entries_of}
 use Rattle.script_form.specs.Order.{IsRead, IsScript}
@@ -26,13 +26,13 @@ use Rattle.script_form.proofs.FilesPlaced.{script_placed}
 use Rattle.script_form.proofs.RecordsFacts.{never_bad}
 use Rattle.script_command.specs.Inputs.{script_limit}
 use Rattle.script_command.specs.Openings.{StandsFor}
-use Rattle.script_command.specs.Plays.{Plays, PlaysAll}
-use Rattle.script_command.specs.Scenes.{Scene, ScriptPortal, first_scene, opening_state, run_limits}
-use Rattle.script_command.specs.Started.{StartsScript}
-use Rattle.script_command.specs.Steps.{MayPlay, scene}
+use Rattle.script_replay.specs.Plays.{Plays, PlaysAll}
+use Rattle.script_replay.specs.Scenes.{Scene, ScriptPortal, first_scene, opening_state, run_limits}
+use Rattle.script_replay.specs.Started.{StartsScript}
+use Rattle.script_replay.specs.Steps.{MayPlay, scene}
 use Rattle.script_command.specs.Worlds.{IsTraceIn, RanAt}
 use Rattle.script_command.proofs.ReplayScript.{is_replay, itself, may_replay, scene_is}
-use Rattle.script_command.proofs.StartedScript.{holds}
+use Rattle.script_replay.proofs.StartedScript.{holds}
 
 -- ---- the run
 

@@ -5,22 +5,22 @@ use Rattle.app_trace.specs.Matches.{Matches}
 use Rattle.app_world.specs.World.{Trace, app_run}
 use Rattle.portal_base.specs.Outside.{behind, onto}
 use Rattle.script_form.specs.declared.error.ScriptError.TheVariants as refused
-use Rattle.script_form.specs.declared.script.ScriptLine.{ScriptLine}
-use Rattle.script_form.specs.Lines.{text_of}
+use Rattle.script_lines.specs.declared.script.ScriptLine.{ScriptLine}
+use Rattle.script_lines.specs.Lines.{text_of}
 use Rattle.script_form.specs.Order.{IsFault, IsRead}
 use Rattle.script_form.proofs.ScriptFacts.{lines_short}
 use Rattle.script_command.specs.declared.input.InputError.{InputError}
 use Rattle.script_command.specs.declared.input.InputError.TheVariants as input
-use Rattle.script_command.specs.declared.status.Status.{Status}
-use Rattle.script_command.specs.declared.status.Status.TheVariants.{Done, Usage, ScriptFault, ReadFault, WriteFault, Memory, TooLong}
+use Rattle.script_replay.specs.declared.status.Status.{Status}
+use Rattle.script_replay.specs.declared.status.Status.TheVariants.{Done, Usage, ScriptFault, ReadFault, WriteFault, Memory, TooLong}
 use Rattle.script_command.specs.Inputs.{IsWhole, Stops, script_limit}
 use Rattle.script_command.specs.Parting.{IsParted, parting}
 use Rattle.script_command.specs.Runs.{Risen}
-use Rattle.script_command.specs.Texts.{line_feed}
+use Rattle.script_replay.specs.Texts.{line_feed}
 use Rattle.script_command.specs.Worlds.{AreRefused, AreScripts, RunsCompare, Compares, IsTraceIn}
 use Rattle.script_command.specs.Worlds.{RanWorlds, ScriptsCompare, Tells, WhyCompared, number_behind, trace_in}
 use Rattle.script_command.proofs.ReplayScript.{status_of}
-use Rattle.script_command.proofs.RunLines.{onto_none}
+use Rattle.script_replay.proofs.RunLines.{onto_none}
 
 -- ---- the parts of a text
 

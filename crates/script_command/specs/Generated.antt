@@ -2,20 +2,20 @@
 use Rattle.std.specs.Prelude.{◌≡◌, ◌⊎◌, ℕ, Bool, true, false, List, [], ◌∷◌, ◌++◌, length, Option, codes}
 use Rattle.std.specs.Fmt.{decimal}
 use Rattle.portal_base.specs.Outside.{HasRisen, Short, onto}
-use Rattle.portal_core.specs.Story.{Story, state_first}
+use Rattle.portal_steps.specs.Story.{Story, state_first}
 use Rattle.portal_load.specs.Lines.{load_of}
 use Rattle.portal_model.specs.declared.entry.Entry.{Entry}
 use Rattle.portal_model.specs.History.{cost}
 use Rattle.portal_model.specs.State.{State}
-use Rattle.script_form.specs.declared.script.ScriptLine.{ScriptLine}
+use Rattle.script_lines.specs.declared.script.ScriptLine.{ScriptLine}
 use Rattle.script_command.specs.declared.command.Command.TheVariants.{Generate, Worlds}
-use Rattle.script_command.specs.declared.status.Status.{Status}
-use Rattle.script_command.specs.declared.status.Status.TheVariants.{Done, Usage, ScriptFault, ReadFault, WriteFault, Memory, TooLong}
+use Rattle.script_replay.specs.declared.status.Status.{Status}
+use Rattle.script_replay.specs.declared.status.Status.TheVariants.{Done, Usage, ScriptFault, ReadFault, WriteFault, Memory, TooLong}
 use Rattle.script_command.specs.Commands.{IsCommand}
-use Rattle.script_command.specs.Outcomes.{done_in, refused_in}
+use Rattle.script_replay.specs.Outcomes.{done_in, refused_in}
 use Rattle.script_command.specs.Runs.{IsReplay, Ran}
-use Rattle.script_command.specs.Scenes.{Scene, ScriptPortal, opening_state}
-use Rattle.script_command.specs.Texts.{line_feed, space}
+use Rattle.script_replay.specs.Scenes.{Scene, ScriptPortal, opening_state}
+use Rattle.script_replay.specs.Texts.{line_feed, space}
 use Rattle.script_command.specs.Worlds.{RanWorlds}
 
 -- ---- the five lines

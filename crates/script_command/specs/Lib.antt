@@ -1,17 +1,7 @@
 pub mod Commands
 pub mod Inputs
-pub mod Entries
-pub mod Texts
-pub mod Scenes
-pub mod Lines
-pub mod Seats
-pub mod Steps
-pub mod Started
 pub mod Openings
-pub mod Plays
 pub mod Runs
 pub mod Parting
 pub mod Worlds
-pub mod Outcomes
 pub mod Generated
-pub mod Statuses

@@ -5,10 +5,10 @@ use Rattle.portal_model.specs.declared.opening.FileItem.{FileItem}
 use Rattle.portal_model.specs.declared.opening.OpeningState.{OpeningState}
 use Rattle.portal_model.specs.Opening.{file_of}
 use Rattle.record_keeper.specs.KeptEntries.{KeepEntries}
-use Rattle.script_form.specs.declared.script.ScriptLine.{ScriptLine}
+use Rattle.script_lines.specs.declared.script.ScriptLine.{ScriptLine}
 use Rattle.script_form.specs.Devices.{tree_files}
 use Rattle.script_form.specs.Opening.{entries_of, opening_with}
-use Rattle.script_command.specs.Scenes.{run_limits}
+use Rattle.script_replay.specs.Scenes.{run_limits}
 
 -- the files of a table by path, in the order of the paths
 abbrev pub files_in : List (List ℕ × FileItem) → List File

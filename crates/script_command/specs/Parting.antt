@@ -1,8 +1,8 @@
 -- A text whose first line "====" parts it.
 use Rattle.std.specs.Prelude.{◌≡◌, ◌≢◌, ℕ, List, [], ◌∷◌, ◌++◌, codes, All}
 use Rattle.std.specs.List.{flat_map}
-use Rattle.script_form.specs.Reading.{IsFree}
-use Rattle.script_command.specs.Texts.{line_feed}
+use Rattle.script_lines.specs.Reading.{IsFree}
+use Rattle.script_replay.specs.Texts.{line_feed}
 
 -- the line that parts, without its line feed
 abbrev pub parting : List ℕ

@@ -7,16 +7,16 @@ use Rattle.portal_model.specs.Store.{Entries}
 use Rattle.record_keeper.specs.KeptEntries.{KeepEntries}
 use Rattle.script_form.specs.Opening.{entries_of}
 use Rattle.app_world.specs.World.{app_run, trace}
-use Rattle.script_form.specs.declared.script.ScriptLine.{ScriptLine}
-use Rattle.script_form.specs.Lines.{text_of}
+use Rattle.script_lines.specs.declared.script.ScriptLine.{ScriptLine}
+use Rattle.script_lines.specs.Lines.{text_of}
 use Rattle.script_form.specs.Order.{IsRead, IsFault}
-use Rattle.script_command.specs.declared.status.Status.{Status}
-use Rattle.script_command.specs.declared.status.Status.TheVariants.{Done, Usage, ScriptFault, ReadFault, WriteFault, Memory, TooLong}
+use Rattle.script_replay.specs.declared.status.Status.{Status}
+use Rattle.script_replay.specs.declared.status.Status.TheVariants.{Done, Usage, ScriptFault, ReadFault, WriteFault, Memory, TooLong}
 use Rattle.script_command.specs.Commands.{replay_words, IsNoCommand}
 use Rattle.script_command.specs.Inputs.{script_limit, AtEnd}
-use Rattle.script_command.specs.Plays.{Plays}
-use Rattle.script_command.specs.Scenes.{Scene, first_scene, held_in, opening_state, run_limits}
-use Rattle.script_command.specs.Steps.{AreFirst}
+use Rattle.script_replay.specs.Plays.{Plays}
+use Rattle.script_replay.specs.Scenes.{Scene, first_scene, held_in, opening_state, run_limits}
+use Rattle.script_replay.specs.Steps.{AreFirst}
 
 -- the history of the lines is legal, and the replies to each application are those of its own
 -- machine over its trace

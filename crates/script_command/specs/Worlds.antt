@@ -13,17 +13,17 @@ use Rattle.portal_model.specs.History.{replies}
 use Rattle.portal_model.specs.State.{State}
 use Rattle.script_form.specs.declared.error.ScriptError.{ScriptError}
 use Rattle.script_form.specs.declared.error.ScriptError.TheVariants as refused
-use Rattle.script_form.specs.declared.script.ScriptLine.{ScriptLine}
-use Rattle.script_form.specs.Lines.{text_of}
+use Rattle.script_lines.specs.declared.script.ScriptLine.{ScriptLine}
+use Rattle.script_lines.specs.Lines.{text_of}
 use Rattle.script_form.specs.Order.{IsFault, IsRead, IsScript}
-use Rattle.script_command.specs.declared.status.Status.{Status}
-use Rattle.script_command.specs.declared.status.Status.TheVariants.{Done, ScriptFault, ReadFault}
-use Rattle.script_command.specs.declared.status.Status.TheVariants.{WriteFault, Memory, TooLong}
+use Rattle.script_replay.specs.declared.status.Status.{Status}
+use Rattle.script_replay.specs.declared.status.Status.TheVariants.{Done, ScriptFault, ReadFault}
+use Rattle.script_replay.specs.declared.status.Status.TheVariants.{WriteFault, Memory, TooLong}
 use Rattle.script_command.specs.Inputs.{AtEnd, script_limit}
 use Rattle.script_command.specs.Parting.{IsParted, IsUnparted}
 use Rattle.script_command.specs.Runs.{IsReplay}
-use Rattle.script_command.specs.Scenes.{Scene, ScriptPortal, opening_state}
-use Rattle.script_command.specs.Texts.{line_feed}
+use Rattle.script_replay.specs.Scenes.{Scene, ScriptPortal, opening_state}
+use Rattle.script_replay.specs.Texts.{line_feed}
 
 -- ---- a world
 

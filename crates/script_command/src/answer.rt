@@ -1,13 +1,13 @@
 //! What the program does for its words, where they are none of a service.
 
 ghost use Rattle.std.specs.Prelude.{◌≡◌};
-ghost use Rattle.script_command.specs.Statuses.{number_of};
+ghost use Rattle.script_replay.specs.Statuses.{number_of};
 
 use crate::about;
 use crate::run::run;
-use crate::status::Status;
 use portal_base::outside::{Sink, StdSink, StdSource, WriteAnswer};
 use portal_base::text::Text;
+use script_replay::status::Status;
 
 /// Does what the words ask for: the number that the program ends with.
 ///

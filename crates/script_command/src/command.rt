@@ -60,6 +60,8 @@ fn command_of_two(
     ensures reads { IfOk result (ReadsCommand (first.now ∷ second.now ∷ [])) }
     ensures wants { OnErr result (NamesApp (first.now ∷ second.now ∷ [])) }
 {
+    // Whether the word is a name is asked first, since that takes no memory: with however little
+    // of it, faulty words are faulty.
     if first == b"worlds".as_slice() && AppId::is_name(second) {
         return match app_named(alloc, second) {
             Ok(app) => Ok(Some(Command::Worlds { app })),

@@ -2,24 +2,24 @@
 
 ghost use Rattle.std.specs.Prelude.{◌≡◌, ◌≤◌, ◌++◌, ◌∷◌, [], ℕ, List, true, IfErr, IfOk, OnOk};
 ghost use Rattle.portal_base.specs.Outside.{onto};
-ghost use Rattle.portal_core.specs.Story.{state_first};
+ghost use Rattle.portal_steps.specs.Story.{state_first};
 ghost use Rattle.portal_load.specs.Lines.{most_requests};
 ghost use Rattle.script_command.specs.Generated.{Generates, RanLoad, WritesLines};
 ghost use Rattle.script_command.specs.Generated.{count_line as line_of_count, five_lines, lines_of_load, load_lines_at};
 ghost use Rattle.script_command.specs.Runs.{Risen};
-ghost use Rattle.script_command.specs.Started.{StartsScript};
+ghost use Rattle.script_replay.specs.Started.{StartsScript};
 
-use crate::counted::CountedPortal;
-use crate::output::NoSink;
-use crate::replay::run_lines;
-use crate::settings::settings;
-use crate::start::start;
-use crate::status::Status;
 use portal_base::list::{ByteList, List};
 use portal_base::memory::WantOfMemory;
 use portal_base::outside::{Sink, WriteAnswer};
 use portal_core::storied::Storied;
 use portal_load::load::{Load, generate as load_of};
+use script_replay::counted::CountedPortal;
+use script_replay::output::NoSink;
+use script_replay::replay::run_lines;
+use script_replay::settings::settings;
+use script_replay::start::start;
+use script_replay::status::Status;
 use std::alloc::Global;
 
 /// Runs the load of so many requests, and writes five lines that say what

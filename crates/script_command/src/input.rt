@@ -57,6 +57,7 @@ pub fn read_to_end<S: Source>(alloc: Global, source: &mut S) -> Result<ByteList,
                 };
             }
         }
+        // It is told as soon as too many bytes came, before the input ends.
         if text.len() > LONGEST_SCRIPT {
             return Err(InputError::TooLong);
         }

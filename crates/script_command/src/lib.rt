@@ -11,14 +11,14 @@
 //! |---|---|
 //! | `answer` | what the program does for its words, and how it tells of it |
 //! | `about` | what `--help` and `--version` print |
-//! | `command`, `settings` | the words of the program, and what a run is set to |
-//! | `input`, `output` | the input, read to its end; the lines of the output |
-//! | `run`, `status` | the whole of a run, and how it ends |
-//! | `start`, `counted` | the portal that a script opens, over devices in memory, and what became of its requests |
-//! | `replay`, `generate` | a script's lines, one after another; a load of requests |
-//! | `worlds`, `world`, `opening`, `parting` | two scripts, compared; one of them, run; the state that it opens with, as plain data; the parts of a text |
-//! | `line`, `error` | one line, and why it isn't run |
-//! | `seats`, `connections` | the sessions of a script, each at its seat of the portal |
+//! | `command` | the words of the program |
+//! | `input` | the input, read to its end |
+//! | `run` | the whole of a run |
+//! | `generate` | a load of requests |
+//! | `worlds`, `world`, `compared` | two scripts, compared; one of them, run; the line that tells of it |
+//! | `opening`, `parting` | the state that a script opens with, as plain data; the parts of a text |
+//!
+//! How a run ends (`status`) and its lines, one after another, stand in `script_replay`.
 //!
 //! ```text
 //! let number = answer(rt, words);                             // the one that the program ends with
@@ -31,20 +31,13 @@
 mod about;
 pub mod answer;
 mod command;
-mod connections;
-mod counted;
-mod error;
+mod compared;
 mod generate;
 mod input;
-mod line;
 mod opening;
-mod output;
 mod parting;
-mod replay;
 pub mod run;
-mod seats;
-mod settings;
-mod start;
-pub mod status;
 mod world;
 mod worlds;
+
+pub use script_replay::status;

@@ -9,13 +9,13 @@ ghost use Rattle.script_form.specs.Opening.{file_in, time_behind};
 ghost use Rattle.script_form.specs.Order.{IsScript};
 ghost use Rattle.script_command.specs.Openings.{AreAtTheirs, StandsFor, files_in};
 
-use crate::settings::limits;
 use portal_base::list::{ByteList, List};
 use portal_base::memory::{Replica, WantOfMemory};
 use portal_base::names::HostPath;
 use portal_model::opening::{FileItem, OpeningState};
 use script_form::opening::opening_of;
-use script_form::script::{Script, ScriptLine};
+use script_lines::script::{Script, ScriptLine};
+use script_replay::settings::limits;
 use std::alloc::Global;
 use std::collections::BTreeMap;
 
@@ -28,6 +28,7 @@ pub fn opening_over_tree(alloc: Global, script: &Script) -> Result<OpeningState,
     requires { IsScript script.now.lines }
     ensures { IfOk result (StandsFor script.now.lines) }
 {
+    // A tree has its files in order of their paths, and the script in that of its lines.
     let opening = opening_of(alloc, script, limits())?;
     let Ok(files) = files_by_path(alloc, script.lines.as_slice()) else {
         drop(opening);

@@ -2,22 +2,18 @@
 
 ghost use Rattle.std.specs.Prelude.{◌≡◌, ◌≤◌, ℕ, List, length};
 ghost use Rattle.portal_base.specs.Outside.{onto};
-ghost use Rattle.script_form.specs.Lines.{text_of};
+ghost use Rattle.script_lines.specs.Lines.{text_of};
 ghost use Rattle.script_form.specs.Order.{IsScript};
 ghost use Rattle.script_command.specs.Commands.{replay_words};
 ghost use Rattle.script_command.specs.Generated.{RanAny};
 ghost use Rattle.script_command.specs.Inputs.{script_limit};
 ghost use Rattle.script_command.specs.Runs.{Ran, Replays, Risen};
-ghost use Rattle.script_command.specs.Started.{StartsScript};
+ghost use Rattle.script_replay.specs.Started.{StartsScript};
 ghost use Rattle.script_command.specs.Worlds.{RanWorlds};
 
 use crate::command::{Command, command_of};
 use crate::generate::generate;
 use crate::input::{InputError, read_to_end};
-use crate::replay::run_lines;
-use crate::settings::settings;
-use crate::start::{ScriptPortal, start};
-use crate::status::Status;
 use crate::worlds::worlds;
 use portal_base::memory::WantOfMemory;
 use portal_base::names::AppId;
@@ -25,7 +21,11 @@ use portal_base::outside::{Sink, Source};
 use portal_base::text::Text;
 use script_form::error::ScriptError;
 use script_form::reader::read_script;
-use script_form::script::Script;
+use script_lines::script::Script;
+use script_replay::replay::run_lines;
+use script_replay::settings::settings;
+use script_replay::start::{ScriptPortal, start};
+use script_replay::status::Status;
 use std::alloc::Global;
 
 /// Runs the program with these words, which are those after its name.
@@ -148,6 +148,8 @@ fn replay_once<K: Sink>(
         × Replays (text_of script.now.lines) pieces result }
     ensures risen { Risen result 0 0 (K.faults sink.old) (K.faults sink.new) }
 {
+    // The portal is let go in a function of its own, which has one way out: each way out of a
+    // function that lets a portal go is proved for itself.
     let mut portal = portal;
     replay_over(alloc, &mut portal, script, sink)
 }

@@ -2,22 +2,22 @@
 
 ghost use Rattle.std.specs.Prelude.{◌≤◌, IfOk, OnOk, length};
 ghost use Rattle.app_trace.specs.Told.{trace_told};
-ghost use Rattle.script_form.specs.Lines.{text_of};
+ghost use Rattle.script_lines.specs.Lines.{text_of};
 ghost use Rattle.script_form.specs.Order.{IsScript};
 ghost use Rattle.script_command.specs.Inputs.{script_limit};
-ghost use Rattle.script_command.specs.Started.{StartsScript};
+ghost use Rattle.script_replay.specs.Started.{StartsScript};
 ghost use Rattle.script_command.specs.Worlds.{IsTraceIn, RanAt};
 
 use crate::opening::opening_over_tree;
-use crate::output::NoSink;
-use crate::replay::run_lines;
-use crate::settings::settings;
-use crate::start::{ScriptPortal, start};
 use app_trace::Trace;
 use history_trace::trace_of;
 use portal_base::memory::WantOfMemory;
 use portal_base::names::AppId;
-use script_form::script::Script;
+use script_lines::script::Script;
+use script_replay::output::NoSink;
+use script_replay::replay::run_lines;
+use script_replay::settings::settings;
+use script_replay::start::{ScriptPortal, start};
 use std::alloc::Global;
 
 /// The trace of an application in the history of a script, which is run. Its output

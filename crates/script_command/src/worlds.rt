@@ -3,7 +3,7 @@
 ghost use Rattle.std.specs.Prelude.{◌≡◌, ◌≤◌, ℕ, ◌<◌, ◌^◌, List, IfErr, IfOk, length};
 ghost use Rattle.app_trace.specs.Told.{trace_told};
 ghost use Rattle.portal_base.specs.Outside.{onto};
-ghost use Rattle.script_form.specs.Lines.{text_of};
+ghost use Rattle.script_lines.specs.Lines.{text_of};
 ghost use Rattle.script_form.specs.Order.{IsRead, IsScript};
 ghost use Rattle.script_command.specs.Inputs.{script_limit};
 ghost use Rattle.script_command.specs.Runs.{Risen};
@@ -11,9 +11,8 @@ ghost use Rattle.script_command.specs.Worlds.{AreScripts, RunsCompare, Compares,
 ghost use Rattle.script_command.specs.Worlds.{PartsRefused, ScriptsCompare, Tells, TextRefused};
 ghost use Rattle.script_command.specs.Worlds.{number_behind as number_in_text};
 
-use crate::output::match_line;
+use crate::compared::match_line;
 use crate::parting::part;
-use crate::status::Status;
 use crate::world::trace_in;
 use app_trace::{Trace, TraceMatch, same_trace};
 use portal_base::memory::WantOfMemory;
@@ -21,7 +20,8 @@ use portal_base::names::AppId;
 use portal_base::outside::{Sink, WriteAnswer};
 use script_form::error::ScriptError;
 use script_form::reader::read_script;
-use script_form::script::{Script, ScriptLine};
+use script_lines::script::{Script, ScriptLine};
+use script_replay::status::Status;
 use std::alloc::Global;
 
 /// Two scripts.

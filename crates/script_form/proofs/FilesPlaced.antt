@@ -18,7 +18,7 @@ use Rattle.script_form.specs.Devices.{time_after, tree_files, with_files}
 use Rattle.script_form.specs.Order.{IsScript, StandBehind}
 use Rattle.script_form.specs.Opening.{file_in, files_from, files_of, time_behind}
 use Rattle.script_form.specs.Paths.{clash}
-use Rattle.script_form.specs.declared.script.ScriptLine.{ScriptLine}
+use Rattle.script_lines.specs.declared.script.ScriptLine.{ScriptLine}
 use Rattle.std.proofs.Common.{add-one, get_or}
 use Rattle.std.proofs.Math.Seq.{take-suc}
 use Rattle.std.proofs.lemmas.List.{take-append-drop}

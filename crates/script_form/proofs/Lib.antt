@@ -1,11 +1,4 @@
-pub mod GrantFacts
-pub mod TextFacts
-pub mod WordFacts
-pub mod LineFacts
 pub mod SetFacts
-pub mod JoinFacts
-pub mod RowFacts
-pub mod SameFacts
 pub mod ScriptFacts
 pub mod TrackFacts
 pub mod NamedInLines

@@ -7,10 +7,10 @@ use Rattle.std.proofs.lemmas.List.Elements.{All-cons, All-nil}
 use Rattle.portal_model.specs.Opening.{each, first_named, names_kept}
 use Rattle.record_keeper.specs.Naming.{also_named}
 use Rattle.record_keeper.proofs.NamingFacts.{named_behind}
-use Rattle.script_form.specs.Lines.{KeepsRules}
+use Rattle.script_lines.specs.Lines.{KeepsRules}
 use Rattle.script_form.specs.Opening.{document_in, applications_of}
 use Rattle.script_form.specs.Order.{StandBehind}
-use Rattle.script_form.specs.declared.script.ScriptLine.{ScriptLine}
+use Rattle.script_lines.specs.declared.script.ScriptLine.{ScriptLine}
 use Rattle.script_form.proofs.ScriptFacts.{names_of, names_push}
 
 -- the names of one line more

@@ -1,11 +1,11 @@
 -- A text is read in one way.
 use Rattle.std.proofs.Common.{◌≡◌, ℕ, ◌+◌, List, [], ◌∷◌, ◌++◌, length, refl, sym, ap, ◌∙◌, append_assoc}
-use Rattle.script_form.specs.Lines.{line_text, text_of}
+use Rattle.script_lines.specs.Lines.{line_text, text_of}
 use Rattle.script_form.specs.Order.{MayStand, StandBehind, IsScript, IsRead, IsFault}
-use Rattle.script_form.specs.declared.script.ScriptLine.{ScriptLine}
-use Rattle.script_form.proofs.SameFacts.{line_same, line_free}
+use Rattle.script_lines.specs.declared.script.ScriptLine.{ScriptLine}
+use Rattle.script_lines.proofs.SameFacts.{line_same, line_free}
 use Rattle.script_form.proofs.ScriptFacts.{append_nil}
-use Rattle.script_form.proofs.TextFacts.{cut_same}
+use Rattle.script_lines.proofs.TextFacts.{cut_same}
 
 text_cons : (line : ScriptLine) (lines : List ScriptLine) (rest : List ℕ) → text_of (line ∷ lines) ++ rest ≡ line_text line ++ (10 ∷ (text_of lines ++ rest))
 unfolding text_of

@@ -12,7 +12,7 @@ use Rattle.record_keeper.proofs.HeldEntries.{good_differ}
 use Rattle.record_keeper.proofs.KeptFacts.{kept_in_one_way}
 use Rattle.script_form.specs.Opening.{HoldsScripts, IsOpening, entries_of, files_of, opening_with}
 use Rattle.script_form.specs.Order.{IsScript}
-use Rattle.script_form.specs.declared.script.ScriptLine.{ScriptLine}
+use Rattle.script_lines.specs.declared.script.ScriptLine.{ScriptLine}
 use Rattle.script_form.proofs.RecordsFacts.{good_entries}
 use Rattle.script_form.proofs.SoundFacts.{all_clear, applications_few, clear_differ, documents_few, files_apart, files_named, grants_are, grants_differ, identifiers_are, names_are, no_root, none_above, numbers_differ, paths, paths_are}
 

@@ -13,11 +13,11 @@ use Rattle.portal_model.specs.declared.opening.OpeningDocument.{OpeningDocument}
 use Rattle.portal_model.specs.declared.records.DocRecord.{DocRecord}
 use Rattle.portal_model.specs.declared.records.EntryRecord.{EntryRecord}
 use Rattle.record_keeper.specs.BadRecords.{AreGood, EachBehind, IsGoodDocument, IsGoodEntry, names_granted}
-use Rattle.script_form.specs.Lines.{kept_document}
+use Rattle.script_lines.specs.Lines.{kept_document}
 use Rattle.script_form.specs.Opening.{document_in, documents_of, entry_in, entries_of, records_of, HoldsScripts}
 use Rattle.script_form.specs.Order.{StandBehind, IsScript, is_doc, keeps, stores}
-use Rattle.script_form.specs.declared.script.ScriptLine.{ScriptLine}
-use Rattle.script_form.specs.declared.script.ScriptLine.TheVariants.{Doc, Entry}
+use Rattle.script_lines.specs.declared.script.ScriptLine.{ScriptLine}
+use Rattle.script_lines.specs.declared.script.ScriptLine.TheVariants.{Doc, Entry}
 use Rattle.script_form.proofs.ScriptFacts.{append_nil}
 use Rattle.script_form.proofs.SoundFacts.{doc_new, doc_room, entry_new}
 

@@ -12,18 +12,18 @@ use Rattle.portal_model.specs.Valid.{applications_limit}
 use Rattle.portal_model.specs.declared.opening.OpeningDocument.{OpeningDocument}
 use Rattle.portal_model.specs.declared.records.GrantRecord.{GrantRecord}
 use Rattle.record_keeper.specs.SoundRecords.{IsGrant}
-use Rattle.script_form.specs.Lines.{line_text, text_of, KeepsRules, grant_text, grants_text, flags_text}
+use Rattle.script_lines.specs.Lines.{line_text, text_of, KeepsRules, grant_text, grants_text, flags_text}
 use Rattle.script_form.specs.Opening.{documents_of, document_in, applications_of}
 use Rattle.script_form.specs.Order.{MayStand, StandBehind, IsScript, NoneStands, IsRead, IsFault, goes_with, script_limit}
 use Rattle.script_form.specs.Preceding.{Tracks, is_opened, is_closed}
 use Rattle.script_form.specs.Next.{TakesLine}
-use Rattle.script_form.specs.Reading.{CutsAt, IsFree}
+use Rattle.script_lines.specs.Reading.{CutsAt, IsFree}
 use Rattle.script_form.specs.declared.preceding.Preceding.{Preceding}
 use Rattle.script_form.specs.declared.preceding.Number.TheVariants.{Unopened}
-use Rattle.script_form.specs.declared.script.ScriptLine.{ScriptLine}
-use Rattle.script_form.specs.declared.script.ScriptLine.TheVariants.{Doc}
-use Rattle.script_form.proofs.SameFacts.{grant_long, line_same, line_free}
-use Rattle.script_form.proofs.TextFacts.{cut_same, not_free}
+use Rattle.script_lines.specs.declared.script.ScriptLine.{ScriptLine}
+use Rattle.script_lines.specs.declared.script.ScriptLine.TheVariants.{Doc}
+use Rattle.script_lines.proofs.SameFacts.{grant_long, line_same, line_free}
+use Rattle.script_lines.proofs.TextFacts.{cut_same, not_free}
 
 pub append_nil : {X : Type 0} (xs : List X) → xs ++ [] ≡ xs
 append_nil [] = refl

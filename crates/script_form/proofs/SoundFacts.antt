@@ -21,16 +21,16 @@ use Rattle.portal_model.specs.declared.opening.OpeningState.{OpeningState}
 use Rattle.portal_model.proofs.OpeningLaws.{sound-ValidOpening}
 use Rattle.portal_model.specs.declared.records.EntryRecord.{EntryRecord}
 use Rattle.record_keeper.specs.SoundRecords.{IsGrant, IsRising, IsValidEntry}
-use Rattle.script_form.specs.Lines.{is_script_path, is_plain}
+use Rattle.script_lines.specs.Lines.{is_script_path, is_plain}
 use Rattle.script_form.specs.Paths.{clash}
 use Rattle.script_form.specs.Opening.{documents_of, entries_of, files_of, files_from, time_behind, applications_of, HoldsScripts}
 use Rattle.script_form.specs.Order.{StandBehind, IsScript, clashes, keeps, stores, is_doc, document_limit}
-use Rattle.script_form.specs.declared.script.ScriptLine.{ScriptLine}
-use Rattle.script_form.specs.declared.script.ScriptLine.TheVariants.{File, Doc, Entry}
+use Rattle.script_lines.specs.declared.script.ScriptLine.{ScriptLine}
+use Rattle.script_lines.specs.declared.script.ScriptLine.TheVariants.{File, Doc, Entry}
 use Rattle.script_form.proofs.ScriptFacts.{append_nil}
-use Rattle.script_form.proofs.TextFacts.{no_true, eqb_yes}
+use Rattle.script_lines.proofs.TextFacts.{no_true, eqb_yes}
 use Rattle.record_keeper.proofs.SameTexts.{same_from_test}
-use Rattle.script_form.proofs.WordFacts.{same_refl}
+use Rattle.script_lines.proofs.WordFacts.{same_refl}
 
 not_true : (b : Bool) → not b ≡ true → b ≡ false
 not_true true h = cc h

@@ -14,18 +14,18 @@ use Rattle.std.proofs.lemmas.List.Sums.{sum_by-append}
 use Rattle.std.specs.Cmp.Lexicographic.{bytes_decides}
 use Rattle.portal_base.specs.Names.{is_same, is_app_name}
 use Rattle.portal_model.specs.declared.records.EntryRecord.{EntryRecord}
-use Rattle.script_form.specs.Lines.{KeepsRules, last_seat}
+use Rattle.script_lines.specs.Lines.{KeepsRules, last_seat}
 use Rattle.script_form.specs.Order.{is_open, opens, closes, is_doc, keeps, stores, clashes, goes_with}
 use Rattle.script_form.specs.Paths.{clash}
 use Rattle.script_form.specs.Preceding.{Tracks, Notes, is_opened, is_closed, key_text}
 use Rattle.script_form.specs.declared.preceding.Number.{Number}
 use Rattle.script_form.specs.declared.preceding.Number.TheVariants as number
 use Rattle.script_form.specs.declared.preceding.Preceding.{Preceding}
-use Rattle.script_form.specs.declared.script.ScriptLine.{ScriptLine}
-use Rattle.script_form.specs.declared.script.ScriptLine.TheVariants.{File, Doc, Entry, Open, Close}
-use Rattle.script_form.proofs.LineFacts.{name_word}
+use Rattle.script_lines.specs.declared.script.ScriptLine.{ScriptLine}
+use Rattle.script_lines.specs.declared.script.ScriptLine.TheVariants.{File, Doc, Entry, Open, Close}
+use Rattle.script_lines.proofs.LineFacts.{name_word}
 use Rattle.script_form.proofs.SetFacts.{any_inserted}
-use Rattle.script_form.proofs.TextFacts.{cut_same, no_true}
+use Rattle.script_lines.proofs.TextFacts.{cut_same, no_true}
 
 or_none : (b : Bool) → (b || (false || false)) ≡ b
 or_none true = refl

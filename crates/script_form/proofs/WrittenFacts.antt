@@ -11,10 +11,10 @@ use Rattle.portal_base.specs.declared.who.Kind.{Kind}
 use Rattle.portal_base.specs.declared.who.Who.{Who}
 use Rattle.portal_model.specs.declared.records.EntryRecord.{EntryRecord}
 use Rattle.portal_model.specs.declared.records.GrantRecord.{GrantRecord}
-use Rattle.script_form.specs.Lines.{line_text, text_of, hex_text, grants_text, rows_text, flags_text, device_text, kind_text, who_text}
-use Rattle.script_form.specs.declared.script.Device.{Device}
-use Rattle.script_form.specs.declared.script.ScriptLine.TheVariants.{File, Doc, Entry, Fail, Word, Now, Open, Data, Close}
-use Rattle.script_form.specs.declared.script.ScriptLine.{ScriptLine}
+use Rattle.script_lines.specs.Lines.{line_text, text_of, hex_text, grants_text, rows_text, flags_text, device_text, kind_text, who_text}
+use Rattle.script_lines.specs.declared.script.Device.{Device}
+use Rattle.script_lines.specs.declared.script.ScriptLine.TheVariants.{File, Doc, Entry, Fail, Word, Now, Open, Data, Close}
+use Rattle.script_lines.specs.declared.script.ScriptLine.{ScriptLine}
 use Rattle.script_form.proofs.ScriptFacts.{append_nil, text_push}
 
 -- what stands behind a word and a space

@@ -9,7 +9,7 @@ use Rattle.portal_model.specs.declared.opening.FileItem.{FileItem}
 use Rattle.record_keeper.specs.Devices.{KeeperState}
 use Rattle.script_form.specs.Opening.{files_of, records_of, time_behind}
 use Rattle.script_form.specs.Outside.{keeper_call_in, tree_call_in, word_in}
-use Rattle.script_form.specs.declared.script.ScriptLine.{ScriptLine}
+use Rattle.script_lines.specs.declared.script.ScriptLine.{ScriptLine}
 
 -- the time behind lines
 abbrev pub time_after : ℕ → List ScriptLine → ℕ

@@ -2,11 +2,11 @@
 use Rattle.std.specs.Prelude.{◌≡◌, ℕ, List}
 use Rattle.portal_base.specs.declared.limits.Limits.{Limits}
 use Rattle.record_keeper.specs.BadRecords.{AreGood}
-use Rattle.script_form.specs.Lines.{text_of}
+use Rattle.script_lines.specs.Lines.{text_of}
 use Rattle.portal_model.specs.declared.opening.OpeningState.{OpeningState}
 use Rattle.script_form.specs.Opening.{records_of, HoldsScripts, IsOpening}
 use Rattle.script_form.specs.Order.{IsRead, IsFault, IsScript}
-use Rattle.script_form.specs.declared.script.ScriptLine.{ScriptLine}
+use Rattle.script_lines.specs.declared.script.ScriptLine.{ScriptLine}
 
 -- a text is read in one way
 abbrev pub ReadInOneWay : Type 0

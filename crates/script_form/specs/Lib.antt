@@ -1,11 +1,9 @@
 pub mod Faults
 pub mod Laws
-pub mod Lines
 pub mod Next
 pub mod Opening
 pub mod Order
 pub mod Outside
 pub mod Paths
 pub mod Preceding
-pub mod Reading
 pub mod Devices

@@ -1,8 +1,8 @@
 -- What is read of the next line.
 use Rattle.std.specs.Prelude.{◌≡◌, ℕ, List, [], ◌∷◌, ◌++◌}
-use Rattle.script_form.specs.Lines.{line_text}
+use Rattle.script_lines.specs.Lines.{line_text}
 use Rattle.script_form.specs.Order.{MayStand}
-use Rattle.script_form.specs.declared.script.ScriptLine.{ScriptLine}
+use Rattle.script_lines.specs.declared.script.ScriptLine.{ScriptLine}
 
 -- the line at the front of the text may stand behind these, and is now one of them
 pub record TakesLine (lines : List ScriptLine) (text : List ℕ) (new : List ScriptLine)

@@ -10,9 +10,9 @@ use Rattle.portal_model.specs.declared.records.Records.{Records}
 use Rattle.portal_model.specs.Kept.{records_version}
 use Rattle.portal_model.specs.Store.{Entries}
 use Rattle.record_keeper.specs.KeptEntries.{KeepEntries}
-use Rattle.script_form.specs.Lines.{kept_document}
-use Rattle.script_form.specs.declared.script.ScriptLine.{ScriptLine}
-use Rattle.script_form.specs.declared.script.ScriptLine.TheVariants.{File, Doc, Entry, Now}
+use Rattle.script_lines.specs.Lines.{kept_document}
+use Rattle.script_lines.specs.declared.script.ScriptLine.{ScriptLine}
+use Rattle.script_lines.specs.declared.script.ScriptLine.TheVariants.{File, Doc, Entry, Now}
 
 -- the document that a line keeps
 abbrev pub document_in : ScriptLine → List OpeningDocument

@@ -3,11 +3,11 @@ use Rattle.std.specs.Prelude.{◌≡◌, ◌≢◌, ℕ, ◌+◌, ◌≤◌, ◌
 use Rattle.std.specs.List.{list_any}
 use Rattle.portal_model.specs.RecordChanges.{is_of_key}
 use Rattle.portal_model.specs.Valid.{applications_limit}
-use Rattle.script_form.specs.Lines.{line_text, text_of, KeepsRules}
+use Rattle.script_lines.specs.Lines.{line_text, text_of, KeepsRules}
 use Rattle.script_form.specs.Opening.{applications_of}
 use Rattle.script_form.specs.Paths.{clash}
-use Rattle.script_form.specs.declared.script.ScriptLine.TheVariants.{File, Doc, Entry, Fail, Word, Now, Open, Data, Close}
-use Rattle.script_form.specs.declared.script.ScriptLine.{ScriptLine}
+use Rattle.script_lines.specs.declared.script.ScriptLine.TheVariants.{File, Doc, Entry, Fail, Word, Now, Open, Data, Close}
+use Rattle.script_lines.specs.declared.script.ScriptLine.{ScriptLine}
 
 abbrev pub is_open : ScriptLine → Bool
 is_open (Open seat kind who) = true

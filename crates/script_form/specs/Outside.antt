@@ -5,9 +5,9 @@ use Rattle.portal_base.specs.Calls.{Calls, next_call}
 use Rattle.portal_base.specs.Outside.{rises_by}
 use Rattle.portal_model.specs.Opening.{each}
 use Rattle.script_form.specs.declared.outside.ToldOutside.{ToldOutside}
-use Rattle.script_form.specs.declared.script.Device.TheVariants.{Tree, Keeper}
-use Rattle.script_form.specs.declared.script.ScriptLine.{ScriptLine}
-use Rattle.script_form.specs.declared.script.ScriptLine.TheVariants.{Fail, Word, Now}
+use Rattle.script_lines.specs.declared.script.Device.TheVariants.{Tree, Keeper}
+use Rattle.script_lines.specs.declared.script.ScriptLine.{ScriptLine}
+use Rattle.script_lines.specs.declared.script.ScriptLine.TheVariants.{Fail, Word, Now}
 
 -- ---- what lines say
 

@@ -9,8 +9,8 @@ use Rattle.script_form.specs.Paths.{clash}
 use Rattle.script_form.specs.declared.preceding.Number.{Number}
 use Rattle.script_form.specs.declared.preceding.Number.TheVariants.{Unopened, Open, Closed}
 use Rattle.script_form.specs.declared.preceding.Preceding.{Preceding}
-use Rattle.script_form.specs.declared.script.ScriptLine.{ScriptLine}
-use Rattle.script_form.specs.declared.script.ScriptLine.TheVariants as line
+use Rattle.script_lines.specs.declared.script.ScriptLine.{ScriptLine}
+use Rattle.script_lines.specs.declared.script.ScriptLine.TheVariants as line
 
 -- whether a line opens a number of which this became
 abbrev pub is_opened : Number → Bool

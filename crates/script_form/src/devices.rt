@@ -8,7 +8,6 @@ ghost use Rattle.script_form.specs.Devices.{script_keeper, tree_files, script_tr
 
 use crate::opening::{documents_in, entries_in, time_behind};
 use crate::outside::{ToldOutside, outside_of};
-use crate::script::{Script, ScriptLine};
 use host_tree::MemoryTree;
 use portal_base::list::List;
 use portal_base::memory::{Replica, WantOfMemory};
@@ -16,6 +15,7 @@ use portal_base::outside::ListWords;
 use portal_model::opening::OpeningDocument;
 use portal_model::records::{DocRecord, Records};
 use record_keeper::{MemoryKeeper, RECORDS_VERSION};
+use script_lines::script::{Script, ScriptLine};
 use std::alloc::Global;
 
 /// The devices that a script speaks of, before their first use.

@@ -2,7 +2,7 @@
 
 ghost use Rattle.std.specs.Prelude.{◌≡◌, ◌≤◌, ◌++◌, OnOk, map};
 ghost use Rattle.std.specs.List.{join_with_byte};
-ghost use Rattle.script_form.specs.Lines.{grant_text, row_text, letter, letters};
+ghost use Rattle.script_lines.specs.Lines.{grant_text, row_text, letter, letters};
 
 use portal_base::list::ByteList;
 use portal_base::memory::WantOfMemory;

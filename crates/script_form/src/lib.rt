@@ -12,15 +12,15 @@
 //!
 //! | Room | Holds |
 //! |---|---|
-//! | `script` | the lines of a script, as plain data |
 //! | `reader`, `error` | [`read_script`](reader::read_script), and why no script was read |
 //! | `writer`, `joined` | [`write_script`](writer::write_script) |
-//! | `line`, `words`, `grants`, `rows` | the reader of one line, and of its parts |
 //! | `preceding`, `paths` | the lines so far, and what they say of the next one |
 //! | `opening` | the state that a script opens with |
 //! | `outside` | the words of a script, and the calls that fail in it |
 //! | `devices` | the tree, the keeper and the words of its run |
 //! | `laws` | what is true of every script |
+//!
+//! The lines themselves, and the reader of one line, stand in `script_lines`.
 //!
 //! ```text
 //! let script = read_script(alloc, b"now 5\nclose 1\n");    // Err(AtLine(2)): nothing is open
@@ -30,18 +30,14 @@
 
 pub mod devices;
 pub mod error;
-mod grants;
 mod joined;
 pub mod laws;
-mod line;
 pub mod opening;
 pub mod outside;
 mod paths;
 mod preceding;
 pub mod reader;
-mod rows;
-pub mod script;
-mod words;
 pub mod writer;
 
-pub use words::read_number;
+pub use script_lines::script;
+pub use script_lines::words::read_number;

@@ -3,12 +3,11 @@
 ghost use Rattle.std.specs.Prelude.{◌≡◌, ◌++◌, IfOk, OnOk, Some, fold, map};
 ghost use Rattle.std.specs.List.{All};
 ghost use Rattle.portal_model.specs.Opening.{each, names_kept, id_of, file_of, ValidOpening};
-ghost use Rattle.script_form.specs.Lines.{KeepsRules};
+ghost use Rattle.script_lines.specs.Lines.{KeepsRules};
 ghost use Rattle.record_keeper.specs.Naming.{also_named};
 ghost use Rattle.script_form.specs.Opening.{IsOpening, document_in, documents_of, entry_in, entries_of, file_in, files_of, time_behind as time_after, applications_of, HoldsScripts};
 ghost use Rattle.script_form.specs.Order.{IsScript};
 
-use crate::script::{Script, ScriptLine};
 use portal_base::limits::Limits;
 use portal_base::list::List;
 use portal_base::memory::{Replica, WantOfMemory};
@@ -17,6 +16,7 @@ use portal_base::names::doc_id::DocId;
 use portal_model::opening::{FileItem, OpeningDocument, OpeningState};
 use portal_model::records::{DocRecord, EntryRecord};
 use record_keeper::{Named, kept_entries};
+use script_lines::script::{Script, ScriptLine};
 use std::alloc::Global;
 
 /// The state that a script opens with: its documents, entries and files, each
@@ -160,6 +160,8 @@ pub(crate) fn time_behind(line: &ScriptLine, time: u64) -> u64
     ensures { result ≡ time_after time line.now }
 {
     match line {
+        // It gives the files behind it their moment, and sets the clock that the requests behind
+        // it read.
         ScriptLine::Now { moment } => *moment,
         _ => time,
     }
@@ -189,6 +191,8 @@ fn applications_in(alloc: Global, lines: &[ScriptLine]) -> Result<List<AppId>, W
     requires { All KeepsRules lines.now }
     ensures { IfOk result (λ named. named ≡ applications_of lines.now) }
 {
+    // Their number needs no look: each is named by at least four bytes of at most 67,108,864, and
+    // 16,777,216 may be numbered.
     let mut named = Named::new(alloc);
     for line in lines {
         add_names(alloc, &mut named, line)?;

@@ -4,9 +4,9 @@ ghost use Rattle.std.specs.Prelude.{◌≡◌, ◌++◌, IfOk, OnOk};
 ghost use Rattle.portal_model.specs.Opening.{each};
 ghost use Rattle.script_form.specs.Outside.{told_of, word_in, tree_call_in, keeper_call_in};
 
-use crate::script::{Device, Script, ScriptLine};
 use portal_base::list::List;
 use portal_base::memory::WantOfMemory;
+use script_lines::script::{Device, Script, ScriptLine};
 use std::alloc::Global;
 
 /// What a script says of the words and of the devices of its run.

@@ -48,6 +48,9 @@ impl PathSet {
     pub fn has_clash(&self, path: &HostPath) -> bool
         ensures { result ≡ list_any (clash path.now) self.now }
     {
+        // No file lies below another. So a path that is the last ahead of a new one lies above it
+        // where any does, and the first behind it lies below it where any does: two look-ups
+        // decide.
         if self.paths.contains(path) {
             return true;
         }

@@ -2,18 +2,18 @@
 
 ghost use Rattle.std.specs.Prelude.{◌≡◌, ◌≤◌, ◌++◌, ◌∷◌, ◌&&◌, [], true, not, nat_lt, count_by, IfOk, OnOk};
 ghost use Rattle.std.specs.List.{list_any};
-ghost use Rattle.script_form.specs.Lines.{KeepsRules, last_seat};
+ghost use Rattle.script_lines.specs.Lines.{KeepsRules, last_seat};
 ghost use Rattle.script_form.specs.Order.{goes_with, opens, closes, keeps, stores, clashes, is_doc, document_limit};
 ghost use Rattle.script_form.specs.Preceding.{Tracks, Notes, is_opened, is_closed, key_text};
-ghost use Rattle.script_form.specs.declared.script.ScriptLine.TheVariants.{Entry};
+ghost use Rattle.script_lines.specs.declared.script.ScriptLine.TheVariants.{Entry};
 
 use crate::paths::PathSet;
-use crate::script::ScriptLine;
 use portal_base::list::List;
 use portal_base::memory::{Replica, WantOfMemory};
 use portal_base::names::host_path::HostPath;
 use portal_model::records::EntryRecord;
 use record_keeper::{Name, NameSet};
+use script_lines::script::ScriptLine;
 use std::alloc::Global;
 use std::collections::BTreeSet;
 
@@ -169,6 +169,8 @@ impl Preceding {
                 let unstored = self.is_unstored(alloc, entry)?;
                 Ok(first && unstored)
             }
+            // Calls that fail are said ahead of all connections; words and moments come where they
+            // stand.
             ScriptLine::Fail { .. } => Ok(first),
             ScriptLine::Word { .. } => Ok(true),
             ScriptLine::Now { .. } => Ok(true),

@@ -1,18 +1,18 @@
 //! The reader of scripts.
 
 ghost use Rattle.std.specs.Prelude.{◌≡◌, ◌+◌, ◌≤◌, length, IfOk, IfErr, MatchOption};
-ghost use Rattle.script_form.specs.Lines.{text_of};
+ghost use Rattle.script_lines.specs.Lines.{text_of};
 ghost use Rattle.script_form.specs.Order.{IsRead, IsScript, NoneStands, script_limit};
 ghost use Rattle.script_form.specs.Faults.{IsRefused};
 ghost use Rattle.script_form.specs.Preceding.{Tracks};
 ghost use Rattle.script_form.specs.Next.{TakesLine};
 
 use crate::error::ScriptError;
-use crate::line::read_line;
 use crate::preceding::Preceding;
-use crate::script::Script;
-use crate::words::cut;
 use portal_base::memory::WantOfMemory;
+use script_lines::line::read_line;
+use script_lines::script::Script;
+use script_lines::words::cut;
 use std::alloc::Global;
 
 /// Reads a script of at most 67,108,864 bytes.

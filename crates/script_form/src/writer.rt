@@ -2,17 +2,17 @@
 
 ghost use Rattle.std.specs.Prelude.{◌≡◌, ◌++◌, ◌∷◌, [], IfOk, OnOk};
 ghost use Rattle.std.specs.Fmt.{decimal};
-ghost use Rattle.script_form.specs.Lines.{text_of, line_text, hex_text, grants_text, rows_text, flags_text, device_text, kind_text, who_text};
+ghost use Rattle.script_lines.specs.Lines.{text_of, line_text, hex_text, grants_text, rows_text, flags_text, device_text, kind_text, who_text};
 ghost use Rattle.script_form.specs.Order.{IsRead, IsScript};
 
 use crate::joined::write_joined;
-use crate::script::{Device, Script, ScriptLine};
 use portal_base::list::{ByteList, List};
 use portal_base::memory::WantOfMemory;
 use portal_base::names::doc_id::DocId;
 use portal_base::names::host_path::HostPath;
 use portal_base::who::{Kind, Who};
 use portal_model::records::{EntryRecord, GrantRecord, Row};
+use script_lines::script::{Device, Script, ScriptLine};
 use std::alloc::Global;
 
 /// Writes a script, each line with its line feed. [`read_script`] reads the same

@@ -1,4 +1,3 @@
-pub mod Apps
 pub mod GuidBytes
 pub mod NameTexts
 pub mod PathLaw

@@ -1,8 +1,8 @@
 -- How a service ends, and the numbers of its ends.
 use Rattle.std.specs.Prelude.{◌≡◌, ◌⊎◌, ℕ, Bool, true, false, List, if◌then◌else◌}
 use Rattle.std.specs.List.{list_any}
-use Rattle.portal_core.specs.declared.start.StartError.{StartError}
-use Rattle.portal_core.specs.declared.start.StartError.TheVariants as start
+use Rattle.portal_start.specs.declared.start.StartError.{StartError}
+use Rattle.portal_start.specs.declared.start.StartError.TheVariants as start
 use Rattle.worker_gate.specs.declared.worker.WorkEnd.{WorkEnd}
 use Rattle.worker_gate.specs.declared.worker.WorkEnd.TheVariants as work
 use Rattle.serve_command.specs.declared.end.ServeEnd.{ServeEnd}

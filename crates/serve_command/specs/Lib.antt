@@ -1,4 +1,3 @@
-pub mod Words
 pub mod Sockets
 pub mod Ends
 pub mod Guids

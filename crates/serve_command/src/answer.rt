@@ -6,10 +6,10 @@ ghost use Rattle.serve_command.specs.Ends.{number_of};
 use crate::end::ServeEnd;
 use crate::line::on_one_line;
 use crate::service::run;
-use crate::words::{ServeAsk, WordsError, read_words};
 use portal_base::memory::WantOfMemory;
 use portal_base::outside::{Sink, StdSink, WriteAnswer};
 use portal_base::text::Text;
+use serve_words::words::{ServeAsk, WordsError, read_words};
 use std::sync::Wait;
 use std::thread::Threads;
 

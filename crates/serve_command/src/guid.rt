@@ -8,6 +8,7 @@ use portal_base::outside::Words;
 pub fn guid_of<W: Words>(words: &mut W) -> [u8; 16]
     ensures { DrawsGuid (W.told words.old) result (W.told words.new) }
 {
+    // The highest byte of each word first.
     let [a, b, c, d] = words.next().to_be_bytes();
     let [e, f, g, h] = words.next().to_be_bytes();
     let [i, j, k, l] = words.next().to_be_bytes();

@@ -7,14 +7,13 @@ ghost use Rattle.serve_command.specs.Ends.{EndsStart, end_of, is_failed, is_star
 ghost use Rattle.serve_command.specs.Posts.{bound_at, bound_of, posts_of};
 ghost use Rattle.serve_command.specs.Settings.{limits_with};
 ghost use Rattle.serve_command.specs.Sockets.{sockets_in};
-ghost use Rattle.serve_command.specs.Words.{IsInForm};
+ghost use Rattle.serve_words.specs.Words.{IsInForm};
 
 use crate::end::ServeEnd;
 use crate::guid::guid_of;
 use crate::line::on_one_line;
 use crate::settings::settings;
 use crate::sockets::{Socket, sockets_of};
-use crate::words::ServeWords;
 use host_real::{OpenError, RealTree};
 use keeper_sqlite::{DatabaseFault, SqliteKeeper};
 use portal_base::limits::Settings;
@@ -22,9 +21,10 @@ use portal_base::list::List;
 use portal_base::memory::{Replica, WantOfMemory};
 use portal_base::outside::{Sink, StdSink};
 use portal_base::text::Text;
-use portal_core::start::{StartError, StartRefusal};
+use portal_start::start::{StartError, StartRefusal};
 use serve_posts::serve::serve;
 use serve_posts::status::ServeStatus;
+use serve_words::words::ServeWords;
 use std::fmt;
 use std::sync::Wait;
 use std::thread::Threads;
@@ -74,6 +74,8 @@ pub fn run<R: Threads + Wait + Sync>(rt: &R, system: &HostRuntime, words: &Serve
 fn tell_ready(system: &HostRuntime, words: &ServeWords)
     requires { IsInForm words.now }
 {
+    // A fault of writing this isn't told: who waited for the line is gone, and those who come by
+    // the sockets have nothing to do with it.
     let count = 2 + 2 * words.apps.len();
     let Ok(folder) = on_one_line(system.alloc(), words.sockets.as_str()) else {
         return;
@@ -98,6 +100,8 @@ fn prepare<'a>(system: &'a HostRuntime, words: &ServeWords) -> Result<Service<'a
     let settings = settings(alloc, words.history, guid_of(&mut drawn))?;
     let sockets = sockets_of(alloc, &words.sockets, words.apps.as_slice())?;
     let posts = posts_at(system, sockets.as_slice(), words.workers)?;
+    // Behind the sockets, so that a second service over the same places is refused by them.
+    // Without random bytes no socket can answer, so the words come ahead.
     let keeper = open_keeper(system, words.store.as_str())?;
     let clock = SystemClock::new(system);
     Ok(Service {

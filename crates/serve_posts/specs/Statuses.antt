@@ -3,7 +3,7 @@ use Rattle.std.specs.Prelude.{◌≡◌, List, []}
 use Rattle.host_tree.specs.Trees.{TreeIs}
 use Rattle.portal_base.specs.declared.limits.Settings.{Settings}
 use Rattle.portal_core.specs.Started.{HandsBack, Starts}
-use Rattle.portal_core.specs.Story.{PortalIs, state_first}
+use Rattle.portal_steps.specs.Story.{PortalIs, state_first}
 use Rattle.record_keeper.specs.Keepers.{KeeperIs}
 use Rattle.serve_posts.specs.declared.status.ServeStatus.{ServeStatus}
 use Rattle.serve_posts.specs.declared.status.ServeStatus.TheVariants as status

@@ -4,7 +4,7 @@ use host_tree::HostTree;
 use portal_base::list::List;
 use portal_base::outside::{Clock, Words};
 use portal_core::portal::Portal;
-use portal_core::start::StartRefusal;
+use portal_start::start::StartRefusal;
 use record_keeper::Keeper;
 use worker_gate::worker::{Post, WorkEnd};
 

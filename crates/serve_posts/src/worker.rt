@@ -52,6 +52,8 @@ impl<L: Drop, S: Storied + Drop> Crew<L, S> {
         ensures room { IfOk result (λ crew. (count ≤ vec_capacity crew.passes)
             × (count ≤ vec_capacity crew.posts) × (count ≤ vec_capacity crew.ends)) }
     {
+        // Whoever hands passes to threads puts each back without memory, since all are needed to
+        // close the turn.
         let mut passes = Vec::new(alloc);
         passes.reserve(count)?;
         let mut posts = Vec::new(alloc);
@@ -146,6 +148,8 @@ where
         (halls L.links L.ends L.faults) settings.now a.post a.desk b.end b.post b.desk }
 {
     let count = workers.len();
+    // This halves the list, so the stack grows as the logarithm of its length, and no memory is
+    // taken between the first worker's start and the last one's end.
     thread::for_each_mut(
         rt,
         workers,

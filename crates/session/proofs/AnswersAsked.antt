@@ -10,8 +10,8 @@ use Rattle.portal_model.specs.declared.request.NodeOp.{NodeOp}
 use Rattle.portal_model.specs.declared.request.Request.{Request}
 use Rattle.dbus_types.specs.declared.message.Message.{Message}
 use Rattle.dbus_types.specs.declared.message.OutMessage.{OutMessage}
-use Rattle.dbus_dispatch.specs.Errors.{error_to, refusal_of}
-use Rattle.dbus_dispatch.specs.Replies.{reply_of}
+use Rattle.dbus_calls.specs.Errors.{error_to}
+use Rattle.dbus_dispatch.specs.Replies.{refusal_of, reply_of}
 use Rattle.dbus_dispatch.specs.Signals.{signal_of}
 use Rattle.session.specs.declared.act.Act.{Act}
 use Rattle.session.specs.declared.act.Act.TheVariants.{Nothing, Line, Call, Portal, Node, Local}

@@ -20,6 +20,7 @@ use portal_desk::Desk;
 use portal_model::reply::Refused;
 use std::alloc::Global;
 
+// A WRITE of 128 KiB, the greatest that INIT grants, fits in.
 /// How many bytes are asked of the source at a time.
 const LONGEST_PIECE: usize = 262_144;
 
@@ -70,8 +71,8 @@ fn pump<D: Desk, S: Source, K: Sink>(
 /// Serves one connection from Enter to Leave.
 ///
 /// Every item is asked and answered as soon as it is whole: an answer is
-/// written before the next piece is read, as the line `waits` of
-/// `connection_vectors` shows. The desk's seat has no open connection.
+/// written before the next piece is read, as `serve_runs` shows. The desk's
+/// seat has no open connection.
 pub fn serve_connection<D: Desk, S: Source, K: Sink>(
     alloc: Global,
     desk: &mut D,

@@ -89,6 +89,7 @@ fn told_of(answer: Answer) -> Option<NodeAnswer>
             | Code::Failed
             | Code::NotHere,
         ) => None,
+        // An open mount never meets one of these, nor `NotHere`.
         Answer::Done
         | Answer::Place(_)
         | Answer::Ids(_)

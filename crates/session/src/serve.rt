@@ -119,6 +119,8 @@ fn send_messages<K: Sink>(
     ensures last { IfOk result (λ last. last ≡ last_spoken serial (map signal_of changes.now
         ++ option_to_list message.now)) }
 {
+    // All signals and the answer are spelled before the first is written: where there is no memory
+    // for one nothing of the answer is written.
     match spoken(alloc, serial, changes, message) {
         Ok(speech) => send_each(sink, speech.pieces.as_slice(), speech.serial),
         Err(_) => Err(Fed::Memory),
@@ -227,6 +229,7 @@ fn serve_node<D: Desk, K: Sink>(
 {
     let is_quiet = has_no_reply(&request.op);
     match desk.ask(alloc, Request::Node(request)) {
+        // What rides in the reply is passed over: a mount waits for no change, so there is none.
         Ok(reply) => send_frame(serial, answer_frame(alloc, unique, reply.answer), sink),
         Err(_) if is_quiet => Ok(serial),
         Err(refused) => send_frame(serial, refusal_frame(alloc, unique, refused), sink),

@@ -118,6 +118,7 @@ impl Session {
             fed => return fed,
         }
         let room = LONGEST_STREAM - self.before - self.rest.len() as u64;
+        // This comes ahead of everything else, also of want of memory.
         if piece.len() as u64 > room {
             self.fed = Fed::Over(Served::Spent);
             return self.fed;
@@ -211,6 +212,8 @@ fn take_in_place<D: Desk, K: Sink>(
     ensures held { held.new.items ≡ held_after result held.old.items piece.now }
     ensures goes { D.goes desk.old desk.new }
 {
+    // A piece that comes while nothing is held is served where it lies, and only what stands
+    // behind its last item is copied.
     let run = serve_items(alloc, client, stage, piece, 0, desk, sink)?;
     match held.extend_from_slice(behind(piece, run.len)) {
         Ok(()) => Ok(run),
@@ -236,6 +239,8 @@ fn take_behind<D: Desk, K: Sink>(
     ensures held { held.new.items ≡ held_after result held.old.items piece.now }
     ensures goes { D.goes desk.old desk.new }
 {
+    // The end of a line is sought from the last byte that was held, and other items tell their
+    // length in their first bytes: so a piece costs no time for what was held before.
     let seen = held.len();
     if held.extend_from_slice(piece).is_err() {
         return Err(Fed::Memory);

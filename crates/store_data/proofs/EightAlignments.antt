@@ -1,7 +1,7 @@
 -- Padding by the distance from a multiple of 8.
 use Rattle.std.proofs.Common.{◌≡◌, ℕ, zero, suc, ◌+◌, ◌-◌, ◌%◌, ◌<◌, refl, arith}
 use Rattle.std.proofs.Math.Nat.{mod-eq_of_lt}
-use Rattle.dbus_types.specs.Spells.{gap}
+use Rattle.dbus_values.specs.Spells.{gap}
 
 gap_1 : (at phase : ℕ) → phase ≡ at % 8 → (1 - phase % 1) % 1 ≡ gap 1 at
 gap_1 at phase p = omega (arith, p)

@@ -5,10 +5,10 @@ use Rattle.std.proofs.lemmas.Bool.Decides.{nat_tests}
 use Rattle.dbus_types.specs.declared.types.Endian.TheVariants.{Little}
 use Rattle.dbus_types.specs.declared.types.Value.{Value, the_lemmas}
 use Rattle.dbus_types.specs.declared.types.Value.TheVariants as V
-use Rattle.dbus_types.specs.Spells.{Spells}
-use Rattle.dbus_types.specs.Spelling.{spelled_length, spelling}
+use Rattle.dbus_values.specs.Spells.{Spells}
+use Rattle.dbus_values.specs.Spelling.{spelled_length, spelling}
 use Rattle.dbus_types.specs.Types.{IsVariantType}
-use Rattle.dbus_types.specs.Values.{KeepsRules, nesting, type_of}
+use Rattle.dbus_values.specs.Values.{KeepsRules, nesting, type_of}
 use Rattle.dbus_marshal.proofs.SpelledKeepsRules.{spelled_keeps}
 use Rattle.portal_model.specs.Changed.{holds_handle}
 use Rattle.portal_model.specs.Data.{data_bytes, is_data, is_spelled, is_variant_type, judged}

@@ -12,9 +12,9 @@ use Rattle.dbus_types.specs.declared.types.Value.{Value, out-Value, the_lemmas}
 use Rattle.dbus_types.specs.declared.types.Value.TheOpen.{Value-F}
 use Rattle.dbus_types.specs.declared.types.Value.TheVariants as V
 use Rattle.dbus_types.specs.Names.{is_path}
-use Rattle.dbus_types.specs.Spells.{bit, gap, number}
-use Rattle.dbus_types.specs.Spelling.{aligned, signature_body, spelled_length, text_body}
-use Rattle.dbus_types.specs.Values.{IsSignatureText, IsText, LeafKeeps}
+use Rattle.dbus_values.specs.Spells.{bit, gap, number}
+use Rattle.dbus_values.specs.Spelling.{aligned, signature_body, spelled_length, text_body}
+use Rattle.dbus_values.specs.Values.{IsSignatureText, IsText, LeafKeeps}
 use Rattle.dbus_marshal.proofs.AsciiNames.{path_text, signature_text}
 use Rattle.portal_base.specs.Names.{is_byte_of_path}
 use Rattle.portal_base.proofs.NoZeros.{test_from_all}

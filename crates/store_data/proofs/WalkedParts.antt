@@ -16,12 +16,12 @@ use Rattle.dbus_types.specs.declared.types.WireType.TheVariants as W
 use Rattle.dbus_types.specs.declared.types.Value.{Value, out-Value, roll-Value, the_lemmas}
 use Rattle.dbus_types.specs.declared.types.Value.TheOpen.{Value-F}
 use Rattle.dbus_types.specs.declared.types.Value.TheVariants as V
-use Rattle.dbus_types.specs.Spells.{gap, number}
-use Rattle.dbus_types.specs.Spelling.{Spelled, aligned, bytes_body, in_row, spelled, spelled_length, spelled_lengths, spelling, variant_body}
+use Rattle.dbus_values.specs.Spells.{gap, number}
+use Rattle.dbus_values.specs.Spelling.{Spelled, aligned, bytes_body, in_row, spelled, spelled_length, spelled_lengths, spelling, variant_body}
 use Rattle.dbus_types.specs.Types.{alignment, alignment_of, type_text, IsValidType, IsVariantType}
-use Rattle.dbus_types.specs.Values.{KeepsWithin, LeafKeeps, ValueKeeps, type_of}
-use Rattle.dbus_types.proofs.OneSpelling.{roll_variant}
-use Rattle.dbus_types.proofs.SpelledType.{spelled_kind}
+use Rattle.dbus_values.specs.Values.{KeepsWithin, LeafKeeps, ValueKeeps, type_of}
+use Rattle.dbus_values.proofs.OneSpelling.{roll_variant}
+use Rattle.dbus_values.proofs.SpelledType.{spelled_kind}
 use Rattle.portal_model.specs.Data.{Judged, all_keep, elements_at, is_byte, is_of_type, is_valid_type, is_variant_type, judge, judged, keeps_array, spelled_of}
 use Rattle.portal_model.specs.State.{is_none}
 use Rattle.portal_base.specs.Names.{is_same}

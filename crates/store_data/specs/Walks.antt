@@ -2,9 +2,9 @@
 use Rattle.std.specs.Prelude.{◌≡◌, ℕ, ◌+◌, ◌-◌, ◌%◌, ◌^◌, min, Bool, true, false, Option, Some, None}
 use Rattle.dbus_types.specs.declared.types.Value.{Value}
 use Rattle.dbus_types.specs.declared.types.WireType.{WireType}
-use Rattle.dbus_types.specs.Spells.{gap}
+use Rattle.dbus_values.specs.Spells.{gap}
 use Rattle.dbus_types.specs.Types.{alignment}
-use Rattle.dbus_types.specs.Values.{KeepsWithin}
+use Rattle.dbus_values.specs.Values.{KeepsWithin}
 use Rattle.store_data.specs.declared.walk.Walk.{Walk}
 
 -- the walk has passed so many bytes, of which it counts at most the greatest number, and the next

@@ -3,14 +3,14 @@
 ghost use Rattle.std.specs.Prelude.{◌≡◌, ◌-◌, ◌^◌, min, true, false, length, MatchOption};
 ghost use Rattle.dbus_types.specs.declared.types.Endian.TheVariants.{Little};
 ghost use Rattle.dbus_types.specs.declared.types.Value.TheVariants as V;
-ghost use Rattle.dbus_types.specs.Spelling.{spelling};
+ghost use Rattle.dbus_values.specs.Spelling.{spelling};
 ghost use Rattle.portal_model.specs.Data.{data_bytes as bytes_of_data, is_data as may_be_data, is_spelled};
 
 use crate::values::{signature_end, value_end};
 use crate::walk::Walk;
-use dbus_types::keeping::keeps_rules;
-use dbus_types::nesting::{MOST_NESTED, nesting};
 use dbus_types::types::Value;
+use dbus_values::keeping::keeps_rules;
+use dbus_values::nesting::{MOST_NESTED, nesting};
 use portal_model::datum::holds_handle;
 
 /// Whether a value may be the data of an entry: it keeps the rules of values and of

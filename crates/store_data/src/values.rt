@@ -6,17 +6,17 @@
 
 ghost use Rattle.std.specs.Prelude.{◌≡◌, ℕ, ◌+◌, ◌%◌, ◌<◌, ◌^◌, All, map, length, nat_le, nat_lt};
 ghost use Rattle.dbus_types.specs.declared.types.Value.{out-Value};
-ghost use Rattle.dbus_types.specs.Spells.{gap};
-ghost use Rattle.dbus_types.specs.Spelling.{spelled_length, spelled_lengths};
+ghost use Rattle.dbus_values.specs.Spells.{gap};
+ghost use Rattle.dbus_values.specs.Spelling.{spelled_length, spelled_lengths};
 ghost use Rattle.dbus_types.specs.Types.{IsValidType, type_text};
-ghost use Rattle.dbus_types.specs.Values.{LeafKeeps, type_of};
+ghost use Rattle.dbus_values.specs.Values.{LeafKeeps, type_of};
 ghost use Rattle.portal_model.specs.Data.{all_keep, is_variant_type, judged};
 ghost use Rattle.store_data.specs.Walks.{Keeps, Passes, Stands, ahead_of_elements};
 
 use crate::walk::{Walk, from_here, padded, passing};
-use dbus_types::keeping::type_leaves;
 use dbus_types::layout::alignment_of;
 use dbus_types::types::{Value, WireType};
+use dbus_values::keeping::type_leaves;
 
 /// How many bytes the elements of an array may have.
 const LONGEST_ARRAY: u64 = 67_108_864;

@@ -4,7 +4,7 @@
 //! Source: D-Bus Specification, "Marshaling (Wire Format)", "Alignment".
 
 ghost use Rattle.std.specs.Prelude.{◌≡◌, ℕ, ◌+◌, ◌%◌, ◌<◌};
-ghost use Rattle.dbus_types.specs.Spells.{gap};
+ghost use Rattle.dbus_values.specs.Spells.{gap};
 ghost use Rattle.store_data.specs.Walks.{Stands};
 
 /// Where a walk over a spelling has come. The greatest alignment is 8, so of

@@ -4,7 +4,7 @@ use Rattle.std.specs.Cmp.Lexicographic.{pointwise}
 use Rattle.std.specs.List.{list_all, zip}
 use Rattle.dbus_types.specs.declared.types.Endian.TheVariants.{Little}
 use Rattle.dbus_types.specs.declared.types.Value.TheVariants as V
-use Rattle.dbus_types.specs.Spelling.{spelling}
+use Rattle.dbus_values.specs.Spelling.{spelling}
 use Rattle.permission_table.specs.Tables.{with_content}
 use Rattle.portal_base.specs.Names.{is_same}
 use Rattle.portal_model.specs.declared.records.EntryRecord.{EntryRecord}

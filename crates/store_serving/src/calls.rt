@@ -198,6 +198,7 @@ fn delete<K: Keeper>(
     let Some(former) = tables.former(table, id)? else {
         return Ok(answered(alloc, Answer::Refused(Code::NotFound)));
     };
+    // An entry goes last: that takes no memory, and none could be put back in its place.
     let change = change_of(alloc, true, table, id, former)?;
     let made = removal(alloc, table, id)?;
     let failed = keep_told(alloc, outboxes, keeper, Some(made), change)?;

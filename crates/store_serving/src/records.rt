@@ -5,7 +5,7 @@ ghost use Rattle.std.specs.Cmp.Lexicographic.{pointwise};
 ghost use Rattle.std.specs.List.{list_all, zip};
 ghost use Rattle.dbus_types.specs.declared.types.Endian.TheVariants.{Little};
 ghost use Rattle.dbus_types.specs.declared.types.Value.TheVariants as V;
-ghost use Rattle.dbus_types.specs.Spelling.{spelling};
+ghost use Rattle.dbus_values.specs.Spelling.{spelling};
 ghost use Rattle.portal_model.specs.Store.{record_of};
 ghost use Rattle.portal_model.specs.Valid.{entry_told};
 ghost use Rattle.store_serving.specs.Records.{SetsRecord, former_record, is_kept, same_row, same_rows};
@@ -34,6 +34,7 @@ pub(crate) fn record_change(
 {
     let datum = spelled(alloc, &change.datum)?;
     let kept = is_kept(alloc, former, change, &datum)?;
+    // A call that sets what is there is told, and not kept again.
     if kept {
         return Ok(None);
     }

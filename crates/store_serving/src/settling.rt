@@ -153,6 +153,7 @@ fn keep_entry<K: Keeper>(
     ensures outboxes { OnErr result (IsSame outboxes.old outboxes.new) }
     ensures keeper { OnErr result (KeeperStays (K.is keeper.old) (K.is keeper.new)) }
 {
+    // The tables were changed already, and the entry gets its former content where this fails.
     match tell_and_keep(alloc, outboxes, keeper, &former, change) {
         Ok(false) => Ok(false),
         Ok(true) => {
@@ -205,6 +206,8 @@ pub(crate) fn keep_told<K: Keeper>(
     ensures outboxes { OnErr result (IsSame outboxes.old outboxes.new) }
     ensures keeper { OnErr result (KeeperStays (K.is keeper.old) (K.is keeper.new)) }
 {
+    // What is kept is kept last: the keeper is asked once, and nothing may want memory behind it.
+    // So the signal is told first, and taken back where the keeper fails.
     outboxes.post(change)?;
     match keep_change(alloc, keeper, made) {
         Ok(false) => Ok(false),

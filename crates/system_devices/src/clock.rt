@@ -56,6 +56,7 @@ impl<R: time::Clock> Clock for SystemClock<R> {
     {
         match self.clock.since_1970() {
             Ok(time) => self.shown = time.as_secs(),
+            // `Clock` has no answer for a fault, so it shows what it showed last.
             Err(_) => self.faults = self.faults.saturating_add(1),
         }
         self.shown

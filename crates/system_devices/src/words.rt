@@ -19,6 +19,7 @@ pub struct NoSeed {
 /// seeded. No draw fails.
 #[derive(Drop)]
 pub struct SystemWords {
+    // Seeded once, so that no draw can fail.
     generator: StdRng,
 }
 

@@ -18,7 +18,7 @@ use portal_model::opening::OpeningState;
 use record_lines::app_of;
 use script_form::opening::opening_of;
 use script_form::reader::read_script;
-use script_form::script::Script;
+use script_lines::script::Script;
 use std::alloc::Global;
 use vector_lines::error::{LineError, VectorError, bad, given};
 use vector_lines::notation::{cut, debug};

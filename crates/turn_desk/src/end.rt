@@ -68,6 +68,7 @@ pub fn close<S: Storied>(turn: Turn<S>, passes: Vec<Pass<S>>) -> S
 {
     let mut passes = passes;
     let Turn { board, seats: _ } = turn;
+    // Passes may come in whatever order: the first seat's view knows how many numbers were given.
     let Some(at) = place_of_first(passes.as_slice()) else {
         unreachable!()
     };

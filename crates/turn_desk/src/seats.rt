@@ -123,6 +123,7 @@ impl<S: Storied> Pass<S> {
             turn,
             place,
             number,
+            // The count begins anew each time that a pass sits down; what the seat knows goes on.
             refusals: 0,
         }
     }
@@ -177,6 +178,8 @@ impl<'a, S: Storied> Seat<'a, S> {
         let number = self.number;
         let turn = self.turn;
         let top = &turn.board.shared;
+        // A seat keeps the turn also while a device waits: requests are served one at a time, and
+        // who finds the turn taken is told so at once.
         let mut portal = match try_take(top, &mut self.place, u64::from(number)) {
             Ok(portal) => portal,
             Err(holder) => {

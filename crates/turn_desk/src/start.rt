@@ -17,6 +17,7 @@ use std::alloc::Global;
 pub struct Started<S: Storied> {
     /// The turn.
     pub turn: Turn<S>,
+    // A plain `Vec`, since contracts see the room of no other list.
     /// The passes. They have room for as many, so that each is put back
     /// without memory.
     pub passes: Vec<Pass<S>>,

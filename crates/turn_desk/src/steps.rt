@@ -59,6 +59,8 @@ pub(crate) fn give_written<S: Storied>(top: &Top<S>, place: &mut Place<S>, porta
     ensures view { (e : Entry) → S.entries portal ≡ place.old.me.0.found ++ e ∷ []
         → place.new.me ≡ (freed (wrote place.old.me.0 e), []) }
 {
+    // The portal goes back into its slot, then the entry is counted, then the turn is free: so no
+    // seat finds the turn free and the slot empty.
     put(top, place, portal);
     top.fetch_add::<Adds>(place, 1, 1);
     top.swap::<Frees>(place, 0, 0);

@@ -2,6 +2,8 @@
 
 use std::marker::Model;
 
+// What a seat knows is a value of the definitions (a state, lists of entries), for which no Rust
+// type stands. So it has no field, and a record as its model.
 /// The view of a seat. It exists in proofs alone: no value of it is made.
 pub struct View {}
 

@@ -73,6 +73,8 @@ impl SocketListener {
     fn next_stream(&self) -> io::Result<UnixStream> {
         for stream in self.socket.incoming() {
             match stream {
+                // A client that went before it was accepted is passed over; std makes an
+                // interrupted accept again.
                 Err(error) if error.kind() == ErrorKind::ConnectionAborted => {}
                 answer => return answer,
             }

@@ -33,6 +33,8 @@ fn make_way<R: Files + Net>(rt: &R, path: &str) -> Result<(), BindError> {
         Err(error) if error.kind() == ErrorKind::NotFound => return Ok(()),
         Err(error) => return Err(BindError::System(error)),
     }
+    // A socket is stale where a connection to it is refused; where one is accepted a service lives
+    // there.
     match UnixStream::connect(rt, path) {
         Ok(_) => Err(BindError::Live),
         Err(error) if error.kind() == ErrorKind::ConnectionRefused => {
@@ -49,6 +51,8 @@ fn keep_for_owner<R: Files>(
     path: &str,
     socket: UnixListener,
 ) -> Result<UnixListener, BindError> {
+    // std makes the socket and listens in one call, with the mode that the umask leaves. So what
+    // connected before the mode was set is turned away.
     let closed = fs::set_permissions(rt, path, Permissions::from_mode(OWNER_ALONE));
     match closed.and_then(|()| turn_away(&socket)) {
         Ok(()) => Ok(socket),

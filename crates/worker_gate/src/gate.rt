@@ -87,6 +87,8 @@ impl<'a, D: Desk, G: Gate> Desk for GateDesk<'a, D, G> {
 #[derive(Drop)]
 pub struct GateSink<'a, K, G> {
     worker: u32,
+    // Owned and given back, where a desk is borrowed: after a call that is generic over a sink,
+    // contracts don't know that a borrowed one is still the same.
     sink: K,
     gate: &'a G,
 }

@@ -67,6 +67,7 @@ pub trait Listener {
             (faults self.new) }
         ensures room { MakesRoom result (room self.new) };
 
+    // Both ends are moved in, so no body can hand one back twice.
     /// Takes a link back that ended, into the room that was made for it.
     fn done(&mut self, source: Self::In, sink: Self::Out)
         requires { 1 ≤ room self.old }

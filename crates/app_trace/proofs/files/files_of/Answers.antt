@@ -1,7 +1,7 @@
 use Rattle.portal_base.specs.Names.{is_host_path}
 use Rattle.portal_base.specs.declared.files.File.{File}
 use Rattle.portal_model.specs.Opening.{file_of}
-use Rattle.opening_lists.proofs.Loops.{all_map}
+use Rattle.document_records.proofs.Loops.{all_map}
 use Rattle.app_trace.proofs.files.files_of.Goals as goal
 
 pub file-requires : goal.file-requires

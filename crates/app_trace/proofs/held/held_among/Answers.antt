@@ -1,7 +1,7 @@
 use Rattle.portal_base.specs.Names.{is_host_path}
 use Rattle.portal_model.specs.declared.state.Document.{Document}
 use Rattle.portal_model.specs.Opening.{document_kept}
-use Rattle.opening_lists.proofs.Loops.{all_map}
+use Rattle.document_records.proofs.Loops.{all_map}
 use Rattle.app_trace.proofs.held.held_among.Goals as goal
 
 pub push_held-requires : goal.push_held-requires

@@ -8,7 +8,7 @@ use Rattle.portal_model.specs.Opening.{document_kept, file_of, opened, rights_ke
 use Rattle.portal_model.specs.State.{held_of}
 use Rattle.app_trace.specs.declared.view.HeldDocument.{HeldDocument}
 use Rattle.app_trace.specs.Contents.{path_held}
-use Rattle.opening_lists.proofs.ValidNames.{rights_named}
+use Rattle.document_records.proofs.ValidNames.{rights_named}
 use Rattle.app_trace.proofs.ViewedParts.{numbers_kept, viewed}
 use Rattle.app_trace.proofs.viewed.view_of.Goals as goal
 

@@ -2,7 +2,7 @@ use Rattle.std.proofs.Common.{◌≡◌, ◌+◌, ◌++◌, List, ℕ, ◌∷◌
 use Rattle.std.proofs.lemmas.List.{drop_more}
 use Rattle.dbus_types.specs.declared.types.Endian.TheVariants.{Little}
 use Rattle.dbus_types.specs.declared.types.Value.{Value}
-use Rattle.dbus_types.specs.Spelling.{spellings}
+use Rattle.dbus_values.specs.Spelling.{spellings}
 use Rattle.dbus_dispatch.proofs.ReturnLength.{spelled_more}
 use Rattle.dbus_dispatch.proofs.reply.body_len.Goals as goal
 

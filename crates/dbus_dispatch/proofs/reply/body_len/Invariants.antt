@@ -1,6 +1,6 @@
 use Rattle.std.proofs.Common.{◌≡◌, ◌++◌, drop, length}
 use Rattle.dbus_types.specs.declared.types.Endian.TheVariants.{Little}
-use Rattle.dbus_types.specs.Spelling.{spellings}
+use Rattle.dbus_values.specs.Spelling.{spellings}
 use Rattle.dbus_dispatch.proofs.reply.body_len.Given as goal
 
 -- what is written so far, and the rest behind it

@@ -2,7 +2,8 @@ use Rattle.std.proofs.Common.{◌≡◌, sym, ap, subst, ◌∙◌, arith, lengt
 use Rattle.std.proofs.lemmas.Bool.{le-ltb, eqb-false}
 use Rattle.std.proofs.lemmas.List.{drop-take}
 use Rattle.std.proofs.lemmas.Result.{err_from_is_err_and}
-use Rattle.dbus_marshal.specs.Reads.{Fails, reads, after, place}
+use Rattle.dbus_basic.specs.Reading.{Fails, after, place}
+use Rattle.dbus_marshal.specs.Reads.{reads}
 use Rattle.dbus_marshal.proofs.Depths.{reads_array, reads_struct, reads_entry}
 use Rattle.dbus_marshal.proofs.Verdicts.{members_past, members_past_end, members_past_fails, elements_past, elements_past_end, elements_past_fails, bytes_checked, array_past, array_past_fails, struct_past, entry_past, entry_past_fails, variant_past}
 use Rattle.dbus_marshal.proofs.check.+check.Goals as goal

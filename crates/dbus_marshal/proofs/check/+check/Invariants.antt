@@ -1,5 +1,6 @@
 use Rattle.std.proofs.Common.{◌≡◌, ℕ, ◌+◌, ◌-◌, ◌*◌, ◌≤◌, drop, length}
-use Rattle.dbus_marshal.specs.Reads.{past, verdict, reads, members, elements}
+use Rattle.dbus_basic.specs.Reading.{past, verdict}
+use Rattle.dbus_marshal.specs.Reads.{reads, members, elements}
 use Rattle.dbus_marshal.proofs.check.+check.Given as goal
 
 abbrev pub decreases-check_within : goal.decreases-check_within

@@ -1,5 +1,6 @@
 use Rattle.std.proofs.Common.{Some, refl, sym, subst, ◌∙◌, arith}
-use Rattle.dbus_marshal.specs.Reads.{Fails, field_at}
+use Rattle.dbus_basic.specs.Reading.{Fails}
+use Rattle.dbus_marshal.specs.Reads.{field_at}
 use Rattle.dbus_marshal.proofs.KeptFields.{sieve_step, sieve_skip, sieve_end, sieve_fails}
 use Rattle.dbus_marshal.proofs.header.read_fields.Goals as goal
 

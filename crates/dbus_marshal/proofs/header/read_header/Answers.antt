@@ -3,7 +3,8 @@ use Rattle.std.specs.Prelude.{filter}
 use Rattle.std.proofs.lemmas.Result.{err_from_is_err_and}
 use Rattle.dbus_types.specs.declared.types.Value.{Value}
 use Rattle.dbus_types.specs.declared.types.Value.TheVariants as V
-use Rattle.dbus_marshal.specs.Reads.{after, field_type, fields_type, has_code_to}
+use Rattle.dbus_basic.specs.Reading.{after}
+use Rattle.dbus_marshal.specs.Reads.{field_type, fields_type, has_code_to}
 use Rattle.dbus_marshal.proofs.HeaderFields.{fields_give, fields_fail, same_fields}
 use Rattle.dbus_marshal.proofs.ReadValueLaws.{is_found, is_only, is_no_error}
 use Rattle.dbus_marshal.proofs.header.read_header.Goals as goal

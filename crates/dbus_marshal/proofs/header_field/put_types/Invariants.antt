@@ -1,7 +1,7 @@
 use Rattle.std.proofs.Common.{◌≡◌, ◌++◌, drop, map}
 use Rattle.dbus_types.specs.Types.{types_text}
-use Rattle.dbus_types.specs.Values.{type_of}
-use Rattle.dbus_types.specs.Spelling.{Extends}
+use Rattle.dbus_values.specs.Values.{type_of}
+use Rattle.dbus_values.specs.Spelling.{Extends}
 use Rattle.dbus_marshal.proofs.header_field.put_types.Given as goal
 
 -- the texts that are put and those that are left are the whole

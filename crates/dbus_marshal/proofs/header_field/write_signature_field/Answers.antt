@@ -1,7 +1,7 @@
 use Rattle.std.proofs.lemmas.Result.{on_ok_weaker}
 use Rattle.std.specs.Prelude.{map}
 use Rattle.dbus_types.specs.Types.{types_text}
-use Rattle.dbus_types.specs.Values.{type_of}
+use Rattle.dbus_values.specs.Values.{type_of}
 use Rattle.dbus_types.specs.declared.types.Endian.TheVariants.{Little}
 use Rattle.dbus_marshal.proofs.WrittenFields.{signature_whole}
 use Rattle.dbus_marshal.proofs.header_field.write_signature_field.Goals as goal

@@ -4,7 +4,8 @@ use Rattle.std.proofs.lemmas.List.{drop-take, length-drop, take_all}
 use Rattle.dbus_types.specs.declared.types.Value.TheVariants as V
 use Rattle.dbus_types.specs.declared.types.WireType.{WireType}
 use Rattle.dbus_types.specs.declared.types.WireType.TheVariants as W
-use Rattle.dbus_marshal.specs.Reads.{Fails, reads, elements, arrayed, after, place}
+use Rattle.dbus_basic.specs.Reading.{Fails, after, place}
+use Rattle.dbus_marshal.specs.Reads.{reads, elements, arrayed}
 use Rattle.dbus_marshal.proofs.Loops.{members_step, members_end, members_fails, elements_step, elements_end, elements_fails, fails_as, array_is, array_fails, array_read, no_elements}
 use Rattle.dbus_marshal.proofs.Bytes.{items_arrayed, packed_fails, packed_read}
 use Rattle.std.proofs.lemmas.Result.{err_from_is_err_and}

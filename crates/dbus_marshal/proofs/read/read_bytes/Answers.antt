@@ -2,7 +2,7 @@ use Rattle.std.proofs.Common.{◌∙◌, Ok, ap, length, map, refl, sym, arith}
 use Rattle.dbus_types.specs.declared.types.Value.TheVariants as V
 use Rattle.dbus_types.specs.declared.types.WireType.TheVariants as W
 use Rattle.std.proofs.lemmas.Bool.{true≢false}
-use Rattle.dbus_types.proofs.PackedBytes.{none_there}
+use Rattle.dbus_values.proofs.PackedBytes.{none_there}
 use Rattle.dbus_marshal.specs.Reads.{elements, reads}
 use Rattle.dbus_marshal.proofs.Bytes.{bytes_read, no_bytes, some_deep}
 use Rattle.dbus_marshal.proofs.read.read_bytes.Goals as goal

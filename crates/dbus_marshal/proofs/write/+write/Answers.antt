@@ -1,6 +1,6 @@
 use Rattle.std.proofs.lemmas.Result.{on_ok_weaker}
 use Rattle.dbus_types.specs.declared.types.Endian.TheVariants.{Little}
-use Rattle.dbus_types.proofs.SpelledType.{spelled_kind}
+use Rattle.dbus_values.proofs.SpelledType.{spelled_kind}
 use Rattle.dbus_marshal.proofs.PiecesJoined.{variant_whole, struct_whole, entry_whole}
 use Rattle.dbus_marshal.proofs.write.+write.Goals as goal
 

@@ -2,8 +2,8 @@ use Rattle.std.proofs.Common.{◌≡◌, List, ℕ, ◌-◌, ◌++◌, length, s
 use Rattle.dbus_types.specs.declared.types.Endian.TheVariants.{Little}
 use Rattle.dbus_types.specs.declared.types.WireType.TheVariants as W
 use Rattle.dbus_types.specs.declared.types.Value.TheVariants as V
-use Rattle.dbus_types.specs.Spelling.{spelling, spellings}
-use Rattle.dbus_types.proofs.OneSpelling.{spells_same}
+use Rattle.dbus_values.specs.Spelling.{spelling, spellings}
+use Rattle.dbus_values.proofs.OneSpelling.{spells_same}
 use Rattle.dbus_marshal.proofs.SpellingsMove.{spellings_move}
 use Rattle.dbus_message.specs.Fields.{field_type}
 use Rattle.dbus_message.specs.Written.{body_out, fields_out, kind_out, laid}

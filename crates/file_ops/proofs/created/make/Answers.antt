@@ -2,7 +2,7 @@ use Rattle.std.proofs.Common.{subst, sym}
 use Rattle.std.specs.Result.{IfOk}
 use Rattle.std.proofs.lemmas.Result.{IfOk-weaker}
 use Rattle.file_ops.specs.Creates.{Opening, target_walk}
-use Rattle.file_ops.specs.Done.{room_in}
+use Rattle.node_looks.specs.Done.{room_in}
 use Rattle.file_ops.specs.Tries.{done_of_tried}
 use Rattle.file_ops.specs.declared.created.Target.{Target}
 use Rattle.file_ops.proofs.Creates.{opening-after}

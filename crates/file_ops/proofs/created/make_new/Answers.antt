@@ -1,4 +1,4 @@
-use Rattle.file_ops.specs.Done.{room_in}
+use Rattle.node_looks.specs.Done.{room_in}
 use Rattle.file_ops.proofs.Creates.{made-behind}
 use Rattle.file_ops.proofs.Tries.{called-behind, on-err}
 use Rattle.file_ops.proofs.created.make_new.Goals as goal

@@ -2,8 +2,8 @@ use Rattle.std.proofs.Common.{◌∙◌, Some, ap}
 use Rattle.portal_model.specs.Create.{create_in}
 use Rattle.portal_model.specs.Errno.{enotdir}
 use Rattle.portal_model.specs.NodeVerdict.{by_place, no_file}
-use Rattle.file_ops.specs.Sights.{sight_of}
-use Rattle.file_ops.specs.declared.sight.SeenPlace.{SeenPlace}
+use Rattle.node_looks.specs.Sights.{sight_of}
+use Rattle.node_looks.specs.declared.sight.SeenPlace.{SeenPlace}
 use Rattle.file_ops.proofs.created.target_at.Goals as goal
 
 pub returns-in-Folder : goal.returns-in-Folder

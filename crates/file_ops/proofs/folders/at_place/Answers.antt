@@ -3,9 +3,9 @@ use Rattle.std.specs.Option.{option_map}
 use Rattle.portal_model.specs.declared.request.NodeOp.TheVariants as NodeOp
 use Rattle.portal_model.specs.OpenDir.{open_dir}
 use Rattle.portal_model.specs.Place.{Sight}
-use Rattle.file_ops.specs.Done.{DoneBy, done_with, room_in}
-use Rattle.file_ops.specs.Sights.{sight_of}
-use Rattle.file_ops.specs.declared.sight.SeenPlace.{SeenPlace}
+use Rattle.node_looks.specs.Done.{DoneBy, done_with, room_in}
+use Rattle.node_looks.specs.Sights.{sight_of}
+use Rattle.node_looks.specs.declared.sight.SeenPlace.{SeenPlace}
 use Rattle.file_ops.proofs.folders.at_place.Goals as goal
 
 pub returns-in-Some-File-clause-ok : goal.returns-in-Some-File-clause-ok

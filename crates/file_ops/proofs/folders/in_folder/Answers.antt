@@ -3,9 +3,9 @@ use Rattle.host_tree.specs.Trees.{Asks}
 use Rattle.portal_model.specs.declared.request.NodeOp.TheVariants as NodeOp
 use Rattle.portal_model.specs.OpenDir.{open_dir}
 use Rattle.portal_model.specs.Place.{Sight}
-use Rattle.file_ops.specs.Done.{DoneBy, done_with, room_in}
+use Rattle.node_looks.specs.Done.{DoneBy, done_with, room_in}
 use Rattle.file_ops.specs.OpenedFolders.{ListsBehind}
-use Rattle.file_ops.specs.Sights.{sight_of}
+use Rattle.node_looks.specs.Sights.{sight_of}
 use Rattle.file_ops.proofs.OneLook.{called-once}
 use Rattle.file_ops.proofs.OpenedDirs.{dir-behind-look, on-err, still-wants}
 use Rattle.file_ops.proofs.folders.in_folder.Goals as goal

@@ -1,6 +1,6 @@
 use Rattle.std.proofs.Common.{subst, sym}
-use Rattle.file_ops.specs.Done.{Does}
-use Rattle.file_ops.specs.declared.served.NodeDone.{NodeDone}
+use Rattle.node_looks.specs.Done.{Does}
+use Rattle.node_looks.specs.declared.served.NodeDone.{NodeDone}
 use Rattle.file_ops.proofs.Openings.{open-does}
 use Rattle.file_ops.proofs.opening.open.Goals as goal
 

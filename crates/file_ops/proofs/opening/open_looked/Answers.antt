@@ -1,5 +1,5 @@
 use Rattle.portal_model.specs.Open.{open_file}
-use Rattle.file_ops.specs.Done.{room_in}
+use Rattle.node_looks.specs.Done.{room_in}
 use Rattle.file_ops.proofs.Openings.{behind-file}
 use Rattle.file_ops.proofs.opening.open_looked.Goals as goal
 

@@ -1,8 +1,8 @@
 use Rattle.std.proofs.Common.{◌≡◌, ap, subst, sym, ◌∙◌}
 use Rattle.std.proofs.lemmas.Result.{IfOk-weaker, on_err_weaker}
 use Rattle.portal_model.specs.declared.request.NodeOp.TheVariants as NodeOp
-use Rattle.file_ops.specs.Done.{Forgets}
-use Rattle.file_ops.proofs.DoneLemmas.{IsExact, tells-does}
+use Rattle.node_looks.specs.Done.{Forgets}
+use Rattle.node_looks.proofs.DoneLemmas.{IsExact, tells-does}
 use Rattle.file_ops.proofs.serve.serve_node.Goals as goal
 
 pub returns-in-Lookup-clause-ok : goal.returns-in-Lookup-clause-ok

@@ -2,7 +2,7 @@ use Rattle.std.proofs.Common.{ℕ, List, ap, subst, ◌∙◌}
 use Rattle.app_world.specs.Touched.{is_done}
 use Rattle.given_laws.proofs.OneEntry.{entry-one}
 use Rattle.host_tree.specs.Devices.{QuietState}
-use Rattle.portal_core.specs.Story.{PortalIs}
+use Rattle.portal_steps.specs.Story.{PortalIs}
 use Rattle.portal_model.specs.declared.reply.Reply.{Reply}
 use Rattle.portal_model.specs.declared.request.Request.{Request}
 use Rattle.history_trace.specs.declared.idle.IdleKeeper.{IdleKeeper}

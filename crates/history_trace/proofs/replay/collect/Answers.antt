@@ -1,7 +1,7 @@
 use Rattle.std.proofs.Common.{ap}
 use Rattle.app_world.specs.Touched.{is_done}
 use Rattle.given_laws.proofs.FaultLaws.{faults-change-nothing}
-use Rattle.portal_core.specs.Story.{state_now}
+use Rattle.portal_steps.specs.Story.{state_now}
 use Rattle.history_trace.proofs.Going.{collected}
 use Rattle.history_trace.proofs.replay.collect.Goals as goal
 

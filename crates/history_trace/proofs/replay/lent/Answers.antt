@@ -1,4 +1,4 @@
-use Rattle.portal_core.specs.Story.{state_now}
+use Rattle.portal_steps.specs.Story.{state_now}
 use Rattle.history_trace.proofs.Going.{told-now}
 use Rattle.history_trace.proofs.LentLists.{shows}
 use Rattle.history_trace.proofs.replay.lent.Goals as goal

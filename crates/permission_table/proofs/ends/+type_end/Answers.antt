@@ -1,7 +1,7 @@
 use Rattle.std.proofs.Common.{◌+◌, length, arith, ap, refl}
 use Rattle.dbus_types.specs.declared.types.WireType.{WireType}
 use Rattle.dbus_types.specs.Types.{type_text, types_text}
-use Rattle.dbus_types.proofs.LimitsByLayer.{struct_length, entry_length}
+use Rattle.dbus_values.proofs.LimitsByLayer.{struct_length, entry_length}
 use Rattle.permission_table.proofs.EndLemmas.{ends-at, past}
 use Rattle.permission_table.proofs.ends.+type_end.Goals as goal
 

@@ -1,9 +1,9 @@
 use Rattle.std.proofs.Common.{◌+◌, length, map, arith, ap, refl, ◌∙◌}
 use Rattle.dbus_types.specs.declared.types.Value.{Value}
 use Rattle.dbus_types.specs.Types.{type_text, types_text}
-use Rattle.dbus_types.specs.Values.{type_of}
-use Rattle.dbus_types.proofs.ListFronts.{type_struct, type_entry}
-use Rattle.dbus_types.proofs.LimitsByLayer.{struct_length, entry_length}
+use Rattle.dbus_values.specs.Values.{type_of}
+use Rattle.dbus_values.proofs.ListFronts.{type_struct, type_entry}
+use Rattle.dbus_values.proofs.LimitsByLayer.{struct_length, entry_length}
 use Rattle.permission_table.proofs.EndLemmas.{ends-at, past}
 use Rattle.permission_table.proofs.ends.+type_of_end.Goals as goal
 

@@ -1,6 +1,6 @@
 use Rattle.std.proofs.Common.{◌≡◌, ◌+◌, length, drop, map}
 use Rattle.dbus_types.specs.Types.{types_text}
-use Rattle.dbus_types.specs.Values.{type_of}
+use Rattle.dbus_values.specs.Values.{type_of}
 use Rattle.permission_table.proofs.ends.+type_of_end.Given as goal
 
 -- what is passed and what is left come to the whole

@@ -5,10 +5,10 @@ use Rattle.dbus_types.specs.declared.types.Value.{Value}
 use Rattle.dbus_types.specs.declared.types.Value.TheOpen.{Value-F}
 use Rattle.dbus_types.specs.declared.types.Value.TheVariants as V
 use Rattle.dbus_types.specs.Types.{alignment}
-use Rattle.dbus_types.specs.Values.{type_of}
-use Rattle.dbus_types.specs.Spells.{gap, bit}
-use Rattle.dbus_types.specs.Spelling.{spell_step, spelled_length, spelled_lengths}
-use Rattle.dbus_types.proofs.OneSpelling.{roll_bool, roll_i16, roll_u16, roll_i32, roll_u32, roll_i64, roll_u64, roll_double, roll_handle}
+use Rattle.dbus_values.specs.Values.{type_of}
+use Rattle.dbus_values.specs.Spells.{gap, bit}
+use Rattle.dbus_values.specs.Spelling.{spell_step, spelled_length, spelled_lengths}
+use Rattle.dbus_values.proofs.OneSpelling.{roll_bool, roll_i16, roll_u16, roll_i32, roll_u32, roll_i64, roll_u64, roll_double, roll_handle}
 use Rattle.permission_table.specs.Ends.{elements_at, inside_at}
 use Rattle.permission_table.proofs.EndLemmas.{ends-at, past, leaf, struct-end, entry-end, array-end, variant-end}
 use Rattle.permission_table.proofs.lengths.+value_end.Goals as goal

@@ -1,5 +1,5 @@
 use Rattle.std.proofs.Common.{◌≡◌, ◌+◌, drop}
-use Rattle.dbus_types.specs.Spelling.{spelled_lengths}
+use Rattle.dbus_values.specs.Spelling.{spelled_lengths}
 use Rattle.permission_table.proofs.lengths.+value_end.Given as goal
 
 -- what is passed and what is left come to the whole

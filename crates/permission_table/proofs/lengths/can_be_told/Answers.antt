@@ -1,5 +1,5 @@
 use Rattle.dbus_types.specs.declared.types.Value.TheVariants as V
-use Rattle.dbus_types.specs.Spelling.{spelled_length}
+use Rattle.dbus_values.specs.Spelling.{spelled_length}
 use Rattle.portal_model.specs.Changed.{changed_value}
 use Rattle.portal_model.specs.Store.{record_of}
 use Rattle.permission_table.proofs.ChangedHeader.{told-within}

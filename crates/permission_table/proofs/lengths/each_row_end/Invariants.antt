@@ -1,5 +1,5 @@
 use Rattle.std.proofs.Common.{◌≡◌, ◌+◌, drop, map}
-use Rattle.dbus_types.specs.Spelling.{spelled_lengths}
+use Rattle.dbus_values.specs.Spelling.{spelled_lengths}
 use Rattle.portal_model.specs.Changed.{row_value}
 use Rattle.permission_table.proofs.lengths.each_row_end.Given as goal
 

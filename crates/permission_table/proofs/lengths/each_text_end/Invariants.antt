@@ -1,5 +1,5 @@
 use Rattle.std.proofs.Common.{◌≡◌, ◌+◌, drop, map}
-use Rattle.dbus_types.specs.Spelling.{spelled_lengths}
+use Rattle.dbus_values.specs.Spelling.{spelled_lengths}
 use Rattle.dbus_types.specs.declared.types.Value.TheVariants as V
 use Rattle.permission_table.proofs.lengths.each_text_end.Given as goal
 

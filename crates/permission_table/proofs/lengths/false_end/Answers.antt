@@ -2,9 +2,9 @@ use Rattle.std.proofs.Common.{false, refl}
 use Rattle.dbus_types.specs.declared.types.Endian.TheVariants.{Little}
 use Rattle.dbus_types.specs.declared.types.Value.TheOpen.{Value-F}
 use Rattle.dbus_types.specs.declared.types.Value.TheVariants as V
-use Rattle.dbus_types.specs.Spells.{bit}
-use Rattle.dbus_types.specs.Spelling.{spell_step}
-use Rattle.dbus_types.proofs.OneSpelling.{roll_bool}
+use Rattle.dbus_values.specs.Spells.{bit}
+use Rattle.dbus_values.specs.Spelling.{spell_step}
+use Rattle.dbus_values.proofs.OneSpelling.{roll_bool}
 use Rattle.permission_table.proofs.EndLemmas.{leaf}
 use Rattle.permission_table.proofs.lengths.false_end.Goals as goal
 

@@ -1,7 +1,7 @@
 use Rattle.std.proofs.Common.{◌≡◌, ◌+◌, ◌∙◌, ℕ, List, ap, arith}
 use Rattle.dbus_types.specs.declared.types.Value.TheVariants as V
-use Rattle.dbus_types.specs.Spells.{gap}
-use Rattle.dbus_types.specs.Spelling.{spelled_length}
+use Rattle.dbus_values.specs.Spells.{gap}
+use Rattle.dbus_values.specs.Spelling.{spelled_length}
 use Rattle.portal_model.specs.Changed.{row_value, texts_value}
 use Rattle.permission_table.proofs.EndLemmas.{ends-at, past, entry-end}
 use Rattle.permission_table.proofs.lengths.row_end.Goals as goal

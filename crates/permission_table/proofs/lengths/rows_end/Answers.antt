@@ -1,5 +1,5 @@
 use Rattle.std.proofs.Common.{◌+◌, ◌∙◌, ℕ, map, ap, arith}
-use Rattle.dbus_types.specs.Spelling.{spelled_length, spelled_lengths}
+use Rattle.dbus_values.specs.Spelling.{spelled_length, spelled_lengths}
 use Rattle.portal_model.specs.Changed.{row_value, rows_value}
 use Rattle.permission_table.specs.Ends.{elements_at}
 use Rattle.permission_table.proofs.EndLemmas.{ends-at, past, rows-end}

@@ -2,8 +2,8 @@ use Rattle.std.proofs.Common.{◌+◌, ℕ, List, refl, subst}
 use Rattle.dbus_types.specs.declared.types.Endian.TheVariants.{Little}
 use Rattle.dbus_types.specs.declared.types.Value.TheOpen.{Value-F}
 use Rattle.dbus_types.specs.declared.types.Value.TheVariants as V
-use Rattle.dbus_types.specs.Spelling.{spell_step, spelled_length}
-use Rattle.dbus_types.proofs.OneSpelling.{roll_str}
+use Rattle.dbus_values.specs.Spelling.{spell_step, spelled_length}
+use Rattle.dbus_values.proofs.OneSpelling.{roll_str}
 use Rattle.permission_table.specs.Ends.{Ends}
 use Rattle.permission_table.proofs.EndLemmas.{leaf}
 use Rattle.permission_table.proofs.lengths.str_end.Goals as goal

@@ -1,5 +1,5 @@
 use Rattle.std.proofs.Common.{◌+◌, ◌∙◌, ℕ, map, ap, arith}
-use Rattle.dbus_types.specs.Spelling.{spelled_length, spelled_lengths}
+use Rattle.dbus_values.specs.Spelling.{spelled_length, spelled_lengths}
 use Rattle.dbus_types.specs.declared.types.Value.TheVariants as V
 use Rattle.portal_model.specs.Changed.{texts_value}
 use Rattle.permission_table.specs.Ends.{elements_at}

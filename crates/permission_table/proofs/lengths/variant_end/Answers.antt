@@ -1,7 +1,7 @@
 use Rattle.std.proofs.Common.{◌+◌, ◌∙◌, ℕ, ap, arith}
 use Rattle.dbus_types.specs.declared.types.Value.TheVariants as V
-use Rattle.dbus_types.specs.Values.{type_of}
-use Rattle.dbus_types.specs.Spelling.{spelled_length}
+use Rattle.dbus_values.specs.Values.{type_of}
+use Rattle.dbus_values.specs.Spelling.{spelled_length}
 use Rattle.permission_table.specs.Ends.{inside_at}
 use Rattle.permission_table.proofs.EndLemmas.{ends-at, past, variant-end}
 use Rattle.permission_table.proofs.lengths.variant_end.Goals as goal

@@ -1,6 +1,6 @@
 use Rattle.std.proofs.Common.{◌≡◌, List, [], ◌∷◌, ◌++◌, map, ap, ◌∙◌}
 use Rattle.std.specs.List.{range_with_len}
-use Rattle.script_form.specs.declared.script.ScriptLine.{ScriptLine}
+use Rattle.script_lines.specs.declared.script.ScriptLine.{ScriptLine}
 use Rattle.portal_load.specs.Lines.{bus_line, mount_line, open_lines}
 use Rattle.portal_load.proofs.Ranges.{made_all}
 use Rattle.portal_load.proofs.ahead.open_lines.Goals as goal

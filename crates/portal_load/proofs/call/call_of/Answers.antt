@@ -1,7 +1,7 @@
 use Rattle.std.proofs.Common.{◌≡◌, List, ℕ, ◌-◌, ◌++◌, length, ap, ◌∙◌, arith}
 use Rattle.dbus_types.specs.declared.types.Endian.TheVariants.{Little}
 use Rattle.dbus_types.specs.declared.types.Value.TheVariants as V
-use Rattle.dbus_types.specs.Spelling.{spelling, spellings}
+use Rattle.dbus_values.specs.Spelling.{spelling, spellings}
 use Rattle.dbus_marshal.proofs.SpellingsMove.{spellings_move}
 use Rattle.dbus_message.specs.Fields.{field_type}
 use Rattle.dbus_message.proofs.WriteMessage.{body_aligned}

@@ -2,8 +2,8 @@ use Rattle.std.proofs.Common.{◌≡◌, List, ℕ, ◌-◌, [], ◌∷◌, ◌+
 use Rattle.std.specs.Int.{w32}
 use Rattle.dbus_types.specs.declared.types.Endian.TheVariants.{Little}
 use Rattle.dbus_types.specs.declared.types.Value.TheVariants as V
-use Rattle.dbus_types.specs.Spells.{number}
-use Rattle.dbus_types.specs.Spelling.{spelling}
+use Rattle.dbus_values.specs.Spells.{number}
+use Rattle.dbus_values.specs.Spelling.{spelling}
 use Rattle.dbus_message.specs.Fields.{field_type}
 use Rattle.dbus_message.proofs.WrittenHeader.{fields_laid}
 use Rattle.portal_load.specs.Calls.{call_fields}

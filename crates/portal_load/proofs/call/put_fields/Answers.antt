@@ -2,7 +2,7 @@ use Rattle.std.proofs.Common.{◌≡◌, List, ℕ, [], ◌∷◌, ◌++◌, len
 use Rattle.dbus_types.specs.declared.types.Endian.TheVariants.{Little}
 use Rattle.dbus_types.specs.declared.types.Value.{Value}
 use Rattle.dbus_types.specs.declared.types.Value.TheVariants as V
-use Rattle.dbus_types.specs.Spelling.{spelling}
+use Rattle.dbus_values.specs.Spelling.{spelling}
 use Rattle.dbus_message.specs.Written.{field, signature_field}
 use Rattle.dbus_message.proofs.WrittenHeader.{row_last, row_more}
 use Rattle.portal_load.specs.Calls.{documents_interface, documents_path}

@@ -1,8 +1,8 @@
 use Rattle.std.proofs.Common.{List, subst, ◌∙◌}
-use Rattle.script_form.specs.declared.script.ScriptLine.{ScriptLine}
-use Rattle.script_command.specs.Started.{StartsScript}
+use Rattle.script_lines.specs.declared.script.ScriptLine.{ScriptLine}
+use Rattle.script_replay.specs.Started.{StartsScript}
 use Rattle.script_command.proofs.LoadRun.{load_stops, may_run_load, ran_load}
-use Rattle.script_command.proofs.RunLine.{if_err, on_ok}
+use Rattle.script_replay.proofs.RunLine.{if_err, on_ok}
 use Rattle.script_command.proofs.generate.run_load.Goals as goal
 
 pub run_lines-requires-clause-may : goal.run_lines-requires-clause-may

@@ -1,5 +1,5 @@
 use Rattle.script_command.proofs.ReplayScript.{itself, may_replay, replay_stops, replays_all}
-use Rattle.script_form.specs.Lines.{text_of}
+use Rattle.script_lines.specs.Lines.{text_of}
 use Rattle.script_command.proofs.run.replay_over.Goals as goal
 
 pub run_lines-requires-clause-may : goal.run_lines-requires-clause-may

@@ -1,5 +1,5 @@
 use Rattle.std.proofs.Common.{◌<◌, ◌^◌, List, sym, subst}
-use Rattle.script_form.specs.declared.script.ScriptLine.{ScriptLine}
+use Rattle.script_lines.specs.declared.script.ScriptLine.{ScriptLine}
 use Rattle.script_command.specs.Worlds.{number_behind}
 use Rattle.script_command.proofs.WorldsCompared.{fault_fits, few_lines, read_short}
 use Rattle.script_command.proofs.worlds.read_parts.Goals as goal

@@ -1,5 +1,5 @@
 use Rattle.std.proofs.Common.{ℕ, sym, subst}
-use Rattle.script_command.specs.declared.status.Status.TheVariants.{ScriptFault}
+use Rattle.script_replay.specs.declared.status.Status.TheVariants.{ScriptFault}
 use Rattle.script_command.specs.Worlds.{Compares}
 use Rattle.script_command.proofs.WorldsCompared.{Writes, text_refused}
 use Rattle.script_command.proofs.worlds.worlds.Goals as goal

@@ -3,7 +3,7 @@ use Rattle.std.specs.Prelude.{fold}
 use Rattle.portal_model.specs.Opening.{each, names_kept}
 use Rattle.record_keeper.specs.Naming.{also_named}
 use Rattle.script_form.specs.Opening.{document_in, applications_of}
-use Rattle.script_form.specs.declared.script.ScriptLine.{ScriptLine}
+use Rattle.script_lines.specs.declared.script.ScriptLine.{ScriptLine}
 use Rattle.script_form.proofs.NamedInLines.{named_more}
 use Rattle.script_form.proofs.opening.applications_in.Goals as goal
 

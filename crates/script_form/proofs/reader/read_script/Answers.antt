@@ -1,6 +1,6 @@
 use Rattle.std.proofs.Common.{rules, ◌+◌, ◌<◌, ◌^◌, ◌∙◌, ap, length, arith}
 use Rattle.std.proofs.lemmas.List.{length-append}
-use Rattle.script_form.specs.Lines.{text_of}
+use Rattle.script_lines.specs.Lines.{text_of}
 use Rattle.script_form.proofs.ScriptFacts.{next_cut, good_next, lines_short, text_none, good_none}
 use Rattle.script_form.proofs.reader.read_script.Goals as goal
 

@@ -1,5 +1,5 @@
 use Rattle.std.proofs.Common.{◌≡◌, ◌++◌, length}
-use Rattle.script_form.specs.Lines.{text_of}
+use Rattle.script_lines.specs.Lines.{text_of}
 use Rattle.script_form.specs.Order.{IsScript}
 use Rattle.script_form.specs.Preceding.{Tracks}
 use Rattle.script_form.proofs.reader.read_script.Given as goal

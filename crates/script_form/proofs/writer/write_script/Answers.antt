@@ -1,6 +1,6 @@
 use Rattle.std.proofs.Common.{◌++◌, ◌∷◌, [], List, ℕ, sym, ap, ◌∙◌}
-use Rattle.script_form.specs.Lines.{line_text}
-use Rattle.script_form.specs.declared.script.ScriptLine.{ScriptLine}
+use Rattle.script_lines.specs.Lines.{line_text}
+use Rattle.script_lines.specs.declared.script.ScriptLine.{ScriptLine}
 use Rattle.script_form.proofs.ScriptFacts.{text_empty}
 use Rattle.script_form.proofs.WrittenFacts.{text_more}
 use Rattle.script_form.proofs.writer.write_script.Goals as goal

@@ -1,7 +1,7 @@
 use Rattle.std.proofs.Common.{[], map, refl, sym, ap, ◌∙◌}
 use Rattle.portal_model.specs.declared.reply.Reply.{Reply}
-use Rattle.dbus_dispatch.specs.Errors.{error_to, refusal_of}
-use Rattle.dbus_dispatch.specs.Replies.{reply_of}
+use Rattle.dbus_calls.specs.Errors.{error_to}
+use Rattle.dbus_dispatch.specs.Replies.{refusal_of, reply_of}
 use Rattle.dbus_dispatch.specs.Signals.{signal_of}
 use Rattle.session.specs.Answers.{Denied, Made}
 use Rattle.session.proofs.Grew.{asked_err, asked_ok}

@@ -3,10 +3,10 @@ use Rattle.std.specs.Prelude.{All}
 use Rattle.dbus_types.specs.declared.types.Value.{Value}
 use Rattle.dbus_types.specs.declared.types.Value.TheVariants as V
 use Rattle.dbus_types.specs.declared.types.WireType.{WireType}
-use Rattle.dbus_types.specs.Spells.{gap}
-use Rattle.dbus_types.specs.Spelling.{spelled_length, spelled_lengths}
+use Rattle.dbus_values.specs.Spells.{gap}
+use Rattle.dbus_values.specs.Spelling.{spelled_length, spelled_lengths}
 use Rattle.dbus_types.specs.Types.{IsValidType}
-use Rattle.dbus_types.specs.Values.{type_of}
+use Rattle.dbus_values.specs.Values.{type_of}
 use Rattle.portal_model.specs.Data.{all_keep, judged}
 use Rattle.store_data.specs.Walks.{Keeps, Passes, Stands, ahead_of_elements}
 use Rattle.store_data.proofs.WalkedLeaves.{stands-at, stops}

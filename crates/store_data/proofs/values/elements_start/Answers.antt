@@ -1,5 +1,5 @@
 use Rattle.std.proofs.Common.{◌≡◌, ◌+◌, ◌%◌, ◌∙◌, ℕ, ap, arith}
-use Rattle.dbus_types.specs.Spells.{gap}
+use Rattle.dbus_values.specs.Spells.{gap}
 use Rattle.dbus_types.specs.Types.{alignment}
 use Rattle.store_data.specs.Walks.{ahead_of_elements}
 use Rattle.store_data.proofs.WalkedLeaves.{stands-at}

@@ -1,5 +1,5 @@
 use Rattle.std.proofs.Common.{◌≡◌, ◌+◌, arith}
-use Rattle.dbus_types.specs.Spells.{gap}
+use Rattle.dbus_values.specs.Spells.{gap}
 use Rattle.store_data.proofs.WalkedLeaves.{assoc, stands-at}
 use Rattle.store_data.proofs.values.number_end.Goals as goal
 

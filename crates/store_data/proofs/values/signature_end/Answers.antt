@@ -1,6 +1,6 @@
 use Rattle.std.proofs.Common.{◌≡◌, ◌+◌, ◌-◌, length, arith}
 use Rattle.dbus_types.specs.Types.{type_text}
-use Rattle.dbus_types.specs.Values.{type_of}
+use Rattle.dbus_values.specs.Values.{type_of}
 use Rattle.portal_model.specs.Data.{is_variant_type}
 use Rattle.store_data.proofs.WalkedLeaves.{stands-at, stops}
 use Rattle.store_data.proofs.WalkedParts.{kind-passes, too-long-kind}

@@ -1,6 +1,6 @@
 use Rattle.std.proofs.Common.{◌≡◌, ◌+◌, arith}
 use Rattle.std.proofs.lemmas.Bool.Decides.{nat_tests}
-use Rattle.dbus_types.specs.Spells.{gap}
+use Rattle.dbus_values.specs.Spells.{gap}
 use Rattle.store_data.proofs.WalkedLeaves.{assoc, long, short, stands-at}
 use Rattle.store_data.proofs.values.text_end.Goals as goal
 

@@ -1,5 +1,5 @@
 use Rattle.std.proofs.Common.{◌≡◌, ◌+◌, ◌-◌, ◌%◌, ℕ, ap}
-use Rattle.dbus_types.specs.Spells.{gap}
+use Rattle.dbus_values.specs.Spells.{gap}
 use Rattle.store_data.proofs.EightAlignments.{same-gap}
 use Rattle.store_data.proofs.WalkedLeaves.{stands-at}
 use Rattle.store_data.proofs.walk.padded.Goals as goal

@@ -6,16 +6,16 @@ use Rattle.portal_model.specs.Lawful.{Lawful}
 use Rattle.portal_model.specs.Opening.{opened_over}
 use Rattle.portal_model.specs.State.{connection_of}
 use Rattle.portal_model.specs.Step.{bus_of, reply_at, reply_with}
-use Rattle.portal_core.specs.Devices.{Keeping}
-use Rattle.portal_core.specs.Story.{state_now}
-use Rattle.portal_core.specs.TreeCalls.{entry_calls}
-use Rattle.portal_core.proofs.BusCalls.{add-calls, bus-moment, listed}
-use Rattle.portal_core.proofs.NodeSteps.{alike-same}
-use Rattle.portal_core.proofs.AskedCalls.{asked-keeps, was-asked-keeps}
-use Rattle.portal_core.proofs.CallSteps.{comes_added, entry_with, failed_device, keeping_over, keeping_run, keeps_run, stands_over, stands_served, stays_told, stored_over, stored_served}
-use Rattle.portal_core.proofs.Boxes.{taken-empty}
-use Rattle.portal_core.proofs.Steps.{signals-now, stored_back}
-use Rattle.portal_core.proofs.WentDevices.{spends-add, went-add}
+use Rattle.portal_steps.specs.Devices.{Keeping}
+use Rattle.portal_steps.specs.Story.{state_now}
+use Rattle.portal_steps.specs.TreeCalls.{entry_calls}
+use Rattle.portal_steps.proofs.BusCalls.{add-calls, bus-moment, listed}
+use Rattle.portal_steps.proofs.NodeSteps.{alike-same}
+use Rattle.portal_steps.proofs.AskedCalls.{asked-keeps, was-asked-keeps}
+use Rattle.portal_steps.proofs.CallSteps.{comes_added, entry_with, failed_device, keeping_over, keeping_run, keeps_run, stands_over, stands_served, stays_told, stored_over, stored_served}
+use Rattle.portal_steps.proofs.Boxes.{taken-empty}
+use Rattle.portal_steps.proofs.Steps.{signals-now, stored_back}
+use Rattle.portal_steps.proofs.WentDevices.{spends-add, went-add}
 use Rattle.portal_core.proofs.portal.Portal.add.Goals as goal
 
 pub invariant_of-self-in-Ok-served : goal.invariant_of-self-in-Ok-served

@@ -3,11 +3,11 @@ use Rattle.portal_model.specs.declared.entry.Fault.TheVariants as Fault
 use Rattle.portal_model.specs.declared.request.Request.TheVariants as Request
 use Rattle.portal_model.specs.State.{connection_of}
 use Rattle.portal_model.specs.Step.{bus_of, reply_at, reply_with}
-use Rattle.portal_core.specs.Served.{collect_answer, entry_of}
-use Rattle.portal_core.specs.Story.{state_now}
-use Rattle.portal_core.proofs.Steps.{collect_answered, keeps-collected, stands_collected, stored_collected}
-use Rattle.portal_core.proofs.NodeSteps.{alike-same}
-use Rattle.portal_core.proofs.WentDevices.{went-plain}
+use Rattle.portal_steps.specs.Served.{collect_answer, entry_of}
+use Rattle.portal_steps.specs.Story.{state_now}
+use Rattle.portal_steps.proofs.Steps.{collect_answered, keeps-collected, stands_collected, stored_collected}
+use Rattle.portal_steps.proofs.NodeSteps.{alike-same}
+use Rattle.portal_steps.proofs.WentDevices.{went-plain}
 use Rattle.portal_core.proofs.portal.Portal.collect.Goals as goal
 
 pub invariant_of-self-2 : goal.invariant_of-self-2

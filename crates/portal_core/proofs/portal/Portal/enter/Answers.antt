@@ -6,11 +6,11 @@ use Rattle.portal_model.specs.declared.request.Request.TheVariants as Request
 use Rattle.portal_model.specs.Enter.{new_connection}
 use Rattle.portal_model.specs.State.{connection_of}
 use Rattle.portal_model.specs.Step.{reply_at, reply_with}
-use Rattle.portal_core.specs.Served.{entry_of}
-use Rattle.portal_core.specs.Story.{state_now}
-use Rattle.portal_core.proofs.Steps.{closed, keeps-entered, new_replied, stands_new, stands_there, stored_new, stored_there, there_replied, unheard}
-use Rattle.portal_core.proofs.NodeSteps.{alike-same}
-use Rattle.portal_core.proofs.WentDevices.{went-plain}
+use Rattle.portal_steps.specs.Served.{entry_of}
+use Rattle.portal_steps.specs.Story.{state_now}
+use Rattle.portal_steps.proofs.Steps.{closed, keeps-entered, new_replied, stands_new, stands_there, stored_new, stored_there, there_replied, unheard}
+use Rattle.portal_steps.proofs.NodeSteps.{alike-same}
+use Rattle.portal_steps.proofs.WentDevices.{went-plain}
 use Rattle.portal_core.proofs.portal.Portal.enter.Goals as goal
 
 pub invariant_of-self-then-is_here : goal.invariant_of-self-then-is_here

@@ -1,7 +1,7 @@
 use Rattle.std.proofs.Common.{subst}
 use Rattle.portal_model.proofs.ValidLaws.{run-Valid}
 use Rattle.portal_model.specs.History.{Legal}
-use Rattle.portal_core.specs.Story.{state_first}
+use Rattle.portal_steps.specs.Story.{state_first}
 use Rattle.portal_core.proofs.portal.Portal.known.Goals as goal
 
 pub returns-clause-valid : goal.returns-clause-valid

@@ -6,11 +6,11 @@ use Rattle.portal_model.specs.declared.request.Request.TheVariants as Request
 use Rattle.portal_model.specs.Leave.{of_others}
 use Rattle.portal_model.specs.State.{connection_of}
 use Rattle.portal_model.specs.Step.{reply_at, reply_with}
-use Rattle.portal_core.specs.Served.{entry_of}
-use Rattle.portal_core.specs.Story.{state_now}
-use Rattle.portal_core.proofs.Steps.{absent_closed, absent_replied, fewer_others, keeps-left, left_replied, stands_absent, stands_left, stored_absent, stored_left}
-use Rattle.portal_core.proofs.NodeSteps.{alike-same}
-use Rattle.portal_core.proofs.WentDevices.{went-plain}
+use Rattle.portal_steps.specs.Served.{entry_of}
+use Rattle.portal_steps.specs.Story.{state_now}
+use Rattle.portal_steps.proofs.Steps.{absent_closed, absent_replied, fewer_others, keeps-left, left_replied, stands_absent, stands_left, stored_absent, stored_left}
+use Rattle.portal_steps.proofs.NodeSteps.{alike-same}
+use Rattle.portal_steps.proofs.WentDevices.{went-plain}
 use Rattle.portal_core.proofs.portal.Portal.leave.Goals as goal
 
 pub invariant_of-self-then-not-is_here : goal.invariant_of-self-then-not-is_here

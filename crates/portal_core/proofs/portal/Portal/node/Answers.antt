@@ -1,6 +1,6 @@
 use Rattle.std.proofs.Common.{◌≡◌, ◌≢◌, ◌≤◌, ◌+◌, ◌∷◌, ◌++◌, [], ap, arith, refl, rules, sym, ◌∙◌}
-use Rattle.file_ops.specs.Done.{Reads}
-use Rattle.file_ops.specs.Served.{given_to}
+use Rattle.node_looks.specs.Done.{Reads}
+use Rattle.node_looks.specs.Served.{given_to}
 use Rattle.node_serving.specs.Seats.{seat_calls, seat_step}
 use Rattle.portal_model.specs.declared.entry.Entry.{Entry}
 use Rattle.portal_model.specs.declared.entry.Fault.TheVariants as Fault
@@ -12,14 +12,14 @@ use Rattle.portal_model.specs.History.{cost, cost_of, run}
 use Rattle.portal_model.specs.Lawful.{Lawful}
 use Rattle.portal_model.specs.Opening.{opened_over}
 use Rattle.portal_model.specs.Step.{reply_at, reply_with}
-use Rattle.portal_core.specs.Served.{node_entry}
-use Rattle.portal_core.specs.Story.{state_first, state_now}
-use Rattle.portal_core.specs.TreeCalls.{Calling, entry_calls}
-use Rattle.portal_core.proofs.CallSteps.{stands_over, stored_over}
-use Rattle.portal_core.proofs.NodeSteps.{calls-keep, never-kept, replied-node, still-file, told-on, was-called-keeps}
-use Rattle.portal_core.proofs.QuietNodes.{quiet}
-use Rattle.portal_core.proofs.Steps.{entered-now, keeps-node, lawful_node, loud-served, served_in, stands_node, stands_wanting, stored_node}
-use Rattle.portal_core.proofs.WentDevices.{same-portal, spends-node, went-node}
+use Rattle.portal_steps.specs.Served.{node_entry}
+use Rattle.portal_steps.specs.Story.{state_first, state_now}
+use Rattle.portal_steps.specs.TreeCalls.{Calling, entry_calls}
+use Rattle.portal_steps.proofs.CallSteps.{stands_over, stored_over}
+use Rattle.portal_steps.proofs.NodeSteps.{calls-keep, never-kept, replied-node, still-file, told-on, was-called-keeps}
+use Rattle.portal_steps.proofs.QuietNodes.{quiet}
+use Rattle.portal_steps.proofs.Steps.{entered-now, keeps-node, lawful_node, loud-served, served_in, stands_node, stands_wanting, stored_node}
+use Rattle.portal_steps.proofs.WentDevices.{same-portal, spends-node, went-node}
 use Rattle.portal_core.proofs.portal.Portal.node.Goals as goal
 
 pub serve-served-requires : goal.serve-served-requires

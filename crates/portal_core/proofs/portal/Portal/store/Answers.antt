@@ -5,16 +5,16 @@ use Rattle.portal_model.specs.Lawful.{Lawful}
 use Rattle.portal_model.specs.Opening.{opened_over}
 use Rattle.portal_model.specs.State.{connection_of}
 use Rattle.portal_model.specs.Step.{bus_of, reply_at, reply_with}
-use Rattle.portal_core.specs.Devices.{Keeping}
-use Rattle.portal_core.specs.Story.{state_now}
-use Rattle.portal_core.specs.TreeCalls.{entry_calls}
-use Rattle.portal_core.proofs.Boxes.{taken-empty}
-use Rattle.portal_core.proofs.BusCalls.{store-calls}
-use Rattle.portal_core.proofs.CallSteps.{entry_with, stays_told}
-use Rattle.portal_core.proofs.NodeSteps.{alike-same}
-use Rattle.portal_core.proofs.Steps.{signals-now, stored_back}
-use Rattle.portal_core.proofs.StoredCalls.{keeping_stored, keeps_stored, stands_stored, stored_stored, stores}
-use Rattle.portal_core.proofs.WentDevices.{went-call}
+use Rattle.portal_steps.specs.Devices.{Keeping}
+use Rattle.portal_steps.specs.Story.{state_now}
+use Rattle.portal_steps.specs.TreeCalls.{entry_calls}
+use Rattle.portal_steps.proofs.Boxes.{taken-empty}
+use Rattle.portal_steps.proofs.BusCalls.{store-calls}
+use Rattle.portal_steps.proofs.CallSteps.{entry_with, stays_told}
+use Rattle.portal_steps.proofs.NodeSteps.{alike-same}
+use Rattle.portal_steps.proofs.Steps.{signals-now, stored_back}
+use Rattle.portal_steps.proofs.StoredCalls.{keeping_stored, keeps_stored, stands_stored, stored_stored, stores}
+use Rattle.portal_steps.proofs.WentDevices.{went-call}
 use Rattle.portal_core.proofs.portal.Portal.store.Goals as goal
 
 pub invariant_of-self-in-Ok-served : goal.invariant_of-self-in-Ok-served

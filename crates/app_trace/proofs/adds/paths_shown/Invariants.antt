@@ -1,8 +1,0 @@
-use Rattle.std.proofs.Common.{◌≡◌, take}
-use Rattle.std.specs.List.{flat_map}
-use Rattle.app_trace.specs.OwnAdds.{looked_at}
-use Rattle.app_trace.proofs.adds.paths_shown.Given as goal
-
--- of the handles so far
-abbrev pub invariant-loop-index : goal.invariant-loop-index
-invariant-loop-index l = l.paths ≡ flat_map (looked_at l.queue l.add) (take l.index l.add.handles)

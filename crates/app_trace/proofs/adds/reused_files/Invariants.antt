@@ -1,7 +1,0 @@
-use Rattle.std.proofs.Common.{◌≡◌, take}
-use Rattle.std.specs.List.{flat_map}
-use Rattle.app_trace.specs.OwnAdds.{reused_here}
-use Rattle.app_trace.proofs.adds.reused_files.Given as goal
-
-abbrev pub invariant-loop-item : goal.invariant-loop-item
-invariant-loop-item l = l.reused ≡ flat_map (λ item. reused_here l.documents.live l.add item.path) (take l.item-index l.items)

@@ -1,7 +1,0 @@
-use Rattle.std.proofs.Common.{◌∙◌, ap}
-use Rattle.rights_rule.specs.Rights.{minus}
-use Rattle.app_trace.proofs.SetsOfRights.{minus-twice}
-use Rattle.app_trace.proofs.touches.common.Goals as goal
-
-pub returns : goal.returns
-returns c = c.minus-2.ensures ∙ (ap (minus c.args.first) c.minus.ensures ∙ minus-twice c.args.first c.args.second)

@@ -1,0 +1,4 @@
+pub mod Signatures
+pub mod Tables
+pub mod Errors
+pub mod Calls

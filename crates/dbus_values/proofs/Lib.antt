@@ -1,0 +1,7 @@
+pub mod Ascii
+pub mod ListFronts
+pub mod LimitsByLayer
+pub mod PackedBytes
+pub mod OneSpelling
+pub mod SpelledType
+pub mod Lengths

@@ -1,0 +1,4 @@
+pub mod Extends
+pub mod Values
+pub mod Spells
+pub mod Spelling

@@ -1,5 +1,0 @@
-use Rattle.file_ops.proofs.Follow.{access-tells}
-use Rattle.file_ops.proofs.checked.access.Goals as goal
-
-pub returns-clause-ok : goal.returns-clause-ok
-returns-clause-ok g c = λ op. access-tells c.args.book.now c.args.who.now c.args.request.now c.args.mask _ c.checked-asked.result c.done.result _ c.done.ensures op c.checked-asked.ensures

@@ -1,5 +1,0 @@
-use Rattle.file_ops.proofs.FoundBytes.{finds-does}
-use Rattle.file_ops.proofs.contents.read.Goals as goal
-
-pub returns-clause-ok : goal.returns-clause-ok
-returns-clause-ok g c = λ op book. finds-does book c.args.call.now c.args.fh c.args.offset c.args.size c.args.handles.now _ _ c.in_ok-asked.asked c.done.result _ op c.done.ensures c.get.ensures.handle c.in_ok-asked.ensures.ok

@@ -1,0 +1,68 @@
+-- How a READ comes to its answer, and is served.
+use Rattle.std.proofs.Common.{◌≡◌, ℕ, List, Bool, true, false, cond, Option, Some, None, sym, ap, subst, ◌∙◌}
+use Rattle.std.specs.Option.{option_map}
+use Rattle.portal_base.specs.declared.files.File.{File}
+use Rattle.host_tree.specs.Trees.{TreeIs}
+use Rattle.open_handles.specs.Opened.{HandleTable, handle_of as handle_in, opened_on}
+use Rattle.portal_model.specs.declared.handle.Handle.{Handle}
+use Rattle.portal_model.specs.declared.reply.Answer.{Answer}
+use Rattle.portal_model.specs.declared.request.NodeOp.{NodeOp}
+use Rattle.portal_model.specs.Bus.{is_tree}
+use Rattle.portal_model.specs.Node.{bytes_named, files_after}
+use Rattle.portal_model.specs.NodeVerdict.{NodeVerdict, FileChange, HandleChange}
+use Rattle.portal_model.specs.Outside.{files_told}
+use Rattle.portal_model.specs.Read.{read}
+use Rattle.portal_model.specs.State.{State, handle_of}
+use Rattle.portal_model.specs.Walk.{Walk}
+use Rattle.node_looks.specs.ReadFiles.{AreBytes, Finds, FindsAny, IsReadAnswer}
+use Rattle.node_looks.specs.Done.{Does, DoneBy, IsAnswer}
+use Rattle.node_looks.specs.OpenHandles.{Handled}
+use Rattle.node_looks.specs.TreeCalls.{Calling, calls_of}
+use Rattle.node_looks.specs.Walks.{fault_of, taken}
+use Rattle.node_looks.specs.declared.asked.Asked.{Asked}
+use Rattle.node_looks.specs.declared.served.FileBook.{FileBook}
+use Rattle.node_looks.specs.declared.served.NodeCall.{NodeCall}
+use Rattle.node_looks.specs.declared.served.NodeDone.{NodeDone}
+use Rattle.node_looks.proofs.DoneLemmas.{as-op, done-in, handle-is, handles-stay, told-still, walk-is}
+use Rattle.node_looks.proofs.Follow.{done_with, not-kept}
+
+-- ---- the request
+
+as-answer : (told : Option (List File)) (fh offset size : ℕ) (stepped given : Answer) → IsReadAnswer told size stepped given → IsAnswer told (NodeOp.Read fh offset size) stepped given
+as-answer None fh offset size stepped given e = e
+as-answer (Some files) fh offset size stepped given e = e
+
+finds-by : (fh offset size seat : ℕ) (table : HandleTable) (w : Walk NodeVerdict) (old : TreeIs) (asked : Asked) (new : TreeIs) → Finds size w old asked new → DoneBy w (NodeOp.Read fh offset size) seat table old (done_with asked) table new
+finds-by fh offset size seat table w old asked new f =
+    let stays : new.told ≡ old.told = ap (λ (t : TreeIs). t.told) f.calls.goes in
+    record {
+      verdict = f.verdict;
+      comes = record {
+        gives = f.gives;
+        clock = sym f.clock;
+        keeper = not-kept asked.look;
+        comes = f.comes;
+        answer = as-answer old.told fh offset size _ _ f.answer;
+        files = stays ∙ sym (ap (λ (c : FileChange). option_map (files_after true c) old.told) f.files ∙ told-still old.told);
+        calls = subst (λ (files : Option (List File)). Calling old (calls_of w (taken asked.look) (is_tree (fault_of asked.look))) files new) (sym stays) f.calls;
+      };
+      handled = subst (λ (c : HandleChange). Handled seat c table table) (sym f.handles) (handles-stay seat table);
+    }
+
+told-bytes : (s : State) (told : Option (List File)) → files_told s ≡ told → AreBytes told (bytes_named s.files)
+told-bytes s None e = tt
+told-bytes s (Some files) e = by s.told e
+  where
+    by : (b : Bool) → cond b (Some s.files) None ≡ Some files → AreBytes (Some files) (bytes_named s.files)
+    by true e = let same : s.files ≡ files = cc in λ name. ap (λ (fs : List File). bytes_named fs name) same
+    by false e = cc
+
+pub finds-does : (book : FileBook) (call : NodeCall) (fh offset size : ℕ) (table : HandleTable) (handle : Option Handle) (old : TreeIs) (asked : Asked) (done : NodeDone) (new : TreeIs) → call.request.now.op ≡ NodeOp.Read fh offset size → done ≡ done_with asked →
+    handle ≡ handle_in (opened_on table.seats call.seat) fh → FindsAny size (λ bytes. read bytes offset size handle) old asked new → Does book call table old done table new
+finds-does book call fh offset size table handle old asked done new op e h f = λ s c a.
+    let here : handle_of s.handles c.seat fh ≡ handle = sym (h ∙ handle-is s c book call table old.told a fh) in
+    done-in s c book call (read (bytes_named s.files) offset size handle) table old done table new a
+    (walk-is s c call.request.now (NodeOp.Read fh offset size) op ∙ ap (read (bytes_named s.files) offset size) here)
+    (as-op _ (NodeOp.Read fh offset size) _ _ table old done table new op
+    (subst (λ (d : NodeDone). DoneBy (read (bytes_named s.files) offset size handle) (NodeOp.Read fh offset size) call.seat table old d table new) (sym e)
+    (finds-by fh offset size call.seat table (read (bytes_named s.files) offset size handle) old asked new (f (bytes_named s.files) (told-bytes s old.told a.files)))))

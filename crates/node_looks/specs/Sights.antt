@@ -1,0 +1,34 @@
+-- What a caller sees at a node, as it is told.
+use Rattle.std.specs.Prelude.{ℕ, ◌&&◌, List, Bool, is_some}
+use Rattle.portal_base.specs.declared.who.Who.{Who}
+use Rattle.portal_model.specs.declared.rights.Right.TheVariants.{Read}
+use Rattle.portal_model.specs.declared.state.Document.{Document}
+use Rattle.portal_model.specs.declared.state.Triple.{Triple}
+use Rattle.portal_model.specs.State.{document_of, who_has}
+use Rattle.portal_model.specs.Place.{RootOf, Sight, SightOfFolder, Views, has_views, numbers_seen}
+use Rattle.app_view.specs.Books.{who_is}
+use Rattle.app_view.specs.Sights.{file_sight, folder_sight}
+use Rattle.app_view.specs.declared.book.ViewBook.{ViewBook}
+use Rattle.node_looks.specs.declared.sight.SeenPlace.{SeenPlace}
+
+-- the sight of the model, over the lists of a book
+abbrev pub sight_of : ViewBook → Who → SeenPlace → Sight
+sight_of book caller (SeenPlace.File view seen) = file_sight seen
+sight_of book caller (SeenPlace.Folder view seen) = folder_sight view seen
+sight_of book caller (SeenPlace.Root view subject) =
+    SightOfFolder (RootOf view
+    (numbers_seen book.grants.now (who_is subject) book.documents.now.live)
+    (has_views caller view))
+sight_of book caller SeenPlace.Views = SightOfFolder (Views book.applications.now)
+
+-- the view that it is seen in
+abbrev pub view_of : SeenPlace → ℕ
+view_of (SeenPlace.File view seen) = view
+view_of (SeenPlace.Folder view seen) = view
+view_of (SeenPlace.Root view subject) = view
+view_of SeenPlace.Views = 0
+
+-- the document of the number is live, and a subject may read it
+abbrev pub sees : List Triple → Who → List Document → ℕ → Bool
+sees rights who documents number =
+    is_some (document_of documents number) && who_has rights who number Read

@@ -1,0 +1,158 @@
+//! FUSE_ACCESS: what the caller may do at a node, with the mask of access(2).
+
+ghost use Rattle.std.specs.Prelude.{◌≡◌, ◌&&◌, ◌||◌, IfOk, OnErr, Some, nat_lt, not, None};
+ghost use Rattle.portal_model.specs.declared.request.NodeOp.TheVariants as NodeOp;
+ghost use Rattle.portal_model.specs.Access.{access, access_file, access_folder, executes, writes_to};
+ghost use Rattle.portal_model.specs.NodeVerdict.{at_file, by_place};
+ghost use Rattle.portal_model.specs.Place.{Folder, place_of};
+ghost use Rattle.portal_model.specs.State.{State};
+ghost use Rattle.host_tree.specs.Trees.{TreeIs};
+ghost use Rattle.app_view.specs.Books.{Lends};
+ghost use Rattle.node_looks.specs.Served.{Tells};
+ghost use Rattle.node_looks.specs.Sights.{sight_of};
+ghost use Rattle.node_looks.specs.Walks.{ComesToBehind, Follows, by_denial};
+
+use crate::asked::{Asked, done, refusal, refused, room_for_look, told};
+use crate::served::NodeDone;
+use crate::sight::{SeenPlace, seen_place};
+use app_view::ViewBook;
+use host_tree::{HostTree, LookAnswer};
+use portal_base::files::Look;
+use portal_base::memory::WantOfMemory;
+use portal_base::names::HostPath;
+use portal_base::who::Who;
+use portal_model::errno::{EACCES, EINVAL, EIO, ENOENT};
+use portal_model::reply::{Answer, NodeAnswer};
+use portal_model::request::NodeRequest;
+use std::alloc::Global;
+
+/// All bits of a mask.
+const ALL_BITS: u32 = 7;
+
+/// Answers a caller's ACCESS of a node with this mask.
+///
+/// Each place may be read, a file may be written by who may write the document,
+/// and a folder may be gone through. A file takes one look at the tree. Of n
+/// documents it takes about n steps, and no memory but the room for that look.
+pub fn access<T: HostTree>(
+    alloc: Global,
+    book: &ViewBook,
+    tree: &mut T,
+    who: &Who,
+    request: &NodeRequest,
+    mask: u32,
+) -> Result<NodeDone, WantOfMemory>
+    ensures ok { request.now.op ≡ NodeOp.Access mask → IfOk result (λ done.
+        Tells book.now who.now request.now (T.is tree.old) done (T.is tree.new)) }
+    ensures unclocked { IfOk result (λ done. done.now ≡ None) }
+    ensures err { OnErr result (tree.new ≡ tree.old) }
+{
+    let room = room_for_look(alloc)?;
+    let asked = checked(book, tree, who, request, mask);
+    Ok(done(room, asked))
+}
+
+/// The answer.
+fn checked<T: HostTree>(
+    book: &ViewBook,
+    tree: &mut T,
+    who: &Who,
+    request: &NodeRequest,
+    mask: u32,
+) -> Asked
+    ensures { (s : State) → Lends book.now s → Follows (access mask
+        (place_of s who.now request.now.node)) (T.is tree.old) result (T.is tree.new) }
+{
+    if has_other_bits(mask) {
+        return refused(EINVAL);
+    }
+    match seen_place(book, who, request.node) {
+        None => refused(ENOENT),
+        Some(place) => at_place(book, tree, who, place, mask),
+    }
+}
+
+/// Says whether a mask has a bit that access(2) doesn't have.
+fn has_other_bits(mask: u32) -> bool
+    ensures { result ≡ nat_lt 7 mask }
+{
+    mask > ALL_BITS
+}
+
+/// Says whether it is asked to execute.
+fn executes(mask: u32) -> bool
+    ensures { result ≡ executes mask }
+{
+    mask % 2 == 1
+}
+
+/// Says whether it is asked to write.
+fn writes(mask: u32) -> bool
+    ensures { result ≡ writes_to mask }
+{
+    mask / 2 % 2 == 1
+}
+
+/// The answer at a place that the caller sees.
+fn at_place<T: HostTree>(
+    book: &ViewBook,
+    tree: &mut T,
+    who: &Who,
+    place: SeenPlace,
+    mask: u32,
+) -> Asked
+    ensures { Follows (by_place (Some (sight_of book.now who.now place.entry))
+        (access_file mask) (access_folder mask)) (T.is tree.old) result (T.is tree.new) }
+{
+    match place {
+        SeenPlace::File { seen, .. } => { in_file(tree, &seen.document.path, seen.may_write, mask) }
+        SeenPlace::Folder { .. } => in_folder(mask),
+        SeenPlace::Root { .. } => in_folder(mask),
+        SeenPlace::Views => in_folder(mask),
+    }
+}
+
+/// The answer for a folder.
+fn in_folder(mask: u32) -> Asked
+    ensures { (tree : TreeIs) (folder : Folder) →
+        Follows (access_folder mask folder) tree result tree }
+{
+    // ACCESS asks what a later request would: a folder may be listed and searched where it is
+    // seen.
+    if writes(mask) {
+        refused(EACCES)
+    } else {
+        told(NodeAnswer::Empty)
+    }
+}
+
+/// The answer for a file.
+fn in_file<T: HostTree>(tree: &mut T, path: &HostPath, may_write: bool, mask: u32) -> Asked
+    ensures { Follows (at_file path.now (access_file mask path.now may_write)) (T.is tree.old)
+        result (T.is tree.new) }
+{
+    let look = tree.look(path);
+    Asked {
+        answer: answer_to_look(look, is_denied(may_write, mask)),
+        look: Some(look),
+    }
+}
+
+/// Says whether the mask asks more of a file than it allows.
+fn is_denied(may_write: bool, mask: u32) -> bool
+    ensures { result ≡ (executes mask || writes_to mask && not may_write) }
+{
+    executes(mask) || writes(mask) && !may_write
+}
+
+/// The answer by the look for the file.
+fn answer_to_look(look: LookAnswer, denied: bool) -> Answer
+    ensures { ComesToBehind (by_denial denied) look result }
+{
+    match look {
+        LookAnswer::Is(Look::File { .. }) if denied => refusal(EACCES),
+        LookAnswer::Is(Look::File { .. }) => Answer::Node(NodeAnswer::Empty),
+        LookAnswer::Is(Look::Folder | Look::Missing) => refusal(ENOENT),
+        LookAnswer::Failed => refusal(EIO),
+    }
+}

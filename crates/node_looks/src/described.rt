@@ -1,0 +1,210 @@
+//! FUSE_GETATTR: the attributes of a node, or of an open file.
+
+ghost use Rattle.std.specs.Prelude.{◌≡◌, IfOk, OnErr, Some, option_copied, None};
+ghost use Rattle.host_tree.specs.Trees.{TreeIs};
+ghost use Rattle.portal_model.specs.declared.request.NodeOp.TheVariants as NodeOp;
+ghost use Rattle.portal_model.specs.Attributes.{on_node};
+ghost use Rattle.portal_model.specs.GetAttr.{get_attr, get_attr_by_handle, get_attr_by_place, tells_file, tells_folder};
+ghost use Rattle.portal_model.specs.NodeVerdict.{at_file, at_name, by_place};
+ghost use Rattle.portal_model.specs.Place.{Folder, place_of};
+ghost use Rattle.portal_model.specs.State.{State};
+ghost use Rattle.app_view.specs.Books.{Lends};
+ghost use Rattle.node_looks.specs.Done.{Does};
+ghost use Rattle.node_looks.specs.Sights.{sight_of};
+ghost use Rattle.node_looks.specs.Walks.{ComesToBehind, Follows};
+
+use crate::asked::{Asked, done, look_of_attr, refusal, refused, room_for_look, told};
+use crate::attributes::{attr_of_file, attr_of_folder};
+use crate::served::{FileBook, NodeCall, NodeDone};
+use crate::sight::{SeenPlace, seen_place};
+use app_view::ViewBook;
+use host_tree::{HostTree, LookAnswer};
+use open_handles::{Handle, Handles};
+use portal_base::files::{FileName, Look};
+use portal_base::memory::WantOfMemory;
+use portal_base::names::HostPath;
+use portal_base::who::Who;
+use portal_model::errno::{EBADF, EIO, ENOENT};
+use portal_model::reply::{Answer, NodeAnswer};
+use portal_model::request::{NodeRequest, names_handle};
+use std::alloc::Global;
+
+/// Answers a caller's GETATTR with these flags, of a node or of the open handle of
+/// the number that it names.
+///
+/// An open file is told by the node that was opened and by whether it may itself be
+/// written, whatever its document and the rights in it have become; an open folder
+/// leaves the request to the node. A number of no handle is EBADF. A file takes one
+/// look at the tree. Of n documents it takes about n steps, and no memory but the
+/// room for that look.
+pub fn get_attr<T: HostTree>(
+    alloc: Global,
+    book: &FileBook,
+    handles: &Handles,
+    tree: &mut T,
+    call: &NodeCall,
+    flags: u32,
+    fh: u64,
+) -> Result<NodeDone, WantOfMemory>
+    ensures ok { call.now.request.now.op ≡ NodeOp.GetAttr flags fh → IfOk result (λ done.
+        Does book.now call.now handles.now (T.is tree.old) done handles.now (T.is tree.new)) }
+    ensures unclocked { IfOk result (λ done. done.now ≡ None) }
+    ensures err { OnErr result (tree.new ≡ tree.old) }
+{
+    let room = room_for_look(alloc)?;
+    let handle = handles.get(call.seat, fh);
+    let asked = described(&book.view, tree, call.who, call.request, flags, handle);
+    Ok(done(room, asked))
+}
+
+/// The answer.
+fn described<T: HostTree>(
+    book: &ViewBook,
+    tree: &mut T,
+    who: &Who,
+    request: &NodeRequest,
+    flags: u32,
+    handle: Option<&Handle>,
+) -> Asked
+    ensures { (s : State) → Lends book.now s → Follows (get_attr request.now flags
+        (place_of s who.now request.now.node) (option_copied handle.entry)) (T.is tree.old) result
+        (T.is tree.new) }
+{
+    // By the handle the node of the header isn't looked at.
+    if names_handle(flags) {
+        of_handle(book, tree, who, request, handle)
+    } else {
+        of_node(book, tree, who, request)
+    }
+}
+
+/// The answer to a request that names a handle.
+fn of_handle<T: HostTree>(
+    book: &ViewBook,
+    tree: &mut T,
+    who: &Who,
+    request: &NodeRequest,
+    handle: Option<&Handle>,
+) -> Asked
+    ensures { (s : State) → Lends book.now s → Follows (get_attr_by_handle request.now
+        (place_of s who.now request.now.node) (option_copied handle.entry)) (T.is tree.old)
+        result (T.is tree.new) }
+{
+    match handle {
+        None => refused(EBADF),
+        Some(handle) => of_open(book, tree, who, request, handle),
+    }
+}
+
+/// The answer to a request that names an open handle.
+fn of_open<T: HostTree>(
+    book: &ViewBook,
+    tree: &mut T,
+    who: &Who,
+    request: &NodeRequest,
+    handle: &Handle,
+) -> Asked
+    ensures { (s : State) → Lends book.now s → Follows (get_attr_by_handle request.now
+        (place_of s who.now request.now.node) (Some handle.now)) (T.is tree.old) result
+        (T.is tree.new) }
+{
+    match handle {
+        Handle::File {
+            name,
+            node,
+            write,
+            ..
+        } => of_open_file(tree, request, name, *node, *write),
+        Handle::Folder { .. } => of_node(book, tree, who, request),
+    }
+}
+
+/// The answer to a request on a node.
+fn of_node<T: HostTree>(book: &ViewBook, tree: &mut T, who: &Who, request: &NodeRequest) -> Asked
+    ensures { (s : State) → Lends book.now s → Follows (get_attr_by_place request.now
+        (place_of s who.now request.now.node)) (T.is tree.old) result (T.is tree.new) }
+{
+    match seen_place(book, who, request.node) {
+        None => refused(ENOENT),
+        Some(place) => at_place(book, tree, who, request, place),
+    }
+}
+
+/// The answer at a place that the caller sees.
+fn at_place<T: HostTree>(
+    book: &ViewBook,
+    tree: &mut T,
+    who: &Who,
+    request: &NodeRequest,
+    place: SeenPlace,
+) -> Asked
+    ensures { Follows (by_place (Some (sight_of book.now who.now place.entry))
+        (λ path may_write. tells_file request.now may_write) (tells_folder request.now))
+        (T.is tree.old) result (T.is tree.new) }
+{
+    match place {
+        SeenPlace::File { seen, .. } => {
+            of_file(tree, request, &seen.document.path, seen.may_write)
+        }
+        SeenPlace::Folder { .. } => of_folder(request),
+        SeenPlace::Root { .. } => of_folder(request),
+        SeenPlace::Views => of_folder(request),
+    }
+}
+
+/// The answer for a folder.
+fn of_folder(request: &NodeRequest) -> Asked
+    ensures { (tree : TreeIs) (folder : Folder) →
+        Follows (tells_folder request.now folder) tree result tree }
+{
+    told(NodeAnswer::Attr(attr_of_folder(request, request.node)))
+}
+
+/// The answer for the file of a path.
+fn of_file<T: HostTree>(
+    tree: &mut T,
+    request: &NodeRequest,
+    path: &HostPath,
+    may_write: bool,
+) -> Asked
+    ensures { Follows (at_file path.now (tells_file request.now may_write)) (T.is tree.old)
+        result (T.is tree.new) }
+{
+    let look = tree.look(path);
+    Asked {
+        answer: attr_by_look(request, request.node, may_write, look),
+        look: Some(look),
+    }
+}
+
+/// The answer for an open file.
+fn of_open_file<T: HostTree>(
+    tree: &mut T,
+    request: &NodeRequest,
+    name: &FileName,
+    node: u64,
+    may_write: bool,
+) -> Asked
+    ensures { Follows (at_name name.now (tells_file (on_node request.now node) may_write))
+        (T.is tree.old) result (T.is tree.new) }
+{
+    let answer = tree.attr(name);
+    let look = look_of_attr(name, answer);
+    Asked {
+        answer: attr_by_look(request, node, may_write, look),
+        look: Some(look),
+    }
+}
+
+/// The attributes of a file, by the look for it.
+fn attr_by_look(request: &NodeRequest, node: u64, may_write: bool, look: LookAnswer) -> Answer
+    ensures { ComesToBehind (tells_file (on_node request.now node) may_write) look result }
+{
+    match look {
+        LookAnswer::Is(Look::File { size, moment, .. }) => Answer::Node(NodeAnswer::Attr(
+            attr_of_file(request, node, may_write, size, moment),
+        )),
+        LookAnswer::Is(Look::Folder | Look::Missing) => refusal(ENOENT),
+        LookAnswer::Failed => refusal(EIO),
+    }
+}

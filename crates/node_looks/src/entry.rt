@@ -1,0 +1,283 @@
+//! FUSE_LOOKUP: a name in a folder.
+
+ghost use Rattle.std.specs.Prelude.{◌≡◌, ◌<◌, ◌^◌, ◌&&◌, IfOk, OnErr, Some, true, option_map, None};
+ghost use Rattle.std.specs.List.{list_all};
+ghost use Rattle.host_tree.specs.Trees.{TreeIs};
+ghost use Rattle.portal_base.specs.Names.{is_same, name_of};
+ghost use Rattle.portal_model.specs.declared.request.NodeOp.TheVariants as NodeOp;
+ghost use Rattle.portal_model.specs.Errno.{enotdir};
+ghost use Rattle.portal_model.specs.Lookup.{by_app, entry_of_file, folder_in_root, found_folder, lookup, lookup_in, named_in_root, named_in_views};
+ghost use Rattle.portal_model.specs.NodeVerdict.{at_file, by_place, errs_on_file, is_too_long, no_file};
+ghost use Rattle.portal_model.specs.Place.{FolderOf, folder_node, has_views, numbers_seen, place_of};
+ghost use Rattle.portal_model.specs.State.{State};
+ghost use Rattle.portal_model.specs.Valid.{has_identifier};
+ghost use Rattle.app_view.specs.Books.{Lends, who_is};
+ghost use Rattle.node_looks.specs.Names.{where_seen};
+ghost use Rattle.node_looks.specs.Served.{Tells};
+ghost use Rattle.node_looks.specs.Sights.{sees, sight_of, view_of};
+ghost use Rattle.node_looks.specs.Walks.{ComesToBehind, Follows};
+
+use crate::asked::{Asked, done, refusal, refusal_on_file, refused, room_for_look, told};
+use crate::attributes::{attr_of_file, attr_of_folder};
+use crate::names::{id_named, number_named};
+use crate::served::NodeDone;
+use crate::sight::{SeenPlace, seen_place};
+use app_view::{Subject, ViewBook, may_read, node_of};
+use document_records::{Applications, Document};
+use host_tree::{HostTree, LookAnswer};
+use portal_base::files::Look;
+use portal_base::memory::WantOfMemory;
+use portal_base::names::{DocId, HostPath};
+use portal_base::who::Who;
+use portal_model::errno::{EIO, ENAMETOOLONG, ENOENT, ENOTDIR};
+use portal_model::place::Place;
+use portal_model::reply::{Answer, NodeAnswer};
+use portal_model::request::NodeRequest;
+use std::alloc::Global;
+
+/// The greatest length of a name, in bytes.
+const NAME_LIMIT: usize = 255;
+/// The name of the folder of all views.
+const BY_APP: &[u8] = b"by-app";
+
+/// Answers a caller's LOOKUP of a name in a folder.
+///
+/// A root has the folders of the documents that are seen in it, by identifier,
+/// and the host's own root the folder of all views; that one has the views of the
+/// numbered applications, by name; a document's folder has the document's file,
+/// for which one look at the tree is taken. Of n documents or applications it
+/// takes about n steps, and no memory but the room for that look.
+pub fn lookup<T: HostTree>(
+    alloc: Global,
+    book: &ViewBook,
+    tree: &mut T,
+    who: &Who,
+    request: &NodeRequest,
+    name: &[u8],
+) -> Result<NodeDone, WantOfMemory>
+    ensures ok { request.now.op ≡ NodeOp.Lookup name.now → IfOk result (λ done.
+        Tells book.now who.now request.now (T.is tree.old) done (T.is tree.new)) }
+    ensures unclocked { IfOk result (λ done. done.now ≡ None) }
+    ensures err { OnErr result (tree.new ≡ tree.old) }
+{
+    let room = room_for_look(alloc)?;
+    let asked = found(book, tree, who, request, name);
+    Ok(done(room, asked))
+}
+
+/// The answer.
+fn found<T: HostTree>(
+    book: &ViewBook,
+    tree: &mut T,
+    who: &Who,
+    request: &NodeRequest,
+    name: &[u8],
+) -> Asked
+    ensures { (s : State) → list_all has_identifier s.documents ≡ true → Lends book.now s →
+        Follows (lookup request.now name.now (place_of s who.now request.now.node))
+        (T.is tree.old) result (T.is tree.new) }
+{
+    if is_too_long(name) {
+        return refused(ENAMETOOLONG);
+    }
+    match seen_place(book, who, request.node) {
+        None => refused(ENOENT),
+        Some(place) => in_place(book, tree, who, request, place, name),
+    }
+}
+
+/// Says whether a name is longer than any.
+pub fn is_too_long(name: &[u8]) -> bool
+    ensures { result ≡ is_too_long name.now }
+{
+    name.len() > NAME_LIMIT
+}
+
+/// The answer at a place that the caller sees.
+fn in_place<T: HostTree>(
+    book: &ViewBook,
+    tree: &mut T,
+    who: &Who,
+    request: &NodeRequest,
+    place: SeenPlace,
+    name: &[u8],
+) -> Asked
+    requires { view_of place < 2 ^ 28 }
+    ensures { list_all has_identifier book.now.documents.now.live ≡ true →
+        Follows (by_place (Some (sight_of book.now who.now place.entry)) (no_file enotdir)
+        (lookup_in request.now name.now)) (T.is tree.old) result (T.is tree.new) }
+{
+    match place {
+        // A request on a file's node takes its look ahead of every check of what is there.
+        SeenPlace::File { seen, .. } => in_file(tree, &seen.document.path),
+        SeenPlace::Folder { view, seen } => {
+            in_folder(tree, request, view, seen.document, seen.may_write, name)
+        }
+        SeenPlace::Root { view, subject } => {
+            found_folder(request, named_in_root(book, who, view, subject, name))
+        }
+        SeenPlace::Views => found_folder(request, named_in_views(book.applications, name)),
+    }
+}
+
+/// The answer for a file, which has no names.
+fn in_file<T: HostTree>(tree: &mut T, path: &HostPath) -> Asked
+    ensures { Follows (at_file path.now (errs_on_file enotdir)) (T.is tree.old) result
+        (T.is tree.new) }
+{
+    let look = tree.look(path);
+    Asked {
+        answer: refusal_on_file(look, ENOTDIR),
+        look: Some(look),
+    }
+}
+
+/// The answer for the folder of a document, which has the document's file alone.
+fn in_folder<T: HostTree>(
+    tree: &mut T,
+    request: &NodeRequest,
+    view: u32,
+    document: &Document,
+    may_write: bool,
+    name: &[u8],
+) -> Asked
+    requires { view < 2 ^ 28 }
+    ensures { Follows (lookup_in request.now name.now
+        (FolderOf view document.now.id.number document.now.path may_write))
+        (T.is tree.old) result (T.is tree.new) }
+{
+    if is_name_of(&document.path, name) {
+        let node = node_of(Place::File {
+            view,
+            id: document.id,
+        });
+        file_entry(tree, request, &document.path, node, may_write)
+    } else {
+        refused(ENOENT)
+    }
+}
+
+/// Says whether a name is that of the file of a path.
+pub fn is_name_of(path: &HostPath, name: &[u8]) -> bool
+    ensures { result ≡ is_same name.now (name_of path.now) }
+{
+    name == path.name()
+}
+
+/// The answer for the file of a document.
+fn file_entry<T: HostTree>(
+    tree: &mut T,
+    request: &NodeRequest,
+    path: &HostPath,
+    node: u64,
+    may_write: bool,
+) -> Asked
+    ensures { Follows (at_file path.now (entry_of_file request.now node may_write))
+        (T.is tree.old) result (T.is tree.new) }
+{
+    let look = tree.look(path);
+    Asked {
+        answer: entry_by_look(request, node, may_write, look),
+        look: Some(look),
+    }
+}
+
+/// The entry of a file, by the look for it.
+fn entry_by_look(request: &NodeRequest, node: u64, may_write: bool, look: LookAnswer) -> Answer
+    ensures { ComesToBehind (entry_of_file request.now node may_write) look result }
+{
+    match look {
+        LookAnswer::Is(Look::File { size, moment, .. }) => Answer::Node(NodeAnswer::Entry(
+            attr_of_file(request, node, may_write, size, moment),
+        )),
+        LookAnswer::Is(Look::Folder | Look::Missing) => refusal(ENOENT),
+        LookAnswer::Failed => refusal(EIO),
+    }
+}
+
+/// The answer for a folder that has the name, where there is one.
+fn found_folder(request: &NodeRequest, node: Option<u64>) -> Asked
+    ensures { (tree : TreeIs) → Follows (found_folder request.now node) tree result tree }
+{
+    match node {
+        None => refused(ENOENT),
+        Some(node) => told(NodeAnswer::Entry(attr_of_folder(request, node))),
+    }
+}
+
+/// Says whether a name is that of the folder of all views, which stands in the
+/// host's own root.
+fn is_views(who: &Who, view: u32, name: &[u8]) -> bool
+    ensures { result ≡ (has_views who.now view && is_same name.now by_app) }
+{
+    match who {
+        Who::Host => view == 0 && name == BY_APP,
+        Who::App(_) => false,
+    }
+}
+
+/// The folder of a name in the root of a view.
+fn named_in_root(
+    book: &ViewBook,
+    who: &Who,
+    view: u32,
+    subject: Subject,
+    name: &[u8],
+) -> Option<u64>
+    requires { view < 2 ^ 28 }
+    ensures { list_all has_identifier book.now.documents.now.live ≡ true →
+        result ≡ named_in_root view
+        (numbers_seen book.now.grants.now (who_is subject.entry) book.now.documents.now.live)
+        (has_views who.now view) name.now }
+{
+    if is_views(who, view, name) {
+        Some(node_of(Place::ByApp))
+    } else {
+        folder_named(book, view, subject, name)
+    }
+}
+
+/// The folder of the document that a name identifies, where it is seen.
+fn folder_named(book: &ViewBook, view: u32, subject: Subject, name: &[u8]) -> Option<u64>
+    requires { view < 2 ^ 28 }
+    ensures { list_all has_identifier book.now.documents.now.live ≡ true →
+        result ≡ folder_in_root view
+        (numbers_seen book.now.grants.now (who_is subject.entry) book.now.documents.now.live)
+        name.now }
+{
+    match id_named(name) {
+        Some(id) => seen_folder(book, view, subject, id),
+        None => None,
+    }
+}
+
+/// The folder of a document, where it is seen.
+fn seen_folder(book: &ViewBook, view: u32, subject: Subject, id: DocId) -> Option<u64>
+    requires { view < 2 ^ 28 }
+    ensures { result ≡ option_map (folder_node view) (where_seen (Some id)
+        (sees book.now.grants.now (who_is subject.entry) book.now.documents.now.live)) }
+{
+    if sees(book, subject, id) {
+        Some(node_of(Place::Folder { view, id }))
+    } else {
+        None
+    }
+}
+
+/// Says whether a document is live, and a subject may read it.
+fn sees(book: &ViewBook, subject: Subject, id: DocId) -> bool
+    ensures { result ≡ sees book.now.grants.now (who_is subject.entry)
+        book.now.documents.now.live id.number }
+{
+    book.documents.find(id).is_some() && may_read(book.grants, subject, id)
+}
+
+/// The view of the application of a name.
+fn named_in_views(applications: &Applications, name: &[u8]) -> Option<u64>
+    ensures { result ≡ named_in_views applications.now name.now }
+{
+    match number_named(applications, name) {
+        Some(view) => Some(node_of(Place::Root { view })),
+        None => None,
+    }
+}

@@ -1,7 +1,0 @@
-use Rattle.std.proofs.Common.{◌≡◌, [], fold, take}
-use Rattle.portal_model.specs.Opening.{with_grants}
-use Rattle.opening_lists.specs.Given.{given_by}
-use Rattle.opening_lists.proofs.granted.rights.Given as goal
-
-abbrev pub invariant-loop-item : goal.invariant-loop-item
-invariant-loop-item l = given_by l.grants ≡ fold with_grants [] (take l.item-index l.items)

@@ -1,9 +1,0 @@
-use Rattle.std.proofs.Common.{◌≡◌, take, map, true}
-use Rattle.std.specs.List.{list_all}
-use Rattle.portal_model.specs.Opening.{id_of}
-use Rattle.portal_model.specs.declared.records.DocRecord.{DocRecord}
-use Rattle.portal_core.specs.Started.{is_narrow}
-use Rattle.portal_core.proofs.opening.numbers_of.Given as goal
-
-abbrev pub invariant-loop-item : goal.invariant-loop-item
-invariant-loop-item l = (l.numbers ≡ map (λ (d : DocRecord). id_of d.number) (take l.item-index l.items)) × (list_all is_narrow l.numbers ≡ true)

@@ -1,0 +1,4 @@
+pub mod Found
+pub mod KeptRights
+pub mod GoodRecords
+pub mod LoadedRecords

@@ -1,0 +1,85 @@
+-- The lists that records open a portal with, or why they open none.
+use Rattle.std.specs.Prelude.{◌≡◌, ◌^◌, nat_lt, [], Bool, true, false, map, Some}
+use Rattle.portal_base.specs.declared.limits.Limits.{Limits}
+use Rattle.portal_base.specs.declared.names.doc_id.DocId.{DocId}
+use Rattle.portal_model.specs.declared.opening.OpeningDocument.{OpeningDocument}
+use Rattle.portal_model.specs.declared.opening.OpeningState.{OpeningState}
+use Rattle.portal_model.specs.declared.records.DocRecord.{DocRecord}
+use Rattle.portal_model.specs.declared.records.Records.{Records}
+use Rattle.portal_model.specs.Opening.{id_of, document_kept, rights_kept}
+use Rattle.portal_model.specs.Store.{Entries}
+use Rattle.portal_base.specs.Calls.{FailsAsTold}
+use Rattle.record_keeper.specs.BadRecords.{AreGood, IsWrong, applications_of}
+use Rattle.record_keeper.specs.KeptEntries.{KeepEntries}
+use Rattle.record_keeper.specs.Keepers.{KeeperIs, Loads, after_call}
+use Rattle.record_keeper.specs.declared.fault.RecordsFault.TheVariants as wrong
+use Rattle.record_keeper.specs.declared.keeper.KeeperLoad.TheVariants as load
+use Rattle.portal_start.specs.declared.start.Lists.{Lists}
+use Rattle.portal_start.specs.declared.start.StartError.{StartError}
+use Rattle.portal_start.specs.declared.start.StartError.TheVariants.{KeeperFault, BadVersion, BadRecord, Memory}
+
+-- each kept document persists
+abbrev pub document_loaded : DocRecord → OpeningDocument
+document_loaded d = record { kept = d; persistent = true }
+
+-- The opening state that stands for records, with these entries: no document was made but those
+-- that are kept, and the applications are numbered as the records first name them. The tree tells
+-- the files.
+abbrev pub opening_loaded : Entries → Limits → Records → OpeningState
+opening_loaded entries limits records = record {
+  limits = limits;
+  documents = map document_loaded records.documents;
+  made = map (λ d. id_of d.number) records.documents;
+  applications = applications_of records.documents;
+  entries = entries;
+  files = [];
+}
+
+-- the state that records open with: its entries are those that the records keep
+pub record IsOpening (limits : Limits) (records : Records) (opening : OpeningState) : Type 0 where
+  pub whole : opening ≡ opening_loaded opening.entries limits records
+  pub entries : KeepEntries records.entries opening.entries
+
+-- a number of 32 bits
+abbrev pub is_narrow : DocId → Bool
+is_narrow id = nat_lt id.number (2 ^ 32)
+
+-- the records that were loaded are good, and the opening state stands for them
+pub record LoadsGood (limits : Limits) (old : KeeperIs) (opening : OpeningState)
+    (new : KeeperIs) : Type 0 where
+  pub records : Records
+  pub loads : Loads old (load.Got records) new
+  pub good : AreGood limits records
+  pub opening_is : IsOpening limits records opening
+
+-- Why no portal starts: the keeper failed, whose count rose; the records that were loaded have
+-- another version; one of them is bad, and this is the first; or there was no memory.
+abbrev pub LoadsBadly : Limits → KeeperIs → StartError → KeeperIs → Type 0
+LoadsBadly limits old KeeperFault new = Loads old load.Failed new
+LoadsBadly limits old (BadVersion found) new =
+    (records : Records) × Loads old (load.Got records) new
+    × IsWrong limits records (Some (wrong.BadVersion found))
+LoadsBadly limits old (BadRecord index) new =
+    (records : Records) × Loads old (load.Got records) new
+    × IsWrong limits records (Some (wrong.BadRecord index))
+LoadsBadly limits old Memory new =
+    (new ≡ after_call old false old.told) × FailsAsTold old.calls false
+
+-- the lists are those of the opening state
+pub record AreLists (lists : Lists) : Type 0 where
+  pub documents : lists.documents ≡ record {
+    most_live = lists.opening.limits.documents;
+    most_made = lists.opening.limits.made;
+    live = map document_kept lists.opening.documents;
+    made = lists.opening.made;
+  }
+  pub rights : lists.rights ≡ rights_kept lists.opening.documents
+  pub applications : lists.applications ≡ lists.opening.applications
+  pub tables : lists.tables ≡ lists.opening.entries
+
+-- why records that were loaded make no portal
+abbrev pub AreBad : Limits → Records → StartError → Type 0
+AreBad limits records KeeperFault = ⊥
+AreBad limits records (BadVersion found) = IsWrong limits records (Some (wrong.BadVersion found))
+AreBad limits records (BadRecord index) = IsWrong limits records (Some (wrong.BadRecord index))
+AreBad limits records Memory = Unit {0}

@@ -1,0 +1,21 @@
+//! The lists that the records of a keeper open a portal with.
+//!
+//! **It promises** that lists are made exactly where the records are good under the limits,
+//! and are then those of the opening state that the records stand for, which is valid; that
+//! else the first thing wrong is told, or that the keeper failed, whose count of faults then
+//! rose; and that a valid opening state gives its own lists.
+//!
+//! | Room | Holds |
+//! |---|---|
+//! | `start` | [`start::load`], [`start::lists_of_opening`], and why a portal doesn't start |
+//! | `opening` | the opening state that records stand for |
+//!
+//! ```text
+//! let lists = load(alloc, &mut keeper, &limits)?;
+//! ```
+//!
+//! `docs/database.md` says what the records are.
+#![tactic(auto)]
+
+mod opening;
+pub mod start;

@@ -1,0 +1,159 @@
+//! Starting a portal with the records that its keeper loads.
+
+ghost use Rattle.std.specs.Prelude.{◌≡◌, ◌<◌, ◌^◌, map, true, None, IfErr, IfOk};
+ghost use Rattle.std.specs.List.{list_all};
+ghost use Rattle.portal_model.specs.Opening.{id_of, opened_over};
+ghost use Rattle.portal_model.specs.Rows.{are_rows};
+ghost use Rattle.portal_model.specs.Valid.{Valid};
+ghost use Rattle.portal_start.specs.Loading.{AreLists, AreBad, IsOpening, LoadsBadly, LoadsGood};
+ghost use Rattle.record_keeper.specs.BadRecords.{AreGood};
+
+use crate::opening;
+use document_records::{Applications, Documents, Grants};
+use permission_table::Tables;
+use permission_table::laws::valid_entries_are_held;
+use portal_base::limits::Limits;
+use portal_base::memory::{Replica, WantOfMemory};
+use portal_model::opening::OpeningState;
+use portal_model::records::Records;
+use record_keeper::laws::good_records_keep_good_entries;
+use record_keeper::{Keeper, KeeperLoad, RecordsFault, records_fault};
+use std::alloc::Global;
+use thiserror::Error;
+
+/// Why no portal starts.
+#[derive(Clone, Copy, Debug, PartialEq, Eq, Error)]
+pub enum StartError {
+    /// The keeper failed to load the records.
+    #[error("the keeper failed to load the records")]
+    KeeperFault,
+    /// The records have another version than 1.
+    #[error("the records have the version {found}")]
+    BadVersion {
+        /// The version that they have.
+        found: u32,
+    },
+    /// One of the records is bad.
+    #[error("the record {index} is bad")]
+    BadRecord {
+        /// How many records stand before the first bad one: documents are
+        /// counted first, and then entries.
+        index: u64,
+    },
+    /// There was no memory.
+    #[error("no memory for a portal")]
+    Memory,
+}
+
+/// The devices of a portal that didn't start, and why.
+#[derive(Drop)]
+pub struct StartRefusal<T, K, C, W> {
+    /// Why no portal starts.
+    pub error: StartError,
+    /// The tree, as it was.
+    pub tree: T,
+    /// The keeper, which was asked once.
+    pub keeper: K,
+    /// The clock, as it was.
+    pub clock: C,
+    /// The words, as they were.
+    pub words: W,
+}
+
+/// The lists that a portal starts with.
+#[derive(Drop)]
+pub struct Lists {
+    /// The opening state, with an empty list of files.
+    pub opening: OpeningState,
+    /// Its documents.
+    pub documents: Documents,
+    /// The rights in them.
+    pub rights: Grants,
+    /// The numbered applications.
+    pub applications: Applications,
+    /// The tables of the permission store.
+    pub tables: Tables,
+}
+
+/// Loads the records of a keeper, which are to be good under the limits.
+pub fn load<K: Keeper>(alloc: Global, keeper: &mut K, limits: &Limits) -> Result<Lists, StartError>
+    requires made { limits.now.made < 2 ^ 32 }
+    requires queued { limits.now.queued < 2 ^ 32 }
+    ensures good { IfOk result (λ lists. LoadsGood limits.now (K.is keeper.old) lists.opening
+        (K.is keeper.new)) }
+    ensures lists { IfOk result AreLists }
+    ensures valid { IfOk result (λ lists. Valid (opened_over None lists.opening)) }
+    ensures bad { IfErr result (λ error. LoadsBadly limits.now (K.is keeper.old) error
+        (K.is keeper.new)) }
+{
+    match keeper.load() {
+        KeeperLoad::Got(records) => lists_of(alloc, records, limits),
+        KeeperLoad::Failed => Err(StartError::KeeperFault),
+        KeeperLoad::Memory => Err(StartError::Memory),
+    }
+}
+
+/// The lists that records stand for, which are to be good.
+fn lists_of(alloc: Global, records: Records, limits: &Limits) -> Result<Lists, StartError>
+    requires made { limits.now.made < 2 ^ 32 }
+    requires queued { limits.now.queued < 2 ^ 32 }
+    ensures good { IfOk result (λ lists. AreGood limits.now records) }
+    ensures opening { IfOk result (λ lists. IsOpening limits.now records lists.opening) }
+    ensures lists { IfOk result AreLists }
+    ensures valid { IfOk result (λ lists. Valid (opened_over None lists.opening)) }
+    ensures bad { IfErr result (AreBad limits.now records) }
+{
+    // A document is bad with which a limit is passed, and what follows it isn't looked at: so one
+    // fault is told.
+    match records_fault(alloc, &records, limits) {
+        Ok(None) => match lists_of_good(alloc, records, limits) {
+            Ok(lists) => Ok(lists),
+            Err(WantOfMemory) => Err(StartError::Memory),
+        },
+        Ok(Some(RecordsFault::BadVersion { found })) => Err(StartError::BadVersion { found }),
+        Ok(Some(RecordsFault::BadRecord { index })) => Err(StartError::BadRecord { index }),
+        Err(WantOfMemory) => Err(StartError::Memory),
+    }
+}
+
+/// The lists that good records stand for.
+fn lists_of_good(alloc: Global, records: Records, limits: &Limits) -> Result<Lists, WantOfMemory>
+    requires good { AreGood limits.now records }
+    requires made { limits.now.made < 2 ^ 32 }
+    requires queued { limits.now.queued < 2 ^ 32 }
+    ensures opening { IfOk result (λ lists. IsOpening limits.now records lists.opening) }
+    ensures lists { IfOk result AreLists }
+    ensures valid { IfOk result (λ lists. Valid (opened_over None lists.opening)) }
+{
+    let opening = opening::opening_loaded(alloc, records, limits)?;
+    good_records_keep_good_entries();
+    lists_of_opening(alloc, opening)
+}
+
+/// The lists of a valid opening state, in which no number was made but those
+/// of its documents, and whose entries have their rows in order.
+pub fn lists_of_opening(alloc: Global, opening: OpeningState) -> Result<Lists, WantOfMemory>
+    requires valid { Valid (opened_over None opening) }
+    requires made { opening.made ≡ map (λ d. id_of d.kept.number) opening.documents }
+    requires rows { list_all (λ e. are_rows e.rows) opening.entries ≡ true }
+    ensures opening { IfOk result (λ lists. lists.opening ≡ opening) }
+    ensures lists { IfOk result AreLists }
+{
+    let items = opening.documents.as_slice();
+    let documents = document_records::opening::documents(alloc, items, &opening.limits)?;
+    let rights = document_records::opening::rights(alloc, items)?;
+    let applications = document_records::opening::applications(
+        alloc,
+        opening.applications.as_slice(),
+    )?;
+    let entries = opening.entries.replica(alloc)?;
+    valid_entries_are_held();
+    let tables = Tables::with_entries(alloc, entries);
+    Ok(Lists {
+        opening,
+        documents,
+        rights,
+        applications,
+        tables,
+    })
+}

@@ -1,0 +1,75 @@
+-- What a request on a node asks of the devices, and how it is replied to.
+use Rattle.std.proofs.Common.{◌≡◌, ◌≢◌, ℕ, List, [], ◌∷◌, replicate, Bool, true, false, Option, Some, None, refl, sym, ap, subst, ◌∙◌}
+use Rattle.node_looks.specs.TreeCalls.{after_calls}
+use Rattle.file_ops.specs.Wanting.{may_call_in_vain, may_change_file}
+use Rattle.node_looks.specs.declared.served.NodeDone.{NodeDone}
+use Rattle.host_tree.specs.Trees.{TreeIs, after_call}
+use Rattle.node_serving.specs.Seats.{ServesSeat}
+use Rattle.open_handles.specs.Opened.{HandleTable}
+use Rattle.portal_base.specs.declared.files.File.{File}
+use Rattle.portal_model.specs.declared.entry.Entry.{Entry}
+use Rattle.portal_model.specs.declared.entry.Fault.{Fault}
+use Rattle.portal_model.specs.declared.entry.Given.{Given}
+use Rattle.portal_model.specs.declared.reply.Reply.{Reply}
+use Rattle.portal_model.specs.declared.request.NodeOp.{NodeOp}
+use Rattle.portal_model.specs.declared.request.NodeRequest.{NodeRequest}
+use Rattle.portal_model.specs.declared.request.Request.{Request}
+use Rattle.portal_model.specs.declared.state.Connection.{Connection}
+use Rattle.portal_model.specs.Alike.{Alike, AnswersAlike}
+use Rattle.portal_model.specs.History.{run}
+use Rattle.portal_model.specs.Lawful.{LawfulOnNode}
+use Rattle.portal_model.specs.State.{State}
+use Rattle.portal_model.specs.Step.{after, reply_at, reply_with}
+use Rattle.portal_model.proofs.StaysTold.{step_told}
+use Rattle.portal_steps.specs.Documents.{is_document_call}
+use Rattle.portal_steps.specs.Served.{node_entry}
+use Rattle.portal_steps.specs.TreeCalls.{Calling, WasCalled}
+
+abbrev pub is_on_node : Request → Bool
+is_on_node (Request.Node r) = true
+is_on_node request = false
+
+-- the keeper isn't asked
+pub never-kept : (s : State) (r : NodeRequest) (given : Given) (o : Option Connection) → LawfulOnNode s r given o → given.fault ≢ Fault.Keeper
+never-kept s r given None k = λ e. let no : Fault.Keeper ≡ Fault.None = sym e ∙ ap (λ (g : Given). g.fault) k in cc
+never-kept s r given (Some c) k = k.keeper
+
+-- the tree keeps what it began with
+after-began : (calls : List Bool) (old : TreeIs) → (after_calls old calls).began ≡ old.began
+after-began [] old = refl
+after-began (failed ∷ more) old = after-began more (after_call old failed old.told)
+
+pub calls-keep : (old : TreeIs) (calls : List Bool) (files : Option (List File)) (new : TreeIs) → Calling old calls files new → new.began ≡ old.began
+calls-keep old calls files new k = ap (λ (t : TreeIs). t.began) k.goes ∙ after-began calls old
+
+pub was-called-keeps : (old new : TreeIs) → WasCalled old new → (new.began ≡ old.began) × (new.told ≡ old.told)
+was-called-keeps old new k = (calls-keep old (replicate k.0 false) old.told new k.1, ap (λ (t : TreeIs). t.told) k.1.goes)
+
+-- the same reply is alike, to a request that reads no file
+pub alike-same : (told : Bool) (request : Request) (stepped given : Reply) → is_on_node request ≡ false → given ≡ stepped → Alike told request stepped given
+alike-same true request stepped given n e = e
+alike-same false request stepped given n e = (ap (λ (r : Reply). r.signals) e, answers request n (ap (λ (r : Reply). r.answer) e))
+  where
+    answers : (request : Request) → is_on_node request ≡ false → given.answer ≡ stepped.answer → AnswersAlike request stepped.answer given.answer
+    answers (Request.Node r) n a = absurd (cc)
+    answers request n a = a
+
+pub call-off-nodes : (request : Request) → is_document_call request ≡ true → is_on_node request ≡ false
+call-off-nodes (Request.Node r) h = absurd (cc)
+call-off-nodes request h = refl
+
+-- a request that doesn't call the tree in vain changes no file
+pub still-file : (op : NodeOp) → may_call_in_vain op ≡ false → may_change_file op ≡ false
+still-file (NodeOp.SetAttr valid fh size) h = absurd (cc)
+still-file (NodeOp.Open flags) h = absurd (cc)
+still-file (NodeOp.Create name flags) h = absurd (cc)
+still-file (NodeOp.Write fh offset content) h = absurd (cc)
+still-file op h = refl
+
+-- a tree that tells goes on telling
+pub told-on : (h : List Entry) (s : State) → (run s h).told ≡ s.told
+told-on [] s = refl
+told-on (e ∷ es) s = told-on es (after s e) ∙ step_told s e.seat e.request e.given
+
+pub replied-node : (told : Bool) (s : State) (seat : ℕ) (r : NodeRequest) (old : TreeIs) (done : NodeDone) (cs : List Connection) (table : HandleTable) (new : TreeIs) → s.told ≡ told → ServesSeat s seat r old done cs table new → Alike told (Request.Node r) (reply_at s (node_entry seat r done)) (reply_with [] done.answer)
+replied-node told s seat r old done cs table new e k = subst (λ (b : Bool). Alike b (Request.Node r) (reply_at s (node_entry seat r done)) (reply_with [] done.answer)) e k.reply

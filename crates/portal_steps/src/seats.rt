@@ -1,0 +1,75 @@
+//! The connections of seats, each with its open handles, and with a box of changes
+//! where it hears of them.
+
+ghost use Rattle.std.specs.Prelude.{◌≡◌, ◌++◌, ◌∷◌, [], None, OnErr, OnOk};
+ghost use Rattle.change_signals.specs.Unsent.{IsSame, unsent_on};
+ghost use Rattle.open_handles.specs.Opened.{AtSeat, Enters, opened_on};
+ghost use Rattle.portal_model.specs.Valid.{is_host_bus};
+ghost use Rattle.portal_steps.specs.Stored.{Hears};
+
+use change_signals::Outboxes;
+use change_signals::hearing::hears_of_changes;
+use open_handles::Handles;
+use portal_base::list::List;
+use portal_base::memory::WantOfMemory;
+use portal_model::state::Connection;
+
+/// A connection begins, which was not there. Want of memory leaves all as it was.
+pub fn enter(
+    connections: &mut List<Connection>,
+    handles: &mut Handles,
+    outboxes: &mut Outboxes,
+    connection: Connection,
+) -> Result<(), WantOfMemory>
+    requires handles { opened_on handles.old.seats connection.seat ≡ None }
+    requires outboxes { unsent_on outboxes.old connection.seat ≡ None }
+    ensures heard { OnOk result (Hears (is_host_bus connection.who connection.kind)
+        connection.seat outboxes.old outboxes.new) }
+    ensures outboxes { OnErr result (IsSame outboxes.old outboxes.new) }
+    ensures limit { handles.new.most ≡ handles.old.most }
+    ensures connected { OnOk result (connections.new ≡ connections.old ++ connection ∷ []) }
+    ensures entered { OnOk result
+        (AtSeat Enters handles.old.seats handles.new.seats connection.seat) }
+    ensures connections { OnErr result (connections.new ≡ connections.old) }
+    ensures handles { OnErr result (handles.new.seats ≡ handles.old.seats) }
+{
+    let seat = connection.seat;
+    let hears = hears_of_changes(&connection.who, connection.kind);
+    if hears {
+        outboxes.enter(seat)?;
+    }
+    match begin(connections, handles, connection) {
+        Ok(()) => Ok(()),
+        Err(WantOfMemory) => {
+            if hears {
+                outboxes.leave(seat);
+            }
+            Err(WantOfMemory)
+        }
+    }
+}
+
+/// A connection begins, which was not there, with its open handles.
+fn begin(
+    connections: &mut List<Connection>,
+    handles: &mut Handles,
+    connection: Connection,
+) -> Result<(), WantOfMemory>
+    requires { opened_on handles.old.seats connection.seat ≡ None }
+    ensures limit { handles.new.most ≡ handles.old.most }
+    ensures connected { OnOk result (connections.new ≡ connections.old ++ connection ∷ []) }
+    ensures entered { OnOk result
+        (AtSeat Enters handles.old.seats handles.new.seats connection.seat) }
+    ensures connections { OnErr result (connections.new ≡ connections.old) }
+    ensures handles { OnErr result (handles.new.seats ≡ handles.old.seats) }
+{
+    let seat = connection.seat;
+    connections.push(connection)?;
+    match handles.enter(seat) {
+        Ok(()) => Ok(()),
+        Err(WantOfMemory) => {
+            connections.truncate(connections.len() - 1);
+            Err(WantOfMemory)
+        }
+    }
+}

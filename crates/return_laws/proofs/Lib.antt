@@ -1,7 +1,0 @@
-mod Signatures
-mod Verdicts
-mod Requests
-mod StoreRequests
-mod Asked
-mod PortalReturns
-mod LocalReturns

@@ -1,5 +1,0 @@
-use Rattle.return_laws.proofs.PortalReturns.{returns_signed}
-use Rattle.return_laws.proofs.returns.returns_have_their_signatures.Goals as goal
-
-pub returns : goal.returns
-returns c settings call method s e valid asks is told = returns_signed settings call method s e valid asks is told

@@ -1,7 +1,0 @@
-use Rattle.std.proofs.Common.{◌≡◌, ℕ, ◌≤◌, ◌<◌}
-use Rattle.script_form.specs.Lines.{letters}
-use Rattle.script_form.proofs.grants.read_rights.Given as goal
-
--- no smaller rights have these letters
-abbrev pub invariant-loop-rights : goal.invariant-loop-rights
-invariant-loop-rights l = (rights : ℕ) → 1 ≤ rights → rights < l.rights → l.word ≡ letters rights → ⊥

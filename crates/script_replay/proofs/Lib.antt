@@ -1,0 +1,13 @@
+pub mod GivenEntries
+pub mod MadeAlone
+pub mod Hear
+pub mod RoomToHear
+pub mod BeginAndEnd
+pub mod SessionTable
+pub mod Costs
+pub mod HeldBytes
+pub mod NextLineMayRun
+pub mod RunLines
+pub mod RunLine
+pub mod StartedScript
+pub mod CountedAnswers

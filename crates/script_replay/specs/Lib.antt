@@ -1,0 +1,10 @@
+pub mod Entries
+pub mod Texts
+pub mod Scenes
+pub mod Lines
+pub mod Seats
+pub mod Steps
+pub mod Started
+pub mod Plays
+pub mod Outcomes
+pub mod Statuses

@@ -1,0 +1,63 @@
+//! Calls of SQLite, and what stands in a line of an answer.
+//!
+//! They have no clauses: a real database is outside, and the proofs of their
+//! callers stay short.
+
+use crate::fault::DatabaseFault;
+use portal_base::list::{ByteList, List};
+use portal_base::text::Text;
+use sqlite::types::ValueRef;
+use sqlite::{Alter, Connection, Row as Line, Transaction};
+use std::alloc::Global;
+
+/// Runs a statement of a transaction.
+pub fn run<S: Alter>(
+    transaction: &mut Transaction<'_, S>,
+    sql: &str,
+    params: &[ValueRef<'_>],
+) -> Result<(), DatabaseFault> {
+    transaction.execute(sql, params)?;
+    Ok(())
+}
+
+/// The lines of a query of a transaction.
+pub fn lines_inside<S: Alter>(
+    transaction: &mut Transaction<'_, S>,
+    sql: &str,
+    params: &[ValueRef<'_>],
+) -> Result<Vec<Line>, DatabaseFault> {
+    let lines = transaction.query_all(sql, params)?;
+    Ok(lines)
+}
+
+/// The lines of a query.
+pub fn lines_of<S: Alter>(conn: &mut Connection<S>, sql: &str) -> Result<Vec<Line>, DatabaseFault> {
+    let lines = conn.query_all(sql, &[])?;
+    Ok(lines)
+}
+
+/// The number of 64 bits in a column.
+pub fn place_at(line: &Line, at: usize) -> Result<i64, DatabaseFault> {
+    let place: i64 = line.get(at)?;
+    Ok(place)
+}
+
+/// The number of 32 bits in a column.
+pub fn number_at(line: &Line, at: usize) -> Result<u32, DatabaseFault> {
+    let number: u32 = line.get(at)?;
+    Ok(number)
+}
+
+/// The text in a column.
+pub fn text_at(line: &Line, at: usize) -> Result<Text, DatabaseFault> {
+    let text: String = line.get(at)?;
+    Ok(Text::from_string(text))
+}
+
+/// The bytes of a blob or a text in a column.
+pub fn bytes_at(alloc: Global, line: &Line, at: usize) -> Result<ByteList, DatabaseFault> {
+    match line.get_ref(at)? {
+        ValueRef::Blob(bytes) | ValueRef::Text(bytes) => Ok(List::copied(alloc, bytes)?),
+        _ => Err(DatabaseFault::NoRecord),
+    }
+}

@@ -1,0 +1,23 @@
+//! The tables of a database that hold the portal's records, and their rows.
+//!
+//! **It promises** safety: that every call returns, and that nothing is read or written but
+//! by the calls of SQLite that it makes. What a database holds is told by no contract, since a
+//! real file is outside.
+//!
+//! | Room | Holds |
+//! |---|---|
+//! | `tables` | the tables of the database, and how they are made |
+//! | `documents`, `entries` | reading and changing these |
+//! | `rows` | the rows of an entry, and how some become others |
+//! | `calls` | the calls of SQLite |
+//! | `fault` | [`fault::DatabaseFault`], [`fault::KeeperFault`] |
+//!
+//! `docs/database.md` says what the tables hold.
+#![tactic(auto)]
+
+pub mod calls;
+pub mod documents;
+pub mod entries;
+pub mod fault;
+pub mod rows;
+pub mod tables;

@@ -1,0 +1,137 @@
+-- What a request leaves of the files, and what a view is told of one on a node.
+use Rattle.std.proofs.Common.{◌≡◌, ℕ, List, [], Bool, true, false, cond, Option, Some, None, refl, sym, ap, subst, ◌∙◌}
+use Rattle.portal_base.specs.declared.files.File.{File}
+use Rattle.portal_model.specs.declared.entry.Entry.{Entry}
+use Rattle.portal_model.specs.declared.entry.Given.{Given}
+use Rattle.portal_model.specs.declared.handle.Handle.{Handle}
+use Rattle.portal_model.specs.declared.request.NodeRequest.{NodeRequest}
+use Rattle.portal_model.specs.declared.request.Request.{Request}
+use Rattle.portal_model.specs.declared.state.Connection.{Connection}
+use Rattle.portal_model.specs.Bus.{is_tree, moment_given}
+use Rattle.portal_model.specs.Lawful.{LawfulOnNode}
+use Rattle.portal_model.specs.Node.{bytes_named, facts_of, files_after, node_given, settled_on_node, walk_on_node}
+use Rattle.portal_model.specs.NodeOutside.{LawfulNode}
+use Rattle.portal_model.specs.NodeVerdict.{FileChange, FilesStay, NodeVerdict, Errs, Yields}
+use Rattle.portal_model.specs.Place.{Sight, SightOfFile, SightOfFolder, Folder, FolderOf, RootOf, Views, place_of}
+use Rattle.portal_model.specs.State.{State, connection_of, handle_of}
+use Rattle.portal_model.specs.Step.{after, all_told, bus_of, bus_step, collect_step, mount_of, node_step, reply_at, request_step}
+use Rattle.portal_model.specs.Walk.{Gives}
+use Rattle.portal_model.proofs.BusLaws.{bus_step-holds}
+use Rattle.app_world.specs.Node.{bytes_effects, node_touch, verdict_touch}
+use Rattle.app_world.specs.Touched.{is_done}
+use Rattle.app_world.specs.View.{view}
+use Rattle.app_world.proofs.NamedPaths.{FolderOn, HandleOn, SightOn}
+use Rattle.app_world.proofs.WalksAlong.{CanBe, given-can, walk-along}
+use Rattle.trace_items.specs.Awaited.{Comes, is_node}
+use Rattle.trace_items.specs.FilesChanged.{changed_name, file_change, told_of_file}
+use Rattle.trace_items.proofs.BytesAfter.{bytes-after}
+use Rattle.trace_items.proofs.FilesChanged.{Changes, node-changes}
+
+-- ---- requests of buses, and of seats that come and go
+
+abbrev HasFiles : List File → State → Type 0
+HasFiles files s = s.files ≡ files
+
+bus-files : (s : State) (request : Request) (given : Given) (o : Option Connection) → (bus_step s request given o).0.files ≡ s.files
+bus-files s request given o =
+    bus_step-holds (HasFiles s.files) (λ t seat h. h) (λ t seat change h. h) (λ t ds made rights apps h. h) (λ t es h. h) (λ t change h. h) s request given o refl
+
+same-files : {X : Type 0} (b : Bool) (x y : X) → x ≡ y → x ≡ cond b y y
+same-files true x y e = e
+same-files false x y e = e
+
+-- ---- requests on nodes
+
+abbrev Any : List ℕ → Type 0
+Any path = Unit {0}
+
+any-folder : (f : Folder) → FolderOn Any f
+any-folder (RootOf view numbers has_views) = tt
+any-folder (Views applications) = tt
+any-folder (FolderOf view number path may_write) = tt
+
+any-sight : (o : Option Sight) → SightOn Any o
+any-sight None = tt
+any-sight (Some (SightOfFile path may_write)) = tt
+any-sight (Some (SightOfFolder f)) = any-folder f
+
+any-handle : (o : Option Handle) → HandleOn Any o
+any-handle None = tt
+any-handle (Some (Handle.File name node read write)) = tt
+any-handle (Some (Handle.Folder node names)) = tt
+
+-- what is done can be done with these files
+can-be : (s : State) (c : Connection) (r : NodeRequest) (given : Given) → s.told ≡ true → LawfulNode (all_told c.seat s) c r given → CanBe s.files Any (node_given (walk_on_node s c r) given)
+can-be s c r given told l =
+    given-can s.files Any (λ target. Unit {0}) (λ call. Unit {0}) (walk_on_node s c r) (moment_given given.now) given.looks (is_tree given.fault)
+    (subst (λ (b : Bool). Gives (cond b (Some s.files) None) (walk_on_node s c r) given.looks (is_tree given.fault)) told l.looks)
+    (walk-along s.files Any (λ target. Unit {0}) (λ call. Unit {0}) (λ path h. tt) (λ name h. tt) (λ name h. tt) (λ name h. tt) (λ path h e. tt) (facts_of s c r.node) r r.op
+    (any-sight (place_of s c.who r.node)) (λ fh. any-handle (handle_of s.handles c.seat fh)))
+
+module _ (s : State) (told : s.told ≡ true) (change : FileChange) where
+  settled-files : (c : Connection) (v : Option NodeVerdict) → Changes change v → (settled_on_node (all_told c.seat s) c v).0.files ≡ cond (is_done (settled_on_node (all_told c.seat s) c v).1) (files_after true change s.files) s.files
+  settled-files c None h = refl
+  settled-files c (Some (Errs errno)) h = refl
+  settled-files c (Some (Yields d)) h = λ i. files_after (told i) (h i) s.files
+
+  settled-told : (app : List ℕ) (c : Connection) (o : Option NodeVerdict) → Changes change o → CanBe s.files Any o → is_done (settled_on_node (all_told c.seat s) c o).1 ≡ true →
+      verdict_touch app s o ≡ told_of_file (view s app) (changed_name change) (settled_on_node (all_told c.seat s) c o).0.files
+  settled-told app c None h can e = cc
+  settled-told app c (Some (Errs errno)) h can e = cc
+  settled-told app c (Some (Yields d)) h can e =
+      ap (λ (b : Bool). cond b (bytes_effects (view s app) (bytes_named s.files) d.file) []) told
+      ∙ (bytes-after (view s app) s.files d.file can.file
+      ∙ (λ i. told_of_file (view s app) (changed_name (h i)) (files_after (sym told i) d.file s.files)))
+
+abbrev pub change_on : State → NodeRequest → Given → Connection → FileChange
+change_on s r given c = file_change (place_of s c.who r.node) (handle_of s.handles c.seat) given.looks (moment_given given.now) r.op
+
+abbrev pub change_over : State → NodeRequest → Given → Option Connection → FileChange
+change_over s r given None = FilesStay
+change_over s r given (Some c) = change_on s r given c
+
+-- the change of a request on a node over a connection, or over none
+abbrev pub change_at : State → ℕ → NodeRequest → Given → FileChange
+change_at s seat r given = change_over s r given (mount_of (connection_of s.connections seat))
+
+node-comes : (s : State) (told : s.told ≡ true) (r : NodeRequest) (given : Given) (o : Option Connection) → LawfulOnNode s r given o →
+    ((node_step s r given o).0.files ≡ cond (is_done (node_step s r given o).1.answer) (files_after true (change_over s r given o) s.files) s.files)
+    × ((app : List ℕ) → is_done (node_step s r given o).1.answer ≡ true → node_touch app s r given o ≡ told_of_file (view s app) (changed_name (change_over s r given o)) (node_step s r given o).0.files)
+node-comes s told r given None l = (refl, λ app e. cc)
+node-comes s told r given (Some c) l =
+    let v : Option NodeVerdict = node_given (walk_on_node s c r) given in
+    let h : Changes (change_on s r given c) v = node-changes (facts_of s c r.node) r r.op (moment_given given.now) given.looks (is_tree given.fault) in
+    (settled-files s told (change_on s r given c) c v h, λ app e. settled-told s told (change_on s r given c) app c v h (can-be s c r given told l) e)
+
+-- an entry on a node
+pub comes-node : (s : State) (seat : ℕ) (r : NodeRequest) (given : Given) → s.told ≡ true → LawfulOnNode s r given (mount_of (connection_of s.connections seat)) →
+    Comes s (record { seat = seat; request = Request.Node r; given = given }) (change_at s seat r given)
+comes-node s seat r given told l =
+    let both = node-comes s told r given (mount_of (connection_of s.connections seat)) l in
+    record { files = both.0; node = λ app n. both.1 app }
+
+-- any other entry leaves the files
+pub comes-stay : (s : State) (e : Entry) → is_node e.request ≡ false → Comes s e FilesStay
+comes-stay s e n = record { files = same-files (is_done (reply_at s e).answer) (after s e).files s.files (stays e.request n); node = λ app m. absurd (true-false (sym m ∙ n)) }
+  where
+    true-false : true ≡ false → ⊥
+    true-false x = cc
+
+    stays : (request : Request) → is_node request ≡ false → (request_step s e.seat request e.given).0.files ≡ s.files
+    stays (Request.Node r) n = cc
+    stays (Request.Enter who kind) n = refl
+    stays Request.Leave n = refl
+    stays Request.Collect n = collected (bus_of (connection_of s.connections e.seat))
+      where
+        collected : (o : Option Connection) → (collect_step s o).0.files ≡ s.files
+        collected None = refl
+        collected (Some c) = refl
+    stays (Request.Present path) n = bus-files s (Request.Present path) e.given (bus_of (connection_of s.connections e.seat))
+    stays (Request.Add a) n = bus-files s (Request.Add a) e.given (bus_of (connection_of s.connections e.seat))
+    stays (Request.Grant call) n = bus-files s (Request.Grant call) e.given (bus_of (connection_of s.connections e.seat))
+    stays (Request.Revoke call) n = bus-files s (Request.Revoke call) e.given (bus_of (connection_of s.connections e.seat))
+    stays (Request.DeleteDocument doc) n = bus-files s (Request.DeleteDocument doc) e.given (bus_of (connection_of s.connections e.seat))
+    stays (Request.LookupDocument path) n = bus-files s (Request.LookupDocument path) e.given (bus_of (connection_of s.connections e.seat))
+    stays (Request.Info doc) n = bus-files s (Request.Info doc) e.given (bus_of (connection_of s.connections e.seat))
+    stays (Request.ListDocuments name) n = bus-files s (Request.ListDocuments name) e.given (bus_of (connection_of s.connections e.seat))
+    stays (Request.Store call) n = bus-files s (Request.Store call) e.given (bus_of (connection_of s.connections e.seat))

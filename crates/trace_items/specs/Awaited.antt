@@ -1,0 +1,117 @@
+-- What comes of an entry to an application, over the lists that a portal lends ahead of it.
+use Rattle.std.specs.Prelude.{◌≡◌, ℕ, List, [], ◌∷◌, map, Bool, true, false, cond, Option, Some, None}
+use Rattle.portal_base.specs.declared.files.File.{File}
+use Rattle.portal_base.specs.declared.files.FileName.{FileName}
+use Rattle.portal_model.specs.declared.entry.Entry.{Entry}
+use Rattle.portal_model.specs.declared.handle.Handle.{Handle}
+use Rattle.portal_model.specs.declared.handle.OpenHandle.{OpenHandle}
+use Rattle.portal_model.specs.declared.request.Request.{Request}
+use Rattle.portal_model.specs.declared.state.Connection.{Connection}
+use Rattle.portal_model.specs.Node.{files_after}
+use Rattle.portal_model.specs.NodeVerdict.{FileChange, FilesStay, Writes, Resizes, Creates}
+use Rattle.portal_model.specs.State.{State, connection_of, handles_of}
+use Rattle.portal_model.specs.Step.{after, reply_at}
+use Rattle.open_handles.specs.Opened.{Opened, opened_on}
+use Rattle.app_world.specs.Effect.{Effect}
+use Rattle.app_world.specs.Touched.{is_done}
+use Rattle.app_world.specs.TraceItem as item
+use Rattle.app_world.specs.TraceItem.{item_of}
+use Rattle.app_world.specs.View.{view}
+use Rattle.app_world.specs.World.{items_of, request_touch}
+use Rattle.trace_items.specs.declared.coming.Awaited.{Awaited}
+use Rattle.trace_items.specs.declared.coming.News.{News}
+use Rattle.trace_items.specs.declared.coming.News.TheVariants.{Own, Touches, Changed}
+use Rattle.trace_items.specs.declared.changes.FileUpdate.{FileUpdate}
+use Rattle.trace_items.specs.declared.changes.FileUpdate.TheVariants.{Stay, Write, Resize, Create}
+use Rattle.trace_items.specs.declared.lent.Lent.{Lent}
+use Rattle.trace_items.specs.FilesChanged.{changed_name, told_alone, told_of_file}
+use Rattle.app_trace.specs.Told.{item_told}
+
+-- ---- the lists
+
+-- a connection but for what it waits for
+abbrev pub silent : Connection → Connection
+silent c = record c { unsent = [] }
+
+abbrev pub numbered : OpenHandle → ℕ × Handle
+numbered h = (h.fh, h.handle)
+
+-- the table has what the connection of a seat has open, and the number that it was given last
+abbrev pub HasOpen : State → ℕ → Connection → Option Opened → Type 0
+HasOpen s seat c None = ⊥
+HasOpen s seat c (Some o) =
+    (o.last ≡ c.opens) × (o.handles ≡ map numbered (handles_of s.handles seat))
+
+-- the lists are those of the state, whose tree tells its files
+pub record Shows (lent : Lent) (s : State) : Type 0 where
+  pub documents : s.documents ≡ lent.book.documents.now.live
+  pub rights : s.rights ≡ lent.book.grants.now
+  pub applications : s.applications ≡ lent.book.applications.now
+  pub connections : map silent s.connections ≡ lent.connections.now
+  pub handles :
+      (seat : ℕ) (c : Connection) → connection_of s.connections seat ≡ Some c →
+      HasOpen s seat c (opened_on lent.handles.now.seats seat)
+  pub told : s.told ≡ true
+  pub files : s.files ≡ lent.files.now
+
+-- ---- what is awaited
+
+abbrev pub change_of : FileUpdate → FileChange
+change_of Stay = FilesStay
+change_of (Write name offset content now) = Writes name offset content.now now
+change_of (Resize name size now) = Resizes name size now
+change_of (Create path now) = Creates path now
+
+-- the files behind an entry, by whether it was done
+abbrev pub files_awaited : Awaited → Bool → List File → List File
+files_awaited a done files = cond done (files_after true (change_of a.change) files) files
+
+abbrev pub file_told : Option FileName → List File → List Effect
+file_told None after = []
+file_told (Some name) after = told_alone name after
+
+abbrev pub told_items : FileChange → News → Bool → List File → List item.TraceItem
+told_items change (Own x) done after = item_told x ∷ []
+told_items change (Touches xs) done after = cond done (map item_told xs) []
+told_items change Changed done after =
+    cond done (map item_of (file_told (changed_name change) after)) []
+
+-- the items of an entry, by whether it was done, where these were the files
+abbrev pub items_awaited : Awaited → Bool → List File → List item.TraceItem
+items_awaited a done files =
+    told_items (change_of a.change) a.told done (files_awaited a done files)
+
+-- a request on a node
+abbrev pub is_node : Request → Bool
+is_node (Request.Node r) = true
+is_node (Request.Enter who kind) = false
+is_node Request.Leave = false
+is_node Request.Collect = false
+is_node (Request.Present path) = false
+is_node (Request.Add a) = false
+is_node (Request.Grant call) = false
+is_node (Request.Revoke call) = false
+is_node (Request.DeleteDocument doc) = false
+is_node (Request.LookupDocument path) = false
+is_node (Request.Info doc) = false
+is_node (Request.ListDocuments app) = false
+is_node (Request.Store call) = false
+
+-- the files behind the entry are those of this change, where it is done; and so is what a view is
+-- told of a request on a node
+pub record Comes (s : State) (e : Entry) (change : FileChange) : Type 0 where
+  pub files : (after s e).files
+      ≡ cond (is_done (reply_at s e).answer) (files_after true change s.files) s.files
+  pub node : (app : List ℕ) → is_node e.request ≡ true → is_done (reply_at s e).answer ≡ true →
+      request_touch app s e.seat e.request e.given
+      ≡ told_of_file (view s app) (changed_name change) (after s e).files
+
+-- the items of the entry are told, with this change of the files
+abbrev pub IsTold : List ℕ → State → Entry → FileChange → News → Type 0
+IsTold app s e change told =
+    items_of app s e ≡ told_items change told (is_done (reply_at s e).answer) (after s e).files
+
+-- the items of the entry, and the files behind it, are those that are awaited
+pub record Awaits (app : List ℕ) (s : State) (e : Entry) (a : Awaited) : Type 0 where
+  pub items : items_of app s e ≡ items_awaited a (is_done (reply_at s e).answer) s.files
+  pub files : (after s e).files ≡ files_awaited a (is_done (reply_at s e).answer) s.files

@@ -1,0 +1,6 @@
+pub mod Touches
+pub mod OwnAdds
+pub mod FilesChanged
+pub mod Awaited
+pub mod Named
+pub mod Sharings
