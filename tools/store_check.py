@@ -6,7 +6,7 @@ import shutil
 import tempfile
 
 from service import Service, run
-from docportal_client import PERSISTENT, REUSE, CallError, Documents, Store, Variant
+from docportal_client import AddFlags, DBusError, Variant
 
 try:
     import sqlite3
@@ -21,6 +21,8 @@ TABLES = {
     "entry": "place",
     "permission": "entry, application, place",
 }
+
+KEPT, SHARED = AddFlags.PERSISTENT, AddFlags.PERSISTENT | AddFlags.REUSE_EXISTING
 
 # The paths of documents.
 FIRST, SECOND, THIRD, OTHER = "/b\u00fc.txt", "/a.txt", "/c.txt", "/d.txt"
@@ -58,10 +60,10 @@ def tables(store):
 
 def make_first(documents, store):
     """Three documents and three entries are made: the numbers of the documents."""
-    first = documents.add_full([FIRST], PERSISTENT | REUSE)[0]
-    second = documents.add_full([SECOND], PERSISTENT | REUSE, "org.ed", ["read", "write"])[0]
-    documents.grant(second[0], "org.tv", ["write", "read"])
-    third = documents.add_full([THIRD], PERSISTENT, "org.ed", ["read"])[0]
+    first = documents.add_full([FIRST], SHARED)[0]
+    second = documents.add_full([SECOND], SHARED, "org.ed", ["read", "write"])[0]
+    documents.grant_permissions(second[0], "org.tv", ["write", "read"])
+    third = documents.add_full([THIRD], KEPT, "org.ed", ["read"])[0]
     store.set("devices", "mic", {"org.ed": ["yes"]}, SEVEN)
     store.set("devices", "camera", {"org.ed": ["yes"], "org.tv": ["no", "ask"]}, SEVEN)
     store.set("background", "background", {}, SEVEN)
@@ -87,8 +89,8 @@ def change_each(documents, store, numbers):
     """A change of each kind."""
     second, third = ("%08x" % number for number in numbers[1:])
     for app in ("org.aa", "org.tv"):
-        documents.grant(second, app, ["read", "write", "grant-permissions", "delete"])
-    documents.revoke(second, "org.ed", ["read", "write"])
+        documents.grant_permissions(second, app, ["read", "write", "grant-permissions", "delete"])
+    documents.revoke_permissions(second, "org.ed", ["read", "write"])
     documents.delete(third)
     store.set("devices", "mic", {"org.tv": ["ask"], "org.aa": ["no"], "org.ed": ["yes"]}, EIGHT)
     store.set("devices", "camera", {"org.tv": ["ask", "no"]}, SEVEN)
@@ -113,7 +115,7 @@ def changed_tables(numbers):
 def records(service):
     """What the service answers of its records."""
     with service.bus() as bus:
-        documents, store = Documents(bus), Store(bus)
+        documents, store = bus.documents, bus.permissions
         listed = documents.list()
         entries = {table: [(entry, store.lookup(table, entry)) for entry in store.list(table)]
                    for table in ("background", "devices")}
@@ -124,8 +126,8 @@ def failed_addition(service):
     """Two documents are added in one call, of which the second breaks a rule of the store."""
     with service.bus() as bus:
         try:
-            return Documents(bus).add_full([OTHER, SECOND], PERSISTENT)
-        except CallError as error:
+            return bus.documents.add_full([OTHER, SECOND], KEPT)
+        except DBusError as error:
             return error.name.rsplit(".", 1)[-1]
 
 
@@ -134,7 +136,7 @@ def see_changes(see, service):
     see("tables of a new store", tables(service.store),
         {table: [(1,)] if table == "version" else [] for table in TABLES})
     with service.bus() as bus:
-        documents, store = Documents(bus), Store(bus)
+        documents, store = bus.documents, bus.permissions
         numbers = make_first(documents, store)
         see("tables after the first changes", tables(service.store), first_tables(numbers))
         change_each(documents, store, numbers)
