@@ -37,7 +37,7 @@ fn answers(alloc: Global, handles: &mut Handles, steps: &str) -> Result<String, 
 }
 
 /// Limits of which that of handles counts.
-pub fn limits(handles: u64) -> Limits {
+fn limits(handles: u64) -> Limits {
     Limits {
         documents: 0,
         made: 0,

@@ -2,7 +2,6 @@
 
 use crate::answers::answer;
 use crate::given::{put_fault, put_seen};
-use crate::handles::limits;
 use crate::nodes::node_request;
 use app_view::ViewBook;
 use document_records::{Applications, Documents, Grants};
@@ -10,6 +9,7 @@ use file_ops::{FileBook, NodeCall, NodeDone, serve_node};
 use host_tree::MemoryTree;
 use open_handles::{Handle, Handles};
 use portal_base::files::FileName;
+use portal_base::limits::Limits;
 use portal_base::list::List;
 use portal_base::memory::WantOfMemory;
 use portal_base::names::HostPath;
@@ -23,6 +23,16 @@ use vector_lines::notation::cut;
 /// The seat of the one connection.
 const SEAT: u32 = 1;
 
+/// One handle, and no document.
+const LIMITS: Limits = Limits {
+    documents: 0,
+    made: 0,
+    history: 0,
+    handles: 1,
+    queued: 0,
+    file_bytes: 100,
+};
+
 /// `lost REQUEST`: what a request on a node is answered, and what the outside gave to it, on a
 /// connection of the host that has the file of node 8589934602 open by the number 1, to read and
 /// to write, where the tree has no file. A file may have 100 bytes.
@@ -35,7 +45,7 @@ pub fn lost(alloc: Global, rest: &str) -> Result<String, VectorError> {
 }
 
 fn asked(alloc: Global, request: &NodeRequest) -> Result<String, VectorError> {
-    let mut handles = Handles::new(alloc, &limits(1));
+    let mut handles = Handles::new(alloc, &LIMITS);
     let shown = match put_file(alloc, &mut handles) {
         Ok(()) => asked_by(alloc, &mut handles, request),
         Err(error) => Err(error),
@@ -64,7 +74,7 @@ fn asked_by(
     handles: &mut Handles,
     request: &NodeRequest,
 ) -> Result<String, VectorError> {
-    let documents = Documents::new(alloc, &limits(1));
+    let documents = Documents::new(alloc, &LIMITS);
     let grants = Grants::new(alloc);
     let applications = Applications::new(alloc);
     let book = FileBook {
@@ -73,7 +83,7 @@ fn asked_by(
             grants: &grants,
             applications: &applications,
         },
-        file_limit: 100,
+        file_limit: LIMITS.file_bytes,
     };
     served(alloc, &book, handles, request)
 }

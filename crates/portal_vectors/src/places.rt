@@ -25,8 +25,10 @@ fn there_and_back(alloc: Global, place: Place) -> Result<String, VectorError> {
 /// The number of a place, where there is such a view.
 fn numbered(place: Place) -> Option<u64> {
     match place {
-        Place::Root { view } | Place::Folder { view, .. } | Place::File { view, .. }
-            if view >= VIEWS => None,
-        _ => Some(node_of(place)),
+        Place::ByApp => Some(node_of(Place::ByApp)),
+        Place::Root { view } if view < VIEWS => Some(node_of(Place::Root { view })),
+        Place::Folder { view, id } if view < VIEWS => Some(node_of(Place::Folder { view, id })),
+        Place::File { view, id } if view < VIEWS => Some(node_of(Place::File { view, id })),
+        _ => None,
     }
 }
