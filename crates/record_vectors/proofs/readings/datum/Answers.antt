@@ -12,8 +12,8 @@ new-requires c =
     let is : IsDatum c.in-Some.variant c.as_slice.result.now = rw c.in-Some.is at c.in_ok-variant.ensures in
     ap holds_handle c.into_inner.ensures ∙ (sym (variant_holds c.in-Variant.inside) ∙ (ap holds_handle (sym c.in-Variant.is) ∙ is.no_handle))
 
-pub returns : goal.returns
-returns c =
+pub returns-in-Variant : goal.returns-in-Variant
+returns-in-Variant c =
     let bytes = c.as_slice.result.now in
     let inside = c.in-Variant.inside in
     let is : IsDatum c.in-Some.variant bytes = rw c.in-Some.is at c.in_ok-variant.ensures in
