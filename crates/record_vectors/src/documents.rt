@@ -109,15 +109,13 @@ fn add(
 ) -> Result<(), VectorError> {
     let id = documents.unused_from(document_id(word)?.number);
     let document = document_of(alloc, id, rest)?;
-    match documents.add(document) {
-        Ok(()) => {
-            if is_taken_back {
-                documents.take_back(id);
-            }
-            put_found(alloc, out, Some(id))
-        }
-        Err(error) => Ok(write!(out, "{error:?}")?),
+    if is_taken_back {
+        given(alloc, documents.add(document))?;
+        documents.take_back(id);
+    } else if let Err(error) = documents.add(document) {
+        return Ok(write!(out, "{error:?}")?);
     }
+    put_found(alloc, out, Some(id))
 }
 
 fn document_of(alloc: Global, id: DocId, rest: &str) -> Result<Document, VectorError>
