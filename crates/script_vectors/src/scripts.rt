@@ -5,9 +5,9 @@
 //! between braces are words of hexadecimal digits and texts between quotes, which the
 //! input has as digits. The answer is the status, and each line of output.
 //!
-//! A line that has braces is run four times: as it stands, and with what a `data` line
-//! has between braces in lines of 57 bytes, of 3 and of 1, or in a thousand lines where
-//! it is longer. The answer is one where it is the same.
+//! A line that has braces, and no more than 10,000 characters, is run four times: as it
+//! stands, and with what a `data` line has between braces in lines of 57 bytes, of 3 and
+//! of 1. The answer is one where it is the same.
 
 use portal_base::list::{ByteList, List};
 use portal_base::outside::{MemorySink, MemorySource};
@@ -24,8 +24,8 @@ use vector_lines::notation::{bytes, cut, debug, digits, number, text};
 /// More bytes, or lines, than there are.
 const ALL: usize = 1_000_000_000;
 
-/// How many lines bring what one `data` line has between braces, about and at most.
-const MOST_PIECES: usize = 1_000;
+/// How long a line is at most that is run more than once.
+const LONGEST_CUT: usize = 10_000;
 
 /// How a line is run, and what of its output is printed.
 #[derive(Clone, Copy)]
@@ -86,7 +86,7 @@ pub fn written(alloc: Global, lines: &str) -> Result<String, VectorError> {
 
 fn ran_in_sizes(alloc: Global, line: &str, way: Way) -> Result<String, VectorError> {
     let whole = ran(alloc, line, ALL, way)?;
-    if !line.contains('{') {
+    if !line.contains('{') || line.len() > LONGEST_CUT {
         return Ok(whole);
     }
     for size in [57, 3, 1] {
@@ -149,7 +149,7 @@ fn put_line(
     let (content, rest) = rest.split_once('}').unwrap_or((rest, ""));
     let content = bytes(alloc, content)?;
     let size = if front.starts_with("data ") {
-        size.max(content.len() / MOST_PIECES)
+        size
     } else {
         ALL
     };
