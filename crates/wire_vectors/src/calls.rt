@@ -209,16 +209,34 @@ pub fn put_asked(
 fn put_ask(alloc: Global, out: &mut String, ask: &Ask, serial: Option<u32>) -> Result<(), LineError>
     requires { CanBeAnswered ask.now }
 {
-    match ask {
-        Ask::Local(message) => match serial {
-            None => put_message(alloc, out, message),
-            Some(0) => Err(LineError::BadLine),
-            Some(serial) => {
-                let bytes = write_message(alloc, message, serial)?;
-                out.push_str(digits(alloc, bytes.as_slice())?.as_str())?;
-                Ok(())
+    match serial {
+        None => put_shown(alloc, out, ask),
+        Some(serial) => {
+            if serial == 0 {
+                return Err(LineError::BadLine);
             }
-        },
+            put_answered(alloc, out, ask, serial)
+        }
+    }
+}
+
+/// The bytes of what is answered without the portal, with this serial.
+fn put_answered(alloc: Global, out: &mut String, ask: &Ask, serial: u32) -> Result<(), LineError>
+    requires answers { CanBeAnswered ask.now }
+    requires serial { serial ≢ 0 }
+{
+    match ask {
+        Ask::Local(message) => {
+            let bytes = write_message(alloc, message, serial)?;
+            Ok(out.push_str(digits(alloc, bytes.as_slice())?.as_str())?)
+        }
+        ask => put_shown(alloc, out, ask),
+    }
+}
+
+fn put_shown(alloc: Global, out: &mut String, ask: &Ask) -> Result<(), LineError> {
+    match ask {
+        Ask::Local(message) => put_message(alloc, out, message),
         Ask::Ignore => Ok(out.push_str("ignored")?),
         Ask::Portal(request) => put_request(alloc, out, request),
     }
