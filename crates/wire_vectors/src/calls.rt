@@ -1,5 +1,6 @@
 //! Calls: what they ask, and what they are told.
 
+ghost use Rattle.std.specs.Prelude.{◌≢◌};
 ghost use Rattle.dbus_dispatch.specs.Writable.{CanBeAnswered};
 
 use crate::answers::{answer_of, letters, put_message};
