@@ -1,6 +1,4 @@
-//! Vectors of names, lists and copies; of rights, documents and applications;
-//! of devices, trees of files and keepers of records; and of the tables of the
-//! permission store.
+//! Vectors of names, lists and copies; of rights, documents and applications.
 //!
 //! Reads lines from standard input. A line names a call, and what the call is
 //! given; its answer is printed as a line. Empty lines and lines that begin with
@@ -10,19 +8,11 @@
 
 mod applications;
 mod copies;
-mod devices;
 mod documents;
 mod grants;
-mod keepers;
-mod kept;
 mod lists;
 mod names;
-mod readings;
 mod rights;
-mod scripted;
-mod shown;
-mod store;
-mod trees;
 
 use std::alloc::Global;
 use std::io;
@@ -57,17 +47,6 @@ fn put_answer(alloc: Global, out: &mut String, line: &str) -> Result<(), VectorE
         "documents" => documents::documents(alloc, out, rest),
         "grants" => grants::grants(alloc, out, rest),
         "applications" => applications::applications(alloc, out, rest),
-        "source" => devices::source(alloc, out, rest),
-        "sink" => devices::sink(alloc, out, rest),
-        "memory-source" => devices::memory_source(alloc, out, rest),
-        "memory-sink" => devices::memory_sink(alloc, out, rest),
-        "clock" => devices::clock(out, rest),
-        "words" => devices::words(alloc, out, rest),
-        "tree" => trees::tree(alloc, out, rest),
-        "quiet" => trees::quiet(alloc, out, rest),
-        "keeper" => keepers::keeper(alloc, out, rest),
-        "records" => kept::records(alloc, out, rest),
-        "store" => store::store(alloc, out, rest),
         _ => bad(),
     }
 }

@@ -6,7 +6,7 @@ use Rattle.portal_base.specs.Content.{ArePlaced, paths_of, is_above}
 use Rattle.portal_base.specs.declared.files.File.{File}
 use Rattle.host_tree.specs.Trees.{put_file}
 use Rattle.portal_base.proofs.PathsAbove.{above_longer}
-use Rattle.record_vectors.proofs.trees.tree_of.Goals as goal
+use Rattle.device_vectors.proofs.trees.tree_of.Goals as goal
 
 alone : (f : File) → IsStrictlySortedBy path_order (f.path ∷ [])
 unfolding IsStrictlySortedBy

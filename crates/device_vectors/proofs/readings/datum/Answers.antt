@@ -5,7 +5,7 @@ use Rattle.permission_table.specs.Tables.{IsSoundDatum}
 use Rattle.portal_model.specs.Changed.{IsDatum, holds_handle}
 use Rattle.portal_model.proofs.DataLaws.{datum-passes}
 use Rattle.record_keeper.proofs.KeptFacts.{variant_holds}
-use Rattle.record_vectors.proofs.readings.datum.Goals as goal
+use Rattle.device_vectors.proofs.readings.datum.Goals as goal
 
 pub new-requires : goal.new-requires
 new-requires c =
