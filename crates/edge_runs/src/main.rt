@@ -12,10 +12,12 @@ mod links;
 mod trees;
 
 use std::alloc::Global;
-use std::fs::Files;
+use std::fs::{File, Files};
 use std::io;
 use std::net::Net;
 use std::random::RandomSource;
+use std::sync::Wait;
+use std::thread::Threads;
 use std::time::Clock;
 use vector_lines::error::{VectorError, bad};
 use vector_lines::notation::cut;
@@ -26,7 +28,9 @@ fn main(rt: HostRuntime) -> io::Result<()> {
 }
 
 /// The answer of a line.
-fn answer<R: Files + Net + Clock + RandomSource>(
+fn answer<
+    R: Files<File = File> + Net + Threads + Wait + Clock + RandomSource + Eprint + Copy + Send + Drop + 'static,
+>(
     rt: &R,
     alloc: Global,
     line: &str,

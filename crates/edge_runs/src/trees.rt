@@ -1,19 +1,28 @@
 //! The real tree of files.
 
 use host_real::RealTree;
-use host_tree::{HostTree, TreeDone, TreeRead};
-use portal_base::files::FileName;
+use host_tree::{HostTree, LookAnswer, TreeDone, TreeRead};
+use portal_base::files::{FileName, Look};
 use portal_base::names::HostPath;
 use std::alloc::Global;
 use std::fs;
-use std::fs::Files;
+use std::fs::{File, Files};
+use std::random::RandomSource;
+use std::sync::Wait;
+use std::thread::Threads;
+use std::time::Clock;
 use vector_lines::error::{VectorError, bad, given};
 use vector_lines::notation::{bytes, cut, debug, digits, number, small_number};
 
+/// How many files each tree keeps open.
+const KEPT: usize = 2;
+
 /// `tree ROOT STEP, STEP ..`: what each step answers over the files below a root.
-pub fn tree<R: Files>(rt: &R, alloc: Global, rest: &str) -> Result<String, VectorError> {
+pub fn tree<
+    R: Files<File = File> + Threads + Wait + Clock + RandomSource + Eprint + Copy + Send + Drop + 'static,
+>(rt: &R, alloc: Global, rest: &str) -> Result<String, VectorError> {
     let (root, steps) = cut(rest);
-    let mut tree = given(alloc, RealTree::open(rt, alloc, root))?;
+    let mut tree = given(alloc, RealTree::open(*rt, alloc, root, KEPT))?;
     let mut out = String::new(alloc);
     for step in steps.split(',') {
         let (kind, rest) = cut(step.trim());
@@ -25,9 +34,11 @@ pub fn tree<R: Files>(rt: &R, alloc: Global, rest: &str) -> Result<String, Vecto
 
 /// `gone ROOT AWAY`: what a tree shows of its root while that is moved away, and once
 /// it is back.
-pub fn gone<R: Files>(rt: &R, alloc: Global, rest: &str) -> Result<String, VectorError> {
+pub fn gone<
+    R: Files<File = File> + Threads + Wait + Clock + RandomSource + Eprint + Copy + Send + Drop + 'static,
+>(rt: &R, alloc: Global, rest: &str) -> Result<String, VectorError> {
     let (root, away) = cut(rest);
-    let mut tree = given(alloc, RealTree::open(rt, alloc, root))?;
+    let mut tree = given(alloc, RealTree::open(*rt, alloc, root, KEPT))?;
     given(alloc, fs::rename(rt, root, away))?;
     let mut out = answer(alloc, &mut tree, "look", "/")?;
     given(alloc, fs::rename(rt, away, root))?;
@@ -47,7 +58,7 @@ fn answer<T: HostTree>(
     let (path, rest) = cut(rest);
     let path = given(alloc, HostPath::read(alloc, path.as_bytes()))?;
     if kind == "look" {
-        return Ok(debug(alloc, &tree.look(&path))?);
+        return Ok(debug(alloc, &shown(tree.look(&path)))?);
     }
     if kind == "create" {
         return Ok(debug(alloc, &tree.create(&path, number(rest)?))?);
@@ -58,6 +69,22 @@ fn answer<T: HostTree>(
         "attr" | "later" => Ok(debug(alloc, &tree.attr(&file))?),
         "read" => read(alloc, tree, &file, rest),
         _ => Ok(debug(alloc, &change(alloc, tree, kind, &file, rest)?)?),
+    }
+}
+
+/// A look, of whose generation the highest bit alone is shown: the others are of the file.
+fn shown(look: LookAnswer) -> LookAnswer {
+    match look {
+        LookAnswer::Is(Look::File {
+            generation,
+            size,
+            moment,
+        }) => LookAnswer::Is(Look::File {
+            generation: generation & 1 << 63,
+            size,
+            moment,
+        }),
+        other => other,
     }
 }
 

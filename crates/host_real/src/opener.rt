@@ -1,0 +1,269 @@
+//! Opens that don't hold up the one who asks.
+//!
+//! An open may take for ever: of a pipe that took a file's place, or of a file on a system
+//! that is gone. So a thread makes it, and who asks waits for it for a short while. A
+//! thread that doesn't come back is left, and another takes its place.
+
+use crate::error::OpenError;
+use portal_base::list::List;
+use std::alloc::{AllocError, Global};
+use std::fs::{File, Files, OpenOptions};
+use std::io;
+use std::io::ErrorKind;
+use std::mem;
+use std::sync::{Arc, Condvar, Mutex, Wait};
+use std::thread;
+use std::thread::Threads;
+use std::time::{Clock, Duration};
+
+/// How long one who asks waits for an open.
+const PATIENCE: Duration = Duration::from_millis(200);
+
+/// The most threads.
+const MOST_THREADS: usize = 8;
+
+/// The most bytes of a path.
+const MOST_BYTES: usize = 4_200;
+
+/// What a file is opened for.
+#[derive(Clone, Copy, PartialEq, Eq)]
+pub enum Purpose {
+    /// To read it.
+    Read,
+    /// To write to it; nothing is cut.
+    Write,
+}
+
+/// How far an open is.
+#[derive(Clone, Copy, PartialEq, Eq)]
+enum Stage {
+    /// There is none.
+    Idle,
+    /// It was asked for.
+    Asked,
+    /// It is made, or failed.
+    Done,
+    /// Nobody waits for it any more.
+    Left,
+    /// There won't be another.
+    Closed,
+}
+
+/// What one who asks and a thread tell each other.
+#[derive(Drop)]
+struct Slip {
+    stage: Stage,
+    path: String,
+    purpose: Purpose,
+    opened: Option<io::Result<File>>,
+}
+
+/// The place of one thread.
+#[derive(Drop)]
+struct Desk {
+    slip: Mutex<Slip>,
+    asked: Condvar,
+    done: Condvar,
+}
+
+/// A thread, and for whom it was asked last.
+#[derive(Drop)]
+struct Helper {
+    desk: Arc<Desk, Global>,
+    owner: u64,
+}
+
+/// The threads that open files.
+pub struct Opener<R: Files<File = File> + Threads + Wait + Clock> {
+    rt: R,
+    alloc: Global,
+    helpers: List<Helper>,
+    /// Whether it was told that no thread is left.
+    was_told: bool,
+}
+
+impl<R> Opener<R>
+where
+    R: Files<File = File> + Threads + Wait + Clock + Eprint + Copy + Send + Drop + 'static,
+{
+    /// One thread to begin with.
+    pub fn new(rt: R, alloc: Global) -> Result<Opener<R>, OpenError> {
+        let mut helpers = List::new(alloc);
+        helpers.push(helper(rt, alloc)?)?;
+        Ok(Opener {
+            rt,
+            alloc,
+            helpers,
+            was_told: false,
+        })
+    }
+
+    /// The file at a path, opened for an owner of files. An owner who has a thread that
+    /// doesn't come back gets no other: so nobody keeps all of them.
+    pub fn open(&mut self, path: &str, purpose: Purpose, owner: u64) -> io::Result<File> {
+        let Some(at) = self.free_helper(owner)? else {
+            return Err(io::Error::from(ErrorKind::TimedOut));
+        };
+        match self.helpers.get(at) {
+            Some(helper) => ask(&self.rt, &helper.desk, path, purpose),
+            None => Err(io::Error::from(ErrorKind::TimedOut)),
+        }
+    }
+
+    /// The place of a thread that has nothing to do, which is this owner's now.
+    fn free_helper(&mut self, owner: u64) -> io::Result<Option<usize>> {
+        let mut free = None;
+        for (at, helper) in self.helpers.iter().enumerate() {
+            if helper.desk.slip.lock(&self.rt).stage == Stage::Idle {
+                free = Some(at);
+            } else if helper.owner == owner {
+                return Ok(None);
+            }
+        }
+        let desk = match free {
+            Some(at) => match self.helpers.get(at) {
+                Some(helper) => Arc::try_clone(&helper.desk)?,
+                None => return Ok(None),
+            },
+            None if self.helpers.len() < MOST_THREADS => return self.add_helper(owner),
+            None => {
+                self.tell();
+                return Ok(None);
+            }
+        };
+        let at = free.unwrap_or(0);
+        if at < self.helpers.len() {
+            self.helpers.set(at, Helper { desk, owner });
+        }
+        self.was_told = false;
+        Ok(Some(at))
+    }
+
+    /// One more thread, for an owner.
+    fn add_helper(&mut self, owner: u64) -> io::Result<Option<usize>> {
+        let Ok(mut helper) = helper(self.rt, self.alloc) else {
+            return Ok(None);
+        };
+        helper.owner = owner;
+        if self.helpers.push(helper).is_err() {
+            return Err(io::Error::from(ErrorKind::OutOfMemory));
+        }
+        Ok(Some(self.helpers.len().saturating_sub(1)))
+    }
+
+    /// Tells, once, that no thread is left.
+    fn tell(&mut self) {
+        if !self.was_told {
+            self.was_told = true;
+            let _ = self.rt.eprintln("docportal: opens of files don't come back; no more are made");
+        }
+    }
+}
+
+impl<R: Files<File = File> + Threads + Wait + Clock> Drop for Opener<R> {
+    fn drop(self) {
+        let Opener { rt, helpers, .. } = self;
+        for helper in helpers.iter() {
+            helper.desk.slip.lock(&rt).stage = Stage::Closed;
+            helper.desk.asked.notify_one();
+        }
+    }
+}
+
+/// A new thread that waits for what is asked.
+fn helper<R>(rt: R, alloc: Global) -> Result<Helper, OpenError>
+where
+    R: Files<File = File> + Threads + Wait + Copy + Send + Drop + 'static,
+{
+    let slip = Slip {
+        stage: Stage::Idle,
+        path: String::with_capacity(alloc, MOST_BYTES)?,
+        purpose: Purpose::Read,
+        opened: None,
+    };
+    let desk = Arc::new(
+        alloc,
+        Desk {
+            slip: Mutex::new(slip),
+            asked: Condvar::new(),
+            done: Condvar::new(),
+        },
+    )?;
+    let theirs = Arc::try_clone(&desk)?;
+    match thread::spawn(&rt, move || work(&rt, alloc, &theirs)) {
+        Ok(_) => Ok(Helper { desk, owner: 0 }),
+        Err(_) => Err(OpenError::NoThread),
+    }
+}
+
+/// Makes each open that is asked for, until there won't be another.
+fn work<R: Files<File = File> + Wait>(rt: &R, alloc: Global, desk: &Desk) {
+    for _ in rt.forever() {
+        let Some((path, purpose)) = next(rt, alloc, desk) else {
+            return;
+        };
+        let opened = opened(rt, path.as_str(), purpose);
+        let mut slip = desk.slip.lock(rt);
+        slip.path = path;
+        match slip.stage {
+            Stage::Asked => {
+                slip.opened = Some(opened);
+                slip.stage = Stage::Done;
+            }
+            // What nobody waits for is closed.
+            Stage::Left => slip.stage = Stage::Idle,
+            _ => {}
+        }
+        drop(slip);
+        desk.done.notify_one();
+    }
+}
+
+/// What is asked next.
+fn next<R: Wait>(rt: &R, alloc: Global, desk: &Desk) -> Option<(String, Purpose)> {
+    let mut slip = desk
+        .asked
+        .wait_while(rt, desk.slip.lock(rt), |slip| waits_for_work(slip.stage));
+    if slip.stage == Stage::Closed {
+        return None;
+    }
+    let path = mem::replace(&mut slip.path, String::new(alloc));
+    Some((path, slip.purpose))
+}
+
+fn waits_for_work(stage: Stage) -> bool {
+    stage != Stage::Asked && stage != Stage::Closed
+}
+
+/// Asks for an open, and waits for it for a while.
+fn ask<R: Wait + Clock>(rt: &R, desk: &Desk, path: &str, purpose: Purpose) -> io::Result<File> {
+    let mut slip = desk.slip.lock(rt);
+    slip.path.clear();
+    slip.path.push_str(path)?;
+    slip.purpose = purpose;
+    slip.opened = None;
+    slip.stage = Stage::Asked;
+    desk.asked.notify_one();
+    let (mut slip, _) = desk
+        .done
+        .wait_timeout_while(rt, slip, PATIENCE, |slip| slip.stage == Stage::Asked);
+    if slip.stage != Stage::Done {
+        slip.stage = Stage::Left;
+        return Err(io::Error::from(ErrorKind::TimedOut));
+    }
+    slip.stage = Stage::Idle;
+    match slip.opened.take() {
+        Some(opened) => opened,
+        None => Err(io::Error::from(ErrorKind::TimedOut)),
+    }
+}
+
+/// The file at a path. None is made, and none is cut.
+fn opened<R: Files<File = File>>(rt: &R, path: &str, purpose: Purpose) -> io::Result<File> {
+    let mut how = OpenOptions::new();
+    match purpose {
+        Purpose::Read => how.read(true),
+        Purpose::Write => how.write(true),
+    };
+    how.open(rt, path)
+}
