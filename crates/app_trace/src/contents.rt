@@ -22,7 +22,7 @@ use std::cmp::Ordering;
 
 /// What is at the path of each document, in byte order of the paths, of which
 /// none is repeated. For each path the files are looked through.
-pub(crate) fn contents_of(
+pub fn contents_of(
     alloc: Global,
     files: &[File],
     held: &[HeldDocument],
@@ -129,7 +129,7 @@ fn path_content(alloc: Global, files: &[File], path: &HostPath) -> Result<PathCo
 }
 
 /// What is at a path.
-pub(crate) fn content_at(
+pub fn content_at(
     alloc: Global,
     files: &[File],
     path: &HostPath,
@@ -144,7 +144,7 @@ pub(crate) fn content_at(
 }
 
 /// What a file is.
-pub(crate) fn file_content(alloc: Global, file: &File) -> Result<Content, WantOfMemory>
+pub fn file_content(alloc: Global, file: &File) -> Result<Content, WantOfMemory>
     ensures { IfOk result (λ content. content_told content
         ≡ OfFile file.now.generation file.now.bytes file.now.moment) }
 {

@@ -105,7 +105,7 @@ fn all_brackets_within(kinds: &[WireType], limit: u32) -> bool
 }
 
 /// Says whether a type of this role stands alone, as a single complete type.
-pub(crate) fn is_single(role: Role) -> bool
+pub fn is_single(role: Role) -> bool
     ensures { result ≡ stands_alone role }
 {
     matches!(role, Role::Basic | Role::Single)

@@ -17,13 +17,13 @@ use portal_base::list::List;
 use std::alloc::Global;
 
 /// The greatest length of a signature in bytes.
-pub(crate) const LONGEST: usize = 255;
+pub const LONGEST: usize = 255;
 
 /// How many arrays may stand in each other.
-pub(crate) const MOST_ARRAYS: u32 = 32;
+pub const MOST_ARRAYS: u32 = 32;
 
 /// How many parentheses and braces may stand in each other.
-pub(crate) const MOST_BRACKETS: u32 = 32;
+pub const MOST_BRACKETS: u32 = 32;
 
 fn coded(at: usize, byte: u8) -> Result<WireType, SignatureError>
     requires { at ≤ 255 }
