@@ -9,16 +9,13 @@
 mod devices;
 mod folder;
 mod links;
+mod replaced;
 mod trees;
 
+use host_real::System;
 use std::alloc::Global;
-use std::fs::{File, Files};
 use std::io;
 use std::net::Net;
-use std::random::RandomSource;
-use std::sync::Wait;
-use std::thread::Threads;
-use std::time::Clock;
 use vector_lines::error::{VectorError, bad};
 use vector_lines::notation::cut;
 use vector_lines::program::run;
@@ -28,17 +25,15 @@ fn main(rt: HostRuntime) -> io::Result<()> {
 }
 
 /// The answer of a line.
-fn answer<
-    R: Files<File = File> + Net + Threads + Wait + Clock + RandomSource + Eprint + Copy + Send + Drop + 'static,
->(
-    rt: &R,
-    alloc: Global,
-    line: &str,
-) -> Result<String, VectorError> {
+fn answer<R: System + Net>(rt: &R, alloc: Global, line: &str) -> Result<String, VectorError> {
     let (kind, rest) = cut(line);
     match kind {
         "tree" => trees::tree(rt, alloc, rest),
         "gone" => trees::gone(rt, alloc, rest),
+        "saved" => replaced::saved(rt, alloc, rest),
+        "became" => replaced::became(rt, alloc, rest),
+        "given-up" => replaced::given_up(rt, alloc, rest),
+        "mode" => replaced::mode(rt, alloc, rest),
         "link" => folder::link(rt, alloc, rest),
         "file" => folder::file(rt, alloc, rest),
         "bind" => links::bind(rt, alloc, rest),

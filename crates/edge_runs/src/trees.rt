@@ -1,16 +1,11 @@
 //! The real tree of files.
 
-use host_real::RealTree;
+use host_real::{RealTree, System};
 use host_tree::{HostTree, LookAnswer, TreeDone, TreeRead};
 use portal_base::files::{FileName, Look};
 use portal_base::names::HostPath;
 use std::alloc::Global;
 use std::fs;
-use std::fs::{File, Files};
-use std::random::RandomSource;
-use std::sync::Wait;
-use std::thread::Threads;
-use std::time::Clock;
 use vector_lines::error::{VectorError, bad, given};
 use vector_lines::notation::{bytes, cut, debug, digits, number, small_number};
 
@@ -18,9 +13,7 @@ use vector_lines::notation::{bytes, cut, debug, digits, number, small_number};
 const KEPT: usize = 2;
 
 /// `tree ROOT STEP, STEP ..`: what each step answers over the files below a root.
-pub fn tree<
-    R: Files<File = File> + Threads + Wait + Clock + RandomSource + Eprint + Copy + Send + Drop + 'static,
->(rt: &R, alloc: Global, rest: &str) -> Result<String, VectorError> {
+pub fn tree<R: System>(rt: &R, alloc: Global, rest: &str) -> Result<String, VectorError> {
     let (root, steps) = cut(rest);
     let mut tree = given(alloc, RealTree::open(*rt, alloc, root, KEPT))?;
     let mut out = String::new(alloc);
@@ -34,9 +27,7 @@ pub fn tree<
 
 /// `gone ROOT AWAY`: what a tree shows of its root while that is moved away, and once
 /// it is back.
-pub fn gone<
-    R: Files<File = File> + Threads + Wait + Clock + RandomSource + Eprint + Copy + Send + Drop + 'static,
->(rt: &R, alloc: Global, rest: &str) -> Result<String, VectorError> {
+pub fn gone<R: System>(rt: &R, alloc: Global, rest: &str) -> Result<String, VectorError> {
     let (root, away) = cut(rest);
     let mut tree = given(alloc, RealTree::open(*rt, alloc, root, KEPT))?;
     given(alloc, fs::rename(rt, root, away))?;
@@ -75,11 +66,13 @@ fn answer<T: HostTree>(
 /// A look, of whose generation the highest bit alone is shown: the others are of the file.
 fn shown(look: LookAnswer) -> LookAnswer {
     match look {
-        LookAnswer::Is(Look::File {
-            generation,
-            size,
-            moment,
-        }) => LookAnswer::Is(Look::File {
+        LookAnswer::Is(
+            Look::File {
+                generation,
+                size,
+                moment,
+            },
+        ) => LookAnswer::Is(Look::File {
             generation: generation & 1 << 63,
             size,
             moment,

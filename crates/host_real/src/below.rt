@@ -9,19 +9,16 @@ use crate::made::MadeFiles;
 use crate::numbers::Numbers;
 use crate::opener::{Opener, Purpose};
 use crate::sight::{Kind, Sight, sight_of};
+use crate::system::System;
 use crate::way::{Place, Way};
 use portal_base::files::{FileName, Look};
 use portal_base::list::{ByteList, List};
 use portal_base::names::HostPath;
 use std::alloc::Global;
-use std::fs::{File, Files};
+use std::fs::File;
 use std::io;
 use std::io::ErrorKind;
 use std::os::fd::AsRawFd;
-use std::random::RandomSource;
-use std::sync::Wait;
-use std::thread::Threads;
-use std::time::Clock;
 
 /// What the system shows of a file.
 #[derive(Clone, Copy, PartialEq, Eq)]
@@ -43,7 +40,7 @@ enum Named {
 
 /// The files of the system below a root folder.
 #[derive(Drop)]
-pub struct FilesBelow<R: Files<File = File> + Threads + Wait + Clock> {
+pub struct FilesBelow<R: System> {
     rt: R,
     alloc: Global,
     way: Way,
@@ -53,26 +50,9 @@ pub struct FilesBelow<R: Files<File = File> + Threads + Wait + Clock> {
     made: MadeFiles,
 }
 
-impl<R> FilesBelow<R>
-where
-    R: Files<File = File>
-        + Threads
-        + Wait
-        + Clock
-        + RandomSource
-        + Eprint
-        + Copy
-        + Send
-        + Drop
-        + 'static,
-{
+impl<R: System> FilesBelow<R> {
     /// The files below a folder, of which so many are kept open.
-    pub fn open(
-        rt: R,
-        alloc: Global,
-        root: &str,
-        kept: usize,
-    ) -> Result<FilesBelow<R>, OpenError> {
+    pub fn open(rt: R, alloc: Global, root: &str, kept: usize) -> Result<FilesBelow<R>, OpenError> {
         let numbers = match Numbers::new(&rt) {
             Ok(numbers) => numbers,
             Err(error) => return Err(OpenError::System(error)),
@@ -207,22 +187,21 @@ where
             Err(error) => return Err(TreeError::from(error)),
         };
         content::set_moment(&file, now);
-        self.add_made(path, &file)
+        // It is made, whatever comes; where it can't be known which it is, its name is of the
+        // regular file at the path.
+        let _ = self.add_made(path, &file);
+        Ok(())
     }
 
-    /// Knows from now on which file was made at a path, and keeps it open.
+    /// Knows from now on which file was made at a path, and keeps it open to read.
     fn add_made(&mut self, path: &HostPath, file: &File) -> Result<(), TreeError> {
-        // It is made; where this fails, the name names the regular file at the path.
-        let Ok(sight) = sight_of(file.as_raw_fd()) else {
-            return Ok(());
-        };
-        let generation = self.numbers.generation(&sight.identity);
-        self.made.add(self.numbers.path(path.as_bytes()), generation)?;
+        let generation = self.numbers.generation(&seen(file)?.identity);
+        self.made
+            .add(self.numbers.path(path.as_bytes()), generation)?;
         let owner = self.owner_of(path);
         let link = self.way.link_to(file.as_raw_fd(), "")?;
-        if let Ok(kept) = self.opener.open(link, Purpose::Read, owner) {
-            self.kept.keep(generation, kept)?;
-        }
+        let kept = self.opener.open(link, Purpose::Read, owner)?;
+        self.kept.keep(generation, kept)?;
         Ok(())
     }
 
@@ -233,7 +212,7 @@ where
             generation => Some(generation),
         };
         if let Some(generation) = wanted {
-            if self.kept.has(generation) {
+            if self.kept.looks_at(generation) {
                 return Ok(Named::Kept(generation));
             }
         }
@@ -248,7 +227,7 @@ where
         if wanted.is_some_and(|wanted| wanted != generation) {
             return Err(TreeError::NotFile);
         }
-        if self.kept.has(generation) {
+        if self.kept.looks_at(generation) {
             return Ok(Named::Kept(generation));
         }
         Ok(Named::Shown(sight))
@@ -287,7 +266,7 @@ where
         sight: Sight,
     ) -> Result<Option<Sight>, TreeError> {
         let generation = self.numbers.generation(&sight.identity);
-        if place.is_direct() && self.kept.has(generation) {
+        if place.is_direct() && self.kept.looks_at(generation) {
             return Ok(Some(sight));
         }
         let file = match self.open_at(path, place, Purpose::Read) {
@@ -299,7 +278,7 @@ where
         if !self.is_the_file(path, place, &file, &sight)? {
             return Ok(None);
         }
-        if !self.kept.has(generation) {
+        if !self.kept.looks_at(generation) {
             self.kept.keep(generation, file)?;
         }
         Ok(Some(sight))
@@ -361,7 +340,11 @@ where
     /// application in whose own folder it is, else the folder.
     fn owner_of(&self, path: &HostPath) -> u64 {
         let bytes = path.as_bytes();
-        let depth = if bytes.starts_with(b"/app/") { 3 } else { usize::MAX };
+        let depth = if bytes.starts_with(b"/app/") {
+            3
+        } else {
+            usize::MAX
+        };
         let mut end = 0;
         let mut slashes = 0usize;
         for (at, byte) in bytes.iter().enumerate() {

@@ -69,7 +69,11 @@ pub fn write(file: &File, offset: u64, content: &[u8], now: u64) -> Result<(), T
         return Err(TreeError::System);
     };
     if let Err(error) = file.write_all_at(content, offset) {
-        cut_back(file, before.size, offset.saturating_add(content.len() as u64));
+        cut_back(
+            file,
+            before.size,
+            offset.saturating_add(content.len() as u64),
+        );
         return Err(fault(error.kind()));
     }
     set_moment(file, now);

@@ -17,6 +17,9 @@ pub fn files_beside(descriptors: u64) -> usize {
     if libc::getrlimit(libc::RLIMIT_NOFILE, &mut limit) < 0 {
         return 0;
     }
-    let left = limit.rlim_cur.saturating_sub(descriptors).saturating_sub(OTHERS);
+    let left = limit
+        .rlim_cur
+        .saturating_sub(descriptors)
+        .saturating_sub(OTHERS);
     left.min(MOST) as usize
 }

@@ -35,11 +35,15 @@ impl KeptFiles {
         })
     }
 
-    /// Says whether the file of a generation is kept. Then it is as if it was looked at now.
-    pub fn has(&mut self, generation: u64) -> bool {
+    /// Says whether the file of a generation is kept, which is looked at now.
+    pub fn looks_at(&mut self, generation: u64) -> bool {
         self.turn = self.turn.saturating_add(1);
         let turn = self.turn;
-        match self.files.iter_mut().find(|kept| kept.generation == generation) {
+        match self
+            .files
+            .iter_mut()
+            .find(|kept| kept.generation == generation)
+        {
             Some(kept) => {
                 kept.turn = turn;
                 true
@@ -52,7 +56,10 @@ impl KeptFiles {
     pub fn used(&mut self, generation: u64) -> Option<&File> {
         self.turn = self.turn.saturating_add(1);
         let turn = self.turn;
-        let kept = self.files.iter_mut().find(|kept| kept.generation == generation)?;
+        let kept = self
+            .files
+            .iter_mut()
+            .find(|kept| kept.generation == generation)?;
         kept.turn = turn;
         kept.was_used = true;
         Some(&kept.file)
@@ -81,7 +88,10 @@ impl KeptFiles {
             self.files.push(kept)?;
             return Ok(());
         }
-        let oldest = self.files.iter_mut().min_by_key(|kept| (kept.was_used, kept.turn));
+        let oldest = self
+            .files
+            .iter_mut()
+            .min_by_key(|kept| (kept.was_used, kept.turn));
         if let Some(oldest) = oldest {
             *oldest = kept;
         }

@@ -16,6 +16,7 @@
 //! | `kept`, `made` | the files that are kept open, and those that were made here |
 //! | `numbers` | the numbers by which files and paths are told apart |
 //! | `content` | the bytes of a file that is open |
+//! | `system` | what the tree takes of the system |
 //! | `descriptors` | how many files may be kept open |
 //! | `error` | why a call gave nothing, and why no tree was opened |
 //!
@@ -36,9 +37,11 @@ mod mounts;
 mod numbers;
 mod opener;
 mod sight;
+mod system;
 mod tree;
 mod way;
 
 pub use descriptors::files_beside;
 pub use error::OpenError;
+pub use system::System;
 pub use tree::RealTree;

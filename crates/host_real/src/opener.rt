@@ -5,19 +5,16 @@
 //! thread that doesn't come back is left, and another takes its place.
 
 use crate::error::OpenError;
-use portal_base::list::List;
-use std::alloc::{AllocError, Global};
-use std::fs::{File, Files, OpenOptions};
-use std::io;
+use crate::system::System;
+use std::alloc::Global;
+use std::fs::{File, OpenOptions};
 use std::io::ErrorKind;
-use std::mem;
-use std::sync::{Arc, Condvar, Mutex, Wait};
-use std::thread;
-use std::thread::Threads;
-use std::time::{Clock, Duration};
+use std::sync::{Arc, Condvar, Mutex};
+use std::time::Duration;
+use std::{io, mem, thread};
 
-/// How long one who asks waits for an open.
-const PATIENCE: Duration = Duration::from_millis(200);
+/// How long one who asks waits for an open, in milliseconds.
+const PATIENCE: u64 = 200;
 
 /// The most threads.
 const MOST_THREADS: usize = 8;
@@ -73,22 +70,27 @@ struct Helper {
     owner: u64,
 }
 
+impl Helper {
+    /// Says whether it has nothing to do.
+    fn is_idle<R: System>(&self, rt: &R) -> bool {
+        self.desk.slip.lock(rt).stage == Stage::Idle
+    }
+}
+
 /// The threads that open files.
-pub struct Opener<R: Files<File = File> + Threads + Wait + Clock> {
+pub struct Opener<R: System> {
     rt: R,
     alloc: Global,
-    helpers: List<Helper>,
+    /// There is room for all from the start.
+    helpers: Vec<Helper>,
     /// Whether it was told that no thread is left.
     was_told: bool,
 }
 
-impl<R> Opener<R>
-where
-    R: Files<File = File> + Threads + Wait + Clock + Eprint + Copy + Send + Drop + 'static,
-{
+impl<R: System> Opener<R> {
     /// One thread to begin with.
     pub fn new(rt: R, alloc: Global) -> Result<Opener<R>, OpenError> {
-        let mut helpers = List::new(alloc);
+        let mut helpers = Vec::with_capacity(alloc, MOST_THREADS)?;
         helpers.push(helper(rt, alloc)?)?;
         Ok(Opener {
             rt,
@@ -104,48 +106,42 @@ where
         let Some(at) = self.free_helper(owner)? else {
             return Err(io::Error::from(ErrorKind::TimedOut));
         };
-        match self.helpers.get(at) {
-            Some(helper) => ask(&self.rt, &helper.desk, path, purpose),
+        match self.helpers.get_mut(at) {
+            Some(helper) => {
+                helper.owner = owner;
+                ask(&self.rt, &helper.desk, path, purpose)
+            }
             None => Err(io::Error::from(ErrorKind::TimedOut)),
         }
     }
 
-    /// The place of a thread that has nothing to do, which is this owner's now.
+    /// The place of a thread that has nothing to do, where an owner may have one.
     fn free_helper(&mut self, owner: u64) -> io::Result<Option<usize>> {
         let mut free = None;
         for (at, helper) in self.helpers.iter().enumerate() {
-            if helper.desk.slip.lock(&self.rt).stage == Stage::Idle {
+            if helper.is_idle(&self.rt) {
                 free = Some(at);
             } else if helper.owner == owner {
                 return Ok(None);
             }
         }
-        let desk = match free {
-            Some(at) => match self.helpers.get(at) {
-                Some(helper) => Arc::try_clone(&helper.desk)?,
-                None => return Ok(None),
-            },
-            None if self.helpers.len() < MOST_THREADS => return self.add_helper(owner),
-            None => {
-                self.tell();
-                return Ok(None);
-            }
-        };
-        let at = free.unwrap_or(0);
-        if at < self.helpers.len() {
-            self.helpers.set(at, Helper { desk, owner });
+        if free.is_some() {
+            self.was_told = false;
+            return Ok(free);
         }
-        self.was_told = false;
-        Ok(Some(at))
+        if self.helpers.len() < MOST_THREADS {
+            return self.add_helper();
+        }
+        self.tell();
+        Ok(None)
     }
 
-    /// One more thread, for an owner.
-    fn add_helper(&mut self, owner: u64) -> io::Result<Option<usize>> {
-        let Ok(mut helper) = helper(self.rt, self.alloc) else {
+    /// One more thread. Where the system gives none there is none.
+    fn add_helper(&mut self) -> io::Result<Option<usize>> {
+        let Ok(more) = helper(self.rt, self.alloc) else {
             return Ok(None);
         };
-        helper.owner = owner;
-        if self.helpers.push(helper).is_err() {
+        if self.helpers.push(more).is_err() {
             return Err(io::Error::from(ErrorKind::OutOfMemory));
         }
         Ok(Some(self.helpers.len().saturating_sub(1)))
@@ -160,9 +156,14 @@ where
     }
 }
 
-impl<R: Files<File = File> + Threads + Wait + Clock> Drop for Opener<R> {
+impl<R: System> Drop for Opener<R> {
     fn drop(self) {
-        let Opener { rt, helpers, .. } = self;
+        let Opener {
+            rt,
+            alloc: _,
+            helpers,
+            was_told: _,
+        } = self;
         for helper in helpers.iter() {
             helper.desk.slip.lock(&rt).stage = Stage::Closed;
             helper.desk.asked.notify_one();
@@ -171,10 +172,7 @@ impl<R: Files<File = File> + Threads + Wait + Clock> Drop for Opener<R> {
 }
 
 /// A new thread that waits for what is asked.
-fn helper<R>(rt: R, alloc: Global) -> Result<Helper, OpenError>
-where
-    R: Files<File = File> + Threads + Wait + Copy + Send + Drop + 'static,
-{
+fn helper<R: System>(rt: R, alloc: Global) -> Result<Helper, OpenError> {
     let slip = Slip {
         stage: Stage::Idle,
         path: String::with_capacity(alloc, MOST_BYTES)?,
@@ -197,7 +195,7 @@ where
 }
 
 /// Makes each open that is asked for, until there won't be another.
-fn work<R: Files<File = File> + Wait>(rt: &R, alloc: Global, desk: &Desk) {
+fn work<R: System>(rt: &R, alloc: Global, desk: &Desk) {
     for _ in rt.forever() {
         let Some((path, purpose)) = next(rt, alloc, desk) else {
             return;
@@ -220,7 +218,7 @@ fn work<R: Files<File = File> + Wait>(rt: &R, alloc: Global, desk: &Desk) {
 }
 
 /// What is asked next.
-fn next<R: Wait>(rt: &R, alloc: Global, desk: &Desk) -> Option<(String, Purpose)> {
+fn next<R: System>(rt: &R, alloc: Global, desk: &Desk) -> Option<(String, Purpose)> {
     let mut slip = desk
         .asked
         .wait_while(rt, desk.slip.lock(rt), |slip| waits_for_work(slip.stage));
@@ -236,7 +234,7 @@ fn waits_for_work(stage: Stage) -> bool {
 }
 
 /// Asks for an open, and waits for it for a while.
-fn ask<R: Wait + Clock>(rt: &R, desk: &Desk, path: &str, purpose: Purpose) -> io::Result<File> {
+fn ask<R: System>(rt: &R, desk: &Desk, path: &str, purpose: Purpose) -> io::Result<File> {
     let mut slip = desk.slip.lock(rt);
     slip.path.clear();
     slip.path.push_str(path)?;
@@ -246,7 +244,9 @@ fn ask<R: Wait + Clock>(rt: &R, desk: &Desk, path: &str, purpose: Purpose) -> io
     desk.asked.notify_one();
     let (mut slip, _) = desk
         .done
-        .wait_timeout_while(rt, slip, PATIENCE, |slip| slip.stage == Stage::Asked);
+        .wait_timeout_while(rt, slip, Duration::from_millis(PATIENCE), |slip| {
+            slip.stage == Stage::Asked
+        });
     if slip.stage != Stage::Done {
         slip.stage = Stage::Left;
         return Err(io::Error::from(ErrorKind::TimedOut));
@@ -259,7 +259,7 @@ fn ask<R: Wait + Clock>(rt: &R, desk: &Desk, path: &str, purpose: Purpose) -> io
 }
 
 /// The file at a path. None is made, and none is cut.
-fn opened<R: Files<File = File>>(rt: &R, path: &str, purpose: Purpose) -> io::Result<File> {
+fn opened<R: System>(rt: &R, path: &str, purpose: Purpose) -> io::Result<File> {
     let mut how = OpenOptions::new();
     match purpose {
         Purpose::Read => how.read(true),

@@ -79,8 +79,16 @@ fn sight(found: &statx) -> Sight {
         identity: Identity {
             device: device(found.stx_dev_major, found.stx_dev_minor),
             inode: found.stx_ino,
-            birth: if tells_birth { found.stx_btime.tv_sec } else { 0 },
-            birth_nanos: if tells_birth { found.stx_btime.tv_nsec } else { 0 },
+            birth: if tells_birth {
+                found.stx_btime.tv_sec
+            } else {
+                0
+            },
+            birth_nanos: if tells_birth {
+                found.stx_btime.tv_nsec
+            } else {
+                0
+            },
         },
         size: found.stx_size,
         moment: u64::try_from(found.stx_mtime.tv_sec).unwrap_or(0),

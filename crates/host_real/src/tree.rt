@@ -6,16 +6,12 @@ ghost use Rattle.host_tree.specs.Trees.{is_done_fault};
 
 use crate::below::{Attributes, FilesBelow};
 use crate::error::{OpenError, TreeError};
+use crate::system::System;
 use host_tree::{AttrAnswer, HostTree, LookAnswer, TreeDone, TreeRead};
 use portal_base::files::FileName;
 use portal_base::names::HostPath;
 use std::alloc::Global;
-use std::fs::{File, Files};
 use std::marker::Model;
-use std::random::RandomSource;
-use std::sync::Wait;
-use std::thread::Threads;
-use std::time::Clock;
 
 /// The files of the system below a root folder, which contracts see as a count of
 /// faults.
@@ -28,12 +24,12 @@ use std::time::Clock;
 /// system interrupts is made again; each other error of the system is a fault, but for
 /// those that say that no file is there.
 #[derive(Drop)]
-pub struct RealTree<R: Files<File = File> + Threads + Wait + Clock> {
+pub struct RealTree<R: System> {
     below: FilesBelow<R>,
     faults: u64,
 }
 
-impl<R: Files<File = File> + Threads + Wait + Clock> Model for RealTree<R> {
+impl<R: System> Model for RealTree<R> {
     ghost use Rattle.std.specs.Prelude.{ℕ};
 
     ghost Value = { ℕ };
@@ -41,19 +37,7 @@ impl<R: Files<File = File> + Threads + Wait + Clock> Model for RealTree<R> {
     ghost view = { λ t. t.faults };
 }
 
-impl<R> RealTree<R>
-where
-    R: Files<File = File>
-        + Threads
-        + Wait
-        + Clock
-        + RandomSource
-        + Eprint
-        + Copy
-        + Send
-        + Drop
-        + 'static,
-{
+impl<R: System> RealTree<R> {
     /// The tree of the files below a folder, without faults so far, which keeps at most so
     /// many of them open. The root may be reached by links; it has to be a folder that can
     /// be read, and `/proc` has to be mounted.
@@ -89,19 +73,7 @@ where
     }
 }
 
-impl<R> HostTree for RealTree<R>
-where
-    R: Files<File = File>
-        + Threads
-        + Wait
-        + Clock
-        + RandomSource
-        + Eprint
-        + Copy
-        + Send
-        + Drop
-        + 'static,
-{
+impl<R: System> HostTree for RealTree<R> {
     ghost use Rattle.std.specs.Prelude.{None};
 
     ghost is = { λ count. record { began = None; told = None; faults = count; calls = None } };

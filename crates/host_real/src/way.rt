@@ -3,14 +3,13 @@
 use crate::error::{OpenError, TreeError, is_missing, is_refused};
 use crate::folder::Folder;
 use crate::mounts::kernels_own;
-use crate::sight::{Kind, Sight};
+use crate::sight::Sight;
 use libc::PATH_MAX;
 use portal_base::list::List;
 use portal_base::names::HostPath;
-use std::alloc::Global;
+use std::alloc::{AllocError, Global};
 use std::fs::{Files, metadata};
 use std::io;
-use std::os::unix::fs::MetadataExt;
 
 /// The most bytes of a link in `/proc` to what is open by a number, or to a name in it.
 const MOST_BYTES: usize = 4_200;
@@ -71,7 +70,7 @@ impl Way {
         };
         self.link_to(root.number(), "")?;
         match (metadata(files, self.link.as_str()), root.device()) {
-            (Ok(linked), Ok(_)) if linked.is_dir() && linked.ino() > 0 => Ok(()),
+            (Ok(linked), Ok(_)) if linked.is_dir() => Ok(()),
             _ => Err(OpenError::NoProc),
         }
     }
@@ -144,7 +143,8 @@ impl Way {
         let Some(here) = self.real_path(number, &mut here)? else {
             return Ok(false);
         };
-        let above = if above == b"/" { b"" } else { above };
+        // The root of the system has its own slash at the end; no other folder has one.
+        let above = above.strip_suffix(b"/").unwrap_or(above);
         Ok(here.strip_prefix(above) == Some(path.as_bytes()))
     }
 
@@ -163,7 +163,7 @@ impl Way {
     }
 
     /// The link to what is open by a number, or to a name in it.
-    pub fn link_to(&mut self, number: i32, name: &str) -> Result<&str, TreeError> {
+    pub fn link_to(&mut self, number: i32, name: &str) -> Result<&str, AllocError> {
         self.link.clear();
         write!(self.link, "/proc/self/fd/{number}")?;
         if !name.is_empty() {
@@ -178,15 +178,6 @@ impl Way {
         match place.folder.below(place.name) {
             Ok(folder) => self.is_step(&folder, place.name, path),
             Err(_) => Ok(false),
-        }
-    }
-}
-
-impl From<TreeError> for OpenError {
-    fn from(error: TreeError) -> OpenError {
-        match error {
-            TreeError::Memory => OpenError::Memory,
-            _ => OpenError::NotFolder,
         }
     }
 }
