@@ -8,7 +8,7 @@ use crate::kept::KeptFiles;
 use crate::made::MadeFiles;
 use crate::numbers::Numbers;
 use crate::opener::{Opener, Purpose};
-use crate::sight::{Kind, Sight, sight_of};
+use crate::sight::{Kind, Sight};
 use crate::system::System;
 use crate::way::{Place, Way};
 use portal_base::files::{FileName, Look};
@@ -43,7 +43,7 @@ enum Named {
 pub struct FilesBelow<R: System> {
     rt: R,
     alloc: Global,
-    way: Way,
+    way: Way<R>,
     opener: Opener<R>,
     numbers: Numbers,
     kept: KeptFiles,
@@ -60,7 +60,7 @@ impl<R: System> FilesBelow<R> {
         Ok(FilesBelow {
             rt,
             alloc,
-            way: Way::open(&rt, alloc, root)?,
+            way: Way::open(rt, alloc, root)?,
             opener: Opener::new(rt, alloc)?,
             numbers,
             kept: KeptFiles::new(alloc, kept)?,
@@ -169,7 +169,7 @@ impl<R: System> FilesBelow<R> {
         if place.name.is_empty() {
             return Err(TreeError::NotFile);
         }
-        match place.sight() {
+        match self.way.sight(&place) {
             Ok(_) => return Err(TreeError::NotFile),
             Err(error) if error.kind() == ErrorKind::NotFound && place.is_direct() => {}
             Err(error) if error.kind() == ErrorKind::NotADirectory => {
@@ -239,9 +239,10 @@ impl<R: System> FilesBelow<R> {
         if place.name.is_empty() {
             return Ok(None);
         }
-        let sight = match place.sight() {
+        let sight = match self.way.sight(place) {
             Ok(sight) => sight,
-            Err(error) if is_missing(&error) => return Ok(None),
+            // A place that isn't direct may be outside: then nothing is told of it.
+            Err(error) if is_missing(&error) || !place.is_direct() => return Ok(None),
             Err(_) => return Err(TreeError::System),
         };
         if self.way.is_kernels_own(sight.identity.device) {
@@ -359,8 +360,8 @@ impl<R: System> FilesBelow<R> {
 
 /// What the system shows of a file that is open.
 fn seen(file: &File) -> Result<Sight, TreeError> {
-    match sight_of(file.as_raw_fd()) {
-        Ok(sight) => Ok(sight),
+    match file.metadata() {
+        Ok(metadata) => Ok(Sight::of(&metadata)),
         Err(_) => Err(TreeError::System),
     }
 }

@@ -3,12 +3,10 @@
 ghost use Rattle.std.specs.Prelude.{◌≤◌, length, IfOk};
 
 use crate::error::TreeError;
-use crate::sight::sight_of;
 use portal_base::list::{ByteList, List};
 use std::alloc::Global;
 use std::fs::{File, FileTimes};
 use std::io::ErrorKind;
-use std::os::fd::AsRawFd;
 use std::os::unix::fs::FileExt;
 use std::time::{Duration, UNIX_EPOCH};
 
@@ -65,15 +63,12 @@ fn read_more(
 /// Writes over the bytes from an offset on. Where it fails in the midst, what it made
 /// longer is cut back; bytes that it wrote over are lost.
 pub fn write(file: &File, offset: u64, content: &[u8], now: u64) -> Result<(), TreeError> {
-    let Ok(before) = sight_of(file.as_raw_fd()) else {
-        return Err(TreeError::System);
+    let before = match file.metadata() {
+        Ok(metadata) => metadata.len(),
+        Err(error) => return Err(fault(error.kind())),
     };
     if let Err(error) = file.write_all_at(content, offset) {
-        cut_back(
-            file,
-            before.size,
-            offset.saturating_add(content.len() as u64),
-        );
+        cut_back(file, before, offset.saturating_add(content.len() as u64));
         return Err(fault(error.kind()));
     }
     set_moment(file, now);
@@ -83,8 +78,8 @@ pub fn write(file: &File, offset: u64, content: &[u8], now: u64) -> Result<(), T
 /// Cuts a file back to the length that it had, where a write made it longer: one that ends
 /// beyond the write was made longer by somebody else.
 fn cut_back(file: &File, len: u64, end: u64) {
-    if let Ok(after) = sight_of(file.as_raw_fd()) {
-        if after.size > len && after.size <= end {
+    if let Ok(after) = file.metadata() {
+        if after.len() > len && after.len() <= end {
             let _ = file.set_len(len);
         }
     }

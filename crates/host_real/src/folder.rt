@@ -1,6 +1,5 @@
 //! A folder that is open.
 
-use crate::sight::{Sight, sight_at, sight_of};
 use std::io;
 
 /// A folder that is open, by its number, until it is dropped.
@@ -20,17 +19,7 @@ impl Folder {
         opened(self.number, name)
     }
 
-    /// What stands at a name in it.
-    pub fn sight(&self, name: &str) -> io::Result<Sight> {
-        sight_at(self.number, name.as_bytes())
-    }
-
-    /// The number of its device.
-    pub fn device(&self) -> io::Result<u64> {
-        Ok(sight_of(self.number)?.identity.device)
-    }
-
-    /// Its own number.
+    /// Its number.
     pub fn number(&self) -> i32 {
         self.number
     }

@@ -27,8 +27,8 @@ impl Numbers {
         let mut hasher = self.keys.build_hasher();
         hasher.write_u64(file.device);
         hasher.write_u64(file.inode);
-        hasher.write_u64(file.birth.cast_unsigned());
-        hasher.write_u32(file.birth_nanos);
+        hasher.write_u64(file.birth.as_secs());
+        hasher.write_u32(file.birth.subsec_nanos());
         hasher.finish() | LOOKED_AT
     }
 

@@ -7,14 +7,17 @@
 use crate::error::OpenError;
 use crate::system::System;
 use std::alloc::Global;
-use std::fs::{File, OpenOptions};
+use std::fs::{File, Files, OpenOptions};
 use std::io::ErrorKind;
-use std::sync::{Arc, Condvar, Mutex};
+use std::sync::{Arc, Condvar, Mutex, MutexGuard, Wait};
 use std::time::Duration;
 use std::{io, mem, thread};
 
-/// How long one who asks waits for an open, in milliseconds.
-const PATIENCE: u64 = 200;
+/// How long one who asks waits before he looks how far an open is, in milliseconds.
+const PATIENCE: u64 = 100;
+
+/// How often he waits for a thread that didn't begin: where others have all processors.
+const MOST_WAITS: usize = 20;
 
 /// The most threads.
 const MOST_THREADS: usize = 8;
@@ -38,6 +41,8 @@ enum Stage {
     Idle,
     /// It was asked for.
     Asked,
+    /// A thread makes it.
+    Begun,
     /// It is made, or failed.
     Done,
     /// Nobody waits for it any more.
@@ -91,7 +96,7 @@ impl<R: System> Opener<R> {
     /// One thread to begin with.
     pub fn new(rt: R, alloc: Global) -> Result<Opener<R>, OpenError> {
         let mut helpers = Vec::with_capacity(alloc, MOST_THREADS)?;
-        helpers.push(helper(rt, alloc)?)?;
+        helpers.push(new_helper(rt, alloc)?)?;
         Ok(Opener {
             rt,
             alloc,
@@ -138,7 +143,7 @@ impl<R: System> Opener<R> {
 
     /// One more thread. Where the system gives none there is none.
     fn add_helper(&mut self) -> io::Result<Option<usize>> {
-        let Ok(more) = helper(self.rt, self.alloc) else {
+        let Ok(more) = new_helper(self.rt, self.alloc) else {
             return Ok(None);
         };
         if self.helpers.push(more).is_err() {
@@ -172,7 +177,10 @@ impl<R: System> Drop for Opener<R> {
 }
 
 /// A new thread that waits for what is asked.
-fn helper<R: System>(rt: R, alloc: Global) -> Result<Helper, OpenError> {
+fn new_helper<R>(rt: R, alloc: Global) -> Result<Helper, OpenError>
+where
+    R: Files<File = File> + Threads + Wait + Copy + Send + Drop + 'static,
+{
     let slip = Slip {
         stage: Stage::Idle,
         path: String::with_capacity(alloc, MOST_BYTES)?,
@@ -195,7 +203,7 @@ fn helper<R: System>(rt: R, alloc: Global) -> Result<Helper, OpenError> {
 }
 
 /// Makes each open that is asked for, until there won't be another.
-fn work<R: System>(rt: &R, alloc: Global, desk: &Desk) {
+fn work<R: Files<File = File> + Wait>(rt: &R, alloc: Global, desk: &Desk) {
     for _ in rt.forever() {
         let Some((path, purpose)) = next(rt, alloc, desk) else {
             return;
@@ -204,7 +212,7 @@ fn work<R: System>(rt: &R, alloc: Global, desk: &Desk) {
         let mut slip = desk.slip.lock(rt);
         slip.path = path;
         match slip.stage {
-            Stage::Asked => {
+            Stage::Begun => {
                 slip.opened = Some(opened);
                 slip.stage = Stage::Done;
             }
@@ -218,13 +226,14 @@ fn work<R: System>(rt: &R, alloc: Global, desk: &Desk) {
 }
 
 /// What is asked next.
-fn next<R: System>(rt: &R, alloc: Global, desk: &Desk) -> Option<(String, Purpose)> {
+fn next<R: Wait>(rt: &R, alloc: Global, desk: &Desk) -> Option<(String, Purpose)> {
     let mut slip = desk
         .asked
         .wait_while(rt, desk.slip.lock(rt), |slip| waits_for_work(slip.stage));
     if slip.stage == Stage::Closed {
         return None;
     }
+    slip.stage = Stage::Begun;
     let path = mem::replace(&mut slip.path, String::new(alloc));
     Some((path, slip.purpose))
 }
@@ -242,14 +251,18 @@ fn ask<R: System>(rt: &R, desk: &Desk, path: &str, purpose: Purpose) -> io::Resu
     slip.opened = None;
     slip.stage = Stage::Asked;
     desk.asked.notify_one();
-    let (mut slip, _) = desk
-        .done
-        .wait_timeout_while(rt, slip, Duration::from_millis(PATIENCE), |slip| {
-            slip.stage == Stage::Asked
-        });
-    if slip.stage != Stage::Done {
-        slip.stage = Stage::Left;
-        return Err(io::Error::from(ErrorKind::TimedOut));
+    let mut slip = wait_for(rt, desk, slip);
+    match slip.stage {
+        Stage::Done => {}
+        Stage::Begun => {
+            slip.stage = Stage::Left;
+            return Err(io::Error::from(ErrorKind::TimedOut));
+        }
+        // No thread took it, and none will.
+        _ => {
+            slip.stage = Stage::Idle;
+            return Err(io::Error::from(ErrorKind::TimedOut));
+        }
     }
     slip.stage = Stage::Idle;
     match slip.opened.take() {
@@ -258,8 +271,34 @@ fn ask<R: System>(rt: &R, desk: &Desk, path: &str, purpose: Purpose) -> io::Resu
     }
 }
 
+/// Waits until an open is done, or the thread that makes it had the time of one wait and
+/// didn't come back.
+fn wait_for<'a, R: System>(
+    rt: &R,
+    desk: &'a Desk,
+    slip: MutexGuard<'a, Slip>,
+) -> MutexGuard<'a, Slip> {
+    let mut slip = slip;
+    for _ in 0..MOST_WAITS {
+        let had_begun = slip.stage == Stage::Begun;
+        let patience = Duration::from_millis(PATIENCE);
+        let (guard, _) = desk
+            .done
+            .wait_timeout_while(rt, slip, patience, |slip| is_under_way(slip.stage));
+        slip = guard;
+        if had_begun || !is_under_way(slip.stage) {
+            break;
+        }
+    }
+    slip
+}
+
+fn is_under_way(stage: Stage) -> bool {
+    stage == Stage::Asked || stage == Stage::Begun
+}
+
 /// The file at a path. None is made, and none is cut.
-fn opened<R: System>(rt: &R, path: &str, purpose: Purpose) -> io::Result<File> {
+fn opened<R: Files<File = File>>(rt: &R, path: &str, purpose: Purpose) -> io::Result<File> {
     let mut how = OpenOptions::new();
     match purpose {
         Purpose::Read => how.read(true),

@@ -1,20 +1,18 @@
 //! What stands at a name, and which file it is.
 
-use libc::types::{statx, statx_timestamp};
-use std::io;
+use std::fs::Metadata;
+use std::os::unix::fs::MetadataExt;
+use std::time::{Duration, UNIX_EPOCH};
 
-/// Which file it is: the numbers of its device and on it, and when it was made, in seconds
-/// and parts of one, where the file system tells.
+/// Which file it is.
 #[derive(Clone, Copy, PartialEq, Eq)]
 pub struct Identity {
-    /// The device.
+    /// The number of its device.
     pub device: u64,
-    /// The number on the device.
+    /// Its number on the device.
     pub inode: u64,
-    /// When it was made, in seconds.
-    pub birth: i64,
-    /// The nanoseconds behind these.
-    pub birth_nanos: u32,
+    /// When it was made, from 1970 on, where the file system tells.
+    pub birth: Duration,
 }
 
 /// What stands somewhere.
@@ -42,97 +40,40 @@ pub struct Sight {
 }
 
 impl Sight {
+    /// What is shown by this.
+    pub fn of(metadata: &Metadata) -> Sight {
+        let kind = if metadata.is_dir() {
+            Kind::Folder
+        } else if metadata.is_file() {
+            Kind::File
+        } else {
+            Kind::Other
+        };
+        Sight {
+            kind,
+            identity: Identity {
+                device: metadata.dev(),
+                inode: metadata.ino(),
+                birth: birth(metadata),
+            },
+            size: metadata.len(),
+            moment: u64::try_from(metadata.mtime()).unwrap_or(0),
+        }
+    }
+
     /// Says whether it is this regular file.
     pub fn is_file(&self, identity: &Identity) -> bool {
         self.kind == Kind::File && self.identity == *identity
     }
 }
 
-/// What stands at a name in a folder that is open by this number; a link at its end isn't
-/// followed.
-pub fn sight_at(folder: i32, name: &[u8]) -> io::Result<Sight> {
-    look(folder, name, libc::AT_SYMLINK_NOFOLLOW)
-}
-
-/// What is open by a number.
-pub fn sight_of(number: i32) -> io::Result<Sight> {
-    look(number, b"", libc::AT_EMPTY_PATH)
-}
-
-fn look(folder: i32, name: &[u8], flags: i32) -> io::Result<Sight> {
-    let mut found = nothing();
-    if os::statx(folder, name, flags, &mut found) < 0 {
-        return Err(io::Error::from_raw_os_error(os::errno()));
-    }
-    Ok(sight(&found))
-}
-
-fn sight(found: &statx) -> Sight {
-    let kind = match u32::from(found.stx_mode) & libc::S_IFMT {
-        libc::S_IFDIR => Kind::Folder,
-        libc::S_IFREG => Kind::File,
-        _ => Kind::Other,
+/// When it was made, or none where that isn't told.
+fn birth(metadata: &Metadata) -> Duration {
+    let Ok(made) = metadata.created() else {
+        return Duration::ZERO;
     };
-    let tells_birth = found.stx_mask & libc::STATX_BTIME != 0;
-    Sight {
-        kind,
-        identity: Identity {
-            device: device(found.stx_dev_major, found.stx_dev_minor),
-            inode: found.stx_ino,
-            birth: if tells_birth {
-                found.stx_btime.tv_sec
-            } else {
-                0
-            },
-            birth_nanos: if tells_birth {
-                found.stx_btime.tv_nsec
-            } else {
-                0
-            },
-        },
-        size: found.stx_size,
-        moment: u64::try_from(found.stx_mtime.tv_sec).unwrap_or(0),
-    }
-}
-
-/// The number of a device, of the two that the system gives it.
-pub fn device(major: u32, minor: u32) -> u64 {
-    u64::from(major) << 32 | u64::from(minor)
-}
-
-fn nothing() -> statx {
-    statx {
-        stx_mask: 0,
-        stx_blksize: 0,
-        stx_attributes: 0,
-        stx_nlink: 0,
-        stx_uid: 0,
-        stx_gid: 0,
-        stx_mode: 0,
-        __spare0: [0],
-        stx_ino: 0,
-        stx_size: 0,
-        stx_blocks: 0,
-        stx_attributes_mask: 0,
-        stx_atime: never(),
-        stx_btime: never(),
-        stx_ctime: never(),
-        stx_mtime: never(),
-        stx_rdev_major: 0,
-        stx_rdev_minor: 0,
-        stx_dev_major: 0,
-        stx_dev_minor: 0,
-        stx_mnt_id: 0,
-        stx_dio_mem_align: 0,
-        stx_dio_offset_align: 0,
-        __spare3: [0; 12],
-    }
-}
-
-fn never() -> statx_timestamp {
-    statx_timestamp {
-        tv_sec: 0,
-        tv_nsec: 0,
-        __reserved: 0,
+    match made.duration_since(UNIX_EPOCH) {
+        Ok(birth) => birth,
+        Err(_) => Duration::ZERO,
     }
 }

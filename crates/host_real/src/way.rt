@@ -4,19 +4,22 @@ use crate::error::{OpenError, TreeError, is_missing, is_refused};
 use crate::folder::Folder;
 use crate::mounts::kernels_own;
 use crate::sight::Sight;
+use crate::system::System;
 use libc::PATH_MAX;
 use portal_base::list::List;
 use portal_base::names::HostPath;
 use std::alloc::{AllocError, Global};
-use std::fs::{Files, metadata};
-use std::io;
+use std::io::ErrorKind;
+use std::os::unix::fs::MetadataExt;
+use std::{fs, io};
 
 /// The most bytes of a link in `/proc` to what is open by a number, or to a name in it.
 const MOST_BYTES: usize = 4_200;
 
 /// The root, and what is kept from a way down.
 #[derive(Drop)]
-pub struct Way {
+pub struct Way<R: System> {
+    rt: R,
     /// The path of the root, with a slash at its end.
     root: String,
     /// The devices that no step leads onto.
@@ -40,37 +43,33 @@ impl<'a> Place<'a> {
     pub fn is_direct(&self) -> bool {
         !self.name.contains('/')
     }
-
-    /// What stands there. Where the place isn't direct, a link may have led elsewhere.
-    pub fn sight(&self) -> io::Result<Sight> {
-        self.folder.sight(self.name)
-    }
 }
 
-impl Way {
+impl<R: System> Way<R> {
     /// The way from a root, which may be reached by links.
-    pub fn open<R: Files>(files: &R, alloc: Global, root: &str) -> Result<Way, OpenError> {
+    pub fn open(rt: R, alloc: Global, root: &str) -> Result<Way<R>, OpenError> {
         let mut path = String::from_str(alloc, root.trim_end_matches('/'))?;
         path.push('/')?;
         let mut way = Way {
+            rt,
             root: path,
-            kernels_own: kernels_own(files, alloc)?,
+            kernels_own: kernels_own(&rt, alloc)?,
             link: String::with_capacity(alloc, MOST_BYTES)?,
         };
-        way.try_root(files)?;
+        way.try_root()?;
         Ok(way)
     }
 
     /// Looks whether the root can be entered, and reached by its number.
-    fn try_root<R: Files>(&mut self, files: &R) -> Result<(), OpenError> {
+    fn try_root(&mut self) -> Result<(), OpenError> {
         let root = match Folder::open(self.root.as_str()) {
             Ok(root) => root,
             Err(error) if is_missing(&error) => return Err(OpenError::NotFolder),
             Err(error) => return Err(OpenError::System(error)),
         };
         self.link_to(root.number(), "")?;
-        match (metadata(files, self.link.as_str()), root.device()) {
-            (Ok(linked), Ok(_)) if linked.is_dir() => Ok(()),
+        match fs::metadata(&self.rt, self.link.as_str()) {
+            Ok(linked) if linked.is_dir() => Ok(()),
             _ => Err(OpenError::NoProc),
         }
     }
@@ -116,13 +115,22 @@ impl Way {
     /// Says whether a folder that was opened by a name is a step of the way, which leads to
     /// this path.
     fn is_step(&mut self, folder: &Folder, name: &str, meant: &str) -> Result<bool, TreeError> {
-        let Ok(device) = folder.device() else {
-            return Err(TreeError::System);
-        };
-        if self.is_kernels_own(device) {
-            return Ok(false);
+        self.link_to(folder.number(), "")?;
+        match fs::metadata(&self.rt, self.link.as_str()) {
+            Ok(metadata) if self.is_kernels_own(metadata.dev()) => return Ok(false),
+            Ok(_) => {}
+            Err(_) => return Err(TreeError::System),
         }
         Ok(!name.contains('/') || self.is_at(folder.number(), meant)?)
+    }
+
+    /// What stands at a place; a link at its end isn't followed. Where the place isn't
+    /// direct, another may have led elsewhere.
+    pub fn sight(&mut self, place: &Place<'_>) -> io::Result<Sight> {
+        if self.link_to(place.folder.number(), place.name).is_err() {
+            return Err(io::Error::from(ErrorKind::OutOfMemory));
+        }
+        Ok(Sight::of(&fs::symlink_metadata(&self.rt, self.link.as_str())?))
     }
 
     /// Says whether a device is one of the kernel's own.
