@@ -10,6 +10,7 @@ use std::alloc::Global;
 use std::fs::{File, Files, OpenOptions};
 use std::io::ErrorKind;
 use std::sync::{Arc, Condvar, Mutex, MutexGuard, Wait};
+use std::thread::Threads;
 use std::time::Duration;
 use std::{io, mem, thread};
 
