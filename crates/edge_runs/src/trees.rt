@@ -13,9 +13,14 @@ use vector_lines::notation::{bytes, cut, debug, digits, number, small_number};
 const KEPT: usize = 2;
 
 /// `tree ROOT STEP, STEP ..`: what each step answers over the files below a root.
-pub fn tree<R: System>(rt: &R, alloc: Global, rest: &str) -> Result<String, VectorError> {
+pub fn tree<R: System>(
+    rt: &R,
+    system: &HostRuntime,
+    alloc: Global,
+    rest: &str,
+) -> Result<String, VectorError> {
     let (root, steps) = cut(rest);
-    let mut tree = given(alloc, RealTree::open(*rt, alloc, root, KEPT))?;
+    let mut tree = given(alloc, RealTree::open(*rt, *system, alloc, root, KEPT))?;
     let mut out = String::new(alloc);
     for step in steps.split(',') {
         let (kind, rest) = cut(step.trim());
@@ -27,12 +32,17 @@ pub fn tree<R: System>(rt: &R, alloc: Global, rest: &str) -> Result<String, Vect
 
 /// `gone ROOT AWAY`: what a tree shows of its root while that is moved away, and once
 /// it is back.
-pub fn gone<R: System>(rt: &R, alloc: Global, rest: &str) -> Result<String, VectorError> {
+pub fn gone<R: System>(
+    rt: &R,
+    system: &HostRuntime,
+    alloc: Global,
+    rest: &str,
+) -> Result<String, VectorError> {
     let (root, away) = cut(rest);
-    let mut tree = given(alloc, RealTree::open(*rt, alloc, root, KEPT))?;
-    given(alloc, fs::rename(rt, root, away))?;
+    let mut tree = given(alloc, RealTree::open(*rt, *system, alloc, root, KEPT))?;
+    given(alloc, fs::rename(system, root, away))?;
     let mut out = answer(alloc, &mut tree, "look", "/")?;
-    given(alloc, fs::rename(rt, away, root))?;
+    given(alloc, fs::rename(system, away, root))?;
     out.push_str("; ")?;
     out.push_str(answer(alloc, &mut tree, "look", "/")?.as_str())?;
     Ok(out)

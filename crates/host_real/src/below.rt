@@ -41,9 +41,9 @@ enum Named {
 /// The files of the system below a root folder.
 #[derive(Drop)]
 pub struct FilesBelow<R: System> {
-    rt: R,
+    files: HostRuntime,
     alloc: Global,
-    way: Way<R>,
+    way: Way,
     opener: Opener<R>,
     numbers: Numbers,
     kept: KeptFiles,
@@ -52,16 +52,22 @@ pub struct FilesBelow<R: System> {
 
 impl<R: System> FilesBelow<R> {
     /// The files below a folder, of which so many are kept open.
-    pub fn open(rt: R, alloc: Global, root: &str, kept: usize) -> Result<FilesBelow<R>, OpenError> {
-        let numbers = match Numbers::new(&rt) {
+    pub fn open(
+        rt: R,
+        files: HostRuntime,
+        alloc: Global,
+        root: &str,
+        kept: usize,
+    ) -> Result<FilesBelow<R>, OpenError> {
+        let numbers = match Numbers::new(&files) {
             Ok(numbers) => numbers,
             Err(error) => return Err(OpenError::System(error)),
         };
         Ok(FilesBelow {
-            rt,
+            files,
             alloc,
-            way: Way::open(rt, alloc, root)?,
-            opener: Opener::new(rt, alloc)?,
+            way: Way::open(files, alloc, root)?,
+            opener: Opener::new(rt, files, alloc)?,
             numbers,
             kept: KeptFiles::new(alloc, kept)?,
             made: MadeFiles::new(alloc)?,
@@ -179,7 +185,7 @@ impl<R: System> FilesBelow<R> {
         }
         // What is made so is new: a link at the name isn't followed, and nothing is opened.
         let link = self.way.link_to(place.folder.number(), place.name)?;
-        let file = match File::create_new(&self.rt, link) {
+        let file = match File::create_new(&self.files, link) {
             Ok(file) => file,
             Err(error) if error.kind() == ErrorKind::AlreadyExists => {
                 return Err(TreeError::NotFile);

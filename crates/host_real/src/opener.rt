@@ -7,7 +7,7 @@
 use crate::error::OpenError;
 use crate::system::System;
 use std::alloc::Global;
-use std::fs::{File, Files, OpenOptions};
+use std::fs::{File, OpenOptions};
 use std::io::ErrorKind;
 use std::sync::{Arc, Condvar, Mutex, MutexGuard, Wait};
 use std::thread::Threads;
@@ -86,6 +86,7 @@ impl Helper {
 /// The threads that open files.
 pub struct Opener<R: System> {
     rt: R,
+    files: HostRuntime,
     alloc: Global,
     /// There is room for all from the start.
     helpers: Vec<Helper>,
@@ -95,11 +96,12 @@ pub struct Opener<R: System> {
 
 impl<R: System> Opener<R> {
     /// One thread to begin with.
-    pub fn new(rt: R, alloc: Global) -> Result<Opener<R>, OpenError> {
+    pub fn new(rt: R, files: HostRuntime, alloc: Global) -> Result<Opener<R>, OpenError> {
         let mut helpers = Vec::with_capacity(alloc, MOST_THREADS)?;
-        helpers.push(new_helper(rt, alloc)?)?;
+        helpers.push(new_helper(rt, files, alloc)?)?;
         Ok(Opener {
             rt,
+            files,
             alloc,
             helpers,
             was_told: false,
@@ -144,7 +146,7 @@ impl<R: System> Opener<R> {
 
     /// One more thread. Where the system gives none there is none.
     fn add_helper(&mut self) -> io::Result<Option<usize>> {
-        let Ok(more) = new_helper(self.rt, self.alloc) else {
+        let Ok(more) = new_helper(self.rt, self.files, self.alloc) else {
             return Ok(None);
         };
         if self.helpers.push(more).is_err() {
@@ -157,7 +159,9 @@ impl<R: System> Opener<R> {
     fn tell(&mut self) {
         if !self.was_told {
             self.was_told = true;
-            let _ = self.rt.eprintln("docportal: opens of files don't come back; no more are made");
+            let _ = self.files.eprintln(
+                "docportal: opens of files don't come back; no more are made",
+            );
         }
     }
 }
@@ -166,6 +170,7 @@ impl<R: System> Drop for Opener<R> {
     fn drop(self) {
         let Opener {
             rt,
+            files: _,
             alloc: _,
             helpers,
             was_told: _,
@@ -178,9 +183,9 @@ impl<R: System> Drop for Opener<R> {
 }
 
 /// A new thread that waits for what is asked.
-fn new_helper<R>(rt: R, alloc: Global) -> Result<Helper, OpenError>
+fn new_helper<R>(rt: R, files: HostRuntime, alloc: Global) -> Result<Helper, OpenError>
 where
-    R: Files<File = File> + Threads + Wait + Copy + Send + Drop + 'static,
+    R: Threads + Wait + Copy + Send + Drop + 'static,
 {
     let slip = Slip {
         stage: Stage::Idle,
@@ -197,19 +202,19 @@ where
         },
     )?;
     let theirs = Arc::try_clone(&desk)?;
-    match thread::spawn(&rt, move || work(&rt, alloc, &theirs)) {
+    match thread::spawn(&rt, move || work(&rt, &files, alloc, &theirs)) {
         Ok(_) => Ok(Helper { desk, owner: 0 }),
         Err(_) => Err(OpenError::NoThread),
     }
 }
 
 /// Makes each open that is asked for, until there won't be another.
-fn work<R: Files<File = File> + Wait>(rt: &R, alloc: Global, desk: &Desk) {
+fn work<R: Wait>(rt: &R, files: &HostRuntime, alloc: Global, desk: &Desk) {
     for _ in rt.forever() {
         let Some((path, purpose)) = next(rt, alloc, desk) else {
             return;
         };
-        let opened = opened(rt, path.as_str(), purpose);
+        let opened = opened(files, path.as_str(), purpose);
         let mut slip = desk.slip.lock(rt);
         slip.path = path;
         match slip.stage {
@@ -299,11 +304,11 @@ fn is_under_way(stage: Stage) -> bool {
 }
 
 /// The file at a path. None is made, and none is cut.
-fn opened<R: Files<File = File>>(rt: &R, path: &str, purpose: Purpose) -> io::Result<File> {
+fn opened(files: &HostRuntime, path: &str, purpose: Purpose) -> io::Result<File> {
     let mut how = OpenOptions::new();
     match purpose {
         Purpose::Read => how.read(true),
         Purpose::Write => how.write(true),
     };
-    how.open(rt, path)
+    how.open(files, path)
 }

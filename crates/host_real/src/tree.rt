@@ -41,11 +41,17 @@ impl<R: System> RealTree<R> {
     /// The tree of the files below a folder, without faults so far, which keeps at most so
     /// many of them open. The root may be reached by links; it has to be a folder that can
     /// be read, and `/proc` has to be mounted.
-    pub fn open(rt: R, alloc: Global, root: &str, kept: usize) -> Result<RealTree<R>, OpenError>
+    pub fn open(
+        rt: R,
+        files: HostRuntime,
+        alloc: Global,
+        root: &str,
+        kept: usize,
+    ) -> Result<RealTree<R>, OpenError>
         ensures { IfOk result (λ tree. tree ≡ 0) }
     {
         Ok(RealTree {
-            below: FilesBelow::open(rt, alloc, root, kept)?,
+            below: FilesBelow::open(rt, files, alloc, root, kept)?,
             faults: 0,
         })
     }

@@ -4,7 +4,6 @@ use crate::error::{OpenError, TreeError, is_missing, is_refused};
 use crate::folder::Folder;
 use crate::mounts::kernels_own;
 use crate::sight::Sight;
-use crate::system::System;
 use libc::PATH_MAX;
 use portal_base::list::List;
 use portal_base::names::HostPath;
@@ -18,8 +17,8 @@ const MOST_BYTES: usize = 4_200;
 
 /// The root, and what is kept from a way down.
 #[derive(Drop)]
-pub struct Way<R: System> {
-    rt: R,
+pub struct Way {
+    files: HostRuntime,
     /// The path of the root, with a slash at its end.
     root: String,
     /// The devices that no step leads onto.
@@ -45,15 +44,15 @@ impl<'a> Place<'a> {
     }
 }
 
-impl<R: System> Way<R> {
+impl Way {
     /// The way from a root, which may be reached by links.
-    pub fn open(rt: R, alloc: Global, root: &str) -> Result<Way<R>, OpenError> {
+    pub fn open(files: HostRuntime, alloc: Global, root: &str) -> Result<Way, OpenError> {
         let mut path = String::from_str(alloc, root.trim_end_matches('/'))?;
         path.push('/')?;
         let mut way = Way {
-            rt,
+            files,
             root: path,
-            kernels_own: kernels_own(&rt, alloc)?,
+            kernels_own: kernels_own(&files, alloc)?,
             link: String::with_capacity(alloc, MOST_BYTES)?,
         };
         way.try_root()?;
@@ -68,7 +67,7 @@ impl<R: System> Way<R> {
             Err(error) => return Err(OpenError::System(error)),
         };
         self.link_to(root.number(), "")?;
-        match fs::metadata(&self.rt, self.link.as_str()) {
+        match fs::metadata(&self.files, self.link.as_str()) {
             Ok(linked) if linked.is_dir() => Ok(()),
             _ => Err(OpenError::NoProc),
         }
@@ -116,7 +115,7 @@ impl<R: System> Way<R> {
     /// this path.
     fn is_step(&mut self, folder: &Folder, name: &str, meant: &str) -> Result<bool, TreeError> {
         self.link_to(folder.number(), "")?;
-        match fs::metadata(&self.rt, self.link.as_str()) {
+        match fs::metadata(&self.files, self.link.as_str()) {
             Ok(metadata) if self.is_kernels_own(metadata.dev()) => return Ok(false),
             Ok(_) => {}
             Err(_) => return Err(TreeError::System),
@@ -130,7 +129,7 @@ impl<R: System> Way<R> {
         if self.link_to(place.folder.number(), place.name).is_err() {
             return Err(io::Error::from(ErrorKind::OutOfMemory));
         }
-        Ok(Sight::of(&fs::symlink_metadata(&self.rt, self.link.as_str())?))
+        Ok(Sight::of(&fs::symlink_metadata(&self.files, self.link.as_str())?))
     }
 
     /// Says whether a device is one of the kernel's own.

@@ -235,7 +235,7 @@ fn open_tree<R: System>(
     let sockets = words.apps.len().saturating_add(1).saturating_mul(2) as u64;
     let posts = sockets.saturating_mul(u64::from(words.workers));
     let kept = files_beside(posts.saturating_mul(FILES_OF_POST));
-    match RealTree::open(*rt, system.alloc(), words.root.as_str(), kept) {
+    match RealTree::open(*rt, *system, system.alloc(), words.root.as_str(), kept) {
         Ok(tree) => Ok(tree),
         Err(OpenError::Memory) => Err(ServeEnd::Memory),
         Err(error) => Err(ServeEnd::NoRoot {
