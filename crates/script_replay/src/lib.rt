@@ -1,9 +1,8 @@
 //! A script, run line by line over a portal with devices in memory.
 //!
 //! **It promises** that at `Done` the output is the one that the script has, over one
-//! legal history in which each request of the script stands once and nothing else does;
-//! that a line is run exactly as the definitions say; and that each other status but want
-//! of memory has its cause.
+//! legal history; that a line is run exactly as the definitions say; and that each other
+//! status but want of memory has its cause.
 //!
 //! | Room | Holds |
 //! |---|---|

@@ -1,8 +1,7 @@
 //! The tables of a database that hold the portal's records, and their rows.
 //!
-//! **It promises** safety: that every call returns, and that nothing is read or written but
-//! by the calls of SQLite that it makes. What a database holds is told by no contract, since a
-//! real file is outside.
+//! **It promises** safety, and that every call returns. What a database holds is told by no
+//! contract, since a real file is outside.
 //!
 //! | Room | Holds |
 //! |---|---|
