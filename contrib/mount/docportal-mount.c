@@ -112,6 +112,18 @@ static void end_by_signal(int number)
     errno = before;
 }
 
+/* Stands in for standard streams that are closed: /dev/fuse or a pipe would take their numbers,
+ * and what is said would be written there. */
+static void take_streams(void)
+{
+    int nowhere;
+    do
+        nowhere = open("/dev/null", O_RDWR);
+    while (nowhere >= 0 && nowhere < 3);
+    if (nowhere >= 0)
+        close(nowhere);
+}
+
 static int catch_signals(void)
 {
     struct sigaction action = { .sa_handler = end_by_signal };
@@ -578,9 +590,9 @@ static enum ending connect_and_serve(const struct options *options, struct carri
 {
     carrier->service = join_service(options->socket);
     if (carrier->service < 0) {
-        if (!quiet)
+        if (!quiet && !ended)
             say("%s: can't be joined: %s", options->socket, strerror(errno));
-        return NO_SERVICE;
+        return ended ? BY_SIGNAL : NO_SERVICE;
     }
     enum ending ending = NO_SERVICE;
     if (is_served(carrier->service)) {
@@ -589,7 +601,8 @@ static enum ending connect_and_serve(const struct options *options, struct carri
         if (carrier->threads >= 0)
             close(carrier->threads);
     } else if (!quiet && !ended) {
-        say("%s: no answer; its posts may be taken, or the history full", options->socket);
+        say("%s: no answer; its posts may be taken, the history full, or it is no mount's",
+            options->socket);
     }
     close(carrier->service);
     return ended ? BY_SIGNAL : ending;
@@ -731,6 +744,7 @@ int main(int argc, char **argv)
     struct options options = { .name = "docportal", .uid = geteuid(), .gid = getegid() };
     static struct carrier carrier;
     int waiter = -1;
+    take_streams();
     read_words(argc, argv, &options);
     if (catch_signals() < 0)
         return STATUS_NO_MOUNT;
