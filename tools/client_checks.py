@@ -54,6 +54,7 @@ class Person:
                 os.closerange(3, 256)
                 os.chdir(self.folder)
                 os.environ.update(self.environment)
+                tempfile.tempdir = None  # or what was found of another TMPDIR stays
                 sys.stdin, sys.stdout, sys.stderr = (
                     open(number, mode) for number, mode in ((0, "r"), (1, "w"), (2, "w")))
                 sys.argv = ["docportal-client", *(line.split() if isinstance(line, str) else line)]
