@@ -210,6 +210,7 @@ impl<'a, S: Storied> Seat<'a, S> {
     /// Waits a while for the turn, which another seat holds. It may return while
     /// that still holds it.
     pub(crate) fn wait_for_turn<R: Wait>(&self, rt: &R) {
-        self.turn.sleepers.wait(rt, &self.turn.board.shared);
+        let turn = self.turn;
+        turn.sleepers.wait(rt, &turn.board.shared);
     }
 }
