@@ -14,7 +14,6 @@ mod trees;
 use std::alloc::Global;
 use std::fs::Files;
 use std::io;
-use std::net::Net;
 use std::random::RandomSource;
 use std::time::Clock;
 use vector_lines::error::{VectorError, bad};
@@ -22,12 +21,13 @@ use vector_lines::notation::cut;
 use vector_lines::program::run;
 
 fn main(rt: HostRuntime) -> io::Result<()> {
-    run(&rt, |alloc, line| answer(&rt, alloc, line))
+    run(&rt, |alloc, line| answer(&rt, &rt, alloc, line))
 }
 
 /// The answer of a line.
-fn answer<R: Files + Net + Clock + RandomSource>(
+fn answer<R: Files + Clock + RandomSource>(
     rt: &R,
+    system: &HostRuntime,
     alloc: Global,
     line: &str,
 ) -> Result<String, VectorError> {
@@ -37,10 +37,13 @@ fn answer<R: Files + Net + Clock + RandomSource>(
         "gone" => trees::gone(rt, alloc, rest),
         "link" => folder::link(rt, alloc, rest),
         "file" => folder::file(rt, alloc, rest),
-        "bind" => links::bind(rt, alloc, rest),
-        "live" => links::live(rt, alloc, rest),
-        "talk" => links::talk(rt, alloc, rest),
-        "leave" => links::leave(rt, alloc, rest),
+        "bind" => links::bind(system, alloc, rest),
+        "live" => links::live(system, alloc, rest),
+        "take" => links::take(system, alloc, rest),
+        "hidden" => links::hidden(system, alloc, rest),
+        "open" => links::open(system, alloc, rest),
+        "talk" => links::talk(system, alloc, rest),
+        "leave" => links::leave(system, alloc, rest),
         "patient" => links::patient(alloc),
         "clock" => devices::clock(alloc, rest),
         "now" => devices::now(rt, alloc),
