@@ -71,13 +71,13 @@ fn start<R: Threads + Wait + Sync>(
     requires { IsInForm words.now }
 {
     let alloc = system.alloc();
-    let open = files_open(system);
+    let held = files_open(system);
     let tree = open_tree(system, words.root.as_str())?;
     let mut drawn = open_words(system)?;
     let settings = settings(alloc, words.history, guid_of(&mut drawn))?;
     let sockets = sockets_of(alloc, &words.sockets, words.apps.as_slice())?;
     tell_of_history(system, words.history);
-    see_files(open, sockets.len(), words.workers)?;
+    see_files(held, sockets.len(), words.workers)?;
     see_threads(rt, system, sockets.len(), words.workers)?;
     let devices = Devices {
         tree,
@@ -107,15 +107,12 @@ fn serve_in<R: Threads + Wait + Sync>(
 {
     let places = places_in(system, folder, sockets)?;
     let keeper = ToldKeeper::new(system, open_keeper(system, words.store.as_str())?);
-    let count = places.len() as u64 * u64::from(words.workers);
-    let standing = Standing::new(system, folder, &words.sockets, places.as_slice(), count);
+    let standing = Standing::new(system, folder, &words.sockets, places.as_slice());
     let posts = posts_for(system, words, &standing, places.as_slice())?;
+    standing.expect(posts.len() as u64);
     let end = serve_all(rt, system, &standing, posts, keeper, devices, &settings);
     match standing.fault() {
-        Some(fault) => match places.as_slice().get(fault.number) {
-            Some(place) => Err(no_socket(system, &place.socket.path, &fault.error)?),
-            None => Ok(end),
-        },
+        Some(fault) => Err(no_socket(system, &fault.place.socket.path, &fault.error)?),
         None => Ok(end),
     }
 }
@@ -268,13 +265,13 @@ fn tell_of_history(system: &HostRuntime, history: u64) {
 }
 
 /// Ends a start that may open too few files.
-fn see_files(open: u64, sockets: usize, workers: u32) -> Result<(), ServeEnd>
-    requires open { open ≤ 1000000 }
+fn see_files(held: u64, sockets: usize, workers: u32) -> Result<(), ServeEnd>
+    requires held { held ≤ 1000000 }
     requires sockets { sockets ≤ 130 }
     requires workers { workers ≤ 8 }
 {
     let sockets = sockets as u64;
-    let wanted = files_wanted(open, sockets, sockets * u64::from(workers));
+    let wanted = files_wanted(held, sockets, sockets * u64::from(workers));
     match files_allowed() {
         Some(allowed) if allowed < wanted => Err(ServeEnd::FewFiles { wanted, allowed }),
         _ => Ok(()),
@@ -294,9 +291,13 @@ fn see_threads<R: Threads>(
     let wanted = sockets * workers as usize;
     match gives_threads(rt, system, wanted) {
         Ok(true) => Ok(()),
-        Ok(false) => Err(ServeEnd::FewThreads { wanted: wanted as u64 }),
+        Ok(false) => Err(ServeEnd::FewThreads {
+            wanted: wanted as u64,
+        }),
         Err(TrialError::Memory) => Err(ServeEnd::Memory),
-        Err(TrialError::System(error)) => Err(ServeEnd::NoTrial { why: reason(system, &error)? }),
+        Err(TrialError::System(error)) => Err(ServeEnd::NoTrial {
+            why: reason(system, &error)?,
+        }),
     }
 }
 
@@ -316,7 +317,8 @@ fn places_in(
     folder: &SocketFolder,
     sockets: List<Socket>,
 ) -> Result<List<Place>, ServeEnd>
-    ensures { IfOk result (λ places. map socket_of_place places ≡ sockets) }
+    ensures sockets { IfOk result (λ places. map socket_of_place places ≡ sockets) }
+    ensures count { IfOk result (λ places. length places ≡ length sockets) }
 {
     let mut places = List::new(system.alloc());
     for socket in sockets.into_vec() {
@@ -330,6 +332,7 @@ fn places_in(
 }
 
 /// The posts of a service: so many as the words say at each socket, one behind the other.
+#[tactic(auto, using(crate::proofs::PostCount::posts_fit))]
 fn posts_for<'a>(
     system: &HostRuntime,
     words: &ServeWords,

@@ -28,9 +28,9 @@ pub struct Place {
 
 /// Why a socket couldn't be put in its place.
 #[derive(Drop)]
-pub struct PlaceFault {
-    /// Its number, from 0.
-    pub number: usize,
+pub struct PlaceFault<'a> {
+    /// The place.
+    pub place: &'a Place,
     /// What the system says.
     pub error: io::Error,
 }
@@ -47,34 +47,38 @@ pub struct Standing<'a> {
     folder_path: &'a Text,
     places: &'a [Place],
     to_begin: AtomicU64,
-    fault: OnceLock<PlaceFault>,
+    fault: OnceLock<PlaceFault<'a>>,
     told_wait: AtomicBool,
     told_full: AtomicBool,
 }
 
 impl<'a> Standing<'a> {
-    /// What so many posts share at these places in a folder.
+    /// What posts share at these places in a folder.
     pub fn new(
         system: &'a HostRuntime,
         folder: &'a SocketFolder,
         folder_path: &'a Text,
         places: &'a [Place],
-        posts: u64,
     ) -> Standing<'a> {
         Standing {
             system,
             folder,
             folder_path,
             places,
-            to_begin: AtomicU64::new(posts),
+            to_begin: AtomicU64::new(0),
             fault: OnceLock::new(),
             told_wait: AtomicBool::new(false),
             told_full: AtomicBool::new(false),
         }
     }
 
+    /// So many posts are to begin before the sockets are put in their places.
+    pub fn expect(&self, posts: u64) {
+        self.to_begin.store(posts, Ordering::SeqCst);
+    }
+
     /// Why the sockets don't stand, where one couldn't be put in its place.
-    pub fn fault(&self) -> Option<&PlaceFault> {
+    pub fn fault(&self) -> Option<&PlaceFault<'a>> {
         self.fault.get()
     }
 
@@ -83,7 +87,7 @@ impl<'a> Standing<'a> {
         for (number, place) in self.places.iter().enumerate() {
             let path = place.socket.path.as_str();
             if let Err(error) = self.folder.show(self.system, number, path) {
-                self.give_up(PlaceFault { number, error });
+                self.give_up(number, PlaceFault { place, error });
                 return;
             }
         }
@@ -91,12 +95,11 @@ impl<'a> Standing<'a> {
         self.tell_ready();
     }
 
-    /// Takes the sockets away again that stand already, and ends all accepts.
-    fn give_up(&self, fault: PlaceFault) {
-        let number = fault.number;
+    /// Takes the sockets away again that stand already, so many, and ends all accepts.
+    fn give_up(&self, shown: usize, fault: PlaceFault<'a>) {
         // Ahead of the ends of posts, which aren't told then.
         let _ = self.fault.try_set(fault);
-        for place in self.places.iter().take(number) {
+        for place in self.places.iter().take(shown) {
             let _ = fs::remove_file(self.system, place.socket.path.as_str());
         }
         for place in self.places {

@@ -24,14 +24,14 @@ const PASSING_FILES: u64 = 4;
 const STANDARD_FILES: u64 = 3;
 
 /// How many files a service has open at once that has so many sockets and posts, where
-/// so many are open before it.
+/// so many are held open before it.
 ///
 /// Each post has a connection and a descriptor in spare.
-pub fn files_wanted(open: u64, sockets: u64, posts: u64) -> u64
-    requires { (open ≤ 1000000) × (sockets ≤ 1000000) × (posts ≤ 1000000) }
-    ensures { result ≡ files_of_service open sockets posts }
+pub fn files_wanted(held: u64, sockets: u64, posts: u64) -> u64
+    requires { (held ≤ 1000000) × (sockets ≤ 1000000) × (posts ≤ 1000000) }
+    ensures { result ≡ files_of_service held sockets posts }
 {
-    open + sockets + 2 * posts + TREE_FILES + STORE_FILES + FOLDER_FILES + PASSING_FILES
+    held + sockets + 2 * posts + TREE_FILES + STORE_FILES + FOLDER_FILES + PASSING_FILES
 }
 
 /// How many files the process may have open (getrlimit(2)), where the system tells it.
@@ -55,11 +55,11 @@ pub fn files_open(system: &HostRuntime) -> u64
         return STANDARD_FILES;
     };
     // The folder that is listed is one of them.
-    let mut open = 0;
+    let mut held = 0;
     for entry in entries.take(1_000_000) {
-        if entry.is_ok() && open < 1_000_000 {
-            open += 1;
+        if entry.is_ok() && held < 1_000_000 {
+            held += 1;
         }
     }
-    open
+    held
 }
