@@ -83,16 +83,18 @@ class Service:
         return 0
 
 
-def under(limits):
-    """What sets the limits of a process that is started: pairs of a resource and a number."""
+def under(limits, user=None):
+    """What sets the limits of a process that is started, pairs of a resource and a number, and its user."""
     def limit():
         for which, most in limits:
             resource.setrlimit(which, (most, most))
-    return limit if limits else None
+        if user is not None:
+            os.setuid(user)
+    return limit if limits or user is not None else None
 
 
-def run(*words, limits=()):
+def run(*words, limits=(), user=None):
     """Runs the service to its end under limits: its status, and what it said on each stream."""
     done = subprocess.run([PROGRAM, "serve", *words], stdin=subprocess.DEVNULL, capture_output=True,
-                          timeout=60, preexec_fn=under(limits))
+                          timeout=60, preexec_fn=under(limits, user))
     return done.returncode, done.stdout.decode(), done.stderr.decode()

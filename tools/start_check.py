@@ -13,6 +13,7 @@ import time
 
 from service import Service, run
 
+NOBODY = 65534
 APPS = ["org.e%d" % number for number in range(64)]
 
 
@@ -72,15 +73,20 @@ def few_descriptors(see, folder):
 
 
 def few_threads(see, folder):
-    """Without memory for the threads' stacks the start is refused, and then it serves again."""
-    service = Service(folder, ["org.ed"])
-    words = [*service.words[:6], "--workers", "8", *APPS]
+    """Where the system doesn't give the threads the start is refused, and then it serves again."""
+    service = Service(folder, ["org.ed"], "--workers", "8")
+    # The system counts no threads of root.
+    user = NOBODY if os.geteuid() == 0 else None
+    os.chmod(folder, 0o777)
+    see("32 threads of 16", refusal(
+        run(*service.words, limits=[(resource.RLIMIT_NPROC, 16 if user else 1)], user=user),
+        "docportal: no socket: "))
     limits = [(resource.RLIMIT_AS, 1 << 30), (resource.RLIMIT_NOFILE, 4096)]
-    see("1,040 threads in 1 GiB", refusal(run(*words, limits=limits), "docportal: no socket: "))
+    # A program that is checked while it runs takes more address space than that.
+    if run("--version", limits=limits)[0] == 0:
+        words = [*service.words[:6], "--workers", "8", *APPS]
+        see("1,040 threads in 1 GiB", refusal(run(*words, limits=limits), "docportal: no socket: "))
     see("no folder is made", os.path.exists(service.sockets), False)
-    if os.geteuid() != 0:
-        see("threads that ulimit -u refuses", refusal(
-            run(*service.words, limits=[(resource.RLIMIT_NPROC, 1)]), "docportal: no socket: "))
     service.start()
     with service.bus() as bus:
         bus.ping()

@@ -54,12 +54,12 @@ pub fn files_open(system: &HostRuntime) -> u64
     let Ok(entries) = fs::read_dir(system, "/proc/self/fd") else {
         return STANDARD_FILES;
     };
-    // The folder that is listed is one of them.
-    let mut held = 0;
+    let mut held = 0_u64;
     for entry in entries.take(1_000_000) {
         if entry.is_ok() && held < 1_000_000 {
             held += 1;
         }
     }
-    held
+    // The folder that is listed is one of them.
+    held.saturating_sub(1)
 }
