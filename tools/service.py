@@ -84,7 +84,8 @@ class Service:
 
 
 def under(limits, user=None):
-    """What sets the limits of a process that is started, pairs of a resource and a number, and its user."""
+    """What sets the limits of a process that is started, as pairs of a resource and a number, and
+    its user."""
     def limit():
         for which, most in limits:
             resource.setrlimit(which, (most, most))
