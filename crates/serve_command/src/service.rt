@@ -39,7 +39,7 @@ use worker_gate::worker::{Post, WorkEnd};
 const COST_OF_CONNECTION: u64 = 383;
 
 /// A post at a socket.
-type SocketPost<'a> = Post<SocketListener<'a, Standing<'a>>>;
+type SocketPost<'v, 'a> = Post<SocketListener<'v, Standing<'a>>>;
 
 /// What a service stands on beside its store.
 #[derive(Drop)]
@@ -122,7 +122,7 @@ fn serve_all<R: Threads + Wait + Sync>(
     rt: &R,
     system: &HostRuntime,
     standing: &Standing<'_>,
-    posts: List<SocketPost<'_>>,
+    posts: List<SocketPost<'_, '_>>,
     keeper: ToldKeeper<'_>,
     devices: Devices<'_>,
     settings: &Settings,
@@ -333,12 +333,12 @@ fn places_in(
 
 /// The posts of a service: so many as the words say at each socket, one behind the other.
 #[tactic(auto, using(crate::proofs::PostCount::posts_fit))]
-fn posts_for<'a>(
+fn posts_for<'v, 'a>(
     system: &HostRuntime,
     words: &ServeWords,
-    standing: &'a Standing<'a>,
-    places: &'a [Place],
-) -> Result<List<SocketPost<'a>>, ServeEnd>
+    standing: &'v Standing<'a>,
+    places: &'v [Place],
+) -> Result<List<SocketPost<'v, 'a>>, ServeEnd>
     requires form { IsInForm words.now }
     requires places { map socket_of_place places.now
         ≡ sockets_in words.now.sockets words.now.apps }
@@ -351,12 +351,12 @@ fn posts_for<'a>(
 }
 
 /// So many posts at each socket, one behind the other.
-fn posts_at<'a>(
+fn posts_at<'v, 'a>(
     system: &HostRuntime,
-    standing: &'a Standing<'a>,
-    places: &'a [Place],
+    standing: &'v Standing<'a>,
+    places: &'v [Place],
     workers: u32,
-) -> Result<List<SocketPost<'a>>, ServeEnd>
+) -> Result<List<SocketPost<'v, 'a>>, ServeEnd>
     ensures bound { IfOk result (λ posts. map bound_of posts
         ≡ posts_of workers (map socket_of_place places.now)) }
     ensures count { IfOk result (λ posts. length posts ≡ workers * length places.now) }
@@ -369,11 +369,11 @@ fn posts_at<'a>(
 }
 
 /// Adds the posts at a socket.
-fn add_posts<'a>(
+fn add_posts<'v, 'a>(
     system: &HostRuntime,
-    posts: &mut List<SocketPost<'a>>,
-    standing: &'a Standing<'a>,
-    place: &'a Place,
+    posts: &mut List<SocketPost<'v, 'a>>,
+    standing: &'v Standing<'a>,
+    place: &'v Place,
     workers: u32,
 ) -> Result<(), ServeEnd>
     ensures bound { OnOk result (map bound_of posts.new
