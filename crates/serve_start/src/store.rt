@@ -1,6 +1,5 @@
 //! A keeper whose failures are told.
 
-ghost use Rattle.std.specs.Prelude.{◌≡◌};
 ghost use Rattle.keeper_sqlite.specs.Met.{keeper_of};
 
 use keeper_sqlite::SqliteKeeper;
