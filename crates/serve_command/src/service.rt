@@ -14,7 +14,7 @@ use crate::guid::guid_of;
 use crate::line::on_one_line;
 use crate::settings::settings;
 use crate::sockets::{Socket, sockets_of};
-use host_real::{OpenError, RealTree};
+use host_real::{OpenError, RealTree, System, files_beside};
 use keeper_sqlite::{DatabaseFault, SqliteKeeper};
 use portal_base::limits::Settings;
 use portal_base::list::List;
@@ -26,20 +26,21 @@ use serve_posts::serve::serve;
 use serve_posts::status::ServeStatus;
 use serve_words::words::ServeWords;
 use std::fmt;
-use std::sync::Wait;
-use std::thread::Threads;
 use system_devices::{SystemClock, SystemWords};
 use unix_links::{BindError, SocketListener};
 use worker_gate::gate::OpenGate;
 use worker_gate::worker::{Post, WorkEnd};
+
+/// The most files that a post has open: its listener, and both ends of a connection.
+const FILES_OF_POST: u64 = 3;
 
 /// A post at a socket.
 type SocketPost = Post<SocketListener>;
 
 /// What a service stands on.
 #[derive(Drop)]
-struct Devices<'a> {
-    tree: RealTree<&'a HostRuntime>,
+struct Devices<'a, R: System> {
+    tree: RealTree<R>,
     keeper: SqliteKeeper,
     clock: SystemClock<&'a HostRuntime>,
     words: SystemWords,
@@ -47,8 +48,8 @@ struct Devices<'a> {
 
 /// A service that is ready.
 #[derive(Drop)]
-struct Service<'a> {
-    devices: Devices<'a>,
+struct Service<'a, R: System> {
+    devices: Devices<'a, R>,
     settings: Settings,
     posts: List<SocketPost>,
 }
@@ -57,10 +58,10 @@ struct Service<'a> {
 ///
 /// One line on standard output tells that all sockets stand. It returns only where the
 /// sockets, the connections and the devices do.
-pub fn run<R: Threads + Wait + Sync>(rt: &R, system: &HostRuntime, words: &ServeWords) -> ServeEnd
+pub fn run<R: System + Sync>(rt: &R, system: &HostRuntime, words: &ServeWords) -> ServeEnd
     requires { IsInForm words.now }
 {
-    match prepare(system, words) {
+    match prepare(rt, system, words) {
         Ok(service) => {
             tell_ready(system, words);
             serve_all(rt, system, service)
@@ -86,7 +87,11 @@ fn tell_ready(system: &HostRuntime, words: &ServeWords)
 }
 
 /// Opens what the service stands on, and makes its sockets.
-fn prepare<'a>(system: &'a HostRuntime, words: &ServeWords) -> Result<Service<'a>, ServeEnd>
+fn prepare<'a, R: System>(
+    rt: &R,
+    system: &'a HostRuntime,
+    words: &ServeWords,
+) -> Result<Service<'a, R>, ServeEnd>
     requires { IsInForm words.now }
     ensures posts { IfOk result (λ service. (1 ≤ length service.posts)
         × (length service.posts ≤ 65535)) }
@@ -95,7 +100,7 @@ fn prepare<'a>(system: &'a HostRuntime, words: &ServeWords) -> Result<Service<'a
     ensures limits { IfOk result (λ service. service.settings.limits ≡ limits_with words.now.history) }
 {
     let alloc = system.alloc();
-    let tree = open_tree(system, words.root.as_str())?;
+    let tree = open_tree(rt, system, words)?;
     let mut drawn = open_words(system)?;
     let settings = settings(alloc, words.history, guid_of(&mut drawn))?;
     let sockets = sockets_of(alloc, &words.sockets, words.apps.as_slice())?;
@@ -117,11 +122,7 @@ fn prepare<'a>(system: &'a HostRuntime, words: &ServeWords) -> Result<Service<'a
 }
 
 /// Serves the posts, and tells how that ended.
-fn serve_all<R: Threads + Wait + Sync>(
-    rt: &R,
-    system: &HostRuntime,
-    service: Service<'_>,
-) -> ServeEnd
+fn serve_all<R: System + Sync>(rt: &R, system: &HostRuntime, service: Service<'_, R>) -> ServeEnd
     requires posts { (1 ≤ length service.posts) × (length service.posts ≤ 65535) }
     requires limits { (history : ℕ) × (service.settings.limits ≡ limits_with history) }
 {
@@ -224,18 +225,28 @@ fn reason<E: fmt::Display>(system: &HostRuntime, error: &E) -> Result<String, Wa
 
 // ---- what is opened
 
-/// The tree of files below a folder.
-fn open_tree<'a>(
-    system: &'a HostRuntime,
-    root: &str,
-) -> Result<RealTree<&'a HostRuntime>, ServeEnd> {
-    match RealTree::open(system, system.alloc(), root) {
+/// The tree of files below a folder, which keeps some of them open.
+fn open_tree<R: System>(
+    rt: &R,
+    system: &HostRuntime,
+    words: &ServeWords,
+) -> Result<RealTree<R>, ServeEnd> {
+    let kept = files_to_keep(words);
+    match RealTree::open(*rt, *system, system.alloc(), words.root.as_str(), kept) {
         Ok(tree) => Ok(tree),
         Err(OpenError::Memory) => Err(ServeEnd::Memory),
         Err(error) => Err(ServeEnd::NoRoot {
             why: reason(system, &error)?,
         }),
     }
+}
+
+/// How many files below the root may be kept open: as many as the limit of this process
+/// leaves beside the posts and their connections.
+fn files_to_keep(words: &ServeWords) -> usize {
+    let sockets = words.apps.len().saturating_add(1).saturating_mul(2) as u64;
+    let posts = sockets.saturating_mul(u64::from(words.workers));
+    files_beside(posts.saturating_mul(FILES_OF_POST))
 }
 
 /// The words that are drawn.

@@ -1,0 +1,298 @@
+//! Opens that don't hold up the one who asks.
+//!
+//! An open may take for ever: of a pipe that took a file's place, or of a file on a system
+//! that is gone. So a thread makes it, and who asks waits for it for a short while. A
+//! thread that doesn't come back is left, and another is asked from then on. All of them
+//! are started with the tree.
+
+use crate::error::OpenError;
+use crate::system::System;
+use std::alloc::Global;
+use std::fs::{File, OpenOptions};
+use std::io::ErrorKind;
+use std::sync::{Arc, Condvar, Mutex, MutexGuard, Wait};
+use std::thread::Threads;
+use std::time::Duration;
+use std::{io, mem, thread};
+
+/// How long one who asks waits before he looks how far an open is, in milliseconds.
+const PATIENCE: u64 = 100;
+
+/// How often he waits for a thread that didn't begin: where others have all processors.
+const MOST_WAITS: usize = 20;
+
+/// How many threads there are, where the system gives so many.
+const THREADS: usize = 8;
+
+/// The most bytes of a path.
+const MOST_BYTES: usize = 4_200;
+
+/// What a file is opened for.
+#[derive(Clone, Copy, PartialEq, Eq)]
+pub enum Purpose {
+    /// To read it.
+    Read,
+    /// To write to it; nothing is cut.
+    Write,
+}
+
+/// How far an open is.
+#[derive(Clone, Copy, PartialEq, Eq)]
+enum Stage {
+    /// There is none.
+    Idle,
+    /// It was asked for.
+    Asked,
+    /// A thread makes it.
+    Begun,
+    /// It is made, or failed.
+    Done,
+    /// Nobody waits for it any more.
+    Left,
+    /// There won't be another.
+    Closed,
+}
+
+/// What one who asks and a thread tell each other.
+#[derive(Drop)]
+struct Slip {
+    stage: Stage,
+    path: String,
+    purpose: Purpose,
+    opened: Option<io::Result<File>>,
+}
+
+/// The place of one thread.
+#[derive(Drop)]
+struct Desk {
+    slip: Mutex<Slip>,
+    asked: Condvar,
+    done: Condvar,
+}
+
+/// A thread, and for whom it was asked last.
+#[derive(Drop)]
+struct Helper {
+    desk: Arc<Desk, Global>,
+    owner: u64,
+}
+
+impl Helper {
+    /// Says whether it has nothing to do.
+    fn is_idle<R: System>(&self, rt: &R) -> bool {
+        self.desk.slip.lock(rt).stage == Stage::Idle
+    }
+}
+
+/// The threads that open files.
+pub struct Opener<R: System> {
+    rt: R,
+    system: HostRuntime,
+    helpers: Vec<Helper>,
+    /// Whether it was told that no thread is left.
+    was_told: bool,
+}
+
+impl<R: System> Opener<R> {
+    /// All threads, or as many as the system gives, at least one.
+    pub fn new(rt: R, system: HostRuntime, alloc: Global) -> Result<Opener<R>, OpenError> {
+        let mut helpers = Vec::with_capacity(alloc, THREADS)?;
+        helpers.push(new_helper(rt, system, alloc)?)?;
+        for _ in 1..THREADS {
+            let Ok(more) = new_helper(rt, system, alloc) else {
+                break;
+            };
+            helpers.push(more)?;
+        }
+        Ok(Opener {
+            rt,
+            system,
+            helpers,
+            was_told: false,
+        })
+    }
+
+    /// The file at a path, opened for an owner of files. An owner who has a thread that
+    /// doesn't come back gets no other: so nobody keeps all of them.
+    pub fn open(&mut self, path: &str, purpose: Purpose, owner: u64) -> io::Result<File> {
+        let rt = self.rt;
+        match self.free_helper(owner) {
+            Some(helper) => {
+                helper.owner = owner;
+                ask(&rt, &helper.desk, path, purpose)
+            }
+            None => Err(io::Error::from(ErrorKind::TimedOut)),
+        }
+    }
+
+    /// A thread that has nothing to do, where an owner may have one.
+    fn free_helper(&mut self, owner: u64) -> Option<&mut Helper> {
+        let mut free = None;
+        for (at, helper) in self.helpers.iter().enumerate() {
+            if helper.is_idle(&self.rt) {
+                free = Some(at);
+            } else if helper.owner == owner {
+                return None;
+            }
+        }
+        if free.is_none() {
+            self.tell();
+        }
+        self.was_told = free.is_none();
+        self.helpers.get_mut(free?)
+    }
+
+    /// Tells, once, that no thread is left.
+    fn tell(&self) {
+        if !self.was_told {
+            let line = "docportal: opens of files don't come back; no more are made";
+            let _ = self.system.eprintln(line);
+        }
+    }
+}
+
+impl<R: System> Drop for Opener<R> {
+    fn drop(self) {
+        let Opener {
+            rt,
+            system: _,
+            helpers,
+            was_told: _,
+        } = self;
+        for helper in helpers.iter() {
+            helper.desk.slip.lock(&rt).stage = Stage::Closed;
+            helper.desk.asked.notify_one();
+        }
+    }
+}
+
+/// A new thread that waits for what is asked.
+fn new_helper<R>(rt: R, system: HostRuntime, alloc: Global) -> Result<Helper, OpenError>
+where
+    R: Threads + Wait + Copy + Send + Drop + 'static,
+{
+    let slip = Slip {
+        stage: Stage::Idle,
+        path: String::with_capacity(alloc, MOST_BYTES)?,
+        purpose: Purpose::Read,
+        opened: None,
+    };
+    let desk = Arc::new(
+        alloc,
+        Desk {
+            slip: Mutex::new(slip),
+            asked: Condvar::new(),
+            done: Condvar::new(),
+        },
+    )?;
+    let theirs = Arc::try_clone(&desk)?;
+    match thread::spawn(&rt, move || work(&rt, &system, alloc, &theirs)) {
+        Ok(_) => Ok(Helper { desk, owner: 0 }),
+        Err(_) => Err(OpenError::NoThread),
+    }
+}
+
+/// Makes each open that is asked for, until there won't be another.
+fn work<R: Wait>(rt: &R, system: &HostRuntime, alloc: Global, desk: &Desk) {
+    for _ in rt.forever() {
+        let Some((path, purpose)) = next(rt, alloc, desk) else {
+            return;
+        };
+        let opened = opened(system, path.as_str(), purpose);
+        let mut slip = desk.slip.lock(rt);
+        slip.path = path;
+        match slip.stage {
+            Stage::Begun => {
+                slip.opened = Some(opened);
+                slip.stage = Stage::Done;
+            }
+            // What nobody waits for is closed.
+            Stage::Left => slip.stage = Stage::Idle,
+            _ => {}
+        }
+        drop(slip);
+        desk.done.notify_one();
+    }
+}
+
+/// What is asked next.
+fn next<R: Wait>(rt: &R, alloc: Global, desk: &Desk) -> Option<(String, Purpose)> {
+    let mut slip = desk
+        .asked
+        .wait_while(rt, desk.slip.lock(rt), |slip| waits_for_work(slip.stage));
+    if slip.stage == Stage::Closed {
+        return None;
+    }
+    slip.stage = Stage::Begun;
+    let path = mem::replace(&mut slip.path, String::new(alloc));
+    Some((path, slip.purpose))
+}
+
+fn waits_for_work(stage: Stage) -> bool {
+    stage != Stage::Asked && stage != Stage::Closed
+}
+
+/// Asks for an open, and waits for it for a while.
+fn ask<R: System>(rt: &R, desk: &Desk, path: &str, purpose: Purpose) -> io::Result<File> {
+    let mut slip = desk.slip.lock(rt);
+    slip.path.clear();
+    slip.path.push_str(path)?;
+    slip.purpose = purpose;
+    slip.opened = None;
+    slip.stage = Stage::Asked;
+    desk.asked.notify_one();
+    let mut slip = wait_for(rt, desk, slip);
+    match slip.stage {
+        Stage::Done => {}
+        Stage::Begun => {
+            slip.stage = Stage::Left;
+            return Err(io::Error::from(ErrorKind::TimedOut));
+        }
+        // No thread took it, and none will.
+        _ => {
+            slip.stage = Stage::Idle;
+            return Err(io::Error::from(ErrorKind::TimedOut));
+        }
+    }
+    slip.stage = Stage::Idle;
+    match slip.opened.take() {
+        Some(opened) => opened,
+        None => Err(io::Error::from(ErrorKind::TimedOut)),
+    }
+}
+
+/// Waits until an open is done, or the thread that makes it had the time of one wait and
+/// didn't come back.
+fn wait_for<'a, R: System>(
+    rt: &R,
+    desk: &'a Desk,
+    slip: MutexGuard<'a, Slip>,
+) -> MutexGuard<'a, Slip> {
+    let mut slip = slip;
+    for _ in 0..MOST_WAITS {
+        let had_begun = slip.stage == Stage::Begun;
+        let patience = Duration::from_millis(PATIENCE);
+        let (guard, _) = desk
+            .done
+            .wait_timeout_while(rt, slip, patience, |slip| is_under_way(slip.stage));
+        slip = guard;
+        if had_begun || !is_under_way(slip.stage) {
+            break;
+        }
+    }
+    slip
+}
+
+fn is_under_way(stage: Stage) -> bool {
+    stage == Stage::Asked || stage == Stage::Begun
+}
+
+/// The file at a path. None is made, and none is cut.
+fn opened(system: &HostRuntime, path: &str, purpose: Purpose) -> io::Result<File> {
+    let mut how = OpenOptions::new();
+    match purpose {
+        Purpose::Read => how.read(true),
+        Purpose::Write => how.write(true),
+    };
+    how.open(system, path)
+}
