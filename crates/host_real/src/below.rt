@@ -9,7 +9,7 @@ use crate::made::MadeFiles;
 use crate::numbers::Numbers;
 use crate::opener::{Opener, Purpose};
 use crate::sight::{Kind, Sight};
-use crate::system::System;
+use crate::system::{System, Waiter};
 use crate::way::{Place, Way};
 use portal_base::files::{FileName, Look};
 use portal_base::list::{ByteList, List};
@@ -40,7 +40,7 @@ enum Named {
 
 /// The files of the system below a root folder.
 #[derive(Drop)]
-pub struct FilesBelow<R: System> {
+pub struct FilesBelow<R: Waiter> {
     system: HostRuntime,
     alloc: Global,
     way: Way,
@@ -50,7 +50,7 @@ pub struct FilesBelow<R: System> {
     made: MadeFiles,
 }
 
-impl<R: System> FilesBelow<R> {
+impl<R: Waiter> FilesBelow<R> {
     /// The files below a folder, of which so many are kept open.
     pub fn open(
         rt: R,
@@ -58,7 +58,10 @@ impl<R: System> FilesBelow<R> {
         alloc: Global,
         root: &str,
         kept: usize,
-    ) -> Result<FilesBelow<R>, OpenError> {
+    ) -> Result<FilesBelow<R>, OpenError>
+    where
+        R: System,
+    {
         let numbers = match Numbers::new(&system) {
             Ok(numbers) => numbers,
             Err(error) => return Err(OpenError::System(error)),

@@ -43,5 +43,5 @@ mod way;
 
 pub use descriptors::files_beside;
 pub use error::OpenError;
-pub use system::System;
+pub use system::{System, Waiter};
 pub use tree::RealTree;

@@ -6,7 +6,7 @@
 //! are started with the tree.
 
 use crate::error::OpenError;
-use crate::system::System;
+use crate::system::{System, Waiter};
 use std::alloc::Global;
 use std::fs::{File, OpenOptions};
 use std::io::ErrorKind;
@@ -79,13 +79,13 @@ struct Helper {
 
 impl Helper {
     /// Says whether it has nothing to do.
-    fn is_idle<R: System>(&self, rt: &R) -> bool {
+    fn is_idle<R: Waiter>(&self, rt: &R) -> bool {
         self.desk.slip.lock(rt).stage == Stage::Idle
     }
 }
 
 /// The threads that open files.
-pub struct Opener<R: System> {
+pub struct Opener<R: Waiter> {
     rt: R,
     system: HostRuntime,
     helpers: Vec<Helper>,
@@ -93,9 +93,12 @@ pub struct Opener<R: System> {
     was_told: bool,
 }
 
-impl<R: System> Opener<R> {
+impl<R: Waiter> Opener<R> {
     /// All threads, or as many as the system gives, at least one.
-    pub fn new(rt: R, system: HostRuntime, alloc: Global) -> Result<Opener<R>, OpenError> {
+    pub fn new(rt: R, system: HostRuntime, alloc: Global) -> Result<Opener<R>, OpenError>
+    where
+        R: System,
+    {
         let mut helpers = Vec::with_capacity(alloc, THREADS)?;
         helpers.push(new_helper(rt, system, alloc)?)?;
         for _ in 1..THREADS {
@@ -151,7 +154,7 @@ impl<R: System> Opener<R> {
     }
 }
 
-impl<R: System> Drop for Opener<R> {
+impl<R: Waiter> Drop for Opener<R> {
     fn drop(self) {
         let Opener {
             rt,
@@ -169,7 +172,7 @@ impl<R: System> Drop for Opener<R> {
 /// A new thread that waits for what is asked.
 fn new_helper<R>(rt: R, system: HostRuntime, alloc: Global) -> Result<Helper, OpenError>
 where
-    R: Threads + Wait + Copy + Send + Drop + 'static,
+    R: Threads + Wait + Copy + Send + 'static,
 {
     let slip = Slip {
         stage: Stage::Idle,
@@ -233,7 +236,7 @@ fn waits_for_work(stage: Stage) -> bool {
 }
 
 /// Asks for an open, and waits for it for a while.
-fn ask<R: System>(rt: &R, desk: &Desk, path: &str, purpose: Purpose) -> io::Result<File> {
+fn ask<R: Waiter>(rt: &R, desk: &Desk, path: &str, purpose: Purpose) -> io::Result<File> {
     let mut slip = desk.slip.lock(rt);
     slip.path.clear();
     slip.path.push_str(path)?;
@@ -263,7 +266,7 @@ fn ask<R: System>(rt: &R, desk: &Desk, path: &str, purpose: Purpose) -> io::Resu
 
 /// Waits until an open is done, or the thread that makes it had the time of one wait and
 /// didn't come back.
-fn wait_for<'a, R: System>(
+fn wait_for<'a, R: Waiter>(
     rt: &R,
     desk: &'a Desk,
     slip: MutexGuard<'a, Slip>,

@@ -6,7 +6,7 @@ ghost use Rattle.host_tree.specs.Trees.{is_done_fault};
 
 use crate::below::{Attributes, FilesBelow};
 use crate::error::{OpenError, TreeError};
-use crate::system::System;
+use crate::system::{System, Waiter};
 use host_tree::{AttrAnswer, HostTree, LookAnswer, TreeDone, TreeRead};
 use portal_base::files::FileName;
 use portal_base::names::HostPath;
@@ -24,12 +24,12 @@ use std::marker::Model;
 /// system interrupts is made again; each other error of the system is a fault, but for
 /// those that say that no file is there.
 #[derive(Drop)]
-pub struct RealTree<R: System> {
+pub struct RealTree<R: Waiter> {
     below: FilesBelow<R>,
     faults: u64,
 }
 
-impl<R: System> Model for RealTree<R> {
+impl<R: Waiter> Model for RealTree<R> {
     ghost use Rattle.std.specs.Prelude.{ℕ};
 
     ghost Value = { ℕ };
@@ -37,7 +37,7 @@ impl<R: System> Model for RealTree<R> {
     ghost view = { λ t. t.faults };
 }
 
-impl<R: System> RealTree<R> {
+impl<R: Waiter> RealTree<R> {
     /// The tree of the files below a folder, without faults so far, which keeps at most so
     /// many of them open. The root may be reached by links; it has to be a folder that can
     /// be read, and `/proc` has to be mounted.
@@ -48,6 +48,8 @@ impl<R: System> RealTree<R> {
         root: &str,
         kept: usize,
     ) -> Result<RealTree<R>, OpenError>
+    where
+        R: System,
         ensures { IfOk result (λ tree. tree ≡ 0) }
     {
         Ok(RealTree {
@@ -79,7 +81,7 @@ impl<R: System> RealTree<R> {
     }
 }
 
-impl<R: System> HostTree for RealTree<R> {
+impl<R: Waiter> HostTree for RealTree<R> {
     ghost use Rattle.std.specs.Prelude.{None};
 
     ghost is = { λ count. record { began = None; told = None; faults = count; calls = None } };

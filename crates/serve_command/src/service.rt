@@ -14,7 +14,7 @@ use crate::guid::guid_of;
 use crate::line::on_one_line;
 use crate::settings::settings;
 use crate::sockets::{Socket, sockets_of};
-use host_real::{OpenError, RealTree, System, files_beside};
+use host_real::{OpenError, RealTree, System, Waiter, files_beside};
 use keeper_sqlite::{DatabaseFault, SqliteKeeper};
 use portal_base::limits::Settings;
 use portal_base::list::List;
@@ -39,7 +39,7 @@ type SocketPost = Post<SocketListener>;
 
 /// What a service stands on.
 #[derive(Drop)]
-struct Devices<'a, R: System> {
+struct Devices<'a, R: Waiter> {
     tree: RealTree<R>,
     keeper: SqliteKeeper,
     clock: SystemClock<&'a HostRuntime>,
@@ -48,7 +48,7 @@ struct Devices<'a, R: System> {
 
 /// A service that is ready.
 #[derive(Drop)]
-struct Service<'a, R: System> {
+struct Service<'a, R: Waiter> {
     devices: Devices<'a, R>,
     settings: Settings,
     posts: List<SocketPost>,
