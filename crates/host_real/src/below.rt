@@ -8,9 +8,9 @@ use crate::kept::KeptFiles;
 use crate::made::MadeFiles;
 use crate::numbers::Numbers;
 use crate::opener::{Opener, Purpose};
-use crate::sight::{Kind, Sight};
+use crate::sight::{Kind, Sight, seen};
 use crate::system::{System, Waiter};
-use crate::way::{Place, Way};
+use crate::way::{Place, Way, text_of};
 use portal_base::files::{FileName, Look};
 use portal_base::list::{ByteList, List};
 use portal_base::names::HostPath;
@@ -207,7 +207,7 @@ impl<R: Waiter> FilesBelow<R> {
         let generation = self.numbers.generation(&seen(file)?.identity);
         self.made
             .add(self.numbers.path(path.as_bytes()), generation)?;
-        let owner = self.owner_of(path);
+        let owner = self.numbers.owner(path);
         let link = self.way.link_to(file.as_raw_fd(), "")?;
         let kept = self.opener.open(link, Purpose::Read, owner)?;
         self.kept.keep(generation, kept)?;
@@ -285,27 +285,13 @@ impl<R: Waiter> FilesBelow<R> {
             Err(error) if is_missing(&error) => return Ok(None),
             Err(_) => return Err(TreeError::System),
         };
-        if !self.is_the_file(path, place, &file, &sight)? {
+        if !self.way.is_the_file(path, place, &file, &sight)? {
             return Ok(None);
         }
         if !self.kept.looks_at(generation) {
             self.kept.keep(generation, file)?;
         }
         Ok(Some(sight))
-    }
-
-    /// Says whether a file that was opened at a place is the one that was looked at.
-    fn is_the_file(
-        &mut self,
-        path: &HostPath,
-        place: &Place<'_>,
-        file: &File,
-        sight: &Sight,
-    ) -> Result<bool, TreeError> {
-        if !seen(file)?.is_file(&sight.identity) {
-            return Ok(false);
-        }
-        Ok(place.is_direct() || self.way.is_at(file.as_raw_fd(), text_of(path)?)?)
     }
 
     /// A file, opened to write: the one that is kept, whatever stands at its path now; or
@@ -317,7 +303,7 @@ impl<R: Waiter> FilesBelow<R> {
                     Some(file) => file.as_raw_fd(),
                     None => return Err(TreeError::System),
                 };
-                let owner = self.owner_of(&name.path);
+                let owner = self.numbers.owner(&name.path);
                 let link = self.way.link_to(number, "")?;
                 match self.opener.open(link, Purpose::Write, owner) {
                     Ok(file) => Ok(file),
@@ -329,7 +315,7 @@ impl<R: Waiter> FilesBelow<R> {
                     return Err(TreeError::NotFile);
                 };
                 let file = self.open_at(&name.path, &place, Purpose::Write)?;
-                if self.is_the_file(&name.path, &place, &file, &sight)? {
+                if self.way.is_the_file(&name.path, &place, &file, &sight)? {
                     return Ok(file);
                 }
                 Err(TreeError::NotFile)
@@ -339,45 +325,10 @@ impl<R: Waiter> FilesBelow<R> {
 
     /// What is at a place, opened.
     fn open_at(&mut self, path: &HostPath, place: &Place<'_>, why: Purpose) -> io::Result<File> {
-        let owner = self.owner_of(path);
+        let owner = self.numbers.owner(path);
         match self.way.link_to(place.folder.number(), place.name) {
             Ok(link) => self.opener.open(link, why, owner),
             Err(_) => Err(io::Error::from(ErrorKind::OutOfMemory)),
         }
-    }
-
-    /// The number of the one who may put something else in the place of a file: the
-    /// application in whose own folder it is, else the folder.
-    fn owner_of(&self, path: &HostPath) -> u64 {
-        let bytes = path.as_bytes();
-        let depth = if bytes.starts_with(b"/app/") {
-            3
-        } else {
-            usize::MAX
-        };
-        let mut end = 0;
-        let mut slashes = 0usize;
-        for (at, byte) in bytes.iter().enumerate() {
-            if *byte == b'/' && slashes < depth {
-                slashes = slashes.saturating_add(1);
-                end = at;
-            }
-        }
-        self.numbers.path(bytes.get(..end).unwrap_or(bytes))
-    }
-}
-
-/// What the system shows of a file that is open.
-fn seen(file: &File) -> Result<Sight, TreeError> {
-    match file.metadata() {
-        Ok(metadata) => Ok(Sight::of(&metadata)),
-        Err(_) => Err(TreeError::System),
-    }
-}
-
-fn text_of(path: &HostPath) -> Result<&str, TreeError> {
-    match str::from_utf8(path.as_bytes()) {
-        Ok(text) => Ok(text),
-        Err(_) => Err(TreeError::System),
     }
 }

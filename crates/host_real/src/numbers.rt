@@ -1,6 +1,7 @@
 //! The numbers by which files and paths are told apart.
 
 use crate::sight::Identity;
+use portal_base::names::HostPath;
 use std::hash::{BuildHasher, Hasher, RandomState};
 use std::io;
 use std::random::RandomSource;
@@ -37,5 +38,26 @@ impl Numbers {
         let mut hasher = self.keys.build_hasher();
         hasher.write(path);
         hasher.finish()
+    }
+
+    /// The number of the one who may put something else in the place of a file: the
+    /// application in whose own folder it is, else the folder.
+    pub fn owner(&self, path: &HostPath) -> u64 {
+        let bytes = path.as_bytes();
+        // `/app/NAME` ends ahead of the third slash.
+        let depth = if bytes.starts_with(b"/app/") {
+            3
+        } else {
+            usize::MAX
+        };
+        let mut end = 0;
+        let mut slashes = 0usize;
+        for (at, byte) in bytes.iter().enumerate() {
+            if *byte == b'/' && slashes < depth {
+                slashes = slashes.saturating_add(1);
+                end = at;
+            }
+        }
+        self.path(bytes.get(..end).unwrap_or(bytes))
     }
 }

@@ -55,17 +55,17 @@ enum Stage {
 
 /// What one who asks and a thread tell each other.
 #[derive(Drop)]
-struct Slip {
+struct Request {
     stage: Stage,
     path: String,
     purpose: Purpose,
     opened: Option<io::Result<File>>,
 }
 
-/// The place of one thread.
+/// Where one who asks and a thread meet.
 #[derive(Drop)]
-struct Desk {
-    slip: Mutex<Slip>,
+struct Mailbox {
+    request: Mutex<Request>,
     asked: Condvar,
     done: Condvar,
 }
@@ -73,14 +73,14 @@ struct Desk {
 /// A thread, and for whom it was asked last.
 #[derive(Drop)]
 struct Helper {
-    desk: Arc<Desk, Global>,
+    mailbox: Arc<Mailbox, Global>,
     owner: u64,
 }
 
 impl Helper {
     /// Says whether it has nothing to do.
     fn is_idle<R: Waiter>(&self, rt: &R) -> bool {
-        self.desk.slip.lock(rt).stage == Stage::Idle
+        self.mailbox.request.lock(rt).stage == Stage::Idle
     }
 }
 
@@ -122,7 +122,7 @@ impl<R: Waiter> Opener<R> {
         match self.free_helper(owner) {
             Some(helper) => {
                 helper.owner = owner;
-                ask(&rt, &helper.desk, path, purpose)
+                ask(&rt, &helper.mailbox, path, purpose)
             }
             None => Err(io::Error::from(ErrorKind::TimedOut)),
         }
@@ -138,19 +138,11 @@ impl<R: Waiter> Opener<R> {
                 return None;
             }
         }
-        if free.is_none() {
-            self.tell();
+        if free.is_none() && !self.was_told {
+            tell(&self.system);
         }
         self.was_told = free.is_none();
         self.helpers.get_mut(free?)
-    }
-
-    /// Tells, once, that no thread is left.
-    fn tell(&self) {
-        if !self.was_told {
-            let line = "docportal: opens of files don't come back; no more are made";
-            let _ = self.system.eprintln(line);
-        }
     }
 }
 
@@ -163,10 +155,15 @@ impl<R: Waiter> Drop for Opener<R> {
             was_told: _,
         } = self;
         for helper in helpers.iter() {
-            helper.desk.slip.lock(&rt).stage = Stage::Closed;
-            helper.desk.asked.notify_one();
+            helper.mailbox.request.lock(&rt).stage = Stage::Closed;
+            helper.mailbox.asked.notify_one();
         }
     }
+}
+
+/// Tells that no thread is left.
+fn tell(system: &HostRuntime) {
+    let _ = system.eprintln("docportal: opens of files don't come back; no more are made");
 }
 
 /// A new thread that waits for what is asked.
@@ -174,61 +171,63 @@ fn new_helper<R>(rt: R, system: HostRuntime, alloc: Global) -> Result<Helper, Op
 where
     R: Threads + Wait + Copy + Send + 'static,
 {
-    let slip = Slip {
+    let request = Request {
         stage: Stage::Idle,
         path: String::with_capacity(alloc, MOST_BYTES)?,
         purpose: Purpose::Read,
         opened: None,
     };
-    let desk = Arc::new(
+    let mailbox = Arc::new(
         alloc,
-        Desk {
-            slip: Mutex::new(slip),
+        Mailbox {
+            request: Mutex::new(request),
             asked: Condvar::new(),
             done: Condvar::new(),
         },
     )?;
-    let theirs = Arc::try_clone(&desk)?;
+    let theirs = Arc::try_clone(&mailbox)?;
     match thread::spawn(&rt, move || work(&rt, &system, alloc, &theirs)) {
-        Ok(_) => Ok(Helper { desk, owner: 0 }),
+        Ok(_) => Ok(Helper { mailbox, owner: 0 }),
         Err(_) => Err(OpenError::NoThread),
     }
 }
 
 /// Makes each open that is asked for, until there won't be another.
-fn work<R: Wait>(rt: &R, system: &HostRuntime, alloc: Global, desk: &Desk) {
+fn work<R: Wait>(rt: &R, system: &HostRuntime, alloc: Global, mailbox: &Mailbox) {
     for _ in rt.forever() {
-        let Some((path, purpose)) = next(rt, alloc, desk) else {
+        let Some((path, purpose)) = next(rt, alloc, mailbox) else {
             return;
         };
         let opened = opened(system, path.as_str(), purpose);
-        let mut slip = desk.slip.lock(rt);
-        slip.path = path;
-        match slip.stage {
+        let mut request = mailbox.request.lock(rt);
+        request.path = path;
+        match request.stage {
             Stage::Begun => {
-                slip.opened = Some(opened);
-                slip.stage = Stage::Done;
+                request.opened = Some(opened);
+                request.stage = Stage::Done;
             }
             // What nobody waits for is closed.
-            Stage::Left => slip.stage = Stage::Idle,
+            Stage::Left => request.stage = Stage::Idle,
             _ => {}
         }
-        drop(slip);
-        desk.done.notify_one();
+        drop(request);
+        mailbox.done.notify_one();
     }
 }
 
 /// What is asked next.
-fn next<R: Wait>(rt: &R, alloc: Global, desk: &Desk) -> Option<(String, Purpose)> {
-    let mut slip = desk
-        .asked
-        .wait_while(rt, desk.slip.lock(rt), |slip| waits_for_work(slip.stage));
-    if slip.stage == Stage::Closed {
+fn next<R: Wait>(rt: &R, alloc: Global, mailbox: &Mailbox) -> Option<(String, Purpose)> {
+    let mut request = mailbox.asked.wait_while(
+        rt,
+        mailbox.request.lock(rt),
+        |request| waits_for_work(request.stage),
+    );
+    if request.stage == Stage::Closed {
         return None;
     }
-    slip.stage = Stage::Begun;
-    let path = mem::replace(&mut slip.path, String::new(alloc));
-    Some((path, slip.purpose))
+    request.stage = Stage::Begun;
+    let path = mem::replace(&mut request.path, String::new(alloc));
+    Some((path, request.purpose))
 }
 
 fn waits_for_work(stage: Stage) -> bool {
@@ -236,29 +235,29 @@ fn waits_for_work(stage: Stage) -> bool {
 }
 
 /// Asks for an open, and waits for it for a while.
-fn ask<R: Waiter>(rt: &R, desk: &Desk, path: &str, purpose: Purpose) -> io::Result<File> {
-    let mut slip = desk.slip.lock(rt);
-    slip.path.clear();
-    slip.path.push_str(path)?;
-    slip.purpose = purpose;
-    slip.opened = None;
-    slip.stage = Stage::Asked;
-    desk.asked.notify_one();
-    let mut slip = wait_for(rt, desk, slip);
-    match slip.stage {
+fn ask<R: Waiter>(rt: &R, mailbox: &Mailbox, path: &str, purpose: Purpose) -> io::Result<File> {
+    let mut request = mailbox.request.lock(rt);
+    request.path.clear();
+    request.path.push_str(path)?;
+    request.purpose = purpose;
+    request.opened = None;
+    request.stage = Stage::Asked;
+    mailbox.asked.notify_one();
+    let mut request = wait_for(rt, mailbox, request);
+    match request.stage {
         Stage::Done => {}
         Stage::Begun => {
-            slip.stage = Stage::Left;
+            request.stage = Stage::Left;
             return Err(io::Error::from(ErrorKind::TimedOut));
         }
         // No thread took it, and none will.
         _ => {
-            slip.stage = Stage::Idle;
+            request.stage = Stage::Idle;
             return Err(io::Error::from(ErrorKind::TimedOut));
         }
     }
-    slip.stage = Stage::Idle;
-    match slip.opened.take() {
+    request.stage = Stage::Idle;
+    match request.opened.take() {
         Some(opened) => opened,
         None => Err(io::Error::from(ErrorKind::TimedOut)),
     }
@@ -268,22 +267,25 @@ fn ask<R: Waiter>(rt: &R, desk: &Desk, path: &str, purpose: Purpose) -> io::Resu
 /// didn't come back.
 fn wait_for<'a, R: Waiter>(
     rt: &R,
-    desk: &'a Desk,
-    slip: MutexGuard<'a, Slip>,
-) -> MutexGuard<'a, Slip> {
-    let mut slip = slip;
+    mailbox: &'a Mailbox,
+    request: MutexGuard<'a, Request>,
+) -> MutexGuard<'a, Request> {
+    let mut request = request;
     for _ in 0..MOST_WAITS {
-        let had_begun = slip.stage == Stage::Begun;
+        let had_begun = request.stage == Stage::Begun;
         let patience = Duration::from_millis(PATIENCE);
-        let (guard, _) = desk
-            .done
-            .wait_timeout_while(rt, slip, patience, |slip| is_under_way(slip.stage));
-        slip = guard;
-        if had_begun || !is_under_way(slip.stage) {
+        let (guard, _) = mailbox.done.wait_timeout_while(
+            rt,
+            request,
+            patience,
+            |request| is_under_way(request.stage),
+        );
+        request = guard;
+        if had_begun || !is_under_way(request.stage) {
             break;
         }
     }
-    slip
+    request
 }
 
 fn is_under_way(stage: Stage) -> bool {

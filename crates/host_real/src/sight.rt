@@ -1,6 +1,7 @@
 //! What stands at a name, and which file it is.
 
-use std::fs::Metadata;
+use crate::error::TreeError;
+use std::fs::{File, Metadata};
 use std::os::unix::fs::MetadataExt;
 use std::time::{Duration, UNIX_EPOCH};
 
@@ -75,5 +76,13 @@ fn birth(metadata: &Metadata) -> Duration {
     match made.duration_since(UNIX_EPOCH) {
         Ok(birth) => birth,
         Err(_) => Duration::ZERO,
+    }
+}
+
+/// What the system shows of a file that is open.
+pub fn seen(file: &File) -> Result<Sight, TreeError> {
+    match file.metadata() {
+        Ok(metadata) => Ok(Sight::of(&metadata)),
+        Err(_) => Err(TreeError::System),
     }
 }

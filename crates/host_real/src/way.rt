@@ -3,12 +3,14 @@
 use crate::error::{OpenError, TreeError, is_missing, is_refused};
 use crate::folder::Folder;
 use crate::mounts::kernels_own;
-use crate::sight::Sight;
+use crate::sight::{Sight, seen};
 use libc::PATH_MAX;
 use portal_base::list::List;
 use portal_base::names::HostPath;
 use std::alloc::{AllocError, Global};
+use std::fs::File;
 use std::io::ErrorKind;
+use std::os::fd::AsRawFd;
 use std::os::unix::fs::MetadataExt;
 use std::{fs, io};
 
@@ -77,9 +79,7 @@ impl Way {
     /// where a step would lead onto the kernel's own. A root that is gone is a fault, since a
     /// tree always has one.
     pub fn to<'a>(&mut self, path: &'a HostPath) -> Result<Option<Place<'a>>, TreeError> {
-        let Ok(text) = str::from_utf8(path.as_bytes()) else {
-            return Err(TreeError::System);
-        };
+        let text = text_of(path)?;
         let Ok(mut folder) = Folder::open(self.root.as_str()) else {
             return Err(TreeError::System);
         };
@@ -180,11 +180,33 @@ impl Way {
         Ok(self.link.as_str())
     }
 
+    /// Says whether a file that was opened at a place is the one that was looked at.
+    pub fn is_the_file(
+        &mut self,
+        path: &HostPath,
+        place: &Place<'_>,
+        file: &File,
+        sight: &Sight,
+    ) -> Result<bool, TreeError> {
+        if !seen(file)?.is_file(&sight.identity) {
+            return Ok(false);
+        }
+        Ok(place.is_direct() || self.is_at(file.as_raw_fd(), text_of(path)?)?)
+    }
+
     /// Says whether a folder stands at a place that isn't direct, at this path.
     pub fn has_folder(&mut self, place: &Place<'_>, path: &str) -> Result<bool, TreeError> {
         match place.folder.below(place.name) {
             Ok(folder) => self.is_step(&folder, place.name, path),
             Err(_) => Ok(false),
         }
+    }
+}
+
+/// A path as a text, which each that the tree is asked for is.
+pub fn text_of(path: &HostPath) -> Result<&str, TreeError> {
+    match str::from_utf8(path.as_bytes()) {
+        Ok(text) => Ok(text),
+        Err(_) => Err(TreeError::System),
     }
 }
