@@ -9,13 +9,12 @@
 mod devices;
 mod folder;
 mod links;
+mod replaced;
 mod trees;
 
+use host_real::System;
 use std::alloc::Global;
-use std::fs::Files;
 use std::io;
-use std::random::RandomSource;
-use std::time::Clock;
 use vector_lines::error::{VectorError, bad};
 use vector_lines::notation::cut;
 use vector_lines::program::run;
@@ -25,7 +24,7 @@ fn main(rt: HostRuntime) -> io::Result<()> {
 }
 
 /// The answer of a line.
-fn answer<R: Files + Clock + RandomSource>(
+fn answer<R: System>(
     rt: &R,
     system: &HostRuntime,
     alloc: Global,
@@ -33,10 +32,14 @@ fn answer<R: Files + Clock + RandomSource>(
 ) -> Result<String, VectorError> {
     let (kind, rest) = cut(line);
     match kind {
-        "tree" => trees::tree(rt, alloc, rest),
-        "gone" => trees::gone(rt, alloc, rest),
-        "link" => folder::link(rt, alloc, rest),
-        "file" => folder::file(rt, alloc, rest),
+        "tree" => trees::tree(rt, system, alloc, rest),
+        "gone" => trees::gone(rt, system, alloc, rest),
+        "saved" => replaced::saved(rt, system, alloc, rest),
+        "became" => replaced::became(rt, system, alloc, rest),
+        "given-up" => replaced::given_up(rt, system, alloc, rest),
+        "mode" => replaced::mode(rt, system, alloc, rest),
+        "link" => folder::link(system, alloc, rest),
+        "file" => folder::file(system, alloc, rest),
         "bind" => links::bind(system, alloc, rest),
         "live" => links::live(system, alloc, rest),
         "take" => links::take(system, alloc, rest),
@@ -46,8 +49,8 @@ fn answer<R: Files + Clock + RandomSource>(
         "leave" => links::leave(system, alloc, rest),
         "patient" => links::patient(alloc),
         "clock" => devices::clock(alloc, rest),
-        "now" => devices::now(rt, alloc),
-        "words" => devices::words(rt, alloc),
+        "now" => devices::now(system, alloc),
+        "words" => devices::words(system, alloc),
         "no-words" => devices::no_words(alloc),
         _ => bad(),
     }

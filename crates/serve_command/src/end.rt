@@ -36,9 +36,9 @@ pub enum ServeEnd {
         /// How many may be.
         allowed: u64,
     },
-    /// The system gives fewer threads than there are posts.
+    /// The system gives fewer threads than the service has.
     FewThreads {
-        /// How many posts there are.
+        /// How many it has.
         wanted: u64,
     },
     /// It can't be tried how many threads the system gives.

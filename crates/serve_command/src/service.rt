@@ -14,7 +14,7 @@ use crate::guid::guid_of;
 use crate::settings::settings;
 use crate::sockets::{Socket, sockets_of};
 use crate::standing::{Place, Standing};
-use host_real::{OpenError, RealTree};
+use host_real::{OpenError, RealTree, System, Waiter, files_beside};
 use keeper_sqlite::{DatabaseFault, SqliteKeeper};
 use portal_base::limits::Settings;
 use portal_base::list::List;
@@ -25,11 +25,9 @@ use serve_posts::serve::serve;
 use serve_posts::status::ServeStatus;
 use serve_start::files::{files_allowed, files_open, files_wanted};
 use serve_start::store::ToldKeeper;
-use serve_start::threads::{TrialError, gives_threads};
+use serve_start::threads::{TREE_THREADS, TrialError, gives_threads};
 use serve_words::words::ServeWords;
 use std::fmt;
-use std::sync::Wait;
-use std::thread::Threads;
 use system_devices::{SystemClock, SystemWords};
 use unix_links::{SocketFolder, SocketListener};
 use worker_gate::worker::{Post, WorkEnd};
@@ -43,8 +41,8 @@ type SocketPost<'v, 'a> = Post<SocketListener<'v, Standing<'a>>>;
 
 /// What a service stands on beside its store.
 #[derive(Drop)]
-struct Devices<'a> {
-    tree: RealTree<&'a HostRuntime>,
+struct Devices<'a, R: Waiter> {
+    tree: RealTree<R>,
     clock: SystemClock<&'a HostRuntime>,
     words: SystemWords,
 }
@@ -53,7 +51,7 @@ struct Devices<'a> {
 ///
 /// One line on standard output tells that all sockets stand, once each post is about to
 /// accept. It returns only where the sockets, the connections and the devices do.
-pub fn run<R: Threads + Wait + Sync>(rt: &R, system: &HostRuntime, words: &ServeWords) -> ServeEnd
+pub fn run<R: System + Sync>(rt: &R, system: &HostRuntime, words: &ServeWords) -> ServeEnd
     requires { IsInForm words.now }
 {
     match start(rt, system, words) {
@@ -63,7 +61,7 @@ pub fn run<R: Threads + Wait + Sync>(rt: &R, system: &HostRuntime, words: &Serve
 }
 
 /// Makes sure of what a service needs, takes the folder of its sockets, and serves there.
-fn start<R: Threads + Wait + Sync>(
+fn start<R: System + Sync>(
     rt: &R,
     system: &HostRuntime,
     words: &ServeWords,
@@ -72,13 +70,13 @@ fn start<R: Threads + Wait + Sync>(
 {
     let alloc = system.alloc();
     let held = files_open(system);
-    let tree = open_tree(system, words.root.as_str())?;
+    let sockets = sockets_of(alloc, &words.sockets, words.apps.as_slice())?;
+    let wanted = see_files(held, sockets.len(), words.workers)?;
+    see_threads(rt, system, sockets.len(), words.workers)?;
+    let tree = open_tree(rt, system, words.root.as_str(), files_beside(wanted))?;
     let mut drawn = open_words(system)?;
     let settings = settings(alloc, words.history, guid_of(&mut drawn))?;
-    let sockets = sockets_of(alloc, &words.sockets, words.apps.as_slice())?;
     tell_of_history(system, words.history);
-    see_files(held, sockets.len(), words.workers)?;
-    see_threads(rt, system, sockets.len(), words.workers)?;
     let devices = Devices {
         tree,
         clock: SystemClock::new(system),
@@ -91,13 +89,13 @@ fn start<R: Threads + Wait + Sync>(
 }
 
 /// Makes the sockets in their folder, opens the store, and serves.
-fn serve_in<R: Threads + Wait + Sync>(
+fn serve_in<R: System + Sync>(
     rt: &R,
     system: &HostRuntime,
     words: &ServeWords,
     folder: &SocketFolder,
     sockets: List<Socket>,
-    devices: Devices<'_>,
+    devices: Devices<'_, R>,
     settings: Settings,
 ) -> Result<ServeEnd, ServeEnd>
     requires form { IsInForm words.now }
@@ -118,13 +116,13 @@ fn serve_in<R: Threads + Wait + Sync>(
 }
 
 /// Serves the posts, and tells how that ended.
-fn serve_all<R: Threads + Wait + Sync>(
+fn serve_all<R: System + Sync>(
     rt: &R,
     system: &HostRuntime,
     standing: &Standing<'_>,
     posts: List<SocketPost<'_, '_>>,
     keeper: ToldKeeper<'_>,
-    devices: Devices<'_>,
+    devices: Devices<'_, R>,
     settings: &Settings,
 ) -> ServeEnd
     requires posts { (1 ≤ length posts) × (length posts ≤ 65535) }
@@ -219,12 +217,14 @@ fn reason<E: fmt::Display>(system: &HostRuntime, error: &E) -> Result<String, Wa
 
 // ---- what is opened
 
-/// The tree of files below a folder.
-fn open_tree<'a>(
-    system: &'a HostRuntime,
+/// The tree of files below a folder, which keeps at most so many of them open.
+fn open_tree<R: System>(
+    rt: &R,
+    system: &HostRuntime,
     root: &str,
-) -> Result<RealTree<&'a HostRuntime>, ServeEnd> {
-    match RealTree::open(system, system.alloc(), root) {
+    kept: usize,
+) -> Result<RealTree<R>, ServeEnd> {
+    match RealTree::open(*rt, *system, system.alloc(), root, kept) {
         Ok(tree) => Ok(tree),
         Err(OpenError::Memory) => Err(ServeEnd::Memory),
         Err(error) => Err(ServeEnd::NoRoot {
@@ -264,8 +264,8 @@ fn tell_of_history(system: &HostRuntime, history: u64) {
     }
 }
 
-/// Ends a start that may open too few files.
-fn see_files(held: u64, sockets: usize, workers: u32) -> Result<(), ServeEnd>
+/// How many files the service has open at once. Ends a start that may open fewer.
+fn see_files(held: u64, sockets: usize, workers: u32) -> Result<u64, ServeEnd>
     requires held { held ≤ 1000000 }
     requires sockets { sockets ≤ 130 }
     requires workers { workers ≤ 8 }
@@ -274,12 +274,12 @@ fn see_files(held: u64, sockets: usize, workers: u32) -> Result<(), ServeEnd>
     let wanted = files_wanted(held, sockets, sockets * u64::from(workers));
     match files_allowed() {
         Some(allowed) if allowed < wanted => Err(ServeEnd::FewFiles { wanted, allowed }),
-        _ => Ok(()),
+        _ => Ok(wanted),
     }
 }
 
 /// Ends a start that the system gives too few threads.
-fn see_threads<R: Threads>(
+fn see_threads<R: System>(
     rt: &R,
     system: &HostRuntime,
     sockets: usize,
@@ -288,7 +288,7 @@ fn see_threads<R: Threads>(
     requires sockets { sockets ≤ 130 }
     requires workers { workers ≤ 8 }
 {
-    let wanted = sockets * workers as usize;
+    let wanted = sockets * workers as usize + TREE_THREADS;
     match gives_threads(rt, system, wanted) {
         Ok(true) => Ok(()),
         Ok(false) => Err(ServeEnd::FewThreads {

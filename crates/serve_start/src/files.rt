@@ -6,8 +6,9 @@ ghost use Rattle.serve_start.specs.Files.{files_of_service};
 use libc::types::rlimit;
 use std::fs;
 
-/// The files that the tree has open at once.
-pub const TREE_FILES: u64 = 4;
+/// The files that the tree has open at once: one that it keeps, three folders on the way
+/// down, and one that each of its eight threads opens.
+pub const TREE_FILES: u64 = 12;
 
 /// The files that the store has open at once: its database and the log of that, and what
 /// it opens to sync their folder.

@@ -7,13 +7,13 @@
 //! | Room | Holds |
 //! |---|---|
 //! | `files` | how many files a service has open, and how many it may |
-//! | `threads` | whether the system gives as many threads as there are posts |
+//! | `threads` | whether the system gives as many threads as a service has |
 //! | `store` | [`store::ToldKeeper`]: a keeper whose failures are told |
 //!
 //! ```text
 //! let wanted = files_wanted(files_open(system), sockets, posts);
 //! if files_allowed().is_some_and(|allowed| allowed < wanted) { .. }
-//! if !gives_threads(rt, system, posts)? { .. }
+//! if !gives_threads(rt, system, posts + TREE_THREADS)? { .. }
 //! ```
 #![tactic(auto)]
 

@@ -1,10 +1,13 @@
-//! Whether the system gives as many threads as there are posts.
+//! Whether the system gives as many threads as a service has.
 
 use std::alloc::{AllocError, AllocFailed, Global};
 use std::io::{PipeReader, Read};
 use std::sync::Arc;
 use std::thread::{JoinHandle, Threads};
 use std::{io, thread};
+
+/// The threads that the tree has beside the posts: those that open its files.
+pub const TREE_THREADS: usize = 8;
 
 /// Why it isn't known whether there are threads enough.
 #[derive(Debug, Drop)]
