@@ -1,5 +1,6 @@
 //! A keeper whose failures are told.
 
+ghost use Rattle.std.specs.Prelude.{◌≡◌};
 ghost use Rattle.keeper_sqlite.specs.Met.{keeper_of};
 
 use keeper_sqlite::SqliteKeeper;
@@ -32,12 +33,16 @@ impl<'a> ToldKeeper<'a> {
     }
 
     /// The keeper itself.
-    pub fn keeper(&self) -> &SqliteKeeper {
+    pub fn keeper(&self) -> &SqliteKeeper
+        ensures { result.now ≡ self.now.keeper }
+    {
         &self.keeper
     }
 
     /// Tells of a change's answer where it isn't as the last one's.
-    fn tell(&mut self, done: &KeeperDone) {
+    fn tell(&mut self, done: &KeeperDone)
+        ensures { self.new.keeper ≡ self.old.keeper }
+    {
         let fails = match done {
             KeeperDone::Done => false,
             KeeperDone::Failed => true,
