@@ -1,8 +1,10 @@
 """A service of docportal in a folder of its own, for the scripts beside this file."""
 
 import os
+import resource
 import select
 import signal
+import socket
 import subprocess
 import sys
 
@@ -24,15 +26,15 @@ class Service:
         self.store = os.path.join(folder, "store.db")
         self.sockets = os.path.join(folder, "sockets")
         os.makedirs(self.root, exist_ok=True)
-        os.makedirs(self.sockets, exist_ok=True)
         self.words = ["--root", self.root, "--store", self.store,
                       "--sockets", self.sockets, *options, *apps]
         self.process = None
 
-    def start(self, seconds=60):
-        """Starts it, and waits for the line that tells that its sockets stand."""
+    def start(self, seconds=60, limits=()):
+        """Starts it under limits, and waits for the line that tells that its sockets stand."""
         self.process = subprocess.Popen([PROGRAM, "serve", *self.words], stdin=subprocess.DEVNULL,
-                                        stdout=subprocess.PIPE, stderr=subprocess.PIPE)
+                                        stdout=subprocess.PIPE, stderr=subprocess.PIPE,
+                                        preexec_fn=under(limits))
         ready, _, _ = select.select([self.process.stdout], [], [], seconds)
         line = self.process.stdout.readline().decode() if ready else ""
         if not line:
@@ -42,17 +44,32 @@ class Service:
         return line
 
     def stop(self, how=signal.SIGTERM):
-        """Ends it by a signal."""
+        """Ends it by a signal, and tells what it said on standard error."""
         self.process.send_signal(how)
         self.process.wait(30)
         self.process.stdout.close()
+        said = self.process.stderr.read().decode()
         self.process.stderr.close()
+        return said
 
     def kill(self):
-        self.stop(signal.SIGKILL)
+        return self.stop(signal.SIGKILL)
+
+    def ticks(self):
+        """The processor time that it took, in ticks of the system."""
+        with open("/proc/%d/stat" % self.process.pid) as stat:
+            fields = stat.read().rpartition(")")[2].split()
+        return int(fields[11]) + int(fields[12])
 
     def bus(self, app=None, timeout=30):
         return Bus(socket_path(self.sockets, app, "bus"), timeout)
+
+    def bus_unasked(self, app=None):
+        """A connection that says nothing."""
+        client = socket.socket(socket.AF_UNIX)
+        client.settimeout(30)
+        client.connect(socket_path(self.sockets, app, "bus"))
+        return client
 
     def mount(self, app=None, timeout=30):
         return Mount(socket_path(self.sockets, app, "mount"), timeout)
@@ -66,8 +83,19 @@ class Service:
         return 0
 
 
-def run(*words):
-    """Runs the service to its end: its status, and what it said on each stream."""
+def under(limits, user=None):
+    """What sets the limits of a process that is started, as pairs of a resource and a number, and
+    its user."""
+    def limit():
+        for which, most in limits:
+            resource.setrlimit(which, (most, most))
+        if user is not None:
+            os.setuid(user)
+    return limit if limits or user is not None else None
+
+
+def run(*words, limits=(), user=None):
+    """Runs the service to its end under limits: its status, and what it said on each stream."""
     done = subprocess.run([PROGRAM, "serve", *words], stdin=subprocess.DEVNULL, capture_output=True,
-                          timeout=60)
+                          timeout=60, preexec_fn=under(limits, user))
     return done.returncode, done.stdout.decode(), done.stderr.decode()

@@ -6,12 +6,11 @@
 //! `docs/serve.md` and `docs/scripts.md` say how it is run, `docs/statuses.md` how it ends.
 #![tactic(auto)]
 
+use host_real::System;
 use portal_base::list::List;
 use portal_base::text::Text;
 use script_command::status::Status;
 use std::process::ExitCode;
-use std::sync::Wait;
-use std::thread::Threads;
 use std::{env, io};
 
 fn main(rt: HostRuntime) -> ExitCode {
@@ -22,7 +21,7 @@ fn main(rt: HostRuntime) -> ExitCode {
 }
 
 /// Does what the words ask for: the number that the program ends with.
-fn answer<R: Threads + Wait + Sync>(rt: &R, system: &HostRuntime, words: &[Text]) -> u8 {
+fn answer<R: System + Sync>(rt: &R, system: &HostRuntime, words: &[Text]) -> u8 {
     if let Some((first, others)) = words.split_first() {
         if first.as_str() == "serve" {
             return serve_command::answer::answer(rt, system, others);

@@ -3,22 +3,117 @@
 use portal_base::outside::{ReadAnswer, Sink, Source, WriteAnswer};
 use std::alloc::Global;
 use std::cell::Cell;
-use std::fs::Files;
+use std::fs::Permissions;
 use std::io::{ErrorKind, Read, Write};
-use std::net::Net;
 use std::os::unix::fs::PermissionsExt;
-use std::os::unix::net::UnixStream;
+use std::os::unix::net::{UnixListener, UnixStream};
 use std::{fs, io};
-use unix_links::{Patient, SocketListener};
+use unix_links::{BindError, Patient, SocketFolder, SocketListener, Watch};
 use vector_lines::error::{VectorError, bad, given};
 use vector_lines::notation::{cut, debug};
 use worker_gate::listener::{Accepted, Listener};
 
-/// `bind PATH`: the mode of the socket that is made at a path, or why none is. It
-/// stays when the listener has gone.
-pub fn bind<R: Files + Net>(rt: &R, alloc: Global, path: &str) -> Result<String, VectorError> {
-    match SocketListener::bind(rt, path) {
-        Ok(_) => mode(rt, alloc, path),
+/// A watch that lets listeners begin, and is told nothing.
+#[derive(Drop)]
+struct Quiet;
+
+impl Watch for Quiet {
+    fn begin(&self) -> bool {
+        true
+    }
+
+    fn hold_up(&self, _error: &io::Error) {}
+
+    fn end(&self, _error: &io::Error) {}
+}
+
+/// `bind PATH`: the mode of the socket that is made in this folder and put at a path, or
+/// why none is. It stays when the listener has gone.
+pub fn bind(system: &HostRuntime, alloc: Global, path: &str) -> Result<String, VectorError> {
+    match placed(system, path) {
+        Ok(_) => mode(system, alloc, path),
+        Err(error) => told_of(alloc, error),
+    }
+}
+
+/// A socket that is made in this folder, and stands at a path.
+fn placed(system: &HostRuntime, path: &str) -> Result<UnixListener, BindError> {
+    let folder = SocketFolder::take(system, ".")?;
+    let socket = placed_in(system, &folder, path);
+    folder.clear(system);
+    socket
+}
+
+fn placed_in(
+    system: &HostRuntime,
+    folder: &SocketFolder,
+    path: &str,
+) -> Result<UnixListener, BindError> {
+    let socket = folder.bind(system, 0, path)?;
+    folder.show(system, 0, path)?;
+    Ok(socket)
+}
+
+fn told_of(alloc: Global, error: BindError) -> Result<String, VectorError> {
+    let told = format!(in alloc; "{error}");
+    drop(error);
+    Ok(told?)
+}
+
+/// The permissions of what stands at a path, in octal digits.
+fn mode(system: &HostRuntime, alloc: Global, path: &str) -> Result<String, VectorError> {
+    let metadata = given(alloc, fs::symlink_metadata(system, path))?;
+    let mode = metadata.permissions().mode() & 0o777;
+    Ok(format!(in alloc; "{mode:o}")?)
+}
+
+/// `live PATH`: what a second listener at a path is told while the first is there.
+pub fn live(system: &HostRuntime, alloc: Global, path: &str) -> Result<String, VectorError> {
+    let first = given(alloc, placed(system, path))?;
+    let told = bind(system, alloc, path);
+    drop(first);
+    told
+}
+
+/// `take FOLDER`: the mode of a folder of sockets that is taken, and what a second one is
+/// told meanwhile; or why it isn't taken.
+pub fn take(system: &HostRuntime, alloc: Global, path: &str) -> Result<String, VectorError> {
+    match SocketFolder::take(system, path) {
+        Ok(folder) => {
+            let told = taken(system, alloc, path);
+            folder.clear(system);
+            told
+        }
+        Err(error) => told_of(alloc, error),
+    }
+}
+
+fn taken(system: &HostRuntime, alloc: Global, path: &str) -> Result<String, VectorError> {
+    let mode = mode(system, alloc, path)?;
+    match SocketFolder::take(system, path) {
+        Ok(_) => bad(),
+        Err(error) => {
+            let told = told_of(alloc, error)?;
+            Ok(format!(in alloc; "{mode}, {told}")?)
+        }
+    }
+}
+
+/// `hidden PATH`: whether nobody connects at a path to which a socket is bound, before it
+/// is put there.
+pub fn hidden(system: &HostRuntime, alloc: Global, path: &str) -> Result<String, VectorError> {
+    let folder = given(alloc, SocketFolder::take(system, "."))?;
+    let told = match folder.bind(system, 0, path) {
+        Ok(_) => connected(system, alloc, path),
+        Err(error) => told_of(alloc, error),
+    };
+    folder.clear(system);
+    told
+}
+
+fn connected(system: &HostRuntime, alloc: Global, path: &str) -> Result<String, VectorError> {
+    match UnixStream::connect(system, path) {
+        Ok(_) => bad(),
         Err(error) => {
             let told = format!(in alloc; "{error}");
             drop(error);
@@ -27,49 +122,38 @@ pub fn bind<R: Files + Net>(rt: &R, alloc: Global, path: &str) -> Result<String,
     }
 }
 
-/// The permissions of what stands at a path, in octal digits.
-fn mode<R: Files>(rt: &R, alloc: Global, path: &str) -> Result<String, VectorError> {
-    let metadata = given(alloc, fs::symlink_metadata(rt, path))?;
-    let mode = metadata.permissions().mode() & 0o777;
-    Ok(format!(in alloc; "{mode:o}")?)
+/// `open FOLDER`: what one is told who takes a folder that its group may write in.
+pub fn open(system: &HostRuntime, alloc: Global, path: &str) -> Result<String, VectorError> {
+    given(alloc, fs::create_dir(system, path))?;
+    let open = Permissions::from_mode(0o770);
+    given(alloc, fs::set_permissions(system, path, open))?;
+    take(system, alloc, path)
 }
 
-/// `live PATH`: what a second listener at a path is told while the first is there.
-pub fn live<R: Files + Net>(rt: &R, alloc: Global, path: &str) -> Result<String, VectorError> {
-    let first = given(alloc, SocketListener::bind(rt, path))?;
-    let told = bind(rt, alloc, path);
+/// `talk PATH TEXT ANSWER`: what a client and the service hear of each other, over one of
+/// two listeners at a socket, up to the end that the service makes.
+pub fn talk(system: &HostRuntime, alloc: Global, rest: &str) -> Result<String, VectorError> {
+    let (path, rest) = cut(rest);
+    let (text, answer) = cut(rest);
+    let socket = given(alloc, placed(system, path))?;
+    let first = given(alloc, SocketListener::new(&socket, &Quiet))?;
+    let told = match given(alloc, SocketListener::new(&socket, &Quiet)) {
+        Ok(mut second) => talk_at(system, alloc, &mut second, path, text, answer),
+        Err(error) => Err(error),
+    };
     drop(first);
     told
 }
 
-/// `talk PATH TEXT ANSWER`: what a client and the service hear of each other, over a
-/// listener that is shared, up to the end that the service makes.
-pub fn talk<R: Files + Net>(rt: &R, alloc: Global, rest: &str) -> Result<String, VectorError> {
-    let (path, rest) = cut(rest);
-    let (text, answer) = cut(rest);
-    let listener = given(alloc, SocketListener::bind(rt, path))?;
-    let shared = given(alloc, listener.share());
-    let told = match shared {
-        Ok(mut shared) => {
-            let told = talk_at(rt, alloc, &mut shared, path, text, answer);
-            drop(shared);
-            told
-        }
-        Err(error) => Err(error),
-    };
-    drop(listener);
-    told
-}
-
-fn talk_at<R: Net, L: Listener>(
-    rt: &R,
+fn talk_at<L: Listener>(
+    system: &HostRuntime,
     alloc: Global,
     listener: &mut L,
     path: &str,
     text: &str,
     answer: &str,
 ) -> Result<String, VectorError> {
-    let mut client = given(alloc, UnixStream::connect(rt, path))?;
+    let mut client = given(alloc, UnixStream::connect(system, path))?;
     let told = answered(alloc, listener, &mut client, text, answer);
     drop(client);
     told
@@ -112,10 +196,11 @@ fn both_heard(
 
 /// `leave PATH TEXT`: what the service hears of a client that leaves behind a text,
 /// and what becomes of an answer to it.
-pub fn leave<R: Files + Net>(rt: &R, alloc: Global, rest: &str) -> Result<String, VectorError> {
+pub fn leave(system: &HostRuntime, alloc: Global, rest: &str) -> Result<String, VectorError> {
     let (path, text) = cut(rest);
-    let mut listener = given(alloc, SocketListener::bind(rt, path))?;
-    let told = match send(rt, alloc, path, text) {
+    let socket = given(alloc, placed(system, path))?;
+    let mut listener = given(alloc, SocketListener::new(&socket, &Quiet))?;
+    let told = match send(system, alloc, path, text) {
         Ok(()) => left(alloc, &mut listener),
         Err(error) => Err(error),
     };
@@ -124,8 +209,8 @@ pub fn leave<R: Files + Net>(rt: &R, alloc: Global, rest: &str) -> Result<String
 }
 
 /// A client sends a text, and leaves.
-fn send<R: Net>(rt: &R, alloc: Global, path: &str, text: &str) -> Result<(), VectorError> {
-    let mut client = given(alloc, UnixStream::connect(rt, path))?;
+fn send(system: &HostRuntime, alloc: Global, path: &str, text: &str) -> Result<(), VectorError> {
+    let mut client = given(alloc, UnixStream::connect(system, path))?;
     let sent = client.write_all(text.as_bytes());
     drop(client);
     given(alloc, sent)

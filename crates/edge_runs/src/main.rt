@@ -9,42 +9,48 @@
 mod devices;
 mod folder;
 mod links;
+mod replaced;
 mod trees;
 
+use host_real::System;
 use std::alloc::Global;
-use std::fs::Files;
 use std::io;
-use std::net::Net;
-use std::random::RandomSource;
-use std::time::Clock;
 use vector_lines::error::{VectorError, bad};
 use vector_lines::notation::cut;
 use vector_lines::program::run;
 
 fn main(rt: HostRuntime) -> io::Result<()> {
-    run(&rt, |alloc, line| answer(&rt, alloc, line))
+    run(&rt, |alloc, line| answer(&rt, &rt, alloc, line))
 }
 
 /// The answer of a line.
-fn answer<R: Files + Net + Clock + RandomSource>(
+fn answer<R: System>(
     rt: &R,
+    system: &HostRuntime,
     alloc: Global,
     line: &str,
 ) -> Result<String, VectorError> {
     let (kind, rest) = cut(line);
     match kind {
-        "tree" => trees::tree(rt, alloc, rest),
-        "gone" => trees::gone(rt, alloc, rest),
-        "link" => folder::link(rt, alloc, rest),
-        "file" => folder::file(rt, alloc, rest),
-        "bind" => links::bind(rt, alloc, rest),
-        "live" => links::live(rt, alloc, rest),
-        "talk" => links::talk(rt, alloc, rest),
-        "leave" => links::leave(rt, alloc, rest),
+        "tree" => trees::tree(rt, system, alloc, rest),
+        "gone" => trees::gone(rt, system, alloc, rest),
+        "saved" => replaced::saved(rt, system, alloc, rest),
+        "became" => replaced::became(rt, system, alloc, rest),
+        "given-up" => replaced::given_up(rt, system, alloc, rest),
+        "mode" => replaced::mode(rt, system, alloc, rest),
+        "link" => folder::link(system, alloc, rest),
+        "file" => folder::file(system, alloc, rest),
+        "bind" => links::bind(system, alloc, rest),
+        "live" => links::live(system, alloc, rest),
+        "take" => links::take(system, alloc, rest),
+        "hidden" => links::hidden(system, alloc, rest),
+        "open" => links::open(system, alloc, rest),
+        "talk" => links::talk(system, alloc, rest),
+        "leave" => links::leave(system, alloc, rest),
         "patient" => links::patient(alloc),
         "clock" => devices::clock(alloc, rest),
-        "now" => devices::now(rt, alloc),
-        "words" => devices::words(rt, alloc),
+        "now" => devices::now(system, alloc),
+        "words" => devices::words(system, alloc),
         "no-words" => devices::no_words(alloc),
         _ => bad(),
     }

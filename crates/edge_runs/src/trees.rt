@@ -1,19 +1,26 @@
 //! The real tree of files.
 
-use host_real::RealTree;
-use host_tree::{HostTree, TreeDone, TreeRead};
-use portal_base::files::FileName;
+use host_real::{RealTree, System};
+use host_tree::{HostTree, LookAnswer, TreeDone, TreeRead};
+use portal_base::files::{FileName, Look};
 use portal_base::names::HostPath;
 use std::alloc::Global;
 use std::fs;
-use std::fs::Files;
 use vector_lines::error::{VectorError, bad, given};
 use vector_lines::notation::{bytes, cut, debug, digits, number, small_number};
 
+/// How many files each tree keeps open.
+const KEPT: usize = 2;
+
 /// `tree ROOT STEP, STEP ..`: what each step answers over the files below a root.
-pub fn tree<R: Files>(rt: &R, alloc: Global, rest: &str) -> Result<String, VectorError> {
+pub fn tree<R: System>(
+    rt: &R,
+    system: &HostRuntime,
+    alloc: Global,
+    rest: &str,
+) -> Result<String, VectorError> {
     let (root, steps) = cut(rest);
-    let mut tree = given(alloc, RealTree::open(rt, alloc, root))?;
+    let mut tree = given(alloc, RealTree::open(*rt, *system, alloc, root, KEPT))?;
     let told = answers(alloc, &mut tree, steps);
     drop(tree);
     told
@@ -30,24 +37,29 @@ fn answers<T: HostTree>(alloc: Global, tree: &mut T, steps: &str) -> Result<Stri
 
 /// `gone ROOT AWAY`: what a tree shows of its root while that is moved away, and once
 /// it is back.
-pub fn gone<R: Files>(rt: &R, alloc: Global, rest: &str) -> Result<String, VectorError> {
+pub fn gone<R: System>(
+    rt: &R,
+    system: &HostRuntime,
+    alloc: Global,
+    rest: &str,
+) -> Result<String, VectorError> {
     let (root, away) = cut(rest);
-    let mut tree = given(alloc, RealTree::open(rt, alloc, root))?;
-    let told = answer_away(rt, alloc, &mut tree, root, away);
+    let mut tree = given(alloc, RealTree::open(*rt, *system, alloc, root, KEPT))?;
+    let told = answer_away(system, alloc, &mut tree, root, away);
     drop(tree);
     told
 }
 
-fn answer_away<R: Files, T: HostTree>(
-    rt: &R,
+fn answer_away<T: HostTree>(
+    system: &HostRuntime,
     alloc: Global,
     tree: &mut T,
     root: &str,
     away: &str,
 ) -> Result<String, VectorError> {
-    given(alloc, fs::rename(rt, root, away))?;
+    given(alloc, fs::rename(system, root, away))?;
     let mut out = answer(alloc, tree, "look /")?;
-    given(alloc, fs::rename(rt, away, root))?;
+    given(alloc, fs::rename(system, away, root))?;
     out.push_str("; ")?;
     out.push_str(answer(alloc, tree, "look /")?.as_str())?;
     Ok(out)
@@ -75,11 +87,29 @@ fn answer_of<T: HostTree>(
     rest: &str,
 ) -> Result<String, VectorError> {
     match kind {
-        "look" => Ok(debug(alloc, &tree.look(&file.path))?),
+        "look" => Ok(debug(alloc, &shown(tree.look(&file.path)))?),
         "create" => Ok(debug(alloc, &tree.create(&file.path, number(rest)?))?),
         "attr" | "later" => Ok(debug(alloc, &tree.attr(file))?),
         "read" => read(alloc, tree, file, rest),
         _ => Ok(debug(alloc, &change(alloc, tree, kind, file, rest)?)?),
+    }
+}
+
+/// A look, of whose generation the highest bit alone is shown: the others are of the file.
+fn shown(look: LookAnswer) -> LookAnswer {
+    match look {
+        LookAnswer::Is(
+            Look::File {
+                generation,
+                size,
+                moment,
+            },
+        ) => LookAnswer::Is(Look::File {
+            generation: generation & 1 << 63,
+            size,
+            moment,
+        }),
+        other => other,
     }
 }
 

@@ -4,30 +4,32 @@ ghost use Rattle.std.specs.Prelude.{◌≡◌, IfOk, true};
 ghost use Rattle.portal_base.specs.Devices.{count_after};
 ghost use Rattle.host_tree.specs.Trees.{is_done_fault};
 
+use crate::below::{Attributes, FilesBelow};
 use crate::error::{OpenError, TreeError};
-use crate::system::{Attributes, FilesBelow};
+use crate::system::{System, Waiter};
 use host_tree::{AttrAnswer, HostTree, LookAnswer, TreeDone, TreeRead};
 use portal_base::files::FileName;
 use portal_base::names::HostPath;
 use std::alloc::Global;
-use std::fs::Files;
 use std::marker::Model;
 
 /// The files of the system below a root folder, which contracts see as a count of
 /// faults.
 ///
-/// The file of a path is the regular file that stands at the path below the root;
-/// its generation is 0. A link below the root, and what is neither a file nor a
-/// folder, is answered as nothing there, and no file is made in its place. A call
-/// that the system interrupts is made again; each other error of the system is a
-/// fault, but for those that say that no file is there.
+/// The file of a path is the regular file that stands at the path below the root. A
+/// link below the root, and what is neither a file nor a folder, is answered as nothing
+/// there, and no file is made in its place. The generation of a look is a number of the
+/// file, and never 0; by it the file is reached whatever stands at its path since. By the
+/// generation 0 the file is reached that was made here at the path last. A call that the
+/// system interrupts is made again; each other error of the system is a fault, but for
+/// those that say that no file is there.
 #[derive(Drop)]
-pub struct RealTree<R> {
+pub struct RealTree<R: Waiter> {
     below: FilesBelow<R>,
     faults: u64,
 }
 
-impl<R> Model for RealTree<R> {
+impl<R: Waiter> Model for RealTree<R> {
     ghost use Rattle.std.specs.Prelude.{ℕ};
 
     ghost Value = { ℕ };
@@ -35,16 +37,23 @@ impl<R> Model for RealTree<R> {
     ghost view = { λ t. t.faults };
 }
 
-impl<R: Files> RealTree<R> {
-    /// The tree of the files below a folder, without faults so far. The root may
-    /// be reached by links; it has to be a folder.
-    pub fn open(files: R, alloc: Global, root: &str) -> Result<RealTree<R>, OpenError>
+impl<R: Waiter> RealTree<R> {
+    /// The tree of the files below a folder, without faults so far, which keeps at most so
+    /// many of them open. The root may be reached by links; it has to be a folder that can
+    /// be read, and `/proc` has to be mounted.
+    pub fn open(
+        rt: R,
+        system: HostRuntime,
+        alloc: Global,
+        root: &str,
+        kept: usize,
+    ) -> Result<RealTree<R>, OpenError>
     where
-        R: Drop,
+        R: System,
         ensures { IfOk result (λ tree. tree ≡ 0) }
     {
         Ok(RealTree {
-            below: FilesBelow::open(files, alloc, root)?,
+            below: FilesBelow::open(rt, system, alloc, root, kept)?,
             faults: 0,
         })
     }
@@ -72,7 +81,7 @@ impl<R: Files> RealTree<R> {
     }
 }
 
-impl<R: Files> HostTree for RealTree<R> {
+impl<R: Waiter> HostTree for RealTree<R> {
     ghost use Rattle.std.specs.Prelude.{None};
 
     ghost is = { λ count. record { began = None; told = None; faults = count; calls = None } };

@@ -6,7 +6,7 @@ use Rattle.portal_start.specs.declared.start.StartError.TheVariants as start
 use Rattle.worker_gate.specs.declared.worker.WorkEnd.{WorkEnd}
 use Rattle.worker_gate.specs.declared.worker.WorkEnd.TheVariants as work
 use Rattle.serve_command.specs.declared.end.ServeEnd.{ServeEnd}
-use Rattle.serve_command.specs.declared.end.ServeEnd.TheVariants.{Closed, Usage, NoRoot, NoSocket, NoSeed, KeeperFault, BadRecord, Memory, BadVersion, SocketFault}
+use Rattle.serve_command.specs.declared.end.ServeEnd.TheVariants.{Closed, Usage, NoRoot, NoSocket, FewFiles, FewThreads, NoTrial, NoSeed, KeeperFault, BadRecord, Memory, BadVersion, SocketFault}
 
 -- the number that the program ends with
 abbrev pub number_of : ServeEnd → ℕ
@@ -14,6 +14,9 @@ number_of Closed = 0
 number_of (Usage why) = 1
 number_of (NoRoot why) = 1
 number_of (NoSocket path why) = 2
+number_of (FewFiles wanted allowed) = 2
+number_of (FewThreads wanted) = 2
+number_of (NoTrial why) = 2
 number_of (NoSeed why) = 2
 number_of (KeeperFault why) = 3
 number_of (BadRecord index) = 4

@@ -5,6 +5,7 @@ use Rattle.portal_base.specs.declared.who.Who.{Who}
 use Rattle.portal_base.specs.declared.who.Kind.{Kind}
 use Rattle.worker_gate.specs.declared.worker.Post.{Post}
 use Rattle.serve_command.specs.declared.sockets.Socket.{Socket}
+use Rattle.serve_command.specs.declared.standing.Place.{Place}
 
 -- whose something is, and what its connections speak
 pub record Bound : Type 0 where
@@ -16,6 +17,10 @@ bound_of post = record { who = post.who; kind = post.kind }
 
 abbrev pub bound_at : Socket → Bound
 bound_at socket = record { who = socket.who; kind = socket.kind }
+
+-- the socket that stands at a place
+abbrev pub socket_of_place : Place → Socket
+socket_of_place place = place.socket
 
 -- at each socket, in order, so many posts that are bound as it is
 abbrev pub posts_of : ℕ → List Socket → List Bound

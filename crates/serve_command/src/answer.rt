@@ -6,12 +6,11 @@ ghost use Rattle.serve_command.specs.Ends.{number_of};
 use crate::end::ServeEnd;
 use crate::line::on_one_line;
 use crate::service::run;
+use host_real::System;
 use portal_base::memory::WantOfMemory;
 use portal_base::outside::{Sink, StdSink, WriteAnswer};
 use portal_base::text::Text;
 use serve_words::words::{ServeAsk, WordsError, read_words};
-use std::sync::Wait;
-use std::thread::Threads;
 
 /// The number that the program ends with where help can't be written.
 const WRITE_FAULT: u8 = 4;
@@ -19,7 +18,7 @@ const WRITE_FAULT: u8 = 4;
 /// Does what the words behind `serve` ask for: the number that the program ends with.
 ///
 /// What isn't 0 is told by one line on standard error.
-pub fn answer<R: Threads + Wait + Sync>(rt: &R, system: &HostRuntime, words: &[Text]) -> u8 {
+pub fn answer<R: System + Sync>(rt: &R, system: &HostRuntime, words: &[Text]) -> u8 {
     match read_words(system.alloc(), words) {
         Ok(ServeAsk::Serve(words)) => tell(system, &run(rt, system, &words)),
         Ok(ServeAsk::Tell(text)) => print(system, text.as_str()),

@@ -29,6 +29,23 @@ pub enum ServeEnd {
         /// Why not.
         why: String,
     },
+    /// Fewer files may be open than the service has open at once.
+    FewFiles {
+        /// How many it has open.
+        wanted: u64,
+        /// How many may be.
+        allowed: u64,
+    },
+    /// The system gives fewer threads than the service has.
+    FewThreads {
+        /// How many it has.
+        wanted: u64,
+    },
+    /// It can't be tried how many threads the system gives.
+    NoTrial {
+        /// What the system says.
+        why: String,
+    },
     /// There are no random bytes for the guid and the identifiers.
     NoSeed {
         /// What the system says.
@@ -65,6 +82,9 @@ impl ServeEnd {
             ServeEnd::Usage { .. } => 1,
             ServeEnd::NoRoot { .. } => 1,
             ServeEnd::NoSocket { .. } => 2,
+            ServeEnd::FewFiles { .. } => 2,
+            ServeEnd::FewThreads { .. } => 2,
+            ServeEnd::NoTrial { .. } => 2,
             ServeEnd::NoSeed { .. } => 2,
             ServeEnd::KeeperFault { .. } => 3,
             ServeEnd::BadRecord { .. } => 4,
@@ -96,6 +116,17 @@ impl fmt::Display for ServeEnd {
             ServeEnd::NoSocket { path, why } => {
                 write!(f, "no socket at {}: {why}", path.as_str())
             }
+            ServeEnd::FewFiles { wanted, allowed } => write!(
+                f,
+                "no socket: {wanted} files are open at once, and {allowed} may be (ulimit -n, \
+                LimitNOFILE=)"
+            ),
+            ServeEnd::FewThreads { wanted } => write!(
+                f,
+                "no socket: the system doesn't give {wanted} threads (ulimit -u, ulimit -v, \
+                TasksMax=)"
+            ),
+            ServeEnd::NoTrial { why } => write!(f, "no socket: no thread is tried: {why}"),
             ServeEnd::NoSeed { why } => write!(f, "no socket: {why}"),
             ServeEnd::KeeperFault { why } => write!(f, "store fault: {why}"),
             ServeEnd::BadRecord { index } => write!(f, "bad record {index} in the store"),

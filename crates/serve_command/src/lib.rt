@@ -7,8 +7,9 @@
 //! | Room | Holds |
 //! |---|---|
 //! | `answer` | what the program does for its words, and the number that it ends with |
-//! | `service` | the service that the words ask for: its devices, its posts, and how it ends |
+//! | `service` | the service that the words ask for: what it makes sure of, its posts, and how it ends |
 //! | `sockets` | the sockets of a service: the path of each, whose it is, and what it speaks |
+//! | `standing` | what its posts share: when the sockets stand, and what is told |
 //! | `settings`, `guid` | what the portal of a service is set to |
 //! | `laws` | a path tells whose a socket is |
 //! | `end` | how a service ended: its number, and its line |
@@ -29,3 +30,4 @@ mod line;
 mod service;
 pub mod settings;
 pub mod sockets;
+pub mod standing;

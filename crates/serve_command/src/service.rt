@@ -4,141 +4,134 @@ ghost use Rattle.std.specs.Prelude.{◌≡◌, ◌⊎◌, ◌≤◌, ◌*◌, �
 ghost use Rattle.std.specs.List.{list_any};
 ghost use Rattle.serve_command.specs.declared.end.ServeEnd.TheVariants as ServeEnd;
 ghost use Rattle.serve_command.specs.Ends.{EndsStart, end_of, is_failed, is_starved, number_of};
-ghost use Rattle.serve_command.specs.Posts.{bound_at, bound_of, posts_of};
+ghost use Rattle.serve_command.specs.Posts.{bound_at, bound_of, posts_of, socket_of_place};
 ghost use Rattle.serve_command.specs.Settings.{limits_with};
 ghost use Rattle.serve_command.specs.Sockets.{sockets_in};
 ghost use Rattle.serve_words.specs.Words.{IsInForm};
 
 use crate::end::ServeEnd;
 use crate::guid::guid_of;
-use crate::line::on_one_line;
 use crate::settings::settings;
 use crate::sockets::{Socket, sockets_of};
-use host_real::{OpenError, RealTree};
+use crate::standing::{Place, Standing};
+use host_real::{OpenError, RealTree, System, Waiter, files_beside};
 use keeper_sqlite::{DatabaseFault, SqliteKeeper};
 use portal_base::limits::Settings;
 use portal_base::list::List;
 use portal_base::memory::{Replica, WantOfMemory};
-use portal_base::outside::{Sink, StdSink};
 use portal_base::text::Text;
 use portal_start::start::{StartError, StartRefusal};
 use serve_posts::serve::serve;
 use serve_posts::status::ServeStatus;
+use serve_start::files::{files_allowed, files_open, files_wanted};
+use serve_start::store::ToldKeeper;
+use serve_start::threads::{TREE_THREADS, TrialError, gives_threads};
 use serve_words::words::ServeWords;
 use std::fmt;
-use std::sync::Wait;
-use std::thread::Threads;
 use system_devices::{SystemClock, SystemWords};
-use unix_links::{BindError, SocketListener};
-use worker_gate::gate::OpenGate;
+use unix_links::{SocketFolder, SocketListener};
 use worker_gate::worker::{Post, WorkEnd};
 
-/// A post at a socket.
-type SocketPost = Post<SocketListener>;
+/// What the begin of a connection costs the history at most, in bytes: 128, and an
+/// application's name.
+const COST_OF_CONNECTION: u64 = 383;
 
-/// What a service stands on.
+/// A post at a socket.
+type SocketPost<'v, 'a> = Post<SocketListener<'v, Standing<'a>>>;
+
+/// What a service stands on beside its store.
 #[derive(Drop)]
-struct Devices<'a> {
-    tree: RealTree<&'a HostRuntime>,
-    keeper: SqliteKeeper,
+struct Devices<'a, R: Waiter> {
+    tree: RealTree<R>,
     clock: SystemClock<&'a HostRuntime>,
     words: SystemWords,
 }
 
-/// A service that is ready.
-#[derive(Drop)]
-struct Service<'a> {
-    devices: Devices<'a>,
-    settings: Settings,
-    posts: List<SocketPost>,
-}
-
 /// Serves as the words say, until no socket gives a connection any more.
 ///
-/// One line on standard output tells that all sockets stand. It returns only where the
-/// sockets, the connections and the devices do.
-pub fn run<R: Threads + Wait + Sync>(rt: &R, system: &HostRuntime, words: &ServeWords) -> ServeEnd
+/// One line on standard output tells that all sockets stand, once each post is about to
+/// accept. It returns only where the sockets, the connections and the devices do.
+pub fn run<R: System + Sync>(rt: &R, system: &HostRuntime, words: &ServeWords) -> ServeEnd
     requires { IsInForm words.now }
 {
-    match prepare(system, words) {
-        Ok(service) => {
-            tell_ready(system, words);
-            serve_all(rt, system, service)
-        }
+    match start(rt, system, words) {
+        Ok(end) => end,
         Err(end) => end,
     }
 }
 
-/// Tells on standard output that the sockets stand. Who waits for the line may be gone, or
-/// there is no memory for it: the sockets are served all the same.
-fn tell_ready(system: &HostRuntime, words: &ServeWords)
+/// Makes sure of what a service needs, takes the folder of its sockets, and serves there.
+fn start<R: System + Sync>(
+    rt: &R,
+    system: &HostRuntime,
+    words: &ServeWords,
+) -> Result<ServeEnd, ServeEnd>
     requires { IsInForm words.now }
 {
-    // A fault of writing this isn't told: who waited for the line is gone, and those who come by
-    // the sockets have nothing to do with it.
-    let count = 2 + 2 * words.apps.len();
-    let Ok(folder) = on_one_line(system.alloc(), words.sockets.as_str()) else {
-        return;
+    let alloc = system.alloc();
+    let held = files_open(system);
+    let sockets = sockets_of(alloc, &words.sockets, words.apps.as_slice())?;
+    let wanted = see_files(held, sockets.len(), words.workers)?;
+    see_threads(rt, system, sockets.len(), words.workers)?;
+    let tree = open_tree(rt, system, words.root.as_str(), files_beside(wanted))?;
+    let mut drawn = open_words(system)?;
+    let settings = settings(alloc, words.history, guid_of(&mut drawn))?;
+    tell_of_history(system, words.history);
+    let devices = Devices {
+        tree,
+        clock: SystemClock::new(system),
+        words: drawn,
     };
-    if let Ok(line) = format!(in system.alloc(); "docportal: {count} sockets stand in {folder}\n") {
-        StdSink::new(system.stdout()).write(line.as_bytes());
+    let folder = take_folder(system, &words.sockets)?;
+    let end = serve_in(rt, system, words, &folder, sockets, devices, settings);
+    folder.clear(system);
+    end
+}
+
+/// Makes the sockets in their folder, opens the store, and serves.
+fn serve_in<R: System + Sync>(
+    rt: &R,
+    system: &HostRuntime,
+    words: &ServeWords,
+    folder: &SocketFolder,
+    sockets: List<Socket>,
+    devices: Devices<'_, R>,
+    settings: Settings,
+) -> Result<ServeEnd, ServeEnd>
+    requires form { IsInForm words.now }
+    requires sockets { sockets ≡ sockets_in words.now.sockets words.now.apps }
+    requires count { length sockets ≡ 2 + 2 * length words.now.apps }
+    requires limits { settings.limits ≡ limits_with words.now.history }
+{
+    let places = places_in(system, folder, sockets)?;
+    let keeper = ToldKeeper::new(system, open_keeper(system, words.store.as_str())?);
+    let standing = Standing::new(system, folder, &words.sockets, places.as_slice());
+    let posts = posts_for(system, words, &standing, places.as_slice())?;
+    standing.expect(posts.len() as u64);
+    let end = serve_all(rt, system, &standing, posts, keeper, devices, &settings);
+    match standing.fault() {
+        Some(fault) => Err(no_socket(system, &fault.place.socket.path, &fault.error)?),
+        None => Ok(end),
     }
 }
 
-/// Opens what the service stands on, and makes its sockets.
-fn prepare<'a>(system: &'a HostRuntime, words: &ServeWords) -> Result<Service<'a>, ServeEnd>
-    requires { IsInForm words.now }
-    ensures posts { IfOk result (λ service. (1 ≤ length service.posts)
-        × (length service.posts ≤ 65535)) }
-    ensures bound { IfOk result (λ service. map bound_of service.posts
-        ≡ posts_of words.now.workers (sockets_in words.now.sockets words.now.apps)) }
-    ensures limits { IfOk result (λ service. service.settings.limits ≡ limits_with words.now.history) }
-{
-    let alloc = system.alloc();
-    let tree = open_tree(system, words.root.as_str())?;
-    let mut drawn = open_words(system)?;
-    let settings = settings(alloc, words.history, guid_of(&mut drawn))?;
-    let sockets = sockets_of(alloc, &words.sockets, words.apps.as_slice())?;
-    let posts = posts_at(system, sockets.as_slice(), words.workers)?;
-    // Behind the sockets, so that a second service over the same places is refused by them.
-    // Without random bytes no socket can answer, so the words come ahead.
-    let keeper = open_keeper(system, words.store.as_str())?;
-    let clock = SystemClock::new(system);
-    Ok(Service {
-        devices: Devices {
-            tree,
-            keeper,
-            clock,
-            words: drawn,
-        },
-        settings,
-        posts,
-    })
-}
-
 /// Serves the posts, and tells how that ended.
-fn serve_all<R: Threads + Wait + Sync>(
+fn serve_all<R: System + Sync>(
     rt: &R,
     system: &HostRuntime,
-    service: Service<'_>,
+    standing: &Standing<'_>,
+    posts: List<SocketPost<'_, '_>>,
+    keeper: ToldKeeper<'_>,
+    devices: Devices<'_, R>,
+    settings: &Settings,
 ) -> ServeEnd
-    requires posts { (1 ≤ length service.posts) × (length service.posts ≤ 65535) }
-    requires limits { (history : ℕ) × (service.settings.limits ≡ limits_with history) }
+    requires posts { (1 ≤ length posts) × (length posts ≤ 65535) }
+    requires limits { (history : ℕ) × (settings.now.limits ≡ limits_with history) }
 {
-    let Service {
-        devices,
-        settings,
-        posts,
-    } = service;
-    let Devices {
-        tree,
-        keeper,
-        clock,
-        words,
-    } = devices;
+    let Devices { tree, clock, words } = devices;
     let alloc = system.alloc();
     match serve(
-        alloc, rt, posts, tree, keeper, clock, words, &settings, &OpenGate,
+        alloc, rt, posts, tree, keeper, clock, words, settings, standing,
     ) {
         ServeStatus::Ended {
             posts,
@@ -157,11 +150,11 @@ fn serve_all<R: Threads + Wait + Sync>(
 /// How a service ended whose portal didn't start.
 fn end_of_refusal<T, C, W>(
     system: &HostRuntime,
-    refusal: &StartRefusal<T, SqliteKeeper, C, W>,
+    refusal: &StartRefusal<T, ToldKeeper<'_>, C, W>,
 ) -> ServeEnd
     ensures { EndsStart refusal.now.error result }
 {
-    end_of_start(system, refusal.error, &refusal.keeper)
+    end_of_start(system, refusal.error, refusal.keeper.keeper())
 }
 
 /// How a service ended whose workers ended so: by a fault where there is one, else for
@@ -224,12 +217,14 @@ fn reason<E: fmt::Display>(system: &HostRuntime, error: &E) -> Result<String, Wa
 
 // ---- what is opened
 
-/// The tree of files below a folder.
-fn open_tree<'a>(
-    system: &'a HostRuntime,
+/// The tree of files below a folder, which keeps at most so many of them open.
+fn open_tree<R: System>(
+    rt: &R,
+    system: &HostRuntime,
     root: &str,
-) -> Result<RealTree<&'a HostRuntime>, ServeEnd> {
-    match RealTree::open(system, system.alloc(), root) {
+    kept: usize,
+) -> Result<RealTree<R>, ServeEnd> {
+    match RealTree::open(*rt, *system, system.alloc(), root, kept) {
         Ok(tree) => Ok(tree),
         Err(OpenError::Memory) => Err(ServeEnd::Memory),
         Err(error) => Err(ServeEnd::NoRoot {
@@ -257,78 +252,156 @@ fn open_keeper(system: &HostRuntime, store: &str) -> Result<SqliteKeeper, ServeE
     }
 }
 
+// ---- what is made sure of
+
+/// Tells where the history is too small for one connection.
+fn tell_of_history(system: &HostRuntime, history: u64) {
+    if history < COST_OF_CONNECTION {
+        let _ = eprintln!(system;
+            "docportal: a history of {history} bytes is too small for a connection, which costs up \
+            to {COST_OF_CONNECTION}"
+        );
+    }
+}
+
+/// How many files the service has open at once. Ends a start that may open fewer.
+fn see_files(held: u64, sockets: usize, workers: u32) -> Result<u64, ServeEnd>
+    requires held { held ≤ 1000000 }
+    requires sockets { sockets ≤ 130 }
+    requires workers { workers ≤ 8 }
+{
+    let sockets = sockets as u64;
+    let wanted = files_wanted(held, sockets, sockets * u64::from(workers));
+    match files_allowed() {
+        Some(allowed) if allowed < wanted => Err(ServeEnd::FewFiles { wanted, allowed }),
+        _ => Ok(wanted),
+    }
+}
+
+/// Ends a start that the system gives too few threads.
+fn see_threads<R: System>(
+    rt: &R,
+    system: &HostRuntime,
+    sockets: usize,
+    workers: u32,
+) -> Result<(), ServeEnd>
+    requires sockets { sockets ≤ 130 }
+    requires workers { workers ≤ 8 }
+{
+    let wanted = sockets * workers as usize + TREE_THREADS;
+    match gives_threads(rt, system, wanted) {
+        Ok(true) => Ok(()),
+        Ok(false) => Err(ServeEnd::FewThreads {
+            wanted: wanted as u64,
+        }),
+        Err(TrialError::Memory) => Err(ServeEnd::Memory),
+        Err(TrialError::System(error)) => Err(ServeEnd::NoTrial {
+            why: reason(system, &error)?,
+        }),
+    }
+}
+
 // ---- the sockets
 
-/// So many posts at each socket, one behind the other.
-fn posts_at(
+/// The folder of the sockets, taken.
+fn take_folder(system: &HostRuntime, path: &Text) -> Result<SocketFolder, ServeEnd> {
+    match SocketFolder::take(system, path.as_str()) {
+        Ok(folder) => Ok(folder),
+        Err(error) => Err(no_socket(system, path, &error)?),
+    }
+}
+
+/// The sockets, made out of sight.
+fn places_in(
     system: &HostRuntime,
-    sockets: &[Socket],
+    folder: &SocketFolder,
+    sockets: List<Socket>,
+) -> Result<List<Place>, ServeEnd>
+    ensures sockets { IfOk result (λ places. map socket_of_place places ≡ sockets) }
+    ensures count { IfOk result (λ places. length places ≡ length sockets) }
+{
+    let mut places = List::new(system.alloc());
+    for socket in sockets.into_vec() {
+        let listener = match folder.bind(system, places.len(), socket.path.as_str()) {
+            Ok(listener) => listener,
+            Err(error) => return Err(no_socket(system, &socket.path, &error)?),
+        };
+        places.push(Place { socket, listener })?;
+    }
+    Ok(places)
+}
+
+/// The posts of a service: so many as the words say at each socket, one behind the other.
+#[tactic(auto, using(crate::proofs::PostCount::posts_fit))]
+fn posts_for<'v, 'a>(
+    system: &HostRuntime,
+    words: &ServeWords,
+    standing: &'v Standing<'a>,
+    places: &'v [Place],
+) -> Result<List<SocketPost<'v, 'a>>, ServeEnd>
+    requires form { IsInForm words.now }
+    requires places { map socket_of_place places.now
+        ≡ sockets_in words.now.sockets words.now.apps }
+    requires count { length places.now ≡ 2 + 2 * length words.now.apps }
+    ensures posts { IfOk result (λ posts. (1 ≤ length posts) × (length posts ≤ 65535)) }
+    ensures bound { IfOk result (λ posts. map bound_of posts
+        ≡ posts_of words.now.workers (sockets_in words.now.sockets words.now.apps)) }
+{
+    posts_at(system, standing, places, words.workers)
+}
+
+/// So many posts at each socket, one behind the other.
+fn posts_at<'v, 'a>(
+    system: &HostRuntime,
+    standing: &'v Standing<'a>,
+    places: &'v [Place],
     workers: u32,
-) -> Result<List<SocketPost>, ServeEnd>
-    requires { 1 ≤ workers }
-    ensures bound { IfOk result (λ posts. map bound_of posts ≡ posts_of workers sockets.now) }
-    ensures count { IfOk result (λ posts. length posts ≡ workers * length sockets.now) }
+) -> Result<List<SocketPost<'v, 'a>>, ServeEnd>
+    ensures bound { IfOk result (λ posts. map bound_of posts
+        ≡ posts_of workers (map socket_of_place places.now)) }
+    ensures count { IfOk result (λ posts. length posts ≡ workers * length places.now) }
 {
     let mut posts = List::new(system.alloc());
-    for socket in sockets {
-        add_posts(system, &mut posts, socket, workers)?;
+    for place in places {
+        add_posts(system, &mut posts, standing, place, workers)?;
     }
     Ok(posts)
 }
 
-/// Adds the posts at a socket, which is made.
-fn add_posts(
+/// Adds the posts at a socket.
+fn add_posts<'v, 'a>(
     system: &HostRuntime,
-    posts: &mut List<SocketPost>,
-    socket: &Socket,
+    posts: &mut List<SocketPost<'v, 'a>>,
+    standing: &'v Standing<'a>,
+    place: &'v Place,
     workers: u32,
 ) -> Result<(), ServeEnd>
-    requires { 1 ≤ workers }
     ensures bound { OnOk result (map bound_of posts.new
-        ≡ map bound_of posts.old ++ replicate workers (bound_at socket.now)) }
+        ≡ map bound_of posts.old ++ replicate workers (bound_at place.now.socket)) }
     ensures count { OnOk result (length posts.new ≡ length posts.old + workers) }
 {
-    let listener = match SocketListener::bind(system, socket.path.as_str()) {
-        Ok(listener) => listener,
-        Err(error) => return Err(no_socket(system, socket, &error)?),
-    };
-    for _ in 1..workers {
-        let shared = match listener.share() {
-            Ok(shared) => shared,
-            Err(error) => return Err(no_socket(system, socket, &error)?),
+    for _ in 0..workers {
+        let listener = match SocketListener::new(&place.listener, standing) {
+            Ok(listener) => listener,
+            Err(error) => return Err(no_socket(system, &place.socket.path, &error)?),
         };
-        add_post(system, posts, socket, shared)?;
+        posts.push(Post {
+            listener,
+            who: place.socket.who.replica(system.alloc())?,
+            kind: place.socket.kind,
+        })?;
     }
-    add_post(system, posts, socket, listener)
-}
-
-/// Adds a post.
-fn add_post(
-    system: &HostRuntime,
-    posts: &mut List<SocketPost>,
-    socket: &Socket,
-    listener: SocketListener,
-) -> Result<(), ServeEnd>
-    ensures bound { OnOk result (map bound_of posts.new
-        ≡ map bound_of posts.old ++ bound_at socket.now ∷ []) }
-    ensures count { OnOk result (length posts.new ≡ length posts.old + 1) }
-{
-    posts.push(Post {
-        listener,
-        who: socket.who.replica(system.alloc())?,
-        kind: socket.kind,
-    })?;
     Ok(())
 }
 
 /// The end of a service of which a socket can't be made.
-fn no_socket(
+fn no_socket<E: fmt::Display>(
     system: &HostRuntime,
-    socket: &Socket,
-    error: &BindError,
+    path: &Text,
+    error: &E,
 ) -> Result<ServeEnd, WantOfMemory> {
     Ok(ServeEnd::NoSocket {
-        path: Text::copied(system.alloc(), socket.path.as_str())?,
+        path: Text::copied(system.alloc(), path.as_str())?,
         why: reason(system, error)?,
     })
 }

@@ -8,15 +8,15 @@ const ABOUT: &str = "\
 Serves the document portal and the permission store at Unix sockets.
 
 Each connection speaks D-Bus (host.bus, app.NAME.bus) or FUSE frames (host.mount,
-app.NAME.mount); the socket that it comes by says whose it is. Each socket is made so
-that its owner alone may connect. One line on standard output tells that all stand.";
+app.NAME.mount); the socket that it comes by says whose it is. Its owner alone may
+connect to a socket. One line on standard output tells that all stand and are served.";
 
 /// What `--help` says last.
 const AFTER_HELP: &str = "\
 It ends with 0 where every socket was closed, and else with one line on standard
-error: 1 the words are faulty, 2 a socket can't be made, 3 the store fails, 4 the store
-has a bad record, 5 no memory, 6 the store is of another version, 7 a socket failed.
-docs/serve.md says how to run it and how to keep its store.";
+error: 1 the words are faulty, 2 a socket can't be made or served, 3 the store fails, 4
+the store has a bad record, 5 no memory, 6 the store is of another version, 7 a socket
+failed. docs/serve.md says how to run it and how to keep its store.";
 
 /// What `--version` says.
 pub const VERSION: &str = "0.1.0";
@@ -44,7 +44,7 @@ pub fn form<'a>(alloc: Global) -> Result<Command<'a>, AllocError> {
             alloc,
             "sockets",
             "DIR",
-            "The folder that the sockets are made in",
+            "The folder that the sockets are made in; made where there is none",
         ))?
         .arg(number(
             alloc,

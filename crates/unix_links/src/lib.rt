@@ -2,27 +2,34 @@
 //!
 //! **It promises** what every listener does, and tells nothing of the links: a fault
 //! of accepting comes exactly where the count of faults rises, and no listener of
-//! these closes. Who may connect to a socket's path is outside what any contract
-//! says.
+//! these closes. Who may connect to a socket's path, and when one stands there, is
+//! outside what any contract says.
 //!
 //! | Room | Holds |
 //! |---|---|
-//! | `listener` | [`SocketListener`], whose links are connections to a socket |
-//! | `place` | the socket at a path: a stale one replaced, a live one refused |
+//! | `folder` | [`SocketFolder`], in which sockets are made out of sight and then put in their places |
+//! | `listener` | [`SocketListener`], whose links are connections to a socket, and [`Watch`], who is told what it meets |
+//! | `half` | [`Half`], by which both ends of a link share one descriptor |
 //! | `patient` | [`Patient`], a reader that is called again where it is interrupted |
-//! | `error` | why no listener was made |
+//! | `error` | why a socket can't stand somewhere |
 //!
 //! ```text
-//! let listener = SocketListener::bind(&rt, "/run/user/1000/docportal/host.bus")?;
-//! let another = listener.share()?;            // for a second worker
+//! let folder = SocketFolder::take(system, "/run/user/1000/docportal")?;
+//! let socket = folder.bind(system, 0, "/run/user/1000/docportal/host.bus")?;
+//! let first = SocketListener::new(&socket, &watch)?;
+//! let second = SocketListener::new(&socket, &watch)?;     // for a second worker
+//! folder.show(system, 0, "/run/user/1000/docportal/host.bus")?;
 //! ```
 #![tactic(auto)]
 
 mod error;
+mod folder;
+mod half;
 mod listener;
 mod patient;
-mod place;
 
 pub use error::BindError;
-pub use listener::SocketListener;
+pub use folder::SocketFolder;
+pub use half::Half;
+pub use listener::{SocketListener, Watch};
 pub use patient::Patient;

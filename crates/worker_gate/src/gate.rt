@@ -22,6 +22,9 @@ pub enum Point {
 pub trait Gate {
     /// The worker of this number is at this step.
     fn at(&self, worker: u32, point: Point);
+
+    /// The desk refused a request of the worker of this number.
+    fn refused(&self, _worker: u32, _why: &Refused) {}
 }
 
 /// A gate that holds nobody.
@@ -32,8 +35,8 @@ impl Gate for OpenGate {
     fn at(&self, _worker: u32, _point: Point) {}
 }
 
-/// A desk that tells a gate `Read` ahead of each request, and passes every
-/// call on.
+/// A desk that tells a gate `Read` ahead of each request and each refusal behind
+/// it, and passes every call on.
 ///
 /// Contracts see the desk that it borrows.
 #[derive(Drop)]
@@ -65,7 +68,11 @@ impl<'a, D: Desk, G: Gate> Desk for GateDesk<'a, D, G> {
 
     fn ask(&mut self, alloc: Global, request: Request) -> Result<Reply, Refused> {
         self.gate.at(self.worker, Point::Read);
-        self.desk.ask(alloc, request)
+        let answer = self.desk.ask(alloc, request);
+        if let Err(why) = &answer {
+            self.gate.refused(self.worker, why);
+        }
+        answer
     }
 
     fn known(&self) {

@@ -1,0 +1,122 @@
+//! The bytes of a file that is open.
+
+ghost use Rattle.std.specs.Prelude.{◌≤◌, length, IfOk};
+
+use crate::error::TreeError;
+use portal_base::list::{ByteList, List};
+use std::alloc::Global;
+use std::fs::{File, FileTimes};
+use std::io::ErrorKind;
+use std::os::unix::fs::FileExt;
+use std::time::{Duration, UNIX_EPOCH};
+
+/// The most bytes that room is made for ahead of reading them.
+const MOST_AT_ONCE: usize = 131_072;
+
+/// The bytes from an offset on, at most `size`.
+pub fn read(alloc: Global, file: &File, offset: u64, size: u32) -> Result<ByteList, TreeError>
+    ensures { IfOk result (λ bytes. length bytes ≤ size) }
+{
+    let size = size as usize;
+    let mut bytes = Vec::new(alloc);
+    let mut at = offset;
+    // An offset that no file has lies behind the end.
+    for _ in 0..u64::MAX {
+        let len = bytes.len();
+        if len >= size || i64::try_from(at).is_err() {
+            break;
+        }
+        let got = read_more(file, &mut bytes, at, (size - len).min(MOST_AT_ONCE))?;
+        if got == 0 {
+            break;
+        }
+        at = at.saturating_add(got as u64);
+    }
+    bytes.truncate(size);
+    Ok(List::from_vec(bytes))
+}
+
+/// Adds at most so many bytes from an offset on, and says how many.
+fn read_more(
+    file: &File,
+    bytes: &mut Vec<u8>,
+    offset: u64,
+    most: usize,
+) -> Result<usize, TreeError> {
+    let len = bytes.len();
+    let Some(room) = len.checked_add(most) else {
+        return Err(TreeError::Memory);
+    };
+    bytes.resize(room, 0)?;
+    let Some(part) = bytes.as_mut_slice().get_mut(len..) else {
+        return Err(TreeError::System);
+    };
+    let answer = file.read_at(part, offset);
+    let got = match answer {
+        Ok(got) => got,
+        Err(error) => return Err(fault(error.kind())),
+    };
+    bytes.truncate(len.saturating_add(got));
+    Ok(got)
+}
+
+/// Writes over the bytes from an offset on. Where it fails in the midst, what it made
+/// longer is cut back; bytes that it wrote over are lost.
+pub fn write(file: &File, offset: u64, content: &[u8], now: u64) -> Result<(), TreeError> {
+    let before = match file.metadata() {
+        Ok(metadata) => metadata.len(),
+        Err(error) => return Err(fault(error.kind())),
+    };
+    if let Err(error) = file.write_all_at(content, offset) {
+        cut_back(file, before, offset.saturating_add(content.len() as u64));
+        return Err(fault(error.kind()));
+    }
+    set_moment(file, now);
+    Ok(())
+}
+
+/// Cuts a file back to the length that it had, where a write made it longer: one that ends
+/// beyond the write was made longer by somebody else.
+fn cut_back(file: &File, len: u64, end: u64) {
+    if let Ok(after) = file.metadata() {
+        if after.len() > len && after.len() <= end {
+            let _ = file.set_len(len);
+        }
+    }
+}
+
+/// Cuts a file to a length, or fills it with zero bytes up to it.
+pub fn set_len(file: &File, size: u64, now: u64) -> Result<(), TreeError> {
+    if let Err(error) = file.set_len(size) {
+        return Err(fault(error.kind()));
+    }
+    set_moment(file, now);
+    Ok(())
+}
+
+/// Brings a file to rest.
+pub fn sync(file: &File) -> Result<(), TreeError> {
+    match file.sync_all() {
+        Ok(()) => Ok(()),
+        Err(error) => Err(fault(error.kind())),
+    }
+}
+
+/// Sets when a file changed last. Where the system refuses it, the moment stays
+/// the one that the system itself gave to the change.
+pub fn set_moment(file: &File, now: u64) {
+    if let Some(moment) = UNIX_EPOCH.checked_add(Duration::from_secs(now)) {
+        // Where the system refuses, as of a file of another owner, its own moment stays, and
+        // nobody is told of a fault.
+        let _ = file.set_times(FileTimes::new().set_modified(moment));
+    }
+}
+
+/// Why a call on a file that is open gave nothing: there is one, so it isn't missing.
+fn fault(kind: ErrorKind) -> TreeError {
+    if kind == ErrorKind::OutOfMemory {
+        TreeError::Memory
+    } else {
+        TreeError::System
+    }
+}

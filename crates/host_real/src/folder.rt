@@ -1,0 +1,53 @@
+//! A folder that is open.
+
+use std::io;
+
+/// A folder that is open, by its number, until it is dropped.
+pub struct Folder {
+    number: i32,
+}
+
+impl Folder {
+    /// The folder at a path of the system. Links on the way to it are followed, and one at
+    /// its end where a slash stands behind it.
+    pub fn open(path: &str) -> io::Result<Folder> {
+        opened(libc::AT_FDCWD, path)
+    }
+
+    /// The folder of a name in this one; a link at its end isn't followed.
+    pub fn below(&self, name: &str) -> io::Result<Folder> {
+        opened(self.number, name)
+    }
+
+    /// Its number.
+    pub fn number(&self) -> i32 {
+        self.number
+    }
+
+    /// Brings its names to rest.
+    pub fn sync(&self) -> io::Result<()> {
+        if libc::fsync(self.number) < 0 {
+            return Err(last_error());
+        }
+        Ok(())
+    }
+}
+
+impl Drop for Folder {
+    fn drop(self) {
+        let Folder { number } = self;
+        libc::close(number);
+    }
+}
+
+fn opened(folder: i32, name: &str) -> io::Result<Folder> {
+    let number = os::open_dir_at(folder, name.as_bytes());
+    if number < 0 {
+        return Err(last_error());
+    }
+    Ok(Folder { number })
+}
+
+fn last_error() -> io::Error {
+    io::Error::from_raw_os_error(os::errno())
+}

@@ -1,0 +1,100 @@
+//! The files that are kept open.
+
+use portal_base::list::List;
+use std::alloc::{AllocError, Global};
+use std::fs::File;
+
+/// A file that is kept open.
+#[derive(Drop)]
+struct Kept {
+    generation: u64,
+    /// Whether it was read or written by, and not only looked at.
+    was_used: bool,
+    /// The turn in which it was asked for last.
+    turn: u64,
+    file: File,
+}
+
+/// The files that are kept open, by their generations, for reading.
+#[derive(Drop)]
+pub struct KeptFiles {
+    files: Vec<Kept>,
+    /// How many there may be. There is room for them from the start.
+    most: usize,
+    turn: u64,
+}
+
+impl KeptFiles {
+    /// Room for so many, at least one.
+    pub fn new(alloc: Global, most: usize) -> Result<KeptFiles, AllocError> {
+        let most = most.max(1);
+        Ok(KeptFiles {
+            files: Vec::with_capacity(alloc, most)?,
+            most,
+            turn: 0,
+        })
+    }
+
+    /// Says whether the file of a generation is kept, which is looked at now.
+    pub fn looks_at(&mut self, generation: u64) -> bool {
+        self.turn = self.turn.saturating_add(1);
+        let turn = self.turn;
+        match self
+            .files
+            .iter_mut()
+            .find(|kept| kept.generation == generation)
+        {
+            Some(kept) => {
+                kept.turn = turn;
+                true
+            }
+            None => false,
+        }
+    }
+
+    /// The file of a generation, to read or write by.
+    pub fn used(&mut self, generation: u64) -> Option<&File> {
+        self.turn = self.turn.saturating_add(1);
+        let turn = self.turn;
+        let kept = self
+            .files
+            .iter_mut()
+            .find(|kept| kept.generation == generation)?;
+        kept.turn = turn;
+        kept.was_used = true;
+        Some(&kept.file)
+    }
+
+    /// The file of a generation.
+    pub fn get(&self, generation: u64) -> Option<&File> {
+        match self.files.iter().find(|kept| kept.generation == generation) {
+            Some(kept) => Some(&kept.file),
+            None => None,
+        }
+    }
+
+    /// Keeps a file, in the place of another where there is no more room: of one that was
+    /// only looked at before one that was used, and of these the one that wasn't asked for
+    /// the longest time.
+    pub fn keep(&mut self, generation: u64, file: File) -> Result<(), AllocError> {
+        self.turn = self.turn.saturating_add(1);
+        let kept = Kept {
+            generation,
+            was_used: false,
+            turn: self.turn,
+            file,
+        };
+        if self.files.len() < self.most {
+            self.files.push(kept)?;
+            return Ok(());
+        }
+        let oldest = self
+            .files
+            .iter_mut()
+            .min_by_key(|kept| (kept.was_used, kept.turn));
+        if let Some(oldest) = oldest {
+            *oldest = kept;
+        }
+        Ok(())
+    }
+}
