@@ -2,15 +2,15 @@
 
 ghost use Rattle.std.specs.Prelude.{◌≤◌, length, IfOk};
 
-use crate::content;
-use crate::error::{OpenError, TreeError, is_missing, is_refused};
 use crate::kept::KeptFiles;
 use crate::made::MadeFiles;
-use crate::numbers::Numbers;
 use crate::opener::{Opener, Purpose};
-use crate::sight::{Kind, Sight, seen};
 use crate::system::{System, Waiter};
-use crate::way::{Place, Way, text_of};
+use host_folders::content;
+use host_folders::error::{OpenError, TreeError, is_missing, is_refused};
+use host_folders::numbers::Numbers;
+use host_folders::sight::{Kind, Sight, seen};
+use host_folders::way::{Place, Way, text_of};
 use portal_base::files::{FileName, Look};
 use portal_base::list::{ByteList, List};
 use portal_base::names::HostPath;

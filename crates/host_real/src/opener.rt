@@ -5,8 +5,8 @@
 //! thread that doesn't come back is left, and another is asked from then on. All of them
 //! are started with the tree.
 
-use crate::error::OpenError;
 use crate::system::{System, Waiter};
+use host_folders::error::OpenError;
 use std::alloc::Global;
 use std::fs::{File, OpenOptions};
 use std::io::ErrorKind;

@@ -5,8 +5,8 @@ ghost use Rattle.portal_base.specs.Devices.{count_after};
 ghost use Rattle.host_tree.specs.Trees.{is_done_fault};
 
 use crate::below::{Attributes, FilesBelow};
-use crate::error::{OpenError, TreeError};
 use crate::system::{System, Waiter};
+use host_folders::error::{OpenError, TreeError};
 use host_tree::{AttrAnswer, HostTree, LookAnswer, TreeDone, TreeRead};
 use portal_base::files::FileName;
 use portal_base::names::HostPath;
