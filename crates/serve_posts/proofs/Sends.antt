@@ -1,6 +1,7 @@
 -- What a portal holds beside its devices may cross threads: each type by its parts.
-use denote.Param.Send.{IsSend, sendable}
+use denote.Param.Send.{IsSend, IsSync, sendable}
 use Rattle.std.proofs.Crossing.{crosses}
+use Rattle.dbus_types.proofs.shared.Shared.TheSendSync as shared
 use Rattle.dbus_types.proofs.types.Value.TheLaws.TheKnot as value
 use Rattle.dbus_types.proofs.types.WireType.TheLaws.TheKnot as wire_type
 use Rattle.document_records.proofs.applications.Applications.TheSendSync as applications
@@ -20,6 +21,7 @@ use Rattle.portal_model.proofs.request.AddRequest.TheSendSync as add
 use Rattle.portal_model.proofs.request.NodeRequest.TheSendSync as node
 use Rattle.portal_model.proofs.request.RightsCall.TheSendSync as rights
 use Rattle.change_signals.specs.contracts.outboxes.Outboxes as Outboxes
+use Rattle.dbus_types.specs.contracts.shared.Shared as Shared
 use Rattle.permission_table.specs.contracts.tables.Tables as Tables
 use Rattle.portal_base.specs.contracts.list.List as List
 use Rattle.portal_history.specs.contracts.history.History as History
@@ -42,6 +44,16 @@ stored = search (text.the_send, row.the_send, list.the_send, datum, crosses, sen
 change : IsSend Change.the_row
 change = search (text.the_send, row.the_send, list.the_send, datum, crosses, sendable) depth 60 fits 20000
 
+-- a change is one for all connections that it waits for, so it is read by several threads
+shared_datum : IsSync Datum.the_row
+shared_datum = search (crosses, value.crosses_both, wire_type.crosses_both, sendable) depth 60 fits 20000
+
+shared_change : IsSync Change.the_row
+shared_change = search (text.the_sync, row.the_sync, list.the_sync, shared_datum, crosses, sendable) depth 60 fits 20000
+
+one_change : IsSend (Shared.the_row Change.the_row)
+one_change = shared.the_send Change.the_row change shared_change
+
 -- what is asked
 call : IsSend (StoreCall.the_field).row
 call = search (crosses, value.crosses_both, wire_type.crosses_both, sendable) depth 60 fits 20000
@@ -57,7 +69,7 @@ pub history : IsSend History.the_row
 history = search (entry, crosses, sendable) depth 60 fits 20000
 
 pub outboxes : IsSend Outboxes.the_row
-outboxes = search (change, list.the_send, crosses, sendable) depth 60 fits 20000
+outboxes = search (change, one_change, list.the_send, crosses, sendable) depth 60 fits 20000
 
 pub tables : IsSend Tables.the_row
 tables = search (stored, crosses, sendable) depth 60 fits 20000
