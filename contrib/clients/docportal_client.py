@@ -28,7 +28,9 @@ import time
 from typing import NamedTuple
 
 MESSAGE_LIMIT = 16_777_216
+READ_LIMIT = 1_048_576
 WRITE_LIMIT = 131_072
+LINE_LIMIT = 1024
 RIGHTS = ("read", "write", "grant-permissions", "delete")
 
 
@@ -416,6 +418,10 @@ class Stream:
         except OSError as error:
             self.close()
             raise self._closed() from error
+        except BaseException:
+            # An item that was cut short, as by an interrupt, would take the next one's bytes.
+            self.close()
+            raise
 
     def _closed(self):
         return ConnectionClosed("%s: the connection was closed" % self.path, not self._got_any)
@@ -468,7 +474,7 @@ class Bus(Stream):
         self.send(b"\0AUTH EXTERNAL " + identity.encode() + b"\r\n")
         deadline = time.monotonic() + self.timeout
         line = bytearray()
-        while not line.endswith(b"\r\n"):
+        while not line.endswith(b"\r\n") and len(line) < LINE_LIMIT:
             line += self.take(1, deadline)
         if not line.startswith(b"OK "):
             self.close()
@@ -542,6 +548,13 @@ def path_text(raw):
     return os.fsdecode(raw.rstrip(b"\0"))
 
 
+def texts(items):
+    """Texts as a list. A text alone isn't taken for its letters."""
+    if isinstance(items, str):
+        raise TypeError("%r is a text, where a list of texts is due" % items)
+    return list(items)
+
+
 class Documents:
     """org.freedesktop.portal.Documents of a bus connection. Paths are those of the portal."""
 
@@ -608,20 +621,20 @@ class Documents:
     def add_full(self, paths, flags=AddFlags.REUSE_EXISTING, app="", permissions=()):
         """Adds files, for an application or for none: their identifiers, and what else is told."""
         return self._add("AddFull", "ahusas", paths,
-                         lambda places: [places, flags, app, list(permissions)])
+                         lambda places: [places, flags, app, texts(permissions)])
 
     def add_named_full(self, folder, name, flags=AddFlags.REUSE_EXISTING, app="", permissions=()):
         """Adds a file by its folder and name, for an application: as `add_full`."""
         return self._add("AddNamedFull", "hayusas", [folder], lambda places: [
-            places[0], path_bytes(name), flags, app, list(permissions)])
+            places[0], path_bytes(name), flags, app, texts(permissions)])
 
     def grant_permissions(self, document, app, permissions):
         """Gives an application rights in a document."""
-        self._call("GrantPermissions", "ssas", [document, app, list(permissions)])
+        self._call("GrantPermissions", "ssas", [document, app, texts(permissions)])
 
     def revoke_permissions(self, document, app, permissions):
         """Takes rights in a document from an application."""
-        self._call("RevokePermissions", "ssas", [document, app, list(permissions)])
+        self._call("RevokePermissions", "ssas", [document, app, texts(permissions)])
 
     def delete(self, document):
         """Takes a document away from everybody; its file stays."""
@@ -704,7 +717,7 @@ class PermissionStore:
 
     def set_permission(self, table, entry, app, permissions, create=True):
         """Gives an application these permissions in an entry; none take its row away."""
-        values = [table, create, entry, app, list(permissions)]
+        values = [table, create, entry, app, texts(permissions)]
         self._call("SetPermission", "sbssas", values)
 
     def delete_permission(self, table, entry, app):
@@ -754,6 +767,7 @@ class Opcode(enum.IntEnum):
 
 ROOT = 1
 FATTR_SIZE, FATTR_FH = 8, 64
+GETATTR_FH = 1
 
 
 def read_attr(data):
@@ -795,7 +809,7 @@ class Mount(Stream):
         """The next answer: its number, its error and its body."""
         deadline = time.monotonic() + self.timeout
         length, error, unique = struct.unpack("<IiQ", self.take(16, deadline))
-        if length < 16:
+        if not 16 <= length <= 16 + READ_LIMIT:
             self.close()
             raise ProtocolError("a frame of %d bytes" % length)
         return unique, -error, self.take(length - 16, deadline)
@@ -820,9 +834,10 @@ class Mount(Stream):
         """What stands by a name in a folder."""
         return read_attr(self.ask(Opcode.LOOKUP, node, os.fsencode(name) + b"\0")[40:])
 
-    def getattr(self, node):
-        """What stands at a node."""
-        return read_attr(self.ask(Opcode.GETATTR, node, struct.pack("<IIQ", 0, 0, 0))[16:])
+    def getattr(self, node, handle=None):
+        """What stands at a node, or is open by a handle."""
+        by = (0, 0, 0) if handle is None else (GETATTR_FH, 0, handle)
+        return read_attr(self.ask(Opcode.GETATTR, node, struct.pack("<IIQ", *by))[16:])
 
     def truncate(self, node, handle, length):
         """Gives the file of a handle a length, by SETATTR."""
@@ -939,10 +954,14 @@ class DocumentFile(io.RawIOBase):
         return True
 
     def readinto(self, buffer):
-        got = self._mount.read(self._node, self._handle, self._at, min(len(buffer), 1 << 20))
+        got = self._mount.read(self._node, self._handle, self._at, min(len(buffer), READ_LIMIT))
         buffer[:len(got)] = got
         self._at += len(got)
         return len(got)
+
+    def readall(self):
+        # RawIOBase asks for some thousand bytes at a time, each time by a request.
+        return b"".join(iter(lambda: self.read(READ_LIMIT), b""))
 
     def write(self, content):
         written = self._mount.write(self._node, self._handle, self._at,
@@ -954,12 +973,18 @@ class DocumentFile(io.RawIOBase):
         if whence == os.SEEK_CUR:
             offset += self._at
         elif whence == os.SEEK_END:
-            offset += self._mount.getattr(self._node).st_size
+            offset += self._mount.getattr(self._node, self._handle).st_size
+        elif whence != os.SEEK_SET:
+            raise ValueError("whence is %r" % whence)
+        if offset < 0:
+            raise ValueError("the place %d is ahead of the file" % offset)
         self._at = offset
         return offset
 
     def truncate(self, size=None):
         size = self._at if size is None else size
+        if size < 0:
+            raise ValueError("a length of %d" % size)
         self._mount.truncate(self._node, self._handle, size)
         return size
 

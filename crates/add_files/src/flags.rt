@@ -2,7 +2,7 @@
 
 ghost use Rattle.std.specs.Prelude.{◌≡◌};
 ghost use Rattle.portal_model.specs.Add.{adding_rights};
-ghost use Rattle.portal_model.specs.AddArguments.{are_flags, is_as_needed, persists, reuses};
+ghost use Rattle.portal_model.specs.AddArguments.{are_flags, is_as_needed, makes_strict, persists, reuses};
 
 use portal_model::request::AddRequest;
 use rights_rule::Rights;
@@ -15,6 +15,9 @@ const PERSISTENT: u32 = 2;
 
 /// Leave out what the application that is named holds in its own folder.
 const AS_NEEDED_BY_APP: u32 = 4;
+
+/// Let open handles of the document follow later revocations.
+const STRICT: u32 = 16;
 
 /// The flags that there are.
 const KNOWN: u32 = REUSE_EXISTING + PERSISTENT + AS_NEEDED_BY_APP;
@@ -38,6 +41,14 @@ pub fn persists(add: &AddRequest) -> bool
     ensures { result ≡ persists add.now }
 {
     add.flags / PERSISTENT % 2 == 1
+}
+
+/// Says whether the documents are strict: open handles of theirs follow later
+/// revocations.
+pub fn is_strict(add: &AddRequest) -> bool
+    ensures { result ≡ makes_strict add.now }
+{
+    add.flags / STRICT % 2 == 1
 }
 
 /// Says whether files are left out that the named application has.

@@ -106,6 +106,7 @@ fn change(alloc: Global, kind: &str, rest: &str) -> Result<RecordChange, VectorE
             number: small_number(first)?,
             path: List::copied(alloc, b"/a".as_slice())?,
             reusable: false,
+            strict: false,
             grants: List::new(alloc),
         })),
         "remove" => Ok(RecordChange::RemoveDocument {

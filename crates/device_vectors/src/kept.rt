@@ -72,6 +72,7 @@ fn document(alloc: Global, rest: &str) -> Result<DocRecord, VectorError> {
         number: small_number(number)?,
         path: text(alloc, path)?,
         reusable: false,
+        strict: false,
         grants: grants(alloc, words)?,
     })
 }

@@ -9,6 +9,7 @@ ghost use Rattle.file_ops.specs.Tries.{ShowsAt};
 
 use host_tree::{AttrAnswer, HostTree, LookAnswer};
 use portal_base::files::{FileName, Look};
+use portal_base::names::DocId;
 use portal_model::handle::Handle;
 
 /// An open file.
@@ -18,6 +19,10 @@ pub(crate) struct OpenFile<'a> {
     pub name: &'a FileName,
     /// The node that was opened.
     pub node: u64,
+    /// The document's number.
+    pub document: DocId,
+    /// Whether the document is strict.
+    pub strict: bool,
     /// Whether it may be read.
     pub read: bool,
     /// Whether it may be written.
@@ -35,12 +40,16 @@ pub(crate) fn open_file<'a>(handle: Option<&'a Handle>) -> Option<OpenFile<'a>>
             Handle::File {
                 name,
                 node,
+                document,
+                strict,
                 read,
                 write,
             },
         ) => Some(OpenFile {
             name,
             node: *node,
+            document: *document,
+            strict: *strict,
             read: *read,
             write: *write,
         }),
