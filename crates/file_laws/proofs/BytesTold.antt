@@ -50,7 +50,7 @@ any-sight (Some (SightOfFolder (FolderOf view number path may_write))) = tt
 
 any-handle : (o : Option Handle) → HandleOn Any o
 any-handle None = tt
-any-handle (Some (Handle.File name node read write)) = tt
+any-handle (Some (Handle.File name node document strict read write)) = tt
 any-handle (Some (Handle.Folder node entries)) = tt
 
 can-be : (t : State) (c : Connection) (r : NodeRequest) (given : Given) → LawfulNode t c r given → t.told ≡ true → CanBe t.files Any (node_given (walk_on_node t c r) given)

@@ -74,7 +74,7 @@ module _ (tree : Option (List File)) (f : NodeFacts) (r : NodeRequest) where
 
   handle-attr-still : (sight : Option Sight) (handle : Option Handle) → Still (get_attr_by_handle r sight handle)
   handle-attr-still sight None = tt
-  handle-attr-still sight (Some (Handle.File name node read write)) = at_name-on tree P name (tells_file (on_node r node) write) (λ g s m. refl)
+  handle-attr-still sight (Some (Handle.File name node document strict read write)) = at_name-on tree P name (tells_file (on_node r node) write) (λ g s m. refl)
   handle-attr-still sight (Some (Handle.Folder node names)) = attr-still sight
 
   get_attr-still : (b : Bool) (sight : Option Sight) (handle : Option Handle) → Still (cond b (get_attr_by_handle r sight handle) (get_attr_by_place r sight))
@@ -98,12 +98,12 @@ module _ (tree : Option (List File)) (f : NodeFacts) (r : NodeRequest) where
 
   names-still : (offset size : ℕ) (handle : Option Handle) → Still (read_names offset size handle)
   names-still offset size None = tt
-  names-still offset size (Some (Handle.File name node read write)) = tt
+  names-still offset size (Some (Handle.File name node document strict read write)) = tt
   names-still offset size (Some (Handle.Folder node names)) = refl
 
   release_dir-still : (fh : ℕ) (handle : Option Handle) → Still (release_dir fh handle)
   release_dir-still fh None = tt
-  release_dir-still fh (Some (Handle.File name node read write)) = tt
+  release_dir-still fh (Some (Handle.File name node document strict read write)) = tt
   release_dir-still fh (Some (Handle.Folder node names)) = refl
 
   access-still : (mask : ℕ) (sight : Option Sight) → Still (access mask sight)
@@ -125,7 +125,7 @@ module _ (tree : Option (List File)) (f : NodeFacts) (r : NodeRequest) where
 
   size-open : (a : SetsAttr) (handle : Option Handle) → At (path_if (sets_size a.valid) (path_of_open handle)) (by_file_handle handle (set_attr_open r a))
   size-open a None = tt
-  size-open a (Some (Handle.File name node read write)) = at_name-on tree (ChangesPath (path_if (sets_size a.valid) (Some name.path))) name (λ g s m. set_attr_of (on_node r node) a ebadf name write s m) (λ g s m. size-at (on_node r node) a ebadf name write s m)
+  size-open a (Some (Handle.File name node document strict read write)) = at_name-on tree (ChangesPath (path_if (sets_size a.valid) (Some name.path))) name (λ g s m. set_attr_of (on_node r node) a ebadf name write s m) (λ g s m. size-at (on_node r node) a ebadf name write s m)
   size-open a (Some (Handle.Folder node names)) = tt
 
   size-place : (a : SetsAttr) (sight : Option Sight) → At (path_if (sets_size a.valid) (path_of_sight sight)) (by_place sight (set_attr_at r a) (set_attr_of_folder r a))
@@ -198,7 +198,7 @@ module _ (tree : Option (List File)) (f : NodeFacts) (r : NodeRequest) where
 
   write-open-at : (limit offset : ℕ) (content : List ℕ) (handle : Option Handle) → At (path_if (has_bytes content) (path_of_open handle)) (by_file_handle handle (write_open limit offset content))
   write-open-at limit offset content None = tt
-  write-open-at limit offset content (Some (Handle.File name node may_read may_write)) = errs_if-on tree (ChangesPath (path_if (has_bytes content) (Some name.path))) (not may_write) ebadf (write_content limit name offset content) (λ k. content-at limit name offset content)
+  write-open-at limit offset content (Some (Handle.File name node document strict may_read may_write)) = errs_if-on tree (ChangesPath (path_if (has_bytes content) (Some name.path))) (not may_write) ebadf (write_content limit name offset content) (λ k. content-at limit name offset content)
   write-open-at limit offset content (Some (Handle.Folder node names)) = tt
 
   write-at : (limit offset : ℕ) (content : List ℕ) (handle : Option Handle) → At (path_if (has_bytes content) (path_of_open handle)) (write limit offset content handle)

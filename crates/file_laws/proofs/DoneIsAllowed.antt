@@ -99,14 +99,14 @@ module _ (s : State) (now : ℕ) where
   handle-was : (handle : Option Handle) (asked : Bool → Bool → Bool) (next : OnHandle) → M (by_file_handle handle next) →
       ((name : FileName) (node : ℕ) (may_read may_write : Bool) → M (next name node may_read may_write) → (asked may_read may_write ≡ true) × (has_named s name ≡ true)) → on_handle s asked handle ≡ true
   handle-was None asked next h k = cc
-  handle-was (Some (Handle.File name node may_read may_write)) asked next h k =
+  handle-was (Some (Handle.File name node document strict may_read may_write)) asked next h k =
       let parts = k name node may_read may_write h in
       and-both (asked may_read may_write) (has_named s name) parts.0 parts.1
   handle-was (Some (Handle.Folder node names)) asked next h k = cc
 
   any-handle-was : (handle : Option Handle) (next : OnHandle) → M (by_file_handle handle next) → is_file_handle handle ≡ true
   any-handle-was None next h = cc
-  any-handle-was (Some (Handle.File name node may_read may_write)) next h = refl
+  any-handle-was (Some (Handle.File name node document strict may_read may_write)) next h = refl
   any-handle-was (Some (Handle.Folder node names)) next h = cc
 
   module _ (f : NodeFacts) (r : NodeRequest) where
@@ -129,7 +129,7 @@ module _ (s : State) (now : ℕ) where
     get_attr-was : (b : Bool) (sight : Option Sight) (handle : Option Handle) → M (cond b (get_attr_by_handle r sight handle) (get_attr_by_place r sight)) → may_get_attr s b sight handle ≡ true
     get_attr-was false sight handle h = attr-was sight h
     get_attr-was true sight None h = cc
-    get_attr-was true sight (Some (Handle.File name node may_read may_write)) h = ap (λ (b : Bool). b || false) (named-look {X = Unit {0}} _ _ h (λ g n m d. tt)).0
+    get_attr-was true sight (Some (Handle.File name node document strict may_read may_write)) h = ap (λ (b : Bool). b || false) (named-look {X = Unit {0}} _ _ h (λ g n m d. tt)).0
     get_attr-was true sight (Some (Handle.Folder node names)) h = attr-was sight h
 
     size-was : (q : NodeRequest) (a : SetsAttr) (errno : ℕ) (name : FileName) (may_write : Bool) (size moment : ℕ) → M (set_attr_of q a errno name may_write size moment) → (not (sets_size a.valid) || may_write) ≡ true
@@ -207,7 +207,7 @@ module _ (s : State) (now : ℕ) where
 
     write_to-was : (offset : ℕ) (content : List ℕ) (handle : Option Handle) → M (by_file_handle handle (write_open f.file_limit offset content)) → may_write_to s content handle ≡ true
     write_to-was offset content None h = cc
-    write_to-was offset content (Some (Handle.File name node may_read may_write)) h =
+    write_to-was offset content (Some (Handle.File name node document strict may_read may_write)) h =
         let parts = passed (not may_write) ebadf (write_content f.file_limit name offset content) h in
         and-both may_write (is_none content || has_named s name) (not-not may_write parts.0) (content-was name offset content parts.1)
     write_to-was offset content (Some (Handle.Folder node names)) h = cc
@@ -219,12 +219,12 @@ module _ (s : State) (now : ℕ) where
 
     names-were : (offset size : ℕ) (handle : Option Handle) → M (read_names offset size handle) → is_folder_handle handle ≡ true
     names-were offset size None h = cc
-    names-were offset size (Some (Handle.File name node may_read may_write)) h = cc
+    names-were offset size (Some (Handle.File name node document strict may_read may_write)) h = cc
     names-were offset size (Some (Handle.Folder node names)) h = refl
 
     folder-was : (fh : ℕ) (handle : Option Handle) → M (release_dir fh handle) → is_folder_handle handle ≡ true
     folder-was fh None h = cc
-    folder-was fh (Some (Handle.File name node may_read may_write)) h = cc
+    folder-was fh (Some (Handle.File name node document strict may_read may_write)) h = cc
     folder-was fh (Some (Handle.Folder node names)) h = refl
 
     access-was : (mask : ℕ) (sight : Option Sight) → M (access mask sight) → may_access s mask sight ≡ true

@@ -69,7 +69,7 @@ module _ (tree : Option (List File)) (f : NodeFacts) (r : NodeRequest) (op : Nod
 
   handle-attr-fits : (sight : Option Sight) (handle : Option Handle) → On (get_attr_by_handle r sight handle)
   handle-attr-fits sight None = tt
-  handle-attr-fits sight (Some (Handle.File name node read write)) = at_name-on tree P name (tells_file (on_node r node) write) (λ g s m. (refl, tt))
+  handle-attr-fits sight (Some (Handle.File name node document strict read write)) = at_name-on tree P name (tells_file (on_node r node) write) (λ g s m. (refl, tt))
   handle-attr-fits sight (Some (Handle.Folder node names)) = attr-fits sight
 
   get_attr-fits : (b : Bool) (sight : Option Sight) (handle : Option Handle) → On (cond b (get_attr_by_handle r sight handle) (get_attr_by_place r sight))
@@ -157,12 +157,12 @@ module _ (tree : Option (List File)) (f : NodeFacts) (r : NodeRequest) (op : Nod
 
   names-fits : (offset size : ℕ) (handle : Option Handle) → On (read_names offset size handle)
   names-fits offset size None = tt
-  names-fits offset size (Some (Handle.File name node read write)) = tt
+  names-fits offset size (Some (Handle.File name node document strict read write)) = tt
   names-fits offset size (Some (Handle.Folder node names)) = (refl, tt)
 
   release_dir-fits : (fh : ℕ) → releases fh op ≡ true → (handle : Option Handle) → On (release_dir fh handle)
   release_dir-fits fh h None = tt
-  release_dir-fits fh h (Some (Handle.File name node read write)) = tt
+  release_dir-fits fh h (Some (Handle.File name node document strict read write)) = tt
   release_dir-fits fh h (Some (Handle.Folder node names)) = (refl, h)
 
   access-fits : (mask : ℕ) (sight : Option Sight) → On (access mask sight)

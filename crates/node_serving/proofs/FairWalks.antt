@@ -68,7 +68,7 @@ module _ (room : Room) where
 
   handled : (handle : Option Handle) (next : OnHandle) → ((name : FileName) (node : ℕ) (read write : Bool) → Fair room (next name node read write)) → Fair room (by_file_handle handle next)
   handled None next h = refl
-  handled (Some (Handle.File name node read write)) next h = h name node read write
+  handled (Some (Handle.File name node document strict read write)) next h = h name node read write
   handled (Some (Handle.Folder node names)) next h = refl
 
   -- ---- each request
@@ -90,7 +90,7 @@ module _ (room : Room) where
 
     attr_by : (sight : Option Sight) (handle : Option Handle) → Fair room (get_attr_by_handle r sight handle)
     attr_by sight None = refl
-    attr_by sight (Some (Handle.File name node read write)) = looked (tells_file (on_node r node) write) (λ g s m. refl)
+    attr_by sight (Some (Handle.File name node document strict read write)) = looked (tells_file (on_node r node) write) (λ g s m. refl)
     attr_by sight (Some (Handle.Folder node names)) = attr_at sight
 
     size_of : (q : NodeRequest) (a : SetsAttr) (errno : ℕ) (name : FileName) (may_write : Bool) (size moment : ℕ) → (errno == eio) ≡ false → Fair room (set_attr_of q a errno name may_write size moment)
@@ -142,12 +142,12 @@ module _ (room : Room) where
 
     names_read : (offset size : ℕ) (handle : Option Handle) → Fair room (read_names offset size handle)
     names_read offset size None = refl
-    names_read offset size (Some (Handle.File name node read write)) = refl
+    names_read offset size (Some (Handle.File name node document strict read write)) = refl
     names_read offset size (Some (Handle.Folder node names)) = refl
 
     folder_released : (fh : ℕ) (handle : Option Handle) → Fair room (release_dir fh handle)
     folder_released fh None = refl
-    folder_released fh (Some (Handle.File name node read write)) = refl
+    folder_released fh (Some (Handle.File name node document strict read write)) = refl
     folder_released fh (Some (Handle.Folder node names)) = refl
 
     abbrev facts : Option Sight → (ℕ → Option Handle) → (FileName → List ℕ) → ℕ → NodeFacts

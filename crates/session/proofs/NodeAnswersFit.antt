@@ -87,7 +87,7 @@ module _ (room : ℕ) where
 
   on_handle : (handle : Option Handle) (next : OnHandle) → ((name : FileName) (node : ℕ) (read write : Bool) → OnWalk (next name node read write)) → OnWalk (by_file_handle handle next)
   on_handle None next h = tt
-  on_handle (Some (Handle.File name node read write)) next h = h name node read write
+  on_handle (Some (Handle.File name node document strict read write)) next h = h name node read write
   on_handle (Some (Handle.Folder node names)) next h = tt
 
 -- ---- requests that are answered by a struct
@@ -119,7 +119,7 @@ place_fits r sight = on_place longest_struct sight (λ path may_write. tells_fil
 
 handle_fits : (r : NodeRequest) (sight : Option Sight) (handle : Option Handle) → On (get_attr_by_handle r sight handle)
 handle_fits r sight None = tt
-handle_fits r sight (Some (Handle.File name node read write)) = on_look longest_struct (tells_file (on_node r node) write) (λ g s m. least)
+handle_fits r sight (Some (Handle.File name node document strict read write)) = on_look longest_struct (tells_file (on_node r node) write) (λ g s m. least)
 handle_fits r sight (Some (Handle.Folder node names)) = place_fits r sight
 
 get_attr_fits : (r : NodeRequest) (flags : ℕ) (sight : Option Sight) (handle : Option Handle) → On (get_attr r flags sight handle)
@@ -204,7 +204,7 @@ open_dir_fits r sight room =
 
 release_dir_fits : (fh : ℕ) (handle : Option Handle) → On (release_dir fh handle)
 release_dir_fits fh None = tt
-release_dir_fits fh (Some (Handle.File name node read write)) = tt
+release_dir_fits fh (Some (Handle.File name node document strict read write)) = tt
 release_dir_fits fh (Some (Handle.Folder node names)) = tt
 
 access_fits : (mask : ℕ) (sight : Option Sight) → On (access mask sight)
@@ -231,7 +231,7 @@ read_fits bytes offset size handle =
 
 names_fit : (offset size : ℕ) (handle : Option Handle) → size ≤ read_limit → OnWalk size (read_names offset size handle)
 names_fit offset size None h = tt
-names_fit offset size (Some (Handle.File name node read write)) h = tt
+names_fit offset size (Some (Handle.File name node document strict read write)) h = tt
 names_fit offset size (Some (Handle.Folder node names)) h = (omega arith, h)
 
 read_dir_fits : (offset size : ℕ) (handle : Option Handle) → OnWalk size (read_dir offset size handle)

@@ -50,7 +50,7 @@ ends change call done now (look ∷ looks) failed h = tt
 -- ---- WRITE
 
 write-content : (limit : ℕ) (name : FileName) (offset : ℕ) (content : List ℕ) (node : ℕ) (read may : Bool) (now : ℕ) (looks : List Look) (failed : Bool) →
-    Changes (written offset content (Some (Handle.File name node read may)) now) (walked (write_content limit name offset content) now looks failed)
+    Changes (written offset content (Some (Handle.File name node document strict read may)) now) (walked (write_content limit name offset content) now looks failed)
 write-content limit name offset [] node read may now looks failed = refl
 write-content limit name offset (b ∷ bs) node read may now looks failed =
     let done : ℕ → NodeVerdict = λ moment. changes (Writes name offset (b ∷ bs) moment) (NodeAnswer.Written (length (b ∷ bs))) in
@@ -59,8 +59,8 @@ write-content limit name offset (b ∷ bs) node read may now looks failed =
 
 write-handle : (limit offset : ℕ) (content : List ℕ) (handle : Option Handle) (now : ℕ) (looks : List Look) (failed : Bool) → Changes (written offset content handle now) (walked (by_file_handle handle (write_open limit offset content)) now looks failed)
 write-handle limit offset content None now looks failed = tt
-write-handle limit offset content (Some (Handle.File name node read may)) now looks failed =
-    checked (written offset content (Some (Handle.File name node read may)) now) (not may) ebadf (write_content limit name offset content) now looks failed
+write-handle limit offset content (Some (Handle.File name node document strict read may)) now looks failed =
+    checked (written offset content (Some (Handle.File name node document strict read may)) now) (not may) ebadf (write_content limit name offset content) now looks failed
     (write-content limit name offset content node read may now looks failed)
 write-handle limit offset content (Some (Handle.Folder node names)) now looks failed = tt
 
@@ -116,10 +116,10 @@ attr-of r a errno name may size moment now looks failed = by_size (sets_size a.v
 attr-open : (r : NodeRequest) (a : SetsAttr) (handle : Option Handle) (now : ℕ) (looks : List Look) (failed : Bool) → Changes (cond (sets_size a.valid) (resizes (file_open handle) a.size now) FilesStay) (walked (by_file_handle handle (set_attr_open r a)) now looks failed)
 attr-open r a None now looks failed = tt
 attr-open r a (Some (Handle.Folder node names)) now looks failed = tt
-attr-open r a (Some (Handle.File name node read may)) now [] failed = tt
-attr-open r a (Some (Handle.File name node read may)) now (Look.Folder ∷ looks) failed = tt
-attr-open r a (Some (Handle.File name node read may)) now (Look.Missing ∷ looks) failed = tt
-attr-open r a (Some (Handle.File name node read may)) now (Look.File g size moment ∷ looks) failed = attr-of (on_node r node) a ebadf name may size moment now looks failed
+attr-open r a (Some (Handle.File name node document strict read may)) now [] failed = tt
+attr-open r a (Some (Handle.File name node document strict read may)) now (Look.Folder ∷ looks) failed = tt
+attr-open r a (Some (Handle.File name node document strict read may)) now (Look.Missing ∷ looks) failed = tt
+attr-open r a (Some (Handle.File name node document strict read may)) now (Look.File g size moment ∷ looks) failed = attr-of (on_node r node) a ebadf name may size moment now looks failed
 
 attr-folder : (r : NodeRequest) (a : SetsAttr) (f : Folder) (now : ℕ) (looks : List Look) (failed : Bool) → Changes (cond (sets_size a.valid) FilesStay FilesStay) (walked (set_attr_of_folder r a f) now looks failed)
 attr-folder r a f now looks failed = by_size (sets_size a.valid)
@@ -231,7 +231,7 @@ place-stays (Some (SightOfFolder f)) file folder h k = k f
 
 handle-stays : (handle : Option Handle) (next : OnHandle) → ((name : FileName) (node : ℕ) (read write : Bool) → Stays (next name node read write)) → Stays (by_file_handle handle next)
 handle-stays None next h = tt
-handle-stays (Some (Handle.File name node read write)) next h = h name node read write
+handle-stays (Some (Handle.File name node document strict read write)) next h = h name node read write
 handle-stays (Some (Handle.Folder node names)) next h = tt
 
 found-stays : (r : NodeRequest) (o : Option ℕ) → Stays (found_folder r o)
@@ -255,7 +255,7 @@ attr-by-place r sight = place-stays sight (λ path may_write. tells_file r may_w
 
 attr-by-handle : (r : NodeRequest) (sight : Option Sight) (handle : Option Handle) → Stays (get_attr_by_handle r sight handle)
 attr-by-handle r sight None = tt
-attr-by-handle r sight (Some (Handle.File name node read write)) = file-stays (tells_file (on_node r node) write) (λ generation size moment. refl)
+attr-by-handle r sight (Some (Handle.File name node document strict read write)) = file-stays (tells_file (on_node r node) write) (λ generation size moment. refl)
 attr-by-handle r sight (Some (Handle.Folder node names)) = attr-by-place r sight
 
 get_attr-stays : (r : NodeRequest) (flags : ℕ) (sight : Option Sight) (handle : Option Handle) → Stays (get_attr r flags sight handle)
@@ -277,12 +277,12 @@ open_dir-stays r sight room =
 
 names-stay : (offset size : ℕ) (handle : Option Handle) → Stays (read_names offset size handle)
 names-stay offset size None = tt
-names-stay offset size (Some (Handle.File name node read write)) = tt
+names-stay offset size (Some (Handle.File name node document strict read write)) = tt
 names-stay offset size (Some (Handle.Folder node names)) = refl
 
 release_dir-stays : (fh : ℕ) (handle : Option Handle) → Stays (release_dir fh handle)
 release_dir-stays fh None = tt
-release_dir-stays fh (Some (Handle.File name node read write)) = tt
+release_dir-stays fh (Some (Handle.File name node document strict read write)) = tt
 release_dir-stays fh (Some (Handle.Folder node names)) = refl
 
 access-stays : (mask : ℕ) (sight : Option Sight) → Stays (access mask sight)

@@ -222,7 +222,7 @@ module _ (path : List ℕ) where
   among-joined (x ∷ xs) ys = grind (arith, among-joined xs ys)
 
   handle-named : (h : Handle) → is_among (paths_of_handle h) path ≡ is_open_at path (Some h)
-  handle-named (Handle.File name node read write) = no-more (is_same name.path path)
+  handle-named (Handle.File name node document strict read write) = no-more (is_same name.path path)
     where
       no-more : (b : Bool) → (b || false) ≡ b
       no-more true = refl

@@ -57,7 +57,7 @@ any-sight (Some (SightOfFolder f)) = any-folder f
 
 any-handle : (o : Option Handle) → HandleOn Any o
 any-handle None = tt
-any-handle (Some (Handle.File name node read write)) = tt
+any-handle (Some (Handle.File name node document strict read write)) = tt
 any-handle (Some (Handle.Folder node names)) = tt
 
 -- what is done can be done with these files
