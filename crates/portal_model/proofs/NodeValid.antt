@@ -289,7 +289,7 @@ in_its_view node seen doc e = file_seen (view_of_node node) (id_of_node node) se
 -- the node of a file in an application's own view
 file-of-view-0 : (number : ℕ) → nat_lt number (2 ^ 32) ≡ true → (view_of_node (file_node 0 number) == 0) ≡ true
 file-of-view-0 number l =
-    let least : 2 * 2 ^ 32 + number < 2 ^ 36 = grind (arith, nat_tests) in
+    let least : 0 * 2 ^ 36 + (2 * 2 ^ 32 + number) < 2 ^ 36 = grind (arith, nat_tests) in
     let view : view_of_node (file_node 0 number) ≡ 0 = div-eq_of_lt least in
     ap (λ (n : ℕ). n == 0) view
 
