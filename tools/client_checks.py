@@ -13,7 +13,8 @@ import time
 
 from service import TOP, Service
 from docportal_client import (
-    DBusError, FILES, FILES_PATH, Failed, MESSAGE_LIMIT, Variant, path_bytes)
+    ConnectionClosed, DBusError, DOCUMENTS, DOCUMENTS_PATH, FILES, FILES_PATH, Failed,
+    MESSAGE_LIMIT, ServiceError, Variant, WRITE_LIMIT, path_bytes)
 
 COMMAND = os.path.join(TOP, "contrib", "clients", "docportal-client")
 
@@ -53,6 +54,7 @@ class Person:
                 os.closerange(3, 256)
                 os.chdir(self.folder)
                 os.environ.update(self.environment)
+                tempfile.tempdir = None  # or what was found of another TMPDIR stays
                 sys.stdin, sys.stdout, sys.stderr = (
                     open(number, mode) for number, mode in ((0, "r"), (1, "w"), (2, "w")))
                 sys.argv = ["docportal-client", *(line.split() if isinstance(line, str) else line)]
@@ -112,6 +114,7 @@ class Checks:
         document = self.five_commands()
         self.documents(document)
         self.files(document)
+        self.outputs(document)
         self.permissions()
         self.watch()
         self.refusals(document)
@@ -191,17 +194,39 @@ class Checks:
         self.person.environment["VISUAL"] = "false"
         self.types("edit " + document, status=1,
                    said="false failed; the document is as it was")
-        meddler = file_in(self.folder, "meddler",
-                          b"printf other > files/tour.txt; printf mine > \"$1\"\n")
-        self.person.environment["VISUAL"] = "sh " + meddler
-        status, out, said = self.person.types("edit " + document)
-        kept = said.rpartition(" ")[2].strip()
-        with open(kept) as file:
-            self.see("what is edited beside another's change",
-                     (status, out, said.startswith("docportal-client: the document was changed by "
-                                                   "another meanwhile; "), file.read()),
-                     (1, b"", True, "mine"))
+        self.is_kept(document, "an editor that fails", b"printf mine > \"$1\"; exit 3\n",
+                     "failed; the document is as it was\n")
+        self.types("cat " + document, "long\n")
+        self.is_kept(document, "what is edited beside another's change",
+                     b"printf other > files/tour.txt; printf mine > \"$1\"\n",
+                     "the document was changed by another meanwhile, and isn't written\n")
         self.types("cat " + document, "other")
+        editor = file_in(self.folder, "editor", b"echo saved > \"$1\"; echo > \"$1~\"\n")
+        self.person.environment["VISUAL"] = "sh " + editor
+        status, out, said = self.person.types("edit " + document)
+        self.see("what an editor leaves beside the copy",
+                 (status, out, said.endswith(" is kept: it has what your editor left there\n"),
+                  os.listdir(said.split()[1])), (0, b"", True, ["tour.txt~"]))
+        self.types("cat " + document, "saved\n")
+
+    def is_kept(self, document, what, editor, why):
+        """What is written in an editor, and doesn't come into the document, is kept."""
+        editor = file_in(self.folder, "editor", editor)
+        self.person.environment["VISUAL"] = "sh " + editor
+        status, out, said = self.person.types("edit " + document)
+        begin, _, kept = said.split("\n")[0].rpartition(" ")
+        with open(kept) as file:
+            self.see(what, (status, out, begin, said.endswith(why), file.read()),
+                     (1, b"", "docportal-client: what you wrote is kept in", True, "mine"))
+
+    def outputs(self, document):
+        """What is printed where nothing can be written: one line, and status 1."""
+        line = "for out in '>/dev/full' '>&-'; do eval '\"$0\" cat %s' $out; echo $? >&2; done"
+        done = subprocess.run(["sh", "-c", line % document, COMMAND], capture_output=True,
+                              env={**os.environ, **self.person.environment}, timeout=60)
+        begin = "docportal-client: standard output: "
+        self.see("what can't be printed", done.stderr.decode().splitlines(),
+                 [begin + "No space left on device", "1", begin + "Bad file descriptor", "1"])
 
     def permissions(self):
         self.types("permission-set devices camera org.ed yes")
@@ -279,6 +304,13 @@ class Checks:
                         % self.service.root)
         self.types("export files/none", status=1,
                    said="files/none isn't a file that is there (--noexist)")
+        self.types("export --noexist files/none/new", status=1,
+                   said="files/none/new is in no folder that is there")
+        self.types(["lookup", "files/a\nb\udcff"], status=1,
+                   said="%s/a\\nb\\udcff: a name that isn't UTF-8 can't be a document's"
+                        % self.service.root)
+        self.types("put %s files/none" % document, status=1,
+                   said="files/none: No such file or directory")
         self.types("export files", status=1,
                    said="%s isn't below the service's root %s (--root, DOCPORTAL_ROOT)"
                         % (self.service.root, self.service.root))
@@ -301,6 +333,8 @@ class Checks:
                  "cat DOC"),
                 ("ls --as ../x", "argument --as: ../x is no name of an application",
                  "ls [DOC] [--short]"),
+                ("cat 5a0c11d7 --short", "unrecognized arguments: --short", "cat DOC"),
+                (["lookup", ""], "a file's name is empty", "lookup FILE"),
                 ("permission-reset", "name an application, or --all",
                  "permission-reset APP|--all [--table TABLE]"),
                 ("permission-set a b c --data 256 --type y",
@@ -361,8 +395,8 @@ def full_history(see, folder):
                           "is that of the history, " + MODULE.RESTART)
         for line in ("documents", "ls"):
             checks.types(line, status=3,
-                         said="the service closes each connection at once, so its history is full: "
-                              + MODULE.RESTART)
+                         said="the service closed the connection at once: its history is full, or "
+                              "it ended just then; " + MODULE.RESTART)
     finally:
         service.kill()
 
@@ -394,22 +428,45 @@ def ways_to_fail(service):
         "a wrong application": lambda documents: documents.add_full([SECRET], 1, "..", []),
         "a missing file": lambda documents: documents.add_full([SECRET, "/none"]),
         "a path that is none": lambda documents: documents.add_full([SECRET, "none"]),
+        "a text for a list": lambda documents: documents.add_full([SECRET], 1, "org.ed", "read"),
         "17 files": lambda documents: documents.add_full([SECRET] * 17),
         "a full queue": fill_queue,
         "another part of the program presented it": present_behind_its_back,
     }
 
 
+def addition_that_counts_itself(see, service):
+    """A client that takes 0 for its file's place shares what a failed addition left there."""
+    def add(bus, path):
+        bus.call(FILES_PATH, FILES, "Present", "ay", [path_bytes(path)])
+        return bus.call(DOCUMENTS_PATH, DOCUMENTS, "Add", "hbb", [0, False, False], fds=1)[0]
+
+    with service.bus() as bus:
+        os.rename(service.root, service.root + ".away")
+        try:
+            add(bus, SECRET)
+            failed = False
+        except Failed:
+            failed = True
+        finally:
+            os.rename(service.root + ".away", service.root)
+        document = add(bus, "/picked.txt")
+        see("what is shared by a client that counts itself",
+            (failed, bus.documents.info(document)[0]), (True, SECRET))
+        bus.documents.delete(document)
+
+
 def failed_additions(see, service):
     """An addition that fails leaves no file for the next one of its connection."""
     for name in ("secret.txt", "picked.txt"):
         file_in(service.root, name, b"x")
+    addition_that_counts_itself(see, service)
     for what, fails in ways_to_fail(service).items():
         with service.bus() as bus:
             try:
                 fails(bus.documents)
                 failed = False
-            except DBusError:
+            except (DBusError, TypeError):
                 failed = True
             added = [bus.documents.add("/picked.txt", reuse_existing=False),
                      bus.documents.add_named("/", "picked.txt", reuse_existing=False),
@@ -434,6 +491,40 @@ def long_messages(see, service):
         except ValueError:
             sent = False
         see("a message that is too long", (sent, bus.permissions.list("long")), (False, []))
+
+
+class Interrupted:
+    """A socket that is interrupted half-way through what it sends."""
+
+    def __init__(self, under):
+        self.under = under
+
+    def __getattr__(self, name):
+        return getattr(self.under, name)
+
+    def sendall(self, data):
+        self.under.sendall(data[:len(data) // 2])
+        raise KeyboardInterrupt
+
+
+def interrupted_write(see, service):
+    """A write that is cut short takes no bytes of what is written behind it."""
+    with service.bus() as bus:
+        document = bus.documents.add("/picked.txt")
+    ends = []
+    with service.mount() as mount:
+        mount.write_document(document, b"whole")
+        file = mount.open_file(document, "r+b").detach()
+        mount._socket = Interrupted(mount._socket)
+        for _ in range(2):
+            try:
+                file.write(bytes(WRITE_LIMIT))
+            except (KeyboardInterrupt, ServiceError) as error:
+                ends.append(type(error))
+            mount._socket = getattr(mount._socket, "under", mount._socket)
+    with service.mount() as mount:
+        see("a write that is interrupted", (ends, mount.read_document(document)),
+            ([KeyboardInterrupt, ConnectionClosed], b"whole"))
 
 
 def completions(see):
@@ -474,6 +565,7 @@ def check(see):
         try:
             Checks(see, service, folder).all()
             failed_additions(see, service)
+            interrupted_write(see, service)
             long_messages(see, service)
         finally:
             service.kill()

@@ -201,6 +201,8 @@ class Writer:
                 self.put(inner, item)
 
     def array(self, element, items):
+        if isinstance(items, str):  # which would be taken for a list of its letters
+            raise TypeError("%r is a text, and no array" % items)
         self.number("u", 0)
         counted = len(self.out) - 4
         self.pad(alignment(element))
@@ -548,13 +550,6 @@ def path_text(raw):
     return os.fsdecode(raw.rstrip(b"\0"))
 
 
-def texts(items):
-    """Texts as a list. A text alone isn't taken for its letters."""
-    if isinstance(items, str):
-        raise TypeError("%r is a text, where a list of texts is due" % items)
-    return list(items)
-
-
 class Documents:
     """org.freedesktop.portal.Documents of a bus connection. Paths are those of the portal."""
 
@@ -587,8 +582,8 @@ class Documents:
         values = [[], AddFlags.REFUSED, "", []]
         try:
             self._call("AddFull", "ahusas", values, fds=self._queued)
-        except (InvalidArgument, InvalidArgs):
-            self._queued = 0
+        except (InvalidArgument, InvalidArgs, ServiceError, TimeoutError):
+            self._queued = 0  # with a connection its queue is gone too
         except DBusError:
             pass  # it stays there; the next addition goes by the places that Present answers
 
@@ -602,7 +597,7 @@ class Documents:
         try:
             places = [self.present(path) for path in paths]
             got = self._call(member, signature, values(places), fds=max(places, default=-1) + 1)
-        except DBusError:
+        except Exception:
             self.drop_presented()
             raise
         self._queued = 0
@@ -621,20 +616,20 @@ class Documents:
     def add_full(self, paths, flags=AddFlags.REUSE_EXISTING, app="", permissions=()):
         """Adds files, for an application or for none: their identifiers, and what else is told."""
         return self._add("AddFull", "ahusas", paths,
-                         lambda places: [places, flags, app, texts(permissions)])
+                         lambda places: [places, flags, app, permissions])
 
     def add_named_full(self, folder, name, flags=AddFlags.REUSE_EXISTING, app="", permissions=()):
         """Adds a file by its folder and name, for an application: as `add_full`."""
         return self._add("AddNamedFull", "hayusas", [folder], lambda places: [
-            places[0], path_bytes(name), flags, app, texts(permissions)])
+            places[0], path_bytes(name), flags, app, permissions])
 
     def grant_permissions(self, document, app, permissions):
         """Gives an application rights in a document."""
-        self._call("GrantPermissions", "ssas", [document, app, texts(permissions)])
+        self._call("GrantPermissions", "ssas", [document, app, permissions])
 
     def revoke_permissions(self, document, app, permissions):
         """Takes rights in a document from an application."""
-        self._call("RevokePermissions", "ssas", [document, app, texts(permissions)])
+        self._call("RevokePermissions", "ssas", [document, app, permissions])
 
     def delete(self, document):
         """Takes a document away from everybody; its file stays."""
@@ -717,7 +712,7 @@ class PermissionStore:
 
     def set_permission(self, table, entry, app, permissions, create=True):
         """Gives an application these permissions in an entry; none take its row away."""
-        values = [table, create, entry, app, texts(permissions)]
+        values = [table, create, entry, app, permissions]
         self._call("SetPermission", "sbssas", values)
 
     def delete_permission(self, table, entry, app):

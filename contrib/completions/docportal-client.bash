@@ -73,7 +73,9 @@ _docportal_client() {
     documents:0 | grant:1 | revoke:1 | permission-show:0 | permission-reset:0 | permission-set:2 | \
         permission-remove:2)
         for file in "$sockets"/app.*.bus; do
-            [[ -S $file ]] && file=${file##*/app.} && apps+=" ${file%.bus}"
+            # (compgen -W would run what stands in a name)
+            [[ -S $file ]] && file=${file##*/app.} && file=${file%.bus} &&
+                [[ $file =~ ^[A-Za-z0-9._-]+$ ]] && apps+=" $file"
         done
         mapfile -t COMPREPLY < <(compgen -W "$apps" -- "$cur")
         ;;

@@ -4,7 +4,8 @@
  *     docportal-mount $XDG_RUNTIME_DIR/docportal/app.org.ed.mount /run/user/1000/doc
  *
  * It opens /dev/fuse, mounts the folder, and carries the kernel's requests to the socket and the
- * answers back, each frame as it came (include/uapi/linux/fuse.h). It decides nothing: what a
+ * answers back, each frame as it came (include/uapi/linux/fuse.h), but for one bit of the answer to
+ * INIT, by which the kernel asks for several pieces of a file at once. It decides nothing: what a
  * caller may do is settled by the service, from the socket that the request came by. Only the
  * service's own threads are answered here, that nothing is there, since they would wait for
  * themselves. docs/mount.md says how it is used, and what programs may expect of the folder. */
@@ -21,6 +22,7 @@
 #include <signal.h>
 #include <stdarg.h>
 #include <stdbool.h>
+#include <stddef.h>
 #include <stdint.h>
 #include <stdio.h>
 #include <stdlib.h>
@@ -81,6 +83,8 @@ struct carrier {
     /* The folder of the service's threads in /proc, or -1; and a thread that isn't among them. */
     int threads;
     uint32_t stranger;
+    /* The number of an INIT that offers FUSE_ASYNC_READ, until it is answered, or 0. */
+    uint64_t offer;
     struct waiting requests, answers;
     /* Whether something was carried, and what was last. */
     bool moved;
@@ -110,6 +114,18 @@ static void end_by_signal(int number)
     ended = 1;
     (void)!write(ending_pipe[1], "", 1);
     errno = before;
+}
+
+/* Stands in for standard streams that are closed: /dev/fuse or a pipe would take their numbers,
+ * and what is said would be written there. */
+static void take_streams(void)
+{
+    int nowhere;
+    do
+        nowhere = open("/dev/null", O_RDWR);
+    while (nowhere >= 0 && nowhere < 3);
+    if (nowhere >= 0)
+        close(nowhere);
 }
 
 static int catch_signals(void)
@@ -350,6 +366,33 @@ static bool is_of_service(struct carrier *carrier, const struct fuse_in_header *
     return false;
 }
 
+/* Notes an INIT by which the kernel offers to ask for several pieces of a file at once. */
+static void note_offer(struct carrier *carrier, const unsigned char *frame, size_t length)
+{
+    struct fuse_in_header request;
+    uint32_t flags;
+    size_t at = sizeof request + offsetof(struct fuse_init_in, flags);
+    memcpy(&request, frame, sizeof request);
+    if (request.opcode != FUSE_INIT || length < at + sizeof flags)
+        return;
+    memcpy(&flags, frame + at, sizeof flags);
+    carrier->offer = flags & FUSE_ASYNC_READ ? request.unique : 0;
+}
+
+/* Takes that offer in the service's answer, which leaves it open: the service answers each READ by
+ * its number, however many wait. */
+static void take_offer(struct carrier *carrier, unsigned char *frame, size_t length)
+{
+    uint32_t flags;
+    size_t at = sizeof(struct fuse_out_header) + offsetof(struct fuse_init_out, flags);
+    carrier->offer = 0;
+    if (length < at + sizeof flags)
+        return;
+    memcpy(&flags, frame + at, sizeof flags);
+    flags |= FUSE_ASYNC_READ;
+    memcpy(frame + at, &flags, sizeof flags);
+}
+
 /* Answers a request that it can't pass on, that nothing is there, where an answer is expected. */
 static void answer_nothing_there(struct carrier *carrier, const struct fuse_in_header *request)
 {
@@ -392,10 +435,12 @@ static ssize_t take_request(struct carrier *carrier)
         errno = EPROTO;
         return -1;
     }
-    if (is_of_service(carrier, &request))
+    if (is_of_service(carrier, &request)) {
         answer_nothing_there(carrier, &request);
-    else
-        carrier->requests.end += (size_t)count;
+        return count;
+    }
+    note_offer(carrier, to, (size_t)count);
+    carrier->requests.end += (size_t)count;
     return count;
 }
 
@@ -436,6 +481,8 @@ static enum ending give_answers(struct carrier *carrier)
             return NO_FRAME;
         if (in->end - in->start < answer.len)
             break;
+        if (answer.unique == carrier->offer)
+            take_offer(carrier, in->bytes + in->start, answer.len);
         enum ending ending = give_answer(carrier, in->bytes + in->start, answer.len);
         if (ending)
             return ending;
@@ -560,6 +607,7 @@ static enum ending serve(const struct options *options, struct carrier *carrier,
         return NO_MOUNT;
     dev_t device = device_of(options->folder);
     carrier->stranger = 0;
+    carrier->offer = 0;
     carrier->requests.start = carrier->requests.end = 0;
     carrier->answers.start = carrier->answers.end = 0;
     tell_mounted(options, waiter);
@@ -578,9 +626,9 @@ static enum ending connect_and_serve(const struct options *options, struct carri
 {
     carrier->service = join_service(options->socket);
     if (carrier->service < 0) {
-        if (!quiet)
+        if (!quiet && !ended)
             say("%s: can't be joined: %s", options->socket, strerror(errno));
-        return NO_SERVICE;
+        return ended ? BY_SIGNAL : NO_SERVICE;
     }
     enum ending ending = NO_SERVICE;
     if (is_served(carrier->service)) {
@@ -589,7 +637,8 @@ static enum ending connect_and_serve(const struct options *options, struct carri
         if (carrier->threads >= 0)
             close(carrier->threads);
     } else if (!quiet && !ended) {
-        say("%s: no answer; its posts may be taken, or the history full", options->socket);
+        say("%s: no answer; its posts may be taken, the history full, or it is no mount's",
+            options->socket);
     }
     close(carrier->service);
     return ended ? BY_SIGNAL : ending;
@@ -731,6 +780,7 @@ int main(int argc, char **argv)
     struct options options = { .name = "docportal", .uid = geteuid(), .gid = getegid() };
     static struct carrier carrier;
     int waiter = -1;
+    take_streams();
     read_words(argc, argv, &options);
     if (catch_signals() < 0)
         return STATUS_NO_MOUNT;
