@@ -250,8 +250,8 @@ module _ (app : List ℕ) (a : AddRequest) (s base : State) (id : DocId) (path :
 pub base-again : (app : List ℕ) (who : Who) (a : AddRequest) (s : State) (id : DocId) (path : List ℕ) → Facts app s → used_again s.documents a path ≡ Some id → IsBase app who a s s id path
 base-again app who a s id path f e =
     let g : Again s.documents a path id = again-is s.documents a path id e in
-    let live : document_of s.documents g.document.id.number ≡ Some g.document = found-live (serves path (persists a)) g.document s.documents f.differ g.is_first in
-    let same : new_document a id path ≡ g.document = ap (λ (i : DocId). new_document a i path) (sym g.id_is) ∙ serves-new a path g.document (found_passes (serves path (persists a)) s.documents g.document g.is_first) g.reuse in
+    let live : document_of s.documents g.document.id.number ≡ Some g.document = found-live (serves path (persists a) (makes_strict a)) g.document s.documents f.differ g.is_first in
+    let same : new_document a id path ≡ g.document = ap (λ (i : DocId). new_document a i path) (sym g.id_is) ∙ serves-new a path g.document (found_passes (serves path (persists a) (makes_strict a)) s.documents g.document g.is_first) g.reuse in
     record {
       limits = refl;
       files = refl;

@@ -43,10 +43,10 @@ Any path = Unit {0}
 
 any-sight : (o : Option Sight) → SightOn Any o
 any-sight None = tt
-any-sight (Some (SightOfFile path may_write)) = tt
+any-sight (Some (SightOfFile d may_write)) = tt
 any-sight (Some (SightOfFolder (RootOf view numbers has_views))) = tt
 any-sight (Some (SightOfFolder (Views applications))) = tt
-any-sight (Some (SightOfFolder (FolderOf view number path may_write))) = tt
+any-sight (Some (SightOfFolder (FolderOf view d may_write))) = tt
 
 any-handle : (o : Option Handle) → HandleOn Any o
 any-handle None = tt

@@ -3,6 +3,7 @@ pub mod HandleChanges
 pub mod FoundHandles
 pub mod OlderHandleLaws
 pub mod OpenRights
+pub mod StrictHandleLaws
 pub mod ChangedPaths
 pub mod ChangedContents
 pub mod BytesTold

@@ -1,6 +1,7 @@
 -- A request on a node leaves a valid state valid.
-use Rattle.std.proofs.Common.{◌≡◌, ℕ, zero, suc, ◌+◌, ◌*◌, ◌/◌, ◌^◌, ◌==◌, nat_eq, nat_lt, length, List, [], ◌∷◌, map, Bool, true, false, not, ◌&&◌, ◌||◌, cond, Option, Some, None, refl, sym, ap, subst, ◌∙◌, arith}
+use Rattle.std.proofs.Common.{◌≡◌, ◌<◌, ℕ, zero, suc, ◌+◌, ◌*◌, ◌^◌, ◌==◌, nat_eq, nat_lt, length, List, [], ◌∷◌, map, Bool, true, false, not, ◌&&◌, ◌||◌, cond, Option, Some, None, refl, sym, ap, subst, ◌∙◌, arith}
 use Rattle.std.specs.List.{list_all, IsDistinct}
+use Rattle.std.proofs.Math.Nat.{div-eq_of_lt}
 use Rattle.std.proofs.lemmas.Bool.Decides.{nat_tests}
 use Rattle.std.proofs.lemmas.List.Folds.{list_all-append}
 use Rattle.portal_base.specs.Content.{paths_of}
@@ -31,7 +32,7 @@ use Rattle.portal_model.specs.GetAttr.{get_attr_by_handle, get_attr_by_place, ge
 use Rattle.portal_model.specs.Lookup.{entry_of_file, found_folder, lookup_in, named_in_root, named_in_views}
 use Rattle.portal_model.specs.Node.{NodeFacts, connections_after, counted, files_after, handles_after, is_full, new_handle, node_answer, node_done, node_given, node_walk, facts_of, room_of, settled_on_node, walk_on_node}
 use Rattle.portal_model.specs.NodeOutside.{LawfulNode}
-use Rattle.portal_model.specs.NodeVerdict.{NodeDoing, NodeVerdict, FileChange, FilesStay, Writes, Resizes, Creates, HandleChange, HandlesStay, Opens, Closes, Errs, Yields, Room, at_file, by_file_handle, by_place, errs, errs_if, is_too_long, no_file, told}
+use Rattle.portal_model.specs.NodeVerdict.{NodeDoing, NodeVerdict, FileChange, FilesStay, Writes, Resizes, Creates, HandleChange, HandlesStay, Opens, Closes, Errs, Yields, Room, at_file, at_name, by_file_handle, by_place, errs, errs_if, is_too_long, no_file, told}
 use Rattle.portal_model.specs.Open.{file_handle, has_no_mode, open_file, open_folder, open_name, open_node, opened_file, opens_to_write, truncates}
 use Rattle.portal_model.specs.OpenDir.{open_dir, open_dir_in, open_found}
 use Rattle.portal_model.specs.Outside.{files_told}
@@ -287,7 +288,10 @@ in_its_view node seen doc e = file_seen (view_of_node node) (id_of_node node) se
 
 -- the node of a file in an application's own view
 file-of-view-0 : (number : ℕ) → nat_lt number (2 ^ 32) ≡ true → (view_of_node (file_node 0 number) == 0) ≡ true
-file-of-view-0 number l = let small : (2 * 2 ^ 32 + number) / 2 ^ 36 ≡ 0 = grind (arith, nat_tests) in rw small refl
+file-of-view-0 number l =
+    let least : 0 * 2 ^ 36 + (2 * 2 ^ 32 + number) < 2 ^ 36 = grind (arith, nat_tests) in
+    let view : view_of_node (file_node 0 number) ≡ 0 = div-eq_of_lt least in
+    ap (λ (n : ℕ). n == 0) view
 
 module _ (s : State) (v : Valid s) where
   abbrev asking_in : Who → Asking
@@ -300,7 +304,7 @@ module _ (s : State) (v : Valid s) where
 
   own_node : (caller : Who) (view node : ℕ) (who : Who) → view ≡ view_of_node node → subject_of s.applications caller view ≡ Some who → is_own_node caller node ≡ true
   own_node Who.Host view node who n e = refl
-  own_node (Who.App app) zero node who n e = rw (← n) refl
+  own_node (Who.App app) zero node who n e = ap (λ (m : ℕ). m == 0) (sym n)
   own_node (Who.App app) (suc k) node who n e = cc
 
   live_file : (caller : Who) (node number : ℕ) (d : Document) → document_of s.documents number ≡ Some d → is_own_node caller node ≡ true → IsSoundFile (asking_in caller) node d

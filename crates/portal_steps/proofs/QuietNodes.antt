@@ -78,7 +78,7 @@ quiet-sound queued (c ∷ cs) h =
     (quiet-sound queued cs (second_of_both (is_sound_connection queued c) (list_all (is_sound_connection queued) cs) h))
 
 quiet-alike : (c : Connection) → AlikeConnections c (silent c)
-quiet-alike c = record { seat = refl; kind = refl; opens = omega arith }
+quiet-alike c = record { seat = refl; who = refl; kind = refl; opens = omega arith }
 
 pub quiet-valid : (s : State) → Valid s → Valid (quiet s)
 quiet-valid s v = Valid-connections s (map silent s.connections) v
