@@ -212,7 +212,7 @@ module _ (tree : Option (List File)) (f : NodeFacts) (r : NodeRequest) where
 
   write-open-at : (limit offset : ℕ) (content : List ℕ) (handle : Option Handle) → At (path_if (has_bytes content) (path_of_open handle)) (by_file_handle handle (write_open f.reach limit offset content))
   write-open-at limit offset content None = tt
-  write-open-at limit offset content (Some (Handle.File name node document strict may_read may_write)) = 
+  write-open-at limit offset content (Some (Handle.File name node document strict may_read may_write)) =
       let Q : NodeDoing → Type 0 = ChangesPath (path_if (has_bytes content) (Some name.path)) in
       let may : Bool = may_write_now f.reach (open_file_of name node document strict may_read may_write) in
       errs_if-on tree Q (not may_write) ebadf (errs_if (not may) eacces (write_content limit name offset content)) (λ k.

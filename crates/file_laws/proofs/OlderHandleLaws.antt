@@ -209,9 +209,9 @@ kept s before opening between later rest fh r l answered same asks by stays =
     let last : Legal now (later ∷ rest) = Legal-rest between (later ∷ rest) (after ahead opening) then in
     let still = run-keeps opening.seat fh made.handle between (after ahead opening) (EachLawful-front between (later ∷ rest) (after ahead opening) legal.lawful.1) stays made.made in
     let told : step now later ≡ step_by made.handle now r later.given (mount_of (connection_of now.connections opening.seat)) =
-          ap (λ (n : ℕ). request_step now n later.request later.given) same
-          ∙ (ap (λ (q : Request). request_step now opening.seat q later.given) asks
-          ∙ step-by-handle now r later.given opening.seat fh made.handle (mount_of (connection_of now.connections opening.seat)) (λ c m. (mount-seat now.connections opening.seat (connection_of now.connections opening.seat) refl c m).0) still by) in
+    ap (λ (n : ℕ). request_step now n later.request later.given) same
+    ∙ (ap (λ (q : Request). request_step now opening.seat q later.given) asks
+    ∙ step-by-handle now r later.given opening.seat fh made.handle (mount_of (connection_of now.connections opening.seat)) (λ c m. (mount-seat now.connections opening.seat (connection_of now.connections opening.seat) refl c m).0) still by) in
     record {
       handle = made.handle;
       new = made.new;

@@ -1,5 +1,5 @@
 -- What is done by an open file of a strict document needs the rights that its application has then.
-use Rattle.std.proofs.Common.{◌≡◌, ℕ, zero, suc, List, [], ◌∷◌, Bool, true, false, not, ◌&&◌, ◌||◌, cond, Option, Some, None, refl, sym, ap, subst, ◌∙◌}
+use Rattle.std.proofs.Common.{◌≡◌, ℕ, zero, suc, nat_lt, List, [], ◌∷◌, Bool, true, false, not, ◌&&◌, ◌||◌, cond, Option, Some, None, refl, sym, ap, subst, ◌∙◌}
 use Rattle.portal_base.specs.declared.files.FileName.{FileName}
 use Rattle.portal_base.specs.declared.files.Look.{Look}
 use Rattle.portal_base.specs.declared.names.doc_id.DocId.{DocId}
@@ -7,18 +7,19 @@ use Rattle.portal_base.specs.declared.who.Who.{Who}
 use Rattle.portal_model.specs.declared.entry.Entry.{Entry}
 use Rattle.portal_model.specs.declared.entry.Given.{Given}
 use Rattle.portal_model.specs.declared.handle.Handle.{Handle}
+use Rattle.portal_model.specs.declared.reply.NodeAnswer.TheVariants as NodeAnswer
 use Rattle.portal_model.specs.declared.request.NodeOp.{NodeOp}
 use Rattle.portal_model.specs.declared.request.NodeRequest.{NodeRequest}
 use Rattle.portal_model.specs.declared.request.Request.{Request}
 use Rattle.portal_model.specs.declared.rights.Right.TheVariants.{Read, Write}
 use Rattle.portal_model.specs.declared.state.Connection.{Connection}
-use Rattle.portal_model.specs.Attributes.{on_node}
+use Rattle.portal_model.specs.Attributes.{attr_of_file, on_node}
 use Rattle.portal_model.specs.Bus.{is_tree, moment_given}
 use Rattle.portal_model.specs.Errno.{eacces, ebadf, efbig, einval, eperm}
 use Rattle.portal_model.specs.GetAttr.{get_attr_by_handle, get_attr_by_place, get_attr_open, names_handle, tells_file}
 use Rattle.portal_model.specs.History.{made_by}
 use Rattle.portal_model.specs.Node.{NodeFacts, facts_of, node_walk, settled_on_node}
-use Rattle.portal_model.specs.NodeVerdict.{NodeVerdict, Errs, Yields, OnFile, OnHandle, at_name, by_file_handle, by_place, errs_if, if_file}
+use Rattle.portal_model.specs.NodeVerdict.{NodeVerdict, Errs, Yields, OnFile, OnHandle, at_name, by_file_handle, by_place, errs_if, if_file, told}
 use Rattle.portal_model.specs.Place.{reach_at, reach_of_subject, subject_of, view_of_node}
 use Rattle.portal_model.specs.Reach.{OpenFile, Reaching, may_read_now, may_write_now, open_file_of, reaches}
 use Rattle.portal_model.specs.Read.{read_limit, read_name, read_open}
@@ -123,8 +124,14 @@ module _ (s : State) (c : Connection) (now : ℕ) (failed : Bool) where
         reached false file i (not-not (reaches reach file) first.0) (λ e. cc)
 
     sized : (r : NodeRequest) (a : SetsAttr) (name : FileName) (may : Bool) (size moment : ℕ) (looks : List Look) → Done (set_attr_of r a name may size moment) looks → sets_size a.valid ≡ true → may ≡ true
-    sized r a name may size moment looks h e =
-        not-not may (passed (not may) eacces _ looks (subst (λ (b : Bool). Done (cond b _ _) looks) e h)).0
+    sized r a name may size moment looks h e = by-size (sets_size a.valid) h e
+      where
+        sets : Walk NodeVerdict
+        sets = errs_if (nat_lt a.limit a.size) efbig (resize r a name may)
+
+        by-size : (b : Bool) → Done (cond b (errs_if (not may) eacces sets) (told (NodeAnswer.Attr (attr_of_file r may size moment)))) looks → b ≡ true → may ≡ true
+        by-size true k f = not-not may (passed (not may) eacces sets looks k).0
+        by-size false k f = cc
 
     size-reached : (r : NodeRequest) (a : SetsAttr) (file : OpenFile) (looks : List Look) → IsStrict document file → Done (set_attr_open reach r a file) looks → Reached (sets_size a.valid)
     size-reached r a file looks i h =

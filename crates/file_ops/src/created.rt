@@ -251,7 +251,8 @@ fn make_looked<T: HostTree, C: Clock>(
     requires looks { Looks (T.is tree.old).told file.path look }
     ensures ok { IfOk result (λ ended. OpeningBehind
         (create_there call.now.request.now flags (room_in handles.old call.now.seat)
-        made.entry.document.now made.entry.node) look call.now.seat handles.old (T.is tree.old) ended handles.new (T.is tree.new)) }
+        made.entry.document.now made.entry.node) look call.now.seat handles.old (T.is tree.old)
+        ended handles.new (T.is tree.new)) }
     ensures clock { IfOk result (λ ended. Reads C.told clock.old (moment_of ended.call) clock.new) }
     ensures err { OnErr result (WasCalled (T.is tree.old) (T.is tree.new)) }
     ensures shown { OnErr result (is_look_fault look ≡ false) }
@@ -280,11 +281,12 @@ fn make_file<T: HostTree, C: Clock>(
     requires room { IsSomeAnd (opened_on handles.old.seats call.now.seat)
         (CanAdd handles.old.most) }
     requires first { file ≡ record { path = made.entry.document.now.path; generation = 0 } }
-    requires missing { IfSome (T.is tree.old).told (λ files. Look.Missing ≡ look_at files file.path) }
+    requires missing { IfSome (T.is tree.old).told (λ files.
+        Look.Missing ≡ look_at files file.path) }
     ensures ok { IfOk result (λ ended. Opening
         (create_there call.now.request.now flags (room_in handles.old call.now.seat)
-        made.entry.document.now made.entry.node Look.Missing) call.now.seat handles.old (T.is tree.old) (done_of_ended ended) handles.new
-        (T.is tree.new)) }
+        made.entry.document.now made.entry.node Look.Missing) call.now.seat handles.old
+        (T.is tree.old) (done_of_ended ended) handles.new (T.is tree.new)) }
     ensures clock { IfOk result (λ ended. Reads C.told clock.old (moment_of ended.call) clock.new) }
     ensures err { OnErr result (WasCalled (T.is tree.old) (T.is tree.new)) }
     ensures handles_err { OnErr result
@@ -296,7 +298,11 @@ fn make_file<T: HostTree, C: Clock>(
     match came {
         Came::Done => {
             let attr = attr_of_file(call.request, made.node, true, 0, now);
-            let fh = hand_out(handles, call.seat, file_handle(made.document, file, made.node, flags));
+            let fh = hand_out(
+                handles,
+                call.seat,
+                file_handle(made.document, file, made.node, flags),
+            );
             let answer = NodeAnswer::Created { attr, fh };
             Ok(Ended::by_call(now, came, answer))
         }

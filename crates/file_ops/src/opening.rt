@@ -198,8 +198,8 @@ fn open_name<T: HostTree, C: Clock>(
 ) -> Result<Ended, WantOfMemory>
     requires { IsSomeAnd (opened_on handles.old.seats call.now.seat) (CanAdd handles.old.most) }
     ensures ok { IfOk result (λ ended. Opening (open_name call.now.request.now flags
-        (room_in handles.old call.now.seat) document.now name) call.now.seat handles.old (T.is tree.old)
-        (done_of_ended ended) handles.new (T.is tree.new)) }
+        (room_in handles.old call.now.seat) document.now name) call.now.seat handles.old
+        (T.is tree.old) (done_of_ended ended) handles.new (T.is tree.new)) }
     ensures clock { IfOk result (λ ended. Reads C.told clock.old (moment_of ended.call) clock.new) }
     ensures err { OnErr result (Wants handles.old (T.is tree.old) handles.new (T.is tree.new)) }
     ensures clock_err { OnErr result (C.told clock.new ≡ C.told clock.old) }
@@ -224,8 +224,8 @@ fn open_cut<T: HostTree, C: Clock>(
     requires room { IsSomeAnd (opened_on handles.old.seats call.now.seat) (CanAdd handles.old.most) }
     requires cuts { truncates flags ≡ true }
     ensures ok { IfOk result (λ ended. Opening (open_name call.now.request.now flags
-        (room_in handles.old call.now.seat) document.now name) call.now.seat handles.old (T.is tree.old)
-        (done_of_ended ended) handles.new (T.is tree.new)) }
+        (room_in handles.old call.now.seat) document.now name) call.now.seat handles.old
+        (T.is tree.old) (done_of_ended ended) handles.new (T.is tree.new)) }
     ensures clock { IfOk result (λ ended. Reads C.told clock.old (moment_of ended.call) clock.new) }
     ensures err { OnErr result (Wants handles.old (T.is tree.old) handles.new (T.is tree.new)) }
     ensures clock_err { OnErr result (C.told clock.new ≡ C.told clock.old) }
@@ -252,7 +252,8 @@ fn handed(
     requires { IsSomeAnd (opened_on handles.old.seats call.now.seat) (CanAdd handles.old.most) }
     ensures answer { result ≡ NodeAnswer.Opened (next_handle (room_in handles.old call.now.seat)) }
     ensures opens { Handled call.now.seat
-        (Opens (file_handle document.now name call.now.request.now.node flags)) handles.old handles.new }
+        (Opens (file_handle document.now name call.now.request.now.node flags)) handles.old
+        handles.new }
 {
     let handle = file_handle(document, name, call.request.node, flags);
     NodeAnswer::Opened {

@@ -78,7 +78,11 @@ fn put_step(
         },
         "reusable" => {
             let path = path_of(alloc, second)?;
-            put_found(alloc, out, documents.reusable(&path, first.contains('p'), first.contains('s')))
+            put_found(
+                alloc,
+                out,
+                documents.reusable(&path, first.contains('p'), first.contains('s')),
+            )
         }
         "first" => {
             let path = path_of(alloc, first)?;
