@@ -21,7 +21,7 @@ use Rattle.portal_model.specs.declared.reply.Answer.{Answer}
 use Rattle.portal_model.specs.declared.reply.Code.TheVariants as Code
 use Rattle.portal_model.specs.declared.reply.NodeAnswer.{NodeAnswer}
 use Rattle.portal_model.specs.Bus.{is_tree}
-use Rattle.portal_model.specs.Errno.{eio, enoent}
+use Rattle.portal_model.specs.Errno.{eacces, ebadf, eio, enoent}
 use Rattle.portal_model.specs.Node.{files_after}
 use Rattle.portal_model.specs.NodeVerdict.{NodeVerdict, Errs, FileChange, FilesStay, HandleChange, HandlesStay, NodeDoing, OnFile, Yields, at_file, by_place, changes, errs, errs_if, errs_on_file, if_file, tells, told}
 use Rattle.portal_model.specs.declared.state.Document.{Document}
@@ -32,14 +32,17 @@ use Rattle.node_looks.specs.TreeCalls.{Calling, CallsAsTold, WasCalled, after_ca
 use Rattle.open_handles.specs.Opened.{HandleTable, handle_of as handle_in, opened_on}
 use Rattle.portal_model.specs.declared.handle.Handle.{Handle}
 use Rattle.portal_model.specs.declared.request.NodeOp.{NodeOp}
+use Rattle.portal_model.specs.Reach.{OpenFile, Reaching}
 use Rattle.portal_model.specs.SetAttr.{SetsAttr, set_attr}
 use Rattle.portal_model.specs.State.{State, handle_of}
-use Rattle.portal_model.specs.Write.{write}
+use Rattle.portal_model.specs.Write.{write, write_content, write_open}
 use Rattle.app_view.specs.Books.{Lends}
 use Rattle.node_looks.specs.Walks.{ComesToBehind}
+use Rattle.node_looks.specs.declared.opened.Allowed.{Allowed}
 use Rattle.node_looks.specs.declared.served.FileBook.{FileBook}
 use Rattle.node_looks.specs.declared.served.NodeCall.{NodeCall}
 use Rattle.node_looks.specs.Done.{Does, DoneBy, answer_of, file_change, handle_change}
+use Rattle.node_looks.specs.Opened.{IsAllowed}
 use Rattle.node_looks.specs.OpenHandles.{Handled}
 use Rattle.node_looks.proofs.DoneLemmas.{IsExact, done-in, handle-is, handles-stay, same-answer, walk-is}
 use Rattle.node_looks.specs.Sights.{sight_of}
@@ -320,6 +323,12 @@ write-does book call table fh offset content handle old done new h op f = λ s c
     ∙ (ap (λ (w : Who). write (reach_at s w) book.file_limit offset content (handle_of s.handles c.seat fh)) a.caller
     ∙ ap (write reach book.file_limit offset content) (sym (handle-is s c book call table old.told a fh) ∙ h))))
     (goes-done (write reach book.file_limit offset content handle) call.request.now.op call.seat table old done HandlesStay table new (subst IsExact (sym op) tt) (f s a.lists) (handles-stay call.seat table))
+
+-- by its open file
+pub open-writes : (reach : Reaching) (limit offset : ℕ) (content : List ℕ) (file : OpenFile) (allowed : Allowed) (old : TreeIs) (done : NodeDone) (new : TreeIs) → IsAllowed reach file allowed →
+    Goes (errs_if (not file.write) ebadf (errs_if (not allowed.write) eacces (write_content limit file.name offset content))) old done HandlesStay new → Goes (write_open reach limit offset content file) old done HandlesStay new
+open-writes reach limit offset content file allowed old done new i g =
+    subst (λ (b : Bool). Goes (errs_if (not file.write) ebadf (errs_if (not b) eacces (write_content limit file.name offset content))) old done HandlesStay new) i.write_is g
 
 pub set_attr-does : (book : FileBook) (call : NodeCall) (table : HandleTable) (valid fh size : ℕ) (handle : Option Handle) (old : TreeIs) (done : NodeDone) (new : TreeIs) → handle_in (opened_on table.seats call.seat) fh ≡ handle →
     call.request.now.op ≡ NodeOp.SetAttr valid fh size →
