@@ -4,7 +4,6 @@ use Rattle.portal_base.specs.declared.files.FileName.{FileName}
 use Rattle.portal_base.specs.declared.files.Look.{Look}
 use Rattle.portal_base.specs.declared.names.doc_id.DocId.{DocId}
 use Rattle.portal_base.specs.declared.who.Who.{Who}
-use Rattle.portal_model.specs.declared.entry.Entry.{Entry}
 use Rattle.portal_model.specs.declared.entry.Given.{Given}
 use Rattle.portal_model.specs.declared.handle.Handle.{Handle}
 use Rattle.portal_model.specs.declared.reply.NodeAnswer.TheVariants as NodeAnswer
@@ -19,17 +18,17 @@ use Rattle.portal_model.specs.Errno.{eacces, ebadf, efbig, einval, eperm}
 use Rattle.portal_model.specs.GetAttr.{get_attr_by_handle, get_attr_by_place, get_attr_open, names_handle, tells_file}
 use Rattle.portal_model.specs.History.{made_by}
 use Rattle.portal_model.specs.Node.{NodeFacts, facts_of, node_walk, settled_on_node}
-use Rattle.portal_model.specs.NodeVerdict.{NodeVerdict, Errs, Yields, OnFile, OnHandle, at_name, by_file_handle, by_place, errs_if, if_file, told}
+use Rattle.portal_model.specs.NodeVerdict.{NodeVerdict, OnFile, OnHandle, at_name, by_file_handle, by_place, errs_if, told}
 use Rattle.portal_model.specs.Place.{reach_at, reach_of_subject, subject_of, view_of_node}
 use Rattle.portal_model.specs.Reach.{OpenFile, Reaching, may_read_now, may_write_now, open_file_of, reaches}
-use Rattle.portal_model.specs.Read.{read_limit, read_name, read_open}
+use Rattle.portal_model.specs.Read.{read_name, read_open}
 use Rattle.portal_model.specs.SetAttr.{SetsAttr, resize, set_attr_at, set_attr_of, set_attr_of_folder, set_attr_of_open, set_attr_open, sets_by_handle, sets_owner_or_mode, sets_size}
 use Rattle.portal_model.specs.State.{State, connection_of, handle_of, has}
 use Rattle.portal_model.specs.Step.{all_told, mount_of, node_step, request_step}
 use Rattle.portal_model.specs.Walk.{Walk, walked}
-use Rattle.portal_model.specs.Write.{write_content, write_limit, write_open}
+use Rattle.portal_model.specs.Write.{write_content, write_open}
 use Rattle.app_world.specs.Touched.{is_done}
-use Rattle.file_laws.specs.StrictHandles.{AsksByStrict, HasRightsFor, StrictHandlesFollowRevocations, changes_file, file_asked, strict_document}
+use Rattle.file_laws.specs.StrictHandles.{HasRightsFor, StrictHandlesFollowRevocations, changes_file, file_asked, strict_document}
 use Rattle.file_laws.proofs.OpenRights.{who-app}
 use Rattle.file_laws.proofs.SeatMounts.{mount-seat}
 
