@@ -1,24 +1,25 @@
 //! The unsent signals of all connections.
 
-ghost use Rattle.std.specs.Prelude.{◌≡◌, ℕ, ◌≤◌, [], None, IsOk, IfOk, OnOk, OnErr, IfSome, unwrap_or, length, slice_get};
+ghost use Rattle.std.specs.Prelude.{◌≡◌, ℕ, ◌≤◌, [], None, IfOk, OnOk, OnErr, IfSome, unwrap_or, length, slice_get};
 ghost use Rattle.indexmap.specs.IndexMap.{set_value_at};
 ghost use Rattle.std.specs.Map.{values_of};
 ghost use Rattle.change_signals.specs.Unsent.{Boxes, unsent_on, entered, left, told, untold, holding, with_last, without_last, first_become, AtSeat, AtEach, IsSame};
 ghost use Rattle.portal_model.specs.declared.reply.Change.{Change};
 
+use crate::outbox::Outbox;
+use dbus_types::shared::Shared;
 use indexmap::IndexMap;
 use portal_base::list::List;
-use portal_base::memory::{Replica, WantOfMemory};
+use portal_base::memory::WantOfMemory;
 use portal_model::reply::Change;
 use std::alloc::Global;
 use std::marker::Model;
-use std::mem::replace;
 
 /// The unsent signals of the connections that hear of changes, by seat.
 #[derive(Drop)]
 pub struct Outboxes {
     alloc: Global,
-    boxes: IndexMap<u32, List<Change>>,
+    boxes: IndexMap<u32, Outbox>,
 }
 
 impl Model for Outboxes {
@@ -51,7 +52,7 @@ impl Outboxes {
         ensures ok { OnOk result (AtSeat entered self.old self.new seat) }
         ensures err { OnErr result (self.new ≡ self.old) }
     {
-        self.boxes.insert(seat, List::new(self.alloc))?;
+        self.boxes.insert(seat, Outbox::new(self.alloc))?;
         Ok(())
     }
 
@@ -60,20 +61,19 @@ impl Outboxes {
         ensures ok { OnOk result (AtEach (told change) self.old self.new) }
         ensures err { OnErr result (self.new ≡ self.old) }
     {
-        post_to_all(&mut self.boxes, &change, self.alloc)
+        let shared = Shared::new(self.alloc, change)?;
+        post_to_all(&mut self.boxes, &shared)
     }
 
     /// The unsent signals of a connection, of which none is unsent then; none where
-    /// it wasn't entered. It takes no memory.
+    /// it wasn't entered. Where there is no memory to copy them all are as they were.
     pub fn take(&mut self, seat: u32) -> Result<List<Change>, WantOfMemory>
-        ensures done { IsOk result }
         ensures signals { IfOk result (λ signals. signals
             ≡ unwrap_or (unsent_on self.old seat) []) }
-        ensures rest { AtSeat (holding []) self.old self.new seat }
+        ensures rest { OnOk result (AtSeat (holding []) self.old self.new seat) }
+        ensures err { OnErr result (self.new ≡ self.old) }
     {
-        // It has the form of a call that may want memory, so that another form of the boxes may
-        // copy them; this one never does.
-        Ok(exchange(&mut self.boxes, seat, List::new(self.alloc)))
+        take_at(&mut self.boxes, seat, self.alloc)
     }
 
     /// A connection ends, and its signals go.
@@ -101,37 +101,47 @@ impl Outboxes {
         ensures { AtSeat (holding taken) self.old self.new seat }
     {
         // The box is empty, as is required: to put changes ahead of others would take memory.
-        exchange(&mut self.boxes, seat, taken);
+        hold_at(&mut self.boxes, seat, taken, self.alloc);
     }
 }
 
-/// Puts signals in the place of those that are unsent on a connection, and answers
-/// these; where it wasn't entered the signals come back.
-fn exchange(
-    boxes: &mut IndexMap<u32, List<Change>>,
+/// Takes what is unsent on a connection; nothing where it wasn't entered.
+fn take_at(
+    boxes: &mut IndexMap<u32, Outbox>,
     seat: u32,
-    signals: List<Change>,
-) -> List<Change>
-    ensures signals { result ≡ unwrap_or (unsent_on boxes.old.entries seat) signals }
-    ensures rest { AtSeat (holding signals) boxes.old.entries boxes.new.entries seat }
+    alloc: Global,
+) -> Result<List<Change>, WantOfMemory>
+    ensures signals { IfOk result (λ signals. signals
+        ≡ unwrap_or (unsent_on boxes.old.entries seat) []) }
+    ensures rest { OnOk result
+        (AtSeat (holding []) boxes.old.entries boxes.new.entries seat) }
+    ensures err { OnErr result (boxes.new.entries ≡ boxes.old.entries) }
 {
     match boxes.get_mut(&seat) {
-        Some(unsent) => replace(unsent, signals),
-        None => signals,
+        Some(outbox) => outbox.take(alloc),
+        None => Ok(List::new(alloc)),
+    }
+}
+
+/// Puts signals in the place of those that are unsent on a connection.
+fn hold_at(boxes: &mut IndexMap<u32, Outbox>, seat: u32, signals: List<Change>, alloc: Global)
+    ensures { AtSeat (holding signals) boxes.old.entries boxes.new.entries seat }
+{
+    if let Some(outbox) = boxes.get_mut(&seat) {
+        outbox.hold(alloc, signals);
     }
 }
 
 /// Adds a change to every box, or to none.
 fn post_to_all(
-    boxes: &mut IndexMap<u32, List<Change>>,
-    change: &Change,
-    alloc: Global,
+    boxes: &mut IndexMap<u32, Outbox>,
+    change: &Shared<Change>,
 ) -> Result<(), WantOfMemory>
     ensures ok { OnOk result (AtEach (told change.now) boxes.old.entries boxes.new.entries) }
     ensures err { OnErr result (boxes.new.entries ≡ boxes.old.entries) }
 {
     for place in 0..boxes.len() {
-        match post_at(boxes, place, change, alloc) {
+        match post_at(boxes, place, change) {
             Ok(()) => {}
             Err(error) => {
                 unpost_first(boxes, place);
@@ -144,25 +154,24 @@ fn post_to_all(
 
 /// Adds a change to the box at a place.
 fn post_at(
-    boxes: &mut IndexMap<u32, List<Change>>,
+    boxes: &mut IndexMap<u32, Outbox>,
     place: usize,
-    change: &Change,
-    alloc: Global,
+    change: &Shared<Change>,
 ) -> Result<(), WantOfMemory>
     ensures ok { OnOk result (IfSome (slice_get (values_of boxes.old.entries) place)
         (λ signals. boxes.new.entries
         ≡ set_value_at boxes.old.entries place (with_last change.now signals))) }
     ensures err { OnErr result (boxes.new.entries ≡ boxes.old.entries) }
 {
-    let copy = change.replica(alloc)?;
+    let owner = change.share()?;
     match boxes.get_index_mut(place) {
-        Some(signals) => signals.push(copy),
+        Some(outbox) => outbox.push(owner),
         None => Ok(()),
     }
 }
 
 /// Takes the last signal out of each of the first boxes.
-fn unpost_first(boxes: &mut IndexMap<u32, List<Change>>, count: usize)
+fn unpost_first(boxes: &mut IndexMap<u32, Outbox>, count: usize)
     requires { count ≤ length boxes.old.entries }
     ensures { boxes.new.entries ≡ first_become without_last count boxes.old.entries }
 {
@@ -172,11 +181,11 @@ fn unpost_first(boxes: &mut IndexMap<u32, List<Change>>, count: usize)
 }
 
 /// Takes the last signal out of the box at a place.
-fn unpost_at(boxes: &mut IndexMap<u32, List<Change>>, place: usize)
+fn unpost_at(boxes: &mut IndexMap<u32, Outbox>, place: usize)
     ensures { IfSome (slice_get (values_of boxes.old.entries) place) (λ signals. boxes.new.entries
         ≡ set_value_at boxes.old.entries place (without_last signals)) }
 {
-    if let Some(signals) = boxes.get_index_mut(place) {
-        signals.pop();
+    if let Some(outbox) = boxes.get_index_mut(place) {
+        outbox.pop();
     }
 }

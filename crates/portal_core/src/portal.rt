@@ -768,7 +768,7 @@ fn make_room(
 }
 
 /// Takes room for an entry and for the Leaves of these connections behind it, and
-/// what the connection of a seat waits for. Want of memory takes nothing.
+/// what the connection of a seat waits for. Want of memory leaves that to wait.
 fn taken(
     history: &mut History,
     outboxes: &mut Outboxes,
@@ -781,7 +781,7 @@ fn taken(
     ensures rest { OnOk result (AtSeat (holding []) outboxes.old outboxes.new seat) }
     ensures entries { history.new.entries ≡ history.old.entries }
     ensures limit { history.new.limit ≡ history.old.limit }
-    ensures history { OnErr result (history.new ≡ history.old) }
+    ensures spare { history.old.spare ≤ history.new.spare }
     ensures outboxes { OnErr result (outboxes.new ≡ outboxes.old) }
 {
     make_room(history, connections, 1)?;

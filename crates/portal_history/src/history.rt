@@ -108,6 +108,7 @@ impl History {
         ensures err { OnErr result (self.new ≡ self.old) }
         ensures entries { self.new.entries ≡ self.old.entries }
         ensures limit { self.new.limit ≡ self.old.limit }
+        ensures spare { self.old.spare ≤ self.new.spare }
     {
         self.entries.reserve(count as usize)?;
         Ok(())

@@ -67,7 +67,11 @@ pub fn close<S: Storied>(turn: Turn<S>, passes: Vec<Pass<S>>) -> S
         → of_seat n (S.entries result) ≡ of_seat n (S.entries turn.start) }
 {
     let mut passes = passes;
-    let Turn { board, seats: _ } = turn;
+    let Turn {
+        board,
+        seats: _,
+        sleepers: _,
+    } = turn;
     // Passes may come in whatever order: the first seat's view knows how many numbers were given.
     let Some(at) = place_of_first(passes.as_slice()) else {
         unreachable!()

@@ -14,6 +14,7 @@
 //! | `start` | [`seats::Turn::start`]: a turn, and a pass for each seat |
 //! | `seats` | [`seats::Turn`], [`seats::Pass`], [`seats::Seat`]: a pass sits down in a thread, asks, and leaves |
 //! | `waiting` | [`waiting::WaitingSeat`]: a seat that waits, as a desk |
+//! | `sleepers` | how it sleeps until the turn is given back |
 //! | `end` | [`end::close`]: what keeps the history, given back |
 //! | `portals` | the same of a portal |
 //! | `rule`, `view` | the rule that all steps keep, and what it knows of a seat |
@@ -32,6 +33,7 @@ pub mod end;
 pub mod portals;
 pub mod rule;
 pub mod seats;
+mod sleepers;
 pub mod start;
 mod steps;
 mod table;

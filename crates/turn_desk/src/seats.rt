@@ -6,12 +6,14 @@ ghost use Rattle.turn_desk.specs.Asking.{Looks, Tries};
 ghost use Rattle.turn_desk.specs.Sights.{seated_of};
 
 use crate::rule::{Board, Place};
+use crate::sleepers::Sleepers;
 use crate::steps::{give_same, give_written, look, try_take};
 use portal_core::storied::Storied;
 use portal_model::asked::Asked;
 use portal_model::request::Request;
 use std::alloc::Global;
 use std::marker::Model;
+use std::sync::Wait;
 
 /// What seats share: one portal, and whose turn it is. It may be shared among
 /// threads.
@@ -22,6 +24,7 @@ use std::marker::Model;
 pub struct Turn<S: Storied> {
     pub(crate) board: Board<S>,
     pub(crate) seats: u32,
+    pub(crate) sleepers: Sleepers,
 }
 
 impl<S: Storied> Model for Turn<S> {
@@ -192,13 +195,22 @@ impl<'a, S: Storied> Seat<'a, S> {
         match portal.ask(alloc, number, request) {
             Ok(reply) => {
                 give_written(top, &mut self.place, portal);
+                turn.sleepers.wake_one(top);
                 Asked::Answered(reply)
             }
             Err(refused) => {
                 give_same(top, &mut self.place, portal);
+                turn.sleepers.wake_one(top);
                 self.refusals = self.refusals.saturating_add(1);
                 Asked::Refused(refused)
             }
         }
+    }
+
+    /// Waits a while for the turn, which another seat holds. It may return while
+    /// that still holds it.
+    pub(crate) fn wait_for_turn<R: Wait>(&self, rt: &R) {
+        let turn = self.turn;
+        turn.sleepers.wait(rt, &turn.board.shared);
     }
 }

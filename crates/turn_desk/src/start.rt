@@ -8,6 +8,7 @@ ghost use Rattle.turn_desk.specs.Knowing.{fresh};
 
 use crate::rule::{Place, Top};
 use crate::seats::{Pass, Turn};
+use crate::sleepers::Sleepers;
 use crate::table::{lay, split};
 use portal_core::storied::Storied;
 use std::alloc::Global;
@@ -97,7 +98,11 @@ impl<S: Storied> Turn<S> {
         passes.push_reserved(Pass { place, number: 1 });
         passes.rotate_right(1);
         Ok(Started {
-            turn: Turn { board, seats },
+            turn: Turn {
+                board,
+                seats,
+                sleepers: Sleepers::new(),
+            },
             passes,
         })
     }

@@ -12,7 +12,8 @@ use std::alloc::Global;
 use std::marker::Model;
 use std::sync::Wait;
 
-/// A seat that asks again while it is busy, until it has an answer.
+/// A seat that waits while another holds the turn, and asks again until it has
+/// an answer.
 ///
 /// Contracts see it as its seat.
 #[derive(Drop)]
@@ -72,6 +73,8 @@ impl<'a, R: Wait, S: Storied> Desk for WaitingSeat<'a, R, S> {
                 } => request = again,
                 Asked::Refused(refused) => return Err(refused),
             }
+            // Another held the turn as it was asked for.
+            self.seat.wait_for_turn(self.rt);
         }
         unreachable!()
     }

@@ -7,7 +7,7 @@ use Rattle.change_signals.proofs.outboxes.post_at.Goals as goal
 
 pub returns-in-Some-clause-err : goal.returns-in-Some-clause-err
 returns-in-Some-clause-err c =
-    let there : slice_get (values_of c.args.boxes.now.entries) c.args.place ≡ Some c.in-Some.signals.now = search rules in
+    let there : slice_get (values_of c.args.boxes.now.entries) c.args.place ≡ Some c.in-Some.outbox.now = search rules in
     on-err c.push.result
-    (λ same. ap (λ (xs : List Change). set_value_at c.args.boxes.now.entries c.args.place xs) same ∙ set-same c.args.boxes.now.entries c.args.place c.in-Some.signals.now there)
+    (λ same. ap (λ (xs : List Change). set_value_at c.args.boxes.now.entries c.args.place xs) same ∙ set-same c.args.boxes.now.entries c.args.place c.in-Some.outbox.now there)
     c.push.ensures.err
