@@ -4,6 +4,7 @@ pub mod FoundHandles
 pub mod OlderHandleLaws
 pub mod OpenRights
 pub mod StrictHandleLaws
+pub mod StrictExampleProofs
 pub mod ChangedPaths
 pub mod ChangedContents
 pub mod BytesTold

@@ -8,3 +8,4 @@ pub mod HandleLimits
 pub mod HostExamples
 pub mod OnlyAllowed
 pub mod StrictHandles
+pub mod StrictExamples
