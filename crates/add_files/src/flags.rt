@@ -7,9 +7,6 @@ ghost use Rattle.portal_model.specs.AddArguments.{are_flags, is_as_needed, makes
 use portal_model::request::AddRequest;
 use rights_rule::Rights;
 
-/// Use a document again.
-const REUSE_EXISTING: u32 = 1;
-
 /// Keep the document beyond the run.
 const PERSISTENT: u32 = 2;
 
@@ -19,17 +16,19 @@ const AS_NEEDED_BY_APP: u32 = 4;
 /// Let open handles of the document follow later revocations.
 const STRICT: u32 = 16;
 
-/// The flags that there are.
-const KNOWN: u32 = REUSE_EXISTING + PERSISTENT + AS_NEEDED_BY_APP;
+/// The first flag that there isn't: to export a folder. All below it are known.
+const EXPORT_DIRECTORY: u32 = 8;
 
-/// Says whether each flag is one that there is.
+/// Says whether each flag is one that there is, and the document isn't to be both
+/// strict and kept: the records that outlive a run don't tell what is strict.
 pub fn are_flags(flags: u32) -> bool
     ensures { result ≡ are_flags flags }
 {
-    flags <= KNOWN
+    let others = flags / EXPORT_DIRECTORY;
+    others == 0 || (others == STRICT / EXPORT_DIRECTORY && flags / PERSISTENT % 2 != 1)
 }
 
-/// Says whether a live document of the same path may be used again.
+/// Says whether a live document of the same path may be used again, by the flag 1.
 pub fn reuses(add: &AddRequest) -> bool
     ensures { result ≡ reuses add.now }
 {
