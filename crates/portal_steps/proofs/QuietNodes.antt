@@ -24,7 +24,7 @@ use Rattle.portal_model.specs.Lawful.{LawfulOnNode}
 use Rattle.portal_model.specs.Node.{bytes_named, connections_after, counted, files_after, handles_after, node_answer, node_given, node_walk, room_of, settled_on_node, walk_on_node}
 use Rattle.portal_model.specs.NodeVerdict.{HandleChange, HandlesStay, Opens, Closes, NodeVerdict, Errs, Yields}
 use Rattle.portal_model.specs.Outside.{files_told}
-use Rattle.portal_model.specs.Place.{Sight, place_named, sight_at, reach_of_subject, subject_of, view_of_node}
+use Rattle.portal_model.specs.Place.{place_named, reach_of_subject, sight_at, subject_of, view_of_node}
 use Rattle.portal_model.specs.State.{State, connection_of, handle_of, is_mount}
 use Rattle.portal_model.specs.Step.{all_told, mount_of, node_step, reply_with, told_of, with_signals}
 use Rattle.portal_model.specs.Walk.{Walk, Gives, reads_clock}
