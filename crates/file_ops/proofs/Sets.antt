@@ -1,5 +1,5 @@
 -- A SETATTR on the file of a document, and on an open file.
-use Rattle.std.proofs.Common.{◌≡◌, ℕ, List, Bool, true, false, not, nat_lt, ◌&&◌, ◌||◌, cond, refl, sym, ap, subst, ◌∙◌}
+use Rattle.std.proofs.Common.{◌≡◌, ℕ, List, Bool, true, false, not, nat_lt, ◌&&◌, ◌||◌, cond, refl, ap, subst, ◌∙◌}
 use Rattle.portal_base.specs.declared.files.Look.{Look}
 use Rattle.host_tree.specs.Trees.{TreeIs}
 use Rattle.host_tree.specs.declared.tree.LookAnswer.{LookAnswer}

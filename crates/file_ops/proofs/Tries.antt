@@ -23,7 +23,7 @@ use Rattle.portal_model.specs.declared.reply.NodeAnswer.{NodeAnswer}
 use Rattle.portal_model.specs.Bus.{is_tree}
 use Rattle.portal_model.specs.Errno.{eacces, ebadf, eio, enoent}
 use Rattle.portal_model.specs.Node.{files_after}
-use Rattle.portal_model.specs.NodeVerdict.{NodeVerdict, Errs, FileChange, FilesStay, HandleChange, HandlesStay, NodeDoing, OnFile, Yields, at_file, by_place, changes, errs, errs_if, errs_on_file, if_file, tells, told}
+use Rattle.portal_model.specs.NodeVerdict.{NodeVerdict, Errs, FileChange, FilesStay, HandleChange, HandlesStay, NodeDoing, OnFile, OnHandle, Yields, at_file, by_file_handle, by_place, changes, errs, errs_if, errs_on_file, if_file, tells, told}
 use Rattle.portal_model.specs.declared.state.Document.{Document}
 use Rattle.portal_model.specs.Place.{Folder, Sight, SightOfFolder, place_of, reach_at}
 use Rattle.portal_model.specs.Walk.{AtPath, Ends, Gives, IsFound, IsShown, LastCall, Looks, Named, Target, Walk, changes_file, is_found, look_of_file}
@@ -39,10 +39,11 @@ use Rattle.portal_model.specs.Write.{write, write_content, write_open}
 use Rattle.app_view.specs.Books.{Lends}
 use Rattle.node_looks.specs.Walks.{ComesToBehind}
 use Rattle.node_looks.specs.declared.opened.Allowed.{Allowed}
+use Rattle.node_looks.specs.declared.opened.OpenFile.{OpenFile as FileLent}
 use Rattle.node_looks.specs.declared.served.FileBook.{FileBook}
 use Rattle.node_looks.specs.declared.served.NodeCall.{NodeCall}
 use Rattle.node_looks.specs.Done.{Does, DoneBy, answer_of, file_change, handle_change}
-use Rattle.node_looks.specs.Opened.{IsAllowed}
+use Rattle.node_looks.specs.Opened.{IsAllowed, by_open_file, file_of}
 use Rattle.node_looks.specs.OpenHandles.{Handled}
 use Rattle.node_looks.proofs.DoneLemmas.{IsExact, done-in, handle-is, handles-stay, same-answer, walk-is}
 use Rattle.node_looks.specs.Sights.{sight_of}
@@ -288,6 +289,18 @@ along v w old ended change new e g = subst (λ (x : Walk NodeVerdict). Goes x ol
 pub along-ok : (v w : Walk NodeVerdict) (old : TreeIs) (r : Result Ended WantOfMemory) (change : HandleChange) (new : TreeIs) → v ≡ w → IfOk r (λ ended. Goes w old (done_of_ended ended) change new) →
     IfOk r (λ ended. Goes v old (done_of_ended ended) change new)
 along-ok v w old r change new e g = subst (λ (x : Walk NodeVerdict). IfOk r (λ ended. Goes x old (done_of_ended ended) change new)) (sym e) g
+
+pub walk-goes : (v w : Walk NodeVerdict) (old : TreeIs) (done : NodeDone) (change : HandleChange) (new : TreeIs) → v ≡ w → Goes w old done change new → Goes v old done change new
+walk-goes v w old done change new e g = subst (λ (x : Walk NodeVerdict). Goes x old done change new) (sym e) g
+
+pub picked : (b r : Bool) (w v : Walk NodeVerdict) → r ≡ b → r ≡ true → cond b w v ≡ w
+picked b r w v e t = ap (λ (c : Bool). cond c w v) (sym e ∙ t)
+
+-- by the open file of a handle
+pub by-open : (next : OnHandle) (handle : Option Handle) (o : Option FileLent) (file : FileLent) (old : TreeIs) (done : NodeDone) (change : HandleChange) (new : TreeIs) → by_file_handle handle next ≡ by_open_file o next → o ≡ Some file →
+    Goes (next (file_of file)) old done change new → Goes (by_file_handle handle next) old done change new
+by-open next handle o file old done change new e f g =
+    subst (λ (w : Walk NodeVerdict). Goes w old done change new) (sym (e ∙ ap (λ (x : Option FileLent). by_open_file x next) f)) g
 
 -- a folder is answered the same, whichever it is
 pub folder-goes : (p q : SeenPlace) (b : ViewBook) (who : Who) (file : Document → Bool → OnFile) (folder : Folder → Walk NodeVerdict) (t : TreeIs) (done : NodeDone) → p ≡ q → (f : Folder) → sight_of b who q ≡ SightOfFolder f →

@@ -247,7 +247,7 @@ fn make_looked<T: HostTree, C: Clock>(
 ) -> Result<Ended, WantOfMemory>
     requires room { IsSomeAnd (opened_on handles.old.seats call.now.seat)
         (CanAdd handles.old.most) }
-    requires first { file ≡ record { path = made.entry.document.now.path; generation = 0 } }
+    requires first { file ≡ record { path = made.document.now.path; generation = 0 } }
     requires looks { Looks (T.is tree.old).told file.path look }
     ensures ok { IfOk result (λ ended. OpeningBehind
         (create_there call.now.request.now flags (room_in handles.old call.now.seat)
@@ -280,7 +280,7 @@ fn make_file<T: HostTree, C: Clock>(
 ) -> Result<Ended, WantOfMemory>
     requires room { IsSomeAnd (opened_on handles.old.seats call.now.seat)
         (CanAdd handles.old.most) }
-    requires first { file ≡ record { path = made.entry.document.now.path; generation = 0 } }
+    requires first { file ≡ record { path = made.document.now.path; generation = 0 } }
     requires missing { IfSome (T.is tree.old).told (λ files.
         Look.Missing ≡ look_at files file.path) }
     ensures ok { IfOk result (λ ended. Opening

@@ -235,11 +235,10 @@ fn set_where<T: HostTree, C: Clock>(
     ensures err { OnErr result (WasCalled (T.is tree.old) (T.is tree.new)) }
     ensures clock_err { OnErr result (C.told clock.new ≡ C.told clock.old) }
 {
-    if reaches {
-        set_named(tree, clock, request, setting, name, subject)
-    } else {
-        Ok(Tried::unlooked(Ended::refused(EACCES)))
+    if !reaches {
+        return Ok(Tried::unlooked(Ended::refused(EACCES)));
     }
+    set_named(tree, clock, request, setting, name, subject)
 }
 
 /// How the request ends on a file of this name.

@@ -1,7 +1,5 @@
 -- What is answered by an open file of a strict document.
-use Rattle.std.proofs.Common.{◌≡◌, ℕ, List, Bool, true, false, Option, Some, refl, sym, ap, subst, ◌∙◌}
-use Rattle.portal_base.specs.declared.names.doc_id.DocId.{DocId}
-use Rattle.portal_model.specs.declared.entry.Entry.{Entry}
+use Rattle.std.proofs.Common.{◌≡◌, ℕ, List, Bool, true, false, Option, refl, sym, ap, subst, ◌∙◌}
 use Rattle.portal_model.specs.declared.reply.Answer.{Answer}
 use Rattle.portal_model.specs.declared.reply.NodeAnswer.TheVariants as NodeAnswer
 use Rattle.portal_model.specs.declared.reply.Reply.{Reply}
