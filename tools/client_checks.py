@@ -1,5 +1,6 @@
 """What a person sees who types commands of docportal-client, for serve-check."""
 
+import errno
 import importlib.machinery
 import importlib.util
 import json
@@ -113,6 +114,7 @@ class Checks:
     def all(self):
         document = self.five_commands()
         self.documents(document)
+        self.strict(document)
         self.files(document)
         self.outputs(document)
         self.permissions()
@@ -164,6 +166,20 @@ class Checks:
         self.types("--as org.ed put --name new.txt " + new, given=b"made\n")
         self.types("cat " + new, "made\n")
         self.types("unexport files/new.txt")
+
+    def strict(self, document):
+        """What is revoked is taken from a file that is open, where its document is strict."""
+        strict = self.document("export --strict --app org.ed files/tour.txt")
+        self.see("a strict document of its own", strict != document)
+        self.see("the same again", self.document("export --strict files/tour.txt"), strict)
+        with self.service.mount("org.ed") as mount:
+            for document, wanted in ((document, "hello"), (strict, "EACCES")):
+                self.types("grant %s org.ed read" % document)
+                with mount.open_file(document) as file:
+                    self.types("revoke %s org.ed read" % document)
+                    self.see("bytes of %s behind a revocation" % document, first_of(file), wanted)
+                self.types("grant %s org.ed read" % document)
+        self.types("unexport " + strict)
 
     def files(self, document):
         raw = bytes(range(256)) * 1200
@@ -335,6 +351,9 @@ class Checks:
                  "ls [DOC] [--short]"),
                 ("cat 5a0c11d7 --short", "unrecognized arguments: --short", "cat DOC"),
                 (["lookup", ""], "a file's name is empty", "lookup FILE"),
+                ("export --strict --persistent x",
+                 "a strict document isn't kept yet: leave out --persistent or --strict",
+                 "export FILE [--app APP [RIGHTS]] [--persistent | --strict] [--unique] [--noexist]"),
                 ("permission-reset", "name an application, or --all",
                  "permission-reset APP|--all [--table TABLE]"),
                 ("permission-set a b c --data 256 --type y",
@@ -491,6 +510,14 @@ def long_messages(see, service):
         except ValueError:
             sent = False
         see("a message that is too long", (sent, bus.permissions.list("long")), (False, []))
+
+
+def first_of(file):
+    """The first bytes of a document's file, or the error by which they are refused."""
+    try:
+        return file.read(5).decode()
+    except OSError as error:
+        return errno.errorcode[error.errno]
 
 
 class Interrupted:

@@ -537,6 +537,8 @@ class AddFlags(enum.IntFlag):
     REUSE_EXISTING = 1
     PERSISTENT = 2
     AS_NEEDED_BY_APP = 4
+    # docportal's own: what is revoked is taken from open files too.
+    STRICT = 16
     # No flag of the portal: a call with it is refused, and takes the presented files all the same.
     REFUSED = 1 << 31
 

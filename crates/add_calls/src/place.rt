@@ -439,5 +439,6 @@ fn new_document(
         path: path.replica(alloc)?,
         persistent: add.flags / 2 % 2 == 1,
         reusable: add.flags % 2 == 1,
+        strict: add.flags / 16 % 2 == 1,
     })
 }

@@ -2,13 +2,10 @@
 
 ghost use Rattle.std.specs.Prelude.{◌≡◌};
 ghost use Rattle.portal_model.specs.Add.{adding_rights};
-ghost use Rattle.portal_model.specs.AddArguments.{are_flags, is_as_needed, persists, reuses};
+ghost use Rattle.portal_model.specs.AddArguments.{are_flags, is_as_needed, makes_strict, persists, reuses};
 
 use portal_model::request::AddRequest;
 use rights_rule::Rights;
-
-/// Use a document again.
-const REUSE_EXISTING: u32 = 1;
 
 /// Keep the document beyond the run.
 const PERSISTENT: u32 = 2;
@@ -16,17 +13,22 @@ const PERSISTENT: u32 = 2;
 /// Leave out what the application that is named holds in its own folder.
 const AS_NEEDED_BY_APP: u32 = 4;
 
-/// The flags that there are.
-const KNOWN: u32 = REUSE_EXISTING + PERSISTENT + AS_NEEDED_BY_APP;
+/// Let open handles of the document follow later revocations.
+const STRICT: u32 = 16;
 
-/// Says whether each flag is one that there is.
+/// The first flag that there isn't: to export a folder. All below it are known.
+const EXPORT_DIRECTORY: u32 = 8;
+
+/// Says whether each flag is one that there is, and the document isn't to be both
+/// strict and kept: the records that outlive a run don't tell what is strict.
 pub fn are_flags(flags: u32) -> bool
     ensures { result ≡ are_flags flags }
 {
-    flags <= KNOWN
+    let others = flags / EXPORT_DIRECTORY;
+    others == 0 || (others == STRICT / EXPORT_DIRECTORY && flags / PERSISTENT % 2 != 1)
 }
 
-/// Says whether a live document of the same path may be used again.
+/// Says whether a live document of the same path may be used again, by the flag 1.
 pub fn reuses(add: &AddRequest) -> bool
     ensures { result ≡ reuses add.now }
 {
@@ -38,6 +40,14 @@ pub fn persists(add: &AddRequest) -> bool
     ensures { result ≡ persists add.now }
 {
     add.flags / PERSISTENT % 2 == 1
+}
+
+/// Says whether the documents are strict: open handles of theirs follow later
+/// revocations.
+pub fn is_strict(add: &AddRequest) -> bool
+    ensures { result ≡ makes_strict add.now }
+{
+    add.flags / STRICT % 2 == 1
 }
 
 /// Says whether files are left out that the named application has.

@@ -86,8 +86,8 @@ module _ (old new : List Triple) where
   mixed-number d false n = refl
 
   mixed-set : (d : Document) (b : Bool) (n : ℕ) → d.id.number ≡ n → set_in n (cond b (document_record new d) (document_record old d)) ≡ document_record new d
-  mixed-set d true n e = λ i. record { number = d.id.number; path = d.path; reusable = d.reusable; grants = records_in new (sym e i) }
-  mixed-set d false n e = λ i. record { number = d.id.number; path = d.path; reusable = d.reusable; grants = records_in new (sym e i) }
+  mixed-set d true n e = λ i. record { number = d.id.number; path = d.path; reusable = d.reusable; strict = d.strict; grants = records_in new (sym e i) }
+  mixed-set d false n e = λ i. record { number = d.id.number; path = d.path; reusable = d.reusable; strict = d.strict; grants = records_in new (sym e i) }
 
   -- one more that none of these documents has
   other-mixed : (n : ℕ) (p : ℕ → Bool) (ds : List Document) → list_all (is_elsewhere n) ds ≡ true → map (mixed p) ds ≡ map (mixed (with_one n p)) ds

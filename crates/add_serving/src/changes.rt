@@ -207,6 +207,7 @@ fn record_of(alloc: Global, grants: &Grants, document: &Document) -> Result<DocR
             number: document.id.number,
             path: List::copied(alloc, document.path.as_bytes())?,
             reusable: document.reusable,
+            strict: document.strict,
             grants,
         }),
         Err(error) => Err(error),

@@ -34,6 +34,7 @@ impl Same for Document {
             && self.path.is_same(&other.path)
             && self.persistent == other.persistent
             && self.reusable == other.reusable
+            && self.strict == other.strict
     }
 }
 
@@ -55,15 +56,26 @@ impl Same for Handle {
             Handle::File {
                 name,
                 node,
+                document,
+                strict,
                 read,
                 write,
             } => match other {
                 Handle::File {
                     name: n,
                     node: o,
+                    document: d,
+                    strict: s,
                     read: r,
                     write: w,
-                } => name.is_same(n) && *node == *o && *read == *r && *write == *w,
+                } => {
+                    name.is_same(n)
+                        && *node == *o
+                        && document.is_same(d)
+                        && *strict == *s
+                        && *read == *r
+                        && *write == *w
+                }
                 Handle::Folder { .. } => false,
             },
             Handle::Folder { node, names } => match other {

@@ -1,3 +1,4 @@
 pub mod SortedNumbers
 pub mod SortedNames
 pub mod SeenFolders
+pub mod ReachedRights

@@ -69,7 +69,7 @@ file-no-folder : (rights : List Triple) (who : Who) (o : Option Document) → Is
 file-no-folder rights who None h = h
 file-no-folder rights who (Some d) h = step (may_read rights who d) (who_has rights who d.id.number Write) h
   where
-    step : (b w : Bool) → IsFolder (cond b (Some (SightOfFile d.path w)) None) → ⊥
+    step : (b w : Bool) → IsFolder (cond b (Some (SightOfFile d w)) None) → ⊥
     step true w h = h
     step false w h = h
 
@@ -112,5 +112,5 @@ folder-opened b caller place view id look names d p e n m s l =
     let x : Document = d.document.now in
     let all : with_dots r.node (root_node view) (names_of_look (file_node view x.id.number) x.path look) ≡ names =
     ap (λ (j : ℕ). with_dots j (root_node view) (names_of_look (file_node view x.id.number) x.path look)) (k ∙ ap (folder_node view) (sym n)) ∙ sym m in
-    ap (λ (full : Bool). behind_look look (cond full (errs emfile) (open_found r room (FolderOf view x.id.number x.path d.may_write)))) f
+    ap (λ (full : Bool). behind_look look (cond full (errs emfile) (open_found r room (FolderOf view x d.may_write)))) f
     ∙ ap (λ (es : List DirName). Answers (opened_with r room es)) all))

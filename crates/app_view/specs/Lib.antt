@@ -2,3 +2,4 @@ pub mod Books
 pub mod Places
 pub mod Entries
 pub mod Sights
+pub mod Reached

@@ -23,7 +23,7 @@ place_seen s caller node = where_seen (sight_at s caller (place_named node)) (pl
 -- a folder is seen
 abbrev pub IsFolder : Option Sight → Type 0
 IsFolder None = ⊥
-IsFolder (Some (SightOfFile path may_write)) = ⊥
+IsFolder (Some (SightOfFile d may_write)) = ⊥
 IsFolder (Some (SightOfFolder folder)) = Unit {0}
 
 -- the place is a folder, whoever sees it

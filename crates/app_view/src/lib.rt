@@ -3,7 +3,8 @@
 //!
 //! **It promises** that [`place_of`] and [`node_of`] are the arithmetic of node
 //! numbers, each the way back of the other; that [`resolve`] answers a place
-//! exactly where the caller sees it, and takes no memory; and that [`listing`]
+//! exactly where the caller sees it, and takes no memory; that [`reach_at`] answers
+//! exactly the rights that the subject of a view has in a document; and that [`listing`]
 //! gives the entries with which FUSE_OPENDIR opens a folder, for which one look at
 //! the tree is enough. None of them changes anything.
 //!
@@ -12,6 +13,7 @@
 //! | `nodes` | [`place_of`] and [`node_of`]: numbers to places, and back |
 //! | `book` | [`ViewBook`]: the lists that all is answered from; [`Subject`]: whose rights count in a view |
 //! | `sight` | [`resolve`] and [`seen_document`]: what a caller sees |
+//! | `rights_now` | [`reach_at`]: the rights by which handles of strict documents go |
 //! | `entries` | [`listing`]: the entries of a folder |
 //! | `order` | what is listed, in its order |
 //!
@@ -29,9 +31,11 @@ mod book;
 mod entries;
 mod nodes;
 mod order;
+mod rights_now;
 mod sight;
 
 pub use book::{Subject, ViewBook, may_read, may_write, subject_of};
 pub use entries::listing;
 pub use nodes::{node_of, place_of};
+pub use rights_now::{Reach, reach_at};
 pub use sight::{SeenDocument, is_folder, resolve, seen_document};

@@ -2,7 +2,7 @@
 //! they name.
 
 ghost use Rattle.std.specs.Prelude.{◌≡◌, ◌<◌, ◌^◌, IfSome, Some};
-ghost use Rattle.portal_model.specs.Place.{place_named, place_of_kind_0, node_of, node_number, root_node, by_app_node, folder_node, file_node};
+ghost use Rattle.portal_model.specs.Place.{place_named, place_of_kind_0, node_of, node_number, root_node, by_app_node, folder_node, file_node, view_of_node};
 ghost use Rattle.app_view.specs.Places.{view_in};
 
 use crate::book::OWN_VIEW;
@@ -36,7 +36,7 @@ pub fn place_of(node: u64) -> Option<Place>
     ensures place { result ≡ place_named node }
     ensures back { IfSome result (λ place. node_of place ≡ node) }
 {
-    let view = (node >> VIEW_SHIFT) as u32;
+    let view = view_of(node);
     let id = (node & ID_MASK) as u32;
     match (node >> KIND_SHIFT) & KIND_MASK {
         TOP => top_place(view, id),
@@ -50,6 +50,13 @@ pub fn place_of(node: u64) -> Option<Place>
         }),
         _ => None,
     }
+}
+
+/// The view in a number.
+pub(crate) fn view_of(node: u64) -> u32
+    ensures { result ≡ view_of_node node }
+{
+    (node >> VIEW_SHIFT) as u32
 }
 
 /// The root of a view, or the folder of all views.

@@ -30,6 +30,7 @@ valid_with_another = record {
   connections_sound = refl;
   handles_differ = tt;
   handles_sound = refl;
+  handles_made = refl;
   handles_within = refl;
   entries_differ = tt;
   entries_sound = refl;

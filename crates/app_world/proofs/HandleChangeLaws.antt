@@ -203,7 +203,7 @@ closed_paths seat fh c path x g = elim (c.seat == seat) as (λ b. Among (paths_o
 
 -- an opened file has a path that is named
 opened_on : (ps : List (List ℕ)) (handle : Handle) (path : List ℕ) → OpensOn (Among ps) (Opens handle) → Among (paths_of_handle handle) path → Among ps path
-opened_on ps (Handle.File name node read write) path n h =
+opened_on ps (Handle.File name node document strict read write) path n h =
     let same : is_same name.path path ≡ true = either-way (is_same name.path path) false (λ e. e) (λ e. cc) h in
     ap (is_among ps) (sym (is_same-eq name.path path same)) ∙ n
 opened_on ps (Handle.Folder node entries) path n h = let no : false ≡ true = h in cc

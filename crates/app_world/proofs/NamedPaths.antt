@@ -23,16 +23,16 @@ module _ (On : List ℕ → Type 0) where
   abbrev pub FolderOn : Folder → Type 0
   FolderOn (RootOf view numbers has_views) = Unit {0}
   FolderOn (Views applications) = Unit {0}
-  FolderOn (FolderOf view number path may_write) = On path
+  FolderOn (FolderOf view d may_write) = On d.path
 
   abbrev pub SightOn : Option Sight → Type 0
   SightOn None = Unit {0}
-  SightOn (Some (SightOfFile path may_write)) = On path
+  SightOn (Some (SightOfFile d may_write)) = On d.path
   SightOn (Some (SightOfFolder f)) = FolderOn f
 
   abbrev pub HandleOn : Option Handle → Type 0
   HandleOn None = Unit {0}
-  HandleOn (Some (Handle.File name node read write)) = On name.path
+  HandleOn (Some (Handle.File name node document strict read write)) = On name.path
   HandleOn (Some (Handle.Folder node entries)) = Unit {0}
 
 -- ---- a document
@@ -54,14 +54,14 @@ module _ (v : AppView) where
 
   file_on : (number : ℕ) (o : Option HeldDocument) → found_document v.documents number ≡ o → SightOn Documents (own_sight o)
   file_on number None e = tt
-  file_on number (Some d) e = elim d.rights.read as (λ b. SightOn Documents (cond b (Some (SightOfFile d.document.path d.rights.write)) None)) [
+  file_on number (Some d) e = elim d.rights.read as (λ b. SightOn Documents (cond b (Some (SightOfFile d.document d.rights.write)) None)) [
     | true ↦ path_named v.documents number d e
     | false ↦ tt
   ]
 
   folder_on : (view number : ℕ) (o : Option HeldDocument) → found_document v.documents number ≡ o → SightOn Documents (own_sight_of_folder view o)
   folder_on view number None e = tt
-  folder_on view number (Some d) e = elim d.rights.read as (λ b. SightOn Documents (cond b (Some (SightOfFolder (FolderOf view d.document.id.number d.document.path d.rights.write))) None)) [
+  folder_on view number (Some d) e = elim d.rights.read as (λ b. SightOn Documents (cond b (Some (SightOfFolder (FolderOf view d.document d.rights.write))) None)) [
     | true ↦ path_named v.documents number d e
     | false ↦ tt
   ]
@@ -94,21 +94,21 @@ module _ (v : AppView) where
 module _ (On More : List ℕ → Type 0) (f : (path : List ℕ) → On path → More path) where
   pub handle_more : (o : Option Handle) → HandleOn On o → HandleOn More o
   handle_more None h = tt
-  handle_more (Some (Handle.File name node read write)) h = f name.path h
+  handle_more (Some (Handle.File name node document strict read write)) h = f name.path h
   handle_more (Some (Handle.Folder node entries)) h = tt
 
   pub sight_more : (o : Option Sight) → SightOn On o → SightOn More o
   sight_more None h = tt
-  sight_more (Some (SightOfFile path may_write)) h = f path h
+  sight_more (Some (SightOfFile d may_write)) h = f d.path h
   sight_more (Some (SightOfFolder (RootOf view numbers has_views))) h = tt
   sight_more (Some (SightOfFolder (Views applications))) h = tt
-  sight_more (Some (SightOfFolder (FolderOf view number path may_write))) h = f path h
+  sight_more (Some (SightOfFolder (FolderOf view d may_write))) h = f d.path h
 
 abbrev Among : List (List ℕ) → List ℕ → Type 0
 Among paths path = is_among paths path ≡ true
 
 own_on : (h : Handle) → HandleOn (Among (paths_of_handle h)) (Some h)
-own_on (Handle.File name node read write) = or-first (is_same name.path name.path) false (is_same-refl name.path)
+own_on (Handle.File name node document strict read write) = or-first (is_same name.path name.path) false (is_same-refl name.path)
 own_on (Handle.Folder node entries) = tt
 
 first_on : (h : OwnHandle) (rest : List (List ℕ)) (b : Bool) (o : Option OwnHandle) → HandleOn (Among rest) (option_map (λ (x : OwnHandle). x.handle) o) →

@@ -50,7 +50,7 @@ paths_host (x ∷ xs) = ap (λ (b : Bool). on_host x && b) (paths_host xs)
 -- ---- open files
 
 handle_host : (h : Handle) → has_host_path h ≡ true → list_all is_host_path (paths_of_handle h) ≡ true
-handle_host (Handle.File name node read write) e = both (is_host_path name.path) true e refl
+handle_host (Handle.File name node document strict read write) e = both (is_host_path name.path) true e refl
 handle_host (Handle.Folder node entries) e = refl
 
 abbrev handle_paths : List OwnHandle → List (List ℕ)

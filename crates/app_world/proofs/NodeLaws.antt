@@ -16,16 +16,17 @@ use Rattle.portal_model.specs.declared.request.NodeOp.{NodeOp}
 use Rattle.portal_model.specs.declared.request.NodeRequest.{NodeRequest}
 use Rattle.portal_model.specs.declared.state.Connection.{Connection}
 use Rattle.portal_model.specs.Bus.{is_tree, moment_given}
-use Rattle.portal_model.specs.Errno.{ebadf, einval, enoent}
+use Rattle.portal_model.specs.Errno.{eacces, ebadf, einval, enoent}
 use Rattle.portal_model.specs.Node.{NodeFacts, bytes_named, connections_after, facts_of, files_after, handles_after, node_answer, node_done, node_given, node_walk, settled_on_node, walk_on_node}
 use Rattle.portal_model.specs.NodeOutside.{LawfulNode}
 use Rattle.portal_model.specs.NodeVerdict.{FileChange, FilesStay, Writes, Resizes, Creates, NodeDoing, NodeVerdict, Errs, Yields, errs_if, tells}
-use Rattle.portal_model.specs.Place.{FolderOf, RootOf, Views, Sight, SightOfFile, SightOfFolder, place_of}
+use Rattle.portal_model.specs.Place.{FolderOf, RootOf, Views, Sight, SightOfFile, SightOfFolder, place_of, reach_at}
+use Rattle.portal_model.specs.Reach.{OpenFile, Reaching, may_read_now, open_file_of}
 use Rattle.portal_model.specs.Read.{read, read_limit}
 use Rattle.portal_model.specs.State.{State, handle_of, handles_of, held_of}
 use Rattle.portal_model.specs.Walk.{Walk, Ends, LastCall, Target, Uses, Gives, walked}
 use Rattle.app_world.specs.Effect.{apply_all}
-use Rattle.app_world.specs.Node.{bytes_effects, own_connections_after, own_facts, own_node_answer, own_node_done, own_node_given, own_place, own_settled_on_node, own_walk, verdict_touch}
+use Rattle.app_world.specs.Node.{bytes_effects, own_connections_after, own_facts, own_node_answer, own_node_done, own_node_given, own_place, own_reach, own_settled_on_node, own_walk, verdict_touch}
 use Rattle.app_world.specs.Own.{Own}
 use Rattle.app_world.specs.Shown.{own_bytes, own_looks, succeeding}
 use Rattle.app_world.specs.Touched.{is_done}
@@ -33,7 +34,7 @@ use Rattle.app_world.specs.View.{AppView, HeldDocument, OwnConnection, found_con
 use Rattle.app_world.proofs.FileChangeLaws.{file-effects}
 use Rattle.app_world.proofs.HandleChangeLaws.{changed-elsewhere, changed-named, connections-changed, handle-found, prune-named}
 use Rattle.app_world.proofs.NamedPaths.{HandleOn, SightOn, document_named, handle_named, place_on, sight_more}
-use Rattle.app_world.proofs.PlaceLaws.{own_place-is}
+use Rattle.app_world.proofs.PlaceLaws.{own_place-is, own_reach-is}
 use Rattle.app_world.proofs.ShownLaws.{Agrees, Finds, bytes-on, changes-found, makes-found, name-agrees, path-agrees, succeeding-given, uses-found}
 use Rattle.app_world.proofs.WalksAlong.{Along, CanBe, CanDo, given-can, walk-along}
 
@@ -41,17 +42,18 @@ use Rattle.app_world.proofs.WalksAlong.{Along, CanBe, CanDo, given-can, walk-alo
 
 abbrev SameBytes : (FileName → List ℕ) → (FileName → List ℕ) → Option Handle → Type 0
 SameBytes bytes more None = Unit {0}
-SameBytes bytes more (Some (Handle.File name node read write)) = bytes name ≡ more name
+SameBytes bytes more (Some (Handle.File name node document strict read write)) = bytes name ≡ more name
 SameBytes bytes more (Some (Handle.Folder node entries)) = Unit {0}
 
-read-alike : (bytes more : FileName → List ℕ) (offset size : ℕ) (handle : Option Handle) → SameBytes bytes more handle → read bytes offset size handle ≡ read more offset size handle
-read-alike bytes more offset size None h = refl
-read-alike bytes more offset size (Some (Handle.File name node read write)) h =
-    ap (λ (found : List ℕ). errs_if (nat_lt read_limit size) einval (errs_if (not read) ebadf (Ends (Uses name) (λ now. tells (NodeAnswer.Content (bytes_from found offset size))) (Errs enoent)))) h
-read-alike bytes more offset size (Some (Handle.Folder node entries)) h = refl
+read-alike : (reach : Reaching) (bytes more : FileName → List ℕ) (offset size : ℕ) (handle : Option Handle) → SameBytes bytes more handle → read reach bytes offset size handle ≡ read reach more offset size handle
+read-alike reach bytes more offset size None h = refl
+read-alike reach bytes more offset size (Some (Handle.File name node document strict read write)) h =
+    let file : OpenFile = open_file_of name node document strict read write in
+    ap (λ (found : List ℕ). errs_if (nat_lt read_limit size) einval (errs_if (not read) ebadf (errs_if (not (may_read_now reach file)) eacces (Ends (Uses name) (λ now. tells (NodeAnswer.Content (bytes_from found offset size))) (Errs enoent))))) h
+read-alike reach bytes more offset size (Some (Handle.Folder node entries)) h = refl
 
 walk-alike : (f : NodeFacts) (bytes : FileName → List ℕ) (r : NodeRequest) (op : NodeOp) → ((fh : ℕ) → SameBytes bytes f.bytes (f.handle fh)) → node_walk (record f { bytes = bytes }) r op ≡ node_walk f r op
-walk-alike f bytes r (NodeOp.Read fh offset size) h = read-alike bytes f.bytes offset size (f.handle fh) (h fh)
+walk-alike f bytes r (NodeOp.Read fh offset size) h = read-alike f.reach bytes f.bytes offset size (f.handle fh) (h fh)
 walk-alike f bytes r op h = refl
 
 -- no path that a view names is empty
@@ -77,10 +79,14 @@ module _ (app : List ℕ) (t : State) (c : Connection) (r : NodeRequest) (named 
   sight-is : own_place v r.node ≡ place_of t c.who r.node
   sight-is = own_place-is app t r.node ∙ ap (λ (who : Who). place_of t who r.node) (sym named)
 
+  reach-is : (node number : ℕ) → own_reach v node number ≡ reach_at t c.who node number
+  reach-is node number = own_reach-is app t node number ∙ ap (λ (who : Who). reach_at t who node number) (sym named)
+
   facts-are : own_facts v mine r.node ≡ record (facts_of t c r.node) { bytes = own_bytes v }
   facts-are = λ i. record {
     sight = sight-is i;
     handle = λ fh. handle-found t.handles c.seat fh i;
+    reach = λ node number. reach-is node number i;
     bytes = own_bytes v;
     room = record { opens = c.opens; full = not (nat_lt (length-map (handles_of t.handles c.seat) own_handle i) t.limits.handles) };
     file_limit = t.limits.file_bytes;
@@ -94,7 +100,7 @@ module _ (app : List ℕ) (t : State) (c : Connection) (r : NodeRequest) (named 
 
   same-bytes : (o : Option Handle) → HandleOn On o → SameBytes (own_bytes v) (bytes_named t.files) o
   same-bytes None h = tt
-  same-bytes (Some (Handle.File name node read write)) h = bytes-on app t differ name h
+  same-bytes (Some (Handle.File name node document strict read write)) h = bytes-on app t differ name h
   same-bytes (Some (Handle.Folder node entries)) h = tt
 
   walk-is : own_walk v mine r ≡ walk_on_node t c r
@@ -158,14 +164,14 @@ module _ (app : List ℕ) (t : State) (c : Connection) (r : NodeRequest) (differ
 
   any-sight : (o : Option Sight) → SightOn Any o
   any-sight None = tt
-  any-sight (Some (SightOfFile path may_write)) = tt
+  any-sight (Some (SightOfFile d may_write)) = tt
   any-sight (Some (SightOfFolder (RootOf view numbers has_views))) = tt
   any-sight (Some (SightOfFolder (Views applications))) = tt
-  any-sight (Some (SightOfFolder (FolderOf view number path may_write))) = tt
+  any-sight (Some (SightOfFolder (FolderOf view d may_write))) = tt
 
   any-handle : (o : Option Handle) → HandleOn Any o
   any-handle None = tt
-  any-handle (Some (Handle.File name node read write)) = tt
+  any-handle (Some (Handle.File name node document strict read write)) = tt
   any-handle (Some (Handle.Folder node entries)) = tt
 
   same-connections : (d : NodeDoing) → own_connections app t.handles t.connections ≡ own_connections app (handles_after c d.handle t.handles) (connections_after c d.handle t.connections)

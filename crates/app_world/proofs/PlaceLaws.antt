@@ -1,5 +1,5 @@
 -- What an application sees at a node is the same in the state and in its view.
-use Rattle.std.proofs.Common.{◌≡◌, ℕ, zero, suc, ◌==◌, nat_lt, List, [], ◌∷◌, map, Bool, true, false, ◌||◌, cond, Option, Some, None, refl, sym, ap, ◌∙◌, arith}
+use Rattle.std.proofs.Common.{◌≡◌, ℕ, zero, suc, ◌==◌, nat_lt, List, [], ◌∷◌, map, Bool, true, false, ◌&&◌, ◌||◌, cond, Option, Some, None, is_some, refl, sym, ap, ◌∙◌, arith}
 use Rattle.std.specs.List.{filter, find, list_all}
 use Rattle.std.specs.Option.{option_map}
 use Rattle.portal_base.specs.declared.who.Who.{Who}
@@ -8,11 +8,11 @@ use Rattle.portal_model.specs.declared.place.Place.{Place}
 use Rattle.portal_model.specs.declared.state.Document.{Document}
 use Rattle.portal_model.specs.ListDocuments.{lower as lower_number}
 use Rattle.portal_model.specs.Ordered.{is_rising, put_all}
-use Rattle.portal_model.specs.Place.{FolderOf, RootOf, SightOfFile, SightOfFolder, may_read as may_read_document, numbers_seen, place_named, place_of, Sight, seen_by, sight_at, sight_of_document, sight_of_folder, sight_of_place, sight_of_root, subject_of}
+use Rattle.portal_model.specs.Place.{FolderOf, RootOf, SightOfFile, SightOfFolder, may_read as may_read_document, numbers_seen, place_named, place_of, reach_at, reach_of_subject, Sight, seen_by, sight_at, sight_of_document, sight_of_folder, sight_of_place, sight_of_root, subject_of, view_of_node}
 use Rattle.portal_model.specs.State.{State, document_of, held_of}
 use Rattle.portal_model.proofs.ListLookups.{find-filter, find-map, found_passes, nat_is}
 use Rattle.portal_model.proofs.RisingLists.{rising-filter, rising-put_all}
-use Rattle.app_world.specs.Node.{in_own_view, may_read, own_numbers, own_place, own_sight, own_sight_at, own_sight_of_folder, own_sight_of_place}
+use Rattle.app_world.specs.Node.{in_own_view, may_read, own_numbers, own_place, own_reach, own_reach_in, own_sight, own_sight_at, own_sight_of_folder, own_sight_of_place}
 use Rattle.app_world.specs.View.{HeldDocument, found_document, held_documents, number_of, seen, view}
 use Rattle.app_world.proofs.DocumentLaws.{documents-found, documents-rising}
 use Rattle.app_world.proofs.Found.{find-kept, find-put_all, kept, told-apart}
@@ -21,13 +21,13 @@ use Rattle.app_world.proofs.Orders.{numbers}
 -- ---- one document
 
 sight_bits : (d : Document) (k : RightSet) (r b : Bool) → k.read ≡ r →
-    own_sight (cond (r || b) (Some (record { document = d; rights = k })) None) ≡ cond r (Some (SightOfFile d.path k.write)) None
+    own_sight (cond (r || b) (Some (record { document = d; rights = k })) None) ≡ cond r (Some (SightOfFile d k.write)) None
 sight_bits d k true b e = rw e refl
 sight_bits d k false true e = rw e refl
 sight_bits d k false false e = refl
 
 folder_bits : (view : ℕ) (d : Document) (k : RightSet) (r b : Bool) → k.read ≡ r →
-    own_sight_of_folder view (cond (r || b) (Some (record { document = d; rights = k })) None) ≡ cond r (Some (SightOfFolder (FolderOf view d.id.number d.path k.write))) None
+    own_sight_of_folder view (cond (r || b) (Some (record { document = d; rights = k })) None) ≡ cond r (Some (SightOfFolder (FolderOf view d k.write))) None
 folder_bits view d k true b e = rw e refl
 folder_bits view d k false true e = rw e refl
 folder_bits view d k false false e = refl
@@ -37,6 +37,13 @@ number_bits : (d : Document) (k : RightSet) (r b : Bool) → k.read ≡ r →
 number_bits d k true b e = rw e refl
 number_bits d k false true e = rw e refl
 number_bits d k false false e = refl
+
+reach_bits : (d : Document) (k : RightSet) (r w b : Bool) → k.read ≡ r → k.write ≡ w →
+    own_reach_in zero (cond (r || (w || b)) (Some (record { document = d; rights = k })) None) ≡ record { read = r; write = w }
+reach_bits d k true w b e f = λ i. record { read = e i; write = f i }
+reach_bits d k false true b e f = λ i. record { read = e i; write = f i }
+reach_bits d k false false true e f = λ i. record { read = e i; write = f i }
+reach_bits d k false false false e f = refl
 
 -- ---- the numbers that are seen
 
@@ -108,6 +115,16 @@ module _ (app : List ℕ) (s : State) where
   place_same : (p : Option Place) → own_sight_at (view s app) p ≡ sight_at s (Who.App app) p
   place_same None = refl
   place_same (Some p) = there_same p
+
+  -- ---- what it may do now
+
+  reach_seen : (k number : ℕ) (o : Option Document) → document_of s.documents number ≡ o → own_reach_in k (seen (held number) o) ≡ reach_of_subject s number (subject_of s.applications (Who.App app) k)
+  reach_seen (suc k) number o e = refl
+  reach_seen zero number None e = rw e refl
+  reach_seen zero number (Some d) e = reach_bits d (held number) (held number).read (held number).write _ refl refl ∙ (λ i. record { read = is_some (sym e i) && (held number).read; write = is_some (sym e i) && (held number).write })
+
+  pub own_reach-is : (node number : ℕ) → own_reach (view s app) node number ≡ reach_at s (Who.App app) node number
+  own_reach-is node number = ap (own_reach_in (view_of_node node)) (documents-found held number s.documents) ∙ reach_seen (view_of_node node) number (document_of s.documents number) refl
 
   pub own_place-is : (node : ℕ) → own_place (view s app) node ≡ place_of s (Who.App app) node
   own_place-is node = place_same (place_named node)

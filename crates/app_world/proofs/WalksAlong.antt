@@ -11,23 +11,25 @@ use Rattle.portal_model.specs.declared.reply.NodeAnswer.{NodeAnswer}
 use Rattle.portal_model.specs.declared.reply.NodeAnswer.TheVariants as NodeAnswers
 use Rattle.portal_model.specs.declared.request.NodeOp.{NodeOp}
 use Rattle.portal_model.specs.declared.request.NodeRequest.{NodeRequest}
+use Rattle.portal_model.specs.declared.state.Document.{Document}
 use Rattle.portal_model.specs.Access.{access, access_file, access_folder, executes, writes_to}
 use Rattle.portal_model.specs.Attributes.{on_node}
 use Rattle.portal_model.specs.Content.{has_room, look_at}
 use Rattle.portal_model.specs.Create.{create, create_in, create_there}
 use Rattle.portal_model.specs.Errno.{eacces, ebadf, efbig, eisdir, einval, emfile, enametoolong, enoent, enotdir, eperm}
 use Rattle.portal_model.specs.Fsync.{fsync_open}
-use Rattle.portal_model.specs.GetAttr.{get_attr, get_attr_by_handle, get_attr_by_place, names_handle, tells_file, tells_folder}
+use Rattle.portal_model.specs.GetAttr.{get_attr, get_attr_by_handle, get_attr_by_place, get_attr_open, names_handle, tells_file, tells_folder}
 use Rattle.portal_model.specs.Lookup.{entry_of_file, found_folder, lookup, lookup_in, named_in_root, named_in_views}
 use Rattle.portal_model.specs.Node.{NodeFacts, node_walk}
 use Rattle.portal_model.specs.NodeVerdict.{FileChange, FilesStay, Writes, Resizes, Creates, HandleChange, HandlesStay, Opens, Closes, NodeDoing, NodeVerdict, Errs, Yields, OnFile, OnHandle, Room, at_file, at_name, by_file_handle, by_place, changes, errs, errs_if, if_file, is_too_long, no_file, told}
 use Rattle.portal_model.specs.Open.{has_no_mode, open_file, open_folder, open_name, open_node, opens_to_write, truncates}
 use Rattle.portal_model.specs.OpenDir.{open_dir, open_dir_in, open_found}
 use Rattle.portal_model.specs.Place.{Folder, FolderOf, RootOf, Views, Sight, SightOfFile, SightOfFolder, file_node}
+use Rattle.portal_model.specs.Reach.{OpenFile, Reaching, may_read_now, may_write_now, open_file_of, reaches}
 use Rattle.portal_model.specs.Read.{read, read_open}
 use Rattle.portal_model.specs.ReadDir.{read_names}
 use Rattle.portal_model.specs.ReleaseDir.{release_dir}
-use Rattle.portal_model.specs.SetAttr.{SetsAttr, resize, set_attr, set_attr_at, set_attr_of, set_attr_of_folder, set_attr_open, sets_by_handle, sets_owner_or_mode, sets_size}
+use Rattle.portal_model.specs.SetAttr.{SetsAttr, resize, set_attr, set_attr_at, set_attr_of, set_attr_of_folder, set_attr_of_open, set_attr_open, sets_by_handle, sets_owner_or_mode, sets_size}
 use Rattle.portal_model.specs.Walk.{Walk, Answers, Looks, Ends, Target, AtPath, Named, LastCall, Uses, Changes, Makes, Gives, is_found, shown_at, walked}
 use Rattle.portal_model.specs.Write.{write, write_content, write_open}
 use Rattle.app_world.proofs.NamedPaths.{FolderOn, HandleOn, SightOn}
@@ -105,16 +107,16 @@ module _ (files : List File) (On : List ℕ → Type 0) (Agrees : Target → Typ
     file-of : (name : FileName) (next : OnFile) → On name.path → ((generation size moment : ℕ) → Along (next generation size moment)) → Along (at_name name next)
     file-of name next n h = (at_named name n, on-file next h (shown_at files (Named name)))
 
-    on-place : (sight : Option Sight) (file : List ℕ → Bool → OnFile) (folder : Folder → Walk NodeVerdict) → SightOn On sight →
-        ((path : List ℕ) → On path → (may_write : Bool) (generation size moment : ℕ) → Along (file path may_write generation size moment)) →
+    on-place : (sight : Option Sight) (file : Document → Bool → OnFile) (folder : Folder → Walk NodeVerdict) → SightOn On sight →
+        ((d : Document) → On d.path → (may_write : Bool) (generation size moment : ℕ) → Along (file d may_write generation size moment)) →
         ((f : Folder) → FolderOn On f → Along (folder f)) → Along (by_place sight file folder)
     on-place None file folder n h k = tt
-    on-place (Some (SightOfFile path may_write)) file folder n h k = file-at path (file path may_write) n (h path n may_write)
+    on-place (Some (SightOfFile d may_write)) file folder n h k = file-at d.path (file d may_write) n (h d n may_write)
     on-place (Some (SightOfFolder f)) file folder n h k = k f n
 
-    on-handle : (handle : Option Handle) (next : OnHandle) → HandleOn On handle → ((name : FileName) → On name.path → (node : ℕ) (read write : Bool) → Along (next name node read write)) → Along (by_file_handle handle next)
+    on-handle : (handle : Option Handle) (next : OnHandle) → HandleOn On handle → ((file : OpenFile) → On file.name.path → Along (next file)) → Along (by_file_handle handle next)
     on-handle None next n h = tt
-    on-handle (Some (Handle.File name node read write)) next n h = h name n node read write
+    on-handle (Some (Handle.File name node document strict read write)) next n h = h (open_file_of name node document strict read write) n
     on-handle (Some (Handle.Folder node names)) next n h = tt
 
     -- ---- each request
@@ -126,74 +128,83 @@ module _ (files : List File) (On : List ℕ → Type 0) (Agrees : Target → Typ
     lookup-folder : (r : NodeRequest) (name : List ℕ) (f : Folder) → FolderOn On f → Along (lookup_in r name f)
     lookup-folder r name (RootOf view numbers has_views) n = folder-found r (named_in_root view numbers has_views name)
     lookup-folder r name (Views applications) n = folder-found r (named_in_views applications name)
-    lookup-folder r name (FolderOf view number path may_write) n =
-        either (is_same name (name_of path)) (at_file path (entry_of_file r (file_node view number) may_write)) (errs _)
-        (file-at path (entry_of_file r (file_node view number) may_write) n (λ generation size moment. still)) tt
+    lookup-folder r name (FolderOf view d may_write) n =
+        either (is_same name (name_of d.path)) (at_file d.path (entry_of_file r (file_node view d.id.number) may_write)) (errs _)
+        (file-at d.path (entry_of_file r (file_node view d.id.number) may_write) n (λ generation size moment. still)) tt
 
     lookup-along : (r : NodeRequest) (name : List ℕ) (sight : Option Sight) → SightOn On sight → Along (lookup r name sight)
     lookup-along r name sight n =
-        if-wrong (is_too_long name) enametoolong _ (on-place sight (no_file enotdir) (lookup_in r name) n (λ path n may_write generation size moment. tt) (lookup-folder r name))
+        if-wrong (is_too_long name) enametoolong _ (on-place sight (no_file enotdir) (lookup_in r name) n (λ d n may_write generation size moment. tt) (lookup-folder r name))
 
     get_attr-place : (r : NodeRequest) (sight : Option Sight) → SightOn On sight → Along (get_attr_by_place r sight)
-    get_attr-place r sight n = on-place sight (λ path may_write. tells_file r may_write) (tells_folder r) n (λ path n may_write generation size moment. still) (λ f n. still)
+    get_attr-place r sight n = on-place sight (λ d may_write. tells_file r may_write) (tells_folder r) n (λ d n may_write generation size moment. still) (λ f n. still)
 
-    get_attr-handle : (r : NodeRequest) (sight : Option Sight) (handle : Option Handle) → SightOn On sight → HandleOn On handle → Along (get_attr_by_handle r sight handle)
-    get_attr-handle r sight None n h = tt
-    get_attr-handle r sight (Some (Handle.File name node read write)) n h = file-of name (tells_file (on_node r node) write) h (λ generation size moment. still)
-    get_attr-handle r sight (Some (Handle.Folder node names)) n h = get_attr-place r sight n
+    get_attr-file : (reach : Reaching) (r : NodeRequest) (file : OpenFile) → On file.name.path → Along (get_attr_open reach r file)
+    get_attr-file reach r file n =
+        if-wrong (not (reaches reach file)) eacces _ (file-of file.name (tells_file (on_node r file.node) (may_write_now reach file)) n (λ generation size moment. still))
 
-    get_attr-along : (r : NodeRequest) (flags : ℕ) (sight : Option Sight) (handle : Option Handle) → SightOn On sight → HandleOn On handle → Along (get_attr r flags sight handle)
-    get_attr-along r flags sight handle n h = either (names_handle flags) (get_attr_by_handle r sight handle) (get_attr_by_place r sight) (get_attr-handle r sight handle n h) (get_attr-place r sight n)
+    get_attr-handle : (reach : Reaching) (r : NodeRequest) (sight : Option Sight) (handle : Option Handle) → SightOn On sight → HandleOn On handle → Along (get_attr_by_handle reach r sight handle)
+    get_attr-handle reach r sight None n h = tt
+    get_attr-handle reach r sight (Some (Handle.File name node document strict read write)) n h = get_attr-file reach r (open_file_of name node document strict read write) h
+    get_attr-handle reach r sight (Some (Handle.Folder node names)) n h = get_attr-place r sight n
+
+    get_attr-along : (reach : Reaching) (r : NodeRequest) (flags : ℕ) (sight : Option Sight) (handle : Option Handle) → SightOn On sight → HandleOn On handle → Along (get_attr reach r flags sight handle)
+    get_attr-along reach r flags sight handle n h = either (names_handle flags) (get_attr_by_handle reach r sight handle) (get_attr_by_place r sight) (get_attr-handle reach r sight handle n h) (get_attr-place r sight n)
 
     resized-along : (r : NodeRequest) (a : SetsAttr) (name : FileName) (may_write : Bool) → On name.path → Along (resize r a name may_write)
     resized-along r a name may_write n = (alters name n, ((λ found now. record { file = found; handle = tt }), tt))
 
-    set_attr-file : (r : NodeRequest) (a : SetsAttr) (errno : ℕ) (name : FileName) (may_write : Bool) (size moment : ℕ) → On name.path → Along (set_attr_of r a errno name may_write size moment)
-    set_attr-file r a errno name may_write size moment n =
-        either (sets_size a.valid) _ _ (if-wrong (not may_write) errno _ (if-wrong _ efbig (resize r a name may_write) (resized-along r a name may_write n))) still
+    set_attr-file : (r : NodeRequest) (a : SetsAttr) (name : FileName) (may_write : Bool) (size moment : ℕ) → On name.path → Along (set_attr_of r a name may_write size moment)
+    set_attr-file r a name may_write size moment n =
+        either (sets_size a.valid) _ _ (if-wrong (not may_write) eacces _ (if-wrong _ efbig (resize r a name may_write) (resized-along r a name may_write n))) still
 
-    set_attr-along : (r : NodeRequest) (a : SetsAttr) (sight : Option Sight) (handle : Option Handle) → SightOn On sight → HandleOn On handle → Along (set_attr r a sight handle)
-    set_attr-along r a sight handle n h =
+    set_attr-opened : (reach : Reaching) (r : NodeRequest) (a : SetsAttr) (file : OpenFile) → On file.name.path → Along (set_attr_open reach r a file)
+    set_attr-opened reach r a file n =
+        if-wrong (not (reaches reach file)) eacces _ (file-of file.name (set_attr_of_open reach r a file) n (λ generation size moment.
+        if-wrong (sets_size a.valid && not file.write) ebadf _ (set_attr-file (on_node r file.node) a file.name (may_write_now reach file) size moment n)))
+
+    set_attr-along : (reach : Reaching) (r : NodeRequest) (a : SetsAttr) (sight : Option Sight) (handle : Option Handle) → SightOn On sight → HandleOn On handle → Along (set_attr reach r a sight handle)
+    set_attr-along reach r a sight handle n h =
         if-wrong (sets_owner_or_mode a.valid) eperm _
-        (either (sets_by_handle a.valid) (by_file_handle handle (set_attr_open r a)) (by_place sight (set_attr_at r a) (set_attr_of_folder r a))
-        (on-handle handle (set_attr_open r a) h (λ name n node read write.
-        file-of name _ n (λ generation size moment. set_attr-file (on_node r node) a ebadf name write size moment n)))
+        (either (sets_by_handle a.valid) (by_file_handle handle (set_attr_open reach r a)) (by_place sight (set_attr_at r a) (set_attr_of_folder r a))
+        (on-handle handle (set_attr_open reach r a) h (set_attr-opened reach r a))
         (on-place sight (set_attr_at r a) (set_attr_of_folder r a) n
-        (λ path n may_write generation size moment. set_attr-file r a eacces (record { path = path; generation = generation }) may_write size moment n)
+        (λ d n may_write generation size moment. set_attr-file r a (record { path = d.path; generation = generation }) may_write size moment n)
         (λ f n. if-wrong (sets_size a.valid) eisdir _ still)))
 
-    open-name : (r : NodeRequest) (flags : ℕ) (room : Room) (name : FileName) → On name.path → Along (open_name r flags room name)
-    open-name r flags room name n =
+    open-name : (r : NodeRequest) (flags : ℕ) (room : Room) (d : Document) (name : FileName) → On name.path → Along (open_name r flags room d name)
+    open-name r flags room d name n =
         either (truncates flags) _ _ (alters name n, ((λ found now. record { file = found; handle = n }), tt)) (record { file = tt; handle = n })
 
     open-along : (r : NodeRequest) (flags : ℕ) (sight : Option Sight) (room : Room) → SightOn On sight → Along (open_node r flags sight room)
     open-along r flags sight room n =
         if-wrong (has_no_mode flags) einval _
         (on-place sight (open_file r flags room) open_folder n
-        (λ path n may_write generation size moment.
-        if-wrong (opens_to_write flags && not may_write) eacces _ (if-wrong room.full emfile _ (open-name r flags room (record { path = path; generation = generation }) n)))
+        (λ d n may_write generation size moment.
+        if-wrong (opens_to_write flags && not may_write) eacces _ (if-wrong room.full emfile _ (open-name r flags room d (record { path = d.path; generation = generation }) n)))
         (λ f n. tt))
 
-    create-there : (r : NodeRequest) (flags : ℕ) (room : Room) (path : List ℕ) (node : ℕ) → On path → (look : Look) → look_at files path ≡ look → Along (create_there r flags room path node look)
-    create-there r flags room path node n (Look.File generation size moment) e = tt
-    create-there r flags room path node n Look.Folder e = tt
-    create-there r flags room path node n Look.Missing e = (makes path n e, ((λ found now. record { file = (e, found); handle = n }), tt))
+    create-there : (r : NodeRequest) (flags : ℕ) (room : Room) (d : Document) (node : ℕ) → On d.path → (look : Look) → look_at files d.path ≡ look → Along (create_there r flags room d node look)
+    create-there r flags room d node n (Look.File generation size moment) e = tt
+    create-there r flags room d node n Look.Folder e = tt
+    create-there r flags room d node n Look.Missing e = (makes d.path n e, ((λ found now. record { file = (e, found); handle = n }), tt))
 
     create-folder : (r : NodeRequest) (name : List ℕ) (flags : ℕ) (room : Room) (f : Folder) → FolderOn On f → Along (create_in r name flags room f)
     create-folder r name flags room (RootOf view numbers has_views) n = tt
     create-folder r name flags room (Views applications) n = tt
-    create-folder r name flags room (FolderOf view number path may_write) n =
-        if-wrong (not (is_same name (name_of path))) eacces _ (if-wrong (not may_write) eacces _ (if-wrong room.full emfile _
-        (at_path path n, create-there r flags room path (file_node view number) n (look_at files path) refl)))
+    create-folder r name flags room (FolderOf view d may_write) n =
+        if-wrong (not (is_same name (name_of d.path))) eacces _ (if-wrong (not may_write) eacces _ (if-wrong room.full emfile _
+        (at_path d.path n, create-there r flags room d (file_node view d.id.number) n (look_at files d.path) refl)))
 
     create-along : (r : NodeRequest) (name : List ℕ) (flags : ℕ) (sight : Option Sight) (room : Room) → SightOn On sight → Along (create r name flags sight room)
     create-along r name flags sight room n =
         if-wrong (has_no_mode flags) einval _ (if-wrong (is_too_long name) enametoolong _
-        (on-place sight (no_file enotdir) (create_in r name flags room) n (λ path n may_write generation size moment. tt) (create-folder r name flags room)))
+        (on-place sight (no_file enotdir) (create_in r name flags room) n (λ d n may_write generation size moment. tt) (create-folder r name flags room)))
 
-    read-along : (bytes : FileName → List ℕ) (offset size : ℕ) (handle : Option Handle) → HandleOn On handle → Along (read bytes offset size handle)
-    read-along bytes offset size handle h =
-        if-wrong _ einval _ (on-handle handle (read_open bytes offset size) h (λ name n node read write. if-wrong (not read) ebadf _ (uses name n, ((λ found now. still), tt))))
+    read-along : (reach : Reaching) (bytes : FileName → List ℕ) (offset size : ℕ) (handle : Option Handle) → HandleOn On handle → Along (read reach bytes offset size handle)
+    read-along reach bytes offset size handle h =
+        if-wrong _ einval _ (on-handle handle (read_open reach bytes offset size) h (λ file n.
+        if-wrong (not file.read) ebadf _ (if-wrong (not (may_read_now reach file)) eacces _ (uses file.name n, ((λ found now. still), tt)))))
 
     write-some : (limit offset : ℕ) (content : List ℕ) (name : FileName) → On name.path → Along (write_content limit name offset content)
     write-some limit offset [] name n = still
@@ -202,48 +213,49 @@ module _ (files : List File) (On : List ℕ → Type 0) (Agrees : Target → Typ
         let ends : Along (Ends (Changes name) done (Errs enoent)) = (alters name n, ((λ found now. record { file = found; handle = tt }), tt)) in
         if-wrong (nat_lt limit (offset + length (b ∷ bs))) efbig (Ends (Changes name) done (Errs enoent)) ends
 
-    write-along : (limit offset : ℕ) (content : List ℕ) (handle : Option Handle) → HandleOn On handle → Along (write limit offset content handle)
-    write-along limit offset content handle h =
-        if-wrong _ einval _ (on-handle handle (write_open limit offset content) h (λ name n node read write. if-wrong (not write) ebadf _ (write-some limit offset content name n)))
+    write-along : (reach : Reaching) (limit offset : ℕ) (content : List ℕ) (handle : Option Handle) → HandleOn On handle → Along (write reach limit offset content handle)
+    write-along reach limit offset content handle h =
+        if-wrong _ einval _ (on-handle handle (write_open reach limit offset content) h (λ file n.
+        if-wrong (not file.write) ebadf _ (if-wrong (not (may_write_now reach file)) eacces _ (write-some limit offset content file.name n))))
 
     open_dir-folder : (r : NodeRequest) (room : Room) (f : Folder) → FolderOn On f → Along (open_found r room f)
     open_dir-folder r room (RootOf view numbers has_views) n = record { file = tt; handle = tt }
     open_dir-folder r room (Views applications) n = record { file = tt; handle = tt }
-    open_dir-folder r room (FolderOf view number path may_write) n = (at_path path n, record { file = tt; handle = tt })
+    open_dir-folder r room (FolderOf view d may_write) n = (at_path d.path n, record { file = tt; handle = tt })
 
     open_dir-along : (r : NodeRequest) (sight : Option Sight) (room : Room) → SightOn On sight → Along (open_dir r sight room)
     open_dir-along r sight room n =
-        on-place sight (no_file enotdir) (open_dir_in r room) n (λ path n may_write generation size moment. tt) (λ f n. if-wrong room.full emfile _ (open_dir-folder r room f n))
+        on-place sight (no_file enotdir) (open_dir_in r room) n (λ d n may_write generation size moment. tt) (λ f n. if-wrong room.full emfile _ (open_dir-folder r room f n))
 
     read_dir-names : (offset size : ℕ) (handle : Option Handle) → Along (read_names offset size handle)
     read_dir-names offset size None = tt
-    read_dir-names offset size (Some (Handle.File name node read write)) = tt
+    read_dir-names offset size (Some (Handle.File name node document strict read write)) = tt
     read_dir-names offset size (Some (Handle.Folder node names)) = still
 
     release_dir-along : (fh : ℕ) (handle : Option Handle) → Along (release_dir fh handle)
     release_dir-along fh None = tt
-    release_dir-along fh (Some (Handle.File name node read write)) = tt
+    release_dir-along fh (Some (Handle.File name node document strict read write)) = tt
     release_dir-along fh (Some (Handle.Folder node names)) = record { file = tt; handle = tt }
 
     access-along : (mask : ℕ) (sight : Option Sight) → SightOn On sight → Along (access mask sight)
     access-along mask sight n =
         if-wrong (nat_lt 7 mask) einval _ (on-place sight (access_file mask) (access_folder mask) n
-        (λ path n may_write generation size moment. if-wrong (executes mask || writes_to mask && not may_write) eacces (told NodeAnswers.Empty) (still {answer = NodeAnswers.Empty}))
+        (λ d n may_write generation size moment. if-wrong (executes mask || writes_to mask && not may_write) eacces (told NodeAnswers.Empty) (still {answer = NodeAnswers.Empty}))
         (λ f n. if-wrong (writes_to mask) eacces (told NodeAnswers.Empty) (still {answer = NodeAnswers.Empty})))
 
     pub walk-along : (f : NodeFacts) (r : NodeRequest) (op : NodeOp) → SightOn On f.sight → ((fh : ℕ) → HandleOn On (f.handle fh)) → Along (node_walk f r op)
     walk-along f r (NodeOp.Lookup name) n h = lookup-along r name f.sight n
     walk-along f r (NodeOp.Forget count) n h = still
     walk-along f r (NodeOp.BatchForget nodes) n h = still
-    walk-along f r (NodeOp.GetAttr flags fh) n h = get_attr-along r flags f.sight (f.handle fh) n (h fh)
-    walk-along f r (NodeOp.SetAttr valid fh size) n h = set_attr-along r (record { valid = valid; size = size; limit = f.file_limit }) f.sight (f.handle fh) n (h fh)
+    walk-along f r (NodeOp.GetAttr flags fh) n h = get_attr-along f.reach r flags f.sight (f.handle fh) n (h fh)
+    walk-along f r (NodeOp.SetAttr valid fh size) n h = set_attr-along f.reach r (record { valid = valid; size = size; limit = f.file_limit }) f.sight (f.handle fh) n (h fh)
     walk-along f r (NodeOp.Open flags) n h = open-along r flags f.sight f.room n
     walk-along f r (NodeOp.Create name flags) n h = create-along r name flags f.sight f.room n
-    walk-along f r (NodeOp.Read fh offset size) n h = read-along f.bytes offset size (f.handle fh) (h fh)
-    walk-along f r (NodeOp.Write fh offset content) n h = write-along f.file_limit offset content (f.handle fh) (h fh)
-    walk-along f r (NodeOp.Flush fh) n h = on-handle (f.handle fh) _ (h fh) (λ name n node read write. still)
-    walk-along f r (NodeOp.Fsync fh) n h = on-handle (f.handle fh) fsync_open (h fh) (λ name n node read write. (uses name n, ((λ found now. still), tt)))
-    walk-along f r (NodeOp.Release fh) n h = on-handle (f.handle fh) _ (h fh) (λ name n node read write. record { file = tt; handle = tt })
+    walk-along f r (NodeOp.Read fh offset size) n h = read-along f.reach f.bytes offset size (f.handle fh) (h fh)
+    walk-along f r (NodeOp.Write fh offset content) n h = write-along f.reach f.file_limit offset content (f.handle fh) (h fh)
+    walk-along f r (NodeOp.Flush fh) n h = on-handle (f.handle fh) _ (h fh) (λ file n. still)
+    walk-along f r (NodeOp.Fsync fh) n h = on-handle (f.handle fh) fsync_open (h fh) (λ file n. (uses file.name n, ((λ found now. still), tt)))
+    walk-along f r (NodeOp.Release fh) n h = on-handle (f.handle fh) _ (h fh) (λ file n. record { file = tt; handle = tt })
     walk-along f r NodeOp.OpenDir n h = open_dir-along r f.sight f.room n
     walk-along f r (NodeOp.ReadDir fh offset size) n h = if-wrong _ einval _ (read_dir-names offset size (f.handle fh))
     walk-along f r (NodeOp.ReleaseDir fh) n h = release_dir-along fh (f.handle fh)

@@ -76,7 +76,13 @@ id number = record { number = number }
 -- a document that is held, of this number and path
 abbrev pub held : ℕ → List ℕ → RightSet → HeldDocument
 held number path rights = record {
-  document = record { id = id number; path = path; persistent = true; reusable = true };
+  document = record {
+    id = id number;
+    path = path;
+    persistent = true;
+    reusable = true;
+    strict = false;
+  };
   rights = rights;
 }
 

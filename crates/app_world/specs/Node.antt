@@ -15,7 +15,8 @@ use Rattle.portal_model.specs.Content.{OfFile}
 use Rattle.portal_model.specs.Errno.{eio}
 use Rattle.portal_model.specs.Node.{NodeFacts, bytes_named, node_given, node_walk, walk_on_node}
 use Rattle.portal_model.specs.NodeVerdict.{FileChange, FilesStay, Writes, Resizes, Creates, HandleChange, HandlesStay, Opens, Closes, NodeDoing, NodeVerdict, Errs, Yields, Room}
-use Rattle.portal_model.specs.Place.{FolderOf, RootOf, Sight, SightOfFile, SightOfFolder, place_named}
+use Rattle.portal_model.specs.Place.{FolderOf, RootOf, Sight, SightOfFile, SightOfFolder, place_named, view_of_node}
+use Rattle.portal_model.specs.Reach.{Reach, Reaching, no_reach}
 use Rattle.portal_model.specs.State.{State}
 use Rattle.portal_model.specs.Walk.{Walk, walked}
 use Rattle.app_world.specs.Effect.{Effect, Bytes, apply_all}
@@ -28,14 +29,13 @@ use Rattle.app_world.specs.View.{AppView, HeldDocument, OwnConnection, OwnHandle
 -- the application sees a document's file where it may read it
 abbrev pub own_sight : Option HeldDocument → Option Sight
 own_sight None = None
-own_sight (Some d) = cond d.rights.read (Some (SightOfFile d.document.path d.rights.write)) None
+own_sight (Some d) = cond d.rights.read (Some (SightOfFile d.document d.rights.write)) None
 
 -- and its folder
 abbrev pub own_sight_of_folder : ℕ → Option HeldDocument → Option Sight
 own_sight_of_folder view None = None
 own_sight_of_folder view (Some d) =
-    cond d.rights.read
-    (Some (SightOfFolder (FolderOf view (number_of d) d.document.path d.rights.write))) None
+    cond d.rights.read (Some (SightOfFolder (FolderOf view d.document d.rights.write))) None
 
 abbrev pub may_read : HeldDocument → Bool
 may_read d = d.rights.read
@@ -71,6 +71,16 @@ own_place v node = own_sight_at v (place_named node)
 abbrev pub own_handle_of : List OwnHandle → ℕ → Option Handle
 own_handle_of handles fh = option_map (λ h. h.handle) (find (λ h. h.fh == fh) handles)
 
+-- which rights the application has now in a document, where the node is in its own view
+abbrev pub own_reach_in : ℕ → Option HeldDocument → Reach
+own_reach_in zero (Some d) = record { read = d.rights.read; write = d.rights.write }
+own_reach_in zero None = no_reach
+own_reach_in (suc k) d = no_reach
+
+abbrev pub own_reach : AppView → Reaching
+own_reach v node number =
+    own_reach_in (view_of_node node) (found_document v.documents number)
+
 abbrev pub own_room : AppView → OwnConnection → Room
 own_room v c = record {
   opens = c.opens;
@@ -81,6 +91,7 @@ abbrev pub own_facts : AppView → OwnConnection → ℕ → NodeFacts
 own_facts v c node = record {
   sight = own_place v node;
   handle = own_handle_of c.handles;
+  reach = own_reach v;
   bytes = own_bytes v;
   room = own_room v c;
   file_limit = v.file_bytes;

@@ -113,7 +113,7 @@ own_connections app handles connections =
 
 -- an open file names its path, an open folder none
 abbrev pub paths_of_handle : Handle → List (List ℕ)
-paths_of_handle (Handle.File name node read write) = name.path ∷ []
+paths_of_handle (Handle.File name node document strict read write) = name.path ∷ []
 paths_of_handle (Handle.Folder node names) = []
 
 abbrev pub paths_of_connection : OwnConnection → List (List ℕ)

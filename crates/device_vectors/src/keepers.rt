@@ -61,8 +61,8 @@ fn put_load<K: Keeper>(alloc: Global, out: &mut String, keeper: &mut K) -> Resul
     put
 }
 
-/// The numbers of the documents with their rights, and the entries with their
-/// data; or why there are none.
+/// The version where it isn't 1, the numbers of the documents with their
+/// rights, and the entries with their data; or why there are none.
 fn put_loaded(alloc: Global, out: &mut String, loaded: &KeeperLoad) -> Result<(), VectorError> {
     match loaded {
         KeeperLoad::Got(records) => put_records(alloc, out, records),
@@ -72,6 +72,10 @@ fn put_loaded(alloc: Global, out: &mut String, loaded: &KeeperLoad) -> Result<()
 
 fn put_records(alloc: Global, out: &mut String, records: &Records) -> Result<(), VectorError> {
     out.push_str("Got")?;
+    let version = records.version;
+    if version != 1 {
+        write!(out, " version={version}")?;
+    }
     for document in records.documents.iter() {
         let number = document.number;
         write!(out, " {number}")?;
@@ -98,7 +102,7 @@ fn changes(alloc: Global, step: &str) -> Result<List<RecordChange>, VectorError>
 }
 
 /// `add NUMBER`, `remove NUMBER`, `grants NUMBER RIGHTS`, `set TABLE ID DATUM`,
-/// `unset TABLE ID`.
+/// `unset TABLE ID`, `upgrade`.
 fn change(alloc: Global, kind: &str, rest: &str) -> Result<RecordChange, VectorError> {
     let (first, rest) = cut(rest);
     match kind {
@@ -106,6 +110,7 @@ fn change(alloc: Global, kind: &str, rest: &str) -> Result<RecordChange, VectorE
             number: small_number(first)?,
             path: List::copied(alloc, b"/a".as_slice())?,
             reusable: false,
+            strict: false,
             grants: List::new(alloc),
         })),
         "remove" => Ok(RecordChange::RemoveDocument {
@@ -115,6 +120,7 @@ fn change(alloc: Global, kind: &str, rest: &str) -> Result<RecordChange, VectorE
             number: small_number(first)?,
             grants: grants(alloc, rest)?,
         }),
+        "upgrade" => Ok(RecordChange::Upgrade),
         _ => entry_change(alloc, kind, first, rest),
     }
 }

@@ -13,9 +13,10 @@ use vector_lines::notation::{bytes, cut, number, small_number, text};
 
 /// `records LIVE MADE | RECORD | RECORD ..`: what is wrong with the records under
 /// these limits of live and of made documents. A record is `doc NUMBER PATH
-/// GRANTS` or `entry TABLE ID DATUM ROWS`; `version N` gives the records another
-/// version than 1. Grants are written as `APP=RIGHTS,APP=RIGHTS`, rows as
-/// `APP=NAME+NAME,APP=NAME`, and none of either as `-`.
+/// GRANTS`, `strict NUMBER PATH GRANTS` of a document that is strict, or `entry
+/// TABLE ID DATUM ROWS`; `version N` gives the records another version than 1.
+/// Grants are written as `APP=RIGHTS,APP=RIGHTS`, rows as `APP=NAME+NAME,APP=NAME`,
+/// and none of either as `-`.
 pub fn records(alloc: Global, out: &mut String, rest: &str) -> Result<(), VectorError> {
     let (words, parts) = rest.split_once('|').unwrap_or((rest, ""));
     let limits = limits(words.trim())?;
@@ -57,7 +58,8 @@ fn put(alloc: Global, records: &mut Records, part: &str) -> Result<(), VectorErr
     let (kind, rest) = cut(part);
     match kind {
         "version" => records.version = small_number(rest)?,
-        "doc" => records.documents.push(document(alloc, rest)?)?,
+        "doc" => records.documents.push(document(alloc, false, rest)?)?,
+        "strict" => records.documents.push(document(alloc, true, rest)?)?,
         "entry" => records.entries.push(entry(alloc, rest)?)?,
         "" => (),
         _ => return bad(),
@@ -65,13 +67,14 @@ fn put(alloc: Global, records: &mut Records, part: &str) -> Result<(), VectorErr
     Ok(())
 }
 
-fn document(alloc: Global, rest: &str) -> Result<DocRecord, VectorError> {
+fn document(alloc: Global, strict: bool, rest: &str) -> Result<DocRecord, VectorError> {
     let (number, rest) = cut(rest);
     let (path, words) = cut(rest);
     Ok(DocRecord {
         number: small_number(number)?,
         path: text(alloc, path)?,
         reusable: false,
+        strict,
         grants: grants(alloc, words)?,
     })
 }

@@ -60,7 +60,7 @@ pub same-grants : (number : ℕ) (rights others : List Triple) → filter (is_he
 same-grants number rights others e = by-own number rights ∙ (ap (records_of_own number) e ∙ sym (by-own number others))
 
 pub same-record : (d : Document) (rights others : List Triple) → filter (is_here d.id.number) rights ≡ filter (is_here d.id.number) others → document_record rights d ≡ document_record others d
-same-record d rights others e = λ i. record { number = d.id.number; path = d.path; reusable = d.reusable; grants = same-grants d.id.number rights others e i }
+same-record d rights others e = λ i. record { number = d.id.number; path = d.path; reusable = d.reusable; strict = d.strict; grants = same-grants d.id.number rights others e i }
 
 -- ---- rights that change in one document alone
 
@@ -146,7 +146,7 @@ module _ (number : ℕ) (old new : List Triple) (apart : IsApart number old new)
           let own : records_in new number ≡ records_in new d.id.number = ap (records_in new) (sym (nat_is d.id.number number k)) in
           ap (change_first (is_numbered number) regranted) (one-record old d true documents e)
           ∙ (ap (λ (c : Bool). cond c (regranted (document_record old d) ∷ kept_records old documents) (document_record old d ∷ change_first (is_numbered number) regranted (kept_records old documents))) k
-          ∙ ((λ i. record { number = d.id.number; path = d.path; reusable = d.reusable; grants = own i } ∷ sym (same-others d.id.number documents k o) i)
+          ∙ ((λ i. record { number = d.id.number; path = d.path; reusable = d.reusable; strict = d.strict; grants = own i } ∷ sym (same-others d.id.number documents k o) i)
           ∙ sym (one-record new d true documents e)))
       step true false e k o more =
           ap (change_first (is_numbered number) regranted) (one-record old d true documents e)

@@ -156,15 +156,18 @@ impl Documents {
     }
 
     /// The first live document that may stand for a new one of this path and
-    /// this persistent flag.
-    pub fn reusable(&self, path: &HostPath, persistent: bool) -> Option<DocId>
-        ensures { result ≡ reusable_of self.now.live path.now persistent }
+    /// these flags.
+    pub fn reusable(&self, path: &HostPath, persistent: bool, strict: bool) -> Option<DocId>
+        ensures { result ≡ reusable_of self.now.live path.now persistent strict }
     {
         self.live
             .as_slice()
             .iter()
             .find(|document| {
-                document.path == *path && document.persistent == persistent && document.reusable
+                document.path == *path
+                    && document.persistent == persistent
+                    && document.strict == strict
+                    && document.reusable
             })
             .map(|document| document.id)
     }

@@ -22,7 +22,7 @@
 //!
 //! ```text
 //! let id = documents.unused_from(word);
-//! documents.add(Document { id, path, persistent: false, reusable: true })?;
+//! documents.add(Document { id, path, persistent: false, reusable: true, strict: false })?;
 //! grants.add(&app, id, Rights::READ)?;
 //! ```
 //!

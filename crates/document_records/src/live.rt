@@ -72,5 +72,6 @@ pub fn document(alloc: Global, item: &OpeningDocument) -> Result<Document, WantO
         path: known_path(alloc, item.kept.path.as_slice())?,
         persistent: item.persistent,
         reusable: item.kept.reusable,
+        strict: item.kept.strict,
     })
 }

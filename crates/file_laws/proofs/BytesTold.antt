@@ -43,14 +43,14 @@ Any path = Unit {0}
 
 any-sight : (o : Option Sight) → SightOn Any o
 any-sight None = tt
-any-sight (Some (SightOfFile path may_write)) = tt
+any-sight (Some (SightOfFile d may_write)) = tt
 any-sight (Some (SightOfFolder (RootOf view numbers has_views))) = tt
 any-sight (Some (SightOfFolder (Views applications))) = tt
-any-sight (Some (SightOfFolder (FolderOf view number path may_write))) = tt
+any-sight (Some (SightOfFolder (FolderOf view d may_write))) = tt
 
 any-handle : (o : Option Handle) → HandleOn Any o
 any-handle None = tt
-any-handle (Some (Handle.File name node read write)) = tt
+any-handle (Some (Handle.File name node document strict read write)) = tt
 any-handle (Some (Handle.Folder node entries)) = tt
 
 can-be : (t : State) (c : Connection) (r : NodeRequest) (given : Given) → LawfulNode t c r given → t.told ≡ true → CanBe t.files Any (node_given (walk_on_node t c r) given)

@@ -8,22 +8,24 @@ use Rattle.portal_model.specs.declared.handle.Handle.{Handle}
 use Rattle.portal_model.specs.declared.reply.NodeAnswer.{NodeAnswer}
 use Rattle.portal_model.specs.declared.request.NodeOp.{NodeOp}
 use Rattle.portal_model.specs.declared.request.NodeRequest.{NodeRequest}
+use Rattle.portal_model.specs.declared.state.Document.{Document}
 use Rattle.portal_model.specs.Access.{access, access_file, access_folder, executes, writes_to}
 use Rattle.portal_model.specs.Attributes.{attr_of_file, attr_of_folder, on_node}
 use Rattle.portal_model.specs.Create.{create, create_in, create_there}
 use Rattle.portal_model.specs.Errno.{eacces, ebadf, efbig, einval, eisdir, emfile, enametoolong, enoent, enotdir, eperm}
 use Rattle.portal_model.specs.Fsync.{fsync_open}
-use Rattle.portal_model.specs.GetAttr.{get_attr_by_handle, get_attr_by_place, names_handle, tells_file, tells_folder}
+use Rattle.portal_model.specs.GetAttr.{get_attr_by_handle, get_attr_by_place, get_attr_open, names_handle, tells_file, tells_folder}
 use Rattle.portal_model.specs.Lookup.{entry_of_file, found_folder, lookup_in, named_in_root, named_in_views}
 use Rattle.portal_model.specs.Node.{NodeFacts, node_walk}
-use Rattle.portal_model.specs.NodeVerdict.{FileChange, FilesStay, Writes, Resizes, Creates, NodeDoing, Errs, at_file, by_file_handle, by_place, errs, errs_if, is_too_long, no_file, told}
+use Rattle.portal_model.specs.NodeVerdict.{FileChange, FilesStay, Writes, Resizes, Creates, NodeDoing, Errs, at_file, at_name, by_file_handle, by_place, errs, errs_if, is_too_long, no_file, told}
 use Rattle.portal_model.specs.Open.{file_handle, has_no_mode, open_file, open_folder, open_name, open_node, opened_file, opens_to_write, truncates}
 use Rattle.portal_model.specs.OpenDir.{open_dir, open_dir_in, open_found}
 use Rattle.portal_model.specs.Place.{Folder, RootOf, Views, FolderOf, file_node, Sight, SightOfFile, SightOfFolder}
+use Rattle.portal_model.specs.Reach.{OpenFile, may_read_now, may_write_now, open_file_of, reaches}
 use Rattle.portal_model.specs.Read.{read, read_limit, read_open}
 use Rattle.portal_model.specs.ReadDir.{read_names}
 use Rattle.portal_model.specs.ReleaseDir.{release_dir}
-use Rattle.portal_model.specs.SetAttr.{SetsAttr, resize, set_attr, set_attr_at, set_attr_of, set_attr_of_folder, set_attr_open, sets_by_handle, sets_owner_or_mode, sets_size}
+use Rattle.portal_model.specs.SetAttr.{SetsAttr, resize, set_attr, set_attr_at, set_attr_of, set_attr_of_folder, set_attr_of_open, set_attr_open, sets_by_handle, sets_owner_or_mode, sets_size}
 use Rattle.portal_model.specs.Walk.{Walk, Answers, Looks, Ends, AtPath, Changes}
 use Rattle.portal_model.specs.NodeVerdict.{NodeVerdict}
 use Rattle.portal_model.specs.Write.{write, write_content, write_limit, write_open}
@@ -64,99 +66,111 @@ module _ (tree : Option (List File)) (f : NodeFacts) (r : NodeRequest) where
   lookup-still : (name : List ℕ) (folder : Folder) → Still (lookup_in r name folder)
   lookup-still name (RootOf view numbers has_views) = found-still (named_in_root view numbers has_views name)
   lookup-still name (Views applications) = found-still (named_in_views applications name)
-  lookup-still name (FolderOf view number path may_write) = elim (is_same name (name_of path)) as (λ b. Still (cond b (at_file path (entry_of_file r (file_node view number) may_write)) (errs enoent))) [
-    | true ↦ at_file-on tree P path (entry_of_file r (file_node view number) may_write) (λ g s m. refl)
+  lookup-still name (FolderOf view d may_write) = elim (is_same name (name_of d.path)) as (λ b. Still (cond b (at_file d.path (entry_of_file r (file_node view d.id.number) may_write)) (errs enoent))) [
+    | true ↦ at_file-on tree P d.path (entry_of_file r (file_node view d.id.number) may_write) (λ g s m. refl)
     | false ↦ tt
   ]
 
   attr-still : (sight : Option Sight) → Still (get_attr_by_place r sight)
-  attr-still sight = by_place-on tree P sight (λ path may_write. tells_file r may_write) (tells_folder r) (λ path w g s m. refl) (λ folder e. refl)
+  attr-still sight = by_place-on tree P sight (λ d may_write. tells_file r may_write) (tells_folder r) (λ d w g s m. refl) (λ folder e. refl)
 
-  handle-attr-still : (sight : Option Sight) (handle : Option Handle) → Still (get_attr_by_handle r sight handle)
+  open-attr-still : (file : OpenFile) → Still (get_attr_open f.reach r file)
+  open-attr-still file = errs_if-on tree P (not (reaches f.reach file)) eacces _ (λ e. at_name-on tree P file.name (tells_file (on_node r file.node) (may_write_now f.reach file)) (λ g s m. refl))
+
+  handle-attr-still : (sight : Option Sight) (handle : Option Handle) → Still (get_attr_by_handle f.reach r sight handle)
   handle-attr-still sight None = tt
-  handle-attr-still sight (Some (Handle.File name node read write)) = at_name-on tree P name (tells_file (on_node r node) write) (λ g s m. refl)
+  handle-attr-still sight (Some (Handle.File name node document strict read write)) = open-attr-still (open_file_of name node document strict read write)
   handle-attr-still sight (Some (Handle.Folder node names)) = attr-still sight
 
-  get_attr-still : (b : Bool) (sight : Option Sight) (handle : Option Handle) → Still (cond b (get_attr_by_handle r sight handle) (get_attr_by_place r sight))
+  get_attr-still : (b : Bool) (sight : Option Sight) (handle : Option Handle) → Still (cond b (get_attr_by_handle f.reach r sight handle) (get_attr_by_place r sight))
   get_attr-still true sight handle = handle-attr-still sight handle
   get_attr-still false sight handle = attr-still sight
 
   found-dir-still : (folder : Folder) → Still (open_found r f.room folder)
   found-dir-still (RootOf view numbers has_views) = refl
   found-dir-still (Views applications) = refl
-  found-dir-still (FolderOf view number path may_write) = λ look shown. refl
+  found-dir-still (FolderOf view d may_write) = λ look shown. refl
 
   open_dir-still : (sight : Option Sight) → Still (open_dir r sight f.room)
-  open_dir-still sight = by_place-on tree P sight (no_file enotdir) (open_dir_in r f.room) (λ path w g s m. tt)
+  open_dir-still sight = by_place-on tree P sight (no_file enotdir) (open_dir_in r f.room) (λ d w g s m. tt)
       (λ folder k. errs_if-on tree P f.room.full emfile (open_found r f.room folder) (λ e. found-dir-still folder))
 
-  read-still : (offset size : ℕ) (handle : Option Handle) → Still (read f.bytes offset size handle)
+  read-still : (offset size : ℕ) (handle : Option Handle) → Still (read f.reach f.bytes offset size handle)
   read-still offset size handle =
-      errs_if-on tree P (nat_lt read_limit size) einval (by_file_handle handle (read_open f.bytes offset size)) (λ e.
-      by_file_handle-on tree P handle (read_open f.bytes offset size) (λ name node may_read may_write.
-      errs_if-on tree P (not may_read) ebadf _ (λ k. ((λ now found. refl), tt))))
+      errs_if-on tree P (nat_lt read_limit size) einval (by_file_handle handle (read_open f.reach f.bytes offset size)) (λ e.
+      by_file_handle-on tree P handle (read_open f.reach f.bytes offset size) (λ file.
+      errs_if-on tree P (not file.read) ebadf _ (λ k.
+      errs_if-on tree P (not (may_read_now f.reach file)) eacces _ (λ n. ((λ now found. refl), tt)))))
 
   names-still : (offset size : ℕ) (handle : Option Handle) → Still (read_names offset size handle)
   names-still offset size None = tt
-  names-still offset size (Some (Handle.File name node read write)) = tt
+  names-still offset size (Some (Handle.File name node document strict read write)) = tt
   names-still offset size (Some (Handle.Folder node names)) = refl
 
   release_dir-still : (fh : ℕ) (handle : Option Handle) → Still (release_dir fh handle)
   release_dir-still fh None = tt
-  release_dir-still fh (Some (Handle.File name node read write)) = tt
+  release_dir-still fh (Some (Handle.File name node document strict read write)) = tt
   release_dir-still fh (Some (Handle.Folder node names)) = refl
 
   access-still : (mask : ℕ) (sight : Option Sight) → Still (access mask sight)
   access-still mask sight =
       errs_if-on tree P (nat_lt 7 mask) einval (by_place sight (access_file mask) (access_folder mask)) (λ e.
       by_place-on tree P sight (access_file mask) (access_folder mask)
-      (λ path w g s m. errs_if-on tree P (executes mask || writes_to mask && not w) eacces (told NodeAnswer.Empty) (λ k. refl))
+      (λ d w g s m. errs_if-on tree P (executes mask || writes_to mask && not w) eacces (told NodeAnswer.Empty) (λ k. refl))
       (λ folder h. errs_if-on tree P (writes_to mask) eacces (told NodeAnswer.Empty) (λ k. refl)))
 
   -- ---- a length that is set
 
-  size-at : (q : NodeRequest) (a : SetsAttr) (errno : ℕ) (name : FileName) (may_write : Bool) (size moment : ℕ) → At (path_if (sets_size a.valid) (Some name.path)) (set_attr_of q a errno name may_write size moment)
-  size-at q a errno name may_write size moment = elim (sets_size a.valid) as (λ b. At (path_if b (Some name.path)) (cond b (errs_if (not may_write) errno (errs_if (nat_lt a.limit a.size) efbig (resize q a name may_write))) (told (NodeAnswer.Attr (attr_of_file q may_write size moment))))) [
+  size-at : (q : NodeRequest) (a : SetsAttr) (name : FileName) (may_write : Bool) (size moment : ℕ) → At (path_if (sets_size a.valid) (Some name.path)) (set_attr_of q a name may_write size moment)
+  size-at q a name may_write size moment = elim (sets_size a.valid) as (λ b. At (path_if b (Some name.path)) (cond b (errs_if (not may_write) eacces (errs_if (nat_lt a.limit a.size) efbig (resize q a name may_write))) (told (NodeAnswer.Attr (attr_of_file q may_write size moment))))) [
     | true ↦
-        errs_if-on tree (ChangesPath (Some name.path)) (not may_write) errno (errs_if (nat_lt a.limit a.size) efbig (resize q a name may_write)) (λ e.
+        errs_if-on tree (ChangesPath (Some name.path)) (not may_write) eacces (errs_if (nat_lt a.limit a.size) efbig (resize q a name may_write)) (λ e.
         errs_if-on tree (ChangesPath (Some name.path)) (nat_lt a.limit a.size) efbig (resize q a name may_write) (λ k. ((λ now found. refl), tt)))
     | false ↦ refl
   ]
 
-  size-open : (a : SetsAttr) (handle : Option Handle) → At (path_if (sets_size a.valid) (path_of_open handle)) (by_file_handle handle (set_attr_open r a))
+  size-of-open : (a : SetsAttr) (file : OpenFile) → At (path_if (sets_size a.valid) (Some file.name.path)) (set_attr_open f.reach r a file)
+  size-of-open a file =
+      let Q : NodeDoing → Type 0 = ChangesPath (path_if (sets_size a.valid) (Some file.name.path)) in
+      errs_if-on tree Q (not (reaches f.reach file)) eacces (at_name file.name (set_attr_of_open f.reach r a file)) (λ e.
+      at_name-on tree Q file.name (set_attr_of_open f.reach r a file) (λ g s m.
+      errs_if-on tree Q (sets_size a.valid && not file.write) ebadf (set_attr_of (on_node r file.node) a file.name (may_write_now f.reach file) s m) (λ k.
+      size-at (on_node r file.node) a file.name (may_write_now f.reach file) s m)))
+
+  size-open : (a : SetsAttr) (handle : Option Handle) → At (path_if (sets_size a.valid) (path_of_open handle)) (by_file_handle handle (set_attr_open f.reach r a))
   size-open a None = tt
-  size-open a (Some (Handle.File name node read write)) = at_name-on tree (ChangesPath (path_if (sets_size a.valid) (Some name.path))) name (λ g s m. set_attr_of (on_node r node) a ebadf name write s m) (λ g s m. size-at (on_node r node) a ebadf name write s m)
+  size-open a (Some (Handle.File name node document strict read write)) = size-of-open a (open_file_of name node document strict read write)
   size-open a (Some (Handle.Folder node names)) = tt
 
   size-place : (a : SetsAttr) (sight : Option Sight) → At (path_if (sets_size a.valid) (path_of_sight sight)) (by_place sight (set_attr_at r a) (set_attr_of_folder r a))
   size-place a None = tt
-  size-place a (Some (SightOfFile path w)) = at_file-on tree (ChangesPath (path_if (sets_size a.valid) (Some path))) path (set_attr_at r a path w) (λ g s m. size-at r a eacces (record { path = path; generation = g }) w s m)
+  size-place a (Some (SightOfFile d w)) = at_file-on tree (ChangesPath (path_if (sets_size a.valid) (Some d.path))) d.path (set_attr_at r a d w) (λ g s m. size-at r a (record { path = d.path; generation = g }) w s m)
   size-place a (Some (SightOfFolder folder)) = errs_if-on tree (ChangesPath (path_if (sets_size a.valid) None)) (sets_size a.valid) eisdir (told (NodeAnswer.Attr (attr_of_folder r))) (λ e. no-path (sets_size a.valid))
 
-  set_attr-at : (a : SetsAttr) (sight : Option Sight) (handle : Option Handle) → At (path_if (sets_size a.valid) (cond (sets_by_handle a.valid) (path_of_open handle) (path_of_sight sight))) (set_attr r a sight handle)
+  set_attr-at : (a : SetsAttr) (sight : Option Sight) (handle : Option Handle) → At (path_if (sets_size a.valid) (cond (sets_by_handle a.valid) (path_of_open handle) (path_of_sight sight))) (set_attr f.reach r a sight handle)
   set_attr-at a sight handle =
-      errs_if-on tree (ChangesPath (path_if (sets_size a.valid) (cond (sets_by_handle a.valid) (path_of_open handle) (path_of_sight sight)))) (sets_owner_or_mode a.valid) eperm (cond (sets_by_handle a.valid) (by_file_handle handle (set_attr_open r a)) (by_place sight (set_attr_at r a) (set_attr_of_folder r a))) (λ e.
-      elim (sets_by_handle a.valid) as (λ b. At (path_if (sets_size a.valid) (cond b (path_of_open handle) (path_of_sight sight))) (cond b (by_file_handle handle (set_attr_open r a)) (by_place sight (set_attr_at r a) (set_attr_of_folder r a)))) [
+      errs_if-on tree (ChangesPath (path_if (sets_size a.valid) (cond (sets_by_handle a.valid) (path_of_open handle) (path_of_sight sight)))) (sets_owner_or_mode a.valid) eperm (cond (sets_by_handle a.valid) (by_file_handle handle (set_attr_open f.reach r a)) (by_place sight (set_attr_at r a) (set_attr_of_folder r a))) (λ e.
+      elim (sets_by_handle a.valid) as (λ b. At (path_if (sets_size a.valid) (cond b (path_of_open handle) (path_of_sight sight))) (cond b (by_file_handle handle (set_attr_open f.reach r a)) (by_place sight (set_attr_at r a) (set_attr_of_folder r a)))) [
         | true ↦ size-open a handle
         | false ↦ size-place a sight
       ])
 
   -- ---- a file that is opened
 
-  open-name-at : (flags : ℕ) (name : FileName) → At (path_if (truncates flags) (Some name.path)) (open_name r flags f.room name)
-  open-name-at flags name = elim (truncates flags) as (λ b. At (path_if b (Some name.path)) (cond b (Ends (Changes name) (λ now. opened_file f.room (file_handle name r.node flags) (Resizes name 0 now)) (Errs enoent)) (Answers (opened_file f.room (file_handle name r.node flags) FilesStay)))) [
+  open-name-at : (flags : ℕ) (d : Document) (name : FileName) → At (path_if (truncates flags) (Some name.path)) (open_name r flags f.room d name)
+  open-name-at flags d name = elim (truncates flags) as (λ b. At (path_if b (Some name.path)) (cond b (Ends (Changes name) (λ now. opened_file f.room (file_handle d name r.node flags) (Resizes name 0 now)) (Errs enoent)) (Answers (opened_file f.room (file_handle d name r.node flags) FilesStay)))) [
     | true ↦ ((λ now found. refl), tt)
     | false ↦ refl
   ]
 
   open-place : (flags : ℕ) (sight : Option Sight) → At (path_if (truncates flags) (path_of_sight sight)) (by_place sight (open_file r flags f.room) open_folder)
   open-place flags None = tt
-  open-place flags (Some (SightOfFile path w)) =
-      let Q : NodeDoing → Type 0 = ChangesPath (path_if (truncates flags) (Some path)) in
-      at_file-on tree Q path (open_file r flags f.room path w) (λ g s m.
-      let name : FileName = record { path = path; generation = g } in
-      errs_if-on tree Q (opens_to_write flags && not w) eacces (errs_if f.room.full emfile (open_name r flags f.room name)) (λ k.
-      errs_if-on tree Q f.room.full emfile (open_name r flags f.room name) (λ n. open-name-at flags name)))
+  open-place flags (Some (SightOfFile d w)) =
+      let Q : NodeDoing → Type 0 = ChangesPath (path_if (truncates flags) (Some d.path)) in
+      at_file-on tree Q d.path (open_file r flags f.room d w) (λ g s m.
+      let name : FileName = record { path = d.path; generation = g } in
+      errs_if-on tree Q (opens_to_write flags && not w) eacces (errs_if f.room.full emfile (open_name r flags f.room d name)) (λ k.
+      errs_if-on tree Q f.room.full emfile (open_name r flags f.room d name) (λ n. open-name-at flags d name)))
   open-place flags (Some (SightOfFolder folder)) = tt
 
   open-at : (flags : ℕ) (sight : Option Sight) → At (path_if (truncates flags) (path_of_sight sight)) (open_node r flags sight f.room)
@@ -164,24 +178,24 @@ module _ (tree : Option (List File)) (f : NodeFacts) (r : NodeRequest) where
 
   -- ---- a file that is made
 
-  there-at : (flags : ℕ) (path : List ℕ) (node : ℕ) (look : Look) → At (Some path) (create_there r flags f.room path node look)
-  there-at flags path node (Look.File g s m) = tt
-  there-at flags path node Look.Folder = tt
-  there-at flags path node Look.Missing = ((λ now found. refl), tt)
+  there-at : (flags : ℕ) (d : Document) (node : ℕ) (look : Look) → At (Some d.path) (create_there r flags f.room d node look)
+  there-at flags d node (Look.File g s m) = tt
+  there-at flags d node Look.Folder = tt
+  there-at flags d node Look.Missing = ((λ now found. refl), tt)
 
   create-in-at : (name : List ℕ) (flags : ℕ) (folder : Folder) → At (path_of_folder folder) (create_in r name flags f.room folder)
   create-in-at name flags (RootOf view numbers has_views) = tt
   create-in-at name flags (Views applications) = tt
-  create-in-at name flags (FolderOf view number path may_write) =
-      let Q : NodeDoing → Type 0 = ChangesPath (Some path) in
-      let there = Looks (AtPath path) (create_there r flags f.room path (file_node view number)) in
-      errs_if-on tree Q (not (is_same name (name_of path))) eacces (errs_if (not may_write) eacces (errs_if f.room.full emfile there)) (λ a.
+  create-in-at name flags (FolderOf view d may_write) =
+      let Q : NodeDoing → Type 0 = ChangesPath (Some d.path) in
+      let there = Looks (AtPath d.path) (create_there r flags f.room d (file_node view d.id.number)) in
+      errs_if-on tree Q (not (is_same name (name_of d.path))) eacces (errs_if (not may_write) eacces (errs_if f.room.full emfile there)) (λ a.
       errs_if-on tree Q (not may_write) eacces (errs_if f.room.full emfile there) (λ b.
-      errs_if-on tree Q f.room.full emfile there (λ e. λ look shown. there-at flags path (file_node view number) look)))
+      errs_if-on tree Q f.room.full emfile there (λ e. λ look shown. there-at flags d (file_node view d.id.number) look)))
 
   create-place : (name : List ℕ) (flags : ℕ) (sight : Option Sight) → At (path_in_sight sight) (by_place sight (no_file enotdir) (create_in r name flags f.room))
   create-place name flags None = tt
-  create-place name flags (Some (SightOfFile path w)) = at_file-on tree P path (no_file enotdir path w) (λ g s m. tt)
+  create-place name flags (Some (SightOfFile d w)) = at_file-on tree P d.path (no_file enotdir d w) (λ g s m. tt)
   create-place name flags (Some (SightOfFolder folder)) = create-in-at name flags folder
 
   create-at : (name : List ℕ) (flags : ℕ) (sight : Option Sight) → At (path_in_sight sight) (create r name flags sight f.room)
@@ -196,20 +210,24 @@ module _ (tree : Option (List File)) (f : NodeFacts) (r : NodeRequest) where
   content-at limit name offset [] = refl
   content-at limit name offset (b ∷ bs) = errs_if-on tree (ChangesPath (Some name.path)) (nat_lt limit (offset + length (b ∷ bs))) efbig _ (λ e. ((λ now found. refl), tt))
 
-  write-open-at : (limit offset : ℕ) (content : List ℕ) (handle : Option Handle) → At (path_if (has_bytes content) (path_of_open handle)) (by_file_handle handle (write_open limit offset content))
+  write-open-at : (limit offset : ℕ) (content : List ℕ) (handle : Option Handle) → At (path_if (has_bytes content) (path_of_open handle)) (by_file_handle handle (write_open f.reach limit offset content))
   write-open-at limit offset content None = tt
-  write-open-at limit offset content (Some (Handle.File name node may_read may_write)) = errs_if-on tree (ChangesPath (path_if (has_bytes content) (Some name.path))) (not may_write) ebadf (write_content limit name offset content) (λ k. content-at limit name offset content)
+  write-open-at limit offset content (Some (Handle.File name node document strict may_read may_write)) =
+      let Q : NodeDoing → Type 0 = ChangesPath (path_if (has_bytes content) (Some name.path)) in
+      let may : Bool = may_write_now f.reach (open_file_of name node document strict may_read may_write) in
+      errs_if-on tree Q (not may_write) ebadf (errs_if (not may) eacces (write_content limit name offset content)) (λ k.
+      errs_if-on tree Q (not may) eacces (write_content limit name offset content) (λ n. content-at limit name offset content))
   write-open-at limit offset content (Some (Handle.Folder node names)) = tt
 
-  write-at : (limit offset : ℕ) (content : List ℕ) (handle : Option Handle) → At (path_if (has_bytes content) (path_of_open handle)) (write limit offset content handle)
-  write-at limit offset content handle = errs_if-on tree (ChangesPath (path_if (has_bytes content) (path_of_open handle))) (nat_lt write_limit (length content)) einval (by_file_handle handle (write_open limit offset content)) (λ e. write-open-at limit offset content handle)
+  write-at : (limit offset : ℕ) (content : List ℕ) (handle : Option Handle) → At (path_if (has_bytes content) (path_of_open handle)) (write f.reach limit offset content handle)
+  write-at limit offset content handle = errs_if-on tree (ChangesPath (path_if (has_bytes content) (path_of_open handle))) (nat_lt write_limit (length content)) einval (by_file_handle handle (write_open f.reach limit offset content)) (λ e. write-open-at limit offset content handle)
 
   -- ---- each request
 
   pub walk-path : (op : NodeOp) → OnNode tree (ChangesPath (path_changed f op)) (node_walk f r op)
   walk-path (NodeOp.Lookup name) =
       errs_if-on tree P (is_too_long name) enametoolong (by_place f.sight (no_file enotdir) (lookup_in r name)) (λ e.
-      by_place-on tree P f.sight (no_file enotdir) (lookup_in r name) (λ path w g s m. tt) (λ folder k. lookup-still name folder))
+      by_place-on tree P f.sight (no_file enotdir) (lookup_in r name) (λ d w g s m. tt) (λ folder k. lookup-still name folder))
   walk-path (NodeOp.Forget count) = refl
   walk-path (NodeOp.BatchForget nodes) = refl
   walk-path (NodeOp.GetAttr flags fh) = get_attr-still (names_handle flags) f.sight (f.handle fh)
@@ -218,9 +236,9 @@ module _ (tree : Option (List File)) (f : NodeFacts) (r : NodeRequest) where
   walk-path (NodeOp.Create name flags) = create-at name flags f.sight
   walk-path (NodeOp.Read fh offset size) = read-still offset size (f.handle fh)
   walk-path (NodeOp.Write fh offset content) = write-at f.file_limit offset content (f.handle fh)
-  walk-path (NodeOp.Flush fh) = by_file_handle-on tree P (f.handle fh) _ (λ name node read write. refl)
-  walk-path (NodeOp.Fsync fh) = by_file_handle-on tree P (f.handle fh) fsync_open (λ name node read write. ((λ now found. refl), tt))
-  walk-path (NodeOp.Release fh) = by_file_handle-on tree P (f.handle fh) _ (λ name node read write. refl)
+  walk-path (NodeOp.Flush fh) = by_file_handle-on tree P (f.handle fh) _ (λ file. refl)
+  walk-path (NodeOp.Fsync fh) = by_file_handle-on tree P (f.handle fh) fsync_open (λ file. ((λ now found. refl), tt))
+  walk-path (NodeOp.Release fh) = by_file_handle-on tree P (f.handle fh) _ (λ file. refl)
   walk-path NodeOp.OpenDir = open_dir-still f.sight
   walk-path (NodeOp.ReadDir fh offset size) = errs_if-on tree P (nat_lt read_limit size) einval (read_names offset size (f.handle fh)) (λ e. names-still offset size (f.handle fh))
   walk-path (NodeOp.ReleaseDir fh) = release_dir-still fh (f.handle fh)

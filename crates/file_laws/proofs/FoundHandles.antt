@@ -10,7 +10,7 @@ use Rattle.portal_model.specs.Leave.{handles_of_others}
 use Rattle.portal_model.specs.Node.{new_handle}
 use Rattle.portal_model.specs.State.{connection_of, handle_of, is_handle, is_mount}
 use Rattle.portal_model.specs.Step.{mount_of}
-use Rattle.portal_model.specs.Valid.{has_host_path, is_sound_handle, opened_here}
+use Rattle.portal_model.specs.Valid.{has_host_path, is_sound_handle, opened_here, viewed_here}
 use Rattle.portal_model.proofs.ListLookups.{find-filter, found_in_all, found_passes, nat_is}
 
 and-first : (a b : Bool) → (a && b) ≡ true → a ≡ true
@@ -76,7 +76,7 @@ found-mount hs cs seat fh handle sound e = by_found (find (is_handle seat fh) hs
     by_found None f h = cc
     by_found (Some x) f h =
         let same : x.seat ≡ seat = nat_is x.seat seat (and-first (x.seat == seat) (x.fh == fh) (found_passes (is_handle seat fh) hs x f)) in
-        let here : opened_here x.fh (connection_of cs x.seat) ≡ true = and-first (opened_here x.fh (connection_of cs x.seat)) (has_host_path x.handle) (found_in_all (is_handle seat fh) (is_sound_handle cs) hs x f sound) in
+        let here : opened_here x.fh (connection_of cs x.seat) ≡ true = and-first (opened_here x.fh (connection_of cs x.seat)) (has_host_path x.handle && viewed_here x.handle (connection_of cs x.seat)) (found_in_all (is_handle seat fh) (is_sound_handle cs) hs x f sound) in
         open-mount x.fh (connection_of cs seat) (ap (λ (n : ℕ). opened_here x.fh (connection_of cs n)) (sym same) ∙ here)
 
 -- ---- fewer handles

@@ -10,22 +10,24 @@ use Rattle.portal_model.specs.declared.handle.Handle.{Handle}
 use Rattle.portal_model.specs.declared.reply.NodeAnswer.{NodeAnswer}
 use Rattle.portal_model.specs.declared.request.NodeOp.{NodeOp}
 use Rattle.portal_model.specs.declared.request.NodeRequest.{NodeRequest}
+use Rattle.portal_model.specs.declared.state.Document.{Document}
 use Rattle.portal_model.specs.Access.{access, access_file, access_folder, executes, writes_to}
 use Rattle.portal_model.specs.Attributes.{attr_of_file, attr_of_folder, on_node}
 use Rattle.portal_model.specs.Create.{create, create_in, create_there}
 use Rattle.portal_model.specs.Errno.{eacces, ebadf, efbig, einval, eisdir, emfile, enametoolong, enoent, enotdir, eperm}
 use Rattle.portal_model.specs.Fsync.{fsync_open}
-use Rattle.portal_model.specs.GetAttr.{get_attr_by_handle, get_attr_by_place, names_handle, tells_file, tells_folder}
+use Rattle.portal_model.specs.GetAttr.{get_attr_by_handle, get_attr_by_place, get_attr_open, names_handle, tells_file, tells_folder}
 use Rattle.portal_model.specs.Lookup.{entry_of_file, found_folder, lookup_in, named_in_root, named_in_views}
 use Rattle.portal_model.specs.Node.{NodeFacts, node_walk}
-use Rattle.portal_model.specs.NodeVerdict.{NodeDoing, NodeVerdict, FilesStay, Resizes, HandleChange, HandlesStay, Opens, Closes, Errs, at_file, by_file_handle, by_place, errs, errs_if, is_too_long, next_handle, no_file, told}
+use Rattle.portal_model.specs.NodeVerdict.{NodeDoing, NodeVerdict, FilesStay, Resizes, HandleChange, HandlesStay, Opens, Closes, Errs, at_file, at_name, by_file_handle, by_place, errs, errs_if, is_too_long, next_handle, no_file, told}
 use Rattle.portal_model.specs.Open.{file_handle, has_no_mode, open_file, open_folder, open_name, open_node, opened_file, opens_to_write, truncates}
 use Rattle.portal_model.specs.OpenDir.{open_dir, open_dir_in, open_found}
 use Rattle.portal_model.specs.Place.{Folder, RootOf, Views, FolderOf, file_node, Sight}
+use Rattle.portal_model.specs.Reach.{OpenFile, may_read_now, may_write_now, open_file_of, reaches}
 use Rattle.portal_model.specs.Read.{read, read_limit, read_open}
 use Rattle.portal_model.specs.ReadDir.{read_names}
 use Rattle.portal_model.specs.ReleaseDir.{release_dir}
-use Rattle.portal_model.specs.SetAttr.{SetsAttr, resize, set_attr, set_attr_at, set_attr_of, set_attr_of_folder, set_attr_open, sets_by_handle, sets_owner_or_mode, sets_size}
+use Rattle.portal_model.specs.SetAttr.{SetsAttr, resize, set_attr, set_attr_at, set_attr_of, set_attr_of_folder, set_attr_of_open, set_attr_open, sets_by_handle, sets_owner_or_mode, sets_size}
 use Rattle.portal_model.specs.Walk.{Walk, Answers, Looks, Ends, AtPath, Changes}
 use Rattle.portal_model.specs.Write.{write, write_content, write_limit, write_open}
 use Rattle.portal_model.proofs.NodeWalks.{OnNode, at_file-on, at_name-on, by_file_handle-on, by_place-on, errs_if-on}
@@ -59,27 +61,30 @@ module _ (tree : Option (List File)) (f : NodeFacts) (r : NodeRequest) (op : Nod
   lookup-fits : (name : List ℕ) (folder : Folder) → On (lookup_in r name folder)
   lookup-fits name (RootOf view numbers has_views) = found-fits (named_in_root view numbers has_views name)
   lookup-fits name (Views applications) = found-fits (named_in_views applications name)
-  lookup-fits name (FolderOf view number path may_write) = elim (is_same name (name_of path)) as (λ b. On (cond b (at_file path (entry_of_file r (file_node view number) may_write)) (errs enoent))) [
-    | true ↦ at_file-on tree P path (entry_of_file r (file_node view number) may_write) (λ g s m. (refl, tt))
+  lookup-fits name (FolderOf view d may_write) = elim (is_same name (name_of d.path)) as (λ b. On (cond b (at_file d.path (entry_of_file r (file_node view d.id.number) may_write)) (errs enoent))) [
+    | true ↦ at_file-on tree P d.path (entry_of_file r (file_node view d.id.number) may_write) (λ g s m. (refl, tt))
     | false ↦ tt
   ]
 
   attr-fits : (sight : Option Sight) → On (get_attr_by_place r sight)
-  attr-fits sight = by_place-on tree P sight (λ path may_write. tells_file r may_write) (tells_folder r) (λ path w g s m. (refl, tt)) (λ folder e. (refl, tt))
+  attr-fits sight = by_place-on tree P sight (λ d may_write. tells_file r may_write) (tells_folder r) (λ d w g s m. (refl, tt)) (λ folder e. (refl, tt))
 
-  handle-attr-fits : (sight : Option Sight) (handle : Option Handle) → On (get_attr_by_handle r sight handle)
+  open-attr-fits : (file : OpenFile) → On (get_attr_open f.reach r file)
+  open-attr-fits file = errs_if-on tree P (not (reaches f.reach file)) eacces _ (λ e. at_name-on tree P file.name (tells_file (on_node r file.node) (may_write_now f.reach file)) (λ g s m. (refl, tt)))
+
+  handle-attr-fits : (sight : Option Sight) (handle : Option Handle) → On (get_attr_by_handle f.reach r sight handle)
   handle-attr-fits sight None = tt
-  handle-attr-fits sight (Some (Handle.File name node read write)) = at_name-on tree P name (tells_file (on_node r node) write) (λ g s m. (refl, tt))
+  handle-attr-fits sight (Some (Handle.File name node document strict read write)) = open-attr-fits (open_file_of name node document strict read write)
   handle-attr-fits sight (Some (Handle.Folder node names)) = attr-fits sight
 
-  get_attr-fits : (b : Bool) (sight : Option Sight) (handle : Option Handle) → On (cond b (get_attr_by_handle r sight handle) (get_attr_by_place r sight))
+  get_attr-fits : (b : Bool) (sight : Option Sight) (handle : Option Handle) → On (cond b (get_attr_by_handle f.reach r sight handle) (get_attr_by_place r sight))
   get_attr-fits true sight handle = handle-attr-fits sight handle
   get_attr-fits false sight handle = attr-fits sight
 
-  size-fits : (q : NodeRequest) (a : SetsAttr) (errno : ℕ) (name : FileName) (may_write : Bool) (size moment : ℕ) → On (set_attr_of q a errno name may_write size moment)
-  size-fits q a errno name may_write size moment = elim (sets_size a.valid) as (λ b. On (cond b (errs_if (not may_write) errno (errs_if (nat_lt a.limit a.size) efbig (resize q a name may_write))) (told (NodeAnswer.Attr (attr_of_file q may_write size moment))))) [
+  size-fits : (q : NodeRequest) (a : SetsAttr) (name : FileName) (may_write : Bool) (size moment : ℕ) → On (set_attr_of q a name may_write size moment)
+  size-fits q a name may_write size moment = elim (sets_size a.valid) as (λ b. On (cond b (errs_if (not may_write) eacces (errs_if (nat_lt a.limit a.size) efbig (resize q a name may_write))) (told (NodeAnswer.Attr (attr_of_file q may_write size moment))))) [
     | true ↦
-        errs_if-on tree P (not may_write) errno (errs_if (nat_lt a.limit a.size) efbig (resize q a name may_write)) (λ e.
+        errs_if-on tree P (not may_write) eacces (errs_if (nat_lt a.limit a.size) efbig (resize q a name may_write)) (λ e.
         errs_if-on tree P (nat_lt a.limit a.size) efbig (resize q a name may_write) (λ k. ((λ now found. (refl, tt)), tt)))
     | false ↦ (refl, tt)
   ]
@@ -87,16 +92,23 @@ module _ (tree : Option (List File)) (f : NodeFacts) (r : NodeRequest) (op : Nod
   folder-size-fits : (a : SetsAttr) (folder : Folder) → On (set_attr_of_folder r a folder)
   folder-size-fits a folder = errs_if-on tree P (sets_size a.valid) eisdir (told (NodeAnswer.Attr (attr_of_folder r))) (λ e. (refl, tt))
 
-  set_attr-fits : (a : SetsAttr) (sight : Option Sight) (handle : Option Handle) → On (set_attr r a sight handle)
+  open-size-fits : (a : SetsAttr) (file : OpenFile) → On (set_attr_open f.reach r a file)
+  open-size-fits a file =
+      errs_if-on tree P (not (reaches f.reach file)) eacces (at_name file.name (set_attr_of_open f.reach r a file)) (λ e.
+      at_name-on tree P file.name (set_attr_of_open f.reach r a file) (λ g s m.
+      errs_if-on tree P (sets_size a.valid && not file.write) ebadf (set_attr_of (on_node r file.node) a file.name (may_write_now f.reach file) s m) (λ k.
+      size-fits (on_node r file.node) a file.name (may_write_now f.reach file) s m)))
+
+  set_attr-fits : (a : SetsAttr) (sight : Option Sight) (handle : Option Handle) → On (set_attr f.reach r a sight handle)
   set_attr-fits a sight handle =
-      errs_if-on tree P (sets_owner_or_mode a.valid) eperm (cond (sets_by_handle a.valid) (by_file_handle handle (set_attr_open r a)) (by_place sight (set_attr_at r a) (set_attr_of_folder r a))) (λ e.
-      elim (sets_by_handle a.valid) as (λ b. On (cond b (by_file_handle handle (set_attr_open r a)) (by_place sight (set_attr_at r a) (set_attr_of_folder r a)))) [
-        | true ↦ by_file_handle-on tree P handle (set_attr_open r a) (λ name node read write. at_name-on tree P name (λ g s m. set_attr_of (on_node r node) a ebadf name write s m) (λ g s m. size-fits (on_node r node) a ebadf name write s m))
-        | false ↦ by_place-on tree P sight (set_attr_at r a) (set_attr_of_folder r a) (λ path w g s m. size-fits r a eacces (record { path = path; generation = g }) w s m) (λ folder e. folder-size-fits a folder)
+      errs_if-on tree P (sets_owner_or_mode a.valid) eperm (cond (sets_by_handle a.valid) (by_file_handle handle (set_attr_open f.reach r a)) (by_place sight (set_attr_at r a) (set_attr_of_folder r a))) (λ e.
+      elim (sets_by_handle a.valid) as (λ b. On (cond b (by_file_handle handle (set_attr_open f.reach r a)) (by_place sight (set_attr_at r a) (set_attr_of_folder r a)))) [
+        | true ↦ by_file_handle-on tree P handle (set_attr_open f.reach r a) (open-size-fits a)
+        | false ↦ by_place-on tree P sight (set_attr_at r a) (set_attr_of_folder r a) (λ d w g s m. size-fits r a (record { path = d.path; generation = g }) w s m) (λ folder e. folder-size-fits a folder)
       ])
 
-  open-name-fits : (flags : ℕ) (name : FileName) → On (open_name r flags f.room name)
-  open-name-fits flags name = elim (truncates flags) as (λ b. On (cond b (Ends (Changes name) (λ now. opened_file f.room (file_handle name r.node flags) (Resizes name 0 now)) (Errs enoent)) (Answers (opened_file f.room (file_handle name r.node flags) FilesStay)))) [
+  open-name-fits : (flags : ℕ) (d : Document) (name : FileName) → On (open_name r flags f.room d name)
+  open-name-fits flags d name = elim (truncates flags) as (λ b. On (cond b (Ends (Changes name) (λ now. opened_file f.room (file_handle d name r.node flags) (Resizes name 0 now)) (Errs enoent)) (Answers (opened_file f.room (file_handle d name r.node flags) FilesStay)))) [
     | true ↦ ((λ now found. (refl, tt)), tt)
     | false ↦ (refl, tt)
   ]
@@ -104,72 +116,74 @@ module _ (tree : Option (List File)) (f : NodeFacts) (r : NodeRequest) (op : Nod
   open-fits : (flags : ℕ) (sight : Option Sight) → On (open_node r flags sight f.room)
   open-fits flags sight =
       errs_if-on tree P (has_no_mode flags) einval (by_place sight (open_file r flags f.room) open_folder) (λ e.
-      by_place-on tree P sight (open_file r flags f.room) open_folder (λ path w g s m.
-      let name : FileName = record { path = path; generation = g } in
-      errs_if-on tree P (opens_to_write flags && not w) eacces (errs_if f.room.full emfile (open_name r flags f.room name)) (λ k.
-      errs_if-on tree P f.room.full emfile (open_name r flags f.room name) (λ n. open-name-fits flags name))) (λ folder k. tt))
+      by_place-on tree P sight (open_file r flags f.room) open_folder (λ d w g s m.
+      let name : FileName = record { path = d.path; generation = g } in
+      errs_if-on tree P (opens_to_write flags && not w) eacces (errs_if f.room.full emfile (open_name r flags f.room d name)) (λ k.
+      errs_if-on tree P f.room.full emfile (open_name r flags f.room d name) (λ n. open-name-fits flags d name))) (λ folder k. tt))
 
-  there-fits : (flags : ℕ) (path : List ℕ) (node : ℕ) (look : Look) → On (create_there r flags f.room path node look)
-  there-fits flags path node (Look.File g s m) = tt
-  there-fits flags path node Look.Folder = tt
-  there-fits flags path node Look.Missing = ((λ now found. (refl, tt)), tt)
+  there-fits : (flags : ℕ) (d : Document) (node : ℕ) (look : Look) → On (create_there r flags f.room d node look)
+  there-fits flags d node (Look.File g s m) = tt
+  there-fits flags d node Look.Folder = tt
+  there-fits flags d node Look.Missing = ((λ now found. (refl, tt)), tt)
 
   create-in-fits : (name : List ℕ) (flags : ℕ) (folder : Folder) → On (create_in r name flags f.room folder)
   create-in-fits name flags (RootOf view numbers has_views) = tt
   create-in-fits name flags (Views applications) = tt
-  create-in-fits name flags (FolderOf view number path may_write) =
-      let there = Looks (AtPath path) (create_there r flags f.room path (file_node view number)) in
-      errs_if-on tree P (not (is_same name (name_of path))) eacces (errs_if (not may_write) eacces (errs_if f.room.full emfile there)) (λ a.
+  create-in-fits name flags (FolderOf view d may_write) =
+      let there = Looks (AtPath d.path) (create_there r flags f.room d (file_node view d.id.number)) in
+      errs_if-on tree P (not (is_same name (name_of d.path))) eacces (errs_if (not may_write) eacces (errs_if f.room.full emfile there)) (λ a.
       errs_if-on tree P (not may_write) eacces (errs_if f.room.full emfile there) (λ b.
-      errs_if-on tree P f.room.full emfile there (λ e. λ look shown. there-fits flags path (file_node view number) look)))
+      errs_if-on tree P f.room.full emfile there (λ e. λ look shown. there-fits flags d (file_node view d.id.number) look)))
 
   create-fits : (name : List ℕ) (flags : ℕ) (sight : Option Sight) → On (create r name flags sight f.room)
   create-fits name flags sight =
       let place = by_place sight (no_file enotdir) (create_in r name flags f.room) in
       errs_if-on tree P (has_no_mode flags) einval (errs_if (is_too_long name) enametoolong place) (λ a.
       errs_if-on tree P (is_too_long name) enametoolong place (λ b.
-      by_place-on tree P sight (no_file enotdir) (create_in r name flags f.room) (λ path w g s m. tt) (λ folder e. create-in-fits name flags folder)))
+      by_place-on tree P sight (no_file enotdir) (create_in r name flags f.room) (λ d w g s m. tt) (λ folder e. create-in-fits name flags folder)))
 
   found-dir-fits : (folder : Folder) → On (open_found r f.room folder)
   found-dir-fits (RootOf view numbers has_views) = (refl, tt)
   found-dir-fits (Views applications) = (refl, tt)
-  found-dir-fits (FolderOf view number path may_write) = λ look shown. (refl, tt)
+  found-dir-fits (FolderOf view d may_write) = λ look shown. (refl, tt)
 
   open_dir-fits : (sight : Option Sight) → On (open_dir r sight f.room)
-  open_dir-fits sight = by_place-on tree P sight (no_file enotdir) (open_dir_in r f.room) (λ path w g s m. tt)
+  open_dir-fits sight = by_place-on tree P sight (no_file enotdir) (open_dir_in r f.room) (λ d w g s m. tt)
       (λ folder k. errs_if-on tree P f.room.full emfile (open_found r f.room folder) (λ e. found-dir-fits folder))
 
-  read-fits : (offset size : ℕ) (handle : Option Handle) → On (read f.bytes offset size handle)
+  read-fits : (offset size : ℕ) (handle : Option Handle) → On (read f.reach f.bytes offset size handle)
   read-fits offset size handle =
-      errs_if-on tree P (nat_lt read_limit size) einval (by_file_handle handle (read_open f.bytes offset size)) (λ e.
-      by_file_handle-on tree P handle (read_open f.bytes offset size) (λ name node may_read may_write.
-      errs_if-on tree P (not may_read) ebadf _ (λ k. ((λ now found. (refl, tt)), tt))))
+      errs_if-on tree P (nat_lt read_limit size) einval (by_file_handle handle (read_open f.reach f.bytes offset size)) (λ e.
+      by_file_handle-on tree P handle (read_open f.reach f.bytes offset size) (λ file.
+      errs_if-on tree P (not file.read) ebadf _ (λ k.
+      errs_if-on tree P (not (may_read_now f.reach file)) eacces _ (λ n. ((λ now found. (refl, tt)), tt)))))
 
   content-fits : (limit : ℕ) (name : FileName) (offset : ℕ) (content : List ℕ) → On (write_content limit name offset content)
   content-fits limit name offset [] = (refl, tt)
   content-fits limit name offset (b ∷ bs) = errs_if-on tree P (nat_lt limit (offset + length (b ∷ bs))) efbig _ (λ e. ((λ now found. (refl, tt)), tt))
 
-  write-fits : (limit offset : ℕ) (content : List ℕ) (handle : Option Handle) → On (write limit offset content handle)
+  write-fits : (limit offset : ℕ) (content : List ℕ) (handle : Option Handle) → On (write f.reach limit offset content handle)
   write-fits limit offset content handle =
-      errs_if-on tree P (nat_lt write_limit (length content)) einval (by_file_handle handle (write_open limit offset content)) (λ e.
-      by_file_handle-on tree P handle (write_open limit offset content) (λ name node may_read may_write.
-      errs_if-on tree P (not may_write) ebadf (write_content limit name offset content) (λ k. content-fits limit name offset content)))
+      errs_if-on tree P (nat_lt write_limit (length content)) einval (by_file_handle handle (write_open f.reach limit offset content)) (λ e.
+      by_file_handle-on tree P handle (write_open f.reach limit offset content) (λ file.
+      errs_if-on tree P (not file.write) ebadf (errs_if (not (may_write_now f.reach file)) eacces (write_content limit file.name offset content)) (λ k.
+      errs_if-on tree P (not (may_write_now f.reach file)) eacces (write_content limit file.name offset content) (λ n. content-fits limit file.name offset content))))
 
   names-fits : (offset size : ℕ) (handle : Option Handle) → On (read_names offset size handle)
   names-fits offset size None = tt
-  names-fits offset size (Some (Handle.File name node read write)) = tt
+  names-fits offset size (Some (Handle.File name node document strict read write)) = tt
   names-fits offset size (Some (Handle.Folder node names)) = (refl, tt)
 
   release_dir-fits : (fh : ℕ) → releases fh op ≡ true → (handle : Option Handle) → On (release_dir fh handle)
   release_dir-fits fh h None = tt
-  release_dir-fits fh h (Some (Handle.File name node read write)) = tt
+  release_dir-fits fh h (Some (Handle.File name node document strict read write)) = tt
   release_dir-fits fh h (Some (Handle.Folder node names)) = (refl, h)
 
   access-fits : (mask : ℕ) (sight : Option Sight) → On (access mask sight)
   access-fits mask sight =
       errs_if-on tree P (nat_lt 7 mask) einval (by_place sight (access_file mask) (access_folder mask)) (λ e.
       by_place-on tree P sight (access_file mask) (access_folder mask)
-      (λ path w g s m. errs_if-on tree P (executes mask || writes_to mask && not w) eacces (told NodeAnswer.Empty) (λ k. (refl, tt)))
+      (λ d w g s m. errs_if-on tree P (executes mask || writes_to mask && not w) eacces (told NodeAnswer.Empty) (λ k. (refl, tt)))
       (λ folder h. errs_if-on tree P (writes_to mask) eacces (told NodeAnswer.Empty) (λ k. (refl, tt))))
 
 same-number : (n : ℕ) → (n == n) ≡ true
@@ -178,7 +192,7 @@ same-number n = grind (arith, nat_tests)
 pub walk-fits : (tree : Option (List File)) (f : NodeFacts) (r : NodeRequest) (op : NodeOp) → OnNode tree (Fits (next_handle f.room) op) (node_walk f r op)
 walk-fits t f r (NodeOp.Lookup name) =
     errs_if-on t (Fits (next_handle f.room) (NodeOp.Lookup name)) (is_too_long name) enametoolong (by_place f.sight (no_file enotdir) (lookup_in r name)) (λ e.
-    by_place-on t (Fits (next_handle f.room) (NodeOp.Lookup name)) f.sight (no_file enotdir) (lookup_in r name) (λ path w g s m. tt) (λ folder k. lookup-fits t f r (NodeOp.Lookup name) name folder))
+    by_place-on t (Fits (next_handle f.room) (NodeOp.Lookup name)) f.sight (no_file enotdir) (lookup_in r name) (λ d w g s m. tt) (λ folder k. lookup-fits t f r (NodeOp.Lookup name) name folder))
 walk-fits t f r (NodeOp.Forget count) = (refl, tt)
 walk-fits t f r (NodeOp.BatchForget nodes) = (refl, tt)
 walk-fits t f r (NodeOp.GetAttr flags fh) = get_attr-fits t f r (NodeOp.GetAttr flags fh) (names_handle flags) f.sight (f.handle fh)
@@ -187,9 +201,9 @@ walk-fits t f r (NodeOp.Open flags) = open-fits t f r (NodeOp.Open flags) flags 
 walk-fits t f r (NodeOp.Create name flags) = create-fits t f r (NodeOp.Create name flags) name flags f.sight
 walk-fits t f r (NodeOp.Read fh offset size) = read-fits t f r (NodeOp.Read fh offset size) offset size (f.handle fh)
 walk-fits t f r (NodeOp.Write fh offset content) = write-fits t f r (NodeOp.Write fh offset content) f.file_limit offset content (f.handle fh)
-walk-fits t f r (NodeOp.Flush fh) = by_file_handle-on t (Fits (next_handle f.room) (NodeOp.Flush fh)) (f.handle fh) _ (λ name node read write. (refl, tt))
-walk-fits t f r (NodeOp.Fsync fh) = by_file_handle-on t (Fits (next_handle f.room) (NodeOp.Fsync fh)) (f.handle fh) fsync_open (λ name node read write. ((λ now found. (refl, tt)), tt))
-walk-fits t f r (NodeOp.Release fh) = by_file_handle-on t (Fits (next_handle f.room) (NodeOp.Release fh)) (f.handle fh) _ (λ name node read write. (refl, same-number fh))
+walk-fits t f r (NodeOp.Flush fh) = by_file_handle-on t (Fits (next_handle f.room) (NodeOp.Flush fh)) (f.handle fh) _ (λ file. (refl, tt))
+walk-fits t f r (NodeOp.Fsync fh) = by_file_handle-on t (Fits (next_handle f.room) (NodeOp.Fsync fh)) (f.handle fh) fsync_open (λ file. ((λ now found. (refl, tt)), tt))
+walk-fits t f r (NodeOp.Release fh) = by_file_handle-on t (Fits (next_handle f.room) (NodeOp.Release fh)) (f.handle fh) _ (λ file. (refl, same-number fh))
 walk-fits t f r NodeOp.OpenDir = open_dir-fits t f r NodeOp.OpenDir f.sight
 walk-fits t f r (NodeOp.ReadDir fh offset size) =
     errs_if-on t (Fits (next_handle f.room) (NodeOp.ReadDir fh offset size)) (nat_lt read_limit size) einval (read_names offset size (f.handle fh)) (λ e. names-fits t f r (NodeOp.ReadDir fh offset size) offset size (f.handle fh))

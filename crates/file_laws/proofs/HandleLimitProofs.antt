@@ -11,6 +11,7 @@ use Rattle.portal_model.specs.declared.reply.NodeAnswer.{NodeAnswer}
 use Rattle.portal_model.specs.declared.request.NodeOp.{NodeOp}
 use Rattle.portal_model.specs.declared.request.NodeRequest.{NodeRequest}
 use Rattle.portal_model.specs.declared.state.Connection.{Connection}
+use Rattle.portal_model.specs.declared.state.Document.{Document}
 use Rattle.portal_model.specs.Examples.{a_text, editor}
 use Rattle.portal_model.specs.FileExamples.{a_node, answer_to, errs, limited_to, request_on, shown, then, told, with_rights}
 use Rattle.portal_model.specs.Node.{is_full, new_handle, node_given, settled_on_node}
@@ -43,9 +44,13 @@ at limit opens handles = record (limited_to limit (with_rights 3)) {
 abbrev files : List File
 files = (with_rights 3).files
 
+-- the document, as it is kept
+abbrev a_document : Document
+a_document = record { id = record { number = 10 }; path = a_text; persistent = true; reusable = true; strict = false }
+
 -- the walk of an OPEN of the file, by whether the limit is met
 abbrev walk_by : ℕ → Bool → Walk NodeVerdict
-walk_by opens full = open_node open_request 0 (Some (SightOfFile a_text true)) (record { opens = opens; full = full })
+walk_by opens full = open_node open_request 0 (Some (SightOfFile a_document true)) (record { opens = opens; full = full })
 
 abbrev given_by : ℕ → Bool → Given
 given_by opens full =
@@ -56,7 +61,7 @@ abbrev settled_by : State → Connection → Bool → State × Answer
 settled_by s c full = settled_on_node s c (node_given (walk_by c.opens full) (given_by c.opens full))
 
 abbrev handle_made : Connection → OpenHandle
-handle_made c = new_handle c (file_handle (record { path = a_text; generation = 0 }) a_node 0)
+handle_made c = new_handle c (file_handle a_document (record { path = a_text; generation = 0 }) a_node 0)
 
 -- ---- an OPEN of the editor, and one of the host
 

@@ -3,6 +3,8 @@ pub mod HandleChanges
 pub mod FoundHandles
 pub mod OlderHandleLaws
 pub mod OpenRights
+pub mod StrictHandleLaws
+pub mod StrictExampleProofs
 pub mod ChangedPaths
 pub mod ChangedContents
 pub mod BytesTold

@@ -1,5 +1,7 @@
 -- An open handle stays what it was until its own connection releases it or ends.
 use Rattle.std.proofs.Common.{◌≡◌, ℕ, ◌+◌, ◌==◌, List, [], ◌∷◌, ◌++◌, Bool, true, false, ◌&&◌, ◌||◌, Option, Some, None, refl, sym, ap, subst, ◌∙◌}
+use Rattle.portal_base.specs.declared.files.FileName.{FileName}
+use Rattle.portal_base.specs.declared.names.doc_id.DocId.{DocId}
 use Rattle.portal_model.specs.declared.entry.Entry.{Entry}
 use Rattle.portal_model.specs.declared.entry.Given.{Given}
 use Rattle.portal_model.specs.declared.handle.Handle.{Handle}
@@ -18,9 +20,10 @@ use Rattle.portal_model.specs.Leave.{handles_left, leave_answer}
 use Rattle.portal_model.specs.Node.{NodeFacts, facts_of, handles_after, new_handle, node_given, node_walk, settled_on_node, walk_on_node}
 use Rattle.portal_model.specs.NodeVerdict.{NodeVerdict, Errs, HandleChange, HandlesStay, Opens, Closes, Yields}
 use Rattle.portal_model.specs.Outside.{files_told}
+use Rattle.portal_model.specs.Reach.{Reaching}
 use Rattle.portal_model.specs.Read.{read}
 use Rattle.portal_model.specs.State.{State, connection_of, handle_of}
-use Rattle.portal_model.specs.Step.{after, all_told, bus_of, bus_step, collect_step, mount_of, node_step, request_step, with_signals}
+use Rattle.portal_model.specs.Step.{after, all_told, bus_of, bus_step, collect_step, mount_of, node_step, request_step, step, with_signals}
 use Rattle.portal_model.specs.Valid.{Valid}
 use Rattle.portal_model.specs.Walk.{Walk}
 use Rattle.portal_model.specs.Write.{write}
@@ -29,7 +32,7 @@ use Rattle.portal_model.proofs.ListLookups.{nat_is}
 use Rattle.portal_model.proofs.NodeLawsHold.{handles-stay}
 use Rattle.portal_model.proofs.NodeWalks.{IfMet, on-given}
 use Rattle.app_world.specs.Touched.{is_done}
-use Rattle.file_laws.specs.KeptHandles.{OlderHandlesKeepTheirRights, ends, ends_at, goes_by, is_ended_in, number_answered, releases, step_by, with_handle}
+use Rattle.file_laws.specs.KeptHandles.{OlderHandlesKeepTheirRights, ends, ends_at, goes_by, is_ended_in, is_of_strict, number_answered, releases, step_by, step_by_rights, with_handle}
 use Rattle.file_laws.proofs.FoundHandles.{found-closed, found-joined, found-last, found-left, found-mount, is-new, next-free}
 use Rattle.file_laws.proofs.HandleChanges.{Fits, MayClose, number_opened, walk-fits}
 use Rattle.file_laws.proofs.SeatMounts.{mount-seat}
@@ -158,11 +161,11 @@ step-makes s v n request given fh l e = cc
 -- ---- a request that goes by it
 
 by-handle : (f : NodeFacts) (r : NodeRequest) (op : NodeOp) (fh : ℕ) (handle : Handle) → f.handle fh ≡ Some handle → goes_by fh op ≡ true → node_walk f r op ≡ node_walk (with_handle handle f) r op
-by-handle f r (NodeOp.Read n offset size) fh handle e g = ap (read f.bytes offset size) (ap f.handle (nat_is n fh g) ∙ e)
-by-handle f r (NodeOp.Write n offset content) fh handle e g = ap (write f.file_limit offset content) (ap f.handle (nat_is n fh g) ∙ e)
+by-handle f r (NodeOp.Read n offset size) fh handle e g = ap (read f.reach f.bytes offset size) (ap f.handle (nat_is n fh g) ∙ e)
+by-handle f r (NodeOp.Write n offset content) fh handle e g = ap (write f.reach f.file_limit offset content) (ap f.handle (nat_is n fh g) ∙ e)
 by-handle f r (NodeOp.Flush n) fh handle e g = ap flush (ap f.handle (nat_is n fh g) ∙ e)
 by-handle f r (NodeOp.Fsync n) fh handle e g = ap fsync (ap f.handle (nat_is n fh g) ∙ e)
-by-handle f r (NodeOp.GetAttr flags n) fh handle e g = ap (get_attr r flags f.sight) (ap f.handle (nat_is n fh (and-second (names_handle flags) (n == fh) g)) ∙ e)
+by-handle f r (NodeOp.GetAttr flags n) fh handle e g = ap (get_attr f.reach r flags f.sight) (ap f.handle (nat_is n fh (and-second (names_handle flags) (n == fh) g)) ∙ e)
 by-handle f r op fh handle e g = cc
 
 step-by-handle : (s : State) (r : NodeRequest) (given : Given) (seat fh : ℕ) (handle : Handle) (o : Option Connection) → ((c : Connection) → o ≡ Some c → c.seat ≡ seat) → handle_of s.handles seat fh ≡ Some handle → goes_by fh r.op ≡ true →
@@ -172,6 +175,27 @@ step-by-handle s r given seat fh handle (Some c) f e g =
     let t = all_told c.seat s in
     let has : handle_of s.handles c.seat fh ≡ Some handle = ap (λ (k : ℕ). handle_of s.handles k fh) (f c refl) ∙ e in
     ap (λ (w : Walk NodeVerdict). with_signals c.unsent (settled_on_node t c (node_given w given))) (by-handle (facts_of t c r.node) r r.op fh handle has g)
+
+-- ---- what depends on no right
+
+abbrev SameByRights : Reaching → NodeFacts → NodeRequest → NodeOp → Handle → Type 0
+SameByRights reach f r op handle = node_walk (with_handle handle f) r op ≡ node_walk (record (with_handle handle f) { reach = reach }) r op
+
+plain-file : (reach : Reaching) (f : NodeFacts) (r : NodeRequest) (op : NodeOp) (name : FileName) (node : ℕ) (document : DocId) (may_read may_write : Bool) → SameByRights reach f r op (Handle.File name node document false may_read may_write)
+plain-file reach f r (NodeOp.Read fh offset size) name node document may_read may_write = refl
+plain-file reach f r op name node document may_read may_write = refl
+
+plain-walk : (reach : Reaching) (f : NodeFacts) (r : NodeRequest) (op : NodeOp) (handle : Handle) → is_of_strict handle ≡ false → SameByRights reach f r op handle
+plain-walk reach f r op (Handle.File name node document strict may_read may_write) e =
+    subst (λ (b : Bool). SameByRights reach f r op (Handle.File name node document b may_read may_write)) (sym e) (plain-file reach f r op name node document may_read may_write)
+plain-walk reach f r (NodeOp.Read fh offset size) (Handle.Folder node names) e = refl
+plain-walk reach f r op (Handle.Folder node names) e = refl
+
+plain-step : (reach : Reaching) (s : State) (r : NodeRequest) (given : Given) (handle : Handle) (o : Option Connection) → is_of_strict handle ≡ false → step_by handle s r given o ≡ step_by_rights handle reach s r given o
+plain-step reach s r given handle None e = refl
+plain-step reach s r given handle (Some c) e =
+    let t = all_told c.seat s in
+    ap (λ (w : Walk NodeVerdict). with_signals c.unsent (settled_on_node t c (node_given w given))) (plain-walk reach (facts_of t c r.node) r r.op handle e)
 
 -- ---- the law
 
@@ -184,14 +208,16 @@ kept s before opening between later rest fh r l answered same asks by stays =
     let then : Legal (after ahead opening) (between ++ later ∷ rest) = Legal-rest (opening ∷ []) (between ++ later ∷ rest) ahead legal in
     let last : Legal now (later ∷ rest) = Legal-rest between (later ∷ rest) (after ahead opening) then in
     let still = run-keeps opening.seat fh made.handle between (after ahead opening) (EachLawful-front between (later ∷ rest) (after ahead opening) legal.lawful.1) stays made.made in
+    let told : step now later ≡ step_by made.handle now r later.given (mount_of (connection_of now.connections opening.seat)) =
+    ap (λ (n : ℕ). request_step now n later.request later.given) same
+    ∙ (ap (λ (q : Request). request_step now opening.seat q later.given) asks
+    ∙ step-by-handle now r later.given opening.seat fh made.handle (mount_of (connection_of now.connections opening.seat)) (λ c m. (mount-seat now.connections opening.seat (connection_of now.connections opening.seat) refl c m).0) still by) in
     record {
       handle = made.handle;
       new = made.new;
       made = made.made;
       kept = still;
       mounted = found-mount now.handles now.connections opening.seat fh made.handle last.opening.handles_sound still;
-      told =
-          ap (λ (n : ℕ). request_step now n later.request later.given) same
-          ∙ (ap (λ (q : Request). request_step now opening.seat q later.given) asks
-          ∙ step-by-handle now r later.given opening.seat fh made.handle (mount_of (connection_of now.connections opening.seat)) (λ c m. (mount-seat now.connections opening.seat (connection_of now.connections opening.seat) refl c m).0) still by);
+      told = told;
+      plain = λ e reach. told ∙ plain-step reach now r later.given made.handle (mount_of (connection_of now.connections opening.seat)) e;
     }

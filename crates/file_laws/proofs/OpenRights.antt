@@ -43,15 +43,15 @@ record FileSeen (app : List ℕ) (rights : List Triple) (p : Option Place) (writ
   may_read : app_has rights app number Read ≡ true
   may_write : app_has rights app number Write ≡ writes
 
-module _ (app : List ℕ) (s : State) (path : List ℕ) (writes : Bool) where
+module _ (app : List ℕ) (s : State) (document : Document) (writes : Bool) where
   abbrev Seen : Option Sight → Type 0
-  Seen o = o ≡ Some (SightOfFile path writes)
+  Seen o = o ≡ Some (SightOfFile document writes)
 
   no-folder : (number : ℕ) (o : Option Document) {X : Type 0} → Seen (sight_of_folder 0 s.rights (Who.App app) o) → X
   no-folder number None e = cc
   no-folder number (Some d) e = by_right (app_has s.rights app d.id.number Read) e
     where
-      by_right : (b : Bool) {Y : Type 0} → Seen (cond b (Some (SightOfFolder (FolderOf 0 d.id.number d.path (app_has s.rights app d.id.number Write)))) None) → Y
+      by_right : (b : Bool) {Y : Type 0} → Seen (cond b (Some (SightOfFolder (FolderOf 0 d (app_has s.rights app d.id.number Write)))) None) → Y
       by_right true f = cc
       by_right false f = cc
 
@@ -59,7 +59,7 @@ module _ (app : List ℕ) (s : State) (path : List ℕ) (writes : Bool) where
   of-document number None k e = cc
   of-document number (Some d) k e = subst (λ (n : ℕ). FileSeen app s.rights (Some (file_in_own_view n)) writes) (nat_is d.id.number number (found_passes (λ (x : Document). x.id.number == number) s.documents d k)) (by_right (app_has s.rights app d.id.number Read) refl e)
     where
-      by_right : (b : Bool) → app_has s.rights app d.id.number Read ≡ b → Seen (cond b (Some (SightOfFile d.path (app_has s.rights app d.id.number Write))) None) → FileSeen app s.rights (Some (file_in_own_view d.id.number)) writes
+      by_right : (b : Bool) → app_has s.rights app d.id.number Read ≡ b → Seen (cond b (Some (SightOfFile d (app_has s.rights app d.id.number Write))) None) → FileSeen app s.rights (Some (file_in_own_view d.id.number)) writes
       by_right true h f = let same : app_has s.rights app d.id.number Write ≡ writes = cc in record { number = d.id.number; place = refl; may_read = h; may_write = same }
       by_right false h f = cc
 
@@ -106,14 +106,14 @@ module _ (app : List ℕ) (s : State) (r : NodeRequest) (flags : ℕ) (room : Ro
   abbrev P : NodeDoing → Type 0
   P d = By
 
-  name-by : (name : FileName) → By → OnNode tree P (open_name r flags room name)
-  name-by name h = elim (truncates flags) as (λ b. OnNode tree P (cond b (Ends (Changes name) (λ now. opened_file room (file_handle name r.node flags) (Resizes name 0 now)) (Errs enoent)) (Answers (opened_file room (file_handle name r.node flags) FilesStay)))) [
+  name-by : (d : Document) (name : FileName) → By → OnNode tree P (open_name r flags room d name)
+  name-by d name h = elim (truncates flags) as (λ b. OnNode tree P (cond b (Ends (Changes name) (λ now. opened_file room (file_handle d name r.node flags) (Resizes name 0 now)) (Errs enoent)) (Answers (opened_file room (file_handle d name r.node flags) FilesStay)))) [
     | true ↦ ((λ now found. h), tt)
     | false ↦ h
   ]
 
-  by-seen : (path : List ℕ) (w : Bool) → FileSeen app s.rights (place_named r.node) w → (opens_to_write flags && not w) ≡ false → By
-  by-seen path w seen h = record {
+  by-seen : (w : Bool) → FileSeen app s.rights (place_named r.node) w → (opens_to_write flags && not w) ≡ false → By
+  by-seen w seen h = record {
     number = seen.number;
     place = seen.place;
     may_read = seen.may_read;
@@ -122,10 +122,10 @@ module _ (app : List ℕ) (s : State) (r : NodeRequest) (flags : ℕ) (room : Ro
 
   sight-by : (sight : Option Sight) → place_of s (Who.App app) r.node ≡ sight → OnNode tree P (by_place sight (open_file r flags room) open_folder)
   sight-by None e = tt
-  sight-by (Some (SightOfFile path w)) e = at_file-on tree P path (open_file r flags room path w) (λ g size m.
-      let name : FileName = record { path = path; generation = g } in
-      errs_if-on tree P (opens_to_write flags && not w) eacces (errs_if room.full emfile (open_name r flags room name)) (λ k.
-      errs_if-on tree P room.full emfile (open_name r flags room name) (λ n. name-by name (by-seen path w (at-place app s path w (place_named r.node) e) k))))
+  sight-by (Some (SightOfFile d w)) e = at_file-on tree P d.path (open_file r flags room d w) (λ g size m.
+      let name : FileName = record { path = d.path; generation = g } in
+      errs_if-on tree P (opens_to_write flags && not w) eacces (errs_if room.full emfile (open_name r flags room d name)) (λ k.
+      errs_if-on tree P room.full emfile (open_name r flags room d name) (λ n. name-by d name (by-seen w (at-place app s d w (place_named r.node) e) k))))
   sight-by (Some (SightOfFolder folder)) e = tt
 
   open-by : (sight : Option Sight) → place_of s (Who.App app) r.node ≡ sight → OnNode tree P (open_node r flags sight room)
@@ -136,7 +136,7 @@ settled-by tree t c None m e = cc
 settled-by tree t c (Some (Errs errno)) m e = cc
 settled-by tree t c (Some (Yields d)) m e = m
 
-who-app : (app : List ℕ) (who : Who) → is_app app who ≡ true → who ≡ Who.App app
+pub who-app : (app : List ℕ) (who : Who) → is_app app who ≡ true → who ≡ Who.App app
 who-app app Who.Host e = cc
 who-app app (Who.App name) e = ap Who.App (is_same-eq name app e)
 

@@ -6,7 +6,6 @@ use Rattle.std.specs.Str.{is_utf8, chars}
 use Rattle.portal_base.specs.Names.{doc_text, hex_number, is_app_name, is_doc_id, is_host_path, parent_of}
 use Rattle.portal_model.specs.Opening.{opened}
 use Rattle.portal_model.specs.Valid.{Valid}
-use Rattle.std.proofs.lemmas.List.Elements.{All-nil}
 use Rattle.portal_model.proofs.ExampleProofs.{a_path, editor_name}
 use Rattle.portal_model.specs.DocumentExamples.{viewer}
 use Rattle.app_world.specs.Examples.{b_text}
@@ -35,6 +34,7 @@ valid_one_file = record {
   connections_sound = refl;
   handles_differ = tt;
   handles_sound = refl;
+  handles_made = refl;
   handles_within = refl;
   entries_differ = tt;
   entries_sound = refl;
@@ -64,6 +64,7 @@ valid_two_paths = record {
   connections_sound = refl;
   handles_differ = tt;
   handles_sound = refl;
+  handles_made = refl;
   handles_within = refl;
   entries_differ = tt;
   entries_sound = refl;

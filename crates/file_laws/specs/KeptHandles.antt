@@ -1,5 +1,6 @@
 -- Open handles over a history (include/uapi/linux/fuse.h): what a handle was when it was opened it
--- stays until its own connection releases it or ends, whatever is revoked or deleted.
+-- stays until its own connection releases it or ends, whatever is revoked or deleted; and what it
+-- may do depends on no right, where its document isn't strict.
 use Rattle.std.specs.Prelude.{◌≡◌, ℕ, ◌==◌, List, [], ◌∷◌, ◌++◌, Bool, true, false, ◌&&◌, ◌||◌, Option, Some, None, is_some}
 use Rattle.portal_model.specs.declared.entry.Entry.{Entry}
 use Rattle.portal_model.specs.declared.entry.Given.{Given}
@@ -14,6 +15,7 @@ use Rattle.portal_model.specs.declared.state.Connection.{Connection}
 use Rattle.portal_model.specs.GetAttr.{names_handle}
 use Rattle.portal_model.specs.History.{Legal, run}
 use Rattle.portal_model.specs.Node.{NodeFacts, facts_of, node_given, node_walk, settled_on_node}
+use Rattle.portal_model.specs.Reach.{Reaching}
 use Rattle.portal_model.specs.State.{State, connection_of, handle_of}
 use Rattle.portal_model.specs.Step.{after, mount_of, on_connection, reply_at, step}
 use Rattle.app_world.specs.Touched.{is_done}
@@ -73,10 +75,25 @@ step_by handle s r given o =
     on_connection s (λ s c. settled_on_node s c
     (node_given (node_walk (with_handle handle (facts_of s c r.node)) r r.op) given)) o
 
+-- ---- what a handle may do
+
+abbrev pub is_of_strict : Handle → Bool
+is_of_strict (Handle.File name node document strict read write) = strict
+is_of_strict (Handle.Folder node names) = false
+
+-- the same step, where the rights are these
+abbrev pub step_by_rights :
+    Handle → Reaching → State → NodeRequest → Given → Option Connection → State × Reply
+step_by_rights handle reach s r given o =
+    on_connection s (λ s c. settled_on_node s c
+    (node_given (node_walk (record (with_handle handle (facts_of s c r.node)) { reach = reach })
+    r r.op) given)) o
+
 -- ---- the law
 
 -- The handle that was opened, by a number that no open handle of the seat had. Now the seat has it
--- still, on its open mount, and the step of the later entry goes by it.
+-- still, on its open mount, and the step of the later entry goes by it; where its document isn't
+-- strict, whatever the rights are.
 pub record KeepsHandle (seat fh : ℕ) (ahead opened now : State) (later : Entry)
     (r : NodeRequest) : Type 0 where
   pub handle : Handle
@@ -86,6 +103,11 @@ pub record KeepsHandle (seat fh : ℕ) (ahead opened now : State) (later : Entry
   pub mounted : is_some (mount_of (connection_of now.connections seat)) ≡ true
   pub told : step now later
       ≡ step_by handle now r later.given (mount_of (connection_of now.connections seat))
+  pub plain :
+      is_of_strict handle ≡ false → (reach : Reaching) →
+      step now later
+      ≡ step_by_rights handle reach now r later.given
+      (mount_of (connection_of now.connections seat))
 
 -- In a legal history an entry is answered the number of a new handle, and a later one of the seat
 -- goes by that number. Then it goes by the handle that the first opened, as long as no entry

@@ -7,3 +7,5 @@ pub mod ReuseExamples
 pub mod HandleLimits
 pub mod HostExamples
 pub mod OnlyAllowed
+pub mod StrictHandles
+pub mod StrictExamples

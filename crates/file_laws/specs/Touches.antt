@@ -42,25 +42,25 @@ use Rattle.app_world.specs.World.{touch}
 -- the path of an open file
 abbrev pub path_of_open : Option Handle → Option (List ℕ)
 path_of_open None = None
-path_of_open (Some (Handle.File name node read write)) = Some name.path
+path_of_open (Some (Handle.File name node document strict read write)) = Some name.path
 path_of_open (Some (Handle.Folder node entries)) = None
 
 -- the path of what is seen as a file
 abbrev pub path_of_sight : Option Sight → Option (List ℕ)
 path_of_sight None = None
-path_of_sight (Some (SightOfFile path may_write)) = Some path
+path_of_sight (Some (SightOfFile d may_write)) = Some d.path
 path_of_sight (Some (SightOfFolder folder)) = None
 
 -- the path of the document whose folder it is
 abbrev pub path_of_folder : Folder → Option (List ℕ)
 path_of_folder (RootOf view numbers has_views) = None
 path_of_folder (Views applications) = None
-path_of_folder (FolderOf view number path may_write) = Some path
+path_of_folder (FolderOf view d may_write) = Some d.path
 
 -- the path of the document whose folder is seen
 abbrev pub path_in_sight : Option Sight → Option (List ℕ)
 path_in_sight None = None
-path_in_sight (Some (SightOfFile path may_write)) = None
+path_in_sight (Some (SightOfFile d may_write)) = None
 path_in_sight (Some (SightOfFolder folder)) = path_of_folder folder
 
 abbrev pub path_if : Bool → Option (List ℕ) → Option (List ℕ)

@@ -18,6 +18,11 @@ ghost use Rattle.file_laws.specs.Examples.{
 ghost use Rattle.file_laws.specs.HandleLimits.{HandlesAreLimited};
 ghost use Rattle.file_laws.specs.HostExamples.{HostSeesByRights};
 ghost use Rattle.file_laws.specs.ReuseExamples.{UsedAgainIsShared};
+ghost use Rattle.file_laws.specs.StrictExamples.{
+  IsToldToStrictReader,
+  RevocationsReachStrict,
+  ViewsGoBySubjects,
+};
 ghost use Rattle.file_laws.specs.TouchExamples.{
   AreItemsTold,
   IsToldOfAGrant,
@@ -25,7 +30,7 @@ ghost use Rattle.file_laws.specs.TouchExamples.{
   SharedFileIsTold,
 };
 
-use portal_model::errno::ENOENT;
+use portal_model::errno::{EACCES, ENOENT};
 use rights_rule::Rights;
 
 /// Which entries take a right and give it again, and that a file is opened then.
@@ -74,11 +79,32 @@ pub fn the_host_sees_by_rights()
     ensures { HostSeesByRights }
 {}
 
+/// A handle of a strict document loses what it may do as rights are taken, gets it
+/// again as they are given, and may be flushed and released after the document was
+/// deleted.
+pub fn revocations_reach_strict_handles()
+    ensures { RevocationsReachStrict }
+{}
+
+/// Such a handle that the host opened in an application's view goes by the rights of
+/// the application.
+pub fn views_go_by_their_subjects()
+    ensures { ViewsGoBySubjects }
+{}
+
 /// How many bytes an application reads by a handle after its rights were taken.
 pub fn read_after_a_revocation() -> Result<u32, u32>
     ensures { IsToldToReader result }
 {
     Ok(5)
+}
+
+/// How an application is refused as it reads by a handle of a strict document after
+/// its right to read was taken.
+pub fn read_by_a_strict_handle() -> Result<u32, u32>
+    ensures { IsToldToStrictReader result }
+{
+    Err(EACCES)
 }
 
 /// How the same application is refused as it opens the file then.

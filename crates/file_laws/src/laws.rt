@@ -3,6 +3,7 @@
 ghost use Rattle.file_laws.specs.KeptHandles.{OlderHandlesKeepTheirRights};
 ghost use Rattle.file_laws.specs.OnlyAllowed.{OnlyAllowedIsDone};
 ghost use Rattle.file_laws.specs.Revocations.{NoOpenAfterARevocation};
+ghost use Rattle.file_laws.specs.StrictHandles.{StrictHandlesFollowRevocations};
 ghost use Rattle.file_laws.specs.Touches.{TouchesAreOfWhatIsHeld};
 
 /// What an application opens it may read then, and write where it opens to write
@@ -14,9 +15,17 @@ pub fn no_open_after_a_revocation()
 
 /// What reads, writes, flushes or asks for attributes by the number of a handle
 /// goes by the handle that was opened by that number, whatever was revoked or
-/// deleted since, as long as its own connection neither released it nor ended.
+/// deleted since, as long as its own connection neither released it nor ended. What
+/// a handle of a document that isn't strict may do depends on no right.
 pub fn older_handles_keep_their_rights()
     ensures { OlderHandlesKeepTheirRights }
+{}
+
+/// What an application reads or writes by a handle of a strict document, and what it
+/// asks or sets of its attributes, is done only where it has the right to read the
+/// document then, and the right to write it for a WRITE and for a length that is set.
+pub fn strict_handles_follow_revocations()
+    ensures { StrictHandlesFollowRevocations }
 {}
 
 /// What the entries of others tell an application: a file that a request changes,

@@ -2,6 +2,7 @@
 use Rattle.std.proofs.Common.{◌≡◌, ℕ, List, Bool, true, false, not, ◌&&◌, Option, Some, None, is_some, refl, sym, ap, subst, ◌∙◌, IfSome}
 use Rattle.portal_base.specs.Content.{content_of, file_at, has_room, is_folder, look_at, look_of}
 use Rattle.portal_base.specs.declared.files.File.{File}
+use Rattle.portal_base.specs.declared.files.FileName.{FileName}
 use Rattle.portal_base.specs.declared.files.Look.{Look}
 use Rattle.portal_base.specs.declared.who.Who.{Who}
 use Rattle.host_tree.specs.Trees.{Asks, Changes, Does as DoesFiles, Looks as Shows, TreeIs, is_look_fault, may_create}
@@ -15,6 +16,7 @@ use Rattle.portal_model.specs.declared.reply.Attr.{Attr}
 use Rattle.portal_model.specs.declared.handle.Handle.{Handle}
 use Rattle.portal_model.specs.declared.request.NodeOp.{NodeOp}
 use Rattle.portal_model.specs.declared.request.NodeRequest.{NodeRequest}
+use Rattle.portal_model.specs.declared.state.Document.{Document}
 use Rattle.portal_model.specs.Attributes.{attr_of_file, on_node}
 use Rattle.portal_model.specs.Create.{create, create_there, created}
 use Rattle.portal_model.specs.Errno.{emfile, enoent}
@@ -61,37 +63,47 @@ makes path change old d new m h = record { goes = h.goes; does = makes-by path c
 
 -- ---- the last call
 
-module _ (r : NodeRequest) (flags : ℕ) (table : HandleTable) (seat : ℕ) (path : List ℕ) (node now : ℕ) (old new : TreeIs) (d : TreeDone) (m : IfSome old.told (λ files. Look.Missing ≡ look_at files path))
-    (h : Changes (λ files. may_create files path) (files_after true (Creates path now)) old d new) where
+-- the first file of a document's path
+abbrev pub first_of : Document → FileName
+first_of d = record { path = d.path; generation = 0 }
+
+module _ (r : NodeRequest) (flags : ℕ) (table : HandleTable) (seat : ℕ) (document : Document) (name : FileName) (node now : ℕ) (old new : TreeIs) (d : TreeDone) (first : name ≡ first_of document)
+    (missing : IfSome old.told (λ files. Look.Missing ≡ look_at files name.path)) (creates : Changes (λ files. may_create files name.path) (files_after true (Creates name.path now)) old d new) where
+  m : IfSome old.told (λ files. Look.Missing ≡ look_at files document.path)
+  m = subst (λ (n : FileName). IfSome old.told (λ files. Look.Missing ≡ look_at files n.path)) first missing
+
+  h : Changes (λ files. may_create files document.path) (files_after true (Creates document.path now)) old d new
+  h = subst (λ (n : FileName). Changes (λ files. may_create files n.path) (files_after true (Creates n.path now)) old d new) first creates
+
   pub made-done : (attr : Attr) (fh : ℕ) (handle : Handle) (ended : Ended) (after : HandleTable) → d ≡ done.Done → attr ≡ attr_of_file (on_node r node) true 0 now → fh ≡ next_handle (room_in table seat) →
-      handle ≡ file_handle (record { path = path; generation = 0 }) node flags → ended ≡ ended_by now came.Done (NodeAnswer.Created attr fh) → Handled seat (Opens handle) table after →
-      Opening (create_there r flags (room_in table seat) path node Look.Missing) seat table old (done_of_ended ended) after new
-  made-done attr fh handle ended after e a n f b o = record {
+      handle ≡ file_handle document name node flags → ended ≡ ended_by now came.Done (NodeAnswer.Created attr fh) → Handled seat (Opens handle) table after →
+      Opening (create_there r flags (room_in table seat) document node Look.Missing) seat table old (done_of_ended ended) after new
+  made-done attr fh handle ended after e a n f b o = let same : handle ≡ file_handle document (first_of document) node flags = f ∙ ap (λ (x : FileName). file_handle document x node flags) first in record {
     change = Opens handle;
-    goes = subst (λ (x : Ended). Goes (Ends (Makes path) (created r flags (room_in table seat) path node) (Errs enoent)) old (done_of_ended x) (Opens handle) new) (sym b)
-        (ends-done (Makes path) (created r flags (room_in table seat) path node) (record { answer = NodeAnswer.Created attr fh; file = Creates path now; handle = Opens handle }) now old new refl
-        (λ i. Yields (record { answer = NodeAnswer.Created (sym a i) (sym n i); file = Creates path now; handle = Opens (sym f i) }))
-        (subst (λ (x : TreeDone). Changes (λ files. is_found files (Makes path)) (files_after true (Creates path now)) old x new) e (makes path (files_after true (Creates path now)) old d new m h)));
+    goes = subst (λ (x : Ended). Goes (Ends (Makes document.path) (created r flags (room_in table seat) document node) (Errs enoent)) old (done_of_ended x) (Opens handle) new) (sym b)
+        (ends-done (Makes document.path) (created r flags (room_in table seat) document node) (record { answer = NodeAnswer.Created attr fh; file = Creates document.path now; handle = Opens handle }) now old new refl
+        (λ i. Yields (record { answer = NodeAnswer.Created (sym a i) (sym n i); file = Creates document.path now; handle = Opens (sym same i) }))
+        (subst (λ (x : TreeDone). Changes (λ files. is_found files (Makes document.path)) (files_after true (Creates document.path now)) old x new) e (makes document.path (files_after true (Creates document.path now)) old d new m h)));
     handled = o;
   }
 
   pub made-missing : (ended : Ended) → d ≡ done.NotFile → ended ≡ ended_by now came.NotFile NodeAnswer.Empty →
-      Opening (create_there r flags (room_in table seat) path node Look.Missing) seat table old (done_of_ended ended) table new
+      Opening (create_there r flags (room_in table seat) document node Look.Missing) seat table old (done_of_ended ended) table new
   made-missing ended e b = record {
     change = HandlesStay;
-    goes = subst (λ (x : Ended). Goes (Ends (Makes path) (created r flags (room_in table seat) path node) (Errs enoent)) old (done_of_ended x) HandlesStay new) (sym b)
-        (ends-missing (Makes path) (created r flags (room_in table seat) path node) (files_after true (Creates path now)) NodeAnswer.Empty now old new refl
-        (subst (λ (x : TreeDone). Changes (λ files. is_found files (Makes path)) (files_after true (Creates path now)) old x new) e (makes path (files_after true (Creates path now)) old d new m h)));
+    goes = subst (λ (x : Ended). Goes (Ends (Makes document.path) (created r flags (room_in table seat) document node) (Errs enoent)) old (done_of_ended x) HandlesStay new) (sym b)
+        (ends-missing (Makes document.path) (created r flags (room_in table seat) document node) (files_after true (Creates document.path now)) NodeAnswer.Empty now old new refl
+        (subst (λ (x : TreeDone). Changes (λ files. is_found files (Makes document.path)) (files_after true (Creates document.path now)) old x new) e (makes document.path (files_after true (Creates document.path now)) old d new m h)));
     handled = handles-stay seat table;
   }
 
   pub made-failed : (ended : Ended) → d ≡ done.Failed → ended ≡ ended_by now came.Failed NodeAnswer.Empty →
-      Opening (create_there r flags (room_in table seat) path node Look.Missing) seat table old (done_of_ended ended) table new
+      Opening (create_there r flags (room_in table seat) document node Look.Missing) seat table old (done_of_ended ended) table new
   made-failed ended e b = record {
     change = HandlesStay;
-    goes = subst (λ (x : Ended). Goes (Ends (Makes path) (created r flags (room_in table seat) path node) (Errs enoent)) old (done_of_ended x) HandlesStay new) (sym b)
-        (ends-failed (Makes path) (created r flags (room_in table seat) path node) (files_after true (Creates path now)) NodeAnswer.Empty now old new refl
-        (subst (λ (x : TreeDone). Changes (λ files. is_found files (Makes path)) (files_after true (Creates path now)) old x new) e (makes path (files_after true (Creates path now)) old d new m h)));
+    goes = subst (λ (x : Ended). Goes (Ends (Makes document.path) (created r flags (room_in table seat) document node) (Errs enoent)) old (done_of_ended x) HandlesStay new) (sym b)
+        (ends-failed (Makes document.path) (created r flags (room_in table seat) document node) (files_after true (Creates document.path now)) NodeAnswer.Empty now old new refl
+        (subst (λ (x : TreeDone). Changes (λ files. is_found files (Makes document.path)) (files_after true (Creates document.path now)) old x new) e (makes document.path (files_after true (Creates document.path now)) old d new m h)));
     handled = handles-stay seat table;
   }
 
@@ -115,12 +127,10 @@ opening-behind path next look.Failed seat table ended after old mid new a i o = 
   handled = o.1;
 }
 
--- a copy of the path stands for it
-pub made-behind : (r : NodeRequest) (flags : ℕ) (room : Room) (path copy : List ℕ) (node : ℕ) (a : LookAnswer) (seat : ℕ) (table : HandleTable) (ended : Ended) (after : HandleTable) (old mid new : TreeIs) → copy ≡ path → Asks old (is_look_fault a) mid →
-    Shows old.told path a → OpeningBehind (create_there r flags room copy node) a seat table mid ended after new → Opening (made_walk r flags room path node) seat table old (done_behind (Some a) ended) after new
-made-behind r flags room path copy node a seat table ended after old mid new e asks shows o =
-    opening-behind path (create_there r flags room path node) a seat table ended after old mid new asks shows
-    (subst (λ (p : List ℕ). OpeningBehind (create_there r flags room p node) a seat table mid ended after new) e o)
+pub made-behind : (r : NodeRequest) (flags : ℕ) (room : Room) (document : Document) (node : ℕ) (a : LookAnswer) (seat : ℕ) (table : HandleTable) (ended : Ended) (after : HandleTable) (old mid new : TreeIs) → Asks old (is_look_fault a) mid →
+    Shows old.told document.path a → OpeningBehind (create_there r flags room document node) a seat table mid ended after new → Opening (made_walk r flags room document node) seat table old (done_behind (Some a) ended) after new
+made-behind r flags room document node a seat table ended after old mid new asks shows o =
+    opening-behind document.path (create_there r flags room document node) a seat table ended after old mid new asks shows o
 
 -- a copy of the path stands for it, and what was shown is still there
 pub shown-still : (path copy : List ℕ) (a : LookAnswer) (old mid : TreeIs) → copy ≡ path → Asks old (is_look_fault a) mid → Shows old.told path a → Shows mid.told copy a
@@ -129,12 +139,12 @@ shown-still path copy a old mid e asks h =
 
 -- ---- behind the room for the handle
 
-pub opening-after : (r : NodeRequest) (flags seat : ℕ) (a b after : HandleTable) (path : List ℕ) (node : ℕ) (old : TreeIs) (done : NodeDone) (new : TreeIs) (free : Bool) → Handled seat HandlesStay a b → (room_in a seat).full ≡ not free → free ≡ true →
-    Opening (made_walk r flags (room_in b seat) path node) seat b old done after new → Opening (errs_if (room_in a seat).full emfile (made_walk r flags (room_in a seat) path node)) seat a old done after new
-opening-after r flags seat a b after path node old done new free k f t o = record {
+pub opening-after : (r : NodeRequest) (flags seat : ℕ) (a b after : HandleTable) (document : Document) (node : ℕ) (old : TreeIs) (done : NodeDone) (new : TreeIs) (free : Bool) → Handled seat HandlesStay a b → (room_in a seat).full ≡ not free → free ≡ true →
+    Opening (made_walk r flags (room_in b seat) document node) seat b old done after new → Opening (errs_if (room_in a seat).full emfile (made_walk r flags (room_in a seat) document node)) seat a old done after new
+opening-after r flags seat a b after document node old done new free k f t o = record {
   change = o.change;
-  goes = subst (λ (full : Bool). Goes (errs_if full emfile (made_walk r flags (room_in a seat) path node)) old done o.change new) (sym (f ∙ ap not t))
-      (subst (λ (room : Room). Goes (made_walk r flags room path node) old done o.change new) (room-stays seat a b k) o.goes);
+  goes = subst (λ (full : Bool). Goes (errs_if full emfile (made_walk r flags (room_in a seat) document node)) old done o.change new) (sym (f ∙ ap not t))
+      (subst (λ (room : Room). Goes (made_walk r flags room document node) old done o.change new) (room-stays seat a b k) o.goes);
   handled = handled-after seat o.change a b after k o.handled;
 }
 

@@ -12,6 +12,7 @@ use Rattle.portal_model.specs.declared.reply.Answer.{Answer}
 use Rattle.portal_model.specs.declared.reply.NodeAnswer.TheVariants as NodeAnswer
 use Rattle.portal_model.specs.declared.request.NodeOp.{NodeOp}
 use Rattle.portal_model.specs.declared.request.NodeRequest.{NodeRequest}
+use Rattle.portal_model.specs.declared.state.Document.{Document}
 use Rattle.portal_model.specs.Errno.{emfile}
 use Rattle.portal_model.specs.Node.{room_of}
 use Rattle.portal_model.specs.NodeVerdict.{HandlesStay, NodeVerdict, Opens, Room, errs_if, next_handle}
@@ -35,42 +36,42 @@ use Rattle.node_looks.proofs.OpenTable.{stay-open}
 
 -- ---- the folder of a document, behind its look
 
-module _ (r : NodeRequest) (view number : ℕ) (path : List ℕ) (may_write : Bool) (seat : ℕ) (answer : Answer) (table mid after : HandleTable) (old new : TreeIs)
+module _ (r : NodeRequest) (view : ℕ) (d : Document) (may_write : Bool) (seat : ℕ) (answer : Answer) (table mid after : HandleTable) (old new : TreeIs)
     (free : (room_in table seat).full ≡ false) (kept : Handled seat HandlesStay table mid) where
   abbrev folder : Sight
-  folder = SightOfFolder (FolderOf view number path may_write)
+  folder = SightOfFolder (FolderOf view d may_write)
 
   abbrev next : Room → Look → Walk NodeVerdict
-  next room look = Answers (opened_folder r room (root_node view) (names_of_look (file_node view number) path look))
+  next room look = Answers (opened_folder r room (root_node view) (names_of_look (file_node view d.id.number) d.path look))
 
-  looks : open_dir r (Some folder) (room_in table seat) ≡ Looks (AtPath path) (next (room_in table seat))
-  looks = ap (λ (b : Bool). errs_if b emfile (Looks (AtPath path) (next (room_in table seat)))) free
+  looks : open_dir r (Some folder) (room_in table seat) ≡ Looks (AtPath d.path) (next (room_in table seat))
+  looks = ap (λ (b : Bool). errs_if b emfile (Looks (AtPath d.path) (next (room_in table seat)))) free
 
-  behind : (look : LookAnswer) → Asks old (is_look_fault look) new → Answered old.told path look → ListsBehind r (Some folder) seat look mid answer after →
-      DoneBy (Looks (AtPath path) (next (room_in table seat))) NodeOp.OpenDir seat table old (done_with (record { answer = answer; look = Some look })) after new
+  behind : (look : LookAnswer) → Asks old (is_look_fault look) new → Answered old.told d.path look → ListsBehind r (Some folder) seat look mid answer after →
+      DoneBy (Looks (AtPath d.path) (next (room_in table seat))) NodeOp.OpenDir seat table old (done_with (record { answer = answer; look = Some look })) after new
   behind (look.Is shown) a l f =
       let room : room_in mid seat ≡ room_in table seat = room-stays seat table mid kept in
       let walk : behind_look shown (open_dir r (Some folder) (room_in table seat)) ≡ Answers (opened_with r (room_in table seat) f.entries) =
       subst (λ (m : Room). behind_look shown (open_dir r (Some folder) m) ≡ Answers (opened_with r m f.entries)) room f.walk in
-      looked-by NodeOp.OpenDir tt seat path (next (room_in table seat)) answer table after old new shown (opened_with r (room_in table seat) f.entries)
+      looked-by NodeOp.OpenDir tt seat d.path (next (room_in table seat)) answer table after old new shown (opened_with r (room_in table seat) f.entries)
       (sym (ap (behind_look shown) looks) ∙ walk) a l refl
       (f.number ∙ ap (λ (m : Room). Answer.Node (NodeAnswer.Opened (next_handle m))) room)
       (handled-after seat (Opens (Handle.Folder r.node f.entries)) table mid after kept f.handled)
-  behind look.Failed a l f = failed-by NodeOp.OpenDir tt seat path (next (room_in table seat)) answer table after old new a f.0 (handled-after seat HandlesStay table mid after kept f.1)
+  behind look.Failed a l f = failed-by NodeOp.OpenDir tt seat d.path (next (room_in table seat)) answer table after old new a f.0 (handled-after seat HandlesStay table mid after kept f.1)
 
-  pub folder-behind : (look : LookAnswer) → Asks old (is_look_fault look) new → Answered old.told path look → ListsBehind r (Some folder) seat look mid answer after →
+  pub folder-behind : (look : LookAnswer) → Asks old (is_look_fault look) new → Answered old.told d.path look → ListsBehind r (Some folder) seat look mid answer after →
       DoneBy (open_dir r (Some folder) (room_in table seat)) NodeOp.OpenDir seat table old (done_with (record { answer = answer; look = Some look })) after new
   folder-behind look a l f = subst (λ (w : Walk NodeVerdict). DoneBy w NodeOp.OpenDir seat table old (done_with (record { answer = answer; look = Some look })) after new) (sym looks) (behind look a l f)
 
 pub dir-behind-look : (r : NodeRequest) (sight : Sight) (path : List ℕ) (seat : ℕ) (look : LookAnswer) (answer : Answer) (table mid after : HandleTable) (old new : TreeIs) → path_in sight ≡ Some path → (room_in table seat).full ≡ false →
     Handled seat HandlesStay table mid → Asks old (is_look_fault look) new → Answered old.told path look → ListsBehind r (Some sight) seat look mid answer after →
     DoneBy (open_dir r (Some sight) (room_in table seat)) NodeOp.OpenDir seat table old (done_with (record { answer = answer; look = Some look })) after new
-dir-behind-look r (SightOfFile p w) path seat look answer table mid after old new e free kept a l f = cc
+dir-behind-look r (SightOfFile d w) path seat look answer table mid after old new e free kept a l f = cc
 dir-behind-look r (SightOfFolder (RootOf view numbers views)) path seat look answer table mid after old new e free kept a l f = cc
 dir-behind-look r (SightOfFolder (Views applications)) path seat look answer table mid after old new e free kept a l f = cc
-dir-behind-look r (SightOfFolder (FolderOf view number p w)) path seat look answer table mid after old new e free kept a l f =
-    let same : path ≡ p = cc in
-    folder-behind r view number p w seat answer table mid after old new free kept look a (subst (λ (q : List ℕ). Answered old.told q look) same l) f
+dir-behind-look r (SightOfFolder (FolderOf view d w)) path seat look answer table mid after old new e free kept a l f =
+    let same : path ≡ d.path = cc in
+    folder-behind r view d w seat answer table mid after old new free kept look a (subst (λ (q : List ℕ). Answered old.told q look) same l) f
 
 pub on-err : {A E : Type 0} (r : Result A E) (X : Type 0) → X → OnErr r X
 on-err (Ok a) X x = tt

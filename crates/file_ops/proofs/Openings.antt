@@ -14,6 +14,7 @@ use Rattle.open_handles.specs.Opened.{HandleTable}
 use Rattle.portal_model.specs.declared.reply.NodeAnswer.{NodeAnswer}
 use Rattle.portal_model.specs.declared.request.NodeOp.{NodeOp}
 use Rattle.portal_model.specs.declared.request.NodeRequest.{NodeRequest}
+use Rattle.portal_model.specs.declared.state.Document.{Document}
 use Rattle.portal_model.specs.Errno.{eacces, emfile, enoent}
 use Rattle.portal_model.specs.Node.{room_of}
 use Rattle.portal_model.specs.NodeVerdict.{Errs, FilesStay, HandlesStay, NodeVerdict, OnFile, Resizes, Room, errs_if, if_file}
@@ -46,47 +47,47 @@ wants-after seat table mid old after new k w = record { handles = λ s a. w.hand
 
 -- ---- the checks of an OPEN, behind its look
 
-module _ (r : NodeRequest) (flags : ℕ) (path copy : List ℕ) (w : Bool) (generation size moment seat : ℕ) (table mid : HandleTable) (old : TreeIs) (after : HandleTable) (new : TreeIs)
-    (same : copy ≡ path) (may : (opens_to_write flags && not w) ≡ false) (free : (room_in table seat).full ≡ false) (kept : Handled seat HandlesStay table mid) where
+module _ (r : NodeRequest) (flags : ℕ) (document : Document) (copy : List ℕ) (w : Bool) (generation size moment seat : ℕ) (table mid : HandleTable) (old : TreeIs) (after : HandleTable) (new : TreeIs)
+    (same : copy ≡ document.path) (may : (opens_to_write flags && not w) ≡ false) (free : (room_in table seat).full ≡ false) (kept : Handled seat HandlesStay table mid) where
   abbrev named : List ℕ → FileName
   named p = record { path = p; generation = generation }
 
-  passes : open_file r flags (room_in table seat) path w generation size moment ≡ open_name r flags (room_in mid seat) (named copy)
+  passes : open_file r flags (room_in table seat) document w generation size moment ≡ open_name r flags (room_in mid seat) document (named copy)
   passes =
-      ap (λ (b : Bool). errs_if b eacces (errs_if (room_in table seat).full emfile (open_name r flags (room_in table seat) (named path)))) may
-      ∙ (ap (λ (b : Bool). errs_if b emfile (open_name r flags (room_in table seat) (named path))) free
-      ∙ (ap (λ (m : Room). open_name r flags m (named path)) (sym (room-stays seat table mid kept))
-      ∙ ap (λ (p : List ℕ). open_name r flags (room_in mid seat) (named p)) (sym same)))
+      ap (λ (b : Bool). errs_if b eacces (errs_if (room_in table seat).full emfile (open_name r flags (room_in table seat) document (named document.path)))) may
+      ∙ (ap (λ (b : Bool). errs_if b emfile (open_name r flags (room_in table seat) document (named document.path))) free
+      ∙ (ap (λ (m : Room). open_name r flags m document (named document.path)) (sym (room-stays seat table mid kept))
+      ∙ ap (λ (p : List ℕ). open_name r flags (room_in mid seat) document (named p)) (sym same)))
 
-  opens-one : (done : NodeDone) → Opening (open_name r flags (room_in mid seat) (named copy)) seat mid old done after new → Opening (open_file r flags (room_in table seat) path w generation size moment) seat table old done after new
+  opens-one : (done : NodeDone) → Opening (open_name r flags (room_in mid seat) document (named copy)) seat mid old done after new → Opening (open_file r flags (room_in table seat) document w generation size moment) seat table old done after new
   opens-one done g = subst (λ (v : Walk NodeVerdict). Opening v seat table old done after new) (sym passes) (opens-after _ seat table mid old done after new kept g)
 
-  pub shown-opens : (o : Result Ended WantOfMemory) → IfOk o (λ ended. Opening (open_name r flags (room_in mid seat) (named copy)) seat mid old (done_of_ended ended) after new) →
-      IfOk o (λ ended. Opening (open_file r flags (room_in table seat) path w generation size moment) seat table old (done_of_ended ended) after new)
+  pub shown-opens : (o : Result Ended WantOfMemory) → IfOk o (λ ended. Opening (open_name r flags (room_in mid seat) document (named copy)) seat mid old (done_of_ended ended) after new) →
+      IfOk o (λ ended. Opening (open_file r flags (room_in table seat) document w generation size moment) seat table old (done_of_ended ended) after new)
   shown-opens (Ok ended) g = opens-one (done_of_ended ended) g
   shown-opens (Err e) g = g
 
 -- ---- a file that isn't cut, since the call for it failed or found none
 
-module _ (r : NodeRequest) (flags : ℕ) (name : FileName) (seat : ℕ) (table : HandleTable) (now : ℕ) (answer : TreeDone) (ended : Ended) (old new : TreeIs) where
+module _ (r : NodeRequest) (flags : ℕ) (document : Document) (name : FileName) (seat : ℕ) (table : HandleTable) (now : ℕ) (answer : TreeDone) (ended : Ended) (old new : TreeIs) where
   abbrev cut_then : ℕ → NodeVerdict
-  cut_then moment = opened_file (room_in table seat) (file_handle name r.node flags) (Resizes name 0 moment)
+  cut_then moment = opened_file (room_in table seat) (file_handle document name r.node flags) (Resizes name 0 moment)
 
-  cuts-walk : truncates flags ≡ true → open_name r flags (room_in table seat) name ≡ Ends (Changes name) cut_then (Errs enoent)
-  cuts-walk t = ap (λ (b : Bool). cond b (Ends (Changes name) cut_then (Errs enoent)) (Answers (opened_file (room_in table seat) (file_handle name r.node flags) FilesStay))) t
+  cuts-walk : truncates flags ≡ true → open_name r flags (room_in table seat) document name ≡ Ends (Changes name) cut_then (Errs enoent)
+  cuts-walk t = ap (λ (b : Bool). cond b (Ends (Changes name) cut_then (Errs enoent)) (Answers (opened_file (room_in table seat) (file_handle document name r.node flags) FilesStay))) t
 
   abbrev SetsLength : TreeDone → Type 0
   SetsLength d = ChangesFiles (has_file name) (change_named name (resized 0 now)) old d new
 
-  stays-at : truncates flags ≡ true → (e : Ended) → ended ≡ e → Goes (Ends (Changes name) cut_then (Errs enoent)) old (done_of_ended e) HandlesStay new → Opening (open_name r flags (room_in table seat) name) seat table old (done_of_ended ended) table new
+  stays-at : truncates flags ≡ true → (e : Ended) → ended ≡ e → Goes (Ends (Changes name) cut_then (Errs enoent)) old (done_of_ended e) HandlesStay new → Opening (open_name r flags (room_in table seat) document name) seat table old (done_of_ended ended) table new
   stays-at t e s g = subst (λ (w : Walk NodeVerdict). Opening w seat table old (done_of_ended ended) table new) (sym (cuts-walk t))
       (subst (λ (x : Ended). Opening (Ends (Changes name) cut_then (Errs enoent)) seat table old (done_of_ended x) table new) (sym s)
       (record { change = HandlesStay; goes = g; handled = handles-stay seat table }))
 
-  pub missing-cut : truncates flags ≡ true → answer ≡ done.NotFile → ended ≡ ended_by now came.NotFile NodeAnswer.Empty → SetsLength answer → Opening (open_name r flags (room_in table seat) name) seat table old (done_of_ended ended) table new
+  pub missing-cut : truncates flags ≡ true → answer ≡ done.NotFile → ended ≡ ended_by now came.NotFile NodeAnswer.Empty → SetsLength answer → Opening (open_name r flags (room_in table seat) document name) seat table old (done_of_ended ended) table new
   missing-cut t a e h = stays-at t (ended_by now came.NotFile NodeAnswer.Empty) e (ends-missing (Changes name) cut_then (change_named name (resized 0 now)) NodeAnswer.Empty now old new refl (subst SetsLength a h))
 
-  pub failed-cut : truncates flags ≡ true → answer ≡ done.Failed → ended ≡ ended_by now came.Failed NodeAnswer.Empty → SetsLength answer → Opening (open_name r flags (room_in table seat) name) seat table old (done_of_ended ended) table new
+  pub failed-cut : truncates flags ≡ true → answer ≡ done.Failed → ended ≡ ended_by now came.Failed NodeAnswer.Empty → SetsLength answer → Opening (open_name r flags (room_in table seat) document name) seat table old (done_of_ended ended) table new
   failed-cut t a e h = stays-at t (ended_by now came.Failed NodeAnswer.Empty) e (ends-failed (Changes name) cut_then (change_named name (resized 0 now)) NodeAnswer.Empty now old new refl (subst SetsLength a h))
 
 -- ---- the look

@@ -21,24 +21,29 @@ use Rattle.portal_model.specs.declared.reply.Answer.{Answer}
 use Rattle.portal_model.specs.declared.reply.Code.TheVariants as Code
 use Rattle.portal_model.specs.declared.reply.NodeAnswer.{NodeAnswer}
 use Rattle.portal_model.specs.Bus.{is_tree}
-use Rattle.portal_model.specs.Errno.{eio, enoent}
+use Rattle.portal_model.specs.Errno.{eacces, ebadf, eio, enoent}
 use Rattle.portal_model.specs.Node.{files_after}
-use Rattle.portal_model.specs.NodeVerdict.{NodeVerdict, Errs, FileChange, FilesStay, HandleChange, HandlesStay, NodeDoing, OnFile, Yields, at_file, by_place, changes, errs, errs_if, errs_on_file, if_file, tells, told}
-use Rattle.portal_model.specs.Place.{Folder, Sight, SightOfFolder, place_of}
+use Rattle.portal_model.specs.NodeVerdict.{NodeVerdict, Errs, FileChange, FilesStay, HandleChange, HandlesStay, NodeDoing, OnFile, OnHandle, Yields, at_file, by_file_handle, by_place, changes, errs, errs_if, errs_on_file, if_file, tells, told}
+use Rattle.portal_model.specs.declared.state.Document.{Document}
+use Rattle.portal_model.specs.Place.{Folder, Sight, SightOfFolder, place_of, reach_at}
 use Rattle.portal_model.specs.Walk.{AtPath, Ends, Gives, IsFound, IsShown, LastCall, Looks, Named, Target, Walk, changes_file, is_found, look_of_file}
 use Rattle.app_view.specs.declared.book.ViewBook.{ViewBook}
 use Rattle.node_looks.specs.TreeCalls.{Calling, CallsAsTold, WasCalled, after_calls, with_files}
 use Rattle.open_handles.specs.Opened.{HandleTable, handle_of as handle_in, opened_on}
 use Rattle.portal_model.specs.declared.handle.Handle.{Handle}
 use Rattle.portal_model.specs.declared.request.NodeOp.{NodeOp}
+use Rattle.portal_model.specs.Reach.{OpenFile, Reaching}
 use Rattle.portal_model.specs.SetAttr.{SetsAttr, set_attr}
 use Rattle.portal_model.specs.State.{State, handle_of}
-use Rattle.portal_model.specs.Write.{write}
+use Rattle.portal_model.specs.Write.{write, write_content, write_open}
 use Rattle.app_view.specs.Books.{Lends}
 use Rattle.node_looks.specs.Walks.{ComesToBehind}
+use Rattle.node_looks.specs.declared.opened.Allowed.{Allowed}
+use Rattle.node_looks.specs.declared.opened.OpenFile.{OpenFile as FileLent}
 use Rattle.node_looks.specs.declared.served.FileBook.{FileBook}
 use Rattle.node_looks.specs.declared.served.NodeCall.{NodeCall}
 use Rattle.node_looks.specs.Done.{Does, DoneBy, answer_of, file_change, handle_change}
+use Rattle.node_looks.specs.Opened.{IsAllowed, by_open_file, file_of}
 use Rattle.node_looks.specs.OpenHandles.{Handled}
 use Rattle.node_looks.proofs.DoneLemmas.{IsExact, done-in, handle-is, handles-stay, same-answer, walk-is}
 use Rattle.node_looks.specs.Sights.{sight_of}
@@ -285,8 +290,20 @@ pub along-ok : (v w : Walk NodeVerdict) (old : TreeIs) (r : Result Ended WantOfM
     IfOk r (λ ended. Goes v old (done_of_ended ended) change new)
 along-ok v w old r change new e g = subst (λ (x : Walk NodeVerdict). IfOk r (λ ended. Goes x old (done_of_ended ended) change new)) (sym e) g
 
+pub walk-goes : (v w : Walk NodeVerdict) (old : TreeIs) (done : NodeDone) (change : HandleChange) (new : TreeIs) → v ≡ w → Goes w old done change new → Goes v old done change new
+walk-goes v w old done change new e g = subst (λ (x : Walk NodeVerdict). Goes x old done change new) (sym e) g
+
+pub picked : (b r : Bool) (w v : Walk NodeVerdict) → r ≡ b → r ≡ true → cond b w v ≡ w
+picked b r w v e t = ap (λ (c : Bool). cond c w v) (sym e ∙ t)
+
+-- by the open file of a handle
+pub by-open : (next : OnHandle) (handle : Option Handle) (o : Option FileLent) (file : FileLent) (old : TreeIs) (done : NodeDone) (change : HandleChange) (new : TreeIs) → by_file_handle handle next ≡ by_open_file o next → o ≡ Some file →
+    Goes (next (file_of file)) old done change new → Goes (by_file_handle handle next) old done change new
+by-open next handle o file old done change new e f g =
+    subst (λ (w : Walk NodeVerdict). Goes w old done change new) (sym (e ∙ ap (λ (x : Option FileLent). by_open_file x next) f)) g
+
 -- a folder is answered the same, whichever it is
-pub folder-goes : (p q : SeenPlace) (b : ViewBook) (who : Who) (file : List ℕ → Bool → OnFile) (folder : Folder → Walk NodeVerdict) (t : TreeIs) (done : NodeDone) → p ≡ q → (f : Folder) → sight_of b who q ≡ SightOfFolder f →
+pub folder-goes : (p q : SeenPlace) (b : ViewBook) (who : Who) (file : Document → Bool → OnFile) (folder : Folder → Walk NodeVerdict) (t : TreeIs) (done : NodeDone) → p ≡ q → (f : Folder) → sight_of b who q ≡ SightOfFolder f →
     ((x : Folder) → Goes (folder x) t done HandlesStay t) → Goes (by_place (Some (sight_of b who p)) file folder) t done HandlesStay t
 folder-goes p q b who file folder t done e f s g =
     subst (λ (x : Sight). Goes (by_place (Some x) file folder) t done HandlesStay t) (sym (ap (sight_of b who) e ∙ s)) (g f)
@@ -310,24 +327,33 @@ goes-done w op seat table old done change after new x g h = record {
 }
 
 pub write-does : (book : FileBook) (call : NodeCall) (table : HandleTable) (fh offset : ℕ) (content : List ℕ) (handle : Option Handle) (old : TreeIs) (done : NodeDone) (new : TreeIs) → handle_in (opened_on table.seats call.seat) fh ≡ handle →
-    call.request.now.op ≡ NodeOp.Write fh offset content → Goes (write book.file_limit offset content handle) old done HandlesStay new → Does book call table old done table new
-write-does book call table fh offset content handle old done new h op g = λ s c a.
-    done-in s c book call (write book.file_limit offset content handle) table old done table new a
+    call.request.now.op ≡ NodeOp.Write fh offset content → ((s : State) → Lends book.view s → Goes (write (reach_at s call.who.now) book.file_limit offset content handle) old done HandlesStay new) → Does book call table old done table new
+write-does book call table fh offset content handle old done new h op f = λ s c a.
+    let reach = reach_at s call.who.now in
+    done-in s c book call (write reach book.file_limit offset content handle) table old done table new a
     (walk-is s c call.request.now (NodeOp.Write fh offset content) op
-    ∙ (ap (λ (n : ℕ). write n offset content (handle_of s.handles c.seat fh)) a.limit
-    ∙ ap (write book.file_limit offset content) (sym (handle-is s c book call table old.told a fh) ∙ h)))
-    (goes-done (write book.file_limit offset content handle) call.request.now.op call.seat table old done HandlesStay table new (subst IsExact (sym op) tt) g (handles-stay call.seat table))
+    ∙ (ap (λ (n : ℕ). write (reach_at s c.who) n offset content (handle_of s.handles c.seat fh)) a.limit
+    ∙ (ap (λ (w : Who). write (reach_at s w) book.file_limit offset content (handle_of s.handles c.seat fh)) a.caller
+    ∙ ap (write reach book.file_limit offset content) (sym (handle-is s c book call table old.told a fh) ∙ h))))
+    (goes-done (write reach book.file_limit offset content handle) call.request.now.op call.seat table old done HandlesStay table new (subst IsExact (sym op) tt) (f s a.lists) (handles-stay call.seat table))
+
+-- by its open file
+pub open-writes : (reach : Reaching) (limit offset : ℕ) (content : List ℕ) (file : OpenFile) (allowed : Allowed) (old : TreeIs) (done : NodeDone) (new : TreeIs) → IsAllowed reach file allowed →
+    Goes (errs_if (not file.write) ebadf (errs_if (not allowed.write) eacces (write_content limit file.name offset content))) old done HandlesStay new → Goes (write_open reach limit offset content file) old done HandlesStay new
+open-writes reach limit offset content file allowed old done new i g =
+    subst (λ (b : Bool). Goes (errs_if (not file.write) ebadf (errs_if (not b) eacces (write_content limit file.name offset content))) old done HandlesStay new) i.write_is g
 
 pub set_attr-does : (book : FileBook) (call : NodeCall) (table : HandleTable) (valid fh size : ℕ) (handle : Option Handle) (old : TreeIs) (done : NodeDone) (new : TreeIs) → handle_in (opened_on table.seats call.seat) fh ≡ handle →
     call.request.now.op ≡ NodeOp.SetAttr valid fh size →
-    ((s : State) → Lends book.view s → Goes (set_attr call.request.now (record { valid = valid; size = size; limit = book.file_limit }) (place_of s call.who.now call.request.now.node) handle) old done HandlesStay new) →
+    ((s : State) → Lends book.view s → Goes (set_attr (reach_at s call.who.now) call.request.now (record { valid = valid; size = size; limit = book.file_limit }) (place_of s call.who.now call.request.now.node) handle) old done HandlesStay new) →
     Does book call table old done table new
 set_attr-does book call table valid fh size handle old done new h op f = λ s c a.
     let r = call.request.now in
     let asks : SetsAttr = record { valid = valid; size = size; limit = book.file_limit } in
-    done-in s c book call (set_attr r asks (place_of s call.who.now r.node) handle) table old done table new a
+    let reach = reach_at s call.who.now in
+    done-in s c book call (set_attr reach r asks (place_of s call.who.now r.node) handle) table old done table new a
     (walk-is s c r (NodeOp.SetAttr valid fh size) op
-    ∙ (ap (λ (n : ℕ). set_attr r (record { valid = valid; size = size; limit = n }) (place_of s c.who r.node) (handle_of s.handles c.seat fh)) a.limit
-    ∙ (ap (λ (w : Who). set_attr r asks (place_of s w r.node) (handle_of s.handles c.seat fh)) a.caller
-    ∙ ap (set_attr r asks (place_of s call.who.now r.node)) (sym (handle-is s c book call table old.told a fh) ∙ h))))
-    (goes-done (set_attr r asks (place_of s call.who.now r.node) handle) r.op call.seat table old done HandlesStay table new (subst IsExact (sym op) tt) (f s a.lists) (handles-stay call.seat table))
+    ∙ (ap (λ (n : ℕ). set_attr (reach_at s c.who) r (record { valid = valid; size = size; limit = n }) (place_of s c.who r.node) (handle_of s.handles c.seat fh)) a.limit
+    ∙ (ap (λ (w : Who). set_attr (reach_at s w) r asks (place_of s w r.node) (handle_of s.handles c.seat fh)) a.caller
+    ∙ ap (set_attr reach r asks (place_of s call.who.now r.node)) (sym (handle-is s c book call table old.told a fh) ∙ h))))
+    (goes-done (set_attr reach r asks (place_of s call.who.now r.node) handle) r.op call.seat table old done HandlesStay table new (subst IsExact (sym op) tt) (f s a.lists) (handles-stay call.seat table))

@@ -6,6 +6,7 @@ use Rattle.host_tree.specs.declared.tree.LookAnswer.TheVariants as look
 use Rattle.open_handles.specs.Opened.{HandleTable}
 use Rattle.portal_base.specs.declared.files.Look.{Look}
 use Rattle.portal_model.specs.declared.request.NodeRequest.{NodeRequest}
+use Rattle.portal_model.specs.declared.state.Document.{Document}
 use Rattle.portal_model.specs.Create.{create_there}
 use Rattle.portal_model.specs.Errno.{eio, emfile, enotdir}
 use Rattle.portal_model.specs.NodeVerdict.{NodeVerdict, HandleChange, HandlesStay, Room, at_file, errs, errs_if, errs_on_file}
@@ -19,14 +20,14 @@ use Rattle.file_ops.specs.declared.tried.Ended.{Ended}
 -- ---- by the target
 
 -- a file that is to be made, and for whose handle there is room
-abbrev pub made_walk : NodeRequest → ℕ → Room → List ℕ → ℕ → Walk NodeVerdict
-made_walk r flags room path node = Looks (AtPath path) (create_there r flags room path node)
+abbrev pub made_walk : NodeRequest → ℕ → Room → Document → ℕ → Walk NodeVerdict
+made_walk r flags room d node = Looks (AtPath d.path) (create_there r flags room d node)
 
 abbrev pub target_walk : NodeRequest → ℕ → Room → Target → Walk NodeVerdict
 target_walk r flags room (Target.Refused errno) = errs errno
 target_walk r flags room (Target.File path) = at_file path.now (errs_on_file enotdir)
-target_walk r flags room (Target.New path node) =
-    errs_if room.full emfile (made_walk r flags room path.now node)
+target_walk r flags room (Target.New made) =
+    errs_if room.full emfile (made_walk r flags room made.document.now made.node)
 
 -- ---- by a walk
 

@@ -1,5 +1,4 @@
 pub mod OpenedFolders
-pub mod Opened
 pub mod Sets
 pub mod Tries
 pub mod Creates

@@ -38,7 +38,7 @@ ListsBehind r sight seat look.Failed table answer after =
 
 -- the path that is looked at where the folder is opened
 abbrev pub path_in : Sight → Option (List ℕ)
-path_in (SightOfFile path may_write) = None
+path_in (SightOfFile d may_write) = None
 path_in (SightOfFolder (RootOf view numbers has_views)) = None
 path_in (SightOfFolder (Views applications)) = None
-path_in (SightOfFolder (FolderOf view number path may_write)) = Some path
+path_in (SightOfFolder (FolderOf view d may_write)) = Some d.path

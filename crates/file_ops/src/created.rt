@@ -24,6 +24,7 @@ ghost use Rattle.file_ops.specs.Tries.{done_of_ended, done_of_tried, moment_of};
 
 use crate::tried::{Came, Ended, Tried, came_of, room_for_looks};
 use app_view::{SeenDocument, ViewBook, node_of};
+use document_records::Document;
 use host_tree::{HostTree, LookAnswer};
 use node_looks::attributes::attr_of_file;
 use node_looks::entry::{is_name_of, is_too_long};
@@ -53,12 +54,16 @@ enum Target<'a> {
     /// A file stands in the place of the folder.
     File(&'a HostPath),
     /// The file of a document is to be made.
-    New {
-        /// Its path.
-        path: &'a HostPath,
-        /// Its node.
-        node: u64,
-    },
+    New(NewFile<'a>),
+}
+
+/// The file of a document, which is to be made.
+#[derive(Clone, Copy)]
+struct NewFile<'a> {
+    /// The document.
+    document: &'a Document,
+    /// The file's node.
+    node: u64,
 }
 
 /// Answers a CREATE of a name in a folder, with the flags of open(2): the file of a
@@ -134,8 +139,8 @@ fn target_at<'a>(place: SeenPlace<'a>, name: &[u8]) -> Target<'a>
 fn target_in<'a>(view: u32, seen: SeenDocument<'a>, name: &[u8]) -> Target<'a>
     requires { view < 2 ^ 28 }
     ensures { (r : NodeRequest) (flags : ℕ) (room : Room) →
-        create_in r name.now flags room (FolderOf view seen.entry.document.now.id.number
-        seen.entry.document.now.path seen.entry.may_write) ≡ target_walk r flags room result }
+        create_in r name.now flags room (FolderOf view seen.entry.document.now
+        seen.entry.may_write) ≡ target_walk r flags room result }
 {
     // In a document's folder some file may be made, so another name is denied; where none may,
     // making one isn't permitted at all.
@@ -145,13 +150,13 @@ fn target_in<'a>(view: u32, seen: SeenDocument<'a>, name: &[u8]) -> Target<'a>
     if !seen.may_write {
         return Target::Refused(EACCES);
     }
-    Target::New {
-        path: &seen.document.path,
+    Target::New(NewFile {
+        document: seen.document,
         node: node_of(Place::File {
             view,
             id: seen.document.id,
         }),
-    }
+    })
 }
 
 /// How the request ends.
@@ -179,12 +184,12 @@ fn make<T: HostTree, C: Clock>(
     match target {
         Target::Refused(errno) => Ok(Tried::unlooked(Ended::refused(errno))),
         Target::File(path) => Ok(Tried::refused_on_file(tree, path, ENOTDIR)),
-        Target::New { path, node } => {
+        Target::New(made) => {
             // Where no handle can be had nothing is to be made, so the room for it comes ahead of
             // the call.
             let free = take_room(handles, call.seat)?;
             if free {
-                make_new(alloc, handles, tree, clock, call, flags, path, node)
+                make_new(alloc, handles, tree, clock, call, flags, made)
             } else {
                 Ok(Tried::unlooked(Ended::refused(EMFILE)))
             }
@@ -200,12 +205,12 @@ fn make_new<T: HostTree, C: Clock>(
     clock: &mut C,
     call: &NodeCall,
     flags: u32,
-    path: &HostPath,
-    node: u64,
+    made: NewFile,
 ) -> Result<Tried, WantOfMemory>
     requires { IsSomeAnd (opened_on handles.old.seats call.now.seat) (CanAdd handles.old.most) }
     ensures ok { IfOk result (λ tried. Opening
-        (made_walk call.now.request.now flags (room_in handles.old call.now.seat) path.now node)
+        (made_walk call.now.request.now flags (room_in handles.old call.now.seat)
+        made.entry.document.now made.entry.node)
         call.now.seat handles.old (T.is tree.old) (done_of_tried tried) handles.new
         (T.is tree.new)) }
     ensures clock { IfOk result (λ tried.
@@ -216,13 +221,13 @@ fn make_new<T: HostTree, C: Clock>(
     ensures clock_err { OnErr result (C.told clock.new ≡ C.told clock.old) }
 {
     // Memory for the handle's path is taken ahead of the call that makes the file.
-    let path_copy = path.replica(alloc)?;
-    let look = tree.look(path);
+    let path = made.document.path.replica(alloc)?;
+    let look = tree.look(&made.document.path);
     let file = FileName {
-        path: path_copy,
+        path,
         generation: 0,
     };
-    let ended = make_looked(handles, tree, clock, call, flags, file, node, look)?;
+    let ended = make_looked(handles, tree, clock, call, flags, made, file, look)?;
     Ok(Tried {
         look: Some(look),
         ended,
@@ -236,17 +241,18 @@ fn make_looked<T: HostTree, C: Clock>(
     clock: &mut C,
     call: &NodeCall,
     flags: u32,
+    made: NewFile,
     file: FileName,
-    node: u64,
     look: LookAnswer,
 ) -> Result<Ended, WantOfMemory>
     requires room { IsSomeAnd (opened_on handles.old.seats call.now.seat)
         (CanAdd handles.old.most) }
-    requires first { file.generation ≡ 0 }
+    requires first { file ≡ record { path = made.document.now.path; generation = 0 } }
     requires looks { Looks (T.is tree.old).told file.path look }
     ensures ok { IfOk result (λ ended. OpeningBehind
-        (create_there call.now.request.now flags (room_in handles.old call.now.seat) file.path node)
-        look call.now.seat handles.old (T.is tree.old) ended handles.new (T.is tree.new)) }
+        (create_there call.now.request.now flags (room_in handles.old call.now.seat)
+        made.entry.document.now made.entry.node) look call.now.seat handles.old (T.is tree.old)
+        ended handles.new (T.is tree.new)) }
     ensures clock { IfOk result (λ ended. Reads C.told clock.old (moment_of ended.call) clock.new) }
     ensures err { OnErr result (WasCalled (T.is tree.old) (T.is tree.new)) }
     ensures shown { OnErr result (is_look_fault look ≡ false) }
@@ -255,7 +261,7 @@ fn make_looked<T: HostTree, C: Clock>(
     ensures clock_err { OnErr result (C.told clock.new ≡ C.told clock.old) }
 {
     match look {
-        LookAnswer::Is(Look::Missing) => make_file(handles, tree, clock, call, flags, file, node),
+        LookAnswer::Is(Look::Missing) => make_file(handles, tree, clock, call, flags, made, file),
         // Also without O_EXCL: a kernel looks the name up first, and opens what it finds.
         LookAnswer::Is(Look::Folder | Look::File { .. }) => Ok(Ended::refused(EEXIST)),
         LookAnswer::Failed => Ok(Ended::refused(EIO)),
@@ -269,17 +275,18 @@ fn make_file<T: HostTree, C: Clock>(
     clock: &mut C,
     call: &NodeCall,
     flags: u32,
+    made: NewFile,
     file: FileName,
-    node: u64,
 ) -> Result<Ended, WantOfMemory>
     requires room { IsSomeAnd (opened_on handles.old.seats call.now.seat)
         (CanAdd handles.old.most) }
-    requires first { file.generation ≡ 0 }
-    requires missing { IfSome (T.is tree.old).told (λ files. Look.Missing ≡ look_at files file.path) }
+    requires first { file ≡ record { path = made.document.now.path; generation = 0 } }
+    requires missing { IfSome (T.is tree.old).told (λ files.
+        Look.Missing ≡ look_at files file.path) }
     ensures ok { IfOk result (λ ended. Opening
-        (create_there call.now.request.now flags (room_in handles.old call.now.seat) file.path node
-        Look.Missing) call.now.seat handles.old (T.is tree.old) (done_of_ended ended) handles.new
-        (T.is tree.new)) }
+        (create_there call.now.request.now flags (room_in handles.old call.now.seat)
+        made.entry.document.now made.entry.node Look.Missing) call.now.seat handles.old
+        (T.is tree.old) (done_of_ended ended) handles.new (T.is tree.new)) }
     ensures clock { IfOk result (λ ended. Reads C.told clock.old (moment_of ended.call) clock.new) }
     ensures err { OnErr result (WasCalled (T.is tree.old) (T.is tree.new)) }
     ensures handles_err { OnErr result
@@ -290,8 +297,12 @@ fn make_file<T: HostTree, C: Clock>(
     let came = came_of(tree.create(&file.path, now))?;
     match came {
         Came::Done => {
-            let attr = attr_of_file(call.request, node, true, 0, now);
-            let fh = hand_out(handles, call.seat, file_handle(file, node, flags));
+            let attr = attr_of_file(call.request, made.node, true, 0, now);
+            let fh = hand_out(
+                handles,
+                call.seat,
+                file_handle(made.document, file, made.node, flags),
+            );
             let answer = NodeAnswer::Created { attr, fh };
             Ok(Ended::by_call(now, came, answer))
         }

@@ -21,7 +21,7 @@
 //! | `written` | [`write`]: bytes over those of an open file |
 //! | `created` | [`create`]: a document's file is made, and opened |
 //! | `resized` | [`set_attr`]: the length of a file |
-//! | `opened` | open files, by their handles |
+//! | `opened` | looks at open files, by their names |
 //! | `tried` | requests that may end with a call which changes or makes a file |
 //!
 //! Requests that change no file and open none are served in `node_looks`, and named here too.

@@ -17,6 +17,7 @@ ghost use Rattle.file_ops.specs.Tries.{done_of_ended, done_of_tried, moment_of};
 
 use crate::tried::{Came, Ended, Tried, came_of, room_for_looks};
 use app_view::{SeenDocument, ViewBook};
+use document_records::Document;
 use host_tree::{HostTree, LookAnswer};
 use node_looks::handed::{hand_out, take_room};
 use node_looks::served::{FileBook, NodeCall, NodeDone};
@@ -106,7 +107,7 @@ fn open_document<T: HostTree, C: Clock>(
     requires { IsSome (opened_on handles.old.seats call.now.seat) }
     ensures ok { IfOk result (λ tried. Opening (at_file seen.entry.document.now.path
         (open_file call.now.request.now flags (room_in handles.old call.now.seat)
-        seen.entry.document.now.path seen.entry.may_write)) call.now.seat handles.old
+        seen.entry.document.now seen.entry.may_write)) call.now.seat handles.old
         (T.is tree.old) (done_of_tried tried) handles.new (T.is tree.new)) }
     ensures clock { IfOk result (λ tried.
         Reads C.told clock.old (moment_of tried.ended.call) clock.new) }
@@ -135,7 +136,7 @@ fn open_looked<T: HostTree, C: Clock>(
     requires { IsSome (opened_on handles.old.seats call.now.seat) }
     ensures ok { IfOk result (λ ended. OpeningBehind (if_file
         (open_file call.now.request.now flags (room_in handles.old call.now.seat)
-        seen.entry.document.now.path seen.entry.may_write)) look call.now.seat handles.old
+        seen.entry.document.now seen.entry.may_write)) look call.now.seat handles.old
         (T.is tree.old) ended handles.new (T.is tree.new)) }
     ensures clock { IfOk result (λ ended. Reads C.told clock.old (moment_of ended.call) clock.new) }
     ensures err { OnErr result (Wants handles.old (T.is tree.old) handles.new (T.is tree.new)) }
@@ -165,7 +166,7 @@ fn open_shown<T: HostTree, C: Clock>(
     requires { IsSome (opened_on handles.old.seats call.now.seat) }
     ensures ok { (size moment : ℕ) → IfOk result (λ ended. Opening
         (open_file call.now.request.now flags (room_in handles.old call.now.seat)
-        seen.entry.document.now.path seen.entry.may_write generation size moment) call.now.seat
+        seen.entry.document.now seen.entry.may_write generation size moment) call.now.seat
         handles.old (T.is tree.old) (done_of_ended ended) handles.new (T.is tree.new)) }
     ensures clock { IfOk result (λ ended. Reads C.told clock.old (moment_of ended.call) clock.new) }
     ensures err { OnErr result (Wants handles.old (T.is tree.old) handles.new (T.is tree.new)) }
@@ -182,7 +183,7 @@ fn open_shown<T: HostTree, C: Clock>(
     if !take_room(handles, call.seat)? {
         return Ok(Ended::refused(EMFILE));
     }
-    open_name(handles, tree, clock, call, flags, name)
+    open_name(handles, tree, clock, call, flags, seen.document, name)
 }
 
 /// How the request ends on a file for which there is room among the handles.
@@ -192,20 +193,21 @@ fn open_name<T: HostTree, C: Clock>(
     clock: &mut C,
     call: &NodeCall,
     flags: u32,
+    document: &Document,
     name: FileName,
 ) -> Result<Ended, WantOfMemory>
     requires { IsSomeAnd (opened_on handles.old.seats call.now.seat) (CanAdd handles.old.most) }
     ensures ok { IfOk result (λ ended. Opening (open_name call.now.request.now flags
-        (room_in handles.old call.now.seat) name) call.now.seat handles.old (T.is tree.old)
-        (done_of_ended ended) handles.new (T.is tree.new)) }
+        (room_in handles.old call.now.seat) document.now name) call.now.seat handles.old
+        (T.is tree.old) (done_of_ended ended) handles.new (T.is tree.new)) }
     ensures clock { IfOk result (λ ended. Reads C.told clock.old (moment_of ended.call) clock.new) }
     ensures err { OnErr result (Wants handles.old (T.is tree.old) handles.new (T.is tree.new)) }
     ensures clock_err { OnErr result (C.told clock.new ≡ C.told clock.old) }
 {
     if truncates(flags) {
-        open_cut(handles, tree, clock, call, flags, name)
+        open_cut(handles, tree, clock, call, flags, document, name)
     } else {
-        Ok(Ended::told(handed(handles, call, flags, name)))
+        Ok(Ended::told(handed(handles, call, flags, document, name)))
     }
 }
 
@@ -216,13 +218,14 @@ fn open_cut<T: HostTree, C: Clock>(
     clock: &mut C,
     call: &NodeCall,
     flags: u32,
+    document: &Document,
     name: FileName,
 ) -> Result<Ended, WantOfMemory>
     requires room { IsSomeAnd (opened_on handles.old.seats call.now.seat) (CanAdd handles.old.most) }
     requires cuts { truncates flags ≡ true }
     ensures ok { IfOk result (λ ended. Opening (open_name call.now.request.now flags
-        (room_in handles.old call.now.seat) name) call.now.seat handles.old (T.is tree.old)
-        (done_of_ended ended) handles.new (T.is tree.new)) }
+        (room_in handles.old call.now.seat) document.now name) call.now.seat handles.old
+        (T.is tree.old) (done_of_ended ended) handles.new (T.is tree.new)) }
     ensures clock { IfOk result (λ ended. Reads C.told clock.old (moment_of ended.call) clock.new) }
     ensures err { OnErr result (Wants handles.old (T.is tree.old) handles.new (T.is tree.new)) }
     ensures clock_err { OnErr result (C.told clock.new ≡ C.told clock.old) }
@@ -230,7 +233,7 @@ fn open_cut<T: HostTree, C: Clock>(
     let now = clock.now();
     match came_of(tree.set_len(&name, 0, now))? {
         Came::Done => {
-            let answer = handed(handles, call, flags, name);
+            let answer = handed(handles, call, flags, document, name);
             Ok(Ended::by_call(now, Came::Done, answer))
         }
         Came::NotFile => Ok(Ended::missing(now)),
@@ -239,13 +242,20 @@ fn open_cut<T: HostTree, C: Clock>(
 }
 
 /// The handle on an open file, for which there is room.
-fn handed(handles: &mut Handles, call: &NodeCall, flags: u32, name: FileName) -> NodeAnswer
+fn handed(
+    handles: &mut Handles,
+    call: &NodeCall,
+    flags: u32,
+    document: &Document,
+    name: FileName,
+) -> NodeAnswer
     requires { IsSomeAnd (opened_on handles.old.seats call.now.seat) (CanAdd handles.old.most) }
     ensures answer { result ≡ NodeAnswer.Opened (next_handle (room_in handles.old call.now.seat)) }
     ensures opens { Handled call.now.seat
-        (Opens (file_handle name call.now.request.now.node flags)) handles.old handles.new }
+        (Opens (file_handle document.now name call.now.request.now.node flags)) handles.old
+        handles.new }
 {
-    let handle = file_handle(name, call.request.node, flags);
+    let handle = file_handle(document, name, call.request.node, flags);
     NodeAnswer::Opened {
         fh: hand_out(handles, call.seat, handle),
     }

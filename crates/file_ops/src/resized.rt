@@ -1,32 +1,34 @@
 //! FUSE_SETATTR: of the attributes a file's length alone may be set.
 
-ghost use Rattle.std.specs.Prelude.{◌≡◌, ℕ, IfOk, OnErr, None, Some, false, option_copied};
+ghost use Rattle.std.specs.Prelude.{◌≡◌, ℕ, IfOk, OnErr, None, Some, false, not, option_copied};
 ghost use Rattle.open_handles.specs.Opened.{HandleTable, handle_of, opened_on};
 ghost use Rattle.portal_model.specs.declared.request.NodeOp.TheVariants as NodeOp;
 ghost use Rattle.host_tree.specs.Trees.{TreeIs, is_look_fault};
 ghost use Rattle.portal_model.specs.Attributes.{on_node};
-ghost use Rattle.portal_model.specs.NodeVerdict.{HandlesStay, at_file, by_file_handle, by_place, if_file};
-ghost use Rattle.portal_model.specs.Place.{Folder, place_of};
-ghost use Rattle.portal_model.specs.SetAttr.{set_attr, set_attr_at, set_attr_of, set_attr_of_folder, set_attr_open, sets_by_handle, sets_owner_or_mode, sets_size};
+ghost use Rattle.portal_model.specs.Errno.{eacces};
+ghost use Rattle.portal_model.specs.NodeVerdict.{HandlesStay, at_file, at_name, by_file_handle, by_place, errs_if, if_file};
+ghost use Rattle.portal_model.specs.Place.{Folder, place_of, reach_at};
+ghost use Rattle.portal_model.specs.SetAttr.{set_attr, set_attr_at, set_attr_of_folder, set_attr_open, sets_by_handle, sets_owner_or_mode, sets_size};
 ghost use Rattle.portal_model.specs.State.{State};
 ghost use Rattle.app_view.specs.Books.{Lends};
 ghost use Rattle.node_looks.specs.Done.{Does, Reads};
-ghost use Rattle.file_ops.specs.Opened.{by_open_file};
-ghost use Rattle.file_ops.specs.Sets.{generation_of, set_subject, sets_length, sets_of};
+ghost use Rattle.node_looks.specs.Opened.{file_of};
+ghost use Rattle.file_ops.specs.Sets.{denial_of, generation_of, set_subject, sets_file, sets_length, sets_of};
 ghost use Rattle.node_looks.specs.Sights.{sight_of};
 ghost use Rattle.node_looks.specs.TreeCalls.{WasCalled};
 ghost use Rattle.file_ops.specs.Tries.{Goes, GoesBehind, done_of_ended, done_of_tried, moment_of};
 
-use crate::opened::{OpenFile, look_named, open_file};
+use crate::opened::look_named;
 use crate::tried::{Ended, Tried, came_of, room_for_looks};
 use app_view::ViewBook;
+use document_records::Document;
 use host_tree::{HostTree, LookAnswer};
 use node_looks::attributes::{attr_of_file, attr_of_folder};
+use node_looks::opened::{OpenFile, allowed_now, open_file};
 use node_looks::served::{FileBook, NodeCall, NodeDone};
 use node_looks::sight::{SeenPlace, seen_place};
 use portal_base::files::{FileName, Look};
 use portal_base::memory::{Replica, WantOfMemory};
-use portal_base::names::HostPath;
 use portal_base::outside::Clock;
 use portal_base::who::Who;
 use portal_model::errno::{EACCES, EBADF, EFBIG, EIO, EISDIR, ENOENT, EPERM};
@@ -47,7 +49,11 @@ struct Setting {
 }
 
 /// Answers a caller's SETATTR, on a node or on the open file of a handle. A number
-/// of no open file is EBADF.
+/// of no open file is EBADF, and so is a length where it wasn't opened to be written.
+///
+/// By a handle it goes by what the file was opened to do; but that of a strict document
+/// is EACCES where the subject of the node's view may not read the document now, and
+/// for a length where it may not write it.
 ///
 /// It takes a look at the file, and where the length is to be set one more call of
 /// the tree, and for that the moment of now. Where memory is wanting the tree was
@@ -101,9 +107,9 @@ fn set<T: HostTree, C: Clock>(
     handle: Option<&Handle>,
 ) -> Result<Tried, WantOfMemory>
     ensures ok { IfOk result (λ tried. (s : State) → Lends book.now s →
-        Goes (set_attr request.now (sets_of setting) (place_of s who.now request.now.node)
-        (option_copied handle.entry)) (T.is tree.old) (done_of_tried tried) HandlesStay
-        (T.is tree.new)) }
+        Goes (set_attr (reach_at s who.now) request.now (sets_of setting)
+        (place_of s who.now request.now.node) (option_copied handle.entry)) (T.is tree.old)
+        (done_of_tried tried) HandlesStay (T.is tree.new)) }
     ensures clock { IfOk result (λ tried.
         Reads C.told clock.old (moment_of tried.ended.call) clock.new) }
     ensures err { OnErr result (WasCalled (T.is tree.old) (T.is tree.new)) }
@@ -114,7 +120,7 @@ fn set<T: HostTree, C: Clock>(
         return Ok(Tried::unlooked(Ended::refused(EPERM)));
     }
     if sets_by_handle(setting.valid) {
-        return set_open(tree, clock, request, setting, handle);
+        return set_open(book, tree, clock, who, request, setting, handle);
     }
     match seen_place(book, who, request.node) {
         Some(place) => set_place(alloc, book, tree, clock, who, request, setting, place),
@@ -145,49 +151,115 @@ fn sets_by_handle(valid: u32) -> bool
 
 /// How the request ends on a handle.
 fn set_open<T: HostTree, C: Clock>(
+    book: &ViewBook,
     tree: &mut T,
     clock: &mut C,
+    who: &Who,
     request: &NodeRequest,
     setting: Setting,
     handle: Option<&Handle>,
 ) -> Result<Tried, WantOfMemory>
-    ensures ok { IfOk result (λ tried. Goes (by_file_handle (option_copied handle.entry)
-        (set_attr_open request.now (sets_of setting))) (T.is tree.old) (done_of_tried tried)
-        HandlesStay (T.is tree.new)) }
+    ensures ok { IfOk result (λ tried. (s : State) → Lends book.now s → Goes
+        (by_file_handle (option_copied handle.entry)
+        (set_attr_open (reach_at s who.now) request.now (sets_of setting))) (T.is tree.old)
+        (done_of_tried tried) HandlesStay (T.is tree.new)) }
     ensures clock { IfOk result (λ tried.
         Reads C.told clock.old (moment_of tried.ended.call) clock.new) }
     ensures err { OnErr result (WasCalled (T.is tree.old) (T.is tree.new)) }
     ensures clock_err { OnErr result (C.told clock.new ≡ C.told clock.old) }
 {
     match open_file(handle) {
-        Some(file) => set_open_file(tree, clock, request, setting, file),
+        Some(file) => set_open_file(book, tree, clock, who, request, setting, file),
         None => Ok(Tried::unlooked(Ended::refused(EBADF))),
     }
 }
 
 /// How the request ends on an open file.
 fn set_open_file<T: HostTree, C: Clock>(
+    book: &ViewBook,
     tree: &mut T,
     clock: &mut C,
+    who: &Who,
     request: &NodeRequest,
     setting: Setting,
     file: OpenFile,
 ) -> Result<Tried, WantOfMemory>
-    ensures ok { IfOk result (λ tried. Goes (by_open_file (Some file.entry)
-        (set_attr_open request.now (sets_of setting))) (T.is tree.old) (done_of_tried tried)
-        HandlesStay (T.is tree.new)) }
+    ensures ok { IfOk result (λ tried. (s : State) → Lends book.now s → Goes
+        (set_attr_open (reach_at s who.now) request.now (sets_of setting) (file_of file.entry))
+        (T.is tree.old) (done_of_tried tried) HandlesStay (T.is tree.new)) }
     ensures clock { IfOk result (λ tried.
         Reads C.told clock.old (moment_of tried.ended.call) clock.new) }
     ensures err { OnErr result (WasCalled (T.is tree.old) (T.is tree.new)) }
     ensures clock_err { OnErr result (C.told clock.new ≡ C.told clock.old) }
 {
-    let look = look_named(tree, file.name);
+    let allowed = allowed_now(book, who, file);
     let subject = Subject {
         node: file.node,
-        may_write: file.write,
-        denial: EBADF,
+        may_write: allowed.write,
+        denial: denial_of(file.write),
     };
-    let ended = set_looked(tree, clock, request, setting, file.name, subject, look)?;
+    set_where(
+        allowed.reach,
+        tree,
+        clock,
+        request,
+        setting,
+        file.name,
+        subject,
+    )
+}
+
+/// The error of a file whose length may not be set: whether it was opened to be
+/// written tells the two apart.
+fn denial_of(opened: bool) -> u32
+    ensures { result ≡ denial_of opened }
+{
+    if opened { EACCES } else { EBADF }
+}
+
+/// How the request ends on an open file that may be told now or not.
+fn set_where<T: HostTree, C: Clock>(
+    reaches: bool,
+    tree: &mut T,
+    clock: &mut C,
+    request: &NodeRequest,
+    setting: Setting,
+    name: &FileName,
+    subject: Subject,
+) -> Result<Tried, WantOfMemory>
+    ensures ok { IfOk result (λ tried. Goes (errs_if (not reaches) eacces
+        (at_name name.now (set_subject request.now (sets_of setting) subject name.now)))
+        (T.is tree.old) (done_of_tried tried) HandlesStay (T.is tree.new)) }
+    ensures clock { IfOk result (λ tried.
+        Reads C.told clock.old (moment_of tried.ended.call) clock.new) }
+    ensures err { OnErr result (WasCalled (T.is tree.old) (T.is tree.new)) }
+    ensures clock_err { OnErr result (C.told clock.new ≡ C.told clock.old) }
+{
+    if !reaches {
+        return Ok(Tried::unlooked(Ended::refused(EACCES)));
+    }
+    set_named(tree, clock, request, setting, name, subject)
+}
+
+/// How the request ends on a file of this name.
+fn set_named<T: HostTree, C: Clock>(
+    tree: &mut T,
+    clock: &mut C,
+    request: &NodeRequest,
+    setting: Setting,
+    name: &FileName,
+    subject: Subject,
+) -> Result<Tried, WantOfMemory>
+    ensures ok { IfOk result (λ tried. Goes
+        (at_name name.now (set_subject request.now (sets_of setting) subject name.now))
+        (T.is tree.old) (done_of_tried tried) HandlesStay (T.is tree.new)) }
+    ensures clock { IfOk result (λ tried.
+        Reads C.told clock.old (moment_of tried.ended.call) clock.new) }
+    ensures err { OnErr result (WasCalled (T.is tree.old) (T.is tree.new)) }
+    ensures clock_err { OnErr result (C.told clock.new ≡ C.told clock.old) }
+{
+    let look = look_named(tree, name);
+    let ended = set_looked(tree, clock, request, setting, name, subject, look)?;
     Ok(Tried {
         look: Some(look),
         ended,
@@ -244,7 +316,7 @@ fn set_file<T: HostTree, C: Clock>(
     moment: u64,
 ) -> Result<Ended, WantOfMemory>
     ensures ok { IfOk result (λ ended. Goes
-        (set_attr_of (on_node request.now subject.node) (sets_of setting) subject.denial name.now
+        (sets_file (on_node request.now subject.node) (sets_of setting) subject.denial name.now
         subject.may_write size moment) (T.is tree.old) (done_of_ended ended) HandlesStay
         (T.is tree.new)) }
     ensures clock { IfOk result (λ ended. Reads C.told clock.old (moment_of ended.call) clock.new) }
@@ -316,7 +388,7 @@ fn set_place<T: HostTree, C: Clock>(
             clock,
             request,
             setting,
-            &seen.document.path,
+            seen.document,
             seen.may_write,
         ),
         SeenPlace::Folder { .. } => Ok(set_folder(request, setting)),
@@ -347,19 +419,19 @@ fn set_placed<T: HostTree, C: Clock>(
     clock: &mut C,
     request: &NodeRequest,
     setting: Setting,
-    path: &HostPath,
+    document: &Document,
     may_write: bool,
 ) -> Result<Tried, WantOfMemory>
-    ensures ok { IfOk result (λ tried. Goes
-        (at_file path.now (set_attr_at request.now (sets_of setting) path.now may_write))
+    ensures ok { IfOk result (λ tried. Goes (at_file document.now.path
+        (set_attr_at request.now (sets_of setting) document.now may_write))
         (T.is tree.old) (done_of_tried tried) HandlesStay (T.is tree.new)) }
     ensures clock { IfOk result (λ tried.
         Reads C.told clock.old (moment_of tried.ended.call) clock.new) }
     ensures err { OnErr result (WasCalled (T.is tree.old) (T.is tree.new)) }
     ensures clock_err { OnErr result (C.told clock.new ≡ C.told clock.old) }
 {
-    let path_copy = path.replica(alloc)?;
-    let look = tree.look(path);
+    let path_copy = document.path.replica(alloc)?;
+    let look = tree.look(&document.path);
     let name = FileName {
         path: path_copy,
         generation: generation_of(look),

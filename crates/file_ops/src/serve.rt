@@ -72,7 +72,7 @@ pub fn serve_node<T: HostTree, C: Clock>(
             )
         }
         NodeOp::Read { fh, offset, size } => {
-            read(alloc, handles, tree, call, *fh, *offset, *size)
+            read(alloc, book, handles, tree, call, *fh, *offset, *size)
         }
         NodeOp::Write {
             fh,

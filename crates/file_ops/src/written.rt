@@ -1,22 +1,28 @@
 //! FUSE_WRITE: bytes over those of an open file.
 
-ghost use Rattle.std.specs.Prelude.{◌≡◌, ℕ, ◌+◌, ◌≤◌, IfOk, OnErr, length, nat_lt, option_copied};
+ghost use Rattle.std.specs.Prelude.{◌≡◌, ℕ, ◌+◌, ◌≤◌, IfOk, OnErr, length, nat_lt, not, option_copied};
 ghost use Rattle.open_handles.specs.Opened.{HandleTable, handle_of, opened_on};
 ghost use Rattle.portal_model.specs.declared.request.NodeOp.TheVariants as NodeOp;
-ghost use Rattle.portal_model.specs.NodeVerdict.{HandlesStay};
-ghost use Rattle.portal_model.specs.Write.{write, write_name, write_open};
+ghost use Rattle.portal_model.specs.Errno.{eacces, ebadf};
+ghost use Rattle.portal_model.specs.NodeVerdict.{HandlesStay, errs_if};
+ghost use Rattle.portal_model.specs.Place.{reach_at};
+ghost use Rattle.portal_model.specs.State.{State};
+ghost use Rattle.portal_model.specs.Write.{write, write_content, write_name, write_open};
+ghost use Rattle.app_view.specs.Books.{Lends};
 ghost use Rattle.node_looks.specs.Done.{Does, Reads};
+ghost use Rattle.node_looks.specs.Opened.{file_of};
 ghost use Rattle.node_looks.specs.TreeCalls.{WasCalled};
 ghost use Rattle.file_ops.specs.Tries.{Goes, done_of_ended, moment_of};
 
-use crate::opened::{OpenFile, open_file};
 use crate::tried::{Ended, Tried, came_of, room_for_looks};
 use host_tree::HostTree;
+use node_looks::opened::{OpenFile, allowed_now, open_file};
 use node_looks::served::{FileBook, NodeCall, NodeDone};
 use portal_base::files::FileName;
 use portal_base::memory::WantOfMemory;
 use portal_base::outside::Clock;
-use portal_model::errno::{EBADF, EFBIG, EINVAL};
+use portal_base::who::Who;
+use portal_model::errno::{EACCES, EBADF, EFBIG, EINVAL};
 use portal_model::handle::Handle;
 use portal_model::reply::NodeAnswer;
 use std::alloc::Global;
@@ -24,12 +30,14 @@ use std::alloc::Global;
 /// The most that is written at once, in bytes.
 const WRITE_LIMIT: usize = 131_072;
 
-/// Answers a WRITE of bytes from an offset on, by the open handle of its number,
-/// whatever has become of the document and of the rights in it. A number of no open
-/// file that may be written is EBADF.
+/// Answers a WRITE of bytes from an offset on, by the open handle of its number. A
+/// number of no file that was opened to be written is EBADF.
 ///
-/// It takes one call of the tree, and for that the moment of now. Where memory is
-/// wanting the tree was called once at most, and no file has changed.
+/// Whatever has become of the document and of the rights in it, unless it is strict:
+/// then it is EACCES where the subject of the node's view may not read and write the
+/// document now, for which of n documents it takes about n steps. It takes one call of
+/// the tree, and for that the moment of now. Where memory is wanting the tree was called
+/// once at most, and no file has changed.
 pub fn write<T: HostTree, C: Clock>(
     alloc: Global,
     book: &FileBook,
@@ -49,22 +57,24 @@ pub fn write<T: HostTree, C: Clock>(
     ensures clock_err { OnErr result (C.told clock.new ≡ C.told clock.old) }
 {
     let room = room_for_looks(alloc)?;
-    let ended = written(tree, clock, handle, book.file_limit, offset, content)?;
+    let ended = written(book, tree, clock, call.who, handle, offset, content)?;
     Ok(Tried::unlooked(ended).done(room))
 }
 
 /// How the request ends.
 fn written<T: HostTree, C: Clock>(
+    book: &FileBook,
     tree: &mut T,
     clock: &mut C,
+    who: &Who,
     handle: Option<&Handle>,
-    file_limit: u64,
     offset: u64,
     content: &[u8],
 ) -> Result<Ended, WantOfMemory>
-    ensures ok { IfOk result (λ ended.
-        Goes (write file_limit offset content.now (option_copied handle.entry)) (T.is tree.old)
-        (done_of_ended ended) HandlesStay (T.is tree.new)) }
+    ensures ok { IfOk result (λ ended. (s : State) → Lends book.now.view s → Goes
+        (write (reach_at s who.now) book.now.file_limit offset content.now
+        (option_copied handle.entry)) (T.is tree.old) (done_of_ended ended) HandlesStay
+        (T.is tree.new)) }
     ensures clock { IfOk result (λ ended. Reads C.told clock.old (moment_of ended.call) clock.new) }
     ensures err { OnErr result (WasCalled (T.is tree.old) (T.is tree.new)) }
     ensures clock_err { OnErr result (C.told clock.new ≡ C.told clock.old) }
@@ -74,36 +84,72 @@ fn written<T: HostTree, C: Clock>(
         return Ok(Ended::refused(EINVAL));
     }
     match open_file(handle) {
-        Some(file) => write_open(tree, clock, file, file_limit, offset, content),
+        Some(file) => write_open(book, tree, clock, who, file, offset, content),
         None => Ok(Ended::refused(EBADF)),
     }
 }
 
 /// How the request ends on an open file.
 fn write_open<T: HostTree, C: Clock>(
+    book: &FileBook,
     tree: &mut T,
     clock: &mut C,
+    who: &Who,
     file: OpenFile,
+    offset: u64,
+    content: &[u8],
+) -> Result<Ended, WantOfMemory>
+    requires { length content.now ≤ 131072 }
+    ensures ok { IfOk result (λ ended. (s : State) → Lends book.now.view s → Goes
+        (write_open (reach_at s who.now) book.now.file_limit offset content.now
+        (file_of file.entry)) (T.is tree.old) (done_of_ended ended) HandlesStay (T.is tree.new)) }
+    ensures clock { IfOk result (λ ended. Reads C.told clock.old (moment_of ended.call) clock.new) }
+    ensures err { OnErr result (WasCalled (T.is tree.old) (T.is tree.new)) }
+    ensures clock_err { OnErr result (C.told clock.new ≡ C.told clock.old) }
+{
+    let allowed = allowed_now(&book.view, who, file);
+    write_where(
+        file.write,
+        allowed.write,
+        tree,
+        clock,
+        file.name,
+        book.file_limit,
+        offset,
+        content,
+    )
+}
+
+/// How the request ends on a file that was opened to be written or not, and may be
+/// written now or not.
+fn write_where<T: HostTree, C: Clock>(
+    opened: bool,
+    may_write: bool,
+    tree: &mut T,
+    clock: &mut C,
+    name: &FileName,
     file_limit: u64,
     offset: u64,
     content: &[u8],
 ) -> Result<Ended, WantOfMemory>
     requires { length content.now ≤ 131072 }
-    ensures ok { IfOk result (λ ended.
-        Goes (write_open file_limit offset content.now file.entry.name.now file.entry.node
-        file.entry.read file.entry.write) (T.is tree.old) (done_of_ended ended) HandlesStay
-        (T.is tree.new)) }
+    ensures ok { IfOk result (λ ended. Goes (errs_if (not opened) ebadf
+        (errs_if (not may_write) eacces (write_content file_limit name.now offset content.now)))
+        (T.is tree.old) (done_of_ended ended) HandlesStay (T.is tree.new)) }
     ensures clock { IfOk result (λ ended. Reads C.told clock.old (moment_of ended.call) clock.new) }
     ensures err { OnErr result (WasCalled (T.is tree.old) (T.is tree.new)) }
     ensures clock_err { OnErr result (C.told clock.new ≡ C.told clock.old) }
 {
-    if !file.write {
+    if !opened {
         return Ok(Ended::refused(EBADF));
+    }
+    if !may_write {
+        return Ok(Ended::refused(EACCES));
     }
     if content.is_empty() {
         return Ok(Ended::told(NodeAnswer::Written { size: 0 }));
     }
-    write_named(tree, clock, file.name, file_limit, offset, content)
+    write_named(tree, clock, name, file_limit, offset, content)
 }
 
 /// How a request with bytes ends on a file that may be written.

@@ -38,5 +38,7 @@ fn make<S: Alter>(
         }
         RecordChange::SetEntry(entry) => set_entry(alloc, transaction, entry),
         RecordChange::RemoveEntry { table, id } => remove_entry(transaction, table, id),
+        // A change that the tables have no place for was refused before.
+        RecordChange::Upgrade => Err(DatabaseFault::NoRecord),
     }
 }

@@ -13,6 +13,7 @@ use Rattle.portal_model.specs.declared.reply.NodeAnswer.TheVariants as NodeAnswe
 use Rattle.portal_model.specs.declared.request.NodeOp.{NodeOp}
 use Rattle.portal_model.specs.declared.request.NodeRequest.{NodeRequest}
 use Rattle.portal_model.specs.declared.state.Connection.{Connection}
+use Rattle.portal_model.specs.declared.state.Document.{Document}
 use Rattle.portal_model.specs.Access.{access}
 use Rattle.portal_model.specs.Attributes.{attr_of_folder, on_node}
 use Rattle.portal_model.specs.Bus.{is_tree}
@@ -50,22 +51,22 @@ chosen b r x y old asked new e t f = subst (λ (c : Bool). Follows (cond c x y) 
 pub not-chosen : (b r : Bool) (x y : Walk NodeVerdict) (old : TreeIs) (asked : Asked) (new : TreeIs) → r ≡ b → r ≡ false → Follows y old asked new → Follows (cond b x y) old asked new
 not-chosen b r x y old asked new e t f = subst (λ (c : Bool). Follows (cond c x y) old asked new) (sym t ∙ e) f
 
-pub nothing-there : (sight : Option Sight) (o : Option SeenPlace) (b : ViewBook) (who : Who) (file : List ℕ → Bool → OnFile) (folder : Folder → Walk NodeVerdict) (old : TreeIs) (asked : Asked) (new : TreeIs) →
+pub nothing-there : (sight : Option Sight) (o : Option SeenPlace) (b : ViewBook) (who : Who) (file : Document → Bool → OnFile) (folder : Folder → Walk NodeVerdict) (old : TreeIs) (asked : Asked) (new : TreeIs) →
     sight ≡ option_map (sight_of b who) o → o ≡ None → Follows (errs enoent) old asked new → Follows (by_place sight file folder) old asked new
 nothing-there sight o b who file folder old asked new e n f =
     subst (λ (x : Option Sight). Follows (by_place x file folder) old asked new) (sym (e ∙ ap (option_map (sight_of b who)) n)) f
 
-pub something-there : (sight : Option Sight) (o : Option SeenPlace) (place : SeenPlace) (b : ViewBook) (who : Who) (file : List ℕ → Bool → OnFile) (folder : Folder → Walk NodeVerdict) (old : TreeIs) (asked : Asked) (new : TreeIs) →
+pub something-there : (sight : Option Sight) (o : Option SeenPlace) (place : SeenPlace) (b : ViewBook) (who : Who) (file : Document → Bool → OnFile) (folder : Folder → Walk NodeVerdict) (old : TreeIs) (asked : Asked) (new : TreeIs) →
     sight ≡ option_map (sight_of b who) o → o ≡ Some place → Follows (by_place (Some (sight_of b who place)) file folder) old asked new → Follows (by_place sight file folder) old asked new
 something-there sight o place b who file folder old asked new e n f =
     subst (λ (x : Option Sight). Follows (by_place x file folder) old asked new) (sym (e ∙ ap (option_map (sight_of b who)) n)) f
 
-pub at-place : (p q : SeenPlace) (b : ViewBook) (who : Who) (file : List ℕ → Bool → OnFile) (folder : Folder → Walk NodeVerdict) (old : TreeIs) (asked : Asked) (new : TreeIs) →
+pub at-place : (p q : SeenPlace) (b : ViewBook) (who : Who) (file : Document → Bool → OnFile) (folder : Folder → Walk NodeVerdict) (old : TreeIs) (asked : Asked) (new : TreeIs) →
     p ≡ q → Follows (by_place (Some (sight_of b who q)) file folder) old asked new → Follows (by_place (Some (sight_of b who p)) file folder) old asked new
 at-place p q b who file folder old asked new e f = subst (λ (x : SeenPlace). Follows (by_place (Some (sight_of b who x)) file folder) old asked new) (sym e) f
 
 -- a folder is answered the same, whichever it is
-pub at-folder : (p q : SeenPlace) (b : ViewBook) (who : Who) (file : List ℕ → Bool → OnFile) (folder : Folder → Walk NodeVerdict) (old : TreeIs) (asked : Asked) → p ≡ q → (f : Folder) → sight_of b who q ≡ SightOfFolder f →
+pub at-folder : (p q : SeenPlace) (b : ViewBook) (who : Who) (file : Document → Bool → OnFile) (folder : Folder → Walk NodeVerdict) (old : TreeIs) (asked : Asked) → p ≡ q → (f : Folder) → sight_of b who q ≡ SightOfFolder f →
     ((x : Folder) → Follows (folder x) old asked old) → Follows (by_place (Some (sight_of b who p)) file folder) old asked old
 at-folder p q b who file folder old asked e f s g =
     subst (λ (x : Sight). Follows (by_place (Some x) file folder) old asked old) (sym (ap (sight_of b who) e ∙ s)) (g f)

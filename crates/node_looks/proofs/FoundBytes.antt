@@ -1,7 +1,8 @@
 -- How a READ comes to its answer, and is served.
-use Rattle.std.proofs.Common.{◌≡◌, ℕ, List, Bool, true, false, cond, Option, Some, None, sym, ap, subst, ◌∙◌}
+use Rattle.std.proofs.Common.{◌≡◌, ℕ, List, Bool, true, false, not, cond, Option, Some, None, sym, ap, subst, ◌∙◌}
 use Rattle.std.specs.Option.{option_map}
 use Rattle.portal_base.specs.declared.files.File.{File}
+use Rattle.portal_base.specs.declared.who.Who.{Who}
 use Rattle.host_tree.specs.Trees.{TreeIs}
 use Rattle.open_handles.specs.Opened.{HandleTable, handle_of as handle_in, opened_on}
 use Rattle.portal_model.specs.declared.handle.Handle.{Handle}
@@ -9,17 +10,23 @@ use Rattle.portal_model.specs.declared.reply.Answer.{Answer}
 use Rattle.portal_model.specs.declared.request.NodeOp.{NodeOp}
 use Rattle.portal_model.specs.Bus.{is_tree}
 use Rattle.portal_model.specs.Node.{bytes_named, files_after}
-use Rattle.portal_model.specs.NodeVerdict.{NodeVerdict, FileChange, HandleChange}
+use Rattle.portal_model.specs.Errno.{eacces, ebadf}
+use Rattle.portal_model.specs.NodeVerdict.{NodeVerdict, FileChange, HandleChange, errs_if}
 use Rattle.portal_model.specs.Outside.{files_told}
-use Rattle.portal_model.specs.Read.{read}
+use Rattle.portal_model.specs.Place.{reach_at}
+use Rattle.portal_model.specs.Reach.{OpenFile, Reaching}
+use Rattle.portal_model.specs.Read.{read, read_name, read_open}
 use Rattle.portal_model.specs.State.{State, handle_of}
 use Rattle.portal_model.specs.Walk.{Walk}
 use Rattle.node_looks.specs.ReadFiles.{AreBytes, Finds, FindsAny, IsReadAnswer}
 use Rattle.node_looks.specs.Done.{Does, DoneBy, IsAnswer}
+use Rattle.app_view.specs.Books.{Lends}
+use Rattle.node_looks.specs.Opened.{IsAllowed}
 use Rattle.node_looks.specs.OpenHandles.{Handled}
 use Rattle.node_looks.specs.TreeCalls.{Calling, calls_of}
 use Rattle.node_looks.specs.Walks.{fault_of, taken}
 use Rattle.node_looks.specs.declared.asked.Asked.{Asked}
+use Rattle.node_looks.specs.declared.opened.Allowed.{Allowed}
 use Rattle.node_looks.specs.declared.served.FileBook.{FileBook}
 use Rattle.node_looks.specs.declared.served.NodeCall.{NodeCall}
 use Rattle.node_looks.specs.declared.served.NodeDone.{NodeDone}
@@ -58,11 +65,21 @@ told-bytes s (Some files) e = by s.told e
     by false e = cc
 
 pub finds-does : (book : FileBook) (call : NodeCall) (fh offset size : ℕ) (table : HandleTable) (handle : Option Handle) (old : TreeIs) (asked : Asked) (done : NodeDone) (new : TreeIs) → call.request.now.op ≡ NodeOp.Read fh offset size → done ≡ done_with asked →
-    handle ≡ handle_in (opened_on table.seats call.seat) fh → FindsAny size (λ bytes. read bytes offset size handle) old asked new → Does book call table old done table new
+    handle ≡ handle_in (opened_on table.seats call.seat) fh → ((s : State) → Lends book.view s → FindsAny size (λ bytes. read (reach_at s call.who.now) bytes offset size handle) old asked new) → Does book call table old done table new
 finds-does book call fh offset size table handle old asked done new op e h f = λ s c a.
     let here : handle_of s.handles c.seat fh ≡ handle = sym (h ∙ handle-is s c book call table old.told a fh) in
-    done-in s c book call (read (bytes_named s.files) offset size handle) table old done table new a
-    (walk-is s c call.request.now (NodeOp.Read fh offset size) op ∙ ap (read (bytes_named s.files) offset size) here)
+    let reach = reach_at s call.who.now in
+    done-in s c book call (read reach (bytes_named s.files) offset size handle) table old done table new a
+    (walk-is s c call.request.now (NodeOp.Read fh offset size) op
+    ∙ (ap (λ (w : Who). read (reach_at s w) (bytes_named s.files) offset size (handle_of s.handles c.seat fh)) a.caller
+    ∙ ap (read reach (bytes_named s.files) offset size) here))
     (as-op _ (NodeOp.Read fh offset size) _ _ table old done table new op
-    (subst (λ (d : NodeDone). DoneBy (read (bytes_named s.files) offset size handle) (NodeOp.Read fh offset size) call.seat table old d table new) (sym e)
-    (finds-by fh offset size call.seat table (read (bytes_named s.files) offset size handle) old asked new (f (bytes_named s.files) (told-bytes s old.told a.files)))))
+    (subst (λ (d : NodeDone). DoneBy (read reach (bytes_named s.files) offset size handle) (NodeOp.Read fh offset size) call.seat table old d table new) (sym e)
+    (finds-by fh offset size call.seat table (read reach (bytes_named s.files) offset size handle) old asked new (f s a.lists (bytes_named s.files) (told-bytes s old.told a.files)))))
+
+-- ---- a handle, by its open file
+
+pub read-open : (reach : Reaching) (offset size : ℕ) (file : OpenFile) (allowed : Allowed) (old : TreeIs) (asked : Asked) (new : TreeIs) → IsAllowed reach file allowed →
+    FindsAny size (λ bytes. errs_if (not file.read) ebadf (errs_if (not allowed.read) eacces (read_name bytes offset size file.name))) old asked new → FindsAny size (λ bytes. read_open reach bytes offset size file) old asked new
+read-open reach offset size file allowed old asked new i f = λ bytes h.
+    subst (λ (b : Bool). Finds size (errs_if (not file.read) ebadf (errs_if (not b) eacces (read_name bytes offset size file.name))) old asked new) i.read_is (f bytes h)

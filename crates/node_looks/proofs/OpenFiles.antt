@@ -1,5 +1,5 @@
 -- Calls of the tree for an open file, and what is answered by them.
-use Rattle.std.proofs.Common.{◌≡◌, ℕ, List, [], ◌∷◌, Bool, true, false, cond, Option, Some, None, refl, sym, ap, subst, ◌∙◌, arith}
+use Rattle.std.proofs.Common.{◌≡◌, ℕ, List, [], ◌∷◌, Bool, true, false, cond, not, Option, Some, None, refl, sym, ap, subst, ◌∙◌, arith}
 use Rattle.std.specs.Option.{option_map}
 use Rattle.std.proofs.lemmas.Bool.Decides.{nat_tests}
 use Rattle.portal_base.specs.Content.{file_named, is_named}
@@ -19,17 +19,21 @@ use Rattle.portal_model.specs.declared.request.NodeOp.{NodeOp}
 use Rattle.portal_model.specs.declared.request.NodeRequest.{NodeRequest}
 use Rattle.portal_model.specs.declared.state.Connection.{Connection}
 use Rattle.portal_model.specs.Attributes.{attr_of_folder, on_node}
-use Rattle.portal_model.specs.GetAttr.{tells_folder}
+use Rattle.portal_model.specs.Errno.{eacces}
+use Rattle.portal_model.specs.GetAttr.{get_attr_open, tells_file, tells_folder}
 use Rattle.portal_model.specs.Node.{facts_of, node_done, node_walk, settled_on_node}
-use Rattle.portal_model.specs.NodeVerdict.{NodeVerdict, FileChange, FilesStay, HandleChange, HandlesStay, NodeDoing, Errs, OnFile, Yields, at_name, told}
+use Rattle.portal_model.specs.NodeVerdict.{NodeVerdict, FileChange, FilesStay, HandleChange, HandlesStay, NodeDoing, Errs, OnFile, Yields, at_name, errs_if, told}
 use Rattle.portal_model.specs.Place.{Folder}
+use Rattle.portal_model.specs.Reach.{OpenFile, Reaching}
 use Rattle.portal_model.specs.State.{State, handle_of}
 use Rattle.portal_model.specs.Walk.{Answers, Ends, Gives, IsShown, Looks, Named, Walk, look_of_file, reads_clock, walked}
 use Rattle.node_looks.specs.Done.{Does, IsCalled}
+use Rattle.node_looks.specs.Opened.{IsAllowed}
 use Rattle.node_looks.specs.Served.{Told}
 use Rattle.node_looks.specs.TreeCalls.{Calling, calls_of}
 use Rattle.node_looks.specs.Walks.{ComesTo, ComesToBehind, Follows, look_of_attr}
 use Rattle.node_looks.specs.declared.asked.Asked.{Asked}
+use Rattle.node_looks.specs.declared.opened.Allowed.{Allowed}
 use Rattle.node_looks.specs.declared.served.FileBook.{FileBook}
 use Rattle.node_looks.specs.declared.served.NodeCall.{NodeCall}
 use Rattle.node_looks.specs.declared.served.NodeDone.{NodeDone}
@@ -162,3 +166,10 @@ pub same-look : (name : FileName) (next : OnFile) (old : TreeIs) (answer : AttrA
 same-look name next old answer new a shown e asks attrs comes =
     subst (λ (x : LookAnswer). Follows (at_name name next) old (record { answer = a; look = Some x }) new) (sym e)
     (named-look name next old answer new a asks attrs (subst (λ (x : LookAnswer). ComesToBehind next x a) e comes))
+
+-- what the file may do now
+pub open-follows : (reach : Reaching) (r : NodeRequest) (file : OpenFile) (allowed : Allowed) (old : TreeIs) (asked : Asked) (new : TreeIs) → IsAllowed reach file allowed →
+    Follows (errs_if (not allowed.reach) eacces (at_name file.name (tells_file (on_node r file.node) allowed.write))) old asked new → Follows (get_attr_open reach r file) old asked new
+open-follows reach r file allowed old asked new i f =
+    subst (λ (w : Walk NodeVerdict). Follows w old asked new)
+    (λ j. errs_if (not (i.reach_is j)) eacces (at_name file.name (tells_file (on_node r file.node) (i.write_is j)))) f

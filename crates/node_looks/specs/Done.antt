@@ -143,12 +143,12 @@ unasked answer = record { answer = answer; looks = []; now = None; fault = Fault
 
 abbrev pub is_file : Option Handle → Bool
 is_file None = false
-is_file (Some (Handle.File name node read write)) = true
+is_file (Some (Handle.File name node document strict read write)) = true
 is_file (Some (Handle.Folder node names)) = false
 
 abbrev pub is_folder : Option Handle → Bool
 is_folder None = false
-is_folder (Some (Handle.File name node read write)) = false
+is_folder (Some (Handle.File name node document strict read write)) = false
 is_folder (Some (Handle.Folder node names)) = true
 
 -- a request that tells what the kernel no longer remembers

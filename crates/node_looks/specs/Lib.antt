@@ -6,3 +6,4 @@ pub mod Names
 pub mod ReadFiles
 pub mod OpenHandles
 pub mod Done
+pub mod Opened

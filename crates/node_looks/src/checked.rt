@@ -128,8 +128,9 @@ fn in_folder(mask: u32) -> Asked
 
 /// The answer for a file.
 fn in_file<T: HostTree>(tree: &mut T, path: &HostPath, may_write: bool, mask: u32) -> Asked
-    ensures { Follows (at_file path.now (access_file mask path.now may_write)) (T.is tree.old)
-        result (T.is tree.new) }
+    ensures { Follows (at_file path.now
+        (by_denial (executes mask || writes_to mask && not may_write))) (T.is tree.old) result
+        (T.is tree.new) }
 {
     let look = tree.look(path);
     Asked {

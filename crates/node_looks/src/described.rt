@@ -1,20 +1,23 @@
 //! FUSE_GETATTR: the attributes of a node, or of an open file.
 
-ghost use Rattle.std.specs.Prelude.{◌≡◌, IfOk, OnErr, Some, option_copied, None};
+ghost use Rattle.std.specs.Prelude.{◌≡◌, IfOk, OnErr, Some, not, option_copied, None};
 ghost use Rattle.host_tree.specs.Trees.{TreeIs};
 ghost use Rattle.portal_model.specs.declared.request.NodeOp.TheVariants as NodeOp;
 ghost use Rattle.portal_model.specs.Attributes.{on_node};
-ghost use Rattle.portal_model.specs.GetAttr.{get_attr, get_attr_by_handle, get_attr_by_place, tells_file, tells_folder};
-ghost use Rattle.portal_model.specs.NodeVerdict.{at_file, at_name, by_place};
-ghost use Rattle.portal_model.specs.Place.{Folder, place_of};
+ghost use Rattle.portal_model.specs.Errno.{eacces};
+ghost use Rattle.portal_model.specs.GetAttr.{get_attr, get_attr_by_handle, get_attr_by_place, get_attr_open, tells_file, tells_folder};
+ghost use Rattle.portal_model.specs.NodeVerdict.{at_file, at_name, by_place, errs_if};
+ghost use Rattle.portal_model.specs.Place.{Folder, place_of, reach_at};
 ghost use Rattle.portal_model.specs.State.{State};
 ghost use Rattle.app_view.specs.Books.{Lends};
 ghost use Rattle.node_looks.specs.Done.{Does};
+ghost use Rattle.node_looks.specs.Opened.{file_of};
 ghost use Rattle.node_looks.specs.Sights.{sight_of};
 ghost use Rattle.node_looks.specs.Walks.{ComesToBehind, Follows};
 
 use crate::asked::{Asked, done, look_of_attr, refusal, refused, room_for_look, told};
 use crate::attributes::{attr_of_file, attr_of_folder};
+use crate::opened::{OpenFile, allowed_now};
 use crate::served::{FileBook, NodeCall, NodeDone};
 use crate::sight::{SeenPlace, seen_place};
 use app_view::ViewBook;
@@ -24,7 +27,7 @@ use portal_base::files::{FileName, Look};
 use portal_base::memory::WantOfMemory;
 use portal_base::names::HostPath;
 use portal_base::who::Who;
-use portal_model::errno::{EBADF, EIO, ENOENT};
+use portal_model::errno::{EACCES, EBADF, EIO, ENOENT};
 use portal_model::reply::{Answer, NodeAnswer};
 use portal_model::request::{NodeRequest, names_handle};
 use std::alloc::Global;
@@ -33,10 +36,11 @@ use std::alloc::Global;
 /// the number that it names.
 ///
 /// An open file is told by the node that was opened and by whether it may itself be
-/// written, whatever its document and the rights in it have become; an open folder
-/// leaves the request to the node. A number of no handle is EBADF. A file takes one
-/// look at the tree. Of n documents it takes about n steps, and no memory but the
-/// room for that look.
+/// written, whatever its document and the rights in it have become; but that of a
+/// strict document is EACCES where the subject of the node's view may not read the
+/// document now, and goes by its right to write it. An open folder leaves the request
+/// to the node. A number of no handle is EBADF. A file takes one look at the tree. Of n
+/// documents it takes about n steps, and no memory but the room for that look.
 pub fn get_attr<T: HostTree>(
     alloc: Global,
     book: &FileBook,
@@ -66,9 +70,9 @@ fn described<T: HostTree>(
     flags: u32,
     handle: Option<&Handle>,
 ) -> Asked
-    ensures { (s : State) → Lends book.now s → Follows (get_attr request.now flags
-        (place_of s who.now request.now.node) (option_copied handle.entry)) (T.is tree.old) result
-        (T.is tree.new) }
+    ensures { (s : State) → Lends book.now s → Follows (get_attr (reach_at s who.now) request.now
+        flags (place_of s who.now request.now.node) (option_copied handle.entry)) (T.is tree.old)
+        result (T.is tree.new) }
 {
     // By the handle the node of the header isn't looked at.
     if names_handle(flags) {
@@ -86,9 +90,9 @@ fn of_handle<T: HostTree>(
     request: &NodeRequest,
     handle: Option<&Handle>,
 ) -> Asked
-    ensures { (s : State) → Lends book.now s → Follows (get_attr_by_handle request.now
-        (place_of s who.now request.now.node) (option_copied handle.entry)) (T.is tree.old)
-        result (T.is tree.new) }
+    ensures { (s : State) → Lends book.now s → Follows (get_attr_by_handle (reach_at s who.now)
+        request.now (place_of s who.now request.now.node) (option_copied handle.entry))
+        (T.is tree.old) result (T.is tree.new) }
 {
     match handle {
         None => refused(EBADF),
@@ -104,17 +108,29 @@ fn of_open<T: HostTree>(
     request: &NodeRequest,
     handle: &Handle,
 ) -> Asked
-    ensures { (s : State) → Lends book.now s → Follows (get_attr_by_handle request.now
-        (place_of s who.now request.now.node) (Some handle.now)) (T.is tree.old) result
-        (T.is tree.new) }
+    ensures { (s : State) → Lends book.now s → Follows (get_attr_by_handle (reach_at s who.now)
+        request.now (place_of s who.now request.now.node) (Some handle.now)) (T.is tree.old)
+        result (T.is tree.new) }
 {
     match handle {
         Handle::File {
             name,
             node,
+            document,
+            strict,
+            read,
             write,
-            ..
-        } => of_open_file(tree, request, name, *node, *write),
+        } => {
+            let file = OpenFile {
+                name,
+                node: *node,
+                document: *document,
+                strict: *strict,
+                read: *read,
+                write: *write,
+            };
+            of_open_file(book, tree, who, request, file)
+        }
         Handle::Folder { .. } => of_node(book, tree, who, request),
     }
 }
@@ -139,7 +155,7 @@ fn at_place<T: HostTree>(
     place: SeenPlace,
 ) -> Asked
     ensures { Follows (by_place (Some (sight_of book.now who.now place.entry))
-        (λ path may_write. tells_file request.now may_write) (tells_folder request.now))
+        (λ d may_write. tells_file request.now may_write) (tells_folder request.now))
         (T.is tree.old) result (T.is tree.new) }
 {
     match place {
@@ -179,6 +195,48 @@ fn of_file<T: HostTree>(
 
 /// The answer for an open file.
 fn of_open_file<T: HostTree>(
+    book: &ViewBook,
+    tree: &mut T,
+    who: &Who,
+    request: &NodeRequest,
+    file: OpenFile,
+) -> Asked
+    ensures { (s : State) → Lends book.now s → Follows (get_attr_open (reach_at s who.now)
+        request.now (file_of file.entry)) (T.is tree.old) result (T.is tree.new) }
+{
+    let allowed = allowed_now(book, who, file);
+    of_file_where(
+        allowed.reach,
+        tree,
+        request,
+        file.name,
+        file.node,
+        allowed.write,
+    )
+}
+
+/// The answer for an open file that may be told now or not.
+fn of_file_where<T: HostTree>(
+    reaches: bool,
+    tree: &mut T,
+    request: &NodeRequest,
+    name: &FileName,
+    node: u64,
+    may_write: bool,
+) -> Asked
+    ensures { Follows (errs_if (not reaches) eacces
+        (at_name name.now (tells_file (on_node request.now node) may_write))) (T.is tree.old)
+        result (T.is tree.new) }
+{
+    if reaches {
+        of_file_named(tree, request, name, node, may_write)
+    } else {
+        refused(EACCES)
+    }
+}
+
+/// The answer for an open file that may be told.
+fn of_file_named<T: HostTree>(
     tree: &mut T,
     request: &NodeRequest,
     name: &FileName,

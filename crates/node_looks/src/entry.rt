@@ -143,8 +143,7 @@ fn in_folder<T: HostTree>(
 ) -> Asked
     requires { view < 2 ^ 28 }
     ensures { Follows (lookup_in request.now name.now
-        (FolderOf view document.now.id.number document.now.path may_write))
-        (T.is tree.old) result (T.is tree.new) }
+        (FolderOf view document.now may_write)) (T.is tree.old) result (T.is tree.new) }
 {
     if is_name_of(&document.path, name) {
         let node = node_of(Place::File {

@@ -9,13 +9,15 @@
 //!
 //! Served are FUSE_LOOKUP, FUSE_ACCESS, FUSE_GETATTR, FUSE_READ, FUSE_FLUSH,
 //! FUSE_FSYNC and FUSE_READDIR, FUSE_FORGET and FUSE_BATCH_FORGET, FUSE_RELEASE and
-//! FUSE_RELEASEDIR. What goes by a handle goes by the rights that it was opened with.
+//! FUSE_RELEASEDIR. What goes by a handle goes by the rights that it was opened with,
+//! and that of a strict document by those too that there are now.
 //!
 //! | Room | Holds |
 //! |---|---|
 //! | `entry` | [`lookup`]: a name in a folder |
 //! | `checked` | [`access`]: what the caller may do at a node |
 //! | `described` | [`get_attr`]: the attributes of a node, or of an open file |
+//! | `opened` | [`OpenFile`]: an open file, and what it may do now |
 //! | `contents` | [`read`]: the bytes of an open file |
 //! | `synced` | [`flush`] and [`fsync`]: what was written to an open file is to be kept |
 //! | `listed` | [`read_dir`]: the entries of an open folder |
@@ -45,6 +47,7 @@ mod forgotten;
 pub mod handed;
 mod listed;
 mod names;
+pub mod opened;
 mod released;
 pub mod served;
 pub mod sight;
@@ -56,6 +59,7 @@ pub use described::get_attr;
 pub use entry::lookup;
 pub use forgotten::forget;
 pub use listed::read_dir;
+pub use opened::{Allowed, OpenFile};
 pub use released::{release, release_dir};
 pub use served::{FileBook, NodeCall, NodeDone};
 pub use synced::{flush, fsync};

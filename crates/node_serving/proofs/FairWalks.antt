@@ -8,23 +8,25 @@ use Rattle.portal_model.specs.declared.reply.Answer.{Answer}
 use Rattle.portal_model.specs.declared.reply.NodeAnswer.TheVariants as NodeAnswer
 use Rattle.portal_model.specs.declared.request.NodeOp.{NodeOp}
 use Rattle.portal_model.specs.declared.request.NodeRequest.{NodeRequest}
+use Rattle.portal_model.specs.declared.state.Document.{Document}
 use Rattle.portal_model.specs.Access.{access_file, access_folder, executes, writes_to}
 use Rattle.portal_model.specs.Attributes.{attr_of_file, attr_of_folder, on_node}
 use Rattle.portal_model.specs.Create.{create_in, create_there}
 use Rattle.portal_model.specs.Errno.{eacces, ebadf, efbig, einval, eio, eisdir, emfile, enametoolong, enoent, enotdir, eperm}
 use Rattle.portal_model.specs.Fsync.{fsync_open}
-use Rattle.portal_model.specs.GetAttr.{get_attr_by_handle, get_attr_by_place, names_handle, tells_file, tells_folder}
+use Rattle.portal_model.specs.GetAttr.{get_attr_by_handle, get_attr_by_place, get_attr_open, names_handle, tells_file, tells_folder}
 use Rattle.portal_model.specs.Lookup.{entry_of_file, found_folder, lookup_in, named_in_root, named_in_views}
 use Rattle.portal_model.specs.Node.{NodeFacts, node_walk}
-use Rattle.portal_model.specs.NodeVerdict.{NodeVerdict, FilesStay, Resizes, HandleChange, HandlesStay, Opens, Closes, next_handle, Errs, Yields, OnFile, OnHandle, Room, at_file, by_file_handle, by_place, errs, errs_if, if_file, is_too_long, no_file, told}
+use Rattle.portal_model.specs.NodeVerdict.{NodeVerdict, FilesStay, Resizes, HandleChange, HandlesStay, Opens, Closes, next_handle, Errs, Yields, OnFile, OnHandle, Room, at_file, at_name, by_file_handle, by_place, errs, errs_if, if_file, is_too_long, no_file, told}
 use Rattle.portal_model.specs.Open.{file_handle, has_no_mode, open_file, open_folder, open_name, opened_file, opens_to_write, truncates}
 use Rattle.portal_model.specs.OpenDir.{open_dir_in, open_found}
 use Rattle.portal_model.specs.Place.{Folder, RootOf, Views, FolderOf, Sight, SightOfFile, SightOfFolder, file_node}
-use Rattle.portal_model.specs.Read.{read_limit, read_open}
+use Rattle.portal_model.specs.Reach.{OpenFile, Reaching, may_read_now, may_write_now, open_file_of, reaches}
+use Rattle.portal_model.specs.Read.{read_limit, read_name, read_open}
 use Rattle.portal_model.specs.ReadDir.{read_names}
 use Rattle.portal_model.specs.Release.{closed}
 use Rattle.portal_model.specs.ReleaseDir.{release_dir}
-use Rattle.portal_model.specs.SetAttr.{SetsAttr, resize, set_attr_at, set_attr_of, set_attr_of_folder, set_attr_open, sets_by_handle, sets_owner_or_mode, sets_size}
+use Rattle.portal_model.specs.SetAttr.{SetsAttr, resize, set_attr_at, set_attr_of, set_attr_of_folder, set_attr_of_open, set_attr_open, sets_by_handle, sets_owner_or_mode, sets_size}
 use Rattle.portal_model.specs.Walk.{Walk, Answers, Looks, Ends, AtPath, Changes}
 use Rattle.portal_model.specs.Write.{write_content, write_limit, write_open}
 use Rattle.node_serving.specs.Numbered.{handle_given}
@@ -60,15 +62,15 @@ module _ (room : Room) where
   looked next h Look.Folder = refl
   looked next h Look.Missing = refl
 
-  placed : (sight : Option Sight) (file : List ℕ → Bool → OnFile) (folder : Folder → Walk NodeVerdict) → ((path : List ℕ) (may_write : Bool) (generation size moment : ℕ) → Fair room (file path may_write generation size moment)) →
+  placed : (sight : Option Sight) (file : Document → Bool → OnFile) (folder : Folder → Walk NodeVerdict) → ((d : Document) (may_write : Bool) (generation size moment : ℕ) → Fair room (file d may_write generation size moment)) →
       ((f : Folder) → Fair room (folder f)) → Fair room (by_place sight file folder)
   placed None file folder h k = refl
-  placed (Some (SightOfFile path may_write)) file folder h k = looked (file path may_write) (h path may_write)
+  placed (Some (SightOfFile d may_write)) file folder h k = looked (file d may_write) (h d may_write)
   placed (Some (SightOfFolder f)) file folder h k = k f
 
-  handled : (handle : Option Handle) (next : OnHandle) → ((name : FileName) (node : ℕ) (read write : Bool) → Fair room (next name node read write)) → Fair room (by_file_handle handle next)
+  handled : (handle : Option Handle) (next : OnHandle) → ((file : OpenFile) → Fair room (next file)) → Fair room (by_file_handle handle next)
   handled None next h = refl
-  handled (Some (Handle.File name node read write)) next h = h name node read write
+  handled (Some (Handle.File name node document strict read write)) next h = h (open_file_of name node document strict read write)
   handled (Some (Handle.Folder node names)) next h = refl
 
   -- ---- each request
@@ -81,60 +83,71 @@ module _ (room : Room) where
     in_folder : (name : List ℕ) (folder : Folder) → Fair room (lookup_in r name folder)
     in_folder name (RootOf view numbers has_views) = found (named_in_root view numbers has_views name)
     in_folder name (Views applications) = found (named_in_views applications name)
-    in_folder name (FolderOf view number path may_write) =
-        either (is_same name (name_of path)) (at_file path (entry_of_file r (file_node view number) may_write)) (errs enoent)
-        (looked (entry_of_file r (file_node view number) may_write) (λ g s m. refl)) refl
+    in_folder name (FolderOf view d may_write) =
+        either (is_same name (name_of d.path)) (at_file d.path (entry_of_file r (file_node view d.id.number) may_write)) (errs enoent)
+        (looked (entry_of_file r (file_node view d.id.number) may_write) (λ g s m. refl)) refl
 
     attr_at : (sight : Option Sight) → Fair room (get_attr_by_place r sight)
-    attr_at sight = placed sight (λ path may_write. tells_file r may_write) (tells_folder r) (λ path w g s m. refl) (λ f. refl)
+    attr_at sight = placed sight (λ d may_write. tells_file r may_write) (tells_folder r) (λ d w g s m. refl) (λ f. refl)
 
-    attr_by : (sight : Option Sight) (handle : Option Handle) → Fair room (get_attr_by_handle r sight handle)
-    attr_by sight None = refl
-    attr_by sight (Some (Handle.File name node read write)) = looked (tells_file (on_node r node) write) (λ g s m. refl)
-    attr_by sight (Some (Handle.Folder node names)) = attr_at sight
+    attr_open : (reach : Reaching) (file : OpenFile) → Fair room (get_attr_open reach r file)
+    attr_open reach file =
+        refused (not (reaches reach file)) eacces (at_name file.name (tells_file (on_node r file.node) (may_write_now reach file))) refl
+        (looked (tells_file (on_node r file.node) (may_write_now reach file)) (λ g s m. refl))
 
-    size_of : (q : NodeRequest) (a : SetsAttr) (errno : ℕ) (name : FileName) (may_write : Bool) (size moment : ℕ) → (errno == eio) ≡ false → Fair room (set_attr_of q a errno name may_write size moment)
-    size_of q a errno name may_write size moment e =
-        either (sets_size a.valid) (errs_if (not may_write) errno (errs_if (nat_lt a.limit a.size) efbig (resize q a name may_write))) (told (NodeAnswer.Attr (attr_of_file q may_write size moment)))
-        (refused (not may_write) errno (errs_if (nat_lt a.limit a.size) efbig (resize q a name may_write)) e
+    attr_by : (reach : Reaching) (sight : Option Sight) (handle : Option Handle) → Fair room (get_attr_by_handle reach r sight handle)
+    attr_by reach sight None = refl
+    attr_by reach sight (Some (Handle.File name node document strict read write)) = attr_open reach (open_file_of name node document strict read write)
+    attr_by reach sight (Some (Handle.Folder node names)) = attr_at sight
+
+    size_of : (q : NodeRequest) (a : SetsAttr) (name : FileName) (may_write : Bool) (size moment : ℕ) → Fair room (set_attr_of q a name may_write size moment)
+    size_of q a name may_write size moment =
+        either (sets_size a.valid) (errs_if (not may_write) eacces (errs_if (nat_lt a.limit a.size) efbig (resize q a name may_write))) (told (NodeAnswer.Attr (attr_of_file q may_write size moment)))
+        (refused (not may_write) eacces (errs_if (nat_lt a.limit a.size) efbig (resize q a name may_write)) refl
         (refused (nat_lt a.limit a.size) efbig (resize q a name may_write) refl ((λ now. refl), refl))) refl
 
-    sized : (a : SetsAttr) (sight : Option Sight) (handle : Option Handle) → Fair room (cond (sets_by_handle a.valid) (by_file_handle handle (set_attr_open r a)) (by_place sight (set_attr_at r a) (set_attr_of_folder r a)))
-    sized a sight handle =
-        either (sets_by_handle a.valid) (by_file_handle handle (set_attr_open r a)) (by_place sight (set_attr_at r a) (set_attr_of_folder r a))
-        (handled handle (set_attr_open r a) (λ name node read write. looked (λ g s m. set_attr_of (on_node r node) a ebadf name write s m) (λ g s m. size_of (on_node r node) a ebadf name write s m refl)))
-        (placed sight (set_attr_at r a) (set_attr_of_folder r a) (λ path w g s m. size_of r a eacces (record { path = path; generation = g }) w s m refl)
+    size_open : (reach : Reaching) (a : SetsAttr) (file : OpenFile) → Fair room (set_attr_open reach r a file)
+    size_open reach a file =
+        refused (not (reaches reach file)) eacces (at_name file.name (set_attr_of_open reach r a file)) refl
+        (looked (set_attr_of_open reach r a file) (λ g s m. refused (sets_size a.valid && not file.write) ebadf (set_attr_of (on_node r file.node) a file.name (may_write_now reach file) s m) refl
+        (size_of (on_node r file.node) a file.name (may_write_now reach file) s m)))
+
+    sized : (reach : Reaching) (a : SetsAttr) (sight : Option Sight) (handle : Option Handle) → Fair room (cond (sets_by_handle a.valid) (by_file_handle handle (set_attr_open reach r a)) (by_place sight (set_attr_at r a) (set_attr_of_folder r a)))
+    sized reach a sight handle =
+        either (sets_by_handle a.valid) (by_file_handle handle (set_attr_open reach r a)) (by_place sight (set_attr_at r a) (set_attr_of_folder r a))
+        (handled handle (set_attr_open reach r a) (size_open reach a))
+        (placed sight (set_attr_at r a) (set_attr_of_folder r a) (λ d w g s m. size_of r a (record { path = d.path; generation = g }) w s m)
         (λ f. refused (sets_size a.valid) eisdir (told (NodeAnswer.Attr (attr_of_folder r))) refl refl))
 
-    name_opened : (flags : ℕ) (name : FileName) → Fair room (open_name r flags room name)
-    name_opened flags name =
-        either (truncates flags) (Ends (Changes name) (λ now. opened_file room (file_handle name r.node flags) (Resizes name 0 now)) (Errs enoent)) (Answers (opened_file room (file_handle name r.node flags) FilesStay))
+    name_opened : (flags : ℕ) (d : Document) (name : FileName) → Fair room (open_name r flags room d name)
+    name_opened flags d name =
+        either (truncates flags) (Ends (Changes name) (λ now. opened_file room (file_handle d name r.node flags) (Resizes name 0 now)) (Errs enoent)) (Answers (opened_file room (file_handle d name r.node flags) FilesStay))
         ((λ now. refl), refl) refl
 
-    file_opened : (flags : ℕ) (path : List ℕ) (w : Bool) (g s m : ℕ) → Fair room (open_file r flags room path w g s m)
-    file_opened flags path w g s m =
-        let name : FileName = record { path = path; generation = g } in
-        refused (opens_to_write flags && not w) eacces (errs_if room.full emfile (open_name r flags room name)) refl
-        (refused room.full emfile (open_name r flags room name) refl (name_opened flags name))
+    file_opened : (flags : ℕ) (d : Document) (w : Bool) (g s m : ℕ) → Fair room (open_file r flags room d w g s m)
+    file_opened flags d w g s m =
+        let name : FileName = record { path = d.path; generation = g } in
+        refused (opens_to_write flags && not w) eacces (errs_if room.full emfile (open_name r flags room d name)) refl
+        (refused room.full emfile (open_name r flags room d name) refl (name_opened flags d name))
 
-    made_there : (flags : ℕ) (path : List ℕ) (node : ℕ) (look : Look) → Fair room (create_there r flags room path node look)
-    made_there flags path node (Look.File g s m) = refl
-    made_there flags path node Look.Folder = refl
-    made_there flags path node Look.Missing = ((λ now. refl), refl)
+    made_there : (flags : ℕ) (d : Document) (node : ℕ) (look : Look) → Fair room (create_there r flags room d node look)
+    made_there flags d node (Look.File g s m) = refl
+    made_there flags d node Look.Folder = refl
+    made_there flags d node Look.Missing = ((λ now. refl), refl)
 
     made_in : (name : List ℕ) (flags : ℕ) (folder : Folder) → Fair room (create_in r name flags room folder)
     made_in name flags (RootOf view numbers has_views) = refl
     made_in name flags (Views applications) = refl
-    made_in name flags (FolderOf view number path w) =
-        let looks : Walk NodeVerdict = Looks (AtPath path) (create_there r flags room path (file_node view number)) in
-        refused (not (is_same name (name_of path))) eacces (errs_if (not w) eacces (errs_if room.full emfile looks)) refl
+    made_in name flags (FolderOf view d w) =
+        let looks : Walk NodeVerdict = Looks (AtPath d.path) (create_there r flags room d (file_node view d.id.number)) in
+        refused (not (is_same name (name_of d.path))) eacces (errs_if (not w) eacces (errs_if room.full emfile looks)) refl
         (refused (not w) eacces (errs_if room.full emfile looks) refl
-        (refused room.full emfile looks refl (λ look. made_there flags path (file_node view number) look)))
+        (refused room.full emfile looks refl (λ look. made_there flags d (file_node view d.id.number) look)))
 
     folder_opened : (folder : Folder) → Fair room (open_found r room folder)
     folder_opened (RootOf view numbers has_views) = refl
     folder_opened (Views applications) = refl
-    folder_opened (FolderOf view number path w) = λ look. refl
+    folder_opened (FolderOf view d w) = λ look. refl
 
     written_to : (limit offset : ℕ) (content : List ℕ) (name : FileName) → Fair room (write_content limit name offset content)
     written_to limit offset [] name = refl
@@ -142,45 +155,47 @@ module _ (room : Room) where
 
     names_read : (offset size : ℕ) (handle : Option Handle) → Fair room (read_names offset size handle)
     names_read offset size None = refl
-    names_read offset size (Some (Handle.File name node read write)) = refl
+    names_read offset size (Some (Handle.File name node document strict read write)) = refl
     names_read offset size (Some (Handle.Folder node names)) = refl
 
     folder_released : (fh : ℕ) (handle : Option Handle) → Fair room (release_dir fh handle)
     folder_released fh None = refl
-    folder_released fh (Some (Handle.File name node read write)) = refl
+    folder_released fh (Some (Handle.File name node document strict read write)) = refl
     folder_released fh (Some (Handle.Folder node names)) = refl
 
-    abbrev facts : Option Sight → (ℕ → Option Handle) → (FileName → List ℕ) → ℕ → NodeFacts
-    facts sight handle bytes limit = record { sight = sight; handle = handle; bytes = bytes; room = room; file_limit = limit }
+    abbrev facts : Option Sight → (ℕ → Option Handle) → Reaching → (FileName → List ℕ) → ℕ → NodeFacts
+    facts sight handle reach bytes limit = record { sight = sight; handle = handle; reach = reach; bytes = bytes; room = room; file_limit = limit }
 
-    fair : (sight : Option Sight) (handle : ℕ → Option Handle) (bytes : FileName → List ℕ) (limit : ℕ) (op : NodeOp) → Fair room (node_walk (facts sight handle bytes limit) r op)
-    fair sight handle bytes limit (NodeOp.Lookup name) = refused (is_too_long name) enametoolong (by_place sight (no_file enotdir) (lookup_in r name)) refl (placed sight (no_file enotdir) (lookup_in r name) (λ path w g s m. refl) (in_folder name))
-    fair sight handle bytes limit (NodeOp.Forget count) = refl
-    fair sight handle bytes limit (NodeOp.BatchForget nodes) = refl
-    fair sight handle bytes limit (NodeOp.GetAttr flags fh) = either (names_handle flags) (get_attr_by_handle r sight (handle fh)) (get_attr_by_place r sight) (attr_by sight (handle fh)) (attr_at sight)
-    fair sight handle bytes limit (NodeOp.SetAttr valid fh size) =
+    fair : (sight : Option Sight) (handle : ℕ → Option Handle) (reach : Reaching) (bytes : FileName → List ℕ) (limit : ℕ) (op : NodeOp) → Fair room (node_walk (facts sight handle reach bytes limit) r op)
+    fair sight handle reach bytes limit (NodeOp.Lookup name) = refused (is_too_long name) enametoolong (by_place sight (no_file enotdir) (lookup_in r name)) refl (placed sight (no_file enotdir) (lookup_in r name) (λ d w g s m. refl) (in_folder name))
+    fair sight handle reach bytes limit (NodeOp.Forget count) = refl
+    fair sight handle reach bytes limit (NodeOp.BatchForget nodes) = refl
+    fair sight handle reach bytes limit (NodeOp.GetAttr flags fh) = either (names_handle flags) (get_attr_by_handle reach r sight (handle fh)) (get_attr_by_place r sight) (attr_by reach sight (handle fh)) (attr_at sight)
+    fair sight handle reach bytes limit (NodeOp.SetAttr valid fh size) =
         let a : SetsAttr = record { valid = valid; size = size; limit = limit } in
-        refused (sets_owner_or_mode valid) eperm (cond (sets_by_handle valid) (by_file_handle (handle fh) (set_attr_open r a)) (by_place sight (set_attr_at r a) (set_attr_of_folder r a))) refl (sized a sight (handle fh))
-    fair sight handle bytes limit (NodeOp.Open flags) = refused (has_no_mode flags) einval (by_place sight (open_file r flags room) open_folder) refl (placed sight (open_file r flags room) open_folder (file_opened flags) (λ folder. refl))
-    fair sight handle bytes limit (NodeOp.Create name flags) =
+        refused (sets_owner_or_mode valid) eperm (cond (sets_by_handle valid) (by_file_handle (handle fh) (set_attr_open reach r a)) (by_place sight (set_attr_at r a) (set_attr_of_folder r a))) refl (sized reach a sight (handle fh))
+    fair sight handle reach bytes limit (NodeOp.Open flags) = refused (has_no_mode flags) einval (by_place sight (open_file r flags room) open_folder) refl (placed sight (open_file r flags room) open_folder (file_opened flags) (λ folder. refl))
+    fair sight handle reach bytes limit (NodeOp.Create name flags) =
         let there : Walk NodeVerdict = by_place sight (no_file enotdir) (create_in r name flags room) in
         refused (has_no_mode flags) einval (errs_if (is_too_long name) enametoolong there) refl
-        (refused (is_too_long name) enametoolong there refl (placed sight (no_file enotdir) (create_in r name flags room) (λ path w g s m. refl) (made_in name flags)))
-    fair sight handle bytes limit (NodeOp.Read fh offset size) =
-        refused (nat_lt read_limit size) einval (by_file_handle (handle fh) (read_open bytes offset size)) refl
-        (handled (handle fh) (read_open bytes offset size) (λ name node read write. refused (not read) ebadf _ refl ((λ now. refl), refl)))
-    fair sight handle bytes limit (NodeOp.Write fh offset content) =
-        refused (nat_lt write_limit (length content)) einval (by_file_handle (handle fh) (write_open limit offset content)) refl
-        (handled (handle fh) (write_open limit offset content) (λ name node read write. refused (not write) ebadf (write_content limit name offset content) refl (written_to limit offset content name)))
-    fair sight handle bytes limit (NodeOp.Flush fh) = handled (handle fh) (λ name node read write. told NodeAnswer.Empty) (λ name node read write. refl)
-    fair sight handle bytes limit (NodeOp.Fsync fh) = handled (handle fh) fsync_open (λ name node read write. ((λ now. refl), refl))
-    fair sight handle bytes limit (NodeOp.Release fh) = handled (handle fh) (λ name node read write. Answers (closed fh)) (λ name node read write. refl)
-    fair sight handle bytes limit NodeOp.OpenDir = placed sight (no_file enotdir) (open_dir_in r room) (λ path w g s m. refl) (λ folder. refused room.full emfile (open_found r room folder) refl (folder_opened folder))
-    fair sight handle bytes limit (NodeOp.ReadDir fh offset size) = refused (nat_lt read_limit size) einval (read_names offset size (handle fh)) refl (names_read offset size (handle fh))
-    fair sight handle bytes limit (NodeOp.ReleaseDir fh) = folder_released fh (handle fh)
-    fair sight handle bytes limit (NodeOp.Access mask) =
+        (refused (is_too_long name) enametoolong there refl (placed sight (no_file enotdir) (create_in r name flags room) (λ d w g s m. refl) (made_in name flags)))
+    fair sight handle reach bytes limit (NodeOp.Read fh offset size) =
+        refused (nat_lt read_limit size) einval (by_file_handle (handle fh) (read_open reach bytes offset size)) refl
+        (handled (handle fh) (read_open reach bytes offset size) (λ file. refused (not file.read) ebadf (errs_if (not (may_read_now reach file)) eacces (read_name bytes offset size file.name)) refl
+        (refused (not (may_read_now reach file)) eacces (read_name bytes offset size file.name) refl ((λ now. refl), refl))))
+    fair sight handle reach bytes limit (NodeOp.Write fh offset content) =
+        refused (nat_lt write_limit (length content)) einval (by_file_handle (handle fh) (write_open reach limit offset content)) refl
+        (handled (handle fh) (write_open reach limit offset content) (λ file. refused (not file.write) ebadf (errs_if (not (may_write_now reach file)) eacces (write_content limit file.name offset content)) refl
+        (refused (not (may_write_now reach file)) eacces (write_content limit file.name offset content) refl (written_to limit offset content file.name))))
+    fair sight handle reach bytes limit (NodeOp.Flush fh) = handled (handle fh) (λ file. told NodeAnswer.Empty) (λ file. refl)
+    fair sight handle reach bytes limit (NodeOp.Fsync fh) = handled (handle fh) fsync_open (λ file. ((λ now. refl), refl))
+    fair sight handle reach bytes limit (NodeOp.Release fh) = handled (handle fh) (λ file. Answers (closed fh)) (λ file. refl)
+    fair sight handle reach bytes limit NodeOp.OpenDir = placed sight (no_file enotdir) (open_dir_in r room) (λ d w g s m. refl) (λ folder. refused room.full emfile (open_found r room folder) refl (folder_opened folder))
+    fair sight handle reach bytes limit (NodeOp.ReadDir fh offset size) = refused (nat_lt read_limit size) einval (read_names offset size (handle fh)) refl (names_read offset size (handle fh))
+    fair sight handle reach bytes limit (NodeOp.ReleaseDir fh) = folder_released fh (handle fh)
+    fair sight handle reach bytes limit (NodeOp.Access mask) =
         refused (nat_lt 7 mask) einval (by_place sight (access_file mask) (access_folder mask)) refl
-        (placed sight (access_file mask) (access_folder mask) (λ path w g s m. refused (executes mask || writes_to mask && not w) eacces (told NodeAnswer.Empty) refl refl) (λ folder. refused (writes_to mask) eacces (told NodeAnswer.Empty) refl refl))
+        (placed sight (access_file mask) (access_folder mask) (λ d w g s m. refused (executes mask || writes_to mask && not w) eacces (told NodeAnswer.Empty) refl refl) (λ folder. refused (writes_to mask) eacces (told NodeAnswer.Empty) refl refl))
 
 pub fair-walk : (f : NodeFacts) (r : NodeRequest) (op : NodeOp) → Fair f.room (node_walk f r op)
-fair-walk f r op = fair f.room r f.sight f.handle f.bytes f.file_limit op
+fair-walk f r op = fair f.room r f.sight f.handle f.reach f.bytes f.file_limit op

@@ -55,7 +55,7 @@ mount_kind (Some d) c e = by_kind (is_mount d.kind) refl e
 -- ---- answers that are alike
 
 -- an answer but for a content
-abbrev brief : Answer → Answer
+abbrev pub brief : Answer → Answer
 brief (Answer.Node (NodeAnswer.Content bytes)) = Answer.Node (NodeAnswer.Content [])
 brief answer = answer
 
@@ -84,7 +84,7 @@ reads-brief size (Answer.Listed documents) given h = ap brief h
 reads-brief size (Answer.Entry rows datum) given h = ap brief h
 reads-brief size (Answer.Names names) given h = ap brief h
 
-node-brief : (op : NodeOp) (stepped given : Answer) → NodeAlike op stepped given → brief given ≡ brief stepped
+pub node-brief : (op : NodeOp) (stepped given : Answer) → NodeAlike op stepped given → brief given ≡ brief stepped
 node-brief (NodeOp.Read fh offset size) stepped given h = reads-brief size stepped given h
 node-brief (NodeOp.Lookup name) stepped given h = ap brief h
 node-brief (NodeOp.Forget count) stepped given h = ap brief h

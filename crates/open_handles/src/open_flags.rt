@@ -5,6 +5,7 @@ ghost use Rattle.portal_model.specs.Open.{file_handle, has_no_mode, mode_reads, 
 
 use portal_base::files::FileName;
 use portal_model::handle::Handle;
+use portal_model::state::Document;
 
 /// How many modes the two low bits of the flags (O_ACCMODE) tell apart.
 const MODES: u32 = 4;
@@ -19,13 +20,15 @@ const NO_MODE: u32 = 3;
 /// The bit of the flags that says that the file is cut to no bytes.
 const O_TRUNC: u32 = 0o1000;
 
-/// A file that was opened with these flags, at a node.
-pub fn file_handle(name: FileName, node: u64, flags: u32) -> Handle
-    ensures { result ≡ file_handle name node flags }
+/// The file of a document that was opened with these flags, at a node.
+pub fn file_handle(document: &Document, name: FileName, node: u64, flags: u32) -> Handle
+    ensures { result ≡ file_handle document.now name node flags }
 {
     Handle::File {
         name,
         node,
+        document: document.id,
+        strict: document.strict,
         read: mode_reads(flags),
         write: mode_writes(flags),
     }

@@ -42,6 +42,7 @@ valid_untold o began v = record {
   connections_sound = v.connections_sound;
   handles_differ = v.handles_differ;
   handles_sound = v.handles_sound;
+  handles_made = v.handles_made;
   handles_within = v.handles_within;
   entries_differ = v.entries_differ;
   entries_sound = v.entries_sound;

@@ -2,14 +2,19 @@
 -- the application has then, and what goes by the number of a handle goes by the handle that was
 -- opened by that number (FUSE_OPEN and FUSE_READ in include/uapi/linux/fuse.h).
 use Rattle.std.specs.Prelude.{◌≡◌, ℕ, List, ◌∷◌, ◌++◌, true, false, Some}
+use Rattle.app_world.specs.Touched.{is_done}
 use Rattle.file_laws.specs.KeptHandles.{KeepsHandle, goes_by, is_ended_in, number_answered}
 use Rattle.file_laws.specs.Revocations.{IsOpenedByRights, OpensFile}
+use Rattle.file_laws.specs.StrictHandles.{HasRightsFor, file_asked, strict_document}
+use Rattle.portal_base.specs.declared.names.doc_id.DocId.{DocId}
 use Rattle.portal_model.specs.declared.entry.Entry.{Entry}
+use Rattle.portal_model.specs.declared.reply.Reply.{Reply}
 use Rattle.portal_model.specs.declared.request.NodeRequest.{NodeRequest}
 use Rattle.portal_model.specs.declared.request.Request.{Request}
-use Rattle.portal_model.specs.History.{run}
+use Rattle.portal_model.specs.History.{made_by, run}
+use Rattle.portal_model.specs.State.{connection_of, handle_of}
 use Rattle.portal_model.specs.Step.{after, reply_at}
-use Rattle.portal_steps.specs.Story.{Story, state_first}
+use Rattle.portal_steps.specs.Story.{Story, state_first, state_now}
 
 -- Each OPEN of an application that was done, and each earlier entry: what that took of the right to
 -- read the document, and of the right to write it where the OPEN writes or truncates, was given
@@ -37,3 +42,14 @@ GoesByHandles p =
     KeepsHandle opening.seat fh (run (state_first p) before)
     (after (run (state_first p) before) opening)
     (run (after (run (state_first p) before) opening) between) later r
+
+-- What an application reads or writes by the open file of a strict document, and what it asks or
+-- sets of its attributes, is done only where it has the right to read the document in the state
+-- before, and for a WRITE, and for a length that is set, the right to write it too.
+abbrev pub StrictFollows : Story → ℕ → Request → Reply → Type 0
+StrictFollows p seat request reply =
+    (app : List ℕ) (r : NodeRequest) (fh : ℕ) (document : DocId) →
+    made_by app (connection_of (state_now p).connections seat) request ≡ true →
+    request ≡ Request.Node r → file_asked r.op ≡ Some fh →
+    strict_document (handle_of (state_now p).handles seat fh) ≡ Some document →
+    is_done reply.answer ≡ true → HasRightsFor app document r.op (state_now p)

@@ -9,10 +9,11 @@
 //! refusal changes nothing but how often the tree and the keeper were asked, whether
 //! the clock was read, and which words come next; and that the Leave of an open
 //! connection is never refused. An OPEN goes by the rights of its moment, and what goes
-//! by the number of a handle by the handle that was opened by that number. It starts
-//! exactly where the records are good, and else says what is wrong and hands the devices
-//! back; and it opens with any state for which its devices stand. What it lends is what
-//! the state after the history has.
+//! by the number of a handle by the handle that was opened by that number; what an
+//! application does by a handle of a strict document is done only as far as it has the
+//! rights then. It starts exactly where the records are good, and else says what is wrong
+//! and hands the devices back; and it opens with any state for which its devices stand.
+//! What it lends is what the state after the history has.
 //!
 //! | Room | Holds |
 //! |---|---|

@@ -14,7 +14,7 @@ ghost use Rattle.portal_steps.specs.Answered.{Answers, KeepsState, Spends, Tells
 ghost use Rattle.portal_steps.specs.Devices.{TellsFailure, may_ask_in_vain, may_ask_tree_in_vain, may_change_records};
 ghost use Rattle.portal_steps.specs.Documents.{is_document_call};
 ghost use Rattle.portal_steps.specs.Held.{told_files};
-ghost use Rattle.portal_core.specs.OpenFiles.{GoesByHandles, OpensByRights};
+ghost use Rattle.portal_core.specs.OpenFiles.{GoesByHandles, OpensByRights, StrictFollows};
 ghost use Rattle.portal_start.specs.Loading.{AreLists};
 ghost use Rattle.portal_core.specs.Started.{HandsBack, Starts, reopened};
 ghost use Rattle.portal_steps.specs.Story.{HasCause, cost_with, limit_of, state_first, state_now};
@@ -25,7 +25,9 @@ use app_view::ViewBook;
 use change_signals::Outboxes;
 use document_calls::ServedCall;
 use document_records::{Applications, Documents, Grants};
-use file_laws::laws::{no_open_after_a_revocation, older_handles_keep_their_rights};
+use file_laws::laws::{
+    no_open_after_a_revocation, older_handles_keep_their_rights, strict_handles_follow_revocations,
+};
 use file_ops::FileBook;
 use host_tree::HostTree;
 use inode_table::InodeTable;
@@ -272,11 +274,13 @@ impl<T: HostTree, K: Keeper, C: Clock, W: Words> Portal<T, K, C, W> {
     /// CREATE and WRITE may have read the clock. `Full` comes exactly where the history
     /// with this request would cost more than its limit; want of memory may come at any
     /// other request, but not at the Leave of an open connection, which is never
-    /// refused.
+    /// refused. What an application does by a handle of a strict document is done only as
+    /// far as it has the rights in the document then.
     pub fn ask(&mut self, alloc: Global, seat: u32, request: Request) -> Result<Reply, Refused>
         ensures began { self.new.story.began ≡ self.old.story.began }
         ensures opening { self.new.story.opening ≡ self.old.story.opening }
         ensures ok { IfOk result (Answers T.is K.is C.told W.told self.old self.new seat request) }
+        ensures strict { IfOk result (StrictFollows self.old.story seat request) }
         ensures fault { IfOk result (TellsFault (T.is self.old.tree) (T.is self.new.tree)) }
         ensures failure { IfOk result (TellsFailure (T.is self.old.tree) (T.is self.new.tree)
             (K.is self.old.keeper) (K.is self.new.keeper)) }
@@ -306,6 +310,7 @@ impl<T: HostTree, K: Keeper, C: Clock, W: Words> Portal<T, K, C, W> {
         ensures handles { GoesByHandles self.new.story }
     {
         let answered = self.answer(alloc, seat, request);
+        strict_handles_follow_revocations();
         self.known();
         answered
     }
@@ -403,7 +408,7 @@ impl<T: HostTree, K: Keeper, C: Clock, W: Words> Portal<T, K, C, W> {
         let name = who.replica(alloc)?;
         // Besides the Leaves of the connections that are there, for this entry
         // and for the Leave of the new one.
-        self.history.reserve(self.connections.as_slice().len() + 2)?;
+        make_room(&mut self.history, self.connections.as_slice(), 2)?;
         if is_here {
             let refused = entry_made(alloc, seat, Request::Enter { who: name, kind });
             self.history.push(refused);
@@ -440,7 +445,7 @@ impl<T: HostTree, K: Keeper, C: Clock, W: Words> Portal<T, K, C, W> {
             → OnErr result (self.new ≡ self.old) }
     {
         // Room is kept for this entry and for a Leave of each open connection.
-        self.history.reserve(self.connections.as_slice().len() + 1)?;
+        make_room(&mut self.history, self.connections.as_slice(), 1)?;
         let book = FileBook {
             view: ViewBook {
                 documents: &self.documents,
@@ -643,7 +648,7 @@ impl<T: HostTree, K: Keeper, C: Clock, W: Words> Portal<T, K, C, W> {
     {
         let is_here = connection_of(self.connections.as_slice(), seat).is_some();
         if !is_here {
-            self.history.reserve(self.connections.as_slice().len() + 1)?;
+            make_room(&mut self.history, self.connections.as_slice(), 1)?;
             let refused = entry_made(alloc, seat, Request::Leave);
             self.history.push(refused);
             return Ok(silent_reply(alloc, Answer::Refused(Code::NotHere)));
@@ -741,6 +746,27 @@ impl<T: HostTree, K: Keeper, C: Clock, W: Words> Portal<T, K, C, W> {
     }
 }
 
+/// Takes room for `more` entries and for the Leaves of these connections behind them.
+fn make_room(
+    history: &mut History,
+    connections: &[Connection],
+    more: u32,
+) -> Result<(), WantOfMemory>
+    ensures room { OnOk result (length connections.now + more ≤ history.new.spare) }
+    ensures entries { history.new.entries ≡ history.old.entries }
+    ensures limit { history.new.limit ≡ history.old.limit }
+    ensures err { OnErr result (history.new ≡ history.old) }
+{
+    // More entries than a `u32` counts need more memory than there is.
+    let Ok(leaves) = u32::try_from(connections.len()) else {
+        return Err(WantOfMemory);
+    };
+    match leaves.checked_add(more) {
+        Some(count) => history.reserve(count),
+        None => Err(WantOfMemory),
+    }
+}
+
 /// Takes room for an entry and for the Leaves of these connections behind it, and
 /// what the connection of a seat waits for. Want of memory leaves that to wait.
 fn taken(
@@ -758,6 +784,6 @@ fn taken(
     ensures spare { history.old.spare ≤ history.new.spare }
     ensures outboxes { OnErr result (outboxes.new ≡ outboxes.old) }
 {
-    history.reserve(connections.len() + 1)?;
+    make_room(history, connections, 1)?;
     Ok(outboxes.take(seat)?)
 }

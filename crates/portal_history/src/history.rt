@@ -4,7 +4,7 @@
 //! the whole has a limit, and memory for further entries can be taken ahead,
 //! so that an entry is stored by a call that can't fail.
 
-ghost use Rattle.std.specs.Prelude.{◌≡◌, ◌+◌, ◌-◌, ◌<◌, ◌≤◌, [], ◌∷◌, ◌++◌, length, OnOk, OnErr};
+ghost use Rattle.std.specs.Prelude.{◌≡◌, ◌+◌, ◌-◌, ◌<◌, ◌≤◌, [], ◌∷◌, ◌++◌, length, option_copied, slice_get, OnOk, OnErr};
 ghost use Rattle.portal_history.specs.Stored.{Stored};
 ghost use Rattle.portal_model.specs.History.{cost, cost_of as request_cost};
 
@@ -73,6 +73,20 @@ impl History {
         self.entries.len() as u64
     }
 
+    /// The entry at a place, from 0, in the order of the run.
+    pub fn entry(&self, place: u64) -> Option<&Entry>
+        ensures { option_copied result ≡ slice_get self.now.entries place }
+    {
+        self.entries.as_slice().get(place as usize)
+    }
+
+    /// For how many more entries room was taken ahead.
+    pub fn spare(&self) -> u64
+        ensures { result ≡ self.now.spare }
+    {
+        (self.entries.capacity() - self.entries.len()) as u64
+    }
+
     /// What the entries cost together, in bytes.
     pub fn cost(&self) -> u64
         ensures value { result ≡ cost self.now.entries }
@@ -89,14 +103,14 @@ impl History {
     }
 
     /// Takes room for `count` more entries, where there isn't as much.
-    pub fn reserve(&mut self, count: usize) -> Result<(), WantOfMemory>
+    pub fn reserve(&mut self, count: u32) -> Result<(), WantOfMemory>
         ensures ok { OnOk result (count ≤ self.new.spare) }
         ensures err { OnErr result (self.new ≡ self.old) }
         ensures entries { self.new.entries ≡ self.old.entries }
         ensures limit { self.new.limit ≡ self.old.limit }
         ensures spare { self.old.spare ≤ self.new.spare }
     {
-        self.entries.reserve(count)?;
+        self.entries.reserve(count as usize)?;
         Ok(())
     }
 

@@ -26,6 +26,7 @@ use Rattle.portal_model.proofs.ListLookups.{found_in_all}
 use Rattle.portal_model.proofs.GrantValid.{given-sound}
 use Rattle.portal_model.proofs.LiveDocuments.{IsLiveId, live-again}
 use Rattle.portal_model.proofs.OpenHandles.{requeued-handles}
+use Rattle.portal_model.proofs.MadeHandles.{more-made}
 use Rattle.portal_model.proofs.Queues.{dropped-connections, picked, queue_sound, sound-connected}
 use Rattle.portal_model.proofs.SoundParts.{Sound, is_live, sound-lists, sound-valid, valid-sound}
 
@@ -140,6 +141,7 @@ below n l = grind (arith, nat_tests)
 
 new-sound : (d : Document) (s : State) → is_made s.made d.id.number ≡ false → d.id.number < 2 ^ 32 → is_host_path d.path ≡ true → Sound s → Sound (with_new_document d s)
 new-sound d s f l p k = sound-lists s (s.documents ++ d ∷ []) (s.made ++ d.id ∷ []) s.rights s.applications k (documented-new s.documents s.made s.rights s.applications d f (below d.id.number l) p k.documented)
+    (more-made s.made d.id s.handles k.handles_made)
 
 used_made : (who : Who) (a : AddRequest) (path : List ℕ) (done : Added) (id : DocId) → (use_document who a path done (Some id)).state.made ≡ done.state.made
 used_made who a path done id = rights_made who a id done.state

@@ -117,7 +117,7 @@ none_live made n (d ∷ ds) f h =
     let other : (n == d.id.number) ≡ false = not_this made n d.id.number (n == d.id.number) refl f here in
     ap (λ (b : Bool). b || list_any (nat_eq n) (numbers ds)) other ∙ none_live made n ds f rest
 
-still_made : (made : List DocId) (id : DocId) (n : ℕ) → is_made made n ≡ true → is_made (made ++ id ∷ []) n ≡ true
+pub still_made : (made : List DocId) (id : DocId) (n : ℕ) → is_made made n ≡ true → is_made (made ++ id ∷ []) n ≡ true
 still_made made id n h = list_any-append (λ (i : DocId). i.number == n) made (id ∷ []) ∙ ap (λ (x : Bool). x || (id.number == n || false)) h
 
 now_made : (made : List DocId) (id : DocId) → is_made (made ++ id ∷ []) id.number ≡ true

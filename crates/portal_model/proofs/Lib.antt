@@ -10,6 +10,7 @@ pub mod FourTriples
 pub mod RightsLaws
 pub mod DocumentChanges
 pub mod OpenHandles
+pub mod MadeHandles
 pub mod FilesValid
 pub mod NodeWalks
 pub mod NodeValid

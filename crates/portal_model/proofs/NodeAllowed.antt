@@ -14,15 +14,16 @@ use Rattle.portal_model.specs.declared.reply.NodeAnswer.{NodeAnswer}
 use Rattle.portal_model.specs.declared.request.NodeOp.{NodeOp}
 use Rattle.portal_model.specs.declared.request.NodeRequest.{NodeRequest}
 use Rattle.portal_model.specs.declared.state.Connection.{Connection}
+use Rattle.portal_model.specs.declared.state.Document.{Document}
 use Rattle.portal_model.specs.Access.{access, access_file, access_folder, executes, writes_to}
 use Rattle.portal_model.specs.Add.{is_file}
-use Rattle.portal_model.specs.Allowed.{always, at_sight, has_child, has_file, has_named, is_file_handle, is_folder_handle, is_free, is_missing, is_refusal, may_access, may_ask_at, may_ask_node, may_create_in, may_get_attr, may_set_attr, may_write_to, never, on_handle, within}
+use Rattle.portal_model.specs.Allowed.{always, at_sight, has_child, has_file, has_named, is_file_handle, is_folder_handle, is_free, is_missing, is_refusal, may_access, may_ask_at, may_ask_node, may_create_in, may_get_attr, may_set_attr, may_set_open, may_write_to, never, on_handle, within}
 use Rattle.portal_model.specs.Attributes.{attr_of_file, attr_of_folder, on_node}
 use Rattle.portal_model.specs.Bus.{is_tree, moment_given}
 use Rattle.portal_model.specs.Create.{create, create_in, create_there}
 use Rattle.portal_model.specs.Errno.{eacces, ebadf, efbig, einval, eisdir, emfile, enametoolong, enoent, enotdir, eperm}
 use Rattle.portal_model.specs.Fsync.{fsync, fsync_open}
-use Rattle.portal_model.specs.GetAttr.{get_attr_by_handle, get_attr_by_place, names_handle, tells_file, tells_folder}
+use Rattle.portal_model.specs.GetAttr.{get_attr_by_handle, get_attr_by_place, get_attr_open, names_handle, tells_file, tells_folder}
 use Rattle.portal_model.specs.Lookup.{entry_of_file, found_folder, lookup_in, named_in_root, named_in_views}
 use Rattle.portal_model.specs.Node.{NodeFacts, facts_of, node_answer, node_given, node_walk, settled_on_node, walk_on_node}
 use Rattle.portal_model.specs.NodeLaws.{ToldForNode}
@@ -31,11 +32,12 @@ use Rattle.portal_model.specs.NodeVerdict.{NodeVerdict, FilesStay, Resizes, Errs
 use Rattle.portal_model.specs.Open.{file_handle, has_no_mode, opened_file, open_file, open_folder, open_name, open_node, opens_to_write, truncates}
 use Rattle.portal_model.specs.OpenDir.{open_dir, open_dir_in, open_found}
 use Rattle.portal_model.specs.Outside.{files_told}
-use Rattle.portal_model.specs.Place.{Folder, RootOf, Views, FolderOf, Sight, SightOfFile, SightOfFolder, file_node, place_of}
+use Rattle.portal_model.specs.Place.{Folder, RootOf, Views, FolderOf, Sight, SightOfFile, SightOfFolder, file_node, place_of, reach_at}
+use Rattle.portal_model.specs.Reach.{OpenFile, may_read_now, may_write_now, open_file_of, reaches}
 use Rattle.portal_model.specs.Read.{read, read_limit, read_open}
 use Rattle.portal_model.specs.ReadDir.{read_names}
 use Rattle.portal_model.specs.ReleaseDir.{release_dir}
-use Rattle.portal_model.specs.SetAttr.{SetsAttr, resize, set_attr, set_attr_at, set_attr_of, set_attr_of_folder, set_attr_open, sets_by_handle, sets_owner_or_mode, sets_size}
+use Rattle.portal_model.specs.SetAttr.{SetsAttr, resize, set_attr, set_attr_at, set_attr_of, set_attr_of_folder, set_attr_of_open, set_attr_open, sets_by_handle, sets_owner_or_mode, sets_size}
 use Rattle.portal_model.specs.State.{State, handle_of}
 use Rattle.portal_model.specs.Valid.{is_none}
 use Rattle.portal_model.specs.Walk.{Walk, Answers, Looks, Ends, AtPath, Changes, Gives, is_found, look_of_file, looks_shown, shown_at, walked}
@@ -102,6 +104,16 @@ not_both_told : (b : Bool) {X : Type 0} → b ≡ true → b ≡ false → X
 not_both_told true t u = cc
 not_both_told false t u = cc
 
+twice_not : (b : Bool) → b ≡ true → not (not b) ≡ true
+twice_not true e = refl
+twice_not false e = cc
+
+-- what may be written now may be written
+set_written : (sets write more : Bool) → (not sets || (write && more)) ≡ true → not (sets && not write) ≡ true
+set_written true true more e = refl
+set_written true false more e = cc
+set_written false write more e = refl
+
 -- the walk asks no more, and ends well
 abbrev EndsWell : Walk NodeVerdict → Type 0
 EndsWell (Answers x) = is_done x ≡ true
@@ -151,27 +163,28 @@ module _ (s : State) (none : s.told ≡ false → s.files ≡ []) (now : ℕ) wh
   name_done : (name : FileName) (next : OnFile) → has_named s name ≡ true → ((generation size moment : ℕ) → D (next generation size moment)) → D (at_name name next)
   name_done name next e h = (inl (named_told name e), named_look next (file_named s.files name) e h)
 
-  place_done : (sight : Option Sight) (may_file : Bool → Bool) (may_folder : Folder → Bool) (file : List ℕ → Bool → OnFile) (folder : Folder → Walk NodeVerdict) → at_sight s may_file may_folder sight ≡ true →
-      ((path : List ℕ) (may_write : Bool) → may_file may_write ≡ true → (generation size moment : ℕ) → has_named s (record { path = path; generation = generation }) ≡ true → D (file path may_write generation size moment)) →
+  place_done : (sight : Option Sight) (may_file : Bool → Bool) (may_folder : Folder → Bool) (file : Document → Bool → OnFile) (folder : Folder → Walk NodeVerdict) → at_sight s may_file may_folder sight ≡ true →
+      ((d : Document) (may_write : Bool) → may_file may_write ≡ true → (generation size moment : ℕ) → has_named s (record { path = d.path; generation = generation }) ≡ true → D (file d may_write generation size moment)) →
       ((f : Folder) → may_folder f ≡ true → D (folder f)) → D (by_place sight file folder)
   place_done None may_file may_folder file folder e h k = cc
-  place_done (Some (SightOfFile path may_write)) may_file may_folder file folder e h k =
-      let parts = both_of (has_file s path) (may_file may_write) e in
-      file_done path (file path may_write) parts.0 (h path may_write parts.1)
+  place_done (Some (SightOfFile d may_write)) may_file may_folder file folder e h k =
+      let parts = both_of (has_file s d.path) (may_file may_write) e in
+      file_done d.path (file d may_write) parts.0 (h d may_write parts.1)
   place_done (Some (SightOfFolder f)) may_file may_folder file folder e h k = k f e
 
   -- of a file that is there
-  handle_done : (handle : Option Handle) (asked : Bool → Bool → Bool) (next : OnHandle) → on_handle s asked handle ≡ true →
-      ((name : FileName) (node : ℕ) (may_read may_write : Bool) → asked may_read may_write ≡ true → has_named s name ≡ true → D (next name node may_read may_write)) → D (by_file_handle handle next)
+  handle_done : (handle : Option Handle) (asked : OpenFile → Bool) (next : OnHandle) → on_handle s asked handle ≡ true →
+      ((file : OpenFile) → asked file ≡ true → has_named s file.name ≡ true → D (next file)) → D (by_file_handle handle next)
   handle_done None asked next e h = cc
-  handle_done (Some (Handle.File name node may_read may_write)) asked next e h =
-      let parts = both_of (asked may_read may_write) (has_named s name) e in
-      h name node may_read may_write parts.0 parts.1
+  handle_done (Some (Handle.File name node document strict read write)) asked next e h =
+      let file : OpenFile = open_file_of name node document strict read write in
+      let parts = both_of (asked file) (has_named s name) e in
+      h file parts.0 parts.1
   handle_done (Some (Handle.Folder node names)) asked next e h = cc
 
-  any_handle_done : (handle : Option Handle) (next : OnHandle) → is_file_handle handle ≡ true → ((name : FileName) (node : ℕ) (may_read may_write : Bool) → D (next name node may_read may_write)) → D (by_file_handle handle next)
+  any_handle_done : (handle : Option Handle) (next : OnHandle) → is_file_handle handle ≡ true → ((file : OpenFile) → D (next file)) → D (by_file_handle handle next)
   any_handle_done None next e h = cc
-  any_handle_done (Some (Handle.File name node may_read may_write)) next e h = h name node may_read may_write
+  any_handle_done (Some (Handle.File name node document strict read write)) next e h = h (open_file_of name node document strict read write)
   any_handle_done (Some (Handle.Folder node names)) next e h = cc
 
   -- a last call that finds what it needs
@@ -187,61 +200,73 @@ module _ (s : State) (none : s.told ≡ false → s.files ≡ []) (now : ℕ) wh
     lookup_done : (name : List ℕ) (folder : Folder) → has_child s name folder ≡ true → D (lookup_in r name folder)
     lookup_done name (RootOf view numbers has_views) e = found_done (named_in_root view numbers has_views name) e
     lookup_done name (Views applications) e = found_done (named_in_views applications name) e
-    lookup_done name (FolderOf view number path may_write) e =
-        let parts = both_of (is_same name (name_of path)) (has_file s path) e in
-        let file = at_file path (entry_of_file r (file_node view number) may_write) in
+    lookup_done name (FolderOf view d may_write) e =
+        let parts = both_of (is_same name (name_of d.path)) (has_file s d.path) e in
+        let file = at_file d.path (entry_of_file r (file_node view d.id.number) may_write) in
         subst (λ (b : Bool). D (cond b file (errs enoent))) (sym parts.0)
-        (file_done path (entry_of_file r (file_node view number) may_write) parts.1 (λ g n m there. refl))
+        (file_done d.path (entry_of_file r (file_node view d.id.number) may_write) parts.1 (λ g n m there. refl))
 
     attr_done : (sight : Option Sight) → at_sight s always always sight ≡ true → D (get_attr_by_place r sight)
-    attr_done sight e = place_done sight always always (λ path may_write. tells_file r may_write) (tells_folder r) e (λ path w k g n m there. refl) (λ folder k. refl)
+    attr_done sight e = place_done sight always always (λ d may_write. tells_file r may_write) (tells_folder r) e (λ d w k g n m there. refl) (λ folder k. refl)
 
-    handle_attr_done : (sight : Option Sight) (handle : Option Handle) → (on_handle s (λ may_read may_write. true) handle || (is_folder_handle handle && at_sight s always always sight)) ≡ true → D (get_attr_by_handle r sight handle)
+    open_attr_done : (file : OpenFile) → reaches f.reach file ≡ true → has_named s file.name ≡ true → D (get_attr_open f.reach r file)
+    open_attr_done file e there =
+        checked (not (reaches f.reach file)) eacces _ (twice_not (reaches f.reach file) e)
+        (name_done file.name (tells_file (on_node r file.node) (may_write_now f.reach file)) there (λ g n m. refl))
+
+    handle_attr_done : (sight : Option Sight) (handle : Option Handle) → (on_handle s (reaches f.reach) handle || (is_folder_handle handle && at_sight s always always sight)) ≡ true → D (get_attr_by_handle f.reach r sight handle)
     handle_attr_done sight None e = cc
-    handle_attr_done sight (Some (Handle.File name node may_read may_write)) e = name_done name (tells_file (on_node r node) may_write) (first (has_named s name) e) (λ g n m. refl)
+    handle_attr_done sight (Some (Handle.File name node document strict read write)) e =
+        let file : OpenFile = open_file_of name node document strict read write in
+        let parts = both_of (reaches f.reach file) (has_named s name) (first (reaches f.reach file && has_named s name) e) in
+        open_attr_done file parts.0 parts.1
       where
         first : (b : Bool) → (b || false) ≡ true → b ≡ true
         first true k = refl
         first false k = cc
     handle_attr_done sight (Some (Handle.Folder node names)) e = attr_done sight e
 
-    get_attr_done : (b : Bool) (sight : Option Sight) (handle : Option Handle) → may_get_attr s b sight handle ≡ true → D (cond b (get_attr_by_handle r sight handle) (get_attr_by_place r sight))
+    get_attr_done : (b : Bool) (sight : Option Sight) (handle : Option Handle) → may_get_attr s f.reach b sight handle ≡ true → D (cond b (get_attr_by_handle f.reach r sight handle) (get_attr_by_place r sight))
     get_attr_done true sight handle e = handle_attr_done sight handle e
     get_attr_done false sight handle e = attr_done sight e
 
     -- a length that is set, of a file that is there
-    size_done : (q : NodeRequest) (a : SetsAttr) (errno : ℕ) (name : FileName) (may_write : Bool) (size moment : ℕ) → (not (sets_size a.valid) || may_write) ≡ true → (not (sets_size a.valid) || not (nat_lt a.limit a.size)) ≡ true →
-        has_named s name ≡ true → D (set_attr_of q a errno name may_write size moment)
-    size_done q a errno name may_write size moment w l n = elim (sets_size a.valid) as (λ b. (not b || may_write) ≡ true → (not b || not (nat_lt a.limit a.size)) ≡ true →
-        D (cond b (errs_if (not may_write) errno (errs_if (nat_lt a.limit a.size) efbig (resize q a name may_write))) (told (NodeAnswer.Attr (attr_of_file q may_write size moment))))) [
+    size_done : (q : NodeRequest) (a : SetsAttr) (name : FileName) (may_write : Bool) (size moment : ℕ) → (not (sets_size a.valid) || may_write) ≡ true → (not (sets_size a.valid) || not (nat_lt a.limit a.size)) ≡ true →
+        has_named s name ≡ true → D (set_attr_of q a name may_write size moment)
+    size_done q a name may_write size moment w l n = elim (sets_size a.valid) as (λ b. (not b || may_write) ≡ true → (not b || not (nat_lt a.limit a.size)) ≡ true →
+        D (cond b (errs_if (not may_write) eacces (errs_if (nat_lt a.limit a.size) efbig (resize q a name may_write))) (told (NodeAnswer.Attr (attr_of_file q may_write size moment))))) [
           | true ↦ λ w l.
-              checked (not may_write) errno (errs_if (nat_lt a.limit a.size) efbig (resize q a name may_write)) (twice may_write w)
+              checked (not may_write) eacces (errs_if (nat_lt a.limit a.size) efbig (resize q a name may_write)) (twice_not may_write w)
               (checked (nat_lt a.limit a.size) efbig (resize q a name may_write) l (named_told name n, ended (has_named s name) _ _ n refl))
           | false ↦ λ w l. refl
         ] w l
-      where
-        twice : (b : Bool) → b ≡ true → not (not b) ≡ true
-        twice true e = refl
-        twice false e = cc
+
+    -- a length of an open file, which has to be one that may be written
+    open_size_done : (a : SetsAttr) (file : OpenFile) → may_set_open f.reach a.valid file ≡ true → (not (sets_size a.valid) || not (nat_lt a.limit a.size)) ≡ true → has_named s file.name ≡ true → D (set_attr_open f.reach r a file)
+    open_size_done a file e l there =
+        let parts = both_of (reaches f.reach file) (not (sets_size a.valid) || may_write_now f.reach file) e in
+        checked (not (reaches f.reach file)) eacces (at_name file.name (set_attr_of_open f.reach r a file)) (twice_not (reaches f.reach file) parts.0)
+        (name_done file.name (set_attr_of_open f.reach r a file) there (λ g n m.
+        checked (sets_size a.valid && not file.write) ebadf (set_attr_of (on_node r file.node) a file.name (may_write_now f.reach file) n m) (set_written (sets_size a.valid) file.write _ parts.1)
+        (size_done (on_node r file.node) a file.name (may_write_now f.reach file) n m parts.1 l there)))
 
     folder_size_done : (a : SetsAttr) (folder : Folder) → not (sets_size a.valid) ≡ true → D (set_attr_of_folder r a folder)
     folder_size_done a folder e = checked (sets_size a.valid) eisdir (told (NodeAnswer.Attr (attr_of_folder r))) e refl
 
-    set_attr_done : (a : SetsAttr) (sight : Option Sight) (handle : Option Handle) → may_set_attr s a.valid sight handle ≡ true → (not (sets_size a.valid) || not (nat_lt a.limit a.size)) ≡ true → D (set_attr r a sight handle)
+    set_attr_done : (a : SetsAttr) (sight : Option Sight) (handle : Option Handle) → may_set_attr s f.reach a.valid sight handle ≡ true → (not (sets_size a.valid) || not (nat_lt a.limit a.size)) ≡ true → D (set_attr f.reach r a sight handle)
     set_attr_done a sight handle e l =
-        let by_one = on_handle s (λ may_read may_write. not (sets_size a.valid) || may_write) handle in
+        let by_one = on_handle s (may_set_open f.reach a.valid) handle in
         let by_other = at_sight s (λ may_write. not (sets_size a.valid) || may_write) (λ folder. not (sets_size a.valid)) sight in
         let parts = both_of (not (sets_owner_or_mode a.valid)) (cond (sets_by_handle a.valid) by_one by_other) e in
-        checked (sets_owner_or_mode a.valid) eperm (cond (sets_by_handle a.valid) (by_file_handle handle (set_attr_open r a)) (by_place sight (set_attr_at r a) (set_attr_of_folder r a))) parts.0
-        (elim (sets_by_handle a.valid) as (λ b. cond b by_one by_other ≡ true → D (cond b (by_file_handle handle (set_attr_open r a)) (by_place sight (set_attr_at r a) (set_attr_of_folder r a)))) [
-          | true ↦ λ k. handle_done handle (λ may_read may_write. not (sets_size a.valid) || may_write) (set_attr_open r a) k
-              (λ name node may_read may_write w there. name_done name (λ g n m. set_attr_of (on_node r node) a ebadf name may_write n m) there (λ g n m. size_done (on_node r node) a ebadf name may_write n m w l there))
+        checked (sets_owner_or_mode a.valid) eperm (cond (sets_by_handle a.valid) (by_file_handle handle (set_attr_open f.reach r a)) (by_place sight (set_attr_at r a) (set_attr_of_folder r a))) parts.0
+        (elim (sets_by_handle a.valid) as (λ b. cond b by_one by_other ≡ true → D (cond b (by_file_handle handle (set_attr_open f.reach r a)) (by_place sight (set_attr_at r a) (set_attr_of_folder r a)))) [
+          | true ↦ λ k. handle_done handle (may_set_open f.reach a.valid) (set_attr_open f.reach r a) k (λ file w there. open_size_done a file w l there)
           | false ↦ λ k. place_done sight (λ may_write. not (sets_size a.valid) || may_write) (λ folder. not (sets_size a.valid)) (set_attr_at r a) (set_attr_of_folder r a) k
-              (λ path may_write w g n m there. size_done r a eacces (record { path = path; generation = g }) may_write n m w l there) (λ folder w. folder_size_done a folder w)
+              (λ d may_write w g n m there. size_done r a (record { path = d.path; generation = g }) may_write n m w l there) (λ folder w. folder_size_done a folder w)
         ] parts.1)
 
-    open_name_done : (flags : ℕ) (name : FileName) → has_named s name ≡ true → D (open_name r flags f.room name)
-    open_name_done flags name there = elim (truncates flags) as (λ b. D (cond b (Ends (Changes name) (λ now. opened_file f.room (file_handle name r.node flags) (Resizes name 0 now)) (Errs enoent)) (Answers (opened_file f.room (file_handle name r.node flags) FilesStay)))) [
+    open_name_done : (flags : ℕ) (d : Document) (name : FileName) → has_named s name ≡ true → D (open_name r flags f.room d name)
+    open_name_done flags d name there = elim (truncates flags) as (λ b. D (cond b (Ends (Changes name) (λ now. opened_file f.room (file_handle d name r.node flags) (Resizes name 0 now)) (Errs enoent)) (Answers (opened_file f.room (file_handle d name r.node flags) FilesStay)))) [
       | true ↦ (named_told name there, ended (has_named s name) _ _ there refl)
       | false ↦ refl
     ]
@@ -251,32 +276,28 @@ module _ (s : State) (none : s.told ≡ false → s.files ≡ []) (now : ℕ) wh
         let parts = both_of (not (has_no_mode flags)) (at_sight s (λ may_write. not (opens_to_write flags) || may_write) never sight) e in
         checked (has_no_mode flags) einval (by_place sight (open_file r flags f.room) open_folder) parts.0
         (place_done sight (λ may_write. not (opens_to_write flags) || may_write) never (open_file r flags f.room) open_folder parts.1
-        (λ path may_write w g n m there.
-        let name : FileName = record { path = path; generation = g } in
-        checked (opens_to_write flags && not may_write) eacces (errs_if f.room.full emfile (open_name r flags f.room name)) (not_both (opens_to_write flags) may_write w)
-        (checked f.room.full emfile (open_name r flags f.room name) room (open_name_done flags name there)))
+        (λ d may_write w g n m there.
+        let name : FileName = record { path = d.path; generation = g } in
+        checked (opens_to_write flags && not may_write) eacces (errs_if f.room.full emfile (open_name r flags f.room d name)) (not_both (opens_to_write flags) may_write w)
+        (checked f.room.full emfile (open_name r flags f.room d name) room (open_name_done flags d name there)))
         (λ folder k. cc))
 
-    there_done : (flags : ℕ) (path : List ℕ) (node : ℕ) (look : Look) → s.told ≡ true → is_missing look ≡ true → has_room s.files path ≡ true → D (create_there r flags f.room path node look)
-    there_done flags path node (Look.File g n m) t e k = cc
-    there_done flags path node Look.Folder t e k = cc
-    there_done flags path node Look.Missing t e k = (t, ended (has_room s.files path) _ _ k refl)
-
-    twice_not : (b : Bool) → b ≡ true → not (not b) ≡ true
-    twice_not true e = refl
-    twice_not false e = cc
+    there_done : (flags : ℕ) (d : Document) (node : ℕ) (look : Look) → s.told ≡ true → is_missing look ≡ true → has_room s.files d.path ≡ true → D (create_there r flags f.room d node look)
+    there_done flags d node (Look.File g n m) t e k = cc
+    there_done flags d node Look.Folder t e k = cc
+    there_done flags d node Look.Missing t e k = (t, ended (has_room s.files d.path) _ _ k refl)
 
     create_in_done : (name : List ℕ) (flags : ℕ) (folder : Folder) → s.told ≡ true → may_create_in s name folder ≡ true → not f.room.full ≡ true → D (create_in r name flags f.room folder)
     create_in_done name flags (RootOf view numbers has_views) t e room = cc
     create_in_done name flags (Views applications) t e room = cc
-    create_in_done name flags (FolderOf view number path may_write) t e room =
-        let first = both_of (is_same name (name_of path)) (may_write && is_free s path) e in
-        let second = both_of may_write (is_free s path) first.1 in
-        let free = both_of (is_missing (look_at s.files path)) (has_room s.files path) second.1 in
-        let there = Looks (AtPath path) (create_there r flags f.room path (file_node view number)) in
-        checked (not (is_same name (name_of path))) eacces (errs_if (not may_write) eacces (errs_if f.room.full emfile there)) (twice_not (is_same name (name_of path)) first.0)
+    create_in_done name flags (FolderOf view d may_write) t e room =
+        let first = both_of (is_same name (name_of d.path)) (may_write && is_free s d.path) e in
+        let second = both_of may_write (is_free s d.path) first.1 in
+        let free = both_of (is_missing (look_at s.files d.path)) (has_room s.files d.path) second.1 in
+        let there = Looks (AtPath d.path) (create_there r flags f.room d (file_node view d.id.number)) in
+        checked (not (is_same name (name_of d.path))) eacces (errs_if (not may_write) eacces (errs_if f.room.full emfile there)) (twice_not (is_same name (name_of d.path)) first.0)
         (checked (not may_write) eacces (errs_if f.room.full emfile there) (twice_not may_write second.0)
-        (checked f.room.full emfile there room (inl t, there_done flags path (file_node view number) (look_at s.files path) t free.0 free.1)))
+        (checked f.room.full emfile there room (inl t, there_done flags d (file_node view d.id.number) (look_at s.files d.path) t free.0 free.1)))
 
     create_done : (name : List ℕ) (flags : ℕ) (sight : Option Sight) → s.told ≡ true → (not (has_no_mode flags) && (not (is_too_long name) && at_sight s never (may_create_in s name) sight)) ≡ true → not f.room.full ≡ true → D (create r name flags sight f.room)
     create_done name flags sight t e room =
@@ -285,48 +306,51 @@ module _ (s : State) (none : s.told ≡ false → s.files ≡ []) (now : ℕ) wh
         let place = by_place sight (no_file enotdir) (create_in r name flags f.room) in
         checked (has_no_mode flags) einval (errs_if (is_too_long name) enametoolong place) first.0
         (checked (is_too_long name) enametoolong place second.0
-        (place_done sight never (may_create_in s name) (no_file enotdir) (create_in r name flags f.room) second.1 (λ path w k g n m there. cc) (λ folder k. create_in_done name flags folder t k room)))
+        (place_done sight never (may_create_in s name) (no_file enotdir) (create_in r name flags f.room) second.1 (λ d w k g n m there. cc) (λ folder k. create_in_done name flags folder t k room)))
 
     found_dir_done : (folder : Folder) → D (open_found r f.room folder)
     found_dir_done (RootOf view numbers has_views) = refl
     found_dir_done (Views applications) = refl
-    found_dir_done (FolderOf view number path may_write) = (inr (λ look. refl), refl)
+    found_dir_done (FolderOf view d may_write) = (inr (λ look. refl), refl)
 
     open_dir_done : (sight : Option Sight) → at_sight s never always sight ≡ true → not f.room.full ≡ true → D (open_dir r sight f.room)
-    open_dir_done sight e room = place_done sight never always (no_file enotdir) (open_dir_in r f.room) e (λ path w k g n m there. cc)
+    open_dir_done sight e room = place_done sight never always (no_file enotdir) (open_dir_in r f.room) e (λ d w k g n m there. cc)
         (λ folder k. checked f.room.full emfile (open_found r f.room folder) room (found_dir_done folder))
 
-    read_done : (offset size : ℕ) (handle : Option Handle) → (not (nat_lt read_limit size) && on_handle s (λ may_read may_write. may_read) handle) ≡ true → D (read f.bytes offset size handle)
+    read_done : (offset size : ℕ) (handle : Option Handle) → (not (nat_lt read_limit size) && on_handle s (may_read_now f.reach) handle) ≡ true → D (read f.reach f.bytes offset size handle)
     read_done offset size handle e =
-        let parts = both_of (not (nat_lt read_limit size)) (on_handle s (λ may_read may_write. may_read) handle) e in
-        checked (nat_lt read_limit size) einval (by_file_handle handle (read_open f.bytes offset size)) parts.0
-        (handle_done handle (λ may_read may_write. may_read) (read_open f.bytes offset size) parts.1 (λ name node may_read may_write w there.
-        checked (not may_read) ebadf _ (twice_not may_read w) (named_told name there, ended (has_named s name) _ _ there refl)))
+        let parts = both_of (not (nat_lt read_limit size)) (on_handle s (may_read_now f.reach) handle) e in
+        checked (nat_lt read_limit size) einval (by_file_handle handle (read_open f.reach f.bytes offset size)) parts.0
+        (handle_done handle (may_read_now f.reach) (read_open f.reach f.bytes offset size) parts.1 (λ file w there.
+        checked (not file.read) ebadf _ (twice_not file.read (both_of file.read (reaches f.reach file) w).0)
+        (checked (not (may_read_now f.reach file)) eacces _ (twice_not (may_read_now f.reach file) w) (named_told file.name there, ended (has_named s file.name) _ _ there refl))))
 
     content_done : (name : FileName) (offset : ℕ) (content : List ℕ) → (is_none content || has_named s name) ≡ true → (is_none content || not (nat_lt f.file_limit (offset + length content))) ≡ true → D (write_content f.file_limit name offset content)
     content_done name offset [] e l = refl
     content_done name offset (b ∷ bs) e l = checked (nat_lt f.file_limit (offset + length (b ∷ bs))) efbig _ l (named_told name e, ended (has_named s name) _ _ e refl)
 
-    write_to_done : (offset : ℕ) (content : List ℕ) (handle : Option Handle) → may_write_to s content handle ≡ true → (is_none content || not (nat_lt f.file_limit (offset + length content))) ≡ true → D (by_file_handle handle (write_open f.file_limit offset content))
+    write_to_done : (offset : ℕ) (content : List ℕ) (handle : Option Handle) → may_write_to s f.reach content handle ≡ true → (is_none content || not (nat_lt f.file_limit (offset + length content))) ≡ true → D (by_file_handle handle (write_open f.reach f.file_limit offset content))
     write_to_done offset content None e l = cc
-    write_to_done offset content (Some (Handle.File name node may_read may_write)) e l =
-        let parts = both_of may_write (is_none content || has_named s name) e in
-        checked (not may_write) ebadf (write_content f.file_limit name offset content) (twice_not may_write parts.0) (content_done name offset content parts.1 l)
+    write_to_done offset content (Some (Handle.File name node document strict may_read may_write)) e l =
+        let file : OpenFile = open_file_of name node document strict may_read may_write in
+        let parts = both_of (may_write_now f.reach file) (is_none content || has_named s name) e in
+        checked (not may_write) ebadf _ (twice_not may_write (both_of may_write _ parts.0).0)
+        (checked (not (may_write_now f.reach file)) eacces (write_content f.file_limit name offset content) (twice_not (may_write_now f.reach file) parts.0) (content_done name offset content parts.1 l))
     write_to_done offset content (Some (Handle.Folder node names)) e l = cc
 
-    write_done : (offset : ℕ) (content : List ℕ) (handle : Option Handle) → (not (nat_lt write_limit (length content)) && may_write_to s content handle) ≡ true → (is_none content || not (nat_lt f.file_limit (offset + length content))) ≡ true → D (write f.file_limit offset content handle)
+    write_done : (offset : ℕ) (content : List ℕ) (handle : Option Handle) → (not (nat_lt write_limit (length content)) && may_write_to s f.reach content handle) ≡ true → (is_none content || not (nat_lt f.file_limit (offset + length content))) ≡ true → D (write f.reach f.file_limit offset content handle)
     write_done offset content handle e l =
-        let parts = both_of (not (nat_lt write_limit (length content))) (may_write_to s content handle) e in
-        checked (nat_lt write_limit (length content)) einval (by_file_handle handle (write_open f.file_limit offset content)) parts.0 (write_to_done offset content handle parts.1 l)
+        let parts = both_of (not (nat_lt write_limit (length content))) (may_write_to s f.reach content handle) e in
+        checked (nat_lt write_limit (length content)) einval (by_file_handle handle (write_open f.reach f.file_limit offset content)) parts.0 (write_to_done offset content handle parts.1 l)
 
     names_done : (offset size : ℕ) (handle : Option Handle) → is_folder_handle handle ≡ true → D (read_names offset size handle)
     names_done offset size None e = cc
-    names_done offset size (Some (Handle.File name node may_read may_write)) e = cc
+    names_done offset size (Some (Handle.File name node document strict may_read may_write)) e = cc
     names_done offset size (Some (Handle.Folder node names)) e = refl
 
     release_dir_done : (fh : ℕ) (handle : Option Handle) → is_folder_handle handle ≡ true → D (release_dir fh handle)
     release_dir_done fh None e = cc
-    release_dir_done fh (Some (Handle.File name node may_read may_write)) e = cc
+    release_dir_done fh (Some (Handle.File name node document strict may_read may_write)) e = cc
     release_dir_done fh (Some (Handle.Folder node names)) e = refl
 
     neither_of : (a b c : Bool) → (not a && (not b || c)) ≡ true → not (a || b && not c) ≡ true
@@ -342,19 +366,19 @@ module _ (s : State) (none : s.told ≡ false → s.files ≡ []) (now : ℕ) wh
         let parts = both_of (not (nat_lt 7 mask)) (at_sight s file folder sight) e in
         checked (nat_lt 7 mask) einval (by_place sight (access_file mask) (access_folder mask)) parts.0
         (place_done sight file folder (access_file mask) (access_folder mask) parts.1
-        (λ path may_write w g n m there. checked (executes mask || writes_to mask && not may_write) eacces (told NodeAnswer.Empty) (neither_of (executes mask) (writes_to mask) may_write w) refl)
+        (λ d may_write w g n m there. checked (executes mask || writes_to mask && not may_write) eacces (told NodeAnswer.Empty) (neither_of (executes mask) (writes_to mask) may_write w) refl)
         (λ f w. checked (writes_to mask) eacces (told NodeAnswer.Empty) w refl))
 
-    fsync_done : (handle : Option Handle) → on_handle s (λ may_read may_write. true) handle ≡ true → D (fsync handle)
-    fsync_done handle e = handle_done handle (λ may_read may_write. true) fsync_open e (λ name node may_read may_write w there. (named_told name there, ended (has_named s name) _ _ there refl))
+    fsync_done : (handle : Option Handle) → on_handle s always handle ≡ true → D (fsync handle)
+    fsync_done handle e = handle_done handle always fsync_open e (λ file w there. (named_told file.name there, ended (has_named s file.name) _ _ there refl))
 
   -- each request
-  walk_done : (c : Connection) (r : NodeRequest) (op : NodeOp) → ToldForNode s op → may_ask_at s op (place_of s c.who r.node) (handle_of s.handles c.seat) ≡ true → within s c op ≡ true → D (node_walk (facts_of s c r.node) r op)
+  walk_done : (c : Connection) (r : NodeRequest) (op : NodeOp) → ToldForNode s op → may_ask_at s (reach_at s c.who) op (place_of s c.who r.node) (handle_of s.handles c.seat) ≡ true → within s c op ≡ true → D (node_walk (facts_of s c r.node) r op)
   walk_done c r (NodeOp.Lookup name) t h k =
       let sight = place_of s c.who r.node in
       let parts = both_of (not (is_too_long name)) (at_sight s never (has_child s name) sight) h in
       checked (is_too_long name) enametoolong (by_place sight (no_file enotdir) (lookup_in r name)) parts.0
-      (place_done sight never (has_child s name) (no_file enotdir) (lookup_in r name) parts.1 (λ path w k g n m there. cc) (λ folder k. lookup_done (facts_of s c r.node) r name folder k))
+      (place_done sight never (has_child s name) (no_file enotdir) (lookup_in r name) parts.1 (λ d w k g n m there. cc) (λ folder k. lookup_done (facts_of s c r.node) r name folder k))
   walk_done c r (NodeOp.Forget count) t h k = refl
   walk_done c r (NodeOp.BatchForget nodes) t h k = refl
   walk_done c r (NodeOp.GetAttr flags fh) t h k = get_attr_done (facts_of s c r.node) r (names_handle flags) (place_of s c.who r.node) (handle_of s.handles c.seat fh) h
@@ -363,9 +387,9 @@ module _ (s : State) (none : s.told ≡ false → s.files ≡ []) (now : ℕ) wh
   walk_done c r (NodeOp.Create name flags) t h k = create_done (facts_of s c r.node) r name flags (place_of s c.who r.node) t h k
   walk_done c r (NodeOp.Read fh offset size) t h k = read_done (facts_of s c r.node) r offset size (handle_of s.handles c.seat fh) h
   walk_done c r (NodeOp.Write fh offset content) t h k = write_done (facts_of s c r.node) r offset content (handle_of s.handles c.seat fh) h k
-  walk_done c r (NodeOp.Flush fh) t h k = any_handle_done (handle_of s.handles c.seat fh) _ h (λ name node may_read may_write. refl)
+  walk_done c r (NodeOp.Flush fh) t h k = any_handle_done (handle_of s.handles c.seat fh) _ h (λ file. refl)
   walk_done c r (NodeOp.Fsync fh) t h k = fsync_done (facts_of s c r.node) r (handle_of s.handles c.seat fh) h
-  walk_done c r (NodeOp.Release fh) t h k = any_handle_done (handle_of s.handles c.seat fh) _ h (λ name node may_read may_write. refl)
+  walk_done c r (NodeOp.Release fh) t h k = any_handle_done (handle_of s.handles c.seat fh) _ h (λ file. refl)
   walk_done c r NodeOp.OpenDir t h k = open_dir_done (facts_of s c r.node) r (place_of s c.who r.node) h k
   walk_done c r (NodeOp.ReadDir fh offset size) t h k =
       let parts = both_of (not (nat_lt read_limit size)) (is_folder_handle (handle_of s.handles c.seat fh)) h in

@@ -1,12 +1,16 @@
 -- A request on a node leaves a valid state valid.
-use Rattle.std.proofs.Common.{◌≡◌, ℕ, ◌+◌, ◌==◌, nat_eq, nat_lt, length, List, [], ◌∷◌, map, Bool, true, false, not, ◌&&◌, ◌||◌, cond, Option, Some, None, refl, sym, ap, subst, ◌∙◌, arith}
+use Rattle.std.proofs.Common.{◌≡◌, ◌<◌, ℕ, zero, suc, ◌+◌, ◌*◌, ◌^◌, ◌==◌, nat_eq, nat_lt, length, List, [], ◌∷◌, map, Bool, true, false, not, ◌&&◌, ◌||◌, cond, Option, Some, None, refl, sym, ap, subst, ◌∙◌, arith}
 use Rattle.std.specs.List.{list_all, IsDistinct}
+use Rattle.std.proofs.Math.Nat.{div-eq_of_lt}
+use Rattle.std.proofs.lemmas.Bool.Decides.{nat_tests}
+use Rattle.std.proofs.lemmas.List.Folds.{list_all-append}
 use Rattle.portal_base.specs.Content.{paths_of}
 use Rattle.portal_base.specs.FileChanges.{new_file, resized, written}
 use Rattle.portal_base.specs.Names.{is_host_path, is_same, name_of}
 use Rattle.portal_base.specs.declared.files.File.{File}
 use Rattle.portal_base.specs.declared.files.FileName.{FileName}
 use Rattle.portal_base.specs.declared.files.Look.{Look}
+use Rattle.portal_base.specs.declared.names.doc_id.DocId.{DocId}
 use Rattle.portal_base.specs.declared.who.Who.{Who}
 use Rattle.portal_model.specs.declared.entry.Given.{Given}
 use Rattle.portal_model.specs.declared.handle.Handle.{Handle}
@@ -24,23 +28,26 @@ use Rattle.portal_model.specs.Bus.{is_tree, moment_given}
 use Rattle.portal_model.specs.Create.{create, create_in, create_there}
 use Rattle.portal_model.specs.Errno.{eacces, ebadf, efbig, einval, eisdir, emfile, enametoolong, enoent, enotdir, eperm}
 use Rattle.portal_model.specs.Fsync.{fsync_open}
-use Rattle.portal_model.specs.GetAttr.{get_attr_by_handle, get_attr_by_place, names_handle, tells_file, tells_folder}
+use Rattle.portal_model.specs.GetAttr.{get_attr_by_handle, get_attr_by_place, get_attr_open, names_handle, tells_file, tells_folder}
 use Rattle.portal_model.specs.Lookup.{entry_of_file, found_folder, lookup_in, named_in_root, named_in_views}
-use Rattle.portal_model.specs.Node.{NodeFacts, connections_after, counted, files_after, handles_after, is_full, node_answer, node_done, node_given, node_walk, facts_of, room_of, settled_on_node, walk_on_node}
+use Rattle.portal_model.specs.Node.{NodeFacts, connections_after, counted, files_after, handles_after, is_full, new_handle, node_answer, node_done, node_given, node_walk, facts_of, room_of, settled_on_node, walk_on_node}
 use Rattle.portal_model.specs.NodeOutside.{LawfulNode}
-use Rattle.portal_model.specs.NodeVerdict.{NodeDoing, NodeVerdict, FileChange, FilesStay, Writes, Resizes, Creates, HandleChange, HandlesStay, Opens, Closes, Errs, Yields, Room, at_file, by_file_handle, by_place, errs, errs_if, is_too_long, no_file, told}
+use Rattle.portal_model.specs.NodeVerdict.{NodeDoing, NodeVerdict, FileChange, FilesStay, Writes, Resizes, Creates, HandleChange, HandlesStay, Opens, Closes, Errs, Yields, Room, at_file, at_name, by_file_handle, by_place, errs, errs_if, is_too_long, no_file, told}
 use Rattle.portal_model.specs.Open.{file_handle, has_no_mode, open_file, open_folder, open_name, open_node, opened_file, opens_to_write, truncates}
 use Rattle.portal_model.specs.OpenDir.{open_dir, open_dir_in, open_found}
 use Rattle.portal_model.specs.Outside.{files_told}
-use Rattle.portal_model.specs.Place.{Folder, RootOf, Views, FolderOf, file_node, Sight, SightOfFile, SightOfFolder, place_named, place_of, seen_by, sight_at, sight_of_document, sight_of_folder, sight_of_place, sight_of_root, subject_of}
+use Rattle.portal_model.specs.Place.{Folder, RootOf, Views, FolderOf, file_node, Sight, SightOfFile, SightOfFolder, id_of_node, kind_of_node, place_named, place_of, place_of_kind_0, seen_by, sight_at, sight_of_document, sight_of_folder, sight_of_place, sight_of_root, subject_of, view_of_node}
+use Rattle.portal_model.specs.Reach.{OpenFile, may_read_now, may_write_now, open_file_of, reaches}
 use Rattle.portal_model.specs.Read.{read, read_limit, read_open}
 use Rattle.portal_model.specs.ReadDir.{read_names}
 use Rattle.portal_model.specs.ReleaseDir.{release_dir}
-use Rattle.portal_model.specs.SetAttr.{SetsAttr, resize, set_attr, set_attr_at, set_attr_of, set_attr_of_folder, set_attr_open, sets_by_handle, sets_owner_or_mode, sets_size}
+use Rattle.portal_model.specs.SetAttr.{SetsAttr, resize, set_attr, set_attr_at, set_attr_of, set_attr_of_folder, set_attr_of_open, set_attr_open, sets_by_handle, sets_owner_or_mode, sets_size}
 use Rattle.portal_model.specs.State.{State, connection_of, document_of, handles_of, is_handle, is_host, is_mount, who_has}
-use Rattle.portal_model.specs.Valid.{Valid, has_host_path, is_sound_connection}
+use Rattle.portal_model.specs.Valid.{Valid, has_host_path, has_identifier, has_made_document, has_own_node, is_made, is_of_made, is_own_node, is_sound_connection}
 use Rattle.portal_model.specs.Walk.{Walk, Answers, Looks, Ends, AtPath, Changes, IsFound, IsShown, Makes}
 use Rattle.portal_model.specs.Write.{write, write_content, write_limit, write_open}
+use Rattle.portal_model.proofs.DistinctItems.{list_all-filter}
+use Rattle.portal_model.proofs.DocumentChanges.{both}
 use Rattle.portal_model.proofs.FilesValid.{changed-paths, files-sound, missing-is, put-paths, sound-paths, SoundPaths, written-path}
 use Rattle.portal_model.proofs.ListLookups.{found_in_all}
 use Rattle.portal_model.proofs.NodeWalks.{IfMet, OnNode, at_file-on, at_name-on, by_file_handle-on, by_place-on, errs_if-on, on-given}
@@ -50,11 +57,22 @@ use Rattle.portal_model.proofs.SoundParts.{SoundConnections, SoundFiles, SoundHa
 
 -- ---- what a request on a node does
 
--- a handle is opened only where there is a place left for one, on a path of the host
-abbrev pub HandleFine : Room → HandleChange → Type 0
-HandleFine room HandlesStay = Unit {0}
-HandleFine room (Opens handle) = (room.full ≡ false) × (has_host_path handle ≡ true)
-HandleFine room (Closes fh) = Unit {0}
+-- who asks, and the numbers of made documents
+pub record Asking : Type 0 where
+  pub who : Who
+  pub made : List DocId
+
+-- a handle on a path of the host and of a document that was made, in a view of who asks
+pub record HandleSound (a : Asking) (handle : Handle) : Type 0 where
+  pub host : has_host_path handle ≡ true
+  pub made : has_made_document a.made handle ≡ true
+  pub own : has_own_node a.who handle ≡ true
+
+-- such a handle is opened, and only where there is a place left for one
+abbrev pub HandleFine : Asking → Room → HandleChange → Type 0
+HandleFine a room HandlesStay = Unit {0}
+HandleFine a room (Opens handle) = (room.full ≡ false) × HandleSound a handle
+HandleFine a room (Closes fh) = Unit {0}
 
 -- a file is made only where nothing is and the parent is a folder
 abbrev pub FileFine : Option (List File) → FileChange → Type 0
@@ -63,26 +81,35 @@ FileFine tree (Writes name offset content now) = Unit {0}
 FileFine tree (Resizes name size now) = Unit {0}
 FileFine tree (Creates path now) = IsShown tree (AtPath path) Look.Missing × IsFound tree (Makes path) true × (is_host_path path ≡ true)
 
-abbrev pub Fine : Option (List File) → Room → NodeDoing → Type 0
-Fine tree room d = HandleFine room d.handle × FileFine tree d.file
+abbrev pub Fine : Asking → Option (List File) → Room → NodeDoing → Type 0
+Fine a tree room d = HandleFine a room d.handle × FileFine tree d.file
 
--- the path of a document is one on the host
-abbrev pub IsHostFolder : Folder → Type 0
-IsHostFolder (RootOf view numbers has_views) = Unit {0}
-IsHostFolder (Views applications) = Unit {0}
-IsHostFolder (FolderOf view number path may_write) = is_host_path path ≡ true
+-- a document at a node: its path is one on the host, it was made, and the node is in a view of who asks
+pub record IsSoundFile (a : Asking) (node : ℕ) (d : Document) : Type 0 where
+  pub host : is_host_path d.path ≡ true
+  pub made : is_made a.made d.id.number ≡ true
+  pub own : is_own_node a.who node ≡ true
 
-abbrev pub IsHostSight : Option Sight → Type 0
-IsHostSight None = Unit {0}
-IsHostSight (Some (SightOfFile path may_write)) = is_host_path path ≡ true
-IsHostSight (Some (SightOfFolder f)) = IsHostFolder f
+abbrev pub IsSoundFolder : Asking → Folder → Type 0
+IsSoundFolder a (RootOf view numbers has_views) = Unit {0}
+IsSoundFolder a (Views applications) = Unit {0}
+IsSoundFolder a (FolderOf view d may_write) = IsSoundFile a (file_node view d.id.number) d
 
-host_folder : (sight : Option Sight) (f : Folder) → sight ≡ Some (SightOfFolder f) → IsHostSight sight → IsHostFolder f
-host_folder sight f e h = subst IsHostSight e h
+abbrev pub IsSoundSight : Asking → ℕ → Option Sight → Type 0
+IsSoundSight a node None = Unit {0}
+IsSoundSight a node (Some (SightOfFile d may_write)) = IsSoundFile a node d
+IsSoundSight a node (Some (SightOfFolder f)) = IsSoundFolder a f
 
-module _ (tree : Option (List File)) (f : NodeFacts) (r : NodeRequest) where
+sound_folder : (a : Asking) (node : ℕ) (sight : Option Sight) (f : Folder) → sight ≡ Some (SightOfFolder f) → IsSoundSight a node sight → IsSoundFolder a f
+sound_folder a node sight f e h = subst (IsSoundSight a node) e h
+
+-- the handle of such a file
+sound_handle : (a : Asking) (node flags generation : ℕ) (d : Document) → IsSoundFile a node d → HandleSound a (file_handle d (record { path = d.path; generation = generation }) node flags)
+sound_handle a node flags generation d h = record { host = h.host; made = h.made; own = h.own }
+
+module _ (asking : Asking) (tree : Option (List File)) (f : NodeFacts) (r : NodeRequest) where
   abbrev P : NodeDoing → Type 0
-  P = Fine tree f.room
+  P = Fine asking tree f.room
 
   abbrev On : Walk NodeVerdict → Type 0
   On = OnNode tree P
@@ -94,27 +121,30 @@ module _ (tree : Option (List File)) (f : NodeFacts) (r : NodeRequest) where
   lookup-fine : (name : List ℕ) (folder : Folder) → On (lookup_in r name folder)
   lookup-fine name (RootOf view numbers has_views) = found-fine (named_in_root view numbers has_views name)
   lookup-fine name (Views applications) = found-fine (named_in_views applications name)
-  lookup-fine name (FolderOf view number path may_write) = elim (is_same name (name_of path)) as (λ b. On (cond b (at_file path (entry_of_file r (file_node view number) may_write)) (errs enoent))) [
-    | true ↦ at_file-on tree P path (entry_of_file r (file_node view number) may_write) (λ g s m. (tt, tt))
+  lookup-fine name (FolderOf view d may_write) = elim (is_same name (name_of d.path)) as (λ b. On (cond b (at_file d.path (entry_of_file r (file_node view d.id.number) may_write)) (errs enoent))) [
+    | true ↦ at_file-on tree P d.path (entry_of_file r (file_node view d.id.number) may_write) (λ g s m. (tt, tt))
     | false ↦ tt
   ]
 
   attr-fine : (sight : Option Sight) → On (get_attr_by_place r sight)
-  attr-fine sight = by_place-on tree P sight (λ path may_write. tells_file r may_write) (tells_folder r) (λ path w g s m. (tt, tt)) (λ folder e. (tt, tt))
+  attr-fine sight = by_place-on tree P sight (λ d may_write. tells_file r may_write) (tells_folder r) (λ d w g s m. (tt, tt)) (λ folder e. (tt, tt))
 
-  handle-attr-fine : (sight : Option Sight) (handle : Option Handle) → On (get_attr_by_handle r sight handle)
+  open-attr-fine : (file : OpenFile) → On (get_attr_open f.reach r file)
+  open-attr-fine file = errs_if-on tree P (not (reaches f.reach file)) eacces _ (λ e. at_name-on tree P file.name (tells_file (on_node r file.node) (may_write_now f.reach file)) (λ g s m. (tt, tt)))
+
+  handle-attr-fine : (sight : Option Sight) (handle : Option Handle) → On (get_attr_by_handle f.reach r sight handle)
   handle-attr-fine sight None = tt
-  handle-attr-fine sight (Some (Handle.File name node read write)) = at_name-on tree P name (tells_file (on_node r node) write) (λ g s m. (tt, tt))
+  handle-attr-fine sight (Some (Handle.File name node document strict read write)) = open-attr-fine (open_file_of name node document strict read write)
   handle-attr-fine sight (Some (Handle.Folder node names)) = attr-fine sight
 
-  get_attr-fine : (b : Bool) (sight : Option Sight) (handle : Option Handle) → On (cond b (get_attr_by_handle r sight handle) (get_attr_by_place r sight))
+  get_attr-fine : (b : Bool) (sight : Option Sight) (handle : Option Handle) → On (cond b (get_attr_by_handle f.reach r sight handle) (get_attr_by_place r sight))
   get_attr-fine true sight handle = handle-attr-fine sight handle
   get_attr-fine false sight handle = attr-fine sight
 
-  size-fine : (q : NodeRequest) (a : SetsAttr) (errno : ℕ) (name : FileName) (may_write : Bool) (size moment : ℕ) → On (set_attr_of q a errno name may_write size moment)
-  size-fine q a errno name may_write size moment = elim (sets_size a.valid) as (λ b. On (cond b (errs_if (not may_write) errno (errs_if (nat_lt a.limit a.size) efbig (resize q a name may_write))) (told (NodeAnswer.Attr (attr_of_file q may_write size moment))))) [
+  size-fine : (q : NodeRequest) (a : SetsAttr) (name : FileName) (may_write : Bool) (size moment : ℕ) → On (set_attr_of q a name may_write size moment)
+  size-fine q a name may_write size moment = elim (sets_size a.valid) as (λ b. On (cond b (errs_if (not may_write) eacces (errs_if (nat_lt a.limit a.size) efbig (resize q a name may_write))) (told (NodeAnswer.Attr (attr_of_file q may_write size moment))))) [
     | true ↦
-        errs_if-on tree P (not may_write) errno (errs_if (nat_lt a.limit a.size) efbig (resize q a name may_write)) (λ e.
+        errs_if-on tree P (not may_write) eacces (errs_if (nat_lt a.limit a.size) efbig (resize q a name may_write)) (λ e.
         errs_if-on tree P (nat_lt a.limit a.size) efbig (resize q a name may_write) (λ k. ((λ now found. (tt, tt)), tt)))
     | false ↦ (tt, tt)
   ]
@@ -122,98 +152,107 @@ module _ (tree : Option (List File)) (f : NodeFacts) (r : NodeRequest) where
   folder-size-fine : (a : SetsAttr) (folder : Folder) → On (set_attr_of_folder r a folder)
   folder-size-fine a folder = errs_if-on tree P (sets_size a.valid) eisdir (told (NodeAnswer.Attr (attr_of_folder r))) (λ e. (tt, tt))
 
-  set_attr-fine : (a : SetsAttr) (sight : Option Sight) (handle : Option Handle) → On (set_attr r a sight handle)
+  open-size-fine : (a : SetsAttr) (file : OpenFile) → On (set_attr_open f.reach r a file)
+  open-size-fine a file =
+      errs_if-on tree P (not (reaches f.reach file)) eacces (at_name file.name (set_attr_of_open f.reach r a file)) (λ e.
+      at_name-on tree P file.name (set_attr_of_open f.reach r a file) (λ g s m.
+      errs_if-on tree P (sets_size a.valid && not file.write) ebadf (set_attr_of (on_node r file.node) a file.name (may_write_now f.reach file) s m) (λ k.
+      size-fine (on_node r file.node) a file.name (may_write_now f.reach file) s m)))
+
+  set_attr-fine : (a : SetsAttr) (sight : Option Sight) (handle : Option Handle) → On (set_attr f.reach r a sight handle)
   set_attr-fine a sight handle =
-      errs_if-on tree P (sets_owner_or_mode a.valid) eperm (cond (sets_by_handle a.valid) (by_file_handle handle (set_attr_open r a)) (by_place sight (set_attr_at r a) (set_attr_of_folder r a))) (λ e.
-      elim (sets_by_handle a.valid) as (λ b. On (cond b (by_file_handle handle (set_attr_open r a)) (by_place sight (set_attr_at r a) (set_attr_of_folder r a)))) [
-        | true ↦ by_file_handle-on tree P handle (set_attr_open r a) (λ name node read write. at_name-on tree P name (λ g s m. set_attr_of (on_node r node) a ebadf name write s m) (λ g s m. size-fine (on_node r node) a ebadf name write s m))
-        | false ↦ by_place-on tree P sight (set_attr_at r a) (set_attr_of_folder r a) (λ path w g s m. size-fine r a eacces (record { path = path; generation = g }) w s m) (λ folder e. folder-size-fine a folder)
+      errs_if-on tree P (sets_owner_or_mode a.valid) eperm (cond (sets_by_handle a.valid) (by_file_handle handle (set_attr_open f.reach r a)) (by_place sight (set_attr_at r a) (set_attr_of_folder r a))) (λ e.
+      elim (sets_by_handle a.valid) as (λ b. On (cond b (by_file_handle handle (set_attr_open f.reach r a)) (by_place sight (set_attr_at r a) (set_attr_of_folder r a)))) [
+        | true ↦ by_file_handle-on tree P handle (set_attr_open f.reach r a) (open-size-fine a)
+        | false ↦ by_place-on tree P sight (set_attr_at r a) (set_attr_of_folder r a) (λ d w g s m. size-fine r a (record { path = d.path; generation = g }) w s m) (λ folder e. folder-size-fine a folder)
       ])
 
-  open-name-fine : (flags : ℕ) (name : FileName) → f.room.full ≡ false → is_host_path name.path ≡ true → On (open_name r flags f.room name)
-  open-name-fine flags name e host = elim (truncates flags) as (λ b. On (cond b (Ends (Changes name) (λ now. opened_file f.room (file_handle name r.node flags) (Resizes name 0 now)) (Errs enoent)) (Answers (opened_file f.room (file_handle name r.node flags) FilesStay)))) [
-    | true ↦ ((λ now found. ((e, host), tt)), tt)
-    | false ↦ ((e, host), tt)
+  open-name-fine : (flags : ℕ) (d : Document) (name : FileName) → f.room.full ≡ false → HandleSound asking (file_handle d name r.node flags) → On (open_name r flags f.room d name)
+  open-name-fine flags d name e sound = elim (truncates flags) as (λ b. On (cond b (Ends (Changes name) (λ now. opened_file f.room (file_handle d name r.node flags) (Resizes name 0 now)) (Errs enoent)) (Answers (opened_file f.room (file_handle d name r.node flags) FilesStay)))) [
+    | true ↦ ((λ now found. ((e, sound), tt)), tt)
+    | false ↦ ((e, sound), tt)
   ]
 
-  open-place-fine : (flags : ℕ) (sight : Option Sight) → IsHostSight sight → On (by_place sight (open_file r flags f.room) open_folder)
+  open-place-fine : (flags : ℕ) (sight : Option Sight) → IsSoundSight asking r.node sight → On (by_place sight (open_file r flags f.room) open_folder)
   open-place-fine flags None h = tt
-  open-place-fine flags (Some (SightOfFile path w)) h = at_file-on tree P path (open_file r flags f.room path w) (λ g s m.
-      let name : FileName = record { path = path; generation = g } in
-      errs_if-on tree P (opens_to_write flags && not w) eacces (errs_if f.room.full emfile (open_name r flags f.room name)) (λ k.
-      errs_if-on tree P f.room.full emfile (open_name r flags f.room name) (λ n. open-name-fine flags name n h)))
+  open-place-fine flags (Some (SightOfFile d w)) h = at_file-on tree P d.path (open_file r flags f.room d w) (λ g s m.
+      let name : FileName = record { path = d.path; generation = g } in
+      errs_if-on tree P (opens_to_write flags && not w) eacces (errs_if f.room.full emfile (open_name r flags f.room d name)) (λ k.
+      errs_if-on tree P f.room.full emfile (open_name r flags f.room d name) (λ n. open-name-fine flags d name n (sound_handle asking r.node flags g d h))))
   open-place-fine flags (Some (SightOfFolder folder)) h = tt
 
-  open-fine : (flags : ℕ) (sight : Option Sight) → IsHostSight sight → On (open_node r flags sight f.room)
+  open-fine : (flags : ℕ) (sight : Option Sight) → IsSoundSight asking r.node sight → On (open_node r flags sight f.room)
   open-fine flags sight h = errs_if-on tree P (has_no_mode flags) einval (by_place sight (open_file r flags f.room) open_folder) (λ e. open-place-fine flags sight h)
 
-  there-fine : (flags : ℕ) (path : List ℕ) (node : ℕ) → f.room.full ≡ false → is_host_path path ≡ true → (look : Look) → IsShown tree (AtPath path) look → On (create_there r flags f.room path node look)
-  there-fine flags path node e host (Look.File g s m) shown = tt
-  there-fine flags path node e host Look.Folder shown = tt
-  there-fine flags path node e host Look.Missing shown = ((λ now found. ((e, host), (shown, found, host))), tt)
+  there-fine : (flags : ℕ) (d : Document) (node : ℕ) → f.room.full ≡ false → IsSoundFile asking node d → (look : Look) → IsShown tree (AtPath d.path) look → On (create_there r flags f.room d node look)
+  there-fine flags d node e sound (Look.File g s m) shown = tt
+  there-fine flags d node e sound Look.Folder shown = tt
+  there-fine flags d node e sound Look.Missing shown = ((λ now found. ((e, sound_handle asking node flags 0 d sound), (shown, found, sound.host))), tt)
 
-  create-in-fine : (name : List ℕ) (flags : ℕ) (folder : Folder) → IsHostFolder folder → On (create_in r name flags f.room folder)
+  create-in-fine : (name : List ℕ) (flags : ℕ) (folder : Folder) → IsSoundFolder asking folder → On (create_in r name flags f.room folder)
   create-in-fine name flags (RootOf view numbers has_views) h = tt
   create-in-fine name flags (Views applications) h = tt
-  create-in-fine name flags (FolderOf view number path may_write) h =
-      let there = Looks (AtPath path) (create_there r flags f.room path (file_node view number)) in
-      errs_if-on tree P (not (is_same name (name_of path))) eacces (errs_if (not may_write) eacces (errs_if f.room.full emfile there)) (λ a.
+  create-in-fine name flags (FolderOf view d may_write) h =
+      let there = Looks (AtPath d.path) (create_there r flags f.room d (file_node view d.id.number)) in
+      errs_if-on tree P (not (is_same name (name_of d.path))) eacces (errs_if (not may_write) eacces (errs_if f.room.full emfile there)) (λ a.
       errs_if-on tree P (not may_write) eacces (errs_if f.room.full emfile there) (λ b.
-      errs_if-on tree P f.room.full emfile there (λ e. λ look shown. there-fine flags path (file_node view number) e h look shown)))
+      errs_if-on tree P f.room.full emfile there (λ e. λ look shown. there-fine flags d (file_node view d.id.number) e h look shown)))
 
-  create-fine : (name : List ℕ) (flags : ℕ) (sight : Option Sight) → IsHostSight sight → On (create r name flags sight f.room)
+  create-fine : (name : List ℕ) (flags : ℕ) (sight : Option Sight) → IsSoundSight asking r.node sight → On (create r name flags sight f.room)
   create-fine name flags sight h =
       let place = by_place sight (no_file enotdir) (create_in r name flags f.room) in
       errs_if-on tree P (has_no_mode flags) einval (errs_if (is_too_long name) enametoolong place) (λ a.
       errs_if-on tree P (is_too_long name) enametoolong place (λ b.
-      by_place-on tree P sight (no_file enotdir) (create_in r name flags f.room) (λ path w g s m. tt)
-      (λ folder e. create-in-fine name flags folder (host_folder sight folder e h))))
+      by_place-on tree P sight (no_file enotdir) (create_in r name flags f.room) (λ d w g s m. tt)
+      (λ folder e. create-in-fine name flags folder (sound_folder asking r.node sight folder e h))))
 
   found-dir-fine : (folder : Folder) → f.room.full ≡ false → On (open_found r f.room folder)
-  found-dir-fine (RootOf view numbers has_views) e = ((e, refl), tt)
-  found-dir-fine (Views applications) e = ((e, refl), tt)
-  found-dir-fine (FolderOf view number path may_write) e = λ look shown. ((e, refl), tt)
+  found-dir-fine (RootOf view numbers has_views) e = ((e, record { host = refl; made = refl; own = refl }), tt)
+  found-dir-fine (Views applications) e = ((e, record { host = refl; made = refl; own = refl }), tt)
+  found-dir-fine (FolderOf view d may_write) e = λ look shown. ((e, record { host = refl; made = refl; own = refl }), tt)
 
   open_dir-fine : (sight : Option Sight) → On (open_dir r sight f.room)
-  open_dir-fine sight = by_place-on tree P sight (no_file enotdir) (open_dir_in r f.room) (λ path w g s m. tt)
+  open_dir-fine sight = by_place-on tree P sight (no_file enotdir) (open_dir_in r f.room) (λ d w g s m. tt)
       (λ folder k. errs_if-on tree P f.room.full emfile (open_found r f.room folder) (λ e. found-dir-fine folder e))
 
-  read-fine : (offset size : ℕ) (handle : Option Handle) → On (read f.bytes offset size handle)
+  read-fine : (offset size : ℕ) (handle : Option Handle) → On (read f.reach f.bytes offset size handle)
   read-fine offset size handle =
-      errs_if-on tree P (nat_lt read_limit size) einval (by_file_handle handle (read_open f.bytes offset size)) (λ e.
-      by_file_handle-on tree P handle (read_open f.bytes offset size) (λ name node may_read may_write.
-      errs_if-on tree P (not may_read) ebadf _ (λ k. ((λ now found. (tt, tt)), tt))))
+      errs_if-on tree P (nat_lt read_limit size) einval (by_file_handle handle (read_open f.reach f.bytes offset size)) (λ e.
+      by_file_handle-on tree P handle (read_open f.reach f.bytes offset size) (λ file.
+      errs_if-on tree P (not file.read) ebadf _ (λ k.
+      errs_if-on tree P (not (may_read_now f.reach file)) eacces _ (λ n. ((λ now found. (tt, tt)), tt)))))
 
   content-fine : (limit : ℕ) (name : FileName) (offset : ℕ) (content : List ℕ) → On (write_content limit name offset content)
   content-fine limit name offset [] = (tt, tt)
   content-fine limit name offset (b ∷ bs) = errs_if-on tree P (nat_lt limit (offset + length (b ∷ bs))) efbig _ (λ e. ((λ now found. (tt, tt)), tt))
 
-  write-fine : (limit offset : ℕ) (content : List ℕ) (handle : Option Handle) → On (write limit offset content handle)
+  write-fine : (limit offset : ℕ) (content : List ℕ) (handle : Option Handle) → On (write f.reach limit offset content handle)
   write-fine limit offset content handle =
-      errs_if-on tree P (nat_lt write_limit (length content)) einval (by_file_handle handle (write_open limit offset content)) (λ e.
-      by_file_handle-on tree P handle (write_open limit offset content) (λ name node may_read may_write.
-      errs_if-on tree P (not may_write) ebadf (write_content limit name offset content) (λ k. content-fine limit name offset content)))
+      errs_if-on tree P (nat_lt write_limit (length content)) einval (by_file_handle handle (write_open f.reach limit offset content)) (λ e.
+      by_file_handle-on tree P handle (write_open f.reach limit offset content) (λ file.
+      errs_if-on tree P (not file.write) ebadf (errs_if (not (may_write_now f.reach file)) eacces (write_content limit file.name offset content)) (λ k.
+      errs_if-on tree P (not (may_write_now f.reach file)) eacces (write_content limit file.name offset content) (λ n. content-fine limit file.name offset content))))
 
   names-fine : (offset size : ℕ) (handle : Option Handle) → On (read_names offset size handle)
   names-fine offset size None = tt
-  names-fine offset size (Some (Handle.File name node read write)) = tt
+  names-fine offset size (Some (Handle.File name node document strict read write)) = tt
   names-fine offset size (Some (Handle.Folder node names)) = (tt, tt)
 
   release_dir-fine : (fh : ℕ) (handle : Option Handle) → On (release_dir fh handle)
   release_dir-fine fh None = tt
-  release_dir-fine fh (Some (Handle.File name node read write)) = tt
+  release_dir-fine fh (Some (Handle.File name node document strict read write)) = tt
   release_dir-fine fh (Some (Handle.Folder node names)) = (tt, tt)
 
   access-fine : (mask : ℕ) (sight : Option Sight) → On (access mask sight)
   access-fine mask sight =
       errs_if-on tree P (nat_lt 7 mask) einval (by_place sight (access_file mask) (access_folder mask)) (λ e.
       by_place-on tree P sight (access_file mask) (access_folder mask)
-      (λ path w g s m. errs_if-on tree P (executes mask || writes_to mask && not w) eacces (told NodeAnswer.Empty) (λ k. (tt, tt)))
+      (λ d w g s m. errs_if-on tree P (executes mask || writes_to mask && not w) eacces (told NodeAnswer.Empty) (λ k. (tt, tt)))
       (λ folder h. errs_if-on tree P (writes_to mask) eacces (told NodeAnswer.Empty) (λ k. (tt, tt))))
 
-  pub walk-fine : IsHostSight f.sight → (op : NodeOp) → On (node_walk f r op)
+  pub walk-fine : IsSoundSight asking r.node f.sight → (op : NodeOp) → On (node_walk f r op)
   walk-fine h (NodeOp.Lookup name) = errs_if-on tree P (is_too_long name) enametoolong (by_place f.sight (no_file enotdir) (lookup_in r name)) (λ e.
-      by_place-on tree P f.sight (no_file enotdir) (lookup_in r name) (λ path w g s m. tt) (λ folder k. lookup-fine name folder))
+      by_place-on tree P f.sight (no_file enotdir) (lookup_in r name) (λ d w g s m. tt) (λ folder k. lookup-fine name folder))
   walk-fine h (NodeOp.Forget count) = (tt, tt)
   walk-fine h (NodeOp.BatchForget nodes) = (tt, tt)
   walk-fine h (NodeOp.GetAttr flags fh) = get_attr-fine (names_handle flags) f.sight (f.handle fh)
@@ -222,9 +261,9 @@ module _ (tree : Option (List File)) (f : NodeFacts) (r : NodeRequest) where
   walk-fine h (NodeOp.Create name flags) = create-fine name flags f.sight h
   walk-fine h (NodeOp.Read fh offset size) = read-fine offset size (f.handle fh)
   walk-fine h (NodeOp.Write fh offset content) = write-fine f.file_limit offset content (f.handle fh)
-  walk-fine h (NodeOp.Flush fh) = by_file_handle-on tree P (f.handle fh) _ (λ name node read write. (tt, tt))
-  walk-fine h (NodeOp.Fsync fh) = by_file_handle-on tree P (f.handle fh) fsync_open (λ name node read write. ((λ now found. (tt, tt)), tt))
-  walk-fine h (NodeOp.Release fh) = by_file_handle-on tree P (f.handle fh) _ (λ name node read write. (tt, tt))
+  walk-fine h (NodeOp.Flush fh) = by_file_handle-on tree P (f.handle fh) _ (λ file. (tt, tt))
+  walk-fine h (NodeOp.Fsync fh) = by_file_handle-on tree P (f.handle fh) fsync_open (λ file. ((λ now found. (tt, tt)), tt))
+  walk-fine h (NodeOp.Release fh) = by_file_handle-on tree P (f.handle fh) _ (λ file. (tt, tt))
   walk-fine h NodeOp.OpenDir = open_dir-fine f.sight
   walk-fine h (NodeOp.ReadDir fh offset size) = errs_if-on tree P (nat_lt read_limit size) einval (read_names offset size (f.handle fh)) (λ e. names-fine offset size (f.handle fh))
   walk-fine h (NodeOp.ReleaseDir fh) = release_dir-fine fh (f.handle fh)
@@ -232,39 +271,83 @@ module _ (tree : Option (List File)) (f : NodeFacts) (r : NodeRequest) where
 
 -- ---- what is seen
 
+-- a file's node names the view that it is in
+root_or_views : (view id seen : ℕ) (doc : DocId) (a b : Bool) → cond a (Some (Place.Root view)) (cond b (Some Place.ByApp) None) ≡ Some (Place.File seen doc) → seen ≡ view
+root_or_views view id seen doc true b e = cc
+root_or_views view id seen doc false true e = cc
+root_or_views view id seen doc false false e = cc
+
+file_seen : (view id seen : ℕ) (doc : DocId) (a b c : Bool) → cond a (place_of_kind_0 view id) (cond b (Some (Place.Folder view (record { number = id }))) (cond c (Some (Place.File view (record { number = id }))) None)) ≡ Some (Place.File seen doc) → seen ≡ view
+file_seen view id seen doc true b c e = root_or_views view id seen doc (id == 1) (id == 2 && view == 0) e
+file_seen view id seen doc false true c e = cc
+file_seen view id seen doc false false true e = cc
+file_seen view id seen doc false false false e = cc
+
+in_its_view : (node seen : ℕ) (doc : DocId) → place_named node ≡ Some (Place.File seen doc) → seen ≡ view_of_node node
+in_its_view node seen doc e = file_seen (view_of_node node) (id_of_node node) seen doc (kind_of_node node == 0) (kind_of_node node == 1) (kind_of_node node == 2) e
+
+-- the node of a file in an application's own view
+file-of-view-0 : (number : ℕ) → nat_lt number (2 ^ 32) ≡ true → (view_of_node (file_node 0 number) == 0) ≡ true
+file-of-view-0 number l =
+    let least : 0 * 2 ^ 36 + (2 * 2 ^ 32 + number) < 2 ^ 36 = grind (arith, nat_tests) in
+    let view : view_of_node (file_node 0 number) ≡ 0 = div-eq_of_lt least in
+    ap (λ (n : ℕ). n == 0) view
+
 module _ (s : State) (v : Valid s) where
-  folder_host : (view : ℕ) (who : Who) (number : ℕ) (o : Option Document) → document_of s.documents number ≡ o → IsHostSight (sight_of_folder view s.rights who o)
-  folder_host view who number None e = tt
-  folder_host view who number (Some d) e = elim (who_has s.rights who d.id.number Read) as (λ b. IsHostSight (cond b (Some (SightOfFolder (FolderOf view d.id.number d.path (who_has s.rights who d.id.number Write)))) None)) [
-    | true ↦ found_in_all (λ (x : Document). x.id.number == number) (λ (x : Document). is_host_path x.path) s.documents d e v.paths
+  abbrev asking_in : Who → Asking
+  asking_in caller = record { who = caller; made = s.made }
+
+  own_file : (caller : Who) (view number : ℕ) (who : Who) → subject_of s.applications caller view ≡ Some who → nat_lt number (2 ^ 32) ≡ true → is_own_node caller (file_node view number) ≡ true
+  own_file Who.Host view number who e l = refl
+  own_file (Who.App app) zero number who e l = file-of-view-0 number l
+  own_file (Who.App app) (suc k) number who e l = cc
+
+  own_node : (caller : Who) (view node : ℕ) (who : Who) → view ≡ view_of_node node → subject_of s.applications caller view ≡ Some who → is_own_node caller node ≡ true
+  own_node Who.Host view node who n e = refl
+  own_node (Who.App app) zero node who n e = ap (λ (m : ℕ). m == 0) (sym n)
+  own_node (Who.App app) (suc k) node who n e = cc
+
+  live_file : (caller : Who) (node number : ℕ) (d : Document) → document_of s.documents number ≡ Some d → is_own_node caller node ≡ true → IsSoundFile (asking_in caller) node d
+  live_file caller node number d e own = record {
+    host = found_in_all (λ (x : Document). x.id.number == number) (λ (x : Document). is_host_path x.path) s.documents d e v.paths;
+    made = found_in_all (λ (x : Document). x.id.number == number) (λ (x : Document). is_made s.made x.id.number) s.documents d e v.numbers_made;
+    own = own;
+  }
+
+  folder_sound : (caller : Who) (node view : ℕ) (who : Who) (number : ℕ) (o : Option Document) → document_of s.documents number ≡ o → subject_of s.applications caller view ≡ Some who → IsSoundSight (asking_in caller) node (sight_of_folder view s.rights who o)
+  folder_sound caller node view who number None e seen = tt
+  folder_sound caller node view who number (Some d) e seen = elim (who_has s.rights who d.id.number Read) as (λ b. IsSoundSight (asking_in caller) node (cond b (Some (SightOfFolder (FolderOf view d (who_has s.rights who d.id.number Write)))) None)) [
+    | true ↦ live_file caller (file_node view d.id.number) number d e (own_file caller view d.id.number who seen (found_in_all (λ (x : Document). x.id.number == number) has_identifier s.documents d e v.identifiers))
     | false ↦ tt
   ]
 
-  file_host : (who : Who) (number : ℕ) (o : Option Document) → document_of s.documents number ≡ o → IsHostSight (sight_of_document s.rights who o)
-  file_host who number None e = tt
-  file_host who number (Some d) e = elim (who_has s.rights who d.id.number Read) as (λ b. IsHostSight (cond b (Some (SightOfFile d.path (who_has s.rights who d.id.number Write))) None)) [
-    | true ↦ found_in_all (λ (x : Document). x.id.number == number) (λ (x : Document). is_host_path x.path) s.documents d e v.paths
+  file_sound : (caller : Who) (node : ℕ) (who : Who) (number : ℕ) (o : Option Document) → document_of s.documents number ≡ o → is_own_node caller node ≡ true → IsSoundSight (asking_in caller) node (sight_of_document s.rights who o)
+  file_sound caller node who number None e own = tt
+  file_sound caller node who number (Some d) e own = elim (who_has s.rights who d.id.number Read) as (λ b. IsSoundSight (asking_in caller) node (cond b (Some (SightOfFile d (who_has s.rights who d.id.number Write))) None)) [
+    | true ↦ live_file caller node number d e own
     | false ↦ tt
   ]
 
-  view_host : (o : Option Who) (sight : Who → Option Sight) → ((who : Who) → IsHostSight (sight who)) → IsHostSight (seen_by o sight)
-  view_host None sight h = tt
-  view_host (Some who) sight h = h who
+  view_sound : (caller : Who) (node : ℕ) (o p : Option Who) → p ≡ o → (sight : Who → Option Sight) → ((who : Who) → p ≡ Some who → IsSoundSight (asking_in caller) node (sight who)) → IsSoundSight (asking_in caller) node (seen_by o sight)
+  view_sound caller node None p e sight h = tt
+  view_sound caller node (Some who) p e sight h = h who e
 
-  there_host : (caller : Who) (p : Place) → IsHostSight (sight_of_place s caller p)
-  there_host caller (Place.Root view) = view_host (subject_of s.applications caller view) (sight_of_root s caller view) (λ who. tt)
-  there_host caller Place.ByApp = elim (is_host caller) as (λ b. IsHostSight (cond b (Some (SightOfFolder (Views s.applications))) None)) [ true ↦ tt | false ↦ tt ]
-  there_host caller (Place.Folder view id) =
-      view_host (subject_of s.applications caller view) (λ who. sight_of_folder view s.rights who (document_of s.documents id.number)) (λ who. folder_host view who id.number (document_of s.documents id.number) refl)
-  there_host caller (Place.File view id) =
-      view_host (subject_of s.applications caller view) (λ who. sight_of_document s.rights who (document_of s.documents id.number)) (λ who. file_host who id.number (document_of s.documents id.number) refl)
+  there_sound : (caller : Who) (node : ℕ) (p : Place) → place_named node ≡ Some p → IsSoundSight (asking_in caller) node (sight_of_place s caller p)
+  there_sound caller node (Place.Root view) e = view_sound caller node (subject_of s.applications caller view) (subject_of s.applications caller view) refl (sight_of_root s caller view) (λ who h. tt)
+  there_sound caller node Place.ByApp e = elim (is_host caller) as (λ b. IsSoundSight (asking_in caller) node (cond b (Some (SightOfFolder (Views s.applications))) None)) [ true ↦ tt | false ↦ tt ]
+  there_sound caller node (Place.Folder view id) e =
+      view_sound caller node (subject_of s.applications caller view) (subject_of s.applications caller view) refl (λ who. sight_of_folder view s.rights who (document_of s.documents id.number))
+      (λ who h. folder_sound caller node view who id.number (document_of s.documents id.number) refl h)
+  there_sound caller node (Place.File view id) e =
+      view_sound caller node (subject_of s.applications caller view) (subject_of s.applications caller view) refl (λ who. sight_of_document s.rights who (document_of s.documents id.number))
+      (λ who h. file_sound caller node who id.number (document_of s.documents id.number) refl (own_node caller view node who (in_its_view node view id e) h))
 
-  at_host : (caller : Who) (p : Option Place) → IsHostSight (sight_at s caller p)
-  at_host caller None = tt
-  at_host caller (Some p) = there_host caller p
+  at_sound : (caller : Who) (node : ℕ) (p : Option Place) → place_named node ≡ p → IsSoundSight (asking_in caller) node (sight_at s caller p)
+  at_sound caller node None e = tt
+  at_sound caller node (Some p) e = there_sound caller node p e
 
-  pub place-host : (caller : Who) (node : ℕ) → IsHostSight (place_of s caller node)
-  place-host caller node = at_host caller (place_named node)
+  pub place-sound : (caller : Who) (node : ℕ) → IsSoundSight (asking_in caller) node (place_of s caller node)
+  place-sound caller node = at_sound caller node (place_named node) refl
 
 -- ---- the state after
 
@@ -291,7 +374,10 @@ has_place limit handles h = not_not (nat_lt (length handles) limit) h
     not_not false e = cc
 
 -- c is the connection that asks, which the state has as `found`
-module _ (s : State) (c found : Connection) (here : connection_of s.connections c.seat ≡ Some found) (opens : found.opens ≡ c.opens) (mount : is_mount found.kind ≡ true) (v : Valid s) where
+module _ (s : State) (c found : Connection) (here : connection_of s.connections c.seat ≡ Some found) (opens : found.opens ≡ c.opens) (same : found.who ≡ c.who) (mount : is_mount found.kind ≡ true) (v : Valid s) where
+  abbrev asks : Asking
+  asks = record { who = c.who; made = s.made }
+
   connections-valid : (change : HandleChange) → SoundConnections s.limits.queued (connections_after c change s.connections)
   connections-valid HandlesStay = (v.seats_differ, v.connections_sound)
   connections-valid (Opens handle) = (
@@ -300,10 +386,15 @@ module _ (s : State) (c found : Connection) (here : connection_of s.connections 
   )
   connections-valid (Closes fh) = (v.seats_differ, v.connections_sound)
 
-  handles-valid : (change : HandleChange) → HandleFine (room_of s c) change → SoundHandles s.limits.handles (connections_after c change s.connections) (handles_after c change s.handles)
+  handles-valid : (change : HandleChange) → HandleFine asks (room_of s c) change → SoundHandles s.limits.handles (connections_after c change s.connections) (handles_after c change s.handles)
   handles-valid HandlesStay h = valid-handles s v
-  handles-valid (Opens handle) h = opened-handles c found opens handle s.limits.handles s.connections s.handles here mount (has_place s.limits.handles (handles_of s.handles c.seat) h.0) h.1 (valid-handles s v)
+  handles-valid (Opens handle) h = opened-handles c found opens same handle s.limits.handles s.connections s.handles here mount (has_place s.limits.handles (handles_of s.handles c.seat) h.0) h.1.host h.1.own (valid-handles s v)
   handles-valid (Closes fh) h = closed-handles (λ (x : OpenHandle). not (is_handle c.seat fh x)) s.limits.handles s.connections s.handles (valid-handles s v)
+
+  made-valid : (change : HandleChange) → HandleFine asks (room_of s c) change → list_all (is_of_made s.made) (handles_after c change s.handles) ≡ true
+  made-valid HandlesStay h = v.handles_made
+  made-valid (Opens handle) h = list_all-append (is_of_made s.made) s.handles (new_handle c handle ∷ []) ∙ both (list_all (is_of_made s.made) s.handles) (has_made_document s.made handle && true) v.handles_made (both (has_made_document s.made handle) true h.1.made refl)
+  made-valid (Closes fh) h = list_all-filter (is_of_made s.made) (λ (x : OpenHandle). not (is_handle c.seat fh x)) s.handles v.handles_made
 
   paths-valid : (change : FileChange) → FileFine (Some s.files) change → SoundPaths (paths_of (files_after true change s.files))
   paths-valid FilesStay h = sound-paths s.files s.told (valid-files s v)
@@ -325,10 +416,10 @@ module _ (s : State) (c found : Connection) (here : connection_of s.connections 
       (paths-valid change (subst (λ (b : Bool). FileFine (cond b (Some s.files) None) change) e h)) (λ n. let no : true ≡ false = sym e ∙ n in cc)
   files-valid change false e h = subst (SoundFiles s.told) (sym (not-told change)) (valid-files s v)
 
-  pub done-valid : (d : NodeDoing) → Fine (files_told s) (room_of s c) d → Valid (node_done s c d)
-  done-valid d h = Valid-open s _ _ _ v (connections-valid d.handle) (handles-valid d.handle h.0) (files-valid d.file s.told refl h.1)
+  pub done-valid : (d : NodeDoing) → Fine asks (files_told s) (room_of s c) d → Valid (node_done s c d)
+  done-valid d h = Valid-open s _ _ _ v (connections-valid d.handle) (handles-valid d.handle h.0) (made-valid d.handle h.0) (files-valid d.file s.told refl h.1)
 
-  settled-valid : (o : Option NodeVerdict) → IfMet (files_told s) (Fine (files_told s) (room_of s c)) o → Valid (settled_on_node s c o).0
+  settled-valid : (o : Option NodeVerdict) → IfMet (files_told s) (Fine asks (files_told s) (room_of s c)) o → Valid (settled_on_node s c o).0
   settled-valid None h = v
   settled-valid (Some (Errs errno)) h = v
   settled-valid (Some (Yields d)) h = done-valid d h
@@ -337,5 +428,5 @@ module _ (s : State) (c found : Connection) (here : connection_of s.connections 
   node-valid r given l =
       let f = facts_of s c r.node in
       settled-valid (node_given (walk_on_node s c r) given)
-      (on-given (files_told s) (Fine (files_told s) (room_of s c)) (walk_on_node s c r) (moment_given given.now) given.looks (is_tree given.fault) l.looks
-      (walk-fine (files_told s) f r (place-host s v c.who r.node) r.op))
+      (on-given (files_told s) (Fine asks (files_told s) (room_of s c)) (walk_on_node s c r) (moment_given given.now) given.looks (is_tree given.fault) l.looks
+      (walk-fine asks (files_told s) f r (place-sound s v c.who r.node) r.op))

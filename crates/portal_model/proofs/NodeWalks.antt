@@ -4,8 +4,10 @@ use Rattle.portal_base.specs.declared.files.File.{File}
 use Rattle.portal_base.specs.declared.files.FileName.{FileName}
 use Rattle.portal_base.specs.declared.files.Look.{Look}
 use Rattle.portal_model.specs.declared.handle.Handle.{Handle}
+use Rattle.portal_model.specs.declared.state.Document.{Document}
 use Rattle.portal_model.specs.NodeVerdict.{NodeDoing, NodeVerdict, Errs, Yields, OnFile, OnHandle, at_file, at_name, by_file_handle, by_place, errs_if, if_file}
 use Rattle.portal_model.specs.Place.{Folder, Sight, SightOfFile, SightOfFolder}
+use Rattle.portal_model.specs.Reach.{OpenFile, open_file_of}
 use Rattle.portal_model.specs.Walk.{Walk, Answers, Looks, Ends, Gives, IsFound, IsShown, walked}
 
 module _ (tree : Option (List File)) (P : NodeDoing → Type 0) where
@@ -45,14 +47,14 @@ module _ (tree : Option (List File)) (P : NodeDoing → Type 0) where
   pub at_name-on : (name : FileName) (next : OnFile) → ((generation size moment : ℕ) → OnNode (next generation size moment)) → OnNode (at_name name next)
   at_name-on name next h = λ look shown. if_file-on next h look
 
-  pub by_place-on : (sight : Option Sight) (file : List ℕ → Bool → OnFile) (folder : Folder → Walk NodeVerdict) →
-      ((path : List ℕ) (may_write : Bool) (generation size moment : ℕ) → OnNode (file path may_write generation size moment)) →
+  pub by_place-on : (sight : Option Sight) (file : Document → Bool → OnFile) (folder : Folder → Walk NodeVerdict) →
+      ((d : Document) (may_write : Bool) (generation size moment : ℕ) → OnNode (file d may_write generation size moment)) →
       ((f : Folder) → sight ≡ Some (SightOfFolder f) → OnNode (folder f)) → OnNode (by_place sight file folder)
   by_place-on None file folder h k = tt
-  by_place-on (Some (SightOfFile path may_write)) file folder h k = at_file-on path (file path may_write) (h path may_write)
+  by_place-on (Some (SightOfFile d may_write)) file folder h k = at_file-on d.path (file d may_write) (h d may_write)
   by_place-on (Some (SightOfFolder f)) file folder h k = k f refl
 
-  pub by_file_handle-on : (handle : Option Handle) (next : OnHandle) → ((name : FileName) (node : ℕ) (read write : Bool) → OnNode (next name node read write)) → OnNode (by_file_handle handle next)
+  pub by_file_handle-on : (handle : Option Handle) (next : OnHandle) → ((file : OpenFile) → OnNode (next file)) → OnNode (by_file_handle handle next)
   by_file_handle-on None next h = tt
-  by_file_handle-on (Some (Handle.File name node read write)) next h = h name node read write
+  by_file_handle-on (Some (Handle.File name node document strict read write)) next h = h (open_file_of name node document strict read write)
   by_file_handle-on (Some (Handle.Folder node names)) next h = tt

@@ -16,7 +16,7 @@ use Rattle.portal_model.specs.Node.{counted, new_handle}
 use Rattle.portal_model.specs.Present.{requeued}
 use Rattle.portal_model.specs.State.{connection_of, handles_of, is_mount}
 use Rattle.portal_model.specs.Step.{told_of}
-use Rattle.portal_model.specs.Valid.{has_host_path, is_sound_handle, opened_here, opens_within, same_handle}
+use Rattle.portal_model.specs.Valid.{has_host_path, has_own_node, is_sound_handle, opened_here, opens_within, same_handle, viewed_here}
 use Rattle.portal_model.proofs.DistinctItems.{IsDistinct-filter, list_all-filter}
 use Rattle.portal_model.proofs.DocumentChanges.{both}
 use Rattle.portal_model.proofs.ListLookups.{nat_is}
@@ -27,6 +27,7 @@ use Rattle.portal_model.proofs.SoundParts.{SoundHandles}
 -- the same seat and kind, and no fewer handles opened
 pub record Alike (c d : Connection) : Type 0 where
   pub seat : d.seat ≡ c.seat
+  pub who : d.who ≡ c.who
   pub kind : d.kind ≡ c.kind
   pub opens : c.opens ≤ d.opens
 
@@ -35,6 +36,9 @@ opened_more fh kind a b l h = grind (arith, nat_tests)
 
 opened_alike : (fh : ℕ) (c d : Connection) → Alike c d → opened_here fh (Some c) ≡ true → opened_here fh (Some d) ≡ true
 opened_alike fh c d k h = rw (k.kind) (opened_more fh c.kind c.opens d.opens k.opens h)
+
+viewed_alike : (handle : Handle) (c d : Connection) → Alike c d → viewed_here handle (Some c) ≡ true → viewed_here handle (Some d) ≡ true
+viewed_alike handle c d k h = ap (λ (who : Who). has_own_node who handle) k.who ∙ h
 
 module _ (f : Connection → Connection) (k : (c : Connection) → Alike c (f c)) where
   first_mapped : (fh seat : ℕ) (c : Connection) (b : Bool) (o p : Option Connection) → (opened_here fh o ≡ true → opened_here fh p ≡ true) →
@@ -48,9 +52,20 @@ module _ (f : Connection → Connection) (k : (c : Connection) → Alike c (f c)
       subst (λ (n : ℕ). opened_here fh (cond (n == seat) (Some (f c)) (connection_of (map f cs) seat)) ≡ true) (sym (k c).seat)
       (first_mapped fh seat c (c.seat == seat) (connection_of cs seat) (connection_of (map f cs) seat) (found_mapped fh seat cs) h)
 
+  first_viewed : (handle : Handle) (c : Connection) (b : Bool) (o p : Option Connection) → (viewed_here handle o ≡ true → viewed_here handle p ≡ true) →
+      viewed_here handle (cond b (Some c) o) ≡ true → viewed_here handle (cond b (Some (f c)) p) ≡ true
+  first_viewed handle c true o p g h = viewed_alike handle c (f c) (k c) h
+  first_viewed handle c false o p g h = g h
+
+  viewed_mapped : (handle : Handle) (seat : ℕ) (cs : List Connection) → viewed_here handle (connection_of cs seat) ≡ true → viewed_here handle (connection_of (map f cs) seat) ≡ true
+  viewed_mapped handle seat [] h = h
+  viewed_mapped handle seat (c ∷ cs) h =
+      subst (λ (n : ℕ). viewed_here handle (cond (n == seat) (Some (f c)) (connection_of (map f cs) seat)) ≡ true) (sym (k c).seat)
+      (first_viewed handle c (c.seat == seat) (connection_of cs seat) (connection_of (map f cs) seat) (viewed_mapped handle seat cs) h)
+
   all_mapped : (cs : List Connection) (hs : List OpenHandle) → list_all (is_sound_handle cs) hs ≡ true → list_all (is_sound_handle (map f cs)) hs ≡ true
   all_mapped cs [] h = refl
-  all_mapped cs (x ∷ hs) h = grind (arith, found_mapped x.fh x.seat cs, all_mapped cs hs)
+  all_mapped cs (x ∷ hs) h = grind (arith, found_mapped x.fh x.seat cs, viewed_mapped x.handle x.seat cs, all_mapped cs hs)
 
   within_mapped : (limit : ℕ) (hs : List OpenHandle) (cs : List Connection) → list_all (opens_within limit hs) (map f cs) ≡ list_all (opens_within limit hs) cs
   within_mapped limit hs [] = refl
@@ -61,8 +76,8 @@ module _ (f : Connection → Connection) (k : (c : Connection) → Alike c (f c)
 
 told_alike : (seat : ℕ) (c : Connection) → Alike c (told_of seat c)
 told_alike seat c = elim (c.seat == seat) as (λ b. Alike c (cond b (record c { unsent = [] }) c)) [
-  | true ↦ record { seat = refl; kind = refl; opens = omega arith }
-  | false ↦ record { seat = refl; kind = refl; opens = omega arith }
+  | true ↦ record { seat = refl; who = refl; kind = refl; opens = omega arith }
+  | false ↦ record { seat = refl; who = refl; kind = refl; opens = omega arith }
 ]
 
 pub told-handles : (seat limit : ℕ) (cs : List Connection) (hs : List OpenHandle) → SoundHandles limit cs hs → SoundHandles limit (map (told_of seat) cs) hs
@@ -70,8 +85,8 @@ told-handles seat limit cs hs h = mapped-handles (told_of seat) (told_alike seat
 
 requeued_alike : (seat : ℕ) (change : List (List ℕ) → List (List ℕ)) (c : Connection) → Alike c (requeued seat change c)
 requeued_alike seat change c = elim (c.seat == seat) as (λ b. Alike c (cond b (record c { queue = change c.queue }) c)) [
-  | true ↦ record { seat = refl; kind = refl; opens = omega arith }
-  | false ↦ record { seat = refl; kind = refl; opens = omega arith }
+  | true ↦ record { seat = refl; who = refl; kind = refl; opens = omega arith }
+  | false ↦ record { seat = refl; who = refl; kind = refl; opens = omega arith }
 ]
 
 pub requeued-handles : (seat limit : ℕ) (change : List (List ℕ) → List (List ℕ)) (cs : List Connection) (hs : List OpenHandle) → SoundHandles limit cs hs → SoundHandles limit (map (requeued seat change) cs) hs
@@ -100,9 +115,17 @@ found_joined : (fh seat : ℕ) (cs more : List Connection) → opened_here fh (c
 found_joined fh seat [] more h = cc
 found_joined fh seat (c ∷ cs) more h = first_joined fh c (c.seat == seat) (connection_of cs seat) (connection_of (cs ++ more) seat) (found_joined fh seat cs more) h
 
+viewed_first : (handle : Handle) (c : Connection) (b : Bool) (o p : Option Connection) → (viewed_here handle o ≡ true → viewed_here handle p ≡ true) → viewed_here handle (cond b (Some c) o) ≡ true → viewed_here handle (cond b (Some c) p) ≡ true
+viewed_first handle c true o p g h = h
+viewed_first handle c false o p g h = g h
+
+viewed_joined : (handle : Handle) (seat : ℕ) (cs more : List Connection) → viewed_here handle (connection_of cs seat) ≡ true → viewed_here handle (connection_of (cs ++ more) seat) ≡ true
+viewed_joined handle seat [] more h = cc
+viewed_joined handle seat (c ∷ cs) more h = viewed_first handle c (c.seat == seat) (connection_of cs seat) (connection_of (cs ++ more) seat) (viewed_joined handle seat cs more) h
+
 all_joined : (cs more : List Connection) (hs : List OpenHandle) → list_all (is_sound_handle cs) hs ≡ true → list_all (is_sound_handle (cs ++ more)) hs ≡ true
 all_joined cs more [] h = refl
-all_joined cs more (x ∷ hs) h = grind (arith, found_joined x.fh x.seat cs more, all_joined cs more hs)
+all_joined cs more (x ∷ hs) h = grind (arith, found_joined x.fh x.seat cs more, viewed_joined x.handle x.seat cs more, all_joined cs more hs)
 
 none_within : (limit : ℕ) (hs : List OpenHandle) (c : Connection) → handles_of hs c.seat ≡ [] → opens_within limit hs c ≡ true
 none_within limit hs c e = ap (λ (xs : List OpenHandle). nat_le (length xs) limit) e ∙ grind (arith, nat_tests)
@@ -150,7 +173,7 @@ one_other : (seat : ℕ) (cs : List Connection) (x : OpenHandle) (hs : List Open
     list_all (is_sound_handle (of_others seat cs)) (cond (not (x.seat == seat)) (x ∷ handles_of_others seat hs) (handles_of_others seat hs)) ≡ true
 one_other seat cs x hs true e here rest = rw e rest
 one_other seat cs x hs false e here rest =
-    let there : is_sound_handle (of_others seat cs) x ≡ true = ap (λ (o : Option Connection). opened_here x.fh o && has_host_path x.handle) (found_others x.fh seat x.seat cs e) ∙ here in
+    let there : is_sound_handle (of_others seat cs) x ≡ true = ap (λ (o : Option Connection). opened_here x.fh o && (has_host_path x.handle && viewed_here x.handle o)) (found_others x.fh seat x.seat cs e) ∙ here in
     rw (e, there) rest
 
 all_others : (seat : ℕ) (cs : List Connection) (hs : List OpenHandle) → list_all (is_sound_handle cs) hs ≡ true → list_all (is_sound_handle (of_others seat cs)) (handles_of_others seat hs) ≡ true
@@ -176,7 +199,7 @@ push_distinct same new (x ∷ xs) d a = (push_apart xs d.0, push_distinct same n
     push_apart [] h = (a.0, tt)
     push_apart (y ∷ ys) h = (h.0, push_apart ys h.1)
 
-module _ (c found : Connection) (o : found.opens ≡ c.opens) (handle : Handle) where
+module _ (c found : Connection) (o : found.opens ≡ c.opens) (same : found.who ≡ c.who) (handle : Handle) where
   new : OpenHandle
   new = new_handle c handle
 
@@ -194,8 +217,8 @@ module _ (c found : Connection) (o : found.opens ≡ c.opens) (handle : Handle) 
 
   counted_alike : (d : Connection) → Alike d (counted c.seat d)
   counted_alike d = elim (d.seat == c.seat) as (λ b. Alike d (cond b (record d { opens = d.opens + 1 }) d)) [
-    | true ↦ record { seat = refl; kind = refl; opens = omega arith }
-    | false ↦ record { seat = refl; kind = refl; opens = omega arith }
+    | true ↦ record { seat = refl; who = refl; kind = refl; opens = omega arith }
+    | false ↦ record { seat = refl; who = refl; kind = refl; opens = omega arith }
   ]
 
   one_counted : (d : Connection) (cs : List Connection) (b : Bool) → (d.seat == c.seat) ≡ b → (connection_of cs c.seat ≡ Some found → connection_of (map (counted c.seat) cs) c.seat ≡ Some (record found { opens = found.opens + 1 })) →
@@ -211,9 +234,11 @@ module _ (c found : Connection) (o : found.opens ≡ c.opens) (handle : Handle) 
   new_number : (kind : Kind) (a b : ℕ) → a ≡ b → is_mount kind ≡ true → (is_mount kind && (nat_lt 0 (b + 1) && nat_le (b + 1) (a + 1))) ≡ true
   new_number kind a b e m = grind (arith, nat_tests)
 
-  new_sound : (cs : List Connection) → connection_of cs c.seat ≡ Some found → is_mount found.kind ≡ true → has_host_path handle ≡ true → is_sound_handle (map (counted c.seat) cs) (new_handle c handle) ≡ true
-  new_sound cs f m n =
-      both (opened_here (c.opens + 1) (connection_of (map (counted c.seat) cs) c.seat)) (has_host_path handle) (ap (opened_here (c.opens + 1)) (found_counted cs f) ∙ new_number found.kind found.opens c.opens o m) n
+  new_sound : (cs : List Connection) → connection_of cs c.seat ≡ Some found → is_mount found.kind ≡ true → has_host_path handle ≡ true → has_own_node c.who handle ≡ true → is_sound_handle (map (counted c.seat) cs) (new_handle c handle) ≡ true
+  new_sound cs f m n w =
+      both (opened_here (c.opens + 1) (connection_of (map (counted c.seat) cs) c.seat)) (has_host_path handle && viewed_here handle (connection_of (map (counted c.seat) cs) c.seat))
+      (ap (opened_here (c.opens + 1)) (found_counted cs f) ∙ new_number found.kind found.opens c.opens o m)
+      (both (has_host_path handle) (viewed_here handle (connection_of (map (counted c.seat) cs) c.seat)) n (ap (viewed_here handle) (found_counted cs f) ∙ (ap (λ (who : Who). has_own_node who handle) same ∙ w)))
 
   -- the seat had a place left for one more
   one_more : (limit : ℕ) (hs : List OpenHandle) (d : Connection) (b : Bool) → (c.seat == d.seat) ≡ b → nat_lt (length (handles_of hs c.seat)) limit ≡ true → opens_within limit hs d ≡ true →
@@ -232,13 +257,13 @@ module _ (c found : Connection) (o : found.opens ≡ c.opens) (handle : Handle) 
       ∙ one_more limit hs d (c.seat == d.seat) refl room (grind (arith, h)) in
       both (opens_within limit (hs ++ new_handle c handle ∷ []) d) (list_all (opens_within limit (hs ++ new_handle c handle ∷ [])) cs) first (more_within limit hs cs room (grind (arith, h)))
 
-  pub opened-handles : (limit : ℕ) (cs : List Connection) (hs : List OpenHandle) → connection_of cs c.seat ≡ Some found → is_mount found.kind ≡ true → nat_lt (length (handles_of hs c.seat)) limit ≡ true → has_host_path handle ≡ true → SoundHandles limit cs hs →
+  pub opened-handles : (limit : ℕ) (cs : List Connection) (hs : List OpenHandle) → connection_of cs c.seat ≡ Some found → is_mount found.kind ≡ true → nat_lt (length (handles_of hs c.seat)) limit ≡ true → has_host_path handle ≡ true → has_own_node c.who handle ≡ true → SoundHandles limit cs hs →
       SoundHandles limit (map (counted c.seat) cs) (hs ++ new_handle c handle ∷ [])
-  opened-handles limit cs hs f m room n h = record {
+  opened-handles limit cs hs f m room n w h = record {
     differ = push_distinct same_handle (new_handle c handle) hs h.differ (all_apart cs hs f h.sound);
     sound =
         list_all-append (is_sound_handle (map (counted c.seat) cs)) hs (new_handle c handle ∷ [])
         ∙ both (list_all (is_sound_handle (map (counted c.seat) cs)) hs) (is_sound_handle (map (counted c.seat) cs) (new_handle c handle) && true) (all_mapped (counted c.seat) counted_alike cs hs h.sound)
-        (both (is_sound_handle (map (counted c.seat) cs) (new_handle c handle)) true (new_sound cs f m n) refl);
+        (both (is_sound_handle (map (counted c.seat) cs) (new_handle c handle)) true (new_sound cs f m n w) refl);
     within = within_mapped (counted c.seat) counted_alike limit (hs ++ new_handle c handle ∷ []) cs ∙ more_within limit hs cs room h.within;
   }

@@ -29,17 +29,17 @@ own-file-place s caller node h =
 -- it changes nothing
 pub attr-keeps : (s : State) (c : Connection) (r : NodeRequest) (sight : Option Sight) (now : ℕ) (looks : List Look) (failed : Bool) → (settled_on_node s c (walked (get_attr_by_place r sight) now looks failed)).0 ≡ s
 attr-keeps s c r None now looks failed = refl
-attr-keeps s c r (Some (SightOfFile path may_write)) now [] failed = refl
-attr-keeps s c r (Some (SightOfFile path may_write)) now (Look.File generation size moment ∷ looks) failed = refl
-attr-keeps s c r (Some (SightOfFile path may_write)) now (Look.Folder ∷ looks) failed = refl
-attr-keeps s c r (Some (SightOfFile path may_write)) now (Look.Missing ∷ looks) failed = refl
+attr-keeps s c r (Some (SightOfFile d may_write)) now [] failed = refl
+attr-keeps s c r (Some (SightOfFile d may_write)) now (Look.File generation size moment ∷ looks) failed = refl
+attr-keeps s c r (Some (SightOfFile d may_write)) now (Look.Folder ∷ looks) failed = refl
+attr-keeps s c r (Some (SightOfFile d may_write)) now (Look.Missing ∷ looks) failed = refl
 attr-keeps s c r (Some (SightOfFolder folder)) now looks failed = refl
 
 -- and needs no clock
 pub attr-clock : (r : NodeRequest) (sight : Option Sight) (looks : List Look) → reads_clock (get_attr_by_place r sight) looks ≡ false
 attr-clock r None looks = refl
-attr-clock r (Some (SightOfFile path may_write)) [] = refl
-attr-clock r (Some (SightOfFile path may_write)) (Look.File generation size moment ∷ looks) = refl
-attr-clock r (Some (SightOfFile path may_write)) (Look.Folder ∷ looks) = refl
-attr-clock r (Some (SightOfFile path may_write)) (Look.Missing ∷ looks) = refl
+attr-clock r (Some (SightOfFile d may_write)) [] = refl
+attr-clock r (Some (SightOfFile d may_write)) (Look.File generation size moment ∷ looks) = refl
+attr-clock r (Some (SightOfFile d may_write)) (Look.Folder ∷ looks) = refl
+attr-clock r (Some (SightOfFile d may_write)) (Look.Missing ∷ looks) = refl
 attr-clock r (Some (SightOfFolder folder)) looks = refl

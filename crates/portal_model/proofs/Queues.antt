@@ -194,4 +194,5 @@ sound-connected s cs k c h = record {
     made_limit = k.connected.made_limit;
     queued_limit = k.connected.queued_limit;
   };
+  handles_made = k.handles_made;
 }

@@ -15,7 +15,7 @@ use Rattle.portal_model.specs.Content.{is_folder}
 use Rattle.portal_model.specs.Grant.{exceeds_limits}
 use Rattle.portal_model.specs.Rights.{are_in_order}
 use Rattle.portal_model.specs.State.{State, document_of}
-use Rattle.portal_model.specs.Valid.{Valid, applications_limit, has_identifier, is_made, is_numbered, is_sound_connection, is_sound_handle, opens_within, is_valid_entry, same_entry, same_handle}
+use Rattle.portal_model.specs.Valid.{Valid, applications_limit, has_identifier, is_made, is_numbered, is_of_made, is_sound_connection, is_sound_handle, opens_within, is_valid_entry, same_entry, same_handle}
 
 abbrev pub numbers : List Document → List ℕ
 numbers ds = map (λ (d : Document). d.id.number) ds
@@ -57,6 +57,7 @@ pub record Connected (s : State) : Type 0 where
 pub record Sound (s : State) : Type 0 where
   pub documented : Documented s.documents s.made s.rights s.applications
   pub connected : Connected s
+  pub handles_made : list_all (is_of_made s.made) s.handles ≡ true
 
 pub valid-sound : (s : State) → Valid s → Sound s
 valid-sound s v = record {
@@ -85,6 +86,7 @@ valid-sound s v = record {
     made_limit = v.made_limit;
     queued_limit = v.queued_limit;
   };
+  handles_made = v.handles_made;
 }
 
 -- ---- the limits
@@ -119,6 +121,7 @@ sound-valid s e k =
       connections_sound = k.connected.connections_sound;
       handles_differ = k.connected.handles_differ;
       handles_sound = k.connected.handles_sound;
+      handles_made = k.handles_made;
       handles_within = k.connected.handles_within;
       entries_differ = k.connected.entries_differ;
       entries_sound = k.connected.entries_sound;
@@ -136,9 +139,9 @@ sound-valid s e k =
 -- ---- a change of one part
 
 -- other documents and rights
-pub sound-lists : (s : State) (ds : List Document) (made : List DocId) (rights : List Triple) (apps : List (List ℕ)) → Sound s → Documented ds made rights apps →
+pub sound-lists : (s : State) (ds : List Document) (made : List DocId) (rights : List Triple) (apps : List (List ℕ)) → Sound s → Documented ds made rights apps → list_all (is_of_made made) s.handles ≡ true →
     Sound (record s { documents = ds; made = made; rights = rights; applications = apps })
-sound-lists s ds made rights apps k d = record {
+sound-lists s ds made rights apps k d m = record {
   documented = d;
   connected = record {
     seats_differ = k.connected.seats_differ;
@@ -155,6 +158,7 @@ sound-lists s ds made rights apps k d = record {
     made_limit = k.connected.made_limit;
     queued_limit = k.connected.queued_limit;
   };
+  handles_made = m;
 }
 
 -- no more documents than there were, and other rights
@@ -172,6 +176,7 @@ fewer-lists s ds rights v d fewer = record {
   connections_sound = v.connections_sound;
   handles_differ = v.handles_differ;
   handles_sound = v.handles_sound;
+  handles_made = v.handles_made;
   handles_within = v.handles_within;
   entries_differ = v.entries_differ;
   entries_sound = v.entries_sound;
@@ -210,9 +215,9 @@ pub valid-files : (s : State) → Valid s → SoundFiles s.told s.files
 valid-files s v = record { differ = v.files_differ; apart = v.files_apart; named = v.files_named; none = v.files_told }
 
 -- other connections, handles and files
-pub Valid-open : (s : State) (cs : List Connection) (hs : List OpenHandle) (files : List File) → Valid s → SoundConnections s.limits.queued cs → SoundHandles s.limits.handles cs hs → SoundFiles s.told files →
+pub Valid-open : (s : State) (cs : List Connection) (hs : List OpenHandle) (files : List File) → Valid s → SoundConnections s.limits.queued cs → SoundHandles s.limits.handles cs hs → list_all (is_of_made s.made) hs ≡ true → SoundFiles s.told files →
     Valid (record s { connections = cs; handles = hs; files = files })
-Valid-open s cs hs files v k h f = record {
+Valid-open s cs hs files v k h m f = record {
   numbers_differ = v.numbers_differ;
   numbers_made = v.numbers_made;
   identifiers = v.identifiers;
@@ -225,6 +230,7 @@ Valid-open s cs hs files v k h f = record {
   connections_sound = k.1;
   handles_differ = h.differ;
   handles_sound = h.sound;
+  handles_made = m;
   handles_within = h.within;
   entries_differ = v.entries_differ;
   entries_sound = v.entries_sound;
@@ -240,7 +246,7 @@ Valid-open s cs hs files v k h f = record {
 }
 
 pub Valid-connections : (s : State) (cs : List Connection) → Valid s → SoundConnections s.limits.queued cs → SoundHandles s.limits.handles cs s.handles → Valid (record s { connections = cs })
-Valid-connections s cs v k h = Valid-open s cs s.handles s.files v k h (valid-files s v)
+Valid-connections s cs v k h = Valid-open s cs s.handles s.files v k h v.handles_made (valid-files s v)
 
 -- other entries of the permission store
 pub Valid-entries : (s : State) (entries : List StoredEntry) → Valid s → IsDistinct same_entry entries → list_all is_valid_entry entries ≡ true → Valid (record s { entries = entries })
@@ -257,6 +263,7 @@ Valid-entries s entries v d e = record {
   connections_sound = v.connections_sound;
   handles_differ = v.handles_differ;
   handles_sound = v.handles_sound;
+  handles_made = v.handles_made;
   handles_within = v.handles_within;
   entries_differ = d;
   entries_sound = e;

@@ -48,8 +48,8 @@ told_seats change (c ∷ cs) = elim (is_host_bus c.who c.kind) as (λ b. (cond b
 
 told_alike : (change : Change) (c : Connection) → Alike c (told_change change c)
 told_alike change c = elim (is_host_bus c.who c.kind) as (λ b. Alike c (cond b (record c { unsent = c.unsent ++ change ∷ [] }) c)) [
-  | true ↦ record { seat = refl; kind = refl; opens = omega arith }
-  | false ↦ record { seat = refl; kind = refl; opens = omega arith }
+  | true ↦ record { seat = refl; who = refl; kind = refl; opens = omega arith }
+  | false ↦ record { seat = refl; who = refl; kind = refl; opens = omega arith }
 ]
 
 or_second : (a b : Bool) → b ≡ true → (a || b) ≡ true

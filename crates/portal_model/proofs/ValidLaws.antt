@@ -44,6 +44,7 @@ use Rattle.portal_model.proofs.DrawnNumbers.{Unused, drawn-length, drawn-unused}
 use Rattle.portal_model.proofs.ListLookups.{found_in_all, found_passes, nat_is}
 use Rattle.portal_model.proofs.GrantValid.{grant-valid}
 use Rattle.portal_model.proofs.PresentValid.{present-valid}
+use Rattle.portal_model.proofs.MadeHandles.{left-made}
 use Rattle.portal_model.proofs.NodeValid.{node-valid}
 use Rattle.portal_model.proofs.OpenHandles.{entered-handles, left-handles, requeued-handles, told-handles}
 use Rattle.portal_model.proofs.Queues.{caller_sound, dropped-connections, found_told, seats}
@@ -223,7 +224,7 @@ node_step-Valid s seat r given (Some c) e v l =
     let there = mount_is (connection_of s.connections seat) c e in
     let own : c.seat ≡ seat = nat_is c.seat seat (found_passes (λ (x : Connection). x.seat == seat) s.connections c there.0) in
     let here : connection_of s.connections c.seat ≡ Some c = subst (λ (n : ℕ). connection_of s.connections n ≡ Some c) (sym own) there.0 in
-    node-valid (all_told c.seat s) c (record c { unsent = [] }) (found_told c.seat c s.connections here) refl there.1 (all_told-Valid s c.seat v) r given l
+    node-valid (all_told c.seat s) c (record c { unsent = [] }) (found_told c.seat c s.connections here) refl refl there.1 (all_told-Valid s c.seat v) r given l
 
 request_step-Valid : (s : State) (seat : ℕ) (request : Request) (given : Given) → LawfulGiven s seat request given → Valid s → Valid (request_step s seat request given).0
 request_step-Valid s seat (Request.Enter who kind) given l v =
@@ -231,7 +232,8 @@ request_step-Valid s seat (Request.Enter who kind) given l v =
     (entered-handles seat s.limits.handles who kind s.connections s.handles (connection_of s.connections seat) refl (valid-handles s v))
 request_step-Valid s seat Request.Leave given l v =
     Valid-open s _ _ s.files v (left_sound seat s.limits.queued s.connections (connection_of s.connections seat) (v.seats_differ, v.connections_sound))
-    (left-handles seat s.limits.handles s.connections s.handles (connection_of s.connections seat) (valid-handles s v)) (valid-files s v)
+    (left-handles seat s.limits.handles s.connections s.handles (connection_of s.connections seat) (valid-handles s v))
+    (left-made s.made seat s.handles (connection_of s.connections seat) v.handles_made) (valid-files s v)
 request_step-Valid s seat Request.Collect given l v = collect_step-Valid s (bus_of (connection_of s.connections seat)) v
 request_step-Valid s seat (Request.Node r) given l v = node_step-Valid s seat r given (mount_of (connection_of s.connections seat)) refl v l
 request_step-Valid s seat (Request.Present path) given l v = bus_step-Valid s seat (Request.Present path) given (bus_of (connection_of s.connections seat)) refl v l

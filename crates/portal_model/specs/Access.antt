@@ -1,6 +1,7 @@
 -- FUSE_ACCESS (include/uapi/linux/fuse.h), with the mask of access(2).
-use Rattle.std.specs.Prelude.{ℕ, ◌/◌, ◌%◌, ◌==◌, ◌&&◌, ◌||◌, nat_lt, List, Bool, not, Option}
+use Rattle.std.specs.Prelude.{ℕ, ◌/◌, ◌%◌, ◌==◌, ◌&&◌, ◌||◌, nat_lt, Bool, not, Option}
 use Rattle.portal_model.specs.declared.reply.NodeAnswer.TheVariants as NodeAnswer
+use Rattle.portal_model.specs.declared.state.Document.{Document}
 use Rattle.portal_model.specs.Errno.{eacces, einval}
 use Rattle.portal_model.specs.NodeVerdict.{NodeVerdict, OnFile, by_place, errs_if, told}
 use Rattle.portal_model.specs.Place.{Folder, Sight}
@@ -13,8 +14,8 @@ executes mask = mask % 2 == 1
 abbrev pub writes_to : ℕ → Bool
 writes_to mask = mask / 2 % 2 == 1
 
-abbrev pub access_file : ℕ → List ℕ → Bool → OnFile
-access_file mask path may_write generation size moment =
+abbrev pub access_file : ℕ → Document → Bool → OnFile
+access_file mask d may_write generation size moment =
     errs_if (executes mask || writes_to mask && not may_write) eacces (told NodeAnswer.Empty)
 
 abbrev pub access_folder : ℕ → Folder → Walk NodeVerdict

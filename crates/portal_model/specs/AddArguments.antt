@@ -3,8 +3,8 @@
 -- Desktop Portal documentation, org.freedesktop.portal.Documents, AddFull and AddNamedFull, for the
 -- arguments and for what the flags 1, 2 and 4 mean. Rules of this project's own: that the files are
 -- presented, and that an application has an own folder; that a call has at most 16 files; that a
--- file name has at most 255 bytes and ends with a zero byte; and that flag 8, to export a folder,
--- is refused as every unknown flag is.
+-- file name has at most 255 bytes and ends with a zero byte; that flag 8, to export a folder, is
+-- refused as every unknown flag is; and flag 16, strict.
 use Rattle.std.specs.Prelude.{ℕ, ◌/◌, ◌%◌, ◌==◌, List, [], ◌∷◌, get_or, length, map, nat_le, nat_lt, take, Bool, not, ◌&&◌, ◌||◌, cond}
 use Rattle.std.specs.List.{flat_map, list_all, list_any}
 use Rattle.portal_base.specs.Names.{child_of, is_app_name, is_host_path, is_in_own_folder, is_same, is_slash}
@@ -24,9 +24,14 @@ persists a = a.flags / 2 % 2 == 1
 abbrev pub is_as_needed : AddRequest → Bool
 is_as_needed a = a.flags / 4 % 2 == 1
 
--- this project's own rule: 8, to export a folder, is refused too
+-- open handles of a document follow later revocations
+abbrev pub makes_strict : AddRequest → Bool
+makes_strict a = a.flags / 16 % 2 == 1
+
+-- 1, 2, 4 and 16, but 2 and 16 not together: records that outlive a run don't tell what is strict.
+-- This project's own rule: 8, to export a folder, is refused as every unknown flag is.
 abbrev pub are_flags : ℕ → Bool
-are_flags flags = nat_lt flags 8
+are_flags flags = flags / 8 == 0 || (flags / 8 == 2 && not (flags / 2 % 2 == 1))
 
 -- ---- the application that is named, or nothing
 

@@ -28,8 +28,9 @@ use Rattle.portal_model.specs.Lookup.{named_in_root, named_in_views}
 use Rattle.portal_model.specs.Node.{room_of}
 use Rattle.portal_model.specs.NodeVerdict.{is_too_long}
 use Rattle.portal_model.specs.Open.{has_no_mode, opens_to_write}
-use Rattle.portal_model.specs.Place.{Folder, RootOf, Views, FolderOf, Sight, SightOfFile, SightOfFolder, place_of}
+use Rattle.portal_model.specs.Place.{Folder, RootOf, Views, FolderOf, Sight, SightOfFile, SightOfFolder, place_of, reach_at}
 use Rattle.portal_model.specs.Present.{may_present}
+use Rattle.portal_model.specs.Reach.{OpenFile, Reaching, may_read_now, may_write_now, open_file_of, reaches}
 use Rattle.portal_model.specs.Read.{read_limit}
 use Rattle.portal_model.specs.Revoke.{names_itself}
 use Rattle.portal_model.specs.Rights.{held_by}
@@ -130,31 +131,32 @@ has_named s name = is_some (file_named s.files name)
 -- a file of which this is asked of its right to be written, where it is there; or a folder
 abbrev pub at_sight : State → (Bool → Bool) → (Folder → Bool) → Option Sight → Bool
 at_sight s file folder None = false
-at_sight s file folder (Some (SightOfFile path may_write)) = has_file s path && file may_write
+at_sight s file folder (Some (SightOfFile d may_write)) = has_file s d.path && file may_write
 at_sight s file folder (Some (SightOfFolder f)) = folder f
 
--- what is asked of an open file by whether it may be read and written, where it is there
-abbrev pub on_handle : State → (Bool → Bool → Bool) → Option Handle → Bool
+-- what is asked of an open file, where it is there
+abbrev pub on_handle : State → (OpenFile → Bool) → Option Handle → Bool
 on_handle s asked None = false
-on_handle s asked (Some (Handle.File name node read write)) = asked read write && has_named s name
+on_handle s asked (Some (Handle.File name node document strict read write)) =
+    asked (open_file_of name node document strict read write) && has_named s name
 on_handle s asked (Some (Handle.Folder node names)) = false
 
 abbrev pub is_file_handle : Option Handle → Bool
 is_file_handle None = false
-is_file_handle (Some (Handle.File name node read write)) = true
+is_file_handle (Some (Handle.File name node document strict read write)) = true
 is_file_handle (Some (Handle.Folder node names)) = false
 
 abbrev pub is_folder_handle : Option Handle → Bool
 is_folder_handle None = false
-is_folder_handle (Some (Handle.File name node read write)) = false
+is_folder_handle (Some (Handle.File name node document strict read write)) = false
 is_folder_handle (Some (Handle.Folder node names)) = true
 
 abbrev pub has_child : State → List ℕ → Folder → Bool
 has_child s name (RootOf view numbers has_views) =
     is_some (named_in_root view numbers has_views name)
 has_child s name (Views applications) = is_some (named_in_views applications name)
-has_child s name (FolderOf view number path may_write) =
-    is_same name (name_of path) && has_file s path
+has_child s name (FolderOf view d may_write) =
+    is_same name (name_of d.path) && has_file s d.path
 
 -- nothing is there, and the parent is a folder
 abbrev pub is_free : State → List ℕ → Bool
@@ -163,8 +165,8 @@ is_free s path = is_missing (look_at s.files path) && has_room s.files path
 abbrev pub may_create_in : State → List ℕ → Folder → Bool
 may_create_in s name (RootOf view numbers has_views) = false
 may_create_in s name (Views applications) = false
-may_create_in s name (FolderOf view number path may_write) =
-    is_same name (name_of path) && (may_write && is_free s path)
+may_create_in s name (FolderOf view d may_write) =
+    is_same name (name_of d.path) && (may_write && is_free s d.path)
 
 abbrev pub never : {X : Type 0} → X → Bool
 never x = false
@@ -173,18 +175,23 @@ abbrev pub always : {X : Type 0} → X → Bool
 always x = true
 
 -- a GETATTR of an open folder asks its node
-abbrev pub may_get_attr : State → Bool → Option Sight → Option Handle → Bool
-may_get_attr s by_handle sight handle =
+abbrev pub may_get_attr : State → Reaching → Bool → Option Sight → Option Handle → Bool
+may_get_attr s reach by_handle sight handle =
     cond by_handle
-    (on_handle s (λ read write. true) handle
+    (on_handle s (reaches reach) handle
     || (is_folder_handle handle && at_sight s always always sight))
     (at_sight s always always sight)
 
-abbrev pub may_set_attr : State → ℕ → Option Sight → Option Handle → Bool
-may_set_attr s valid sight handle =
+-- of an open file: what it may do now reaches it, and a length needs that it may be written now
+abbrev pub may_set_open : Reaching → ℕ → OpenFile → Bool
+may_set_open reach valid file =
+    reaches reach file && (not (sets_size valid) || may_write_now reach file)
+
+abbrev pub may_set_attr : State → Reaching → ℕ → Option Sight → Option Handle → Bool
+may_set_attr s reach valid sight handle =
     not (sets_owner_or_mode valid)
     && cond (sets_by_handle valid)
-    (on_handle s (λ read write. not (sets_size valid) || write) handle)
+    (on_handle s (may_set_open reach valid) handle)
     (at_sight s (λ may_write. not (sets_size valid) || may_write)
     (λ folder. not (sets_size valid)) sight)
 
@@ -196,44 +203,45 @@ may_access s mask sight =
     (λ folder. not (writes_to mask)) sight
 
 -- a write of no bytes needs no file
-abbrev pub may_write_to : State → List ℕ → Option Handle → Bool
-may_write_to s content None = false
-may_write_to s content (Some (Handle.File name node read write)) =
-    write && (is_none content || has_named s name)
-may_write_to s content (Some (Handle.Folder node names)) = false
+abbrev pub may_write_to : State → Reaching → List ℕ → Option Handle → Bool
+may_write_to s reach content None = false
+may_write_to s reach content (Some (Handle.File name node document strict read write)) =
+    may_write_now reach (open_file_of name node document strict read write)
+    && (is_none content || has_named s name)
+may_write_to s reach content (Some (Handle.Folder node names)) = false
 
-abbrev pub may_ask_at : State → NodeOp → Option Sight → (ℕ → Option Handle) → Bool
-may_ask_at s (NodeOp.Lookup name) sight handle =
+abbrev pub may_ask_at : State → Reaching → NodeOp → Option Sight → (ℕ → Option Handle) → Bool
+may_ask_at s reach (NodeOp.Lookup name) sight handle =
     not (is_too_long name) && at_sight s never (has_child s name) sight
-may_ask_at s (NodeOp.Forget count) sight handle = true
-may_ask_at s (NodeOp.BatchForget nodes) sight handle = true
-may_ask_at s (NodeOp.GetAttr flags fh) sight handle =
-    may_get_attr s (names_handle flags) sight (handle fh)
-may_ask_at s (NodeOp.SetAttr valid fh size) sight handle =
-    may_set_attr s valid sight (handle fh)
-may_ask_at s (NodeOp.Open flags) sight handle =
+may_ask_at s reach (NodeOp.Forget count) sight handle = true
+may_ask_at s reach (NodeOp.BatchForget nodes) sight handle = true
+may_ask_at s reach (NodeOp.GetAttr flags fh) sight handle =
+    may_get_attr s reach (names_handle flags) sight (handle fh)
+may_ask_at s reach (NodeOp.SetAttr valid fh size) sight handle =
+    may_set_attr s reach valid sight (handle fh)
+may_ask_at s reach (NodeOp.Open flags) sight handle =
     not (has_no_mode flags)
     && at_sight s (λ may_write. not (opens_to_write flags) || may_write) never sight
-may_ask_at s (NodeOp.Create name flags) sight handle =
+may_ask_at s reach (NodeOp.Create name flags) sight handle =
     not (has_no_mode flags)
     && (not (is_too_long name) && at_sight s never (may_create_in s name) sight)
-may_ask_at s (NodeOp.Read fh offset size) sight handle =
-    not (nat_lt read_limit size) && on_handle s (λ read write. read) (handle fh)
-may_ask_at s (NodeOp.Write fh offset content) sight handle =
-    not (nat_lt write_limit (length content)) && may_write_to s content (handle fh)
-may_ask_at s (NodeOp.Flush fh) sight handle = is_file_handle (handle fh)
-may_ask_at s (NodeOp.Fsync fh) sight handle = on_handle s (λ read write. true) (handle fh)
-may_ask_at s (NodeOp.Release fh) sight handle = is_file_handle (handle fh)
-may_ask_at s NodeOp.OpenDir sight handle = at_sight s never always sight
-may_ask_at s (NodeOp.ReadDir fh offset size) sight handle =
+may_ask_at s reach (NodeOp.Read fh offset size) sight handle =
+    not (nat_lt read_limit size) && on_handle s (may_read_now reach) (handle fh)
+may_ask_at s reach (NodeOp.Write fh offset content) sight handle =
+    not (nat_lt write_limit (length content)) && may_write_to s reach content (handle fh)
+may_ask_at s reach (NodeOp.Flush fh) sight handle = is_file_handle (handle fh)
+may_ask_at s reach (NodeOp.Fsync fh) sight handle = on_handle s always (handle fh)
+may_ask_at s reach (NodeOp.Release fh) sight handle = is_file_handle (handle fh)
+may_ask_at s reach NodeOp.OpenDir sight handle = at_sight s never always sight
+may_ask_at s reach (NodeOp.ReadDir fh offset size) sight handle =
     not (nat_lt read_limit size) && is_folder_handle (handle fh)
-may_ask_at s (NodeOp.ReleaseDir fh) sight handle = is_folder_handle (handle fh)
-may_ask_at s (NodeOp.Access mask) sight handle = may_access s mask sight
+may_ask_at s reach (NodeOp.ReleaseDir fh) sight handle = is_folder_handle (handle fh)
+may_ask_at s reach (NodeOp.Access mask) sight handle = may_access s mask sight
 
 -- A request on a node of this connection, which is a mount.
 abbrev pub may_ask_node : State → Connection → NodeRequest → Bool
 may_ask_node s c r =
-    may_ask_at s r.op (place_of s c.who r.node) (handle_of s.handles c.seat)
+    may_ask_at s (reach_at s c.who) r.op (place_of s c.who r.node) (handle_of s.handles c.seat)
 
 -- no limit is met: that of open handles, and that of a file's length
 abbrev pub within : State → Connection → NodeOp → Bool

@@ -57,7 +57,7 @@ grant app rights = record { app = app; rights = rights }
 abbrev pub document : ℕ → List ℕ → List GrantRecord → OpeningDocument
 document number path grants = record {
   kept =
-      record { number = number; path = path; reusable = true; grants = grants };
+      record { number = number; path = path; reusable = true; strict = false; grants = grants };
   persistent = true;
 }
 

@@ -6,4 +6,4 @@ use Rattle.portal_model.specs.NodeVerdict.{NodeVerdict, by_file_handle, told}
 use Rattle.portal_model.specs.Walk.{Walk}
 
 abbrev pub flush : Option Handle → Walk NodeVerdict
-flush handle = by_file_handle handle (λ name node read write. told NodeAnswer.Empty)
+flush handle = by_file_handle handle (λ file. told NodeAnswer.Empty)

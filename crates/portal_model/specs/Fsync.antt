@@ -7,7 +7,7 @@ use Rattle.portal_model.specs.NodeVerdict.{NodeVerdict, Errs, OnHandle, by_file_
 use Rattle.portal_model.specs.Walk.{Walk, Ends, Uses}
 
 abbrev pub fsync_open : OnHandle
-fsync_open name node read write = Ends (Uses name) (λ now. tells NodeAnswer.Empty) (Errs enoent)
+fsync_open file = Ends (Uses file.name) (λ now. tells NodeAnswer.Empty) (Errs enoent)
 
 abbrev pub fsync : Option Handle → Walk NodeVerdict
 fsync handle = by_file_handle handle fsync_open

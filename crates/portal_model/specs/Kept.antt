@@ -32,6 +32,7 @@ document_record rights d = record {
   number = d.id.number;
   path = d.path;
   reusable = d.reusable;
+  strict = d.strict;
   grants = map (grant_record rights d.id.number) (holders rights d.id.number);
 }
 

@@ -4,12 +4,14 @@ pub mod Rights
 pub mod Documents
 pub mod Applications
 pub mod Content
+pub mod NodeNumbers
 pub mod Place
 pub mod Errno
 pub mod Enter
 pub mod Leave
 pub mod Collect
 pub mod Walk
+pub mod Reach
 pub mod Attributes
 pub mod NodeVerdict
 pub mod Lookup

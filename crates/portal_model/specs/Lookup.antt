@@ -42,9 +42,9 @@ abbrev pub lookup_in : NodeRequest → List ℕ → Folder → Walk NodeVerdict
 lookup_in r name (RootOf view numbers has_views) =
     found_folder r (named_in_root view numbers has_views name)
 lookup_in r name (Views applications) = found_folder r (named_in_views applications name)
-lookup_in r name (FolderOf view number path may_write) =
-    cond (is_same name (name_of path))
-    (at_file path (entry_of_file r (file_node view number) may_write)) (errs enoent)
+lookup_in r name (FolderOf view d may_write) =
+    cond (is_same name (name_of d.path))
+    (at_file d.path (entry_of_file r (file_node view d.id.number) may_write)) (errs enoent)
 
 abbrev pub lookup : NodeRequest → List ℕ → Option Sight → Walk NodeVerdict
 lookup r name sight =

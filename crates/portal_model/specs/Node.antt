@@ -25,7 +25,8 @@ use Rattle.portal_model.specs.Lookup.{lookup}
 use Rattle.portal_model.specs.NodeVerdict.{NodeDoing, NodeVerdict, FileChange, FilesStay, Writes, Resizes, Creates, HandleChange, HandlesStay, Opens, Closes, Errs, Yields, Room}
 use Rattle.portal_model.specs.Open.{open_node}
 use Rattle.portal_model.specs.OpenDir.{open_dir}
-use Rattle.portal_model.specs.Place.{Sight, place_of}
+use Rattle.portal_model.specs.Place.{Sight, place_of, reach_at}
+use Rattle.portal_model.specs.Reach.{Reaching}
 use Rattle.portal_model.specs.Read.{read}
 use Rattle.portal_model.specs.ReadDir.{read_dir}
 use Rattle.portal_model.specs.Release.{release}
@@ -42,6 +43,8 @@ pub record NodeFacts : Type 0 where
   pub sight : Option Sight
   -- the open handle of each number, on the connection that asks
   pub handle : ℕ → Option Handle
+  -- what an open file of a strict document may do now
+  pub reach : Reaching
   -- the bytes of each file, as far as they are told
   pub bytes : FileName → List ℕ
   pub room : Room
@@ -53,13 +56,15 @@ abbrev pub node_walk : NodeFacts → NodeRequest → NodeOp → Walk NodeVerdict
 node_walk f r (NodeOp.Lookup name) = lookup r name f.sight
 node_walk f r (NodeOp.Forget count) = forget
 node_walk f r (NodeOp.BatchForget nodes) = forget
-node_walk f r (NodeOp.GetAttr flags fh) = get_attr r flags f.sight (f.handle fh)
+node_walk f r (NodeOp.GetAttr flags fh) = get_attr f.reach r flags f.sight (f.handle fh)
 node_walk f r (NodeOp.SetAttr valid fh size) =
-    set_attr r (record { valid = valid; size = size; limit = f.file_limit }) f.sight (f.handle fh)
+    set_attr f.reach r (record { valid = valid; size = size; limit = f.file_limit }) f.sight
+    (f.handle fh)
 node_walk f r (NodeOp.Open flags) = open_node r flags f.sight f.room
 node_walk f r (NodeOp.Create name flags) = create r name flags f.sight f.room
-node_walk f r (NodeOp.Read fh offset size) = read f.bytes offset size (f.handle fh)
-node_walk f r (NodeOp.Write fh offset content) = write f.file_limit offset content (f.handle fh)
+node_walk f r (NodeOp.Read fh offset size) = read f.reach f.bytes offset size (f.handle fh)
+node_walk f r (NodeOp.Write fh offset content) =
+    write f.reach f.file_limit offset content (f.handle fh)
 node_walk f r (NodeOp.Flush fh) = flush (f.handle fh)
 node_walk f r (NodeOp.Fsync fh) = fsync (f.handle fh)
 node_walk f r (NodeOp.Release fh) = release fh (f.handle fh)
@@ -91,6 +96,7 @@ abbrev pub facts_of : State → Connection → ℕ → NodeFacts
 facts_of s c node = record {
   sight = place_of s c.who node;
   handle = handle_of s.handles c.seat;
+  reach = reach_at s c.who;
   bytes = bytes_named s.files;
   room = room_of s c;
   file_limit = s.limits.file_bytes;

@@ -1,13 +1,16 @@
 -- What a request on a node comes to, told by what it depends on alone: what the caller sees at the
--- node, the seat's open handle, the content of a path, and how many handles the seat opened. Each
--- kind of request is a walk over these, so whoever knows them answers it, without the state.
+-- node, the seat's open handle and what it may do now, the content of a path, and how many handles
+-- the seat opened. Each kind of request is a walk over these, so whoever knows them answers it,
+-- without the state.
 use Rattle.std.specs.Prelude.{ℕ, ◌+◌, nat_lt, List, length, Bool, Option, Some, None, cond}
 use Rattle.portal_base.specs.declared.files.FileName.{FileName}
 use Rattle.portal_base.specs.declared.files.Look.{Look}
 use Rattle.portal_model.specs.declared.handle.Handle.{Handle}
 use Rattle.portal_model.specs.declared.reply.NodeAnswer.{NodeAnswer}
+use Rattle.portal_model.specs.declared.state.Document.{Document}
 use Rattle.portal_model.specs.Errno.{ebadf, enoent}
 use Rattle.portal_model.specs.Place.{Folder, Sight, SightOfFile, SightOfFolder}
+use Rattle.portal_model.specs.Reach.{OpenFile, open_file_of}
 use Rattle.portal_model.specs.Walk.{Walk, Answers, Looks, AtPath, Named}
 
 -- ---- what is done
@@ -84,27 +87,27 @@ errs_on_file errno generation size moment = errs errno
 -- ---- by place
 
 -- A request on what is seen at its node: a file is there where a look shows it, and is told by its
--- path, whether it may be written, and the look.
+-- document, whether it may be written, and the look.
 abbrev pub by_place :
-    Option Sight → (List ℕ → Bool → OnFile) → (Folder → Walk NodeVerdict) → Walk NodeVerdict
+    Option Sight → (Document → Bool → OnFile) → (Folder → Walk NodeVerdict) → Walk NodeVerdict
 by_place None file folder = errs enoent
-by_place (Some (SightOfFile path may_write)) file folder = at_file path (file path may_write)
+by_place (Some (SightOfFile d may_write)) file folder = at_file d.path (file d may_write)
 by_place (Some (SightOfFolder f)) file folder = folder f
 
 -- the same error at each file
-abbrev pub no_file : ℕ → List ℕ → Bool → OnFile
-no_file errno path may_write = errs_on_file errno
+abbrev pub no_file : ℕ → Document → Bool → OnFile
+no_file errno d may_write = errs_on_file errno
 
 -- ---- by handle
 
--- an open file, by its name, the node that was opened, and whether it may be read and written
 abbrev pub OnHandle : Type 0
-OnHandle = FileName → ℕ → Bool → Bool → Walk NodeVerdict
+OnHandle = OpenFile → Walk NodeVerdict
 
 -- a request on an open file alone
 abbrev pub by_file_handle : Option Handle → OnHandle → Walk NodeVerdict
 by_file_handle None next = errs ebadf
-by_file_handle (Some (Handle.File name node read write)) next = next name node read write
+by_file_handle (Some (Handle.File name node document strict read write)) next =
+    next (open_file_of name node document strict read write)
 by_file_handle (Some (Handle.Folder node names)) next = errs ebadf
 
 -- ---- handles that are opened

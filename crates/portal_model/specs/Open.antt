@@ -1,9 +1,10 @@
 -- FUSE_OPEN (include/uapi/linux/fuse.h), with the flags of open(2).
-use Rattle.std.specs.Prelude.{ℕ, ◌/◌, ◌%◌, ◌==◌, ◌&&◌, ◌||◌, List, Bool, not, Option, cond}
+use Rattle.std.specs.Prelude.{ℕ, ◌/◌, ◌%◌, ◌==◌, ◌&&◌, ◌||◌, Bool, not, Option, cond}
 use Rattle.portal_base.specs.declared.files.FileName.{FileName}
 use Rattle.portal_model.specs.declared.handle.Handle.{Handle}
 use Rattle.portal_model.specs.declared.reply.NodeAnswer.TheVariants as NodeAnswer
 use Rattle.portal_model.specs.declared.request.NodeRequest.{NodeRequest}
+use Rattle.portal_model.specs.declared.state.Document.{Document}
 use Rattle.portal_model.specs.Errno.{eacces, einval, eisdir, emfile, enoent}
 use Rattle.portal_model.specs.NodeVerdict.{NodeVerdict, FileChange, FilesStay, OnFile, Errs, Opens, Resizes, Room, Yields, by_place, errs, errs_if, next_handle}
 use Rattle.portal_model.specs.Place.{Folder, Sight}
@@ -29,8 +30,10 @@ truncates flags = flags / 512 % 2 == 1
 abbrev pub opens_to_write : ℕ → Bool
 opens_to_write flags = mode_writes flags || truncates flags
 
-abbrev pub file_handle : FileName → ℕ → ℕ → Handle
-file_handle name node flags = Handle.File name node (mode_reads flags) (mode_writes flags)
+-- the file of a document, as it is opened with these flags at a node
+abbrev pub file_handle : Document → FileName → ℕ → ℕ → Handle
+file_handle d name node flags =
+    Handle.File name node d.id d.strict (mode_reads flags) (mode_writes flags)
 
 abbrev pub opened_file : Room → Handle → FileChange → NodeVerdict
 opened_file room handle change = Yields (record {
@@ -40,18 +43,19 @@ opened_file room handle change = Yields (record {
 })
 
 -- with truncation the file has the length 0 and the moment of now
-abbrev pub open_name : NodeRequest → ℕ → Room → FileName → Walk NodeVerdict
-open_name r flags room name =
+abbrev pub open_name : NodeRequest → ℕ → Room → Document → FileName → Walk NodeVerdict
+open_name r flags room d name =
     cond (truncates flags)
     (Ends (Changes name)
-    (λ now. opened_file room (file_handle name r.node flags) (Resizes name 0 now)) (Errs enoent))
-    (Answers (opened_file room (file_handle name r.node flags) FilesStay))
+    (λ now. opened_file room (file_handle d name r.node flags) (Resizes name 0 now))
+    (Errs enoent))
+    (Answers (opened_file room (file_handle d name r.node flags) FilesStay))
 
-abbrev pub open_file : NodeRequest → ℕ → Room → List ℕ → Bool → OnFile
-open_file r flags room path may_write generation size moment =
+abbrev pub open_file : NodeRequest → ℕ → Room → Document → Bool → OnFile
+open_file r flags room d may_write generation size moment =
     errs_if (opens_to_write flags && not may_write) eacces
     (errs_if room.full emfile
-    (open_name r flags room (record { path = path; generation = generation })))
+    (open_name r flags room d (record { path = d.path; generation = generation })))
 
 abbrev pub open_folder : Folder → Walk NodeVerdict
 open_folder folder = errs eisdir

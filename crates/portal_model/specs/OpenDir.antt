@@ -67,9 +67,10 @@ open_found r room (RootOf view numbers has_views) =
     Answers (opened_folder r room (parent_of_root view) (names_in_root view numbers has_views))
 open_found r room (Views applications) =
     Answers (opened_folder r room (root_node 0) (names_of_views applications))
-open_found r room (FolderOf view number path may_write) =
-    Looks (AtPath path) (λ look. Answers
-    (opened_folder r room (root_node view) (names_of_look (file_node view number) path look)))
+open_found r room (FolderOf view d may_write) =
+    Looks (AtPath d.path) (λ look. Answers
+    (opened_folder r room (root_node view)
+    (names_of_look (file_node view d.id.number) d.path look)))
 
 abbrev pub open_dir_in : NodeRequest → Room → Folder → Walk NodeVerdict
 open_dir_in r room folder = errs_if room.full emfile (open_found r room folder)

@@ -27,6 +27,7 @@ document_kept d = record {
   path = d.kept.path;
   persistent = d.persistent;
   reusable = d.kept.reusable;
+  strict = d.kept.strict;
 }
 
 -- whether a record of rights has this one

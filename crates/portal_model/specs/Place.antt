@@ -1,7 +1,7 @@
 -- The nodes of the file view: the arithmetic of their numbers, and what a caller finds at them.
 -- A number is view * 2^36 + kind * 2^32 + id. The view 0 is the caller's own, the view k that of
 -- application k, for the host alone.
-use Rattle.std.specs.Prelude.{ℕ, zero, suc, ◌+◌, ◌*◌, ◌==◌, ◌/◌, ◌%◌, ◌^◌, ◌&&◌, List, map, Bool, Option, Some, None, cond, option_map}
+use Rattle.std.specs.Prelude.{ℕ, zero, suc, ◌==◌, ◌&&◌, List, map, Bool, Option, Some, None, cond, option_map}
 use Rattle.std.specs.List.{filter}
 use Rattle.portal_base.specs.declared.who.Who.{Who}
 use Rattle.portal_model.specs.declared.place.Place.{Place}
@@ -11,21 +11,11 @@ use Rattle.portal_model.specs.declared.state.Triple.{Triple}
 use Rattle.portal_model.specs.Applications.{name_of_number}
 use Rattle.portal_model.specs.ListDocuments.{lower}
 use Rattle.portal_model.specs.Ordered.{put_all}
-use Rattle.portal_model.specs.State.{State, document_of, is_host, who_has}
+use Rattle.portal_model.specs.Reach.{Reach, Reaching, no_reach}
+use Rattle.portal_model.specs.State.{State, document_of, has, is_host, who_has}
+pub use Rattle.portal_model.specs.NodeNumbers.{view_of_node, kind_of_node, id_of_node, node_number}
 
 -- ---- numbers
-
-abbrev pub view_of_node : ℕ → ℕ
-view_of_node node = node / 2 ^ 36
-
-abbrev pub kind_of_node : ℕ → ℕ
-kind_of_node node = node / 2 ^ 32 % 16
-
-abbrev pub id_of_node : ℕ → ℕ
-id_of_node node = node % 2 ^ 32
-
-abbrev pub node_number : ℕ → ℕ → ℕ → ℕ
-node_number view kind id = view * 2 ^ 36 + (kind * 2 ^ 32 + id)
 
 -- kind 0: the root of a view has the identifier 1, and in view 0 the folder of all views has 2
 abbrev pub place_of_kind_0 : ℕ → ℕ → Option Place
@@ -76,14 +66,13 @@ pub data Folder : Type 0 where
   RootOf : ℕ → List ℕ → Bool → Folder
   -- the folder of all views: the names of the numbered applications, in order of their numbers
   Views : List (List ℕ) → Folder
-  -- the folder of a document: the view, the document's number and its path, and whether the subject
-  -- may write the file
-  FolderOf : ℕ → ℕ → List ℕ → Bool → Folder
+  -- the folder of a document: the view, the document, and whether the subject may write the file
+  FolderOf : ℕ → Document → Bool → Folder
 
 -- what a caller sees at a place
 pub data Sight : Type 0 where
-  -- a document's file: the document's path, and whether the subject may write it
-  SightOfFile : List ℕ → Bool → Sight
+  -- a document's file: the document, and whether the subject may write the file
+  SightOfFile : Document → Bool → Sight
   SightOfFolder : Folder → Sight
 
 -- a document's file is seen exactly where the subject has the right to read the document
@@ -91,15 +80,14 @@ abbrev pub sight_of_document : List Triple → Who → Option Document → Optio
 sight_of_document rights who None = None
 sight_of_document rights who (Some d) =
     cond (who_has rights who d.id.number Read)
-    (Some (SightOfFile d.path (who_has rights who d.id.number Write))) None
+    (Some (SightOfFile d (who_has rights who d.id.number Write))) None
 
 -- and so is its folder
 abbrev pub sight_of_folder : ℕ → List Triple → Who → Option Document → Option Sight
 sight_of_folder view rights who None = None
 sight_of_folder view rights who (Some d) =
     cond (who_has rights who d.id.number Read)
-    (Some (SightOfFolder (FolderOf view d.id.number d.path
-    (who_has rights who d.id.number Write)))) None
+    (Some (SightOfFolder (FolderOf view d (who_has rights who d.id.number Write)))) None
 
 abbrev pub may_read : List Triple → Who → Document → Bool
 may_read rights who d = who_has rights who d.id.number Read
@@ -153,3 +141,16 @@ sight_at s caller (Some p) = sight_of_place s caller p
 -- what a caller sees at a node
 abbrev pub place_of : State → Who → ℕ → Option Sight
 place_of s caller node = sight_at s caller (place_named node)
+
+-- ---- the rights that are looked at anew
+
+-- what a view's subject may do now with the file of a document
+abbrev pub reach_of_subject : State → ℕ → Option Who → Reach
+reach_of_subject s number None = no_reach
+reach_of_subject s number (Some who) =
+    record { read = has s who number Read; write = has s who number Write }
+
+-- by the view of a node
+abbrev pub reach_at : State → Who → Reaching
+reach_at s caller node number =
+    reach_of_subject s number (subject_of s.applications caller (view_of_node node))

@@ -9,7 +9,7 @@ use Rattle.portal_model.specs.Walk.{Walk}
 
 abbrev pub read_names : ℕ → ℕ → Option Handle → Walk NodeVerdict
 read_names offset size None = errs ebadf
-read_names offset size (Some (Handle.File name node read write)) = errs ebadf
+read_names offset size (Some (Handle.File name node document strict read write)) = errs ebadf
 read_names offset size (Some (Handle.Folder node names)) =
     told (NodeAnswer.Names names offset size)
 

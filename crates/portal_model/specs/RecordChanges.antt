@@ -6,7 +6,7 @@ use Rattle.portal_base.specs.Names.{is_same}
 use Rattle.portal_model.specs.declared.records.DocRecord.{DocRecord}
 use Rattle.portal_model.specs.declared.records.EntryRecord.{EntryRecord}
 use Rattle.portal_model.specs.declared.records.RecordChange.{RecordChange}
-use Rattle.portal_model.specs.declared.records.RecordChange.TheVariants.{AddDocument, RemoveDocument, SetGrants, SetEntry, RemoveEntry}
+use Rattle.portal_model.specs.declared.records.RecordChange.TheVariants.{AddDocument, RemoveDocument, SetGrants, SetEntry, RemoveEntry, Upgrade}
 use Rattle.portal_model.specs.declared.records.Records.{Records}
 
 -- the first that passes the test changed, in its place
@@ -45,6 +45,7 @@ changed (SetGrants number grants) r =
     }
 changed (SetEntry entry) r = record r { entries = set_entry entry r.entries }
 changed (RemoveEntry table id) r = record r { entries = filter (is_other_key table id) r.entries }
+changed Upgrade r = record r { version = 2 }
 
 -- changes one after another
 abbrev pub changed_by : List RecordChange → Records → Records

@@ -11,4 +11,4 @@ closed fh =
     Yields (record { answer = NodeAnswer.Empty; file = FilesStay; handle = Closes fh })
 
 abbrev pub release : ℕ → Option Handle → Walk NodeVerdict
-release fh handle = by_file_handle handle (λ name node read write. Answers (closed fh))
+release fh handle = by_file_handle handle (λ file. Answers (closed fh))

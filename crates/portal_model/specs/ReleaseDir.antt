@@ -8,5 +8,5 @@ use Rattle.portal_model.specs.Walk.{Walk, Answers}
 
 abbrev pub release_dir : ℕ → Option Handle → Walk NodeVerdict
 release_dir fh None = errs ebadf
-release_dir fh (Some (Handle.File name node read write)) = errs ebadf
+release_dir fh (Some (Handle.File name node document strict read write)) = errs ebadf
 release_dir fh (Some (Handle.Folder node names)) = Answers (closed fh)

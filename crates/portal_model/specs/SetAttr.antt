@@ -1,13 +1,15 @@
 -- FUSE_SETATTR (include/uapi/linux/fuse.h): of the attributes a file's length alone may be set.
-use Rattle.std.specs.Prelude.{ℕ, ◌/◌, ◌%◌, ◌==◌, nat_lt, List, Bool, not, Option, cond}
+use Rattle.std.specs.Prelude.{ℕ, ◌/◌, ◌%◌, ◌==◌, nat_lt, Bool, not, ◌&&◌, Option, cond}
 use Rattle.portal_base.specs.declared.files.FileName.{FileName}
 use Rattle.portal_model.specs.declared.handle.Handle.{Handle}
 use Rattle.portal_model.specs.declared.reply.NodeAnswer.TheVariants as NodeAnswer
 use Rattle.portal_model.specs.declared.request.NodeRequest.{NodeRequest}
+use Rattle.portal_model.specs.declared.state.Document.{Document}
 use Rattle.portal_model.specs.Attributes.{attr_of_file, attr_of_folder, on_node}
 use Rattle.portal_model.specs.Errno.{eacces, ebadf, efbig, eisdir, enoent, eperm}
 use Rattle.portal_model.specs.NodeVerdict.{NodeVerdict, OnFile, OnHandle, Errs, Resizes, at_name, by_file_handle, by_place, changes, errs_if, told}
 use Rattle.portal_model.specs.Place.{Folder, Sight}
+use Rattle.portal_model.specs.Reach.{OpenFile, Reaching, may_write_now, reaches}
 use Rattle.portal_model.specs.Walk.{Walk, Ends, Changes}
 
 -- FATTR_MODE, FATTR_UID, FATTR_GID
@@ -36,29 +38,35 @@ resize r a name may_write =
     (NodeAnswer.Attr (attr_of_file r may_write a.size now)))
     (Errs enoent)
 
--- a file of this name that was looked at; the error is that of one that may not be written
-abbrev pub set_attr_of : NodeRequest → SetsAttr → ℕ → FileName → Bool → ℕ → ℕ → Walk NodeVerdict
-set_attr_of r a errno name may_write size moment =
+-- a file of this name that was looked at
+abbrev pub set_attr_of : NodeRequest → SetsAttr → FileName → Bool → ℕ → ℕ → Walk NodeVerdict
+set_attr_of r a name may_write size moment =
     cond (sets_size a.valid)
-    (errs_if (not may_write) errno
+    (errs_if (not may_write) eacces
     (errs_if (nat_lt a.limit a.size) efbig (resize r a name may_write)))
     (told (NodeAnswer.Attr (attr_of_file r may_write size moment)))
 
-abbrev pub set_attr_at : NodeRequest → SetsAttr → List ℕ → Bool → OnFile
-set_attr_at r a path may_write generation size moment =
-    set_attr_of r a eacces (record { path = path; generation = generation }) may_write size moment
+abbrev pub set_attr_at : NodeRequest → SetsAttr → Document → Bool → OnFile
+set_attr_at r a d may_write generation size moment =
+    set_attr_of r a (record { path = d.path; generation = generation }) may_write size moment
 
 abbrev pub set_attr_of_folder : NodeRequest → SetsAttr → Folder → Walk NodeVerdict
 set_attr_of_folder r a folder =
     errs_if (sets_size a.valid) eisdir (told (NodeAnswer.Attr (attr_of_folder r)))
 
-abbrev pub set_attr_open : NodeRequest → SetsAttr → OnHandle
-set_attr_open r a name node read write =
-    at_name name (λ generation size moment.
-    set_attr_of (on_node r node) a ebadf name write size moment)
+abbrev pub set_attr_of_open : Reaching → NodeRequest → SetsAttr → OpenFile → OnFile
+set_attr_of_open reach r a file generation size moment =
+    errs_if (sets_size a.valid && not file.write) ebadf
+    (set_attr_of (on_node r file.node) a file.name (may_write_now reach file) size moment)
 
-abbrev pub set_attr : NodeRequest → SetsAttr → Option Sight → Option Handle → Walk NodeVerdict
-set_attr r a sight handle =
+abbrev pub set_attr_open : Reaching → NodeRequest → SetsAttr → OnHandle
+set_attr_open reach r a file =
+    errs_if (not (reaches reach file)) eacces
+    (at_name file.name (set_attr_of_open reach r a file))
+
+abbrev pub set_attr :
+    Reaching → NodeRequest → SetsAttr → Option Sight → Option Handle → Walk NodeVerdict
+set_attr reach r a sight handle =
     errs_if (sets_owner_or_mode a.valid) eperm
-    (cond (sets_by_handle a.valid) (by_file_handle handle (set_attr_open r a))
+    (cond (sets_by_handle a.valid) (by_file_handle handle (set_attr_open reach r a))
     (by_place sight (set_attr_at r a) (set_attr_of_folder r a)))

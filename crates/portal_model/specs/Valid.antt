@@ -15,6 +15,7 @@ use Rattle.portal_model.specs.declared.state.Triple.{Triple}
 use Rattle.portal_model.specs.declared.store.StoredEntry.{StoredEntry}
 use Rattle.portal_model.specs.Content.{is_folder}
 use Rattle.portal_model.specs.Data.{is_data}
+use Rattle.portal_model.specs.NodeNumbers.{view_of_node}
 use Rattle.portal_model.specs.Rights.{are_in_order}
 use Rattle.portal_model.specs.State.{State, connection_of, document_of, handles_of, is_mount}
 use Rattle.portal_model.specs.Store.{can_be_told}
@@ -94,12 +95,35 @@ opened_here fh (Some c) = is_mount c.kind && (nat_lt 0 fh && nat_le fh c.opens)
 
 -- an open file is named by a path on the host
 abbrev pub has_host_path : Handle → Bool
-has_host_path (Handle.File name node read write) = is_host_path name.path
+has_host_path (Handle.File name node document strict read write) = is_host_path name.path
 has_host_path (Handle.Folder node names) = true
+
+abbrev pub has_made_document : List DocId → Handle → Bool
+has_made_document made (Handle.File name node document strict read write) =
+    is_made made document.number
+has_made_document made (Handle.Folder node names) = true
+
+-- an open file is of a document that was made
+abbrev pub is_of_made : List DocId → OpenHandle → Bool
+is_of_made made h = has_made_document made h.handle
+
+-- and where an application opened it, its node is in the application's own view
+abbrev pub is_own_node : Who → ℕ → Bool
+is_own_node Who.Host node = true
+is_own_node (Who.App app) node = view_of_node node == 0
+
+abbrev pub has_own_node : Who → Handle → Bool
+has_own_node who (Handle.File name node document strict read write) = is_own_node who node
+has_own_node who (Handle.Folder node names) = true
+
+abbrev pub viewed_here : Handle → Option Connection → Bool
+viewed_here handle None = false
+viewed_here handle (Some c) = has_own_node c.who handle
 
 abbrev pub is_sound_handle : List Connection → OpenHandle → Bool
 is_sound_handle connections h =
-    opened_here h.fh (connection_of connections h.seat) && has_host_path h.handle
+    opened_here h.fh (connection_of connections h.seat)
+    && (has_host_path h.handle && viewed_here h.handle (connection_of connections h.seat))
 
 abbrev pub same_handle : OpenHandle → OpenHandle → Bool
 same_handle a b = a.seat == b.seat && a.fh == b.fh
@@ -124,6 +148,7 @@ pub record Valid (s : State) : Type 0 where
   -- open handles of a seat differ in number
   pub handles_differ : IsDistinct same_handle s.handles
   pub handles_sound : list_all (is_sound_handle s.connections) s.handles ≡ true
+  pub handles_made : list_all (is_of_made s.made) s.handles ≡ true
   pub handles_within :
       list_all (opens_within s.limits.handles s.handles) s.connections ≡ true
   pub entries_differ : IsDistinct same_entry s.entries

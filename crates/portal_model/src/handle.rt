@@ -3,11 +3,14 @@
 use crate::reply::DirName;
 use portal_base::files::FileName;
 use portal_base::list::List;
+use portal_base::names::doc_id::DocId;
 
 // An open file keeps what it may do, as POSIX says of open file descriptions: permissions are
-// asked where a file is opened, and by no request that goes by a handle.
+// asked where a file is opened, and by no request that goes by a handle. Documents that were added
+// as strict are the exception: their handles follow later revocations too.
 /// What an open handle stands for. It keeps that, whatever becomes of the
-/// document and of the rights in it.
+/// document and of the rights in it; what one of a strict document may do
+/// depends besides on the rights that there are at each request.
 #[derive(Debug, Drop)]
 pub enum Handle {
     /// An open file.
@@ -16,6 +19,10 @@ pub enum Handle {
         name: FileName,
         /// The node that was opened.
         node: u64,
+        /// The document's number.
+        document: DocId,
+        /// Whether the document is strict.
+        strict: bool,
         /// Whether it may be read.
         read: bool,
         /// Whether it may be written.

@@ -23,6 +23,8 @@ pub struct DocRecord {
     pub path: ByteList,
     /// Whether a later addition of the same path may use it.
     pub reusable: bool,
+    /// Whether open handles of its file follow later revocations.
+    pub strict: bool,
     /// The rights in it, in byte order of the applications' names.
     pub grants: List<GrantRecord>,
 }
@@ -64,6 +66,7 @@ impl Replica for DocRecord {
             number: self.number,
             path: self.path.replica(alloc)?,
             reusable: self.reusable,
+            strict: self.strict,
             grants: self.grants.replica(alloc)?,
         })
     }
@@ -127,6 +130,8 @@ pub enum RecordChange {
         /// The identifier.
         id: Text,
     },
+    /// The version is 2 from now on, and nothing else changes.
+    Upgrade,
 }
 
 impl Replica for Records {
@@ -157,6 +162,7 @@ impl Replica for RecordChange {
                 table: table.replica(alloc)?,
                 id: id.replica(alloc)?,
             }),
+            RecordChange::Upgrade => Ok(RecordChange::Upgrade),
         }
     }
 }

@@ -25,6 +25,8 @@ pub struct Document {
     pub persistent: bool,
     /// Whether a later addition of the same path may use it.
     pub reusable: bool,
+    /// Whether open handles of its file follow later revocations.
+    pub strict: bool,
 }
 
 // Triples stand in one order, by the document's number, the name and the right: so they don't
@@ -64,6 +66,7 @@ impl Replica for Document {
             path: self.path.replica(alloc)?,
             persistent: self.persistent,
             reusable: self.reusable,
+            strict: self.strict,
         })
     }
 }

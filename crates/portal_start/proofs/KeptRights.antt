@@ -261,6 +261,7 @@ module _ (ds : List DocRecord) (differ : IsDistinct nat_eq (map (λ (d : DocReco
       number = d.number;
       path = d.path;
       reusable = d.reusable;
+      strict = d.strict;
       grants = (ap (map (grant_record held d.number)) holders_back ∙ grants_back d.grants sound.grants (all_found (λ (x : GrantRecord). x.app) is_same is_same-eq is_same-refl is_same-sym d.grants apps_differ)) i;
     }
 

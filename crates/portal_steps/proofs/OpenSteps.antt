@@ -17,7 +17,7 @@ use Rattle.portal_model.specs.Present.{requeued, with_queue}
 use Rattle.portal_model.specs.State.{State, connection_of, handles_of}
 use Rattle.portal_model.specs.Step.{all_told, told_of}
 use Rattle.portal_model.specs.StoreRequest.{tell_hosts, told_change}
-use Rattle.portal_model.specs.Valid.{has_host_path, is_host_bus, is_sound_handle, opened_here}
+use Rattle.portal_model.specs.Valid.{has_host_path, is_host_bus, is_sound_handle, opened_here, viewed_here}
 use Rattle.portal_steps.proofs.Boxes.{joined-elsewhere, joined-here, left-elsewhere, left-here, silent-found, some-silent}
 use Rattle.store_serving.specs.Waiting.{silent}
 
@@ -104,7 +104,7 @@ none-open cs seat (h ∷ hs) e a = by (h.seat == seat) refl (none-open cs seat h
     ahead true k = refl
     ahead false k = absurd (cc)
 
-    open-there : (o : Option Connection) → o ≡ None → (opened_here h.fh o && has_host_path h.handle) ≡ true → ⊥
+    open-there : (o : Option Connection) → o ≡ None → (opened_here h.fh o && (has_host_path h.handle && viewed_here h.handle o)) ≡ true → ⊥
     open-there None n k = cc
     open-there (Some c) n k = cc
 

@@ -24,7 +24,7 @@ use Rattle.portal_model.specs.Lawful.{LawfulOnNode}
 use Rattle.portal_model.specs.Node.{bytes_named, connections_after, counted, files_after, handles_after, node_answer, node_given, node_walk, room_of, settled_on_node, walk_on_node}
 use Rattle.portal_model.specs.NodeVerdict.{HandleChange, HandlesStay, Opens, Closes, NodeVerdict, Errs, Yields}
 use Rattle.portal_model.specs.Outside.{files_told}
-use Rattle.portal_model.specs.Place.{Sight, place_named, sight_at}
+use Rattle.portal_model.specs.Place.{place_named, reach_of_subject, sight_at, subject_of, view_of_node}
 use Rattle.portal_model.specs.State.{State, connection_of, handle_of, is_mount}
 use Rattle.portal_model.specs.Step.{all_told, mount_of, node_step, reply_with, told_of, with_signals}
 use Rattle.portal_model.specs.Walk.{Walk, Gives, reads_clock}
@@ -78,7 +78,7 @@ quiet-sound queued (c ∷ cs) h =
     (quiet-sound queued cs (second_of_both (is_sound_connection queued c) (list_all (is_sound_connection queued) cs) h))
 
 quiet-alike : (c : Connection) → AlikeConnections c (silent c)
-quiet-alike c = record { seat = refl; kind = refl; opens = omega arith }
+quiet-alike c = record { seat = refl; who = refl; kind = refl; opens = omega arith }
 
 pub quiet-valid : (s : State) → Valid s → Valid (quiet s)
 quiet-valid s v = Valid-connections s (map silent s.connections) v
@@ -124,14 +124,19 @@ module _ (s : State) (cs ds : List Connection) where
   place-over who (Some (Place.Folder view id)) = refl
   place-over who (Some (Place.File view id)) = refl
 
+  reach-over : (number : ℕ) (subject : Option Who) → reach_of_subject (record s { connections = cs }) number subject ≡ reach_of_subject (record s { connections = ds }) number subject
+  reach-over number None = refl
+  reach-over number (Some who) = refl
+
   walk-over : (c : Connection) (r : NodeRequest) → walk_on_node (record s { connections = cs }) (silent c) r ≡ walk_on_node (record s { connections = ds }) c r
-  walk-over c r = ap (λ (sight : Option Sight). node_walk (record {
-    sight = sight;
+  walk-over c r = λ i. node_walk (record {
+    sight = place-over c.who (place_named r.node) i;
     handle = handle_of s.handles c.seat;
+    reach = λ node number. reach-over number (subject_of s.applications c.who (view_of_node node)) i;
     bytes = bytes_named s.files;
     room = room_of s c;
     file_limit = s.limits.file_bytes;
-  }) r r.op) (place-over c.who (place_named r.node))
+  }) r r.op
 
 -- the state of an answer, but for what connections wait for
 abbrev quiet_answer : State × Answer → State × Answer

@@ -53,23 +53,28 @@ grant-itself g = λ i. is_same-refl g.app i && nat-itself g.rights i
 
 abbrev pub same_record : DocRecord → DocRecord → Bool
 same_record a b = (a.number == b.number)
-    && (is_same a.path b.path && (same_flag a.reusable b.reusable && same_all same_grant a.grants b.grants))
+    && (is_same a.path b.path
+    && (same_flag a.reusable b.reusable && (same_flag a.strict b.strict && same_all same_grant a.grants b.grants)))
 
 record-eq : (a b : DocRecord) → same_record a b ≡ true → a ≡ b
 record-eq a b e =
-    let p = both (a.number == b.number) (is_same a.path b.path && (same_flag a.reusable b.reusable && same_all same_grant a.grants b.grants)) e in
-    let q = both (is_same a.path b.path) (same_flag a.reusable b.reusable && same_all same_grant a.grants b.grants) p.1 in
-    let r = both (same_flag a.reusable b.reusable) (same_all same_grant a.grants b.grants) q.1 in
+    let more = same_flag a.strict b.strict && same_all same_grant a.grants b.grants in
+    let p = both (a.number == b.number) (is_same a.path b.path && (same_flag a.reusable b.reusable && more)) e in
+    let q = both (is_same a.path b.path) (same_flag a.reusable b.reusable && more) p.1 in
+    let r = both (same_flag a.reusable b.reusable) more q.1 in
+    let t = both (same_flag a.strict b.strict) (same_all same_grant a.grants b.grants) r.1 in
     λ i. record {
       number = nat_is a.number b.number p.0 i;
       path = is_same-eq a.path b.path q.0 i;
       reusable = flag-eq a.reusable b.reusable r.0 i;
-      grants = same_all-eq same_grant grant-eq grant-itself a.grants b.grants r.1 i;
+      strict = flag-eq a.strict b.strict t.0 i;
+      grants = same_all-eq same_grant grant-eq grant-itself a.grants b.grants t.1 i;
     }
 
 record-itself : (a : DocRecord) → same_record a a ≡ true
 record-itself a = λ i. nat-itself a.number i
-    && (is_same-refl a.path i && (flag-itself a.reusable i && same_all-itself same_grant grant-eq grant-itself a.grants i))
+    && (is_same-refl a.path i
+    && (flag-itself a.reusable i && (flag-itself a.strict i && same_all-itself same_grant grant-eq grant-itself a.grants i)))
 
 abbrev pub same_records : List DocRecord → List DocRecord → Bool
 same_records = same_all same_record

@@ -12,7 +12,7 @@ use portal_base::files::FileName;
 use portal_base::limits::Limits;
 use portal_base::list::List;
 use portal_base::memory::WantOfMemory;
-use portal_base::names::HostPath;
+use portal_base::names::{DocId, HostPath};
 use portal_base::outside::SetClock;
 use portal_base::who::Who;
 use portal_model::request::NodeRequest;
@@ -125,6 +125,8 @@ fn file(alloc: Global) -> Result<Handle, VectorError> {
             generation: 0,
         },
         node: 8_589_934_602,
+        document: DocId { number: 10 },
+        strict: false,
         read: true,
         write: true,
     })

@@ -71,6 +71,7 @@ fn document(alloc: Global, part: &str) -> Result<DocRecord, VectorError> {
         number: small_number(number)?,
         path: List::copied(alloc, path.as_bytes())?,
         reusable: false,
+        strict: false,
         grants: grants(alloc, rights)?,
     })
 }

@@ -8,38 +8,50 @@ use portal_base::list::List;
 use portal_base::text::Text;
 use portal_model::records::{DocRecord, EntryRecord, GrantRecord, RecordChange};
 
+/// The version of the records after an upgrade.
+const UPGRADED_VERSION: u32 = 2;
+
 /// Makes the changes one after another.
 pub(crate) fn make_all(
+    version: &mut u32,
     documents: &mut Vec<DocRecord>,
     entries: &mut Vec<EntryRecord>,
     changes: List<RecordChange>,
 )
     requires documents { vec_len documents.old + length changes ≤ vec_capacity documents.old }
     requires entries { vec_len entries.old + length changes ≤ vec_capacity entries.old }
-    ensures { (version : ℕ) → record {
-      version = version;
+    ensures { record {
+      version = version.new;
       documents = documents.new.items;
       entries = entries.new.items;
     }
         ≡ changed_by changes (record {
-          version = version;
+          version = version.old;
           documents = documents.old.items;
           entries = entries.old.items;
         }) }
 {
     for change in changes.into_vec() {
-        make(documents, entries, change);
+        make(version, documents, entries, change);
     }
 }
 
 /// Makes one change.
-fn make(documents: &mut Vec<DocRecord>, entries: &mut Vec<EntryRecord>, change: RecordChange)
+fn make(
+    version: &mut u32,
+    documents: &mut Vec<DocRecord>,
+    entries: &mut Vec<EntryRecord>,
+    change: RecordChange,
+)
     requires documents { vec_len documents.old < vec_capacity documents.old }
     requires entries { vec_len entries.old < vec_capacity entries.old }
-    ensures made { (version : ℕ)
-        → record { version = version; documents = documents.new.items; entries = entries.new.items }
+    ensures made { record {
+      version = version.new;
+      documents = documents.new.items;
+      entries = entries.new.items;
+    }
         ≡ changed change (record {
-          version = version;
+          version = version.old;
           documents = documents.old.items;
           entries = entries.old.items;
         }) }
@@ -54,6 +66,7 @@ fn make(documents: &mut Vec<DocRecord>, entries: &mut Vec<EntryRecord>, change: 
         RecordChange::SetGrants { number, grants } => set_grants(documents, number, grants),
         RecordChange::SetEntry(entry) => set_entry(entries, entry),
         RecordChange::RemoveEntry { table, id } => remove_entry(entries, &table, &id),
+        RecordChange::Upgrade => *version = UPGRADED_VERSION,
     }
 }
 

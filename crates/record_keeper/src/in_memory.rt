@@ -96,7 +96,12 @@ impl Keeper for MemoryKeeper {
         if reserve(&mut self.documents, &mut self.entries, changes.len()).is_err() {
             return KeeperDone::Memory;
         }
-        make_all(&mut self.documents, &mut self.entries, changes);
+        make_all(
+            &mut self.version,
+            &mut self.documents,
+            &mut self.entries,
+            changes,
+        );
         KeeperDone::Done
     }
 }

@@ -136,6 +136,7 @@ fn records(alloc: Global) -> Result<(), VectorError> {
         number: 10,
         path: List::copied(alloc, b"/home/a.txt")?,
         reusable: true,
+        strict: true,
         grants,
     };
     copied(
@@ -182,6 +183,7 @@ fn documents(alloc: Global) -> Result<(), VectorError> {
             path,
             persistent: true,
             reusable: false,
+            strict: true,
         },
     )?;
     let app = given(alloc, AppId::read(alloc, b"org.ed"))?;

@@ -78,7 +78,11 @@ fn put_step(
         },
         "reusable" => {
             let path = path_of(alloc, second)?;
-            put_found(alloc, out, documents.reusable(&path, first.contains('p')))
+            put_found(
+                alloc,
+                out,
+                documents.reusable(&path, first.contains('p'), first.contains('s')),
+            )
         }
         "first" => {
             let path = path_of(alloc, first)?;
@@ -97,7 +101,8 @@ fn path_of(alloc: Global, path: &str) -> Result<HostPath, VectorError> {
 }
 
 /// `add WORD FLAGS PATH`: the number of a document that is added with the first
-/// unused number from the word on; a flag `r` is for reuse, `p` for persistent.
+/// unused number from the word on; a flag `r` is for reuse, `p` for persistent,
+/// `s` for strict.
 /// `try WORD FLAGS PATH`: the same, and the addition is taken back.
 fn add(
     alloc: Global,
@@ -127,5 +132,6 @@ fn document_of(alloc: Global, id: DocId, rest: &str) -> Result<Document, VectorE
         path: path_of(alloc, path)?,
         persistent: flags.contains('p'),
         reusable: flags.contains('r'),
+        strict: flags.contains('s'),
     })
 }

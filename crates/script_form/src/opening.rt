@@ -93,6 +93,7 @@ fn add_document(
                 number: id.number,
                 path: List::copied(alloc, path.as_bytes())?,
                 reusable: *reusable,
+                strict: false,
                 grants: grants.replica(alloc)?,
             },
             persistent: true,

@@ -105,10 +105,15 @@ is_script_path path = is_host_path path && list_all is_plain path
 abbrev pub AreBytes : List ℕ → Type 0
 AreBytes = All (λ b. b < 256)
 
--- the record of a kept document
+-- the record of a kept document, which isn't strict
 abbrev pub kept_document : DocId → Bool → List ℕ → List GrantRecord → DocRecord
-kept_document id reusable path grants =
-    record { number = id.number; path = path; reusable = reusable; grants = grants }
+kept_document id reusable path grants = record {
+  number = id.number;
+  path = path;
+  reusable = reusable;
+  strict = false;
+  grants = grants;
+}
 
 -- a key and permissions, at least one, which are written as applications' names are
 pub record IsNamedRow (row : Row) : Type 0 where

@@ -10,23 +10,25 @@ use Rattle.portal_model.specs.declared.handle.Handle.{Handle}
 use Rattle.portal_model.specs.declared.reply.NodeAnswer.{NodeAnswer}
 use Rattle.portal_model.specs.declared.request.NodeOp.{NodeOp}
 use Rattle.portal_model.specs.declared.request.NodeRequest.{NodeRequest}
+use Rattle.portal_model.specs.declared.state.Document.{Document}
 use Rattle.portal_model.specs.Access.{access, access_file, access_folder, executes, writes_to}
 use Rattle.portal_model.specs.Attributes.{attr_of_file, attr_of_folder, on_node}
 use Rattle.portal_model.specs.Create.{create, create_in, create_there}
 use Rattle.portal_model.specs.Errno.{eacces, ebadf, efbig, einval, eisdir, emfile, enametoolong, enoent, enotdir, eperm}
 use Rattle.portal_model.specs.Fsync.{fsync_open}
-use Rattle.portal_model.specs.GetAttr.{get_attr, get_attr_by_handle, get_attr_by_place, names_handle, tells_file, tells_folder}
+use Rattle.portal_model.specs.GetAttr.{get_attr, get_attr_by_handle, get_attr_by_place, get_attr_open, names_handle, tells_file, tells_folder}
 use Rattle.portal_model.specs.Lookup.{entry_of_file, found_folder, lookup, lookup_in, named_in_root, named_in_views}
 use Rattle.portal_model.specs.Node.{NodeFacts, node_walk}
-use Rattle.portal_model.specs.NodeVerdict.{NodeVerdict, FilesStay, Resizes, Writes, Errs, Yields, OnFile, OnHandle, Room, at_file, by_file_handle, by_place, changes, errs, errs_if, if_file, is_too_long, no_file, tells, told}
+use Rattle.portal_model.specs.NodeVerdict.{NodeVerdict, FilesStay, Resizes, Writes, Errs, Yields, OnFile, OnHandle, Room, at_file, at_name, by_file_handle, by_place, changes, errs, errs_if, if_file, is_too_long, no_file, tells, told}
 use Rattle.portal_model.specs.Open.{file_handle, has_no_mode, open_file, open_folder, open_name, open_node, opened_file, opens_to_write, truncates}
 use Rattle.portal_model.specs.OpenDir.{open_dir, open_dir_in, open_found}
 use Rattle.portal_model.specs.Place.{Folder, RootOf, Views, FolderOf, file_node, Sight, SightOfFile, SightOfFolder}
-use Rattle.portal_model.specs.Read.{read, read_limit, read_open}
+use Rattle.portal_model.specs.Reach.{OpenFile, Reaching, may_read_now, may_write_now, open_file_of, reaches}
+use Rattle.portal_model.specs.Read.{read, read_limit, read_name, read_open}
 use Rattle.portal_model.specs.ReadDir.{read_dir, read_names}
 use Rattle.portal_model.specs.Release.{closed}
 use Rattle.portal_model.specs.ReleaseDir.{release_dir}
-use Rattle.portal_model.specs.SetAttr.{SetsAttr, resize, set_attr, set_attr_at, set_attr_of, set_attr_of_folder, set_attr_open, sets_by_handle, sets_owner_or_mode, sets_size}
+use Rattle.portal_model.specs.SetAttr.{SetsAttr, resize, set_attr, set_attr_at, set_attr_of, set_attr_of_folder, set_attr_of_open, set_attr_open, sets_by_handle, sets_owner_or_mode, sets_size}
 use Rattle.portal_model.specs.Walk.{Walk, Answers, Looks, Ends, AtPath, Changes, Uses, walked}
 use Rattle.portal_model.specs.Write.{write, write_content, write_limit, write_open}
 use Rattle.session.specs.FrameLengths.{longest_struct, room_for}
@@ -78,16 +80,16 @@ module _ (room : ℕ) where
   on_look next h Look.Folder = tt
   on_look next h Look.Missing = tt
 
-  on_place : (sight : Option Sight) (file : List ℕ → Bool → OnFile) (folder : Folder → Walk NodeVerdict) →
-      ((path : List ℕ) (may_write : Bool) (generation size moment : ℕ) → OnWalk (file path may_write generation size moment)) →
+  on_place : (sight : Option Sight) (file : Document → Bool → OnFile) (folder : Folder → Walk NodeVerdict) →
+      ((d : Document) (may_write : Bool) (generation size moment : ℕ) → OnWalk (file d may_write generation size moment)) →
       ((f : Folder) → OnWalk (folder f)) → OnWalk (by_place sight file folder)
   on_place None file folder h k = tt
-  on_place (Some (SightOfFile path may_write)) file folder h k = on_look (file path may_write) (h path may_write)
+  on_place (Some (SightOfFile d may_write)) file folder h k = on_look (file d may_write) (h d may_write)
   on_place (Some (SightOfFolder f)) file folder h k = k f
 
-  on_handle : (handle : Option Handle) (next : OnHandle) → ((name : FileName) (node : ℕ) (read write : Bool) → OnWalk (next name node read write)) → OnWalk (by_file_handle handle next)
+  on_handle : (handle : Option Handle) (next : OnHandle) → ((file : OpenFile) → OnWalk (next file)) → OnWalk (by_file_handle handle next)
   on_handle None next h = tt
-  on_handle (Some (Handle.File name node read write)) next h = h name node read write
+  on_handle (Some (Handle.File name node document strict read write)) next h = h (open_file_of name node document strict read write)
   on_handle (Some (Handle.Folder node names)) next h = tt
 
 -- ---- requests that are answered by a struct
@@ -105,80 +107,92 @@ found_fits r (Some node) = least
 lookup_in_fits : (r : NodeRequest) (name : List ℕ) (folder : Folder) → On (lookup_in r name folder)
 lookup_in_fits r name (RootOf view numbers has_views) = found_fits r (named_in_root view numbers has_views name)
 lookup_in_fits r name (Views applications) = found_fits r (named_in_views applications name)
-lookup_in_fits r name (FolderOf view number path may_write) =
-    let file : OnFile = entry_of_file r (file_node view number) may_write in
-    on_cond longest_struct (is_same name (name_of path)) (at_file path file) (errs enoent) (on_look longest_struct file (λ g s m. least)) tt
+lookup_in_fits r name (FolderOf view d may_write) =
+    let file : OnFile = entry_of_file r (file_node view d.id.number) may_write in
+    on_cond longest_struct (is_same name (name_of d.path)) (at_file d.path file) (errs enoent) (on_look longest_struct file (λ g s m. least)) tt
 
 lookup_fits : (r : NodeRequest) (name : List ℕ) (sight : Option Sight) → On (lookup r name sight)
 lookup_fits r name sight =
     on_errs_if longest_struct (is_too_long name) enametoolong (by_place sight (no_file enotdir) (lookup_in r name)) (λ e.
-    on_place longest_struct sight (no_file enotdir) (lookup_in r name) (λ path w g s m. tt) (lookup_in_fits r name))
+    on_place longest_struct sight (no_file enotdir) (lookup_in r name) (λ d w g s m. tt) (lookup_in_fits r name))
 
 place_fits : (r : NodeRequest) (sight : Option Sight) → On (get_attr_by_place r sight)
-place_fits r sight = on_place longest_struct sight (λ path may_write. tells_file r may_write) (tells_folder r) (λ path w g s m. least) (λ folder. least)
+place_fits r sight = on_place longest_struct sight (λ d may_write. tells_file r may_write) (tells_folder r) (λ d w g s m. least) (λ folder. least)
 
-handle_fits : (r : NodeRequest) (sight : Option Sight) (handle : Option Handle) → On (get_attr_by_handle r sight handle)
-handle_fits r sight None = tt
-handle_fits r sight (Some (Handle.File name node read write)) = on_look longest_struct (tells_file (on_node r node) write) (λ g s m. least)
-handle_fits r sight (Some (Handle.Folder node names)) = place_fits r sight
+open_attr_fits : (reach : Reaching) (r : NodeRequest) (file : OpenFile) → On (get_attr_open reach r file)
+open_attr_fits reach r file =
+    let tells : OnFile = tells_file (on_node r file.node) (may_write_now reach file) in
+    on_errs_if longest_struct (not (reaches reach file)) eacces (at_name file.name tells) (λ e. on_look longest_struct tells (λ g s m. least))
 
-get_attr_fits : (r : NodeRequest) (flags : ℕ) (sight : Option Sight) (handle : Option Handle) → On (get_attr r flags sight handle)
-get_attr_fits r flags sight handle =
-    on_cond longest_struct (names_handle flags) (get_attr_by_handle r sight handle) (get_attr_by_place r sight) (handle_fits r sight handle) (place_fits r sight)
+handle_fits : (reach : Reaching) (r : NodeRequest) (sight : Option Sight) (handle : Option Handle) → On (get_attr_by_handle reach r sight handle)
+handle_fits reach r sight None = tt
+handle_fits reach r sight (Some (Handle.File name node document strict read write)) = open_attr_fits reach r (open_file_of name node document strict read write)
+handle_fits reach r sight (Some (Handle.Folder node names)) = place_fits r sight
 
-size_fits : (r : NodeRequest) (a : SetsAttr) (errno : ℕ) (name : FileName) (may_write : Bool) (size moment : ℕ) → On (set_attr_of r a errno name may_write size moment)
-size_fits r a errno name may_write size moment =
+get_attr_fits : (reach : Reaching) (r : NodeRequest) (flags : ℕ) (sight : Option Sight) (handle : Option Handle) → On (get_attr reach r flags sight handle)
+get_attr_fits reach r flags sight handle =
+    on_cond longest_struct (names_handle flags) (get_attr_by_handle reach r sight handle) (get_attr_by_place r sight) (handle_fits reach r sight handle) (place_fits r sight)
+
+size_fits : (r : NodeRequest) (a : SetsAttr) (name : FileName) (may_write : Bool) (size moment : ℕ) → On (set_attr_of r a name may_write size moment)
+size_fits r a name may_write size moment =
     let within : Walk NodeVerdict = errs_if (nat_lt a.limit a.size) efbig (resize r a name may_write) in
-    on_cond longest_struct (sets_size a.valid) (errs_if (not may_write) errno within) (told (NodeAnswer.Attr (attr_of_file r may_write size moment)))
-    (on_errs_if longest_struct (not may_write) errno within (λ e.
+    on_cond longest_struct (sets_size a.valid) (errs_if (not may_write) eacces within) (told (NodeAnswer.Attr (attr_of_file r may_write size moment)))
+    (on_errs_if longest_struct (not may_write) eacces within (λ e.
     on_errs_if longest_struct (nat_lt a.limit a.size) efbig (resize r a name may_write) (λ k. ((λ now. least), tt)))) least
 
-set_attr_fits : (r : NodeRequest) (a : SetsAttr) (sight : Option Sight) (handle : Option Handle) → On (set_attr r a sight handle)
-set_attr_fits r a sight handle =
-    let by_handle : Walk NodeVerdict = by_file_handle handle (set_attr_open r a) in
+set_open_fits : (reach : Reaching) (r : NodeRequest) (a : SetsAttr) (file : OpenFile) → On (set_attr_open reach r a file)
+set_open_fits reach r a file =
+    let on : NodeRequest = on_node r file.node in
+    on_errs_if longest_struct (not (reaches reach file)) eacces (at_name file.name (set_attr_of_open reach r a file)) (λ e.
+    on_look longest_struct (set_attr_of_open reach r a file) (λ g s m.
+    on_errs_if longest_struct (sets_size a.valid && not file.write) ebadf (set_attr_of on a file.name (may_write_now reach file) s m) (λ k.
+    size_fits on a file.name (may_write_now reach file) s m)))
+
+set_attr_fits : (reach : Reaching) (r : NodeRequest) (a : SetsAttr) (sight : Option Sight) (handle : Option Handle) → On (set_attr reach r a sight handle)
+set_attr_fits reach r a sight handle =
+    let by_handle : Walk NodeVerdict = by_file_handle handle (set_attr_open reach r a) in
     let at_place : Walk NodeVerdict = by_place sight (set_attr_at r a) (set_attr_of_folder r a) in
     on_errs_if longest_struct (sets_owner_or_mode a.valid) eperm (cond (sets_by_handle a.valid) by_handle at_place) (λ e.
     on_cond longest_struct (sets_by_handle a.valid) by_handle at_place
-    (on_handle longest_struct handle (set_attr_open r a) (λ name node read write.
-    on_look longest_struct (λ g s m. set_attr_of (on_node r node) a ebadf name write s m) (λ g s m. size_fits (on_node r node) a ebadf name write s m)))
+    (on_handle longest_struct handle (set_attr_open reach r a) (set_open_fits reach r a))
     (on_place longest_struct sight (set_attr_at r a) (set_attr_of_folder r a)
-    (λ path w g s m. size_fits r a eacces (record { path = path; generation = g }) w s m)
+    (λ d w g s m. size_fits r a (record { path = d.path; generation = g }) w s m)
     (λ folder. on_errs_if longest_struct (sets_size a.valid) eisdir (told (NodeAnswer.Attr (attr_of_folder r))) (λ k. least))))
 
-open_name_fits : (r : NodeRequest) (flags : ℕ) (room : Room) (name : FileName) → On (open_name r flags room name)
-open_name_fits r flags room name =
+open_name_fits : (r : NodeRequest) (flags : ℕ) (room : Room) (d : Document) (name : FileName) → On (open_name r flags room d name)
+open_name_fits r flags room d name =
     on_cond longest_struct (truncates flags)
-    (Ends (Changes name) (λ now. opened_file room (file_handle name r.node flags) (Resizes name 0 now)) (Errs enoent))
-    (Answers (opened_file room (file_handle name r.node flags) FilesStay)) ((λ now. least), tt) least
+    (Ends (Changes name) (λ now. opened_file room (file_handle d name r.node flags) (Resizes name 0 now)) (Errs enoent))
+    (Answers (opened_file room (file_handle d name r.node flags) FilesStay)) ((λ now. least), tt) least
 
 open_fits : (r : NodeRequest) (flags : ℕ) (sight : Option Sight) (room : Room) → On (open_node r flags sight room)
 open_fits r flags sight room =
     on_errs_if longest_struct (has_no_mode flags) einval (by_place sight (open_file r flags room) open_folder) (λ e.
-    on_place longest_struct sight (open_file r flags room) open_folder (λ path w g s m.
-    let name : FileName = record { path = path; generation = g } in
-    on_errs_if longest_struct (opens_to_write flags && not w) eacces (errs_if room.full emfile (open_name r flags room name)) (λ k.
-    on_errs_if longest_struct room.full emfile (open_name r flags room name) (λ l. open_name_fits r flags room name))) (λ folder. tt))
+    on_place longest_struct sight (open_file r flags room) open_folder (λ d w g s m.
+    let name : FileName = record { path = d.path; generation = g } in
+    on_errs_if longest_struct (opens_to_write flags && not w) eacces (errs_if room.full emfile (open_name r flags room d name)) (λ k.
+    on_errs_if longest_struct room.full emfile (open_name r flags room d name) (λ l. open_name_fits r flags room d name))) (λ folder. tt))
 
-there_fits : (r : NodeRequest) (flags : ℕ) (room : Room) (path : List ℕ) (node : ℕ) (look : Look) → On (create_there r flags room path node look)
-there_fits r flags room path node (Look.File generation size moment) = tt
-there_fits r flags room path node Look.Folder = tt
-there_fits r flags room path node Look.Missing = ((λ now. least), tt)
+there_fits : (r : NodeRequest) (flags : ℕ) (room : Room) (d : Document) (node : ℕ) (look : Look) → On (create_there r flags room d node look)
+there_fits r flags room d node (Look.File generation size moment) = tt
+there_fits r flags room d node Look.Folder = tt
+there_fits r flags room d node Look.Missing = ((λ now. least), tt)
 
 create_in_fits : (r : NodeRequest) (name : List ℕ) (flags : ℕ) (room : Room) (folder : Folder) → On (create_in r name flags room folder)
 create_in_fits r name flags room (RootOf view numbers has_views) = tt
 create_in_fits r name flags room (Views applications) = tt
-create_in_fits r name flags room (FolderOf view number path may_write) =
-    let made : Walk NodeVerdict = Looks (AtPath path) (create_there r flags room path (file_node view number)) in
-    on_errs_if longest_struct (not (is_same name (name_of path))) eacces (errs_if (not may_write) eacces (errs_if room.full emfile made)) (λ e.
+create_in_fits r name flags room (FolderOf view d may_write) =
+    let made : Walk NodeVerdict = Looks (AtPath d.path) (create_there r flags room d (file_node view d.id.number)) in
+    on_errs_if longest_struct (not (is_same name (name_of d.path))) eacces (errs_if (not may_write) eacces (errs_if room.full emfile made)) (λ e.
     on_errs_if longest_struct (not may_write) eacces (errs_if room.full emfile made) (λ k.
-    on_errs_if longest_struct room.full emfile made (λ l. there_fits r flags room path (file_node view number))))
+    on_errs_if longest_struct room.full emfile made (λ l. there_fits r flags room d (file_node view d.id.number))))
 
 create_fits : (r : NodeRequest) (name : List ℕ) (flags : ℕ) (sight : Option Sight) (room : Room) → On (create r name flags sight room)
 create_fits r name flags sight room =
     let placed : Walk NodeVerdict = by_place sight (no_file enotdir) (create_in r name flags room) in
     on_errs_if longest_struct (has_no_mode flags) einval (errs_if (is_too_long name) enametoolong placed) (λ e.
     on_errs_if longest_struct (is_too_long name) enametoolong placed (λ k.
-    on_place longest_struct sight (no_file enotdir) (create_in r name flags room) (λ path w g s m. tt) (create_in_fits r name flags room)))
+    on_place longest_struct sight (no_file enotdir) (create_in r name flags room) (λ d w g s m. tt) (create_in_fits r name flags room)))
 
 content_fits : (limit : ℕ) (name : FileName) (offset : ℕ) (content : List ℕ) → On (write_content limit name offset content)
 content_fits limit name offset [] = least
@@ -186,32 +200,34 @@ content_fits limit name offset (b ∷ bs) =
     on_errs_if longest_struct (nat_lt limit (offset + length (b ∷ bs))) efbig
     (Ends (Changes name) (λ now. changes (Writes name offset (b ∷ bs) now) (NodeAnswer.Written (length (b ∷ bs)))) (Errs enoent)) (λ e. ((λ now. least), tt))
 
-write_fits : (limit offset : ℕ) (content : List ℕ) (handle : Option Handle) → On (write limit offset content handle)
-write_fits limit offset content handle =
-    on_errs_if longest_struct (nat_lt write_limit (length content)) einval (by_file_handle handle (write_open limit offset content)) (λ e.
-    on_handle longest_struct handle (write_open limit offset content) (λ name node read write.
-    on_errs_if longest_struct (not write) ebadf (write_content limit name offset content) (λ k. content_fits limit name offset content)))
+write_fits : (reach : Reaching) (limit offset : ℕ) (content : List ℕ) (handle : Option Handle) → On (write reach limit offset content handle)
+write_fits reach limit offset content handle =
+    on_errs_if longest_struct (nat_lt write_limit (length content)) einval (by_file_handle handle (write_open reach limit offset content)) (λ e.
+    on_handle longest_struct handle (write_open reach limit offset content) (λ file.
+    let now : Walk NodeVerdict = write_content limit file.name offset content in
+    on_errs_if longest_struct (not file.write) ebadf (errs_if (not (may_write_now reach file)) eacces now) (λ k.
+    on_errs_if longest_struct (not (may_write_now reach file)) eacces now (λ l. content_fits limit file.name offset content))))
 
 found_names_fit : (r : NodeRequest) (room : Room) (folder : Folder) → On (open_found r room folder)
 found_names_fit r room (RootOf view numbers has_views) = least
 found_names_fit r room (Views applications) = least
-found_names_fit r room (FolderOf view number path may_write) = λ look. least
+found_names_fit r room (FolderOf view d may_write) = λ look. least
 
 open_dir_fits : (r : NodeRequest) (sight : Option Sight) (room : Room) → On (open_dir r sight room)
 open_dir_fits r sight room =
-    on_place longest_struct sight (no_file enotdir) (open_dir_in r room) (λ path w g s m. tt) (λ folder.
+    on_place longest_struct sight (no_file enotdir) (open_dir_in r room) (λ d w g s m. tt) (λ folder.
     on_errs_if longest_struct room.full emfile (open_found r room folder) (λ e. found_names_fit r room folder))
 
 release_dir_fits : (fh : ℕ) (handle : Option Handle) → On (release_dir fh handle)
 release_dir_fits fh None = tt
-release_dir_fits fh (Some (Handle.File name node read write)) = tt
+release_dir_fits fh (Some (Handle.File name node document strict read write)) = tt
 release_dir_fits fh (Some (Handle.Folder node names)) = tt
 
 access_fits : (mask : ℕ) (sight : Option Sight) → On (access mask sight)
 access_fits mask sight =
     on_errs_if longest_struct (nat_lt 7 mask) einval (by_place sight (access_file mask) (access_folder mask)) (λ e.
     on_place longest_struct sight (access_file mask) (access_folder mask)
-    (λ path w g s m. on_errs_if longest_struct (executes mask || writes_to mask && not w) eacces (told NodeAnswer.Empty) (λ k. tt))
+    (λ d w g s m. on_errs_if longest_struct (executes mask || writes_to mask && not w) eacces (told NodeAnswer.Empty) (λ k. tt))
     (λ folder. on_errs_if longest_struct (writes_to mask) eacces (told NodeAnswer.Empty) (λ k. tt)))
 
 -- ---- requests that say how much is told
@@ -222,16 +238,20 @@ within size h = grind (arith, nat_tests)
 part_fits : (bytes : List ℕ) (offset size : ℕ) → size ≤ read_limit → Short size (NodeAnswer.Content (bytes_from bytes offset size))
 part_fits bytes offset size h = let part = length-take size (drop offset bytes) in (omega (arith, part), h)
 
-read_fits : (bytes : FileName → List ℕ) (offset size : ℕ) (handle : Option Handle) → OnWalk size (read bytes offset size handle)
-read_fits bytes offset size handle =
-    on_errs_if size (nat_lt read_limit size) einval (by_file_handle handle (read_open bytes offset size)) (λ e.
-    on_handle size handle (read_open bytes offset size) (λ name node read write.
-    on_errs_if size (not read) ebadf (Ends (Uses name) (λ now. tells (NodeAnswer.Content (bytes_from (bytes name) offset size))) (Errs enoent))
-    (λ k. ((λ now. part_fits (bytes name) offset size (within size e)), tt))))
+name_fits : (bytes : FileName → List ℕ) (offset size : ℕ) (name : FileName) → size ≤ read_limit → OnWalk size (read_name bytes offset size name)
+name_fits bytes offset size name h = ((λ now. part_fits (bytes name) offset size h), tt)
+
+read_fits : (reach : Reaching) (bytes : FileName → List ℕ) (offset size : ℕ) (handle : Option Handle) → OnWalk size (read reach bytes offset size handle)
+read_fits reach bytes offset size handle =
+    on_errs_if size (nat_lt read_limit size) einval (by_file_handle handle (read_open reach bytes offset size)) (λ e.
+    on_handle size handle (read_open reach bytes offset size) (λ file.
+    let now : Walk NodeVerdict = read_name bytes offset size file.name in
+    on_errs_if size (not file.read) ebadf (errs_if (not (may_read_now reach file)) eacces now) (λ k.
+    on_errs_if size (not (may_read_now reach file)) eacces now (λ l. name_fits bytes offset size file.name (within size e)))))
 
 names_fit : (offset size : ℕ) (handle : Option Handle) → size ≤ read_limit → OnWalk size (read_names offset size handle)
 names_fit offset size None h = tt
-names_fit offset size (Some (Handle.File name node read write)) h = tt
+names_fit offset size (Some (Handle.File name node document strict read write)) h = tt
 names_fit offset size (Some (Handle.Folder node names)) h = (omega arith, h)
 
 read_dir_fits : (offset size : ℕ) (handle : Option Handle) → OnWalk size (read_dir offset size handle)
@@ -244,15 +264,15 @@ pub walk_fits : (f : NodeFacts) (r : NodeRequest) (o : NodeOp) → OnWalk (room_
 walk_fits f r (NodeOp.Lookup name) = lookup_fits r name f.sight
 walk_fits f r (NodeOp.Forget count) = tt
 walk_fits f r (NodeOp.BatchForget nodes) = tt
-walk_fits f r (NodeOp.GetAttr flags fh) = get_attr_fits r flags f.sight (f.handle fh)
-walk_fits f r (NodeOp.SetAttr valid fh size) = set_attr_fits r (record { valid = valid; size = size; limit = f.file_limit }) f.sight (f.handle fh)
+walk_fits f r (NodeOp.GetAttr flags fh) = get_attr_fits f.reach r flags f.sight (f.handle fh)
+walk_fits f r (NodeOp.SetAttr valid fh size) = set_attr_fits f.reach r (record { valid = valid; size = size; limit = f.file_limit }) f.sight (f.handle fh)
 walk_fits f r (NodeOp.Open flags) = open_fits r flags f.sight f.room
 walk_fits f r (NodeOp.Create name flags) = create_fits r name flags f.sight f.room
-walk_fits f r (NodeOp.Read fh offset size) = read_fits f.bytes offset size (f.handle fh)
-walk_fits f r (NodeOp.Write fh offset content) = write_fits f.file_limit offset content (f.handle fh)
-walk_fits f r (NodeOp.Flush fh) = on_handle longest_struct (f.handle fh) (λ name node read write. told NodeAnswer.Empty) (λ name node read write. tt)
-walk_fits f r (NodeOp.Fsync fh) = on_handle longest_struct (f.handle fh) fsync_open (λ name node read write. ((λ now. tt), tt))
-walk_fits f r (NodeOp.Release fh) = on_handle longest_struct (f.handle fh) (λ name node read write. Answers (closed fh)) (λ name node read write. tt)
+walk_fits f r (NodeOp.Read fh offset size) = read_fits f.reach f.bytes offset size (f.handle fh)
+walk_fits f r (NodeOp.Write fh offset content) = write_fits f.reach f.file_limit offset content (f.handle fh)
+walk_fits f r (NodeOp.Flush fh) = on_handle longest_struct (f.handle fh) (λ file. told NodeAnswer.Empty) (λ file. tt)
+walk_fits f r (NodeOp.Fsync fh) = on_handle longest_struct (f.handle fh) fsync_open (λ file. ((λ now. tt), tt))
+walk_fits f r (NodeOp.Release fh) = on_handle longest_struct (f.handle fh) (λ file. Answers (closed fh)) (λ file. tt)
 walk_fits f r NodeOp.OpenDir = open_dir_fits r f.sight f.room
 walk_fits f r (NodeOp.ReadDir fh offset size) = read_dir_fits offset size (f.handle fh)
 walk_fits f r (NodeOp.ReleaseDir fh) = release_dir_fits fh (f.handle fh)

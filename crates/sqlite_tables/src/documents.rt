@@ -70,6 +70,8 @@ fn document_of(alloc: Global, line: &Line) -> Result<PlacedDocument, DatabaseFau
             number: number_at(line, 1)?,
             path: bytes_at(alloc, line, 2)?,
             reusable: place_at(line, 3)? != 0,
+            // The tables are those of version 1, in which no document is strict.
+            strict: false,
             grants: List::new(alloc),
         },
     })

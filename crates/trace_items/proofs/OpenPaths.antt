@@ -8,7 +8,7 @@ use Rattle.portal_model.specs.declared.handle.Handle.{Handle}
 use Rattle.portal_model.specs.declared.handle.OpenHandle.{OpenHandle}
 use Rattle.portal_model.specs.declared.state.Connection.{Connection}
 use Rattle.portal_model.specs.State.{State, connection_of, handle_of, handles_of, is_app, is_handle, is_mount}
-use Rattle.portal_model.specs.Valid.{Valid, has_host_path, is_sound_handle, opened_here, same_handle}
+use Rattle.portal_model.specs.Valid.{Valid, has_host_path, is_sound_handle, opened_here, same_handle, viewed_here}
 use Rattle.open_handles.specs.Opened.{Opened, handle_of as handle_in, opened_on}
 use Rattle.app_world.specs.View.{OwnHandle, is_among, own_connection, own_connections, own_handle, paths_of_connection, paths_of_handle}
 use Rattle.trace_items.specs.Awaited.{HasOpen, numbered, silent}
@@ -185,7 +185,7 @@ module _ (s : State) (v : Valid s) where
       by : (b : Bool) → (h.seat == seat && h.fh == fh) ≡ b → (b || list_any (λ (x : OpenHandle). x.seat == seat && x.fh == fh) hs) ≡ true →
           (list_any (λ (x : OpenHandle). x.seat == seat && x.fh == fh) hs ≡ true → opened_here fh (connection_of s.connections seat) ≡ true) → opened_here fh (connection_of s.connections seat) ≡ true
       by true f g more =
-          let here : opened_here h.fh (connection_of s.connections h.seat) ≡ true = first_of _ (has_host_path h.handle) (first_of (is_sound_handle s.connections h) (list_all (is_sound_handle s.connections) hs) a) in
+          let here : opened_here h.fh (connection_of s.connections h.seat) ≡ true = first_of _ (has_host_path h.handle && viewed_here h.handle (connection_of s.connections h.seat)) (first_of (is_sound_handle s.connections h) (list_all (is_sound_handle s.connections) hs) a) in
           let seats : h.seat ≡ seat = same h.seat seat (first_of (h.seat == seat) (h.fh == fh) f) in
           let numbers : h.fh ≡ fh = same h.fh fh (all-behind (h.seat == seat) (h.fh == fh) f) in
           (λ i. opened_here (sym numbers i) (connection_of s.connections (sym seats i))) ∙ here
@@ -222,7 +222,7 @@ module _ (path : List ℕ) where
   among-joined (x ∷ xs) ys = grind (arith, among-joined xs ys)
 
   handle-named : (h : Handle) → is_among (paths_of_handle h) path ≡ is_open_at path (Some h)
-  handle-named (Handle.File name node read write) = no-more (is_same name.path path)
+  handle-named (Handle.File name node document strict read write) = no-more (is_same name.path path)
     where
       no-more : (b : Bool) → (b || false) ≡ b
       no-more true = refl

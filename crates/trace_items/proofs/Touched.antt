@@ -48,16 +48,16 @@ Any path = Unit {0}
 any-folder : (f : Folder) → FolderOn Any f
 any-folder (RootOf view numbers has_views) = tt
 any-folder (Views applications) = tt
-any-folder (FolderOf view number path may_write) = tt
+any-folder (FolderOf view d may_write) = tt
 
 any-sight : (o : Option Sight) → SightOn Any o
 any-sight None = tt
-any-sight (Some (SightOfFile path may_write)) = tt
+any-sight (Some (SightOfFile d may_write)) = tt
 any-sight (Some (SightOfFolder f)) = any-folder f
 
 any-handle : (o : Option Handle) → HandleOn Any o
 any-handle None = tt
-any-handle (Some (Handle.File name node read write)) = tt
+any-handle (Some (Handle.File name node document strict read write)) = tt
 any-handle (Some (Handle.Folder node names)) = tt
 
 -- what is done can be done with these files

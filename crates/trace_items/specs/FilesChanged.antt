@@ -19,24 +19,24 @@ use Rattle.app_world.specs.View.{AppView, names}
 
 abbrev pub file_open : Option Handle → Option FileName
 file_open None = None
-file_open (Some (Handle.File name node read write)) = Some name
+file_open (Some (Handle.File name node document strict read write)) = Some name
 file_open (Some (Handle.Folder node names)) = None
 
 -- the path of a document's file, where it is seen
 abbrev pub path_of_file : Option Sight → Option (List ℕ)
 path_of_file None = None
-path_of_file (Some (SightOfFile path may_write)) = Some path
+path_of_file (Some (SightOfFile d may_write)) = Some d.path
 path_of_file (Some (SightOfFolder f)) = None
 
 abbrev pub path_in_folder : Folder → Option (List ℕ)
 path_in_folder (RootOf view numbers has_views) = None
 path_in_folder (Views applications) = None
-path_in_folder (FolderOf view number path may_write) = Some path
+path_in_folder (FolderOf view d may_write) = Some d.path
 
 -- the path of the file in a document's folder, where that is seen
 abbrev pub path_of_folder : Option Sight → Option (List ℕ)
 path_of_folder None = None
-path_of_folder (Some (SightOfFile path may_write)) = None
+path_of_folder (Some (SightOfFile d may_write)) = None
 path_of_folder (Some (SightOfFolder f)) = path_in_folder f
 
 -- the file at a path, as the first look showed it

@@ -10,7 +10,7 @@ use Rattle.open_handles.specs.Opened.{Opened, handle_of, opened_on}
 -- a file of this path is open
 abbrev pub is_open_at : List ℕ → Option Handle → Bool
 is_open_at path None = false
-is_open_at path (Some (Handle.File name node read write)) = is_same name.path path
+is_open_at path (Some (Handle.File name node document strict read write)) = is_same name.path path
 is_open_at path (Some (Handle.Folder node names)) = false
 
 -- by a handle of the first numbers, so many

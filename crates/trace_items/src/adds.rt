@@ -9,7 +9,7 @@ ghost use Rattle.app_world.specs.TraceItem.{item_of};
 ghost use Rattle.portal_base.specs.Names.{is_in_own_folder};
 ghost use Rattle.portal_model.specs.declared.request.AddRequest.{AddRequest as Asked};
 ghost use Rattle.portal_model.specs.Add.{first_number, new_document as document_of_number, used_again as used_of};
-ghost use Rattle.portal_model.specs.AddArguments.{are_presented as presented, document_path, document_paths, is_as_needed, is_left_out as left_out, paths_shown as paths_of_call, persists as does_persist, reuses as does_reuse};
+ghost use Rattle.portal_model.specs.AddArguments.{are_presented as presented, document_path, document_paths, is_as_needed, is_left_out as left_out, makes_strict, paths_shown as paths_of_call, persists as does_persist, reuses as does_reuse};
 ghost use Rattle.portal_model.specs.Documents.{serves as serves_for};
 ghost use Rattle.rights_rule.specs.Rights.{rights_named};
 ghost use Rattle.trace_items.specs.OwnAdds.{IsPlanned, Shared, is_given as given_in, is_in_order, looked_at, none_shared, presented_by as presented_path, reused_here, share_file as file_shared, shared_files, shared_with};
@@ -207,6 +207,13 @@ fn reuses(add: &AddRequest) -> bool
     add.flags % 2 == 1
 }
 
+/// Says whether the documents of a call are strict.
+fn is_strict(add: &AddRequest) -> bool
+    ensures { result ≡ makes_strict add.now }
+{
+    add.flags / 16 % 2 == 1
+}
+
 /// Says whether the documents of a call outlive the run.
 fn persists(add: &AddRequest) -> bool
     ensures { result ≡ does_persist add.now }
@@ -219,7 +226,7 @@ fn used_again(documents: &Documents, add: &AddRequest, path: &HostPath) -> Optio
     ensures { result ≡ used_of documents.now.live add.now path.now }
 {
     if reuses(add) {
-        documents.reusable(path, persists(add))
+        documents.reusable(path, persists(add), is_strict(add))
     } else {
         None
     }
@@ -348,23 +355,31 @@ fn made_for(add: &AddRequest, made: &[Document], path: &HostPath) -> Option<DocI
     if !reuses(add) {
         return None;
     }
-    let document = first_for(made, path, persists(add))?;
+    let document = first_for(made, path, persists(add), is_strict(add))?;
     Some(document.id)
 }
 
 /// The first document that may stand for a new one of a path.
-fn first_for<'a>(made: &'a [Document], path: &HostPath, persistent: bool) -> Option<&'a Document>
-    ensures { option_copied result ≡ find (serves_for path.now persistent) made.now }
+fn first_for<'a>(
+    made: &'a [Document],
+    path: &HostPath,
+    persistent: bool,
+    strict: bool,
+) -> Option<&'a Document>
+    ensures { option_copied result ≡ find (serves_for path.now persistent strict) made.now }
 {
     made.iter()
-        .find(|document| serves(document, path, persistent))
+        .find(|document| serves(document, path, persistent, strict))
 }
 
 /// Says whether a document may stand for a new one of a path.
-fn serves(document: &Document, path: &HostPath, persistent: bool) -> bool
-    ensures { result ≡ serves_for path.now persistent document.now }
+fn serves(document: &Document, path: &HostPath, persistent: bool, strict: bool) -> bool
+    ensures { result ≡ serves_for path.now persistent strict document.now }
 {
-    document.path == *path && document.persistent == persistent && document.reusable
+    document.path == *path
+        && document.persistent == persistent
+        && document.strict == strict
+        && document.reusable
 }
 
 /// The number of the next new document.
@@ -391,6 +406,7 @@ fn new_document(
         path: path.replica(alloc)?,
         persistent: persists(add),
         reusable: reuses(add),
+        strict: is_strict(add),
     })
 }
 

@@ -8,5 +8,5 @@ returns-in_err-ended-clause-err g c = on-err c.from_residual-in_err-ended.result
 
 pub returns-clause-ok : goal.returns-clause-ok
 returns-clause-ok g c =
-    made-behind c.args.call.now.request.now c.args.flags (room_in c.args.handles.now c.args.call.now.seat) c.args.path.now c.in_ok-path_copy.path_copy c.args.node c.look-look.result c.args.call.now.seat c.args.handles.now c.in_ok-ended.ended _ _ _ _
-    c.in_ok-path_copy.ensures c.look-look.ensures.asks c.look-look.ensures.looks c.in_ok-ended.ensures.ok
+    made-behind c.args.call.now.request.now c.args.flags (room_in c.args.handles.now c.args.call.now.seat) c.args.made.document.now c.args.made.node c.look-look.result c.args.call.now.seat c.args.handles.now c.in_ok-ended.ended _ _ _ _
+    c.look-look.ensures.asks c.look-look.ensures.looks c.in_ok-ended.ensures.ok

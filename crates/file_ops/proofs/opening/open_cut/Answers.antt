@@ -5,10 +5,10 @@ use Rattle.file_ops.proofs.opening.open_cut.Goals as goal
 
 pub returns-in-NotFile-clause-ok : goal.returns-in-NotFile-clause-ok
 returns-in-NotFile-clause-ok g c =
-    missing-cut c.args.call.now.request.now c.args.flags c.args.name c.args.call.now.seat c.args.handles.now c.now-now.result c.set_len.result c.missing.result _ _
+    missing-cut c.args.call.now.request.now c.args.flags c.args.document.now c.args.name c.args.call.now.seat c.args.handles.now c.now-now.result c.set_len.result c.missing.result _ _
     c.requires.cuts (c.in_ok-came_of.ensures.ok ∙ ap tree_done c.in-NotFile.is) c.missing.ensures c.set_len.ensures
 
 pub returns-in-Failed-clause-ok : goal.returns-in-Failed-clause-ok
 returns-in-Failed-clause-ok g c =
-    failed-cut c.args.call.now.request.now c.args.flags c.args.name c.args.call.now.seat c.args.handles.now c.now-now.result c.set_len.result c.failed.result _ _
+    failed-cut c.args.call.now.request.now c.args.flags c.args.document.now c.args.name c.args.call.now.seat c.args.handles.now c.now-now.result c.set_len.result c.failed.result _ _
     c.requires.cuts (c.in_ok-came_of.ensures.ok ∙ ap tree_done c.in-Failed.is) c.failed.ensures c.set_len.ensures

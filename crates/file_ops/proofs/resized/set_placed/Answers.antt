@@ -8,5 +8,5 @@ returns-in_err-ended-clause-err g c = on-err c.from_residual-in_err-ended.result
 
 pub returns-clause-ok : goal.returns-clause-ok
 returns-clause-ok g c =
-    behind-goes (AtPath c.args.path.now) _ c.look-look.result c.in_ok-ended.ended _ _ _ _ c.look-look.ensures.asks (shows-path _ c.args.path.now c.look-look.result c.look-look.ensures.looks)
-    (placed-behind c.args.request.now _ c.args.path.now c.in_ok-path_copy.path_copy c.args.may_write c.look-look.result c.generation_of.result _ c.in_ok-ended.ended _ _ c.in_ok-path_copy.ensures c.generation_of.ensures c.in_ok-ended.ensures.ok)
+    behind-goes (AtPath c.args.document.now.path) _ c.look-look.result c.in_ok-ended.ended _ _ _ _ c.look-look.ensures.asks (shows-path _ c.args.document.now.path c.look-look.result c.look-look.ensures.looks)
+    (placed-behind c.args.request.now _ c.args.document.now c.in_ok-path_copy.path_copy c.args.may_write c.look-look.result c.generation_of.result _ c.in_ok-ended.ended _ _ c.in_ok-path_copy.ensures c.generation_of.ensures c.in_ok-ended.ensures.ok)

@@ -42,7 +42,7 @@ returns-in-Fsync-clause-err g c =
     on_err_weaker c.fsync.result (λ called. record { handles = λ s h. h; calls = (called.0, called.2) }) c.fsync.ensures.err
 
 pub returns-in-Read-clause-ok : goal.returns-in-Read-clause-ok
-returns-in-Read-clause-ok g c = c.read.ensures.ok c.in-Read.is c.args.book.now
+returns-in-Read-clause-ok g c = c.read.ensures.ok c.in-Read.is
 
 pub returns-in-Read-clause-err : goal.returns-in-Read-clause-err
 returns-in-Read-clause-err g c =

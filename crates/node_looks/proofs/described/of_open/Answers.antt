@@ -1,9 +1,9 @@
 use Rattle.std.proofs.Common.{ap, Some}
 use Rattle.portal_model.specs.declared.handle.Handle.{Handle}
 use Rattle.portal_model.specs.GetAttr.{get_attr_by_handle}
-use Rattle.portal_model.specs.Place.{place_of}
+use Rattle.portal_model.specs.Place.{place_of, reach_at}
 use Rattle.node_looks.proofs.OpenFiles.{with-handle}
 use Rattle.node_looks.proofs.described.of_open.Goals as goal
 
 pub returns-in-File : goal.returns-in-File
-returns-in-File g c = λ s l. with-handle (get_attr_by_handle c.args.request.now (place_of s c.args.who.now c.args.request.now.node)) _ _ _ _ _ (ap (λ (h : Handle). Some h) c.in-File.is) c.of_open_file.ensures
+returns-in-File g c = λ s l. with-handle (get_attr_by_handle (reach_at s c.args.who.now) c.args.request.now (place_of s c.args.who.now c.args.request.now.node)) _ _ _ _ _ (ap (λ (h : Handle). Some h) c.in-File.is) (c.of_open_file.ensures s l)

@@ -1,5 +1,7 @@
-use Rattle.node_looks.proofs.OpenFiles.{same-look}
+use Rattle.portal_model.specs.Place.{reach_at}
+use Rattle.node_looks.specs.Opened.{file_of}
+use Rattle.node_looks.proofs.OpenFiles.{open-follows}
 use Rattle.node_looks.proofs.described.of_open_file.Goals as goal
 
 pub returns : goal.returns
-returns g c = same-look c.args.name.now _ _ c.attr-answer.result _ c.attr_by_look.result c.look_of_attr-look.result c.look_of_attr-look.ensures c.attr-answer.ensures.asks c.attr-answer.ensures.attrs c.attr_by_look.ensures
+returns g c = λ s l. open-follows (reach_at s c.args.who.now) c.args.request.now (file_of c.args.file) c.allowed_now-allowed.result _ c.of_file_where.result _ (c.allowed_now-allowed.ensures s l) c.of_file_where.ensures

@@ -15,8 +15,8 @@ use Rattle.portal_core.proofs.portal.Portal.enter.Goals as goal
 
 pub invariant_of-self-then-is_here : goal.invariant_of-self-then-is_here
 invariant_of-self-then-is_here g c =
-    let room = rw (c.as_slice-2.ensures) at c.in_ok-reserve.ensures.ok in
-    rw (c.push.ensures, c.in_ok-reserve.ensures.entries, c.in_ok-reserve.ensures.limit, c.entry_made-refused.ensures, c.in_ok-name.ensures) (
+    let room = rw (c.as_slice-2.ensures) at c.in_ok-make_room.ensures.room in
+    rw (c.push.ensures, c.in_ok-make_room.ensures.entries, c.in_ok-make_room.ensures.limit, c.entry_made-refused.ensures, c.in_ok-name.ensures) (
       stands_there (g.T.HostTree.is c.self.inside.tree).began c.self.inside.opening c.self.inside.history.entries c.self.inside.history.limit c.self.inside.documents c.self.inside.rights c.self.inside.applications c.self.inside.connections c.self.inside.handles (g.T.HostTree.is c.self.inside.tree).told c.self.invariant.0
           c.args.seat c.args.who c.args.kind c.check_caller.ensures (search rules) (rw (← c.self.view_is) at c.requires),
       omega (arith, room),
@@ -26,8 +26,8 @@ invariant_of-self-then-is_here g c =
 
 pub invariant_of-self-2 : goal.invariant_of-self-2
 invariant_of-self-2 g c =
-    let room = rw (c.as_slice-2.ensures) at c.in_ok-reserve.ensures.ok in
-    rw (c.push-2.ensures, c.in_ok-reserve.ensures.entries, c.in_ok-reserve.ensures.limit, c.in_ok-enter.ensures.connected, c.opened_connection.ensures, c.entry_made-entry.ensures, c.in_ok-name.ensures) (
+    let room = rw (c.as_slice-2.ensures) at c.in_ok-make_room.ensures.room in
+    rw (c.push-2.ensures, c.in_ok-make_room.ensures.entries, c.in_ok-make_room.ensures.limit, c.in_ok-enter.ensures.connected, c.opened_connection.ensures, c.entry_made-entry.ensures, c.in_ok-name.ensures) (
       stands_new (g.T.HostTree.is c.self.inside.tree).began c.self.inside.opening c.self.inside.history.entries c.self.inside.history.limit c.self.inside.documents c.self.inside.rights c.self.inside.applications c.self.inside.connections c.self.inside.handles (g.T.HostTree.is c.self.inside.tree).told c.self.invariant.0
           c.args.seat c.args.who c.args.kind c.enter.new.handles c.check_caller.ensures (search rules) (search rules) (search rules) (rw (← c.self.view_is) at c.requires),
       rw (length-append c.self.inside.connections (new_connection c.args.seat c.args.who c.args.kind ∷ [])) (omega (arith, room)),
@@ -47,10 +47,10 @@ enter-requires-clause-handles g c =
 
 pub invariant_of-self-in_err-enter : goal.invariant_of-self-in_err-enter
 invariant_of-self-in_err-enter g c =
-    let room = rw (c.as_slice-2.ensures) at c.in_ok-reserve.ensures.ok in
+    let room = rw (c.as_slice-2.ensures) at c.in_ok-make_room.ensures.room in
     let boxes = c.in_err-enter.ensures.outboxes in
     let st = c.self.invariant.3 in
-    rw (c.in_err-enter.ensures.connections, c.in_ok-reserve.ensures.entries, c.in_ok-reserve.ensures.limit) (
+    rw (c.in_err-enter.ensures.connections, c.in_ok-make_room.ensures.entries, c.in_ok-make_room.ensures.limit) (
       search rules,
       omega (arith, room),
       c.self.invariant.2,

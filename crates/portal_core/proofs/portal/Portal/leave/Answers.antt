@@ -15,8 +15,8 @@ use Rattle.portal_core.proofs.portal.Portal.leave.Goals as goal
 
 pub invariant_of-self-then-not-is_here : goal.invariant_of-self-then-not-is_here
 invariant_of-self-then-not-is_here g c =
-    let room = rw (c.as_slice-then-not-is_here.ensures) at c.in_ok-reserve.ensures.ok in
-    rw (c.push.ensures, c.in_ok-reserve.ensures.entries, c.in_ok-reserve.ensures.limit, c.entry_made-refused.ensures) (
+    let room = rw (c.as_slice-then-not-is_here.ensures) at c.in_ok-make_room.ensures.room in
+    rw (c.push.ensures, c.in_ok-make_room.ensures.entries, c.in_ok-make_room.ensures.limit, c.entry_made-refused.ensures) (
       stands_absent (g.T.HostTree.is c.self.inside.tree).began c.self.inside.opening c.self.inside.history.entries c.self.inside.history.limit c.self.inside.documents c.self.inside.rights c.self.inside.applications c.self.inside.connections c.self.inside.handles (g.T.HostTree.is c.self.inside.tree).told c.self.invariant.0
           c.args.seat (search rules),
       omega (arith, room),
@@ -63,5 +63,5 @@ returns-clause-ok g c =
       went = went-plain _ _ _ _ _ _ _ (search rules) (search rules) (search rules) (search rules) (search rules) (search rules) (search rules) (search rules) (search rules) (search rules) (search rules) (search rules);
     }
 
-pub returns-in_err-reserve-clause-here : goal.returns-in_err-reserve-clause-here
-returns-in_err-reserve-clause-here g c = λ h. absurd (absent_closed (g.T.HostTree.is c.self.inside.tree).began c.self.inside.opening c.self.inside.history.entries c.self.inside.history.limit c.self.inside.documents c.self.inside.rights c.self.inside.applications c.self.inside.connections c.self.inside.handles (g.T.HostTree.is c.self.inside.tree).told c.self.invariant.0 c.args.seat (search rules) (rw (← c.self.view_is) at h))
+pub returns-in_err-make_room-clause-here : goal.returns-in_err-make_room-clause-here
+returns-in_err-make_room-clause-here g c = λ h. absurd (absent_closed (g.T.HostTree.is c.self.inside.tree).began c.self.inside.opening c.self.inside.history.entries c.self.inside.history.limit c.self.inside.documents c.self.inside.rights c.self.inside.applications c.self.inside.connections c.self.inside.handles (g.T.HostTree.is c.self.inside.tree).told c.self.invariant.0 c.args.seat (search rules) (rw (← c.self.view_is) at h))

@@ -35,7 +35,7 @@ invariant_of-self-in-Ok g c =
     let new = c.serve-served.new in
     let after = g.T.HostTree.is new.tree in
     let done = c.in-Ok.done in
-    let room = rw (c.as_slice.ensures) at c.in_ok-reserve.ensures.ok in
+    let room = rw (c.as_slice.ensures) at c.in_ok-make_room.ensures.room in
     let count = c.serve-served.ensures.count in
     let at = run (opened_over tree.began k.opening) k.history.entries in
     let s = c.in-Ok.ensures.ok (quiet at) (served_in tree.began k.opening k.history.entries k.history.limit k.documents k.rights k.applications k.connections k.handles tree.told c.self.invariant.0 _ refl refl refl refl) in
@@ -44,7 +44,7 @@ invariant_of-self-in-Ok g c =
     let keeps = keeps-node tree.began k.opening k.history.entries k.history.limit k.documents k.rights k.applications k.connections k.handles tree.told c.self.invariant.0 c.args.seat c.args.request tree done new.connections new.handles after s (g.K.Keeper.is k.keeper).told c.self.invariant.2 in
     let kept = calls-keep tree (seat_calls (quiet at) c.args.seat c.args.request (given_to done)) after.told after s.calls in
     let both = stands_over tree.began after.began k.opening (k.history.entries ++ node_entry c.args.seat c.args.request done ∷ []) k.history.limit k.documents k.rights k.applications new.connections new.handles after.told after.told (g.K.Keeper.is k.keeper).told kept refl stands keeps in
-    rw (c.push.ensures, c.in_ok-reserve.ensures.entries, c.in_ok-reserve.ensures.limit, c.node_entry-entry.ensures) (
+    rw (c.push.ensures, c.in_ok-make_room.ensures.entries, c.in_ok-make_room.ensures.limit, c.node_entry-entry.ensures) (
       both.0,
       omega (arith, room, count),
       both.1,
@@ -57,11 +57,11 @@ invariant_of-self-in-Err g c =
     let k = c.self.inside in
     let tree = g.T.HostTree.is k.tree in
     let after = g.T.HostTree.is c.serve-served.new.tree in
-    let room = rw (c.as_slice.ensures) at c.in_ok-reserve.ensures.ok in
+    let room = rw (c.as_slice.ensures) at c.in_ok-make_room.ensures.room in
     let kept = was-called-keeps tree after c.in-Err.ensures.err.calls in
     let wanting = stands_wanting tree.began k.opening k.history.entries k.history.limit k.documents k.rights k.applications k.connections k.handles tree.told c.self.invariant.0 c.serve-served.new.handles c.in-Err.ensures.err.handles in
     let both = stands_over tree.began after.began k.opening k.history.entries k.history.limit k.documents k.rights k.applications k.connections c.serve-served.new.handles tree.told after.told (g.K.Keeper.is k.keeper).told kept.0 kept.1 wanting c.self.invariant.2 in
-    rw (c.in-Err.ensures.connections, c.in_ok-reserve.ensures.entries, c.in_ok-reserve.ensures.limit) (
+    rw (c.in-Err.ensures.connections, c.in_ok-make_room.ensures.entries, c.in_ok-make_room.ensures.limit) (
       both.0,
       omega (arith, room),
       both.1,
