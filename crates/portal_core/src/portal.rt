@@ -755,6 +755,7 @@ fn make_room(
     ensures room { OnOk result (length connections.now + more ≤ history.new.spare) }
     ensures entries { history.new.entries ≡ history.old.entries }
     ensures limit { history.new.limit ≡ history.old.limit }
+    ensures spare { history.old.spare ≤ history.new.spare }
     ensures err { OnErr result (history.new ≡ history.old) }
 {
     // More entries than a `u32` counts need more memory than there is.
