@@ -1,12 +1,15 @@
 //! Calls of the permission store, over tables without entries at first.
 
 ghost use Rattle.std.specs.Prelude.{◌≡◌, true};
+ghost use Rattle.permission_table.specs.Tables.{have_texts};
 ghost use Rattle.portal_model.specs.Valid.{is_text};
 
 use crate::readings::{datum, names, rows, text};
 use crate::shown::put_told;
 use permission_table::Tables;
+use portal_base::list::List;
 use portal_base::text::Text;
+use portal_model::records::Row;
 use std::alloc::Global;
 use vector_lines::error::{VectorError, bad};
 use vector_lines::notation::cut;
@@ -52,14 +55,35 @@ fn put_attempt(
     let (id, _) = cut(rest);
     let table = text(alloc, table)?;
     let id = text(alloc, id)?;
-    match tables.former(&table, &id) {
+    let put = match tables.former(&table, &id) {
         Ok(former) => {
             let put = put_call(alloc, out, tables, word, words);
             tables.put_back(&table, &id, former);
             put
         }
         Err(error) => Err(VectorError::from(error)),
-    }
+    };
+    drop(table);
+    drop(id);
+    put
+}
+
+/// What a call on an entry answers, whose texts are let go here alone.
+fn put_call(
+    alloc: Global,
+    out: &mut String,
+    tables: &mut Tables,
+    word: &str,
+    rest: &str,
+) -> Result<(), VectorError> {
+    let (table, rest) = cut(rest);
+    let (id, rest) = cut(rest);
+    let table = text(alloc, table)?;
+    let id = text(alloc, id)?;
+    let put = put_call_of(alloc, out, tables, word, &table, &id, rest);
+    drop(table);
+    drop(id);
+    put
 }
 
 /// What a call answers:
@@ -72,37 +96,52 @@ fn put_attempt(
 /// - `get TABLE ID APP`: the permissions of an application.
 /// - `delete TABLE ID`: the entry goes.
 /// - `list TABLE`: the identifiers of a table.
-fn put_call(
+fn put_call_of(
     alloc: Global,
     out: &mut String,
     tables: &mut Tables,
     word: &str,
+    table: &Text,
+    id: &Text,
     rest: &str,
-) -> Result<(), VectorError> {
-    let (table, rest) = cut(rest);
-    let (id, rest) = cut(rest);
-    let table = text(alloc, table)?;
-    let id = text(alloc, id)?;
+) -> Result<(), VectorError>
+    requires table { is_text table.now ≡ true }
+    requires id { is_text id.now ≡ true }
+{
     let create = word.ends_with('+');
     match word {
-        "lookup" => Ok(put_told(alloc, out, tables.lookup(&table, &id))?),
-        "delete" => Ok(put_told(alloc, out, tables.delete(&table, &id))?),
-        "list" => Ok(put_told(alloc, out, tables.list(&table))?),
-        "set" | "set+" => set(alloc, out, tables, create, &table, &id, rest),
-        "value" | "value+" => set_value(alloc, out, tables, create, &table, &id, rest),
-        "permit" | "permit+" => permit(alloc, out, tables, create, &table, &id, rest),
-        "forbid" => {
-            let app = text(alloc, rest)?;
-            let told = tables.delete_permission(&table, &id, &app);
-            Ok(put_told(alloc, out, told)?)
-        }
-        "get" => {
-            let app = text(alloc, rest)?;
-            let told = tables.get_permission(&table, &id, &app);
-            Ok(put_told(alloc, out, told)?)
-        }
+        "lookup" => Ok(put_told(alloc, out, tables.lookup(table, id))?),
+        "delete" => Ok(put_told(alloc, out, tables.delete(table, id))?),
+        "list" => Ok(put_told(alloc, out, tables.list(table))?),
+        "set" | "set+" => set(alloc, out, tables, create, table, id, rest),
+        "value" | "value+" => set_value(alloc, out, tables, create, table, id, rest),
+        "permit" | "permit+" => permit(alloc, out, tables, create, table, id, rest),
+        "forbid" | "get" => put_row(alloc, out, tables, word, table, id, rest),
         _ => bad(),
     }
+}
+
+/// What a call on the row of an application answers.
+fn put_row(
+    alloc: Global,
+    out: &mut String,
+    tables: &mut Tables,
+    word: &str,
+    table: &Text,
+    id: &Text,
+    app: &str,
+) -> Result<(), VectorError>
+    requires table { is_text table.now ≡ true }
+    requires id { is_text id.now ≡ true }
+{
+    let app = text(alloc, app)?;
+    let told = if word == "forbid" {
+        tables.delete_permission(table, id, &app)
+    } else {
+        tables.get_permission(table, id, &app)
+    };
+    drop(app);
+    Ok(put_told(alloc, out, told)?)
 }
 
 fn set(
@@ -119,8 +158,27 @@ fn set(
 {
     let (written, data) = cut(rest);
     let rows = rows(alloc, written)?;
+    let put = set_rows(alloc, out, tables, create, table, id, &rows, data);
+    drop(rows);
+    put
+}
+
+fn set_rows(
+    alloc: Global,
+    out: &mut String,
+    tables: &mut Tables,
+    create: bool,
+    table: &Text,
+    id: &Text,
+    rows: &List<Row>,
+    data: &str,
+) -> Result<(), VectorError>
+    requires table { is_text table.now ≡ true }
+    requires id { is_text id.now ≡ true }
+    requires rows { have_texts rows.now ≡ true }
+{
     let datum = datum(alloc, data)?;
-    let told = tables.set(table, create, id, &rows, &datum);
+    let told = tables.set(table, create, id, rows, &datum);
     drop(datum);
     Ok(put_told(alloc, out, told)?)
 }
@@ -159,5 +217,7 @@ fn permit(
     let app = text(alloc, app)?;
     let names = names(alloc, written)?;
     let told = tables.set_permission(table, create, id, &app, &names);
+    drop(app);
+    drop(names);
     Ok(put_told(alloc, out, told)?)
 }

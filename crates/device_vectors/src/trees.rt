@@ -57,11 +57,27 @@ fn put_answers<T: HostTree>(
     for step in steps.split(',') {
         let (kind, rest) = cut(step.trim());
         let (path, rest) = cut(rest);
-        let path = given(alloc, HostPath::read(alloc, path.as_bytes()))?;
-        put_answer(alloc, out, tree, kind, path, rest)?;
+        put_step(alloc, out, tree, kind, path, rest)?;
         out.push_str("; ")?;
     }
     Ok(())
+}
+
+/// What a step answers, whose path is let go here alone.
+fn put_step<T: HostTree>(
+    alloc: Global,
+    out: &mut String,
+    tree: &mut T,
+    kind: &str,
+    path: &str,
+    rest: &str,
+) -> Result<(), VectorError> {
+    let path = given(alloc, HostPath::read(alloc, path.as_bytes()))?;
+    let generation = u64::from(kind == "later");
+    let file = FileName { path, generation };
+    let put = put_answer(alloc, out, tree, kind, &file, rest);
+    drop(file);
+    put
 }
 
 /// `look PATH`, `create PATH NOW`; and of the file of a path `attr PATH`,
@@ -72,27 +88,25 @@ fn put_answer<T: HostTree>(
     out: &mut String,
     tree: &mut T,
     kind: &str,
-    path: HostPath,
+    file: &FileName,
     rest: &str,
 ) -> Result<(), VectorError> {
     let (first, rest) = cut(rest);
-    if kind == "look" {
-        let answer = tree.look(&path);
-        return Ok(write!(out, "{answer:?}")?);
-    }
-    if kind == "create" {
-        let answer = tree.create(&path, number(first)?);
-        return Ok(write!(out, "{answer:?}")?);
-    }
-    let generation = u64::from(kind == "later");
-    let file = FileName { path, generation };
     match kind {
-        "attr" | "later" => {
-            let answer = tree.attr(&file);
+        "look" => {
+            let answer = tree.look(&file.path);
             Ok(write!(out, "{answer:?}")?)
         }
-        "read" => put_read(alloc, out, tree, &file, first, rest),
-        _ => put_change(alloc, out, tree, kind, &file, first, rest),
+        "create" => {
+            let answer = tree.create(&file.path, number(first)?);
+            Ok(write!(out, "{answer:?}")?)
+        }
+        "attr" | "later" => {
+            let answer = tree.attr(file);
+            Ok(write!(out, "{answer:?}")?)
+        }
+        "read" => put_read(alloc, out, tree, file, first, rest),
+        _ => put_change(alloc, out, tree, kind, file, first, rest),
     }
 }
 

@@ -117,7 +117,19 @@ pub fn dirents(alloc: Global, out: &mut String, rest: &str) -> Result<(), LineEr
     let (offset, rest) = cut(rest);
     let (size, entries) = cut(rest);
     let names = names(alloc, entries)?;
-    let filled = fill_dirents(alloc, &names, number(offset)?, small_number(size)?)?;
+    let put = put_filled(alloc, out, &names, offset, size);
+    drop(names);
+    put
+}
+
+fn put_filled(
+    alloc: Global,
+    out: &mut String,
+    names: &List<DirName>,
+    offset: &str,
+    size: &str,
+) -> Result<(), LineError> {
+    let filled = fill_dirents(alloc, names, number(offset)?, small_number(size)?)?;
     out.push_str(digits(alloc, filled.as_slice())?.as_str())?;
     Ok(())
 }

@@ -34,9 +34,16 @@ pub fn signature(alloc: Global, out: &mut String, rest: &str) -> Result<(), Vect
     let text = notation::text(alloc, rest)?;
     given(alloc, check_signature(text.as_slice()))?;
     let kinds = kinds_of(alloc, text.as_slice())?;
+    let put = put_counted(alloc, out, kinds.as_slice());
+    drop(kinds);
+    put
+}
+
+/// How many types there are, and their signature.
+fn put_counted(alloc: Global, out: &mut String, kinds: &[WireType]) -> Result<(), VectorError> {
     let count = kinds.len();
     write!(out, "{count} ")?;
-    put_kinds(alloc, out, kinds.as_slice())
+    put_kinds(alloc, out, kinds)
 }
 
 /// The types of a signature.

@@ -30,15 +30,24 @@ pub fn last(kinds: &List<WireType>) -> Result<&WireType, VectorError> {
 /// each other. `()` is the struct without a member, which no text spells.
 pub fn kind(alloc: Global, out: &mut String, rest: &str) -> Result<(), VectorError> {
     let (text, limits) = cut(rest);
-    let mut kinds = List::new(alloc);
-    match text {
-        "()" => kinds.push(WireType::Struct(List::new(alloc)))?,
-        _ => kinds.append(kinds_of(alloc, text.as_bytes())?)?,
-    }
-    put_kind(out, last(&kinds)?, limits)
+    let kinds = match text {
+        "()" => empty_struct(alloc)?,
+        _ => kinds_of(alloc, text.as_bytes())?,
+    };
+    let put = put_kind(out, &kinds, limits);
+    drop(kinds);
+    put
 }
 
-fn put_kind(out: &mut String, kind: &WireType, limits: &str) -> Result<(), VectorError> {
+/// The type that no text spells.
+fn empty_struct(alloc: Global) -> Result<List<WireType>, VectorError> {
+    let mut kinds = List::new(alloc);
+    kinds.push(WireType::Struct(List::new(alloc)))?;
+    Ok(kinds)
+}
+
+fn put_kind(out: &mut String, kinds: &List<WireType>, limits: &str) -> Result<(), VectorError> {
+    let kind = last(kinds)?;
     let (arrays, brackets) = cut(limits);
     let role = role_of(kind);
     let aligned = alignment_of(kind);
@@ -53,9 +62,32 @@ fn put_kind(out: &mut String, kind: &WireType, limits: &str) -> Result<(), Vecto
 pub fn same(alloc: Global, out: &mut String, rest: &str) -> Result<(), VectorError> {
     let (first, second) = cut(rest);
     let first = kinds_of(alloc, first.as_bytes())?;
+    let put = put_same(alloc, out, &first, second);
+    drop(first);
+    put
+}
+
+fn put_same(
+    alloc: Global,
+    out: &mut String,
+    first: &List<WireType>,
+    second: &str,
+) -> Result<(), VectorError> {
     let second = kinds_of(alloc, second.as_bytes())?;
-    let same = same_type(last(&first)?, last(&second)?);
-    let copy = is_copied(alloc, last(&first)?)?;
+    let put = put_compared(alloc, out, first, &second);
+    drop(second);
+    put
+}
+
+fn put_compared(
+    alloc: Global,
+    out: &mut String,
+    first: &List<WireType>,
+    second: &List<WireType>,
+) -> Result<(), VectorError> {
+    let first = last(first)?;
+    let same = same_type(first, last(second)?);
+    let copy = is_copied(alloc, first)?;
     write!(out, "{same} {copy}")?;
     Ok(())
 }
@@ -76,10 +108,13 @@ fn is_copied(alloc: Global, kind: &WireType) -> Result<bool, VectorError> {
 /// containers of it a value inside stands at most, and its signature.
 pub fn keeps(alloc: Global, out: &mut String, rest: &str) -> Result<(), VectorError> {
     let made = made_by(alloc, rest)?;
-    put_keeps(alloc, out, top(&made)?)
+    let put = put_keeps(alloc, out, &made);
+    drop(made);
+    put
 }
 
-fn put_keeps(alloc: Global, out: &mut String, values: &[Value]) -> Result<(), VectorError> {
+fn put_keeps(alloc: Global, out: &mut String, made: &List<Value>) -> Result<(), VectorError> {
+    let values = top(made)?;
     for value in values {
         let keeps = keeps_rules(value);
         let depth = nesting(value);
@@ -93,11 +128,30 @@ fn put_keeps(alloc: Global, out: &mut String, values: &[Value]) -> Result<(), Ve
 pub fn has(alloc: Global, out: &mut String, rest: &str) -> Result<(), VectorError> {
     let (kind, words) = cut(rest);
     let kinds = kinds_of(alloc, kind.as_bytes())?;
-    let made = made_by(alloc, words)?;
-    put_has(out, top(&made)?, last(&kinds)?)
+    let put = put_has(alloc, out, &kinds, words);
+    drop(kinds);
+    put
 }
 
-fn put_has(out: &mut String, values: &[Value], kind: &WireType) -> Result<(), VectorError> {
+fn put_has(
+    alloc: Global,
+    out: &mut String,
+    kinds: &List<WireType>,
+    words: &str,
+) -> Result<(), VectorError> {
+    let made = made_by(alloc, words)?;
+    let put = put_found(out, &made, kinds);
+    drop(made);
+    put
+}
+
+fn put_found(
+    out: &mut String,
+    made: &List<Value>,
+    kinds: &List<WireType>,
+) -> Result<(), VectorError> {
+    let values = top(made)?;
+    let kind = last(kinds)?;
     let has = values.iter().all(|value| has_type(value, kind));
     write!(out, "{has}")?;
     Ok(())

@@ -100,7 +100,18 @@ fn put_array(alloc: Global, made: &mut List<Value>, words: &str) -> Result<(), V
     let (kind, count) = words.split_once(':').unwrap_or((words, ""));
     let at = place(made, small_number(count)? as usize)?;
     let kinds = kinds_of(alloc, kind.as_bytes())?;
-    match last(&kinds)? {
+    let put = put_array_by(alloc, made, at, &kinds);
+    drop(kinds);
+    put
+}
+
+fn put_array_by(
+    alloc: Global,
+    made: &mut List<Value>,
+    at: usize,
+    kinds: &List<WireType>,
+) -> Result<(), VectorError> {
+    match last(kinds)? {
         WireType::Array(element) => put_array_of(alloc, made, at, element),
         _ => bad(),
     }
@@ -120,10 +131,14 @@ fn put_array_of(
         made.push(Value::Bytes(bytes))?;
         return Ok(());
     }
-    let items = taken_from(alloc, made, at)?;
     let element = element.share()?;
-    made.push(Value::Array { element, items })?;
-    Ok(())
+    match taken_from(alloc, made, at) {
+        Ok(items) => Ok(made.push(Value::Array { element, items })?),
+        Err(error) => {
+            drop(element);
+            Err(error)
+        }
+    }
 }
 
 /// The bytes that values are, if they are bytes.

@@ -19,15 +19,18 @@ use vector_lines::values;
 pub fn value(alloc: Global, out: &mut String, rest: &str) -> Result<(), VectorError> {
     let (kind, rest) = cut(rest);
     let kinds = kinds_of(alloc, kind.as_bytes())?;
-    put_value(alloc, out, last(&kinds)?, rest)
+    let put = put_value(alloc, out, &kinds, rest);
+    drop(kinds);
+    put
 }
 
 fn put_value(
     alloc: Global,
     out: &mut String,
-    kind: &WireType,
+    kinds: &List<WireType>,
     words: &str,
 ) -> Result<(), VectorError> {
+    let kind = last(kinds)?;
     let (at, words) = cut(words);
     let (order, words) = cut(words);
     let at = small_number(at)? as usize;
