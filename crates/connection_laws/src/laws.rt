@@ -6,6 +6,11 @@ ghost use Rattle.connection_laws.specs.Served.{
   RepliesAreOfTheTrace,
 };
 ghost use Rattle.connection_laws.specs.SoFar.{BytesSoFar, ItemsAreAskedFirst, RepliesSoFar};
+ghost use Rattle.connection_laws.specs.Unread.{
+  BytesAreOfTheBlindedTrace,
+  RepliesAreOfTheBlindedTrace,
+  UnreadBytesAreInNoReply,
+};
 
 /// What the own machine of an application replies to a seat over its trace grows,
 /// while a connection of that seat is served, by just the replies that its client
@@ -45,4 +50,24 @@ pub fn items_are_asked_first()
 /// a write that failed or by want of memory. Of the answer that is cut nothing is said.
 pub fn bytes_so_far_are_of_the_trace_so_far()
     ensures { BytesSoFar }
+{}
+
+/// The bytes of a file are in no reply to an application that has neither the right
+/// to read a document of that path, nor a file open that it may read now: a reply is
+/// a function of the request and of the blinded view, in which such a file is as
+/// many zero bytes. Its length and its moment stay in sight.
+pub fn unread_bytes_are_in_no_reply()
+    ensures { UnreadBytesAreInNoReply }
+{}
+
+/// The replies to an application are a function of its blinded trace, in which no
+/// bytes are told but of files that it may read then.
+pub fn replies_are_of_the_blinded_trace()
+    ensures { RepliesAreOfTheBlindedTrace }
+{}
+
+/// Two connections of an application with one blinded trace that read the same, and
+/// of which the same requests are refused, are answered by the same bytes.
+pub fn bytes_are_of_the_blinded_trace()
+    ensures { BytesAreOfTheBlindedTrace }
 {}
