@@ -15,3 +15,4 @@ pub mod BlindedSteps
 pub mod BlindedTraces
 mod BlindedSeats
 pub mod Unread
+mod SightExampleProofs

@@ -4,3 +4,4 @@ pub mod SoFar
 pub mod Blinded
 pub mod BlindedTrace
 pub mod Unread
+pub mod SightExamples
