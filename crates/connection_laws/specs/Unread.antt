@@ -4,12 +4,15 @@ use Rattle.std.specs.Prelude.{◌≡◌, ℕ, List, ◌∷◌, ◌++◌, length,
 use Rattle.portal_base.specs.declared.files.FileName.{FileName}
 use Rattle.portal_model.specs.declared.entry.Entry.{Entry}
 use Rattle.portal_model.specs.Content.{OfFile}
-use Rattle.portal_model.specs.History.{Legal, replies}
+use Rattle.portal_model.specs.History.{Legal, makes, replies}
+use Rattle.portal_model.specs.Lawful.{Lawful}
 use Rattle.portal_model.specs.Seated.{Known, Seated}
 use Rattle.portal_model.specs.State.{State}
+use Rattle.portal_model.specs.Step.{reply_at}
+use Rattle.portal_model.specs.Valid.{Valid}
 use Rattle.app_world.specs.Own.{Own}
-use Rattle.app_world.specs.View.{AppView, PathContent}
-use Rattle.app_world.specs.World.{Trace, app_run, app_step}
+use Rattle.app_world.specs.View.{AppView, PathContent, view}
+use Rattle.app_world.specs.World.{Trace, app_run, app_step, own_of}
 use Rattle.session.specs.declared.act.Client.{Client}
 use Rattle.session.specs.declared.served.Stop.{Stop}
 use Rattle.session.specs.Connections.{Whole}
@@ -29,6 +32,13 @@ with_file v front back name bytes moment = record v {
       ++ record { path = name.path; content = OfFile name.generation bytes moment } ∷ back;
 }
 
+-- an entry that the application makes, over a tree that tells its files
+pub record IsOwnEntry (app : List ℕ) (s : State) (e : Entry) : Type 0 where
+  pub told : s.told ≡ true
+  pub valid : Valid s
+  pub lawful : Lawful s e
+  pub made : makes app s e ≡ true
+
 pub record UnreadBytesAreInNoReply : Type 0 where
   -- other bytes, as many, in a file that the application may not read make no other reply
   pub unread :
@@ -40,7 +50,12 @@ pub record UnreadBytesAreInNoReply : Type 0 where
   pub reply :
       (v w : AppView) (own other : Own) → blinded v ≡ blinded w →
       own_blinded own ≡ own_blinded other → (app_step v own).1 ≡ (app_step w other).1
-  -- and in the views after it is equal what was in sight ahead of it
+  -- and so does the portal, in states of which the views are equal when blinded
+  pub portal :
+      (app : List ℕ) (s t : State) (e f : Entry) → IsOwnEntry app s e → IsOwnEntry app t f →
+      blinded (view s app) ≡ blinded (view t app) →
+      own_blinded (own_of s e) ≡ own_blinded (own_of t f) → reply_at s e ≡ reply_at t f
+  -- in the views after it is equal what was in sight ahead of it
   pub sight :
       (v w : AppView) (own : Own) → blinded v ≡ blinded w →
       blind_but (reads v) (app_step v own).0 ≡ blind_but (reads v) (app_step w own).0
