@@ -1,36 +1,33 @@
 -- A request on a node, to an application that is blind but to what it may read: it is answered the same.
-use Rattle.std.proofs.Common.{◌≡◌, ℕ, ◌+◌, ◌-◌, ◌==◌, nat_lt, List, [], ◌∷◌, ◌++◌, length, map, take, drop, replicate, Bool, true, false, not, ◌&&◌, ◌||◌, cond, min, Option, Some, None, refl, sym, ap, ◌∙◌, arith}
+use Rattle.std.proofs.Common.{◌≡◌, ℕ, ◌+◌, ◌-◌, ◌==◌, nat_lt, List, [], ◌∷◌, length, map, Bool, true, false, not, ◌&&◌, ◌||◌, cond, min, Option, Some, None, refl, ap, ◌∙◌, arith}
 use Rattle.std.specs.List.{find, list_any}
-use Rattle.std.specs.Option.{option_map}
 use Rattle.std.proofs.lemmas.Bool.Decides.{nat_tests}
 use Rattle.std.proofs.lemmas.List.{length-append, length-drop, length-replicate, length-take}
-use Rattle.portal_base.specs.FileChanges.{bytes_from, cut_to, overlaid}
-use Rattle.portal_base.specs.Names.{is_same}
+use Rattle.portal_base.specs.FileChanges.{cut_to, overlaid}
 use Rattle.portal_base.specs.declared.files.FileName.{FileName}
 use Rattle.portal_base.specs.declared.files.Look.{Look}
 use Rattle.portal_base.specs.declared.names.doc_id.DocId.{DocId}
 use Rattle.portal_model.specs.declared.handle.Handle.{Handle}
 use Rattle.portal_model.specs.declared.place.Place.{Place}
 use Rattle.portal_model.specs.declared.reply.Answer.{Answer}
-use Rattle.portal_model.specs.declared.reply.NodeAnswer.TheVariants as NodeAnswer
 use Rattle.portal_model.specs.declared.request.NodeOp.{NodeOp}
 use Rattle.portal_model.specs.declared.request.NodeRequest.{NodeRequest}
 use Rattle.portal_model.specs.Bus.{is_tree, moment_given}
 use Rattle.portal_model.specs.Content.{Content, OfFile, look_of}
-use Rattle.portal_model.specs.Errno.{eacces, ebadf, einval, enoent}
+use Rattle.portal_model.specs.Errno.{eacces, ebadf, einval}
 use Rattle.portal_model.specs.Node.{NodeFacts, node_walk}
 use Rattle.portal_model.specs.NodeVerdict.{FileChange, FilesStay, Writes, Resizes, Creates, NodeDoing, NodeVerdict, Errs, Yields, errs_if}
-use Rattle.portal_model.specs.Place.{Sight, place_named}
+use Rattle.portal_model.specs.Place.{place_named}
 use Rattle.portal_model.specs.Reach.{Reaching, may_read_now, open_file_of}
 use Rattle.portal_model.specs.Read.{read, read_limit, read_name}
 use Rattle.portal_model.specs.Walk.{Walk, Answers, Looks, Ends, Target, AtPath, Named, LastCall, Uses, Changes, Makes, walked}
 use Rattle.portal_model.proofs.ListLookups.{is_same-refl}
-use Rattle.app_world.specs.Effect.{Effect, Bytes, apply_all}
-use Rattle.app_world.specs.Node.{bytes_at, bytes_effects, own_connections_after, own_facts, own_handle_of, own_node_answer, own_node_done, own_node_given, own_place, own_reach, own_settled_on_node, own_sight_at, own_walk}
+use Rattle.app_world.specs.Effect.{Bytes}
+use Rattle.app_world.specs.Node.{bytes_effects, own_connections_after, own_facts, own_handle_of, own_node_answer, own_node_done, own_node_given, own_reach, own_settled_on_node, own_sight_at, own_walk}
 use Rattle.app_world.specs.Own.{Own}
 use Rattle.app_world.specs.Shown.{is_file, is_place, own_bytes, own_content, own_file, own_found, own_looks, own_shown_at, succeeding}
 use Rattle.app_world.specs.View.{AppView, OwnConnection, OwnHandle, found_connection, names}
-use Rattle.connection_laws.specs.Blinded.{blind_at, blind_but, file_of, reads, reads_connection, reads_handle}
+use Rattle.connection_laws.specs.Blinded.{blind_but, reads, reads_connection, reads_handle}
 use Rattle.connection_laws.proofs.BlindedViews.{apply_all-same, blind-same, blind_effect, connections-same, content-blind, file-blind, look-blind, own_bytes-long, own_bytes-seen, own_file-blind, place-blind, seen_pair, view-twice}
 
 -- ---- what is read is in sight

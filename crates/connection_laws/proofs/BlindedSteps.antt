@@ -1,6 +1,6 @@
 -- A request of the application, to it as it is and to it blinded: one reply, and views after it that differ in bytes
 -- that were not in sight alone.
-use Rattle.std.proofs.Common.{◌≡◌, ℕ, zero, suc, List, [], ◌∷◌, ◌++◌, length, map, take, replicate, Bool, true, false, cond, Option, Some, None, refl, sym, ap, ◌∙◌, arith}
+use Rattle.std.proofs.Common.{◌≡◌, ℕ, zero, suc, List, [], ◌∷◌, ◌++◌, length, map, take, replicate, Bool, true, false, cond, Option, Some, None, refl, sym, ap, ◌∙◌}
 use Rattle.std.proofs.lemmas.List.{length-replicate}
 use Rattle.portal_base.specs.Names.{is_same}
 use Rattle.portal_base.specs.declared.files.FileName.{FileName}
@@ -8,19 +8,18 @@ use Rattle.portal_base.specs.declared.files.Look.{Look}
 use Rattle.portal_model.specs.declared.reply.Answer.{Answer}
 use Rattle.portal_model.specs.declared.reply.Code.TheVariants as code
 use Rattle.portal_model.specs.declared.reply.Reply.{Reply}
-use Rattle.portal_model.specs.declared.request.AddRequest.{AddRequest}
 use Rattle.portal_model.specs.declared.request.NodeRequest.{NodeRequest}
 use Rattle.portal_model.specs.declared.request.Request.{Request}
 use Rattle.portal_model.specs.AddArguments.{paths_shown}
 use Rattle.portal_model.specs.Content.{Content, OfFile, OfFolder, NotThere, look_of}
 use Rattle.portal_model.specs.Step.{is_mount, reply_with, with_signals}
-use Rattle.app_world.specs.Add.{content_shown, own_looks}
+use Rattle.app_world.specs.Add.{content_shown}
 use Rattle.app_world.specs.Bus.{own_bus_step}
 use Rattle.app_world.specs.Enter.{own_enter}
 use Rattle.app_world.specs.Leave.{own_leave, own_left}
 use Rattle.app_world.specs.Own.{Own}
 use Rattle.app_world.specs.View.{AppView, OwnConnection, PathContent, found_connection}
-use Rattle.app_world.specs.World.{app_step, own_bus, own_bus_of, own_collect_step, own_mount_of, own_node_step, own_request_step}
+use Rattle.app_world.specs.World.{app_step, own_bus, own_collect_step, own_mount_of, own_node_step, own_request_step}
 use Rattle.connection_laws.specs.Blinded.{blind_at, blind_but, blind_content, blinded, file_of, hidden, nothing, own_blinded, reads}
 use Rattle.connection_laws.specs.Unread.{with_file}
 use Rattle.connection_laws.proofs.BlindedBuses.{ShownAlike, answer-same}

@@ -1,5 +1,5 @@
 -- The replies of the own machine over a blinded trace.
-use Rattle.std.proofs.Common.{◌≡◌, ℕ, ◌==◌, List, [], ◌∷◌, ◌++◌, append_assoc, length, map, replicate, Bool, true, false, ◌&&◌, ◌||◌, cond, Option, Some, None, refl, sym, ap, subst, ◌∙◌, arith}
+use Rattle.std.proofs.Common.{◌≡◌, ℕ, ◌==◌, List, [], ◌∷◌, ◌++◌, length, map, replicate, Bool, true, false, ◌&&◌, ◌||◌, cond, refl, sym, ap, subst, ◌∙◌}
 use Rattle.std.specs.List.{flat_map}
 use Rattle.std.proofs.lemmas.List.{length-replicate}
 use Rattle.portal_base.specs.Names.{is_same}
@@ -10,7 +10,7 @@ use Rattle.portal_model.specs.declared.reply.Reply.{Reply}
 use Rattle.portal_model.specs.Content.{Content, OfFile, OfFolder, NotThere, content_at}
 use Rattle.portal_model.specs.History.{EachLawful, makes, replies}
 use Rattle.portal_model.specs.Lawful.{Lawful}
-use Rattle.portal_model.specs.Ordered.{put, put_all}
+use Rattle.portal_model.specs.Ordered.{put}
 use Rattle.portal_model.specs.State.{State, held_of}
 use Rattle.portal_model.specs.Step.{after, reply_at}
 use Rattle.portal_model.specs.Valid.{Valid}
@@ -19,17 +19,16 @@ use Rattle.portal_model.proofs.StaysTold.{step_told}
 use Rattle.portal_model.proofs.ValidLaws.{after-Valid}
 use Rattle.app_world.specs.Effect as effect
 use Rattle.app_world.specs.Effect.{Effect, Bytes, apply, apply_all, changed, changed_content, with_bytes}
-use Rattle.app_world.specs.Laws.{StepsSeen}
 use Rattle.app_world.specs.Own.{Own}
 use Rattle.app_world.specs.TraceItem as item
 use Rattle.app_world.specs.TraceItem.{TraceItem, item_of}
-use Rattle.app_world.specs.View.{AppView, PathContent, ahead, contents_at, named_paths, own_connections, held_documents, path_content, prune, view}
-use Rattle.app_world.specs.World.{app_run, app_step, items_of, own_of, own_replies, touch}
+use Rattle.app_world.specs.View.{AppView, PathContent, ahead, contents_at, named_paths, own_connections, path_content, prune, view}
+use Rattle.app_world.specs.World.{app_step, own_of, own_replies, touch}
 use Rattle.app_world.proofs.HandleChangeLaws.{prune-named}
 use Rattle.app_world.proofs.WorldLaws.{steps}
 use Rattle.connection_laws.specs.Blinded.{blind_at, blind_but, blind_content, blinded, file_of, hidden, nothing, own_blinded, reads}
-use Rattle.connection_laws.specs.BlindedTrace.{blinded_items, hidden_item, sight_at, sights, with_sights}
-use Rattle.connection_laws.specs.Unread.{RepliesAreOfTheBlindedTrace}
+use Rattle.connection_laws.specs.BlindedTrace.{blinded_effects, blinded_items, hidden_effect, sight_at, sights}
+use Rattle.connection_laws.specs.Unread.{BlindedStepsAreSeen, IsOwnEntry, RepliesAreOfTheBlindedTrace}
 use Rattle.connection_laws.proofs.BlindedViews.{apply-blind, apply_all-same, blind_effect, view-twice}
 use Rattle.connection_laws.proofs.BlindedNodes.{itself}
 use Rattle.connection_laws.proofs.BlindedSteps.{all-blind, hidden-is, hidden-twice, pair-blinded, same-reply}
@@ -85,6 +84,7 @@ module _ (sees : FileName → Bool) (path : List ℕ) (generation : ℕ) (bytes 
       joined : (x : Bool) → cond x (record c { content = changed_content generation fresh (blind_at wide c.path c.content) }) (blind_content wide c) ≡ record c { content = cond x (changed_content generation fresh (blind_at wide c.path c.content)) (blind_at wide c.path c.content) }
       joined true = refl
       joined false = refl
+
       apart : (x : Bool) → cond x (record c { content = changed_content generation fresh (blind_at sees c.path c.content) }) (blind_content sees c) ≡ record c { content = cond x (changed_content generation fresh (blind_at sees c.path c.content)) (blind_at sees c.path c.content) }
       apart true = refl
       apart false = refl
@@ -108,6 +108,10 @@ module _ (sees : FileName → Bool) (path : List ℕ) (generation : ℕ) (bytes 
   -- of a view in which it has these bytes, an equal one
   comes : (v w : AppView) → apply v f ≡ v → blind_but sees w ≡ blind_but sees v → blind_but wide (apply w f) ≡ blind_but wide v
   comes v w stable h = come-is w ∙ (ap (λ (x : AppView). apply x f) h ∙ (sym (come-is v) ∙ ap (blind_but wide) stable))
+
+apply_all-append : (fs ks : List Effect) (w : AppView) → apply_all w (fs ++ ks) ≡ apply_all (apply_all w fs) ks
+apply_all-append [] ks w = refl
+apply_all-append (f ∷ fs) ks w = apply_all-append fs ks (apply w f)
 
 -- ---- what is told of a view that is that of a state
 
@@ -268,37 +272,33 @@ module _ (app : List ℕ) (s : State) where
         ∙ (ap (blind_but (reads v)) h ∙ (λ i. record v { contents = less_all v.contents there i }))
 
   -- the view after all that is told
-  pub told-blinded : (w : AppView) → blind_but nothing w ≡ blind_but nothing v → blinded (told_all v.contents w) ≡ blinded v
+  told-blinded : (w : AppView) → blind_but nothing w ≡ blind_but nothing v → blinded (told_all v.contents w) ≡ blinded v
   told-blinded w h =
       let same : blind_but (reads v) (told_all v.contents w) ≡ blind_but (reads v) v =
       narrowed (seen_all v.contents nothing) (told_all v.contents w) (each_told v.contents nothing w (contents-at s.files (named_paths v.documents v.connections)) h) (all_covered v.contents nothing) in
       ap (λ (sees : FileName → Bool). blind_but sees (told_all v.contents w)) (ap reads same) ∙ same
 
-  -- ---- what the machine makes of it
-
-  sight-told : (path : List ℕ) (c : Content) (w : AppView) (more : List TraceItem) → own_replies w (sight_at (reads v) path c ++ more) ≡ own_replies (told_at path c w) more
-  sight-told path OfFolder w more = refl
-  sight-told path (NotThere room) w more = refl
-  sight-told path (OfFile generation bytes moment) w more = by_sight (reads v (file_of path generation))
+  one-sight : (path : List ℕ) (c : Content) (w : AppView) → apply_all w (sight_at (reads v) path c) ≡ told_at path c w
+  one-sight path OfFolder w = refl
+  one-sight path (NotThere room) w = refl
+  one-sight path (OfFile generation bytes moment) w = by_sight (reads v (file_of path generation))
     where
-      by_sight : (x : Bool) → own_replies w (cond x (item.Bytes path generation (OfFile generation bytes moment) ∷ []) [] ++ more) ≡ own_replies (cond x (apply w (Bytes path generation (OfFile generation bytes moment))) w) more
+      by_sight : (x : Bool) → apply_all w (cond x (Bytes path generation (OfFile generation bytes moment) ∷ []) []) ≡ cond x (apply w (Bytes path generation (OfFile generation bytes moment))) w
       by_sight true = refl
       by_sight false = refl
 
-  sights-told : (cs : List PathContent) (w : AppView) (more : List TraceItem) → own_replies w (flat_map (λ (c : PathContent). sight_at (reads v) c.path c.content) cs ++ more) ≡ own_replies (told_all cs w) more
-  sights-told [] w more = refl
-  sights-told (c ∷ cs) w more =
-      ap (own_replies w) (append_assoc (sight_at (reads v) c.path c.content) (flat_map (λ (c : PathContent). sight_at (reads v) c.path c.content) cs) more)
-      ∙ (sight-told c.path c.content w (flat_map (λ (c : PathContent). sight_at (reads v) c.path c.content) cs ++ more)
-      ∙ sights-told cs (told_at c.path c.content w) more)
+  all-sights : (cs : List PathContent) (w : AppView) → apply_all w (flat_map (λ (c : PathContent). sight_at (reads v) c.path c.content) cs) ≡ told_all cs w
+  all-sights [] w = refl
+  all-sights (c ∷ cs) w =
+      apply_all-append (sight_at (reads v) c.path c.content) (flat_map (λ (c : PathContent). sight_at (reads v) c.path c.content) cs) w
+      ∙ (ap (λ (x : AppView). apply_all x (flat_map (λ (c : PathContent). sight_at (reads v) c.path c.content) cs)) (one-sight c.path c.content w)
+      ∙ all-sights cs (told_at c.path c.content w))
+
+  -- from any view with all but bytes
+  pub sights-blinded : (w : AppView) → blind_but nothing w ≡ blind_but nothing v → blinded (apply_all w (sights v)) ≡ blinded v
+  sights-blinded w h = ap blinded (all-sights v.contents w) ∙ told-blinded w h
 
 -- ---- effects, and all but bytes of them
-
-abbrev hidden_effect : Effect → Effect
-hidden_effect (effect.Gained d rights content) = effect.Gained d rights (hidden content)
-hidden_effect (effect.Lost id rights) = effect.Lost id rights
-hidden_effect (effect.Gone id) = effect.Gone id
-hidden_effect (effect.Bytes path generation content) = effect.Bytes path generation (hidden content)
 
 content-alike : (path : List ℕ) (c : Content) → blind_at nothing path (hidden c) ≡ blind_at nothing path c
 content-alike path c = hidden-is path (hidden c) ∙ (hidden-twice c ∙ sym (hidden-is path c))
@@ -313,76 +313,88 @@ effects-alike : (fs : List Effect) → map (blind_effect nothing) (map hidden_ef
 effects-alike [] = refl
 effects-alike (f ∷ fs) = λ i. effect-alike f i ∷ effects-alike fs i
 
-changed-told : (fs : List Effect) (w : AppView) (more : List TraceItem) → own_replies w (map hidden_item (map item_of fs) ++ more) ≡ own_replies (apply_all w (map hidden_effect fs)) more
-changed-told [] w more = refl
-changed-told (effect.Gained d rights content ∷ fs) w more = changed-told fs _ more
-changed-told (effect.Lost id rights ∷ fs) w more = changed-told fs _ more
-changed-told (effect.Gone id ∷ fs) w more = changed-told fs _ more
-changed-told (effect.Bytes path generation content ∷ fs) w more = changed-told fs _ more
-
--- ---- an entry, and a history
+-- ---- an entry
 
 blind-less : (v w : AppView) → blinded w ≡ blinded v → blind_but nothing w ≡ blind_but nothing v
 blind-less v w h = sym (all-blind (reads w) w) ∙ (ap (blind_but nothing) h ∙ all-blind (reads v) v)
 
--- the replies of the machine go on so behind an entry
-abbrev GoesOn : List ℕ → State → Entry → AppView → List TraceItem → List Reply → Type 0
-GoesOn app s e w told given =
-    (more : List TraceItem) (rest : List Reply) → ((x : AppView) → blinded x ≡ blinded (view (after s e) app) → own_replies x more ≡ rest) →
-    own_replies w (with_sights (view (after s e) app) told ++ more) ≡ given ++ rest
+all-hidden : (cs : List Content) → map hidden (map hidden cs) ≡ map hidden cs
+all-hidden [] = refl
+all-hidden (c ∷ cs) = λ i. hidden-twice c i ∷ all-hidden cs i
+
+own-twice : (own : Own) → own_blinded (own_blinded own) ≡ own_blinded own
+own-twice own = λ i. record own { shown = all-hidden own.shown i }
 
 module _ (app : List ℕ) (s : State) (e : Entry) (w : AppView) (h : blinded w ≡ blinded (view s app)) where
   abbrev next : AppView
   next = view (after s e) app
 
-  -- from any view with all but bytes
-  goes : (x : AppView) → blind_but nothing x ≡ blind_but nothing next → (more : List TraceItem) (rest : List Reply) → ((x : AppView) → blinded x ≡ blinded next → own_replies x more ≡ rest) → own_replies x (sights next ++ more) ≡ rest
-  goes x k more rest on = sights-told app (after s e) next.contents x more ∙ on (told_all app (after s e) next.contents x) (told-blinded app (after s e) x k)
+  abbrev own : Own
+  own = own_of s e
 
-  by_own : s.told ≡ true → Valid s → Lawful s e → makes app s e ≡ true → GoesOn app s e w (item.Own (own_of s e) ∷ []) (reply_at s e ∷ [])
-  by_own t v l m more rest on =
-      let own : Own = own_of s e in
-      let seen = steps.own app s e t v l m in
-      let reply : (app_step w (own_blinded own)).1 ≡ reply_at s e =
-      same-reply w (view s app) (own_blinded own) own h (λ i. record own { shown = all-hidden own.shown i }) ∙ ap (λ (p : AppView × Reply). p.1) seen in
-      let view_same : blind_but nothing (app_step w (own_blinded own)).0 ≡ blind_but nothing next =
-      after-hidden own ∙ ap (λ (p : AppView × Reply). blind_but nothing p.0) seen in
-      λ i. reply i ∷ goes (app_step w (own_blinded own)).0 view_same more rest on i
-    where
-      all-hidden : (cs : List Content) → map hidden (map hidden cs) ≡ map hidden cs
-      all-hidden [] = refl
-      all-hidden (c ∷ cs) = λ i. hidden-twice c i ∷ all-hidden cs i
+  module _ (k : IsOwnEntry app s e) where
+    seen : app_step (view s app) own ≡ (next, reply_at s e)
+    seen = steps.own app s e k.told k.valid k.lawful k.made
 
-      pair : (x : AppView) (own : Own) → blind_but nothing (app_step (blinded x) (own_blinded own)).0 ≡ blind_but nothing (app_step x own).0
-      pair x own = ap (λ (p : AppView × Reply). p.0) (pair-blinded x own own.request)
+    reply-seen : (app_step w (own_blinded own)).1 ≡ reply_at s e
+    reply-seen = same-reply w (view s app) (own_blinded own) own h (own-twice own) ∙ ap (λ (p : AppView × Reply). p.1) seen
 
-      after-hidden : (own : Own) → blind_but nothing (app_step w (own_blinded own)).0 ≡ blind_but nothing (app_step (view s app) own).0
-      after-hidden own =
-          sym (pair w (own_blinded own))
-          ∙ ((λ i. blind_but nothing (app_step (h i) (record own { shown = all-hidden own.shown i })).0) ∙ pair (view s app) own)
+    pair : (x : AppView) (o : Own) → blind_but nothing (app_step (blinded x) (own_blinded o)).0 ≡ blind_but nothing (app_step x o).0
+    pair x o = ap (λ (p : AppView × Reply). p.0) (pair-blinded x o o.request)
 
-  by_other : Valid s → Lawful s e → makes app s e ≡ false → (fs : List Effect) → touch app s e ≡ fs → GoesOn app s e w (map item_of fs) []
-  by_other v l m [] k more rest on = on w (h ∙ ap blinded (ap (apply_all (view s app)) (sym k) ∙ steps.other app s e v l m))
-  by_other v l m (f ∷ fs) k more rest on =
+    after-hidden : blind_but nothing (app_step w (own_blinded own)).0 ≡ blind_but nothing next
+    after-hidden =
+        sym (pair w (own_blinded own))
+        ∙ ((λ i. blind_but nothing (app_step (h i) (own-twice own i)).0)
+        ∙ (pair (view s app) own ∙ ap (λ (p : AppView × Reply). blind_but nothing p.0) seen))
+
+    own-seen : blinded (apply_all (app_step w (own_blinded own)).0 (sights next)) ≡ blinded next
+    own-seen = sights-blinded app (after s e) (app_step w (own_blinded own)).0 after-hidden
+
+  other-seen : Valid s → Lawful s e → makes app s e ≡ false → (fs : List Effect) → touch app s e ≡ fs → blinded (apply_all w (blinded_effects next fs)) ≡ blinded next
+  other-seen v l m [] k = h ∙ ap blinded (ap (apply_all (view s app)) (sym k) ∙ steps.other app s e v l m)
+  other-seen v l m (f ∷ fs) k =
       let all : List Effect = f ∷ fs in
       let same : blind_but nothing (apply_all w (map hidden_effect all)) ≡ blind_but nothing next =
       apply_all-same nothing w (view s app) (map hidden_effect all) all (blind-less (view s app) w h) (effects-alike all)
       ∙ ap (blind_but nothing) (ap (apply_all (view s app)) (sym k) ∙ steps.other app s e v l m) in
-      ap (own_replies w) (append_assoc (map hidden_item (map item_of all)) (sights next) more)
-      ∙ (changed-told all w (sights next ++ more) ∙ goes (apply_all w (map hidden_effect all)) same more rest on)
+      ap blinded (apply_all-append (map hidden_effect all) (sights next) w) ∙ sights-blinded app (after s e) (apply_all w (map hidden_effect all)) same
 
-  by_entry : s.told ≡ true → Valid s → Lawful s e → (b : Bool) → makes app s e ≡ b → GoesOn app s e w (cond b (item.Own (own_of s e) ∷ []) (map item_of (touch app s e))) (cond b (reply_at s e ∷ []) [])
-  by_entry t v l true m = by_own t v l m
-  by_entry t v l false m = by_other v l m (touch app s e) refl
+pub blind_steps : BlindedStepsAreSeen
+blind_steps = record {
+  reply = λ app s e w k h. reply-seen app s e w h k;
+  own = λ app s e w k h. own-seen app s e w h k;
+  other = λ app s e w v l m h. other-seen app s e w h v l m (touch app s e) refl;
+}
+
+-- ---- a history, by the laws of one entry alone
+
+own_replies-told : (fs : List Effect) (w : AppView) (more : List TraceItem) → own_replies w (map item_of fs ++ more) ≡ own_replies (apply_all w fs) more
+own_replies-told [] w more = refl
+own_replies-told (effect.Gained d rights content ∷ fs) w more = own_replies-told fs (apply w (effect.Gained d rights content)) more
+own_replies-told (effect.Lost id rights ∷ fs) w more = own_replies-told fs (apply w (effect.Lost id rights)) more
+own_replies-told (effect.Gone id ∷ fs) w more = own_replies-told fs (apply w (effect.Gone id)) more
+own_replies-told (effect.Bytes path generation content ∷ fs) w more = own_replies-told fs (apply w (effect.Bytes path generation content)) more
+
+module _ (app : List ℕ) (s : State) (e : Entry) (w : AppView) (h : blinded w ≡ blinded (view s app)) (more : List TraceItem) (rest : List Reply)
+    (on : (x : AppView) → blinded x ≡ blinded (view (after s e) app) → own_replies x more ≡ rest) where
+  one_entry : s.told ≡ true → Valid s → Lawful s e → (b : Bool) → makes app s e ≡ b →
+      own_replies w (cond b (item.Own (own_blinded (own_of s e)) ∷ map item_of (sights (view (after s e) app))) (map item_of (blinded_effects (view (after s e) app) (touch app s e))) ++ more) ≡ cond b (reply_at s e ∷ []) [] ++ rest
+  one_entry t v l true m =
+      let k : IsOwnEntry app s e = record { told = t; valid = v; lawful = l; made = m } in
+      let x : AppView = (app_step w (own_blinded (own_of s e))).0 in
+      let behind : own_replies x (map item_of (sights (view (after s e) app)) ++ more) ≡ rest =
+      own_replies-told (sights (view (after s e) app)) x more ∙ on (apply_all x (sights (view (after s e) app))) (blind_steps.own app s e w k h) in
+      λ i. blind_steps.reply app s e w k h i ∷ behind i
+  one_entry t v l false m =
+      own_replies-told (blinded_effects (view (after s e) app) (touch app s e)) w more
+      ∙ on (apply_all w (blinded_effects (view (after s e) app) (touch app s e))) (blind_steps.other app s e w v l m h)
 
 replies_of_blinded : (hs : List Entry) (app : List ℕ) (s : State) (w : AppView) → s.told ≡ true → Valid s → EachLawful s hs → blinded w ≡ blinded (view s app) → replies app s hs ≡ own_replies w (blinded_items app s hs)
 replies_of_blinded [] app s w t v l h = refl
 replies_of_blinded (e ∷ es) app s w t v l h =
-    sym (by_entry app s e w h t v l.0 (makes app s e) refl (blinded_items app (after s e) es) (replies app (after s e) es) (λ x k.
-    sym (replies_of_blinded es app (after s e) x (step_told s e.seat e.request e.given ∙ t) (after-Valid s e v l.0) l.1 k)))
+    sym (one_entry app s e w h (blinded_items app (after s e) es) (replies app (after s e) es) (λ x k.
+    sym (replies_of_blinded es app (after s e) x (step_told s e.seat e.request e.given ∙ t) (after-Valid s e v l.0) l.1 k)) t v l.0 (makes app s e) refl)
 
 pub blind_trace : RepliesAreOfTheBlindedTrace
-blind_trace = λ app s h t l. replies_of_blinded h app s (blinded (view s app)) t l.opening l.lawful (twice (view s app))
-  where
-    twice : (v : AppView) → blinded (blinded v) ≡ blinded v
-    twice v = view-twice (reads v) v
+blind_trace = λ app s h t l. replies_of_blinded h app s (blinded (view s app)) t l.opening l.lawful (view-twice (reads (view s app)) (view s app))

@@ -1,5 +1,5 @@
 -- A blinded view: what is found in it, and that pruning it, and the effects of others, come to the same.
-use Rattle.std.proofs.Common.{◌≡◌, ℕ, ◌==◌, List, [], ◌∷◌, ◌++◌, length, map, replicate, Bool, true, false, ◌&&◌, cond, Option, Some, None, refl, sym, ap, ◌∙◌, arith}
+use Rattle.std.proofs.Common.{◌≡◌, ℕ, ◌==◌, List, [], ◌∷◌, length, map, replicate, Bool, true, false, cond, Option, Some, None, refl, sym, ap, ◌∙◌}
 use Rattle.std.specs.List.{filter}
 use Rattle.std.specs.Option.{option_map}
 use Rattle.std.proofs.lemmas.List.{length-replicate}
@@ -12,7 +12,7 @@ use Rattle.portal_model.proofs.ListLookups.{find-map, found_passes, is_same-eq, 
 use Rattle.app_world.specs.Effect.{Effect, Gained, Lost, Gone, Bytes, apply, apply_all, changed, changed_content, with_bytes, with_content}
 use Rattle.app_world.specs.Shown.{bytes_in, is_file, is_place, of_generation, own_bytes, own_content, own_file, shown}
 use Rattle.app_world.specs.View.{AppView, OwnConnection, PathContent, ahead, found_content, is_among, is_held, named_paths, path_of, prune}
-use Rattle.connection_laws.specs.Blinded.{blind_at, blind_but, blind_content, file_of, hidden}
+use Rattle.connection_laws.specs.Blinded.{blind_at, blind_but, blind_content, file_of}
 
 module _ (sees : FileName → Bool) where
   -- ---- one content

@@ -8,16 +8,17 @@ use Rattle.portal_model.specs.History.{Legal, makes, replies}
 use Rattle.portal_model.specs.Lawful.{Lawful}
 use Rattle.portal_model.specs.Seated.{Known, Seated}
 use Rattle.portal_model.specs.State.{State}
-use Rattle.portal_model.specs.Step.{reply_at}
+use Rattle.portal_model.specs.Step.{after, reply_at}
 use Rattle.portal_model.specs.Valid.{Valid}
+use Rattle.app_world.specs.Effect.{apply_all}
 use Rattle.app_world.specs.Own.{Own}
 use Rattle.app_world.specs.View.{AppView, PathContent, view}
-use Rattle.app_world.specs.World.{Trace, app_run, app_step, own_of}
+use Rattle.app_world.specs.World.{Trace, app_run, app_step, own_of, touch}
 use Rattle.session.specs.declared.act.Client.{Client}
 use Rattle.session.specs.declared.served.Stop.{Stop}
 use Rattle.session.specs.Connections.{Whole}
 use Rattle.connection_laws.specs.Blinded.{blind_but, blinded, own_blinded, reads}
-use Rattle.connection_laws.specs.BlindedTrace.{blinded_trace}
+use Rattle.connection_laws.specs.BlindedTrace.{blinded_effects, blinded_trace, sights}
 use Rattle.connection_laws.specs.OwnPlaces.{replies_to}
 use Rattle.connection_laws.specs.Served.{IsOf, Service, refusals_in, replies_seen}
 
@@ -59,6 +60,25 @@ pub record UnreadBytesAreInNoReply : Type 0 where
   pub sight :
       (v w : AppView) (own : Own) → blinded v ≡ blinded w →
       blind_but (reads v) (app_step v own).0 ≡ blind_but (reads v) (app_step w own).0
+
+-- One entry, where the views are equal when blinded ahead of it. An own one is answered as in the
+-- portal; and with what is in sight then, or what others change, they are so after it.
+pub record BlindedStepsAreSeen : Type 0 where
+  pub reply :
+      (app : List ℕ) (s : State) (e : Entry) (w : AppView) → IsOwnEntry app s e →
+      blinded w ≡ blinded (view s app) →
+      (app_step w (own_blinded (own_of s e))).1 ≡ reply_at s e
+  pub own :
+      (app : List ℕ) (s : State) (e : Entry) (w : AppView) → IsOwnEntry app s e →
+      blinded w ≡ blinded (view s app) →
+      blinded (apply_all (app_step w (own_blinded (own_of s e))).0
+      (sights (view (after s e) app)))
+      ≡ blinded (view (after s e) app)
+  pub other :
+      (app : List ℕ) (s : State) (e : Entry) (w : AppView) → Valid s → Lawful s e →
+      makes app s e ≡ false → blinded w ≡ blinded (view s app) →
+      blinded (apply_all w (blinded_effects (view (after s e) app) (touch app s e)))
+      ≡ blinded (view (after s e) app)
 
 -- ---- all replies
 

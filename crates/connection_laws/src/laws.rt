@@ -7,6 +7,7 @@ ghost use Rattle.connection_laws.specs.Served.{
 };
 ghost use Rattle.connection_laws.specs.SoFar.{BytesSoFar, ItemsAreAskedFirst, RepliesSoFar};
 ghost use Rattle.connection_laws.specs.Unread.{
+  BlindedStepsAreSeen,
   BytesAreOfTheBlindedTrace,
   RepliesAreOfTheBlindedTrace,
   UnreadBytesAreInNoReply,
@@ -60,8 +61,15 @@ pub fn unread_bytes_are_in_no_reply()
     ensures { UnreadBytesAreInNoReply }
 {}
 
-/// The replies to an application are a function of its blinded trace, in which no
-/// bytes are told but of files that it may read then.
+/// One entry, as an application sees it that is blind to what it may not read: its own
+/// is answered as in the portal, and the views after are equal when blinded, with what
+/// is in sight then; and so they are after what others change.
+pub fn blinded_steps_are_seen()
+    ensures { BlindedStepsAreSeen }
+{}
+
+/// The replies to an application are a function of its blinded trace, in which, beside
+/// its own requests, no bytes are told but of files that it may read then.
 pub fn replies_are_of_the_blinded_trace()
     ensures { RepliesAreOfTheBlindedTrace }
 {}
