@@ -9,7 +9,7 @@ use Rattle.session.specs.Cuts.{first_phase}
 use Rattle.session.proofs.AnswersAsked.{say_alike}
 use Rattle.session.proofs.ItemsAreOne.{are_one}
 use Rattle.connection_laws.specs.OwnPlaces.{replies_to}
-use Rattle.connection_laws.specs.Served.{BytesAreOfTheTrace, HaveOneTrace, Service, refusals_in, replied, replies_seen}
+use Rattle.connection_laws.specs.Served.{BytesAreOfTheTrace, IsOf, Service, refusals_in, replied, replies_seen}
 use Rattle.connection_laws.proofs.Replies.{given-replies}
 use Rattle.connection_laws.proofs.Told.{as-many-kept, between-replied, told-same}
 
@@ -34,14 +34,12 @@ module _ (app : List ℕ) (c : Client) (x y : Service c) (read left rest : List 
   pub acts-are : j.all.acts ≡ i.all.acts
   acts-are = (are_one c (first_phase c.kind) read j.all.items i.all.items j.all.acts i.all.acts rest left why what j.cut i.cut).1
 
-  module _ (one : HaveOneTrace app c x y) where
-    -- the machine replies the same to both seats
-    same_seen : replies_seen app y.after.seated ≡ replies_seen app x.after.seated
-    same_seen = λ k. replies_to (seat_after k) (one.trace k)
-      where
-        seat_after : y.after.seated.seat ≡ x.after.seated.seat
-        seat_after = j.asked.grows.desk.moved.seat ∙ (one.seat ∙ sym i.asked.grows.desk.moved.seat)
+  -- and both have one seat still
+  pub seats-are : y.before.seated.seat ≡ x.before.seated.seat → y.after.seated.seat ≡ x.after.seated.seat
+  seats-are e = j.asked.grows.desk.moved.seat ∙ (e ∙ sym i.asked.grows.desk.moved.seat)
 
+  -- where the machine replies the same to both seats
+  module _ (first : IsOf app c x) (second : IsOf app c y) (same_seen : replies_seen app y.after.seated ≡ replies_seen app x.after.seated) where
     abbrev first_outcomes : List Outcome
     first_outcomes = between i.asked.entered i.all.outcomes i.asked.leaving
 
@@ -59,7 +57,7 @@ module _ (app : List ℕ) (c : Client) (x y : Service c) (read left rest : List 
       same_given : replied (kept second_outcomes) ≡ replied (kept first_outcomes)
       same_given =
           backs-many (replies_seen app y.before.seated) (replies_seen app x.before.seated) (replied (kept second_outcomes)) (replied (kept first_outcomes)) many_given
-          (sym (given-replies app c y second_outcomes one.second j.asked.grows.desk) ∙ (same_seen ∙ given-replies app c x first_outcomes one.first i.asked.grows.desk))
+          (sym (given-replies app c y second_outcomes second j.asked.grows.desk) ∙ (same_seen ∙ given-replies app c x first_outcomes first i.asked.grows.desk))
 
       -- and behind Enter
       behind_enter : replied (kept j.all.outcomes) ++ j.asked.leaving.reply ∷ [] ≡ replied (kept i.all.outcomes) ++ i.asked.leaving.reply ∷ []
@@ -75,4 +73,5 @@ module _ (app : List ℕ) (c : Client) (x y : Service c) (read left rest : List 
           (say_alike c 0 j.all.last i.all.last i.all.acts j.all.outcomes i.all.outcomes j.all.pieces i.all.pieces told answers i.all.answers).0
 
 pub bytes-are : BytesAreOfTheTrace
-bytes-are app c x y read left rest what why i j one refused = pieces-are app c x y read left rest what why i j one refused
+bytes-are app c x y read left rest what why i j one refused =
+    pieces-are app c x y read left rest what why i j one.first one.second (λ k. replies_to (seats-are app c x y read left rest what why i j one.seat k) (one.trace k)) refused

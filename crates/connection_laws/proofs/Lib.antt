@@ -8,3 +8,11 @@ pub mod Bytes
 pub mod WholeStreams
 pub mod RepliesSoFar
 pub mod BytesSoFar
+mod BlindedViews
+mod BlindedNodes
+mod BlindedBuses
+pub mod BlindedSteps
+pub mod BlindedTraces
+mod BlindedSeats
+pub mod Unread
+mod SightExampleProofs

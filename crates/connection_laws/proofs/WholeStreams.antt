@@ -14,7 +14,7 @@ use Rattle.session.specs.Ledger.{World}
 use Rattle.session.proofs.AnswersAsked.{answer_asked}
 use Rattle.session.proofs.ItemsAreOne.{are_one}
 use Rattle.connection_laws.specs.Served.{ConnectionsAreIsolated, refusals_in}
-use Rattle.connection_laws.proofs.Bytes.{pieces-are}
+use Rattle.connection_laws.proofs.Bytes.{bytes-are}
 use Rattle.connection_laws.proofs.OneEnding.{ending_of, ends-as-stream}
 use Rattle.connection_laws.proofs.Told.{as-many, between-denied, none-refused}
 
@@ -42,5 +42,5 @@ connections-are app c x y stream one k l =
     ∙ (ap (λ (acts : List Act). length (requests_of acts)) cuts.1 ∙ sym (outcomes_many c stream i.left i.what x.before x.after i.whole)) in
     let refused : refusals_in j.whole.all.outcomes ≡ refusals_in i.whole.all.outcomes =
     none-refused j.whole.all.outcomes i.whole.all.outcomes (none_denied c stream j.left j.what y.before y.after j.whole l.unrefused) (none_denied c stream i.left i.what x.before x.after i.whole k.unrefused) many in
-    let pieces : j.whole.all.pieces ≡ i.whole.all.pieces = pieces-are app c x y stream i.left j.left i.what j.what i.whole j.whole one refused in
+    let pieces : j.whole.all.pieces ≡ i.whole.all.pieces = bytes-are app c x y stream i.left j.left i.what j.what i.whole j.whole one refused in
     (j.ending ∙ (same_end ∙ sym i.ending), (i.whole.all.pieces, i.whole.asked.grows.told, j.whole.asked.grows.told ∙ ap (onto y.before.told) pieces))

@@ -6,6 +6,12 @@ ghost use Rattle.connection_laws.specs.Served.{
   RepliesAreOfTheTrace,
 };
 ghost use Rattle.connection_laws.specs.SoFar.{BytesSoFar, ItemsAreAskedFirst, RepliesSoFar};
+ghost use Rattle.connection_laws.specs.Unread.{
+  BlindedStepsAreSeen,
+  BytesAreOfTheBlindedTrace,
+  RepliesAreOfTheBlindedTrace,
+  UnreadBytesAreInNoReply,
+};
 
 /// What the own machine of an application replies to a seat over its trace grows,
 /// while a connection of that seat is served, by just the replies that its client
@@ -45,4 +51,31 @@ pub fn items_are_asked_first()
 /// a write that failed or by want of memory. Of the answer that is cut nothing is said.
 pub fn bytes_so_far_are_of_the_trace_so_far()
     ensures { BytesSoFar }
+{}
+
+/// The bytes of a file are in no reply to an application that has neither the right
+/// to read a document of that path, nor a file open that it may read now: a reply is
+/// a function of the request and of the blinded view, in which such a file is as
+/// many zero bytes. Its length and its moment stay in sight.
+pub fn unread_bytes_are_in_no_reply()
+    ensures { UnreadBytesAreInNoReply }
+{}
+
+/// One entry, as an application sees it that is blind to what it may not read: its own
+/// is answered as in the portal, and the views after are equal when blinded, with what
+/// is in sight then; and so they are after what others change.
+pub fn blinded_steps_are_seen()
+    ensures { BlindedStepsAreSeen }
+{}
+
+/// The replies to an application are a function of its blinded trace, in which, beside
+/// its own requests, no bytes are told but of files that it may read then.
+pub fn replies_are_of_the_blinded_trace()
+    ensures { RepliesAreOfTheBlindedTrace }
+{}
+
+/// Two connections of an application with one blinded trace that read the same, and
+/// of which the same requests are refused, are answered by the same bytes.
+pub fn bytes_are_of_the_blinded_trace()
+    ensures { BytesAreOfTheBlindedTrace }
 {}

@@ -8,7 +8,9 @@
 //! trace, one stream and the same refusals are written the same bytes and end
 //! alike, be it at two portals that have nothing else in common. As far as two
 //! traces are the same, so are the replies, and the bytes of each item that is
-//! answered whole.
+//! answered whole. And that what an application **may not read** is in no reply to it,
+//! and in no byte that its client is written: of such a file the length and the moment
+//! of the last change alone are in sight.
 //!
 //! | Room | Holds |
 //! |---|---|
@@ -16,10 +18,15 @@
 //! | `specs/OwnPlaces` | what the application's own machine replies to one of its seats |
 //! | `specs/Served` | a connection that was served, as `serve_connection` says of it; its replies and bytes |
 //! | `specs/SoFar` | what was told up to a moment |
+//! | `specs/Blinded` | which files an application may read now, and a view without the bytes of all others |
+//! | `specs/BlindedTrace` | a trace without bytes, but of what is in sight |
+//! | `specs/Unread` | what an application may not read |
+//! | `examples` | worked cases of what is in sight, computed over the definitions |
 //!
 //! ```text
 //! replies_seen app after ≡ replies_seen app before ++ replied made
 //! ```
 #![tactic(auto)]
 
+pub mod examples;
 pub mod laws;

@@ -1,0 +1,49 @@
+//! Worked examples of what is in sight of an application, computed by the checker
+//! over the definitions alone.
+//!
+//! The first functions do nothing; their contract is the example. What is expected
+//! is worked out by hand, so that a wrong definition does not meet it. The last ones
+//! give a part of an example by code: a byte, or a length.
+
+ghost use Rattle.connection_laws.specs.SightExamples.{
+  BytesComeWithTheRight,
+  IsFirstOfOpen,
+  IsFirstOfStrict,
+  IsLengthToWriter,
+  WhatIsInSight,
+};
+
+/// What is in sight by the right to read, by the right to write alone, by files that
+/// are left open, of a strict document and of another, and by the right that is given
+/// again.
+pub fn what_is_in_sight()
+    ensures { WhatIsInSight }
+{}
+
+/// An application that may write a document is told that another wrote it, and how
+/// long the file is; its bytes come as it gains the right to read.
+pub fn bytes_come_with_the_right()
+    ensures { BytesComeWithTheRight }
+{}
+
+/// The first byte in sight of an application of "hello", which it has open to read
+/// while it may not read the document any more.
+pub fn first_byte_of_an_open_file() -> u8
+    ensures { IsFirstOfOpen result }
+{
+    104
+}
+
+/// The same of a strict document.
+pub fn first_byte_of_a_strict_file() -> u8
+    ensures { IsFirstOfStrict result }
+{
+    0
+}
+
+/// How many bytes an application knows of that may only write them.
+pub fn length_to_a_writer() -> u64
+    ensures { IsLengthToWriter result }
+{
+    5
+}
