@@ -24,7 +24,7 @@ use Rattle.record_keeper.specs.Keepers.{KeeperIs}
 use Rattle.record_keeper.proofs.HeldEntries.{good_rows}
 use Rattle.portal_steps.specs.Answered.{KeepsState}
 use Rattle.portal_steps.specs.Held.{Stands}
-use Rattle.portal_start.specs.Loading.{LoadsGood, document_loaded, opening_loaded}
+use Rattle.portal_start.specs.Loading.{LoadsGood, document_loaded}
 use Rattle.portal_start.proofs.GoodRecords.{over_any}
 use Rattle.portal_start.proofs.LoadedRecords.{back}
 
