@@ -281,7 +281,7 @@ module _ (p s : Preceding) (t : Tracks p) where
   noted (Doc id reusable path grants) k g n =
       let parts = and_parts (not (list_any is_open p.lines)) _ g in
       doc_tracks (Doc id reusable path grants) id.number refl (λ m. refl) (λ m. refl) refl (λ m. refl) (λ a b. refl) (λ o. refl)
-      (not_false _ (and_parts (not (list_any (keeps id.number) p.lines)) _ parts.1).0) n.0 n.1.0 n.1.1
+      (not_false _ (and_parts (not (list_any (keeps id.number) p.lines)) _ parts.1).0) n.0 n.1 n.2
   noted (Entry entry) k g n = entry_tracks entry k.0.table n
   noted (Open seat kind who) k g n =
       open_tracks (Open seat kind who) seat k.1 refl (λ m. refl) (λ m. refl) refl (λ m. refl) (λ a b. refl) (λ o. refl) refl (not_false _ g) n.0 n.1
