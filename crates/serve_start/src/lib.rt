@@ -32,6 +32,7 @@
 pub mod end;
 pub mod files;
 mod guid;
+pub mod in_memory;
 pub mod laws;
 pub mod obey;
 pub mod openers;

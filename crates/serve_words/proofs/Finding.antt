@@ -42,16 +42,12 @@ first_of_entry (Some a) = first_of a.vals.items
 pub value_found : (f : Found) (name : List ℕ) → first_value f name ≡ value_in (rows_of f) name
 value_found f name = first_of_entry (matched_of f name) ∙ ap (λ (l : List (List ℕ)). slice_get l 0) (sym (values_found f name))
 
-some_of : (m : Option MatchedArg) (xs : List (List ℕ)) → Some xs ≡ option_map raw_values m → xs ≡ option_map_or raw_values m []
-some_of None xs e = absurd (cc e)
-some_of (Some a) xs e = cc e
+-- all values of a name, or none where it has no entry
+strs_or : (o : Option (Bor (List (Bor (List ℕ))))) (d r : Bor (List (Bor (List ℕ)))) (m : Option MatchedArg) → r ≡ unwrap_or o d → d.now ≡ [] → option_map (λ (s : Bor (List (Bor (List ℕ)))). map (λ (v : Bor (List ℕ)). v.now) s.now) o ≡ option_map raw_values m → map (λ (v : Bor (List ℕ)). v.now) r.now ≡ option_map_or raw_values m []
+strs_or None d r None is empty same = ap (λ (x : Bor (List (Bor (List ℕ)))). map (λ (v : Bor (List ℕ)). v.now) x.now) is ∙ ap (λ (l : List (Bor (List ℕ))). map (λ (v : Bor (List ℕ)). v.now) l) empty
+strs_or (Some s) d r (Some a) is empty same = let one : map (λ (v : Bor (List ℕ)). v.now) s.now ≡ raw_values a = cc same in ap (λ (x : Bor (List (Bor (List ℕ)))). map (λ (v : Bor (List ℕ)). v.now) x.now) is ∙ one
+strs_or None d r (Some a) is empty same = absurd (cc same)
+strs_or (Some s) d r None is empty same = absurd (cc same)
 
-none_of : (m : Option MatchedArg) → None ≡ option_map raw_values m → [] ≡ option_map_or raw_values m []
-none_of None e = refl
-none_of (Some a) e = absurd (cc e)
-
-pub some_found : (f : Found) (name : List ℕ) (xs : List (List ℕ)) → Some xs ≡ option_map raw_values (matched_of f name) → xs ≡ values_in (rows_of f) name
-some_found f name xs e = some_of (matched_of f name) xs e ∙ sym (values_found f name)
-
-pub none_found : (f : Found) (name : List ℕ) → None ≡ option_map raw_values (matched_of f name) → [] ≡ values_in (rows_of f) name
-none_found f name e = none_of (matched_of f name) e ∙ sym (values_found f name)
+pub strs_found : (f : Found) (name : List ℕ) (o : Option (Bor (List (Bor (List ℕ))))) (d r : Bor (List (Bor (List ℕ)))) → r ≡ unwrap_or o d → d.now ≡ [] → option_map (λ (s : Bor (List (Bor (List ℕ)))). map (λ (v : Bor (List ℕ)). v.now) s.now) o ≡ option_map raw_values (matched_of f name) → map (λ (v : Bor (List ℕ)). v.now) r.now ≡ values_in (rows_of f) name
+strs_found f name o d r is empty same = strs_or o d r (matched_of f name) is empty same ∙ sym (values_found f name)

@@ -315,18 +315,7 @@ fn apps_of(alloc: Global, matches: &ArgMatches<'_>) -> Result<List<AppId>, Words
     ensures faulty { TellsFault result
         → AreNamed (values_in (rows_of (found_of matches.now)) (codes "app")) → ⊥ }
 {
-    apps_named(alloc, names_of(matches))
-}
-
-/// What stands without a name.
-fn names_of<'m, 'a>(matches: &'m ArgMatches<'a>) -> &'m [&'a str]
-    ensures { map (λ name. name.now) result.now
-        ≡ values_in (rows_of (found_of matches.now)) (codes "app") }
-{
-    match matches.get_strs("app") {
-        Some(names) => names,
-        None => &[],
-    }
+    apps_named(alloc, matches.get_strs("app").unwrap_or(&[]))
 }
 
 /// The applications of these names, in order.
