@@ -9,7 +9,7 @@ use Rattle.serve_words.specs.declared.words.ServeAsk.{ServeAsk}
 use Rattle.serve_words.specs.declared.words.ServeAsk.TheVariants.{Serve, Tell}
 use Rattle.serve_words.specs.declared.words.ServeWords.{ServeWords}
 use Rattle.serve_words.specs.declared.words.WordsError.{WordsError}
-use Rattle.serve_words.specs.Form.{found_in, serve_form}
+use Rattle.serve_words.specs.Form.{are_taken, found_in, serve_form}
 use Rattle.serve_words.specs.Words.{Asks, AsksFor, AsksOneOf, IsFaulty, IsText, TellsFault}
 
 simple : is_simple serve_form ≡ true
@@ -36,7 +36,8 @@ faulty_found words rows r is none told = inr (λ service asks. none told service
 
 -- ---- words that it doesn't take, but for want of memory
 
-takes_none : (app : App) (words : List (List ℕ)) (Wants : Type 0) → app ≡ serve_form → (takes app words ≡ true → Wants) → (Wants → ⊥) → takes serve_form words ≡ false
+takes_none : (app : App) (words : List (List ℕ)) (Wants : Type 0) → app ≡ serve_form → (takes app words ≡ true → Wants) → (Wants → ⊥) → are_taken words ≡ false
+unfolding are_taken
 takes_none app words Wants e passes wants = isnt (takes serve_form words) (λ yes. wants (subst (λ (a : App). takes a words ≡ true → Wants) e passes yes))
 
 pub asks_text : (app : App) (words : List (List ℕ)) (Wants : Type 0) (r : Result ServeAsk WordsError) → app ≡ serve_form → (takes app words ≡ true → Wants) → IfOk r (λ ask. IsText ask × (Wants → ⊥)) → IfOk r (Asks words)

@@ -1,9 +1,10 @@
 -- The words of `docportal serve` as `clap` is told of them, and what it finds of each name.
-use Rattle.std.specs.Prelude.{ℕ, List, [], ◌∷◌, Option, Some, true, codes, find, slice_get}
+use Rattle.std.specs.Prelude.{ℕ, Bool, List, [], ◌∷◌, Option, Some, true, codes, find, slice_get}
 use Rattle.std.specs.Option.{option_map_or}
 use Rattle.std.specs.Str.{bytes_eq}
 use Rattle.clap.specs.Lexer.{usize_max}
 use Rattle.clap.specs.Simple.{App, matches_of, new_rule, new_shape}
+use Rattle.clap.specs.Takes.{takes}
 use Rattle.clap.specs.Walk.{Row, Rule}
 use Rattle.clap.specs.declared.builder.action.ArgAction.TheVariants.{Set, Append}
 
@@ -46,7 +47,11 @@ serve_form = record {
   subs = [];
 }
 
--- what `clap` finds in words
+-- `clap` takes these words
+unfoldable pub are_taken : List (List ℕ) → Bool
+are_taken words = takes serve_form words
+
+-- what it finds in them
 unfoldable pub found_in : List (List ℕ) → List Row
 found_in words = matches_of serve_form words
 

@@ -2,7 +2,6 @@
 use Rattle.std.specs.Prelude.{◌≡◌, ◌⊎◌, ℕ, ◌≤◌, List, [], length, Result, Ok, Err, Some, true, false, codes}
 use Rattle.std.specs.Fmt.{decimal}
 use Rattle.std.specs.List.{IsDistinct, list_all}
-use Rattle.clap.specs.Takes.{takes}
 use Rattle.clap.specs.Walk.{Row}
 use Rattle.portal_base.specs.Names.{is_app_name, is_same}
 use Rattle.serve_words.specs.declared.words.ServeWords.{ServeWords}
@@ -10,7 +9,7 @@ use Rattle.serve_words.specs.declared.words.ServeAsk.{ServeAsk}
 use Rattle.serve_words.specs.declared.words.ServeAsk.TheVariants.{Serve, Tell}
 use Rattle.serve_words.specs.declared.words.WordsError.{WordsError}
 use Rattle.serve_words.specs.declared.words.WordsError.TheVariants.{Faulty, Memory}
-use Rattle.serve_words.specs.Form.{found_in, serve_form, value_in, values_in}
+use Rattle.serve_words.specs.Form.{are_taken, found_in, value_in, values_in}
 
 -- the most posts of a listener
 abbrev pub most_workers : ℕ
@@ -74,11 +73,11 @@ AsksOneOf found (Tell text) = ⊥
 -- doesn't take them, as `--help`.
 abbrev pub Asks : List (List ℕ) → ServeAsk → Type 0
 Asks words (Serve service) = AsksFor (found_in words) service
-Asks words (Tell text) = takes serve_form words ≡ false
+Asks words (Tell text) = are_taken words ≡ false
 
 -- Words are faulty: `clap` doesn't take them, or they ask for no service.
 abbrev pub IsFaulty : List (List ℕ) → Type 0
-IsFaulty words = (takes serve_form words ≡ false)
+IsFaulty words = (are_taken words ≡ false)
     ⊎ ((service : ServeWords) → AsksFor (found_in words) service → ⊥)
 
 -- an answer that tells that words are faulty
