@@ -1,13 +1,12 @@
 //! The portal.
 
 ghost use Rattle.std.specs.Prelude.{◌≡◌, ◌+◌, ◌<◌, ◌≤◌, ◌^◌, [], length, map, false, true, IfErr, IfOk, IsOk, OnErr, OnOk, None, unwrap_or};
-ghost use Rattle.std.specs.List.{list_all};
 ghost use Rattle.app_view.specs.Books.{Lends as LendsBook};
 ghost use Rattle.change_signals.specs.Unsent.{AtSeat, holding, unsent_on};
 ghost use Rattle.node_looks.specs.OpenHandles.{AreOpen};
+ghost use Rattle.portal_desk.specs.Opening.{IsOpeningState};
 ghost use Rattle.portal_model.specs.History.{Legal, cost};
-ghost use Rattle.portal_model.specs.Opening.{id_of, opened_over};
-ghost use Rattle.portal_model.specs.Rows.{are_rows};
+ghost use Rattle.portal_model.specs.Opening.{opened_over};
 ghost use Rattle.portal_model.specs.Seated.{is_open};
 ghost use Rattle.portal_model.specs.Valid.{Valid};
 ghost use Rattle.portal_steps.specs.Answered.{Answers, KeepsState, Spends, TellsFault};
@@ -82,7 +81,8 @@ pub struct Portal<T: HostTree, K: Keeper, C: Clock, W: Words> {
 }
 
 impl<T: HostTree, K: Keeper, C: Clock, W: Words> Model for Portal<T, K, C, W> {
-    ghost use Rattle.std.specs.Prelude.{◌≡◌, ◌≤◌, length};
+    ghost use Rattle.std.specs.Prelude.{◌≡◌, ◌≤◌, length, None};
+    ghost use Rattle.portal_desk.specs.Opening.{IsOpeningState};
     ghost use Rattle.portal_steps.specs.Answered.{KeepsState};
     ghost use Rattle.portal_steps.specs.Held.{Stands};
     ghost use Rattle.portal_model.specs.History.{run};
@@ -115,7 +115,8 @@ impl<T: HostTree, K: Keeper, C: Clock, W: Words> Model for Portal<T, K, C, W> {
         × KeepsState (K.is p.keeper).told
         (run (opened_over (T.is p.tree).began p.opening) p.history.entries)
         × HasStore (run (opened_over (T.is p.tree).began p.opening) p.history.entries)
-        p.tables p.outboxes };
+        p.tables p.outboxes
+        × IsOpeningState (opened_over None p.opening) };
 }
 
 impl<T: HostTree, K: Keeper, C: Clock, W: Words> Portal<T, K, C, W> {
@@ -163,6 +164,7 @@ impl<T: HostTree, K: Keeper, C: Clock, W: Words> Portal<T, K, C, W> {
     ) -> Portal<T, K, C, W>
         requires lists { AreLists lists }
         requires valid { Valid (opened_over None lists.opening) }
+        requires started { IsOpeningState (opened_over None lists.opening) }
         requires told { (T.is tree).told ≡ (T.is tree).began }
         requires kept { KeepsState (K.is keeper).told
             (opened_over (T.is tree).began lists.opening) }
@@ -237,12 +239,14 @@ impl<T: HostTree, K: Keeper, C: Clock, W: Words> Portal<T, K, C, W> {
         &self.handles
     }
 
-    /// What is true of every portal: its history is legal, within its limit
-    /// and countable, its state is valid, and its devices tell the files and
-    /// the records of that state, where they tell. An OPEN that was done had
-    /// each right that was taken before given again, and what goes by the
-    /// number of a handle meets the handle that was opened by that number.
+    /// What is true of every portal: its history began in an opening state, is
+    /// legal, within its limit and countable, its state is valid, and its
+    /// devices tell the files and the records of that state, where they tell.
+    /// An OPEN that was done had each right that was taken before given again,
+    /// and what goes by the number of a handle meets the handle that was opened
+    /// by that number.
     pub fn known(&self)
+        ensures started { IsOpeningState (state_first self.now.story) }
         ensures legal { Legal (state_first self.now.story) self.now.story.history }
         ensures valid { Valid (state_now self.now.story) }
         ensures within { cost self.now.story.history ≤ limit_of self.now.story }
@@ -253,6 +257,7 @@ impl<T: HostTree, K: Keeper, C: Clock, W: Words> Portal<T, K, C, W> {
         ensures handles { GoesByHandles self.now.story }
     {
         let _ = self.history.len();
+        self.tree.known();
         no_open_after_a_revocation();
         older_handles_keep_their_rights();
     }
@@ -300,6 +305,7 @@ impl<T: HostTree, K: Keeper, C: Clock, W: Words> Portal<T, K, C, W> {
             → IsOk result }
 
         // Whatever it answers.
+        ensures started { IsOpeningState (state_first self.new.story) }
         ensures legal { Legal (state_first self.new.story) self.new.story.history }
         ensures valid { Valid (state_now self.new.story) }
         ensures within { cost self.new.story.history ≤ limit_of self.new.story }
@@ -692,10 +698,9 @@ impl<T: HostTree + Drop, K: Keeper + Drop, C: Clock + Drop, W: Words + Drop> Por
     /// A portal that opens with this state, over devices that have what stands
     /// for it, of which none is asked.
     ///
-    /// The state is valid over the tree's files, which are those that it began
-    /// with; no number was made but those of its documents, and its entries
-    /// have their rows in order. A keeper that tells its records has those that
-    /// stand for the state.
+    /// It is an opening state, and valid over the tree's files, which are those
+    /// that it began with. A keeper that tells its records has those that stand
+    /// for the state.
     pub fn reopen(
         alloc: Global,
         tree: T,
@@ -705,15 +710,12 @@ impl<T: HostTree + Drop, K: Keeper + Drop, C: Clock + Drop, W: Words + Drop> Por
         opening: OpeningState,
     ) -> Result<Portal<T, K, C, W>, WantOfMemory>
         requires valid { Valid (opened_over (T.is tree).began opening) }
-        requires made { opening.made ≡ map (λ d. id_of d.kept.number) opening.documents }
-        requires rows { list_all (λ e. are_rows e.rows) opening.entries ≡ true }
+        requires started { IsOpeningState (opened_over (T.is tree).began opening) }
         requires told { (T.is tree).told ≡ (T.is tree).began }
         requires kept { KeepsState (K.is keeper).told (opened_over (T.is tree).began opening) }
         ensures { IfOk result
             (λ portal. portal ≡ reopened T.is tree keeper clock words opening) }
     {
-        // Two things that `Valid` doesn't say are asked for: the made numbers are those of the
-        // documents, and rows are in order.
         match lists_of_opening(alloc, opening) {
             Ok(lists) => Ok(Portal::over(alloc, tree, keeper, clock, words, lists)),
             Err(error) => Err(error),

@@ -30,7 +30,7 @@ use Rattle.script_command.proofs.BytesAhead.{behind_none}
 use Rattle.script_replay.proofs.HeldBytes.{nothing_held}
 use Rattle.script_command.proofs.OneOutput.{plays_one}
 use Rattle.script_replay.proofs.RunLines.{onto_none, plays_cost, text_joined}
-use Rattle.script_command.proofs.SoundHistory.{sound}
+use Rattle.script_command.proofs.SoundHistory.{script_opens, sound}
 
 -- ---- a text
 
@@ -56,7 +56,7 @@ is_replay entries text lines front later history out last kept short script ahea
   only = λ held h o b k p.
       let same = kept_in_one_way (entries_of lines) held entries k kept in
       plays_one front (first_scene entries lines) b last h history o out refl (subst (λ (z : Entries). Plays (first_scene z lines) front h o b) same p) plays;
-  sound = sound entries lines front history out last valid plays;
+  sound = sound entries lines front history out last (script_opens entries lines script.good kept valid) valid plays;
   room = λ later e. front_room entries text lines front later history out last short script plays e;
 }
 

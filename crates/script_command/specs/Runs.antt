@@ -2,6 +2,7 @@
 use Rattle.std.specs.Prelude.{◌≡◌, ◌⊎◌, ℕ, ◌+◌, ◌*◌, ◌<◌, ◌≤◌, List, [], ◌++◌, length, Option}
 use Rattle.portal_base.specs.Outside.{behind, onto, HasRisen, Short}
 use Rattle.portal_model.specs.declared.entry.Entry.{Entry}
+use Rattle.portal_desk.specs.Opening.{IsOpeningState}
 use Rattle.portal_model.specs.History.{Legal, cost, replies}
 use Rattle.portal_model.specs.Store.{Entries}
 use Rattle.record_keeper.specs.KeptEntries.{KeepEntries}
@@ -18,10 +19,11 @@ use Rattle.script_replay.specs.Plays.{Plays}
 use Rattle.script_replay.specs.Scenes.{Scene, first_scene, held_in, opening_state, run_limits}
 use Rattle.script_replay.specs.Steps.{AreFirst}
 
--- the history of the lines is legal, and the replies to each application are those of its own
--- machine over its trace
+-- the history of the lines is legal from an opening state, and the replies to each application are
+-- those of its own machine over its trace
 pub record IsSound (entries : Entries) (lines : List ScriptLine) (history : List Entry)
     : Type 0 where
+  pub started : IsOpeningState (opening_state entries lines)
   pub legal : Legal (opening_state entries lines) history
   pub isolated : (app : List ℕ)
       → replies app (opening_state entries lines) history

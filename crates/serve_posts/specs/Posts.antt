@@ -3,7 +3,9 @@ use Rattle.std.specs.Prelude.{◌≡◌, ◌⊎◌, ℕ, ◌+◌, ◌<◌, List,
 use Rattle.portal_base.specs.declared.limits.Settings.{Settings}
 use Rattle.portal_model.specs.declared.entry.Entry.{Entry}
 use Rattle.portal_model.specs.History.{Legal, of_seat}
-use Rattle.portal_model.specs.Seated.{BeginsWith, Known, Seated, exchanges}
+use Rattle.portal_desk.specs.Knowing.{Known}
+use Rattle.portal_desk.specs.Opening.{IsOpeningState}
+use Rattle.portal_model.specs.Seated.{BeginsWith, Seated, exchanges}
 use Rattle.portal_model.specs.State.{State}
 use Rattle.session.specs.Standings.{client}
 use Rattle.turn_desk.specs.Sights.{Sight, Stays, seated_of}
@@ -56,9 +58,10 @@ module _ {L S K : Type 0} (s : Sides S K) (hall_of : L → Hall S K) (settings :
     pub mine : exchanges seat o log ≡ last.mine
 
   -- Each post was served by the seat of its number, from 1, and came back in its place with the end
-  -- of its worker. The history is legal, and has no entries of other numbers.
+  -- of its worker. The history is legal from an opening state, and has no entries of other numbers.
   pub record ServesPosts (o : State) (base log : List Entry) (posts : List (Post L))
       (ends : List WorkEnd) (back : List (Post L)) : Type 0 where
+    pub started : IsOpeningState o
     pub legal : Legal o log
     pub begins : BeginsWith log base
     pub all_ended : length ends ≡ length posts

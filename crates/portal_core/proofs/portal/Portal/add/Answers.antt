@@ -42,6 +42,7 @@ invariant_of-self-in-Ok-served g c =
       omega (arith, room, count),
       both.1,
       stored_over began after.began k.opening (k.history.entries ++ entry_with c.args.seat (Request.Add c.args.add) given ∷ []) k.tables c.taken-taken.new.outboxes kept.0 stored,
+      c.self.invariant.4,
     )
 
 pub give_back-requires : goal.give_back-requires
@@ -64,6 +65,7 @@ invariant_of-self-in-Err g c =
       stored_over tree.began after.began k.opening k.history.entries k.tables c.give_back.new.self kept.0
           (stored_back tree.began k.opening k.history.entries k.history.limit k.documents k.rights k.applications k.connections k.handles tree.told c.self.invariant.0 c.args.seat k.tables k.outboxes c.taken-taken.new.outboxes c.taken-taken.new.outboxes c.give_back.new.self c.in-Ok.signals
           c.in-Ok.ensures.rest (λ s. refl) c.in-Ok.ensures.signals c.give_back.ensures c.self.invariant.3),
+      c.self.invariant.4,
     )
 
 pub returns-in-Ok-served-clause-began : goal.returns-in-Ok-served-clause-began

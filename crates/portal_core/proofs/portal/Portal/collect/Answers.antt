@@ -19,6 +19,7 @@ invariant_of-self-2 g c =
       omega (arith, room),
       keeps-collected (g.T.HostTree.is c.self.inside.tree).began c.self.inside.opening c.self.inside.history.entries c.self.inside.history.limit c.self.inside.documents c.self.inside.rights c.self.inside.applications c.self.inside.connections c.self.inside.handles (g.T.HostTree.is c.self.inside.tree).told c.self.invariant.0 c.args.seat (g.K.Keeper.is c.self.inside.keeper).told c.self.invariant.2,
       stored_collected (g.T.HostTree.is c.self.inside.tree).began c.self.inside.opening c.self.inside.history.entries c.self.inside.history.limit c.self.inside.documents c.self.inside.rights c.self.inside.applications c.self.inside.connections c.self.inside.handles (g.T.HostTree.is c.self.inside.tree).told c.self.invariant.0 c.args.seat c.self.inside.tables c.self.inside.outboxes c.taken.new.outboxes c.in_ok-signals.ensures.rest c.self.invariant.3,
+      c.self.invariant.4,
     )
 
 pub returns-clause-ok : goal.returns-clause-ok

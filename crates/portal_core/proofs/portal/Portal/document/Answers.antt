@@ -37,6 +37,7 @@ invariant_of-self-in-Ok-served g c =
           (g.K.Keeper.is k.keeper) (g.K.Keeper.is served.keeper) came,
       stored_served began k.opening k.history.entries k.history.limit k.documents k.rights k.applications k.connections k.handles told c.self.invariant.0 served.documents served.rights served.applications served.connections c.args.seat c.args.request c.in-Ok-served.field-0.given c.in-Ok.signals c.in-Ok-served.field-0.answer
           (g.K.Keeper.is k.keeper) (g.K.Keeper.is served.keeper) k.tables k.outboxes c.taken-taken.new.outboxes came c.in-Ok.ensures.rest c.self.invariant.3,
+      c.self.invariant.4,
     )
 
 pub give_back-requires : goal.give_back-requires
@@ -55,6 +56,7 @@ invariant_of-self-in-Err g c =
       c.self.invariant.2,
       stored_back tree.began k.opening k.history.entries k.history.limit k.documents k.rights k.applications k.connections k.handles tree.told c.self.invariant.0 c.args.seat k.tables k.outboxes c.taken-taken.new.outboxes c.taken-taken.new.outboxes c.give_back.new.self c.in-Ok.signals
           c.in-Ok.ensures.rest (λ s. refl) c.in-Ok.ensures.signals c.give_back.ensures c.self.invariant.3,
+      c.self.invariant.4,
     )
 
 pub returns-in-Ok-served-clause-ok : goal.returns-in-Ok-served-clause-ok

@@ -22,6 +22,7 @@ invariant_of-self-then-is_here g c =
       omega (arith, room),
       keeps-entered (g.T.HostTree.is c.self.inside.tree).began c.self.inside.opening c.self.inside.history.entries c.self.inside.history.limit c.self.inside.documents c.self.inside.rights c.self.inside.applications c.self.inside.connections c.self.inside.handles (g.T.HostTree.is c.self.inside.tree).told c.self.invariant.0 c.args.seat c.args.who c.args.kind (g.K.Keeper.is c.self.inside.keeper).told c.self.invariant.2,
       stored_there (g.T.HostTree.is c.self.inside.tree).began c.self.inside.opening c.self.inside.history.entries c.self.inside.history.limit c.self.inside.documents c.self.inside.rights c.self.inside.applications c.self.inside.connections c.self.inside.handles (g.T.HostTree.is c.self.inside.tree).told c.self.invariant.0 c.args.seat c.args.who c.args.kind c.self.inside.tables c.self.inside.outboxes (search rules) c.self.invariant.3,
+      c.self.invariant.4,
     )
 
 pub invariant_of-self-2 : goal.invariant_of-self-2
@@ -33,6 +34,7 @@ invariant_of-self-2 g c =
       rw (length-append c.self.inside.connections (new_connection c.args.seat c.args.who c.args.kind ∷ [])) (omega (arith, room)),
       keeps-entered (g.T.HostTree.is c.self.inside.tree).began c.self.inside.opening c.self.inside.history.entries c.self.inside.history.limit c.self.inside.documents c.self.inside.rights c.self.inside.applications c.self.inside.connections c.self.inside.handles (g.T.HostTree.is c.self.inside.tree).told c.self.invariant.0 c.args.seat c.args.who c.args.kind (g.K.Keeper.is c.self.inside.keeper).told c.self.invariant.2,
       stored_new (g.T.HostTree.is c.self.inside.tree).began c.self.inside.opening c.self.inside.history.entries c.self.inside.history.limit c.self.inside.documents c.self.inside.rights c.self.inside.applications c.self.inside.connections c.self.inside.handles (g.T.HostTree.is c.self.inside.tree).told c.self.invariant.0 c.args.seat c.args.who c.args.kind c.self.inside.tables c.self.inside.outboxes c.enter.new.outboxes (search rules) (rw (c.opened_connection.ensures) at c.in_ok-enter.ensures.heard) c.self.invariant.3,
+      c.self.invariant.4,
     )
 
 pub enter-requires-clause-outboxes : goal.enter-requires-clause-outboxes
@@ -55,6 +57,7 @@ invariant_of-self-in_err-enter g c =
       omega (arith, room),
       c.self.invariant.2,
       record { stored = st.stored; waiting = λ q. boxes q ∙ st.waiting q },
+      c.self.invariant.4,
     )
 
 pub returns-then-is_here-clause-ok : goal.returns-then-is_here-clause-ok

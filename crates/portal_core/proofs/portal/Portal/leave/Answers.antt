@@ -22,6 +22,7 @@ invariant_of-self-then-not-is_here g c =
       omega (arith, room),
       keeps-left (g.T.HostTree.is c.self.inside.tree).began c.self.inside.opening c.self.inside.history.entries c.self.inside.history.limit c.self.inside.documents c.self.inside.rights c.self.inside.applications c.self.inside.connections c.self.inside.handles (g.T.HostTree.is c.self.inside.tree).told c.self.invariant.0 c.args.seat (g.K.Keeper.is c.self.inside.keeper).told c.self.invariant.2,
       stored_absent (g.T.HostTree.is c.self.inside.tree).began c.self.inside.opening c.self.inside.history.entries c.self.inside.history.limit c.self.inside.documents c.self.inside.rights c.self.inside.applications c.self.inside.connections c.self.inside.handles (g.T.HostTree.is c.self.inside.tree).told c.self.invariant.0 c.args.seat c.self.inside.tables c.self.inside.outboxes (search rules) c.self.invariant.3,
+      c.self.invariant.4,
     )
 
 pub invariant_of-self-2 : goal.invariant_of-self-2
@@ -33,6 +34,7 @@ invariant_of-self-2 g c =
       omega (arith, c.self.invariant.1),
       keeps-left (g.T.HostTree.is c.self.inside.tree).began c.self.inside.opening c.self.inside.history.entries c.self.inside.history.limit c.self.inside.documents c.self.inside.rights c.self.inside.applications c.self.inside.connections c.self.inside.handles (g.T.HostTree.is c.self.inside.tree).told c.self.invariant.0 c.args.seat (g.K.Keeper.is c.self.inside.keeper).told c.self.invariant.2,
       stored_left (g.T.HostTree.is c.self.inside.tree).began c.self.inside.opening c.self.inside.history.entries c.self.inside.history.limit c.self.inside.documents c.self.inside.rights c.self.inside.applications c.self.inside.connections c.self.inside.handles (g.T.HostTree.is c.self.inside.tree).told c.self.invariant.0 c.args.seat c.self.inside.tables c.self.inside.outboxes c.leave-3.new.self here c.leave-3.ensures c.self.invariant.3,
+      c.self.invariant.4,
     )
 
 pub returns-then-not-is_here-clause-ok : goal.returns-then-not-is_here-clause-ok

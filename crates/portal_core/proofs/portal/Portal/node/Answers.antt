@@ -50,6 +50,7 @@ invariant_of-self-in-Ok g c =
       both.1,
       stored_over tree.began after.began k.opening (k.history.entries ++ node_entry c.args.seat c.args.request done ∷ []) k.tables k.outboxes kept
           (stored_node tree.began k.opening k.history.entries k.history.limit k.documents k.rights k.applications k.connections k.handles tree.told c.self.invariant.0 c.args.seat c.args.request tree done new.connections new.handles after s k.tables k.outboxes c.self.invariant.3),
+      c.self.invariant.4,
     )
 
 pub invariant_of-self-in-Err : goal.invariant_of-self-in-Err
@@ -66,6 +67,7 @@ invariant_of-self-in-Err g c =
       omega (arith, room),
       both.1,
       stored_over tree.began after.began k.opening k.history.entries k.tables k.outboxes kept.0 c.self.invariant.3,
+      c.self.invariant.4,
     )
 
 pub returns-in-Ok-clause-ok : goal.returns-in-Ok-clause-ok

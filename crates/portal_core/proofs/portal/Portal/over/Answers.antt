@@ -14,4 +14,5 @@ invariant_of-result g c =
       omega arith,
       c.requires.kept,
       record { stored = sym are.tables; waiting = λ q. ap (λ (boxes : Boxes). unsent_on boxes q) c.new.ensures },
+      c.requires.started,
     )
