@@ -61,7 +61,8 @@ use std::mem;
 /// Contracts see the four devices, the opening state, the files that the tree
 /// began with, and the history. The history is legal, and the portal is in the
 /// state after it: a tree that tells has the files of that state, and a keeper
-/// that tells the records that stand for it.
+/// that tells the records that stand for it. The counts of nodes are those that
+/// the history looked up and forgot, on which no answer depends.
 #[derive(Drop)]
 pub struct Portal<T: HostTree, K: Keeper, C: Clock, W: Words> {
     tree: T,
@@ -85,6 +86,7 @@ impl<T: HostTree, K: Keeper, C: Clock, W: Words> Model for Portal<T, K, C, W> {
     ghost use Rattle.portal_desk.specs.Opening.{IsOpeningState};
     ghost use Rattle.portal_steps.specs.Answered.{KeepsState};
     ghost use Rattle.portal_steps.specs.Held.{Stands};
+    ghost use Rattle.portal_core.specs.LookUps.{AreHeld};
     ghost use Rattle.portal_model.specs.History.{run};
     ghost use Rattle.portal_model.specs.Opening.{opened_over};
     ghost use Rattle.portal_steps.specs.Story.{PortalIs};
@@ -116,7 +118,8 @@ impl<T: HostTree, K: Keeper, C: Clock, W: Words> Model for Portal<T, K, C, W> {
         (run (opened_over (T.is p.tree).began p.opening) p.history.entries)
         × HasStore (run (opened_over (T.is p.tree).began p.opening) p.history.entries)
         p.tables p.outboxes
-        × IsOpeningState (opened_over None p.opening) };
+        × IsOpeningState (opened_over None p.opening)
+        × AreHeld (opened_over (T.is p.tree).began p.opening) p.history.entries p.counts.counts };
 }
 
 impl<T: HostTree, K: Keeper, C: Clock, W: Words> Portal<T, K, C, W> {
