@@ -7,7 +7,6 @@ use Rattle.portal_base.specs.declared.memory.WantOfMemory.{WantOfMemory}
 use Rattle.portal_base.specs.declared.who.Who.{Who}
 use Rattle.host_tree.specs.Trees.{Asks, Changes as ChangesFiles, TreeIs, change_named, has_file, is_look_fault, Looks as Shows, resized}
 use Rattle.host_tree.specs.declared.tree.TreeCall.{TreeCall}
-use Rattle.host_tree.specs.declared.tree.TreeCall.TheVariants as TreeCall
 use Rattle.host_tree.specs.declared.tree.TreeDone.{TreeDone}
 use Rattle.host_tree.specs.declared.tree.TreeDone.TheVariants as done
 use Rattle.host_tree.specs.declared.tree.LookAnswer.{LookAnswer}

@@ -11,7 +11,6 @@ use Rattle.host_tree.specs.declared.tree.AttrAnswer.{AttrAnswer}
 use Rattle.host_tree.specs.declared.tree.AttrAnswer.TheVariants as attr
 use Rattle.host_tree.specs.declared.tree.LookAnswer.{LookAnswer}
 use Rattle.host_tree.specs.declared.tree.TreeCall.{TreeCall}
-use Rattle.host_tree.specs.declared.tree.TreeCall.TheVariants as TreeCall
 use Rattle.open_handles.specs.Opened.{HandleTable, handle_of as handle_in, opened_on}
 use Rattle.portal_model.specs.declared.handle.Handle.{Handle}
 use Rattle.portal_model.specs.declared.reply.Answer.{Answer}

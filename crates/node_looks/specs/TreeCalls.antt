@@ -6,7 +6,6 @@ use Rattle.portal_base.specs.declared.files.File.{File}
 use Rattle.portal_base.specs.declared.files.Look.{Look}
 use Rattle.host_tree.specs.Trees.{TreeIs, after_call}
 use Rattle.host_tree.specs.declared.tree.TreeCall.{TreeCall}
-use Rattle.host_tree.specs.declared.tree.TreeCall.TheVariants as TreeCall
 use Rattle.portal_model.specs.declared.reply.NodeAnswer.{NodeAnswer}
 use Rattle.portal_model.specs.NodeVerdict.{NodeVerdict, Errs, Yields, FileChange, FilesStay, Writes, Resizes, Creates}
 use Rattle.portal_model.specs.Walk.{Walk, Answers, Ends, Looks, Target, AtPath, Named}

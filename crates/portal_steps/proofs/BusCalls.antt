@@ -1,7 +1,6 @@
 -- The calls of the tree that a request on documents makes: one for each look, and none but looks; and no moment is read for it.
 use Rattle.std.proofs.Common.{◌≡◌, ℕ, zero, suc, List, [], ◌∷◌, length, map, replicate, Bool, true, false, not, Option, Some, None, is_some, refl, sym, ap, ◌∙◌}
 use Rattle.host_tree.specs.declared.tree.TreeCall.{TreeCall}
-use Rattle.host_tree.specs.declared.tree.TreeCall.TheVariants as TreeCall
 use Rattle.node_looks.specs.TreeCalls.{Call, call_at, calls_by, unfailed}
 use Rattle.portal_base.specs.declared.files.File.{File}
 use Rattle.portal_base.specs.declared.files.Look.{Look}

@@ -2,7 +2,6 @@
 -- whether it failed.
 use Rattle.std.specs.Prelude.{ℕ, List, [], Option, Some, None}
 use Rattle.host_tree.specs.declared.tree.TreeCall.{TreeCall}
-use Rattle.host_tree.specs.declared.tree.TreeCall.TheVariants as TreeCall
 use Rattle.node_serving.specs.Seats.{seat_calls}
 use Rattle.portal_model.specs.declared.entry.Entry.{Entry}
 use Rattle.portal_model.specs.declared.entry.Given.{Given}
