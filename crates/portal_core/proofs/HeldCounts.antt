@@ -1,5 +1,6 @@
 -- The counts of nodes are those of the history.
 use Rattle.std.proofs.Common.{◌≡◌, ℕ, List, [], ◌∷◌, ◌++◌, Bool, true, false, Option, refl, sym, ap, subst, ◌∙◌}
+use Rattle.std.proofs.Math.Path.{fun_ext}
 use Rattle.inode_table.specs.Counts.{count_of}
 use Rattle.inode_table.specs.declared.inodes.SeatNode.{SeatNode}
 use Rattle.node_serving.specs.Counted.{AreForgotten, Counts, CountsEntry, CountsOp}
@@ -30,7 +31,7 @@ held_more (x ∷ h) e s held = held_more h e (after s x) (by_request x.seat x.re
 -- counts that change as the answer of the step says
 pub held_on : (s : State) (h : List Entry) (e : Entry) (old new : List (SeatNode × ℕ)) → ((seat node : ℕ) → count_of new seat node ≡ by_request e.seat e.request (reply_at (run s h) e).answer (count_of old) seat node) → AreHeld s h old → AreHeld s (h ++ e ∷ []) new
 held_on s h e old new step held seat node =
-    let same : count_of old ≡ held_after s h none_held = λ i q n. held q n i in
+    let same : count_of old ≡ held_after s h none_held = fun_ext (λ q. fun_ext (λ n. held q n)) in
     step seat node
     ∙ (ap (λ (f : LookUps). by_request e.seat e.request (reply_at (run s h) e).answer f seat node) same
     ∙ sym (ap (λ (f : LookUps). f seat node) (held_more h e s none_held)))
@@ -63,7 +64,7 @@ same_counts old new e s n = ap (λ (counts : List (SeatNode × ℕ)). count_of c
 all_as : (items : List ForgetItem) (seat : ℕ) (old new : List (SeatNode × ℕ)) → AreForgotten seat items old new → (s n : ℕ) → count_of new s n ≡ all_forgotten seat items (count_of old) s n
 all_as [] seat old new c s n = same_counts old new c s n
 all_as (item ∷ items) seat old new (between, one, rest) s n =
-    let first : count_of between ≡ forgotten seat item.node item.count (count_of old) = λ i q m. one q m i in
+    let first : count_of between ≡ forgotten seat item.node item.count (count_of old) = fun_ext (λ q. fun_ext (λ m. one q m)) in
     all_as items seat between new rest s n ∙ ap (λ (f : LookUps). all_forgotten seat items f s n) first
 
 told_as : (told : NodeAnswer) (seat : ℕ) (old new : List (SeatNode × ℕ)) → CountsEntry seat told old new → (s n : ℕ) → count_of new s n ≡ by_told seat told (count_of old) s n
