@@ -48,7 +48,7 @@ answered-calls (look ∷ looks) failed e f = absurd (cc)
 
 walk-calls : {X : Type 0} (last : X → TreeCall) (told : Option (List File)) (looks : List Look) (failed : Bool) (w : Walk X) → OnlyLooks w → Gives told w looks failed → calls_by last w looks failed ≡ listed (length looks) failed
 walk-calls last told looks failed (Answers x) o g = answered-calls looks failed g.0 g.1
-walk-calls last told [] failed (Looks target next) o g = (λ i. (o.0 i, g i) ∷ []) ∙ ap (listed 0) (sym g)
+walk-calls last told [] failed (Looks target next) o g = ap (λ (k : TreeCall). (k, failed) ∷ []) o.0 ∙ (ap (λ (b : Bool). (TreeCall.Look, b) ∷ []) g ∙ ap (listed 0) (sym g))
 walk-calls last told (look ∷ looks) failed (Looks target next) o g =
     ap (λ (k : TreeCall). unfailed k ∷ calls_by last (next look) looks failed) o.0
     ∙ ap (λ (l : List Call). unfailed TreeCall.Look ∷ l) (walk-calls last told looks failed (next look) (o.1 look) g.1)
