@@ -268,11 +268,12 @@ called-behind {kind} old mid new failed f a w =
     )
 
 -- a call that wanted memory
-pub wanted-memory : {kind : TreeCall} (allows : List File → Bool) (change : List File → List File) (old new : TreeIs) → ChangesFiles kind allows change old done.Memory new → WasCalled old new
-wanted-memory {kind} allows change old new h = (
-  kind ∷ [],
-  record { goes = h.goes ∙ ap (λ (t : Option (List File)). after_call old kind false t) h.does; fails = (h.fails, tt) },
-)
+pub wanted-memory : {kind : TreeCall} (allows : List File → Bool) (change : List File → List File) (d : TreeDone) (old new : TreeIs) → d ≡ done.Memory → ChangesFiles kind allows change old d new → WasCalled old new
+wanted-memory {kind} allows change d old new e c =
+    let h : ChangesFiles kind allows change old done.Memory new = subst (λ (x : TreeDone). ChangesFiles kind allows change old x new) e c in (
+      kind ∷ [],
+      record { goes = h.goes ∙ ap (λ (t : Option (List File)). after_call old kind false t) h.does; fails = (h.fails, tt) },
+    )
 
 -- ---- parts of a walk
 
