@@ -1,17 +1,19 @@
 -- From workers in their seats to posts that were served.
 use Rattle.std.proofs.Common.{◌≡◌, ℕ, zero, suc, ◌+◌, ◌≤◌, ◌<◌, List, Some, false, length, map, refl, sym, ap, ◌∙◌, subst, arith}
-use Rattle.std.specs.Prelude.{slice_get, if◌then◌else◌, ◌==◌}
+use Rattle.std.specs.Prelude.{slice_get, if◌then◌else◌, is_some, ◌==◌}
 use Rattle.std.proofs.lemmas.List.{length-map}
 use Rattle.atomic_table.specs.Seated.{TableId}
 use Rattle.portal_base.specs.declared.limits.Settings.{Settings}
 use Rattle.portal_model.specs.declared.entry.Entry.{Entry}
 use Rattle.portal_model.specs.History.{run}
-use Rattle.portal_model.specs.Seated.{BeginsWith, exchanges, is_open, state_seen}
+use Rattle.portal_model.specs.Seated.{BeginsWith, bound, bound_by, exchanges, is_open, state_seen}
+use Rattle.portal_model.proofs.SeatLaws.{run-open}
 use Rattle.portal_model.specs.State.{State}
 use Rattle.session.specs.Standings.{client}
 use Rattle.turn_desk.specs.Deals.{AreAll, IsDealt, IsPassOf, Stands}
 use Rattle.turn_desk.specs.Knowing.{View, fresh}
 use Rattle.turn_desk.specs.Sights.{Sight, seated_of}
+use Rattle.turn_desk.proofs.Fronts.{entries-same}
 use Rattle.worker_gate.specs.declared.worker.Post.{Post}
 use Rattle.worker_gate.specs.declared.worker.WorkEnd.{WorkEnd}
 use Rattle.worker_gate.specs.Working.{Hall, Sides, Works}
@@ -41,6 +43,20 @@ starts_closed z o base seats passes desk_of ws are dealt closed k a at =
     let down = sits_down z o base (if k == 0 then seats else 0) (k + 1) found.0 (desk_of a) (dealt k found.0 found.1) found.2 in
     subst (λ (v : View). is_open (run v.opening v.seen) v.number ≡ false) (sym down.1) (closed (k + 1))
 
+-- a seat that has no open connection has none in a history either that has the same entries of it
+still_closed : (n : ℕ) (o : State) (log seen : List Entry) → exchanges n o log ≡ exchanges n o seen → is_open (run o seen) n ≡ false → is_open (run o log) n ≡ false
+still_closed n o log seen same closed =
+    run-open n log o
+    ∙ (ap (λ (h : List Entry). is_some (bound_by (bound o n) h)) (entries-same n o log seen same)
+    ∙ (sym (run-open n seen o) ∙ closed))
+
+-- the same of a seat in the last history of a turn
+closed_there : (n : ℕ) (o : State) (log : List Entry) (v : View) → v.number ≡ n → v.opening ≡ o → exchanges v.number v.opening v.seen ≡ v.mine → exchanges v.number o log ≡ v.mine → is_open (run v.opening v.seen) v.number ≡ false → is_open (run o log) n ≡ false
+closed_there n o log v number opening known mine closed =
+    let seen : exchanges v.number o v.seen ≡ v.mine = subst (λ (p : State). exchanges v.number p v.seen ≡ v.mine) opening known in
+    let ended : is_open (run o v.seen) v.number ≡ false = subst (λ (p : State). is_open (run p v.seen) v.number ≡ false) opening closed in
+    subst (λ (i : ℕ). is_open (run o log) i ≡ false) number (still_closed v.number o log v.seen (mine ∙ sym seen) ended)
+
 module _ {L S K X : Type 0} (s : Sides S K) (hall_of : L → Hall S K) (settings : Settings) (post_of : X → Post L) (desk_of : X → Sight) (end_of : X → WorkEnd) where
   -- one post, whose worker came back with a pass that stands
   pub one_served : (z : TableId) (o : State) (base log : List Entry) (made n : ℕ) (d r a b : Sight) (p q : Post L) (e : WorkEnd) → IsDealt z o base made n d → sat_down d ≡ a → Attends s hall_of settings p a e q b → r.knows ≡ b.knows → Stands o log r.knows → ServesPost s hall_of settings o base log n p e q
@@ -48,6 +64,7 @@ module _ {L S K X : Type 0} (s : Sides S K) (hall_of : L → Hall S K) (settings
       let down = sits_down z o base made n d a dealt sits in
       let new : seated_of a ≡ newcomer o base n = is_newcomer o base made n a down.1 down.2 in
       let number : b.knows.number ≡ n = attends.stays.seat.number ∙ ap (λ (v : View). v.number) down.1 in
+      let opening : b.knows.opening ≡ o = attends.stays.seat.opening ∙ ap (λ (v : View). v.opening) down.1 in
       let mine : exchanges b.knows.number o log ≡ b.knows.mine = subst (λ (v : View). exchanges v.number o log ≡ v.mine) same stands.mine in
       record {
         who = attends.who;
@@ -57,6 +74,7 @@ module _ {L S K X : Type 0} (s : Sides S K) (hall_of : L → Hall S K) (settings
         known = attends.known;
         seen = subst (λ (v : View). BeginsWith log v.seen) same stands.seen;
         mine = subst (λ (i : ℕ). exchanges i o log ≡ b.knows.mine) number mine;
+        closed = closed_there n o log b.knows number opening attends.known.mine mine attends.closed;
       }
 
   -- each worker did its work, from where it sat down to where it got up

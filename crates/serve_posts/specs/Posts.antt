@@ -1,11 +1,11 @@
 -- What workers do at their posts, each in a seat of its own, over one history.
-use Rattle.std.specs.Prelude.{◌≡◌, ◌⊎◌, ℕ, ◌+◌, ◌<◌, List, length, slice_get, Some, Option}
+use Rattle.std.specs.Prelude.{◌≡◌, ◌⊎◌, ℕ, ◌+◌, ◌<◌, List, length, slice_get, Some, Option, false}
 use Rattle.portal_base.specs.declared.limits.Settings.{Settings}
 use Rattle.portal_model.specs.declared.entry.Entry.{Entry}
-use Rattle.portal_model.specs.History.{Legal, of_seat}
 use Rattle.portal_desk.specs.Knowing.{Known}
 use Rattle.portal_desk.specs.Opening.{IsOpeningState}
-use Rattle.portal_model.specs.Seated.{BeginsWith, Seated, exchanges}
+use Rattle.portal_model.specs.History.{Legal, of_seat, run}
+use Rattle.portal_model.specs.Seated.{BeginsWith, Seated, exchanges, is_open, state_seen}
 use Rattle.portal_model.specs.State.{State}
 use Rattle.session.specs.Standings.{client}
 use Rattle.turn_desk.specs.Sights.{Sight, Stays, seated_of}
@@ -34,7 +34,8 @@ newcomer o base seat = record {
 
 module _ {L S K : Type 0} (s : Sides S K) (hall_of : L → Hall S K) (settings : Settings) where
   -- What a worker did, from its post and its seat to what they are then: the links of the post were
-  -- served, whose client stays the same, and it stays the same seat of the same turn.
+  -- served, whose client stays the same, and it stays the same seat of the same turn, without an
+  -- open connection.
   pub record Attends (before : Post L) (a : Sight) (ended : WorkEnd) (after : Post L) (b : Sight) :
       Type 0 where
     pub who : after.who ≡ before.who
@@ -42,10 +43,12 @@ module _ {L S K : Type 0} (s : Sides S K) (hall_of : L → Hall S K) (settings :
     pub works : Works s (client before.who before.kind settings) ended (hall_of before.listener)
         (seated_of a) (hall_of after.listener) (seated_of b)
     pub known : Known (seated_of b)
+    pub closed : is_open (state_seen (seated_of b)) b.knows.number ≡ false
     pub stays : Stays a b
 
   -- One post was served by the seat of this number, in a history that began in this state and went
-  -- on from these entries: all that the history has of the seat is what its worker asked.
+  -- on from these entries: all that the history has of the seat is what its worker asked, and the
+  -- seat has no open connection behind it.
   pub record ServesPost (o : State) (base log : List Entry) (seat : ℕ) (before : Post L)
       (ended : WorkEnd) (after : Post L) : Type 0 where
     pub who : after.who ≡ before.who
@@ -56,6 +59,7 @@ module _ {L S K : Type 0} (s : Sides S K) (hall_of : L → Hall S K) (settings :
     pub known : Known last
     pub seen : BeginsWith log last.seen
     pub mine : exchanges seat o log ≡ last.mine
+    pub closed : is_open (run o log) seat ≡ false
 
   -- Each post was served by the seat of its number, from 1, and came back in its place with the end
   -- of its worker. The history is legal from an opening state, and has no entries of other numbers.

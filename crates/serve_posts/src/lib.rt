@@ -4,7 +4,7 @@
 //! come back to its listener are those that were given, in order, each once;
 //! each is one served connection, with an ending that it allows; and all that
 //! the portal's history has of the worker's seat is what these connections
-//! asked, link by link. The history is the one of the portal that comes back,
+//! asked, link by link. The seat has no open connection then. The history is the one of the portal that comes back,
 //! and is legal. The posts come back in their order, each with the end of its
 //! worker.
 //!

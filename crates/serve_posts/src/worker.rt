@@ -22,7 +22,7 @@ use worker_gate::worker::{Post, WorkEnd, work};
 
 /// A worker in its seat, at its post.
 #[derive(Drop)]
-pub(crate) struct Worker<'a, R: Wait, L, S: Storied> {
+pub(crate) struct Worker<'a, R, L, S: Storied> {
     /// Its number, which is that of its seat.
     pub(crate) number: u32,
     /// Its seat.
@@ -69,7 +69,7 @@ impl<L: Drop, S: Storied + Drop> Crew<L, S> {
 }
 
 /// A worker for each post, in the seat of its pass.
-pub(crate) fn seat_workers<'a, R: Wait, L: Drop, S: Storied + Drop>(
+pub(crate) fn seat_workers<'a, R, L: Drop, S: Storied + Drop>(
     alloc: Global,
     rt: &'a R,
     turn: &'a Turn<S>,
@@ -165,7 +165,7 @@ where
 }
 
 /// All workers leave their seats.
-pub(crate) fn stand_up<R: Wait, L: Drop, S: Storied + Drop>(
+pub(crate) fn stand_up<R, L: Drop, S: Storied + Drop>(
     workers: Vec<Worker<'_, R, L, S>>,
     crew: Crew<L, S>,
 ) -> Crew<L, S>

@@ -17,12 +17,12 @@ use std::sync::Wait;
 ///
 /// Contracts see it as its seat.
 #[derive(Drop)]
-pub struct WaitingSeat<'a, R: Wait, S: Storied> {
+pub struct WaitingSeat<'a, R, S: Storied> {
     rt: &'a R,
     seat: Seat<'a, S>,
 }
 
-impl<'a, R: Wait, S: Storied> Model for WaitingSeat<'a, R, S> {
+impl<'a, R, S: Storied> Model for WaitingSeat<'a, R, S> {
     ghost use Rattle.dbus_types.specs.contracts.types.Value as e;
     ghost use Rattle.std.specs.Coded.{codes};
     ghost use Rattle.turn_desk.specs.Sights.{Sight};
@@ -35,16 +35,16 @@ impl<'a, R: Wait, S: Storied> Model for WaitingSeat<'a, R, S> {
 }
 
 impl<'a, S: Storied> Seat<'a, S> {
-    /// The seat as a desk, which may wait.
-    pub fn waiting<R: Wait>(self, rt: &'a R) -> WaitingSeat<'a, R, S>
+    /// The seat as a desk, whose `ask` may wait. This call waits for nobody.
+    pub fn waiting<R>(self, rt: &'a R) -> WaitingSeat<'a, R, S>
         ensures { result ≡ self.entry }
     {
         WaitingSeat { rt, seat: self }
     }
 }
 
-impl<'a, R: Wait, S: Storied> WaitingSeat<'a, R, S> {
-    /// The seat again.
+impl<'a, R, S: Storied> WaitingSeat<'a, R, S> {
+    /// The seat again. It waits for nobody.
     pub fn seat(self) -> Seat<'a, S>
         ensures { result ≡ self.entry }
     {
