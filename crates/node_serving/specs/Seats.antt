@@ -1,5 +1,5 @@
 -- A request of a seat on a node that was served.
-use Rattle.std.specs.Prelude.{◌≡◌, ◌≢◌, ℕ, List, [], true, Option, Some, None, is_some}
+use Rattle.std.specs.Prelude.{◌≡◌, ◌≢◌, ℕ, List, [], Option, Some, None, is_some}
 use Rattle.app_view.specs.Books.{Lends}
 use Rattle.node_looks.specs.OpenHandles.{AreOpen}
 use Rattle.node_looks.specs.Served.{given_to}
