@@ -79,6 +79,6 @@ impl CallsMade {
     pub(crate) fn known(&self)
         ensures { AreNoted self.now.noted self.now.count.calls }
     {
-        let _ = self.room;
+        let _ = &self.kinds;
     }
 }
