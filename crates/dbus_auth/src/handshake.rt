@@ -1,6 +1,7 @@
 //! The states of the handshake, and one step of it.
 
 ghost use Rattle.std.specs.Prelude.{◌≡◌, ◌≢◌, ◌↔◌, ◌≤◌, length, codes, IsOk, IfOk, OnErr};
+ghost use Rattle.dbus_auth.specs.Command.{longest_line};
 ghost use Rattle.dbus_auth.specs.Handshake.{table};
 
 use crate::command::{self, Command};
@@ -12,6 +13,14 @@ use std::marker::Model;
 
 /// The longest line that is taken, in bytes, its CR LF included.
 pub const LONGEST_LINE: usize = 1024;
+
+/// `LONGEST_LINE` is the longest line of the definitions: 1024 bytes, which this
+/// handshake chooses, since the standard gives none.
+///
+/// It does nothing; its contract is the law.
+pub fn longest_line_is_told()
+    ensures { LONGEST_LINE ≡ longest_line }
+{}
 
 /// How far the handshake has come (D-Bus Specification, "Server states").
 #[derive(Clone, Copy, Debug, PartialEq, Eq)]

@@ -26,4 +26,4 @@ mod command;
 mod handshake;
 mod reply;
 
-pub use crate::handshake::{Auth, AuthAnswer, AuthState, LONGEST_LINE};
+pub use crate::handshake::{Auth, AuthAnswer, AuthState, LONGEST_LINE, longest_line_is_told};

@@ -12,7 +12,7 @@
 //! ```
 #![tactic(auto)]
 
-ghost use Rattle.std.specs.Prelude.{◌≡◌, [], ◌<◌, ◌≤◌, ◌^◌, length, IfOk};
+ghost use Rattle.std.specs.Prelude.{◌≡◌, [], ◌<◌, ◌^◌, IfOk};
 
 use host_tree::MemoryTree;
 use portal_base::limits::Limits;
@@ -26,9 +26,6 @@ use script_form::reader::read_script;
 use std::alloc::Global;
 use vector_lines::error::{LineError, VectorError, given};
 use vector_lines::notation::debug;
-
-/// The most bytes that a script may have.
-pub const LONGEST: usize = 67_108_864;
 
 /// The cost that a history may have where no line says otherwise.
 pub const PLENTY: u64 = 536_870_912;
@@ -57,7 +54,6 @@ pub type ScriptPortal = Portal<MemoryTree, MemoryKeeper, SetClock, ListWords>;
 
 /// A portal that a script opens within these limits.
 pub fn opened_by(alloc: Global, script: &[u8], limits: Limits) -> Result<ScriptPortal, VectorError>
-    requires script { length script.now ≤ LONGEST }
     requires made { limits.made < 2 ^ 32 }
     requires queued { limits.queued < 2 ^ 32 }
     ensures { IfOk result (λ portal. portal.story.history ≡ []) }

@@ -9,7 +9,7 @@ use crate::given::put_given;
 use crate::limits::limits_of;
 use crate::requests::request_of;
 use portal_base::limits::Limits;
-use portal_lines::{LONGEST, ScriptPortal, opened_by};
+use portal_lines::{ScriptPortal, opened_by};
 use std::alloc::Global;
 use vector_lines::error::{VectorError, bad};
 use vector_lines::notation::{cut, number, small_number, text};
@@ -36,9 +36,6 @@ fn opened_in(alloc: Global, rest: &str, limits: Limits) -> Result<ScriptPortal, 
     requires queued { limits.queued < 2 ^ 32 }
 {
     let script = text(alloc, rest.split(" | ").next().unwrap_or(""))?;
-    if script.len() > LONGEST {
-        return bad();
-    }
     opened_by(alloc, script.as_slice(), limits)
 }
 

@@ -1,5 +1,5 @@
 -- The state that a script opens with is valid, and one alone.
-use Rattle.std.proofs.Common.{◌≡◌, ◌≤◌, List, [], map, Some, Result, Ok, Err, refl, sym, ap, subst, ◌∙◌, arith}
+use Rattle.std.proofs.Common.{◌≡◌, List, [], map, Some, Result, Ok, Err, refl, sym, ap, subst, ◌∙◌, arith}
 use Rattle.std.specs.Prelude.{IfOk}
 use Rattle.std.specs.List.{IsDistinct}
 use Rattle.portal_base.specs.declared.limits.Limits.{Limits}

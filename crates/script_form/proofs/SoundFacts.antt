@@ -1,6 +1,6 @@
 -- What a script keeps is such as a valid state has.
-use Rattle.std.proofs.Common.{◌≡◌, ℕ, ◌+◌, ◌<◌, ◌≤◌, ◌==◌, ◌^◌, nat_eq, Bool, true, false, ◌&&◌, ◌||◌, not, List, [], ◌∷◌, ◌++◌, length, take, map, Some, Result, Ok, Err, refl, ap, ◌∙◌, arith, append_assoc, cond, Less, nat_cmp}
-use Rattle.std.specs.Prelude.{IfOk, count_by, nat_le, nat_lt}
+use Rattle.std.proofs.Common.{◌≡◌, ℕ, ◌+◌, ◌<◌, ◌≤◌, ◌==◌, ◌^◌, nat_eq, Bool, true, false, ◌&&◌, ◌||◌, not, List, [], ◌∷◌, ◌++◌, length, take, map, refl, ap, ◌∙◌, arith, append_assoc, cond, Less, nat_cmp}
+use Rattle.std.specs.Prelude.{count_by, nat_le, nat_lt}
 use Rattle.std.specs.Cmp.Lexicographic.{slice_cmp, nat_list_cmp_total}
 use Rattle.std.specs.List.{All, list_any, list_all, AllByRecursion, IsDistinct}
 use Rattle.std.proofs.lemmas.Bool.{and_parts, ltb-true}
@@ -10,21 +10,18 @@ use Rattle.std.proofs.lemmas.List.Elements.{All-nil, All-cons, All-head, All-tai
 use Rattle.std.proofs.lemmas.List.Folds.{list_any-append}
 use Rattle.std.proofs.lemmas.List.Sums.{sum_by-append}
 use Rattle.portal_base.specs.Names.{is_same, is_app_name, is_host_path, root}
-use Rattle.portal_base.specs.declared.limits.Limits.{Limits}
 use Rattle.portal_model.specs.Content.{is_above, is_folder}
-use Rattle.portal_model.specs.Opening.{has_grants, is_grant, names_kept, file_of, GrantsDiffer, SoundOpening, ValidOpening}
+use Rattle.portal_model.specs.Opening.{has_grants, is_grant, names_kept, file_of, GrantsDiffer}
 use Rattle.portal_model.specs.Valid.{applications_limit}
 use Rattle.portal_model.specs.declared.opening.FileItem.{FileItem}
 use Rattle.portal_model.specs.declared.opening.OpeningDocument.{OpeningDocument}
 use Rattle.portal_model.specs.declared.records.GrantRecord.{GrantRecord}
-use Rattle.portal_model.specs.declared.opening.OpeningState.{OpeningState}
-use Rattle.portal_model.proofs.OpeningLaws.{sound-ValidOpening}
 use Rattle.portal_model.specs.declared.records.EntryRecord.{EntryRecord}
 use Rattle.record_keeper.specs.SoundRecords.{IsGrant, IsRising, IsValidEntry}
 use Rattle.script_lines.specs.Lines.{is_script_path, is_plain}
 use Rattle.script_form.specs.Paths.{clash}
-use Rattle.script_form.specs.Opening.{documents_of, entries_of, files_of, files_from, time_behind, applications_of, HoldsScripts}
-use Rattle.script_form.specs.Order.{StandBehind, IsScript, clashes, keeps, stores, is_doc, document_limit}
+use Rattle.script_form.specs.Opening.{documents_of, entries_of, files_from, time_behind, applications_of}
+use Rattle.script_form.specs.Order.{StandBehind, clashes, keeps, stores, is_doc, document_limit}
 use Rattle.script_lines.specs.declared.script.ScriptLine.{ScriptLine}
 use Rattle.script_lines.specs.declared.script.ScriptLine.TheVariants.{File, Doc, Entry}
 use Rattle.script_form.proofs.ScriptFacts.{append_nil}

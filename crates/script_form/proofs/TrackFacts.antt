@@ -1,6 +1,6 @@
 -- What is kept beside the lines says of them what it is kept for, also behind one more line.
 use Rattle.std.proofs.Common.{◌≡◌, ◌≢◌, ℕ, ◌+◌, ◌<◌, ◌≤◌, Bool, true, false, not, ◌&&◌, ◌||◌, List, [], ◌∷◌, ◌++◌, length, cond, refl, sym, ap, ◌∙◌, arith, subst}
-use Rattle.std.specs.Prelude.{◌==◌, slice_index_or, slice_set, count_by}
+use Rattle.std.specs.Prelude.{◌==◌, slice_index_or, slice_set, count_by, fold}
 use Rattle.std.specs.BTreeMap.{is_at}
 use Rattle.std.specs.BTreeSet.{contains, insert_key}
 use Rattle.std.specs.List.{list_any}
@@ -13,8 +13,13 @@ use Rattle.std.proofs.lemmas.List.Folds.{list_any-append}
 use Rattle.std.proofs.lemmas.List.Sums.{sum_by-append}
 use Rattle.std.specs.Cmp.Lexicographic.{bytes_decides}
 use Rattle.portal_base.specs.Names.{is_same, is_app_name}
+use Rattle.portal_model.specs.Opening.{each, first_named, names_kept}
+use Rattle.portal_model.specs.declared.opening.OpeningDocument.{OpeningDocument}
 use Rattle.portal_model.specs.declared.records.EntryRecord.{EntryRecord}
+use Rattle.record_keeper.specs.Naming.{also_named}
+use Rattle.record_keeper.proofs.NamingFacts.{named_behind}
 use Rattle.script_lines.specs.Lines.{KeepsRules, last_seat}
+use Rattle.script_form.specs.Opening.{document_in, applications_of}
 use Rattle.script_form.specs.Order.{is_open, opens, closes, is_doc, keeps, stores, clashes, goes_with}
 use Rattle.script_form.specs.Paths.{clash}
 use Rattle.script_form.specs.Preceding.{Tracks, Notes, is_opened, is_closed, key_text}
@@ -24,6 +29,7 @@ use Rattle.script_form.specs.declared.preceding.Preceding.{Preceding}
 use Rattle.script_lines.specs.declared.script.ScriptLine.{ScriptLine}
 use Rattle.script_lines.specs.declared.script.ScriptLine.TheVariants.{File, Doc, Entry, Open, Close}
 use Rattle.script_lines.proofs.LineFacts.{name_word}
+use Rattle.script_form.proofs.ScriptFacts.{append_nil, names_of, names_push}
 use Rattle.script_form.proofs.SetFacts.{any_inserted}
 use Rattle.script_lines.proofs.TextFacts.{cut_same, no_true}
 
@@ -48,6 +54,17 @@ counted : (lines : List ScriptLine) (line : ScriptLine) (n d : ℕ) → n ≡ co
 counted lines line n d same one =
     let e = sum_by-append (λ (l : ScriptLine). cond (is_doc l) 1 0) lines (line ∷ []) in
     omega arith
+
+-- the applications that the documents of one line more give rights to
+named_more : (lines : List ScriptLine) (line : ScriptLine) (named new : List (List ℕ)) → named ≡ applications_of lines
+    → new ≡ fold also_named named (each names_kept (document_in line)) → new ≡ applications_of (lines ++ (line ∷ []))
+named_more lines line named new before is =
+    is ∙ ap (λ (ns : List (List ℕ)). fold also_named ns (each names_kept (document_in line))) before
+    ∙ named_behind (names_of lines) (each names_kept (document_in line)) ∙ ap first_named (sym (names_push lines line))
+
+none_named : (lines : List ScriptLine) (line : ScriptLine) → document_in line ≡ [] → applications_of lines ≡ applications_of (lines ++ (line ∷ []))
+none_named lines line none =
+    ap first_named (sym (names_push lines line ∙ ap (λ (ds : List OpeningDocument). names_of lines ++ each names_kept ds) none ∙ append_nil (names_of lines)))
 
 -- a line that says nothing of those behind it
 module _ (p q : Preceding) (line : ScriptLine) (t : Tracks p) (lines_are : q.lines ≡ p.lines ++ (line ∷ [])) where
@@ -78,6 +95,9 @@ module _ (p q : Preceding) (line : ScriptLine) (t : Tracks p) (lines_are : q.lin
 
   clear_still : ((path : List ℕ) → clashes path line ≡ false) → q.paths ≡ p.paths → (path : List ℕ) → list_any (clash path) q.paths ≡ list_any (clashes path) q.lines
   clear_still none same path = rw lines_are (still (clashes path) p.lines line _ (none path) (ap (list_any (clash path)) same ∙ t.clear path))
+
+  named_still : document_in line ≡ [] → q.named ≡ p.named → q.named ≡ applications_of q.lines
+  named_still none same = rw lines_are (same ∙ t.named ∙ none_named p.lines line none)
 
 -- a table and an identifier in one text
 key_same : (t i u j : List ℕ) → is_app_name t ≡ true → is_app_name u ≡ true → (is_same u t && is_same j i) ≡ is_same (key_text t i) (key_text u j)
@@ -133,13 +153,15 @@ module _ (p s : Preceding) (t : Tracks p) where
         kept = kept_still p q line t refl (λ k. refl) (ap (λ (x : Preceding). x.ids.keys) n.0);
         stored = stored_still p q line t refl (λ a b. refl) (ap (λ (x : Preceding). x.keys) n.0);
         clear = λ other. more (clashes other) p.lines line _ (clash other path) refl (n.1 (clash other) ∙ ap (λ (b : Bool). clash other path || b) (t.clear other));
+        named = named_still p q line t refl refl (ap (λ (x : Preceding). x.named) n.0);
       }
 
   doc_tracks : (line : ScriptLine) (number : ℕ) → is_open line ≡ false → ((k : ℕ) → opens k line ≡ false) → ((k : ℕ) → closes k line ≡ false) → count_by is_doc (line ∷ []) ≡ 1
       → ((k : ℕ) → keeps k line ≡ (number == k)) → ((a b : List ℕ) → stores a b line ≡ false) → ((other : List ℕ) → clashes other line ≡ false)
-      → list_any (keeps number) p.lines ≡ false → s ≡ record p { documents = p.documents + 1; ids = s.ids } → s.ids.keys ≡ insert_key nat_cmp p.ids.keys number
+      → list_any (keeps number) p.lines ≡ false → s ≡ record p { documents = p.documents + 1; ids = s.ids; named = s.named } → s.ids.keys ≡ insert_key nat_cmp p.ids.keys number
+      → s.named ≡ fold also_named p.named (each names_kept (document_in line))
       → Tracks (placed s (p.lines ++ (line ∷ [])))
-  doc_tracks line number no_open no_opens no_closes one is no_stores no_clash new same ids =
+  doc_tracks line number no_open no_opens no_closes one is no_stores no_clash new same ids named =
       let q = placed s (p.lines ++ (line ∷ [])) in
       record {
         starts = starts_still p q line t refl no_open (ap (λ (x : Preceding). x.begun) same);
@@ -152,6 +174,7 @@ module _ (p s : Preceding) (t : Tracks p) where
             ∙ ap (λ (b : Bool). is_at (nat_cmp k) number || b) (t.kept k));
         stored = stored_still p q line t refl no_stores (ap (λ (x : Preceding). x.keys) same);
         clear = clear_still p q line t refl no_clash (ap (λ (x : Preceding). x.paths) same);
+        named = named_more p.lines line p.named _ t.named named;
       }
 
   entry_tracks : (entry : EntryRecord) → is_app_name entry.table ≡ true → Notes p (Entry entry) s → Tracks (placed s (p.lines ++ (Entry entry ∷ [])))
@@ -168,12 +191,13 @@ module _ (p s : Preceding) (t : Tracks p) where
         stored = λ a b ha hb. more (stores a b) p.lines line _ (is_same (key_text a b) (key_text entry.table entry.id)) (key_same a b entry.table entry.id ha named)
             (n.1 (is_same (key_text a b)) ∙ ap (λ (x : Bool). is_same (key_text a b) (key_text entry.table entry.id) || x) (t.stored a b ha hb));
         clear = clear_still p q line t refl (λ other. refl) (ap (λ (x : Preceding). x.paths) n.0);
+        named = named_still p q line t refl refl (ap (λ (x : Preceding). x.named) n.0);
       }
 
   plain_tracks : (line : ScriptLine) → is_open line ≡ false → ((k : ℕ) → opens k line ≡ false) → ((k : ℕ) → closes k line ≡ false) → count_by is_doc (line ∷ []) ≡ 0
-      → ((k : ℕ) → keeps k line ≡ false) → ((a b : List ℕ) → stores a b line ≡ false) → ((other : List ℕ) → clashes other line ≡ false) → s ≡ p
+      → ((k : ℕ) → keeps k line ≡ false) → ((a b : List ℕ) → stores a b line ≡ false) → ((other : List ℕ) → clashes other line ≡ false) → document_in line ≡ [] → s ≡ p
       → Tracks (placed s (p.lines ++ (line ∷ [])))
-  plain_tracks line no_open no_opens no_closes none no_keeps no_stores no_clash same =
+  plain_tracks line no_open no_opens no_closes none no_keeps no_stores no_clash no_document same =
       let q = placed s (p.lines ++ (line ∷ [])) in
       record {
         starts = starts_still p q line t refl no_open (ap (λ (x : Preceding). x.begun) same);
@@ -184,6 +208,7 @@ module _ (p s : Preceding) (t : Tracks p) where
         kept = kept_still p q line t refl no_keeps (ap (λ (x : Preceding). x.ids.keys) same);
         stored = stored_still p q line t refl no_stores (ap (λ (x : Preceding). x.keys) same);
         clear = clear_still p q line t refl no_clash (ap (λ (x : Preceding). x.paths) same);
+        named = named_still p q line t refl no_document (ap (λ (x : Preceding). x.named) same);
       }
 
   -- what became of each number, where one is opened or closed
@@ -215,9 +240,9 @@ module _ (p s : Preceding) (t : Tracks p) where
 
   open_tracks : (line : ScriptLine) (seat : ℕ) → seat ≤ last_seat → is_open line ≡ true → ((k : ℕ) → opens k line ≡ (seat == k)) → ((k : ℕ) → closes k line ≡ false)
       → count_by is_doc (line ∷ []) ≡ 0 → ((k : ℕ) → keeps k line ≡ false) → ((a b : List ℕ) → stores a b line ≡ false) → ((other : List ℕ) → clashes other line ≡ false)
-      → list_any (opens seat) p.lines ≡ false → s ≡ record p { begun = true; numbers = s.numbers } → s.numbers.items ≡ slice_set p.numbers.items seat number.Open
+      → document_in line ≡ [] → list_any (opens seat) p.lines ≡ false → s ≡ record p { begun = true; numbers = s.numbers } → s.numbers.items ≡ slice_set p.numbers.items seat number.Open
       → Tracks (placed s (p.lines ++ (line ∷ [])))
-  open_tracks line seat low is_one is no_closes none no_keeps no_stores no_clash new same set =
+  open_tracks line seat low is_one is no_closes none no_keeps no_stores no_clash no_document new same set =
       let q = placed s (p.lines ++ (line ∷ [])) in
       let unopened : is_opened (slice_index_or p.numbers.items seat number.Unopened) ≡ false = t.opened seat (omega arith) ∙ new in
       let uncl : list_any (closes seat) p.lines ≡ false = sym (t.closed seat (omega arith)) ∙ unclosed _ unopened in
@@ -231,6 +256,7 @@ module _ (p s : Preceding) (t : Tracks p) where
         kept = kept_still p q line t refl no_keeps (ap (λ (x : Preceding). x.ids.keys) same);
         stored = stored_still p q line t refl no_stores (ap (λ (x : Preceding). x.keys) same);
         clear = clear_still p q line t refl no_clash (ap (λ (x : Preceding). x.paths) same);
+        named = named_still p q line t refl no_document (ap (λ (x : Preceding). x.named) same);
       }
 
   close_tracks : (seat : ℕ) → seat ≤ last_seat → list_any (opens seat) p.lines ≡ true → Notes p (Close seat) s → Tracks (placed s (p.lines ++ (Close seat ∷ [])))
@@ -247,6 +273,7 @@ module _ (p s : Preceding) (t : Tracks p) where
         kept = kept_still p q line t refl (λ k. refl) (ap (λ (x : Preceding). x.ids.keys) n.0);
         stored = stored_still p q line t refl (λ a b. refl) (ap (λ (x : Preceding). x.keys) n.0);
         clear = clear_still p q line t refl (λ other. refl) (ap (λ (x : Preceding). x.paths) n.0);
+        named = named_still p q line t refl refl (ap (λ (x : Preceding). x.named) n.0);
       }
 
   noted : (line : ScriptLine) → KeepsRules line → goes_with p.lines line ≡ true → Notes p line s → Tracks (placed s (p.lines ++ (line ∷ [])))
@@ -254,12 +281,12 @@ module _ (p s : Preceding) (t : Tracks p) where
   noted (Doc id reusable path grants) k g n =
       let parts = and_parts (not (list_any is_open p.lines)) _ g in
       doc_tracks (Doc id reusable path grants) id.number refl (λ m. refl) (λ m. refl) refl (λ m. refl) (λ a b. refl) (λ o. refl)
-      (not_false _ (and_parts (not (list_any (keeps id.number) p.lines)) _ parts.1).0) n.0 n.1
+      (not_false _ (and_parts (not (list_any (keeps id.number) p.lines)) _ parts.1).0) n.0 n.1 n.2
   noted (Entry entry) k g n = entry_tracks entry k.0.table n
   noted (Open seat kind who) k g n =
-      open_tracks (Open seat kind who) seat k.1 refl (λ m. refl) (λ m. refl) refl (λ m. refl) (λ a b. refl) (λ o. refl) (not_false _ g) n.0 n.1
+      open_tracks (Open seat kind who) seat k.1 refl (λ m. refl) (λ m. refl) refl (λ m. refl) (λ a b. refl) (λ o. refl) refl (not_false _ g) n.0 n.1
   noted (Close seat) k g n = close_tracks seat k.1 (and_parts (list_any (opens seat) p.lines) _ g).0 n
-  noted line k g n = plain_tracks line refl (λ m. refl) (λ m. refl) refl (λ m. refl) (λ a b. refl) (λ o. refl) n
+  noted line k g n = plain_tracks line refl (λ m. refl) (λ m. refl) refl (λ m. refl) (λ a b. refl) (λ o. refl) refl n
 
 pub noted_more : (p s q : Preceding) (line : ScriptLine) → Tracks p → KeepsRules line → goes_with p.lines line ≡ true → Notes p line s → q ≡ record s { lines = p.lines ++ (line ∷ []) } → Tracks q
 noted_more p s q line t k g n same = subst Tracks (sym same) (noted p s t line k g n)

@@ -192,8 +192,7 @@ fn applications_in(alloc: Global, lines: &[ScriptLine]) -> Result<List<AppId>, W
     requires { All KeepsRules lines.now }
     ensures { IfOk result (λ named. named ≡ applications_of lines.now) }
 {
-    // Their number needs no look: each is named by at least four bytes of at most 67,108,864, and
-    // 16,777,216 may be numbered.
+    // Their number needs no look: a line of a script never names more than may be numbered.
     let mut named = Named::new(alloc);
     for line in lines {
         add_names(alloc, &mut named, line)?;

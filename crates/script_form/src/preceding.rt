@@ -1,9 +1,11 @@
 //! The lines so far, and what they say of the next one.
 
-ghost use Rattle.std.specs.Prelude.{◌≡◌, ◌≤◌, ◌++◌, ◌∷◌, ◌&&◌, [], true, not, nat_lt, count_by, IfOk, OnOk};
+ghost use Rattle.std.specs.Prelude.{◌≡◌, ◌≤◌, ◌++◌, ◌∷◌, ◌&&◌, [], true, not, nat_lt, length, count_by, IfOk, OnOk};
 ghost use Rattle.std.specs.List.{list_any};
 ghost use Rattle.script_lines.specs.Lines.{KeepsRules, last_seat};
 ghost use Rattle.script_form.specs.Order.{goes_with, opens, closes, keeps, stores, clashes, is_doc, document_limit};
+ghost use Rattle.portal_model.specs.Valid.{applications_limit};
+ghost use Rattle.script_form.specs.Opening.{applications_of};
 ghost use Rattle.script_form.specs.Preceding.{Tracks, Notes, is_opened, is_closed, key_text};
 ghost use Rattle.script_lines.specs.declared.script.ScriptLine.TheVariants.{Entry};
 
@@ -12,7 +14,8 @@ use portal_base::list::List;
 use portal_base::memory::{Replica, WantOfMemory};
 use portal_base::names::host_path::HostPath;
 use portal_model::records::EntryRecord;
-use record_keeper::{Name, NameSet};
+use portal_model::state::APPLICATIONS_LIMIT;
+use record_keeper::{Name, NameSet, Named};
 use script_lines::script::ScriptLine;
 use std::alloc::Global;
 use std::collections::BTreeSet;
@@ -52,6 +55,8 @@ pub struct Preceding {
     pub keys: NameSet,
     /// The paths of their files.
     pub paths: PathSet,
+    /// The applications that their documents give rights to.
+    pub named: Named,
 }
 
 /// The table and the identifier of an entry in one text.
@@ -77,6 +82,7 @@ impl Preceding {
             ids: BTreeSet::new(alloc),
             keys: NameSet::new(alloc),
             paths: PathSet::new(alloc),
+            named: Named::new(alloc),
         })
     }
 
@@ -153,6 +159,15 @@ impl Preceding {
         Ok(!stored)
     }
 
+    /// Whether the documents of the lines give rights to more applications than
+    /// may be numbered.
+    pub fn names_too_many(&self) -> bool
+        requires { Tracks self.now }
+        ensures { result ≡ nat_lt applications_limit (length (applications_of self.now.lines)) }
+    {
+        self.named.len() > APPLICATIONS_LIMIT as usize
+    }
+
     /// Whether the line goes with those so far.
     pub fn allows(&self, alloc: Global, line: &ScriptLine) -> Result<bool, WantOfMemory>
         requires tracks { Tracks self.now }
@@ -189,10 +204,10 @@ impl Preceding {
     {
         match line {
             ScriptLine::File { path, .. } => self.paths.add(path.replica(alloc)?),
-            ScriptLine::Doc { id, .. } => {
+            ScriptLine::Doc { id, grants, .. } => {
                 self.ids.insert(id.number)?;
                 self.documents += 1;
-                Ok(())
+                self.named.add_granted(alloc, grants.as_slice())
             }
             ScriptLine::Entry(entry) => {
                 let key = key_of(alloc, entry)?;

@@ -12,13 +12,12 @@
 use portal_base::list::{ByteList, List};
 use portal_base::outside::{MemorySink, MemorySource};
 use portal_base::text::Text;
-use portal_lines::LONGEST;
 use script_command::run::run;
 use script_command::status::Status;
 use script_form::reader::read_script;
 use script_form::writer::write_script;
 use std::alloc::{AllocError, Global};
-use vector_lines::error::{LineError, VectorError, bad, given};
+use vector_lines::error::{LineError, VectorError, given};
 use vector_lines::notation::{bytes, cut, debug, digits, number, text};
 
 /// More bytes, or lines, than there are.
@@ -74,9 +73,6 @@ pub fn last(alloc: Global, rest: &str) -> Result<String, VectorError> {
 /// `written LINE | LINE ..`: the script that the lines are read as, written.
 pub fn written(alloc: Global, lines: &str) -> Result<String, VectorError> {
     let lines = input(alloc, lines, ALL)?;
-    if lines.len() > LONGEST {
-        return bad();
-    }
     let script = given(alloc, read_script(alloc, lines.as_slice()))?;
     let text = write_script(alloc, &script);
     drop(script);

@@ -1,7 +1,6 @@
 //! What the runs stand over.
 
-ghost use Rattle.std.specs.Prelude.{◌≡◌, ◌<◌, ◌≤◌, ◌^◌, IfOk, length};
-ghost use Rattle.script_form.specs.Order.{script_limit};
+ghost use Rattle.std.specs.Prelude.{◌≡◌, ◌<◌, ◌^◌, IfOk};
 
 use crate::held_tree::{HeldTree, Meeting};
 use host_tree::MemoryTree;
@@ -29,7 +28,6 @@ pub type HeldPortal<'a, R> = Portal<RunTree<'a, R>, MemoryKeeper, SetClock, List
 
 /// The devices of a script.
 pub fn devices(alloc: Global, script: &[u8]) -> Result<ScriptDevices, VectorError>
-    requires { length script.now ≤ script_limit }
     ensures { IfOk result (λ devices. devices.tree.files ≡ devices.tree.began) }
 {
     let script = given(alloc, read_script(alloc, script))?;
@@ -45,9 +43,7 @@ pub fn held_portal<'a, R: Clock>(
     script: &[u8],
     meeting: &'a Meeting,
     held: bool,
-) -> Result<HeldPortal<'a, R>, VectorError>
-    requires { length script.now ≤ script_limit }
-{
+) -> Result<HeldPortal<'a, R>, VectorError> {
     let ScriptDevices {
         tree,
         keeper,

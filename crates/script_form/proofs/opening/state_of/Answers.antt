@@ -6,7 +6,6 @@ use Rattle.portal_model.specs.declared.records.EntryRecord.{EntryRecord}
 use Rattle.record_keeper.specs.KeptEntries.{KeepEntries}
 use Rattle.record_keeper.specs.SoundRecords.{IsValidEntry}
 use Rattle.script_form.specs.Opening.{applications_of, documents_of, entries_of, files_of}
-use Rattle.script_lines.specs.declared.script.ScriptLine.{ScriptLine}
 use Rattle.script_form.proofs.NamedInLines.{all_keep}
 use Rattle.script_form.proofs.SoundFacts.{entries_valid}
 use Rattle.script_form.proofs.opening.state_of.Goals as goal
