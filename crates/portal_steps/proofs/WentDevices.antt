@@ -23,6 +23,7 @@ use Rattle.portal_steps.proofs.AskedCalls.{asked-calling, asked-keeps, was-asked
 use Rattle.portal_steps.proofs.BusCalls.{listed}
 use Rattle.portal_steps.proofs.DrawnWords.{drawn-drew}
 use Rattle.portal_steps.specs.Story.{PortalIs, state_now}
+use Rattle.node_looks.specs.TreeCalls.{Call}
 use Rattle.portal_steps.specs.TreeCalls.{Calling, WasCalled, entry_calls}
 
 -- ---- requests that are none on documents
@@ -66,7 +67,7 @@ module _ {T K C W : Type 0} (tree_is : T → TreeIs) (keeper_is : K → KeeperIs
   story-grown b o h = λ i. record { began = b i; opening = o i; history = h i }
 
   still-called : entry_calls (state_now old.story) e ≡ [] → new.tree ≡ old.tree → Calling (tree_is old.tree) (entry_calls (state_now old.story) e) (tree_is new.tree).told (tree_is new.tree)
-  still-called none t = subst (λ (calls : List Bool). Calling (tree_is old.tree) calls (tree_is new.tree).told (tree_is new.tree)) (sym none)
+  still-called none t = subst (λ (calls : List Call). Calling (tree_is old.tree) calls (tree_is new.tree).told (tree_is new.tree)) (sym none)
       (subst (λ (x : T). Calling (tree_is old.tree) [] (tree_is x).told (tree_is x)) (sym t) (calling-none (tree_is old.tree)))
 
   -- a request on a node
@@ -106,7 +107,7 @@ module _ {T K C W : Type 0} (tree_is : T → TreeIs) (keeper_is : K → KeeperIs
       Keeping (state_now old.story) e (state_now new.story) (keeper_is old.keeper) (keeper_is new.keeper) → e.given.now ≡ None → new.clock ≡ old.clock → Drew (words_told old.words) e.given.words (words_told new.words) → Went tree_is keeper_is clock_told words_told old e new
   went-add b o h draws changes calls asked keeping moment c drew = record {
     grown = story-grown b o h;
-    tree = subst (λ (l : List Bool). Calling (tree_is old.tree) l (tree_is new.tree).told (tree_is new.tree)) (sym calls)
+    tree = subst (λ (l : List Call). Calling (tree_is old.tree) l (tree_is new.tree).told (tree_is new.tree)) (sym calls)
         (subst (λ (files : Option (List File)). Calling (tree_is old.tree) (listed (length e.given.looks) (is_tree e.given.fault)) files (tree_is new.tree)) (sym (asked-keeps (length e.given.looks) (is_tree e.given.fault) (tree_is old.tree) (tree_is new.tree) asked).1)
         (asked-calling (length e.given.looks) (is_tree e.given.fault) (tree_is old.tree) (tree_is new.tree) asked));
     keeper = keeping;
