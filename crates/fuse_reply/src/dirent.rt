@@ -56,7 +56,9 @@ pub fn put_dirents(
 }
 
 /// The length of the entries that `put_dirents` puts, in bytes.
-pub fn fitting_len(names: &[DirName], offset: u64, size: u32) -> usize {
+pub fn fitting_len(names: &[DirName], offset: u64, size: u32) -> usize
+    ensures { result ≡ length (dirents names.now offset size) }
+{
     let mut left = size;
     for place in offset as usize..names.len() {
         // The first that doesn't fit ends the listing, also where a later one would fit: places

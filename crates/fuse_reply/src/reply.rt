@@ -74,7 +74,9 @@ fn error_of(answer: &NodeAnswer) -> u32
 }
 
 /// The length of the body, in bytes.
-fn body_len(answer: &NodeAnswer) -> usize {
+fn body_len(answer: &NodeAnswer) -> usize
+    ensures { result ≡ length (body_of answer.now) }
+{
     match answer {
         NodeAnswer::Entry(_) => ENTRY_OUT_LEN,
         NodeAnswer::Attr(_) => ATTR_OUT_LEN,
