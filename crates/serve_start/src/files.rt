@@ -1,7 +1,7 @@
 //! How many files a service has open at once.
 
 ghost use Rattle.std.specs.Prelude.{◌≡◌, ◌≤◌};
-ghost use Rattle.serve_start.specs.Files.{files_of_service};
+ghost use Rattle.serve_start.specs.Files.{files_of_service, tree_files};
 
 use libc::types::rlimit;
 use std::fs;
@@ -9,6 +9,13 @@ use std::fs;
 /// The files that the tree has open at once: one that it keeps, three folders on the way
 /// down, and one that each of its eight threads opens.
 pub const TREE_FILES: u64 = 12;
+
+/// The constant is the number of the definitions.
+///
+/// It does nothing; its contract is the law.
+pub fn tree_files_are_told()
+    ensures { TREE_FILES ≡ tree_files }
+{}
 
 /// The files that the store has open at once: its database and the log of that, and what
 /// it opens to sync their folder.
