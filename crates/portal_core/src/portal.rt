@@ -287,12 +287,12 @@ impl<T: HostTree, K: Keeper, C: Clock, W: Words> Portal<T, K, C, W> {
     pub fn ask(&mut self, alloc: Global, seat: u32, request: Request) -> Result<Reply, Refused>
         ensures began { self.new.story.began ≡ self.old.story.began }
         ensures opening { self.new.story.opening ≡ self.old.story.opening }
-        ensures ok { IfOk result (Answers T.is K.is C.told W.told self.old self.new seat request) }
+        ensures ok { IfOk result (Answers T.is K.is C.reads W.told self.old self.new seat request) }
         ensures strict { IfOk result (StrictFollows self.old.story seat request) }
         ensures fault { IfOk result (TellsFault (T.is self.old.tree) (T.is self.new.tree)) }
         ensures failure { IfOk result (TellsFailure (T.is self.old.tree) (T.is self.new.tree)
             (K.is self.old.keeper) (K.is self.new.keeper)) }
-        ensures err { OnErr result (Spends T.is K.is C.told W.told self.old request self.new) }
+        ensures err { OnErr result (Spends T.is K.is C.reads W.told self.old request self.new) }
         ensures unasked { may_ask_in_vain request ≡ false → OnErr result (self.new ≡ self.old) }
 
         // Both ways: it is full exactly where the cost would pass the limit. Nothing is asked then.
@@ -327,11 +327,11 @@ impl<T: HostTree, K: Keeper, C: Clock, W: Words> Portal<T, K, C, W> {
     fn answer(&mut self, alloc: Global, seat: u32, request: Request) -> Result<Reply, Refused>
         ensures began { self.new.story.began ≡ self.old.story.began }
         ensures opening { self.new.story.opening ≡ self.old.story.opening }
-        ensures ok { IfOk result (Answers T.is K.is C.told W.told self.old self.new seat request) }
+        ensures ok { IfOk result (Answers T.is K.is C.reads W.told self.old self.new seat request) }
         ensures fault { IfOk result (TellsFault (T.is self.old.tree) (T.is self.new.tree)) }
         ensures failure { IfOk result (TellsFailure (T.is self.old.tree) (T.is self.new.tree)
             (K.is self.old.keeper) (K.is self.new.keeper)) }
-        ensures err { OnErr result (Spends T.is K.is C.told W.told self.old request self.new) }
+        ensures err { OnErr result (Spends T.is K.is C.reads W.told self.old request self.new) }
         ensures unasked { may_ask_in_vain request ≡ false → OnErr result (self.new ≡ self.old) }
         ensures full { limit_of self.old.story < cost_with self.old.story request
             → result
@@ -406,7 +406,7 @@ impl<T: HostTree, K: Keeper, C: Clock, W: Words> Portal<T, K, C, W> {
         ensures began { self.new.story.began ≡ self.old.story.began }
         ensures opening { self.new.story.opening ≡ self.old.story.opening }
         ensures ok { IfOk result
-            (Answers T.is K.is C.told W.told self.old self.new seat (Request.Enter who kind)) }
+            (Answers T.is K.is C.reads W.told self.old self.new seat (Request.Enter who kind)) }
         ensures fault { IfOk result (TellsFault (T.is self.old.tree) (T.is self.new.tree)) }
         ensures failure { IfOk result (TellsFailure (T.is self.old.tree) (T.is self.new.tree)
             (K.is self.old.keeper) (K.is self.new.keeper)) }
@@ -444,12 +444,12 @@ impl<T: HostTree, K: Keeper, C: Clock, W: Words> Portal<T, K, C, W> {
         ensures began { self.new.story.began ≡ self.old.story.began }
         ensures opening { self.new.story.opening ≡ self.old.story.opening }
         ensures ok { IfOk result
-            (Answers T.is K.is C.told W.told self.old self.new seat (Request.Node request)) }
+            (Answers T.is K.is C.reads W.told self.old self.new seat (Request.Node request)) }
         ensures fault { IfOk result (TellsFault (T.is self.old.tree) (T.is self.new.tree)) }
         ensures failure { IfOk result (TellsFailure (T.is self.old.tree) (T.is self.new.tree)
             (K.is self.old.keeper) (K.is self.new.keeper)) }
         ensures err { OnErr result
-            (Spends T.is K.is C.told W.told self.old (Request.Node request) self.new) }
+            (Spends T.is K.is C.reads W.told self.old (Request.Node request) self.new) }
         ensures unasked { may_ask_tree_in_vain (Request.Node request) ≡ false
             → OnErr result (self.new ≡ self.old) }
     {
@@ -497,11 +497,11 @@ impl<T: HostTree, K: Keeper, C: Clock, W: Words> Portal<T, K, C, W> {
         requires call { is_document_call request ≡ true }
         ensures began { self.new.story.began ≡ self.old.story.began }
         ensures opening { self.new.story.opening ≡ self.old.story.opening }
-        ensures ok { IfOk result (Answers T.is K.is C.told W.told self.old self.new seat request) }
+        ensures ok { IfOk result (Answers T.is K.is C.reads W.told self.old self.new seat request) }
         ensures fault { IfOk result (TellsFault (T.is self.old.tree) (T.is self.new.tree)) }
         ensures failure { IfOk result (TellsFailure (T.is self.old.tree) (T.is self.new.tree)
             (K.is self.old.keeper) (K.is self.new.keeper)) }
-        ensures err { OnErr result (Spends T.is K.is C.told W.told self.old request self.new) }
+        ensures err { OnErr result (Spends T.is K.is C.reads W.told self.old request self.new) }
         ensures unasked { may_change_records request ≡ false
             → OnErr result (self.new ≡ self.old) }
     {
@@ -548,12 +548,12 @@ impl<T: HostTree, K: Keeper, C: Clock, W: Words> Portal<T, K, C, W> {
         ensures began { self.new.story.began ≡ self.old.story.began }
         ensures opening { self.new.story.opening ≡ self.old.story.opening }
         ensures ok { IfOk result
-            (Answers T.is K.is C.told W.told self.old self.new seat (Request.Add add)) }
+            (Answers T.is K.is C.reads W.told self.old self.new seat (Request.Add add)) }
         ensures fault { IfOk result (TellsFault (T.is self.old.tree) (T.is self.new.tree)) }
         ensures failure { IfOk result (TellsFailure (T.is self.old.tree) (T.is self.new.tree)
             (K.is self.old.keeper) (K.is self.new.keeper)) }
         ensures err { OnErr result
-            (Spends T.is K.is C.told W.told self.old (Request.Add add) self.new) }
+            (Spends T.is K.is C.reads W.told self.old (Request.Add add) self.new) }
     {
         let taken = taken(
             &mut self.history,
@@ -599,12 +599,12 @@ impl<T: HostTree, K: Keeper, C: Clock, W: Words> Portal<T, K, C, W> {
         ensures began { self.new.story.began ≡ self.old.story.began }
         ensures opening { self.new.story.opening ≡ self.old.story.opening }
         ensures ok { IfOk result
-            (Answers T.is K.is C.told W.told self.old self.new seat (Request.Store call)) }
+            (Answers T.is K.is C.reads W.told self.old self.new seat (Request.Store call)) }
         ensures fault { IfOk result (TellsFault (T.is self.old.tree) (T.is self.new.tree)) }
         ensures failure { IfOk result (TellsFailure (T.is self.old.tree) (T.is self.new.tree)
             (K.is self.old.keeper) (K.is self.new.keeper)) }
         ensures err { OnErr result
-            (Spends T.is K.is C.told W.told self.old (Request.Store call) self.new) }
+            (Spends T.is K.is C.reads W.told self.old (Request.Store call) self.new) }
         ensures unasked { may_change_entries call ≡ false → OnErr result (self.new ≡ self.old) }
     {
         // A request of a bus takes the box of its seat ahead of all it does, and its own changes
@@ -648,7 +648,7 @@ impl<T: HostTree, K: Keeper, C: Clock, W: Words> Portal<T, K, C, W> {
     fn leave(&mut self, alloc: Global, seat: u32) -> Result<Reply, WantOfMemory>
         ensures began { self.new.story.began ≡ self.old.story.began }
         ensures opening { self.new.story.opening ≡ self.old.story.opening }
-        ensures ok { IfOk result (Answers T.is K.is C.told W.told self.old self.new seat Request.Leave) }
+        ensures ok { IfOk result (Answers T.is K.is C.reads W.told self.old self.new seat Request.Leave) }
         ensures fault { IfOk result (TellsFault (T.is self.old.tree) (T.is self.new.tree)) }
         ensures failure { IfOk result (TellsFailure (T.is self.old.tree) (T.is self.new.tree)
             (K.is self.old.keeper) (K.is self.new.keeper)) }
@@ -678,7 +678,7 @@ impl<T: HostTree, K: Keeper, C: Clock, W: Words> Portal<T, K, C, W> {
         requires { cost_with self.old.story Request.Collect ≤ limit_of self.old.story }
         ensures began { self.new.story.began ≡ self.old.story.began }
         ensures opening { self.new.story.opening ≡ self.old.story.opening }
-        ensures ok { IfOk result (Answers T.is K.is C.told W.told self.old self.new seat Request.Collect) }
+        ensures ok { IfOk result (Answers T.is K.is C.reads W.told self.old self.new seat Request.Collect) }
         ensures fault { IfOk result (TellsFault (T.is self.old.tree) (T.is self.new.tree)) }
         ensures failure { IfOk result (TellsFailure (T.is self.old.tree) (T.is self.new.tree)
             (K.is self.old.keeper) (K.is self.new.keeper)) }

@@ -96,10 +96,10 @@ impl<T: HostTree, K: Keeper, C: Clock, W: Words> Storied for Portal<T, K, C, W> 
     ghost entries = { λ p. p.story.history };
 
     // Just the calls of the tree that the step reaches were made, and the one of the keeper.
-    ghost says = { Went T.is K.is C.told W.told };
+    ghost says = { Went T.is K.is C.reads W.told };
 
     // The devices may have been asked, and then memory was wanted.
-    ghost spends = { Spends T.is K.is C.told W.told };
+    ghost spends = { Spends T.is K.is C.reads W.told };
 
     fn ask(&mut self, alloc: Global, seat: u32, request: Request) -> Result<Reply, Refused> {
         Portal::ask(self, alloc, seat, request)

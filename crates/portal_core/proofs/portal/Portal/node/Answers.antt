@@ -99,7 +99,7 @@ returns-in-Ok-clause-ok g c =
     rw (← c.self.view_is) (replied-node (opened_over tree.began k.opening).told at c.args.seat c.args.request tree done (seat_step at c.args.seat c.args.request (given_to done)).0.connections new.handles after (told-on k.history.entries (opened_over tree.began k.opening)) loud.serves) in
     let calling : Calling (g.T.HostTree.is c.args.self.now.tree) (entry_calls (state_now c.args.self.now.story) made) after.told after = rw (← c.self.view_is) loud.serves.calls in
     let kept_not : made.given.fault ≢ Fault.Keeper = never-kept _ c.args.request made.given _ loud.serves.lawful in
-    let moment : Reads g.C.Clock.told c.args.self.now.clock made.given.now new.clock = rw (← c.self.view_is) c.in-Ok.ensures.clock in
+    let moment : Reads g.C.Clock.reads c.args.self.now.clock made.given.now new.clock = rw (← c.self.view_is) c.in-Ok.ensures.clock in
     record {
       entry = c.node_entry-entry.result.0;
       grown = search rules;
