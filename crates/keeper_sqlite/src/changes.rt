@@ -34,7 +34,7 @@ fn make<S: Alter>(
         RecordChange::AddDocument(document) => add_document(transaction, document),
         RecordChange::RemoveDocument { number } => remove_document(transaction, *number),
         RecordChange::SetGrants { number, grants } => {
-            set_grants(transaction, *number, grants.as_slice())
+            set_grants(alloc, transaction, *number, grants.as_slice())
         }
         RecordChange::SetEntry(entry) => set_entry(alloc, transaction, entry),
         RecordChange::RemoveEntry { table, id } => remove_entry(transaction, table, id),

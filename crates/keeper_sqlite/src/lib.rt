@@ -16,6 +16,7 @@
 //! | Room | Holds |
 //! |---|---|
 //! | `keeper` | [`SqliteKeeper`] |
+//! | `file`, `log` | whose file a path leads to, seen before SQLite opens it |
 //! | `loading` | the records that the tables hold |
 //! | `kept`, `changes` | which changes can be kept, and making them |
 //!
@@ -28,9 +29,11 @@
 #![tactic(auto)]
 
 mod changes;
+mod file;
 mod keeper;
 mod kept;
 mod loading;
+mod log;
 
 pub use keeper::SqliteKeeper;
 pub use sqlite_tables::fault::{DatabaseFault, KeeperFault};

@@ -36,6 +36,30 @@ pub fn lines_of<S: Alter>(conn: &mut Connection<S>, sql: &str) -> Result<Vec<Lin
     Ok(lines)
 }
 
+/// What takes the lines of a query as they come.
+pub trait TakesLines {
+    /// Takes the next line.
+    fn take(&mut self, alloc: Global, line: &Line) -> Result<(), DatabaseFault>;
+}
+
+/// Hands over the lines of a query one after another, so that they needn't all be in memory.
+pub fn hand_lines<S: Alter, T: TakesLines>(
+    alloc: Global,
+    conn: &mut Connection<S>,
+    sql: &str,
+    to: &mut T,
+) -> Result<(), DatabaseFault> {
+    let mut lines = conn.query(sql, &[])?;
+    for _ in 0..u64::MAX {
+        lines.advance()?;
+        let Some(line) = lines.get() else {
+            return Ok(());
+        };
+        to.take(alloc, line)?;
+    }
+    Ok(())
+}
+
 /// The number of 64 bits in a column.
 pub fn place_at(line: &Line, at: usize) -> Result<i64, DatabaseFault> {
     let place: i64 = line.get(at)?;
@@ -48,6 +72,19 @@ pub fn number_at(line: &Line, at: usize) -> Result<u32, DatabaseFault> {
     Ok(number)
 }
 
+/// Whether the number in a column is another than 0.
+pub fn flag_at(line: &Line, at: usize) -> Result<bool, DatabaseFault> {
+    Ok(place_at(line, at)? != 0)
+}
+
+/// The number of 8 bits in a column.
+pub fn rights_at(line: &Line, at: usize) -> Result<u8, DatabaseFault> {
+    match u8::try_from(number_at(line, at)?) {
+        Ok(rights) => Ok(rights),
+        Err(_) => Err(DatabaseFault::NoRecord),
+    }
+}
+
 /// The text in a column.
 pub fn text_at(line: &Line, at: usize) -> Result<Text, DatabaseFault> {
     let text: String = line.get(at)?;
@@ -55,9 +92,14 @@ pub fn text_at(line: &Line, at: usize) -> Result<Text, DatabaseFault> {
 }
 
 /// The bytes of a blob or a text in a column.
-pub fn bytes_at(alloc: Global, line: &Line, at: usize) -> Result<ByteList, DatabaseFault> {
+pub fn slice_at(line: &Line, at: usize) -> Result<&[u8], DatabaseFault> {
     match line.get_ref(at)? {
-        ValueRef::Blob(bytes) | ValueRef::Text(bytes) => Ok(List::copied(alloc, bytes)?),
+        ValueRef::Blob(bytes) | ValueRef::Text(bytes) => Ok(bytes),
         _ => Err(DatabaseFault::NoRecord),
     }
+}
+
+/// A copy of these bytes.
+pub fn bytes_at(alloc: Global, line: &Line, at: usize) -> Result<ByteList, DatabaseFault> {
+    Ok(List::copied(alloc, slice_at(line, at)?)?)
 }
