@@ -15,6 +15,7 @@ use std::fs::{self, File, Metadata, OpenOptions};
 use std::io::{self, ErrorKind};
 use std::os::fd::AsRawFd;
 use std::os::unix::fs::{FileExt, MetadataExt, OpenOptionsExt};
+use std::path::PathBuf;
 
 /// Only the owner may read and write a database that is made; its log has its mode.
 const OWNERS_MODE: u32 = 0o600;
@@ -25,6 +26,9 @@ const MAGIC: &[u8] = b"SQLite format 3\0";
 /// Up to where its header tells how long a page is.
 const PAGE_SIZE_END: usize = 18;
 
+/// How long a log is, in bytes, in which nothing is committed.
+const BARE_LOG_LEN: u64 = 32;
+
 /// The bytes that a process locks that has a database open (Database File Format, "The
 /// Lock-Byte Page").
 const LOCK_BYTES: (u64, u64) = (1 << 30, 512);
@@ -34,18 +38,58 @@ pub(crate) fn open_database(
     rt: &HostRuntime,
     path: &str,
 ) -> Result<Connection<FileStore<DatabaseFile>>, DatabaseFault> {
-    ready_file(rt, path)?;
+    let alone = ready_file(rt, path)?;
     // A commit is synced once, as SQLite's WAL with synchronous FULL does, on the premise that a
     // torn write leaves each byte old or new. To take no such premise would sync twice.
-    Ok(Connection::open(rt, path)?)
+    match Connection::open(rt, path) {
+        Ok(conn) => Ok(conn),
+        Err(error) => {
+            if let Some(real) = alone {
+                remove_bare_log(rt, real.as_str())?;
+            }
+            Err(DatabaseFault::from(error))
+        }
+    }
 }
 
-/// Makes sure that a path leads to a file of records, or to an empty one.
-fn ready_file(rt: &HostRuntime, path: &str) -> Result<(), DatabaseFault> {
-    match fs::canonicalize(rt, path) {
-        Ok(real) => see_file(rt, real.as_str()),
-        Err(error) if error.kind() == ErrorKind::NotFound => make_file(rt, path),
-        Err(error) => Err(unusable(&error)),
+/// Makes sure that a path leads to a file of records, or to an empty one: to which, where it
+/// has no log beside it.
+fn ready_file(rt: &HostRuntime, path: &str) -> Result<Option<PathBuf>, DatabaseFault> {
+    let real = match fs::canonicalize(rt, path) {
+        Ok(real) => real,
+        Err(error) if error.kind() == ErrorKind::NotFound => {
+            make_file(rt, path)?;
+            return Ok(None);
+        }
+        Err(error) => return Err(unusable(&error)),
+    };
+    see_file(rt, real.as_str())?;
+    let log = log_beside(rt, real.as_str())?;
+    if met(fs::exists(rt, log.as_str()))? {
+        Ok(None)
+    } else {
+        Ok(Some(real))
+    }
+}
+
+/// Where the log of a database stands.
+pub(crate) fn log_beside(rt: &HostRuntime, path: &str) -> Result<String, DatabaseFault> {
+    Ok(format!(in rt.alloc(); "{path}-wal")?)
+}
+
+/// Removes the log that SQLite began beside a file that it then refused.
+fn remove_bare_log(rt: &HostRuntime, path: &str) -> Result<(), DatabaseFault> {
+    // Nobody else opens the database in the meantime, since the file is locked until it is let go.
+    let file = met(fs::open(rt, path))?;
+    if is_in_use(&file) {
+        return Ok(());
+    }
+    let log = log_beside(rt, path)?;
+    match fs::symlink_metadata(rt, log.as_str()) {
+        Ok(found) if found.is_file() && found.len() <= BARE_LOG_LEN => {
+            met(fs::remove_file(rt, log.as_str()))
+        }
+        _ => Ok(()),
     }
 }
 

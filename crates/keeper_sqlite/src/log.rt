@@ -2,7 +2,7 @@
 //!
 //! Its form is that of SQLite (Database File Format, "The Write-Ahead Log").
 
-use crate::file::{bytes_from, has_tables, length_of, met};
+use crate::file::{bytes_from, has_tables, length_of, log_beside, met};
 use sqlite_tables::fault::DatabaseFault;
 use std::alloc::Global;
 use std::fs::{self, File};
@@ -44,7 +44,7 @@ pub(crate) enum FirstPage {
 impl Log {
     /// The log beside the database of a path, where there is one.
     pub(crate) fn beside(rt: &HostRuntime, path: &str) -> Result<Option<Log>, DatabaseFault> {
-        let name = format!(in rt.alloc(); "{path}-wal")?;
+        let name = log_beside(rt, path)?;
         match fs::symlink_metadata(rt, name.as_str()) {
             Ok(found) if found.is_file() => {}
             Ok(_) => return Ok(None),

@@ -1,6 +1,8 @@
 //! The kept documents, in the table `document`, with the rights in them in
 //! `document_grant`.
 
+ghost use Rattle.std.specs.Prelude.{◌<◌, IfOk, vec_len};
+
 use crate::calls::{
     TakesLines, bytes_at, flag_at, hand_lines, lines_inside, number_at, place_at, rights_at, run,
 };
@@ -79,15 +81,18 @@ impl ReadDocuments {
 
     /// Gives the document of a place rights.
     pub fn grant(&mut self, place: i64, grant: GrantRecord) -> Result<(), DatabaseFault> {
-        let documents = self.documents.as_slice();
-        let Ok(at) = documents.binary_search_by(|document| document.place.cmp(&place)) else {
-            return Err(DatabaseFault::NoRecord);
-        };
-        let Some(document) = self.documents.get_mut(at) else {
-            return Err(DatabaseFault::NoRecord);
-        };
-        document.record.grants.push(grant)?;
+        let at = self.index_of(place)?;
+        self.documents[at].record.grants.push(grant)?;
         Ok(())
+    }
+
+    /// Where the document of a place stands.
+    fn index_of(&self, place: i64) -> Result<usize, DatabaseFault>
+        ensures { IfOk result (λ at. at < vec_len self.now.documents) }
+    {
+        let documents = self.documents.as_slice();
+        let found = documents.binary_search_by(|document| document.place.cmp(&place));
+        found.map_err(|_| DatabaseFault::NoRecord)
     }
 
     /// The records, with the applications of each document in byte order.

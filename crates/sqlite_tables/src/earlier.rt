@@ -11,8 +11,7 @@ use crate::entries::{LOAD as LOAD_ENTRIES, ReadEntries, add_entry};
 use crate::fault::DatabaseFault;
 use crate::tables::add_tables;
 use portal_base::list::List;
-use portal_base::text::Text;
-use portal_model::records::{DocRecord, EntryRecord, GrantRecord, Row};
+use portal_model::records::{DocRecord, EntryRecord, GrantRecord};
 use sqlite::{Alter, Connection, Error, ErrorCode, Row as Line, Transaction};
 use std::alloc::Global;
 
@@ -178,27 +177,7 @@ impl<'a> TakesLines for EarlierGrants<'a> {
 
 impl<'a> TakesLines for EarlierNames<'a> {
     fn take(&mut self, alloc: Global, line: &Line) -> Result<(), DatabaseFault> {
-        let rows = self.entries.rows_at(place_at(line, 0)?)?;
-        add_name(alloc, rows, text_at(line, 1)?, text_at(line, 2)?)
+        let (app, name) = (text_at(line, 1)?, text_at(line, 2)?);
+        self.entries.push_name(alloc, place_at(line, 0)?, app, name)
     }
-}
-
-/// Puts a name behind those of the application's row, which is the last, or
-/// into a row of its own behind the others.
-fn add_name(
-    alloc: Global,
-    rows: &mut Vec<Row>,
-    app: Text,
-    name: Text,
-) -> Result<(), DatabaseFault> {
-    if let Some(row) = rows.last_mut()
-        && row.app == app
-    {
-        row.names.push(name)?;
-        return Ok(());
-    }
-    let mut names = List::new(alloc);
-    names.push(name)?;
-    rows.push(Row { app, names })?;
-    Ok(())
 }

@@ -1,6 +1,8 @@
 //! The entries of the permission store, in the table `entry`, with their rows
 //! in `permission`.
 
+ghost use Rattle.std.specs.Prelude.{◌<◌, IfOk, vec_len};
+
 use crate::calls::{
     TakesLines, bytes_at, hand_lines, lines_inside, place_at, run, slice_at, text_at,
 };
@@ -69,16 +71,32 @@ impl ReadEntries {
         }
     }
 
-    /// The rows of the entry of a place.
-    pub fn rows_at(&mut self, place: i64) -> Result<&mut Vec<Row>, DatabaseFault> {
-        let entries = self.entries.as_slice();
-        let Ok(at) = entries.binary_search_by(|entry| entry.place.cmp(&place)) else {
-            return Err(DatabaseFault::NoRecord);
-        };
-        match self.entries.get_mut(at) {
-            Some(entry) => Ok(&mut entry.rows),
-            None => Err(DatabaseFault::NoRecord),
-        }
+    /// Puts a row behind those of the entry of a place.
+    fn push_row(&mut self, place: i64, row: Row) -> Result<(), DatabaseFault> {
+        let at = self.index_of(place)?;
+        self.entries[at].rows.push(row)?;
+        Ok(())
+    }
+
+    /// Puts a name behind those of the application's row in the entry of a place, if it is
+    /// the last row, or into a row of its own behind the others.
+    pub fn push_name(
+        &mut self,
+        alloc: Global,
+        place: i64,
+        app: Text,
+        name: Text,
+    ) -> Result<(), DatabaseFault> {
+        let at = self.index_of(place)?;
+        add_name(alloc, &mut self.entries[at].rows, app, name)
+    }
+
+    /// Where the entry of a place stands.
+    fn index_of(&self, place: i64) -> Result<usize, DatabaseFault>
+        ensures { IfOk result (λ at. at < vec_len self.now.entries) }
+    {
+        let found = self.entries.as_slice().binary_search_by(|entry| entry.place.cmp(&place));
+        found.map_err(|_| DatabaseFault::NoRecord)
     }
 
     /// The records, with the applications of each entry in byte order.
@@ -90,6 +108,26 @@ impl ReadEntries {
         }
         Ok(List::from_vec(records))
     }
+}
+
+/// Puts a name behind those of the application's row, if it is the last, or into a
+/// row of its own behind the others.
+fn add_name(
+    alloc: Global,
+    rows: &mut Vec<Row>,
+    app: Text,
+    name: Text,
+) -> Result<(), DatabaseFault> {
+    if let Some(row) = rows.last_mut()
+        && row.app == app
+    {
+        row.names.push(name)?;
+        return Ok(());
+    }
+    let mut names = List::new(alloc);
+    names.push(name)?;
+    rows.push(Row { app, names })?;
+    Ok(())
 }
 
 /// The record of an entry, with its applications in byte order.
@@ -129,8 +167,7 @@ impl<'a> TakesLines for ReadRows<'a> {
             app: text_at(line, 1)?,
             names: names_of_text(alloc, slice_at(line, 2)?)?,
         };
-        self.entries.rows_at(place_at(line, 0)?)?.push(row)?;
-        Ok(())
+        self.entries.push_row(place_at(line, 0)?, row)
     }
 }
 

@@ -8,6 +8,10 @@ use portal_base::list::List;
 use portal_base::text::Text;
 use std::alloc::Global;
 
+const LINE_FEED: u8 = b'\n';
+
+const BACKSLASH: u8 = b'\\';
+
 /// The text of names.
 pub fn text_of_names(alloc: Global, names: &[Text]) -> Result<Vec<u8>, DatabaseFault> {
     let mut text = Vec::new(alloc);
@@ -21,24 +25,26 @@ pub fn text_of_names(alloc: Global, names: &[Text]) -> Result<Vec<u8>, DatabaseF
 fn write_name(text: &mut Vec<u8>, name: &[u8]) -> Result<(), DatabaseFault> {
     for byte in name {
         match *byte {
-            b'\n' => text.extend_from_slice(b"\\n")?,
-            b'\\' => text.extend_from_slice(b"\\\\")?,
+            LINE_FEED => text.extend_from_slice(b"\\n")?,
+            BACKSLASH => text.extend_from_slice(b"\\\\")?,
             plain => text.push(plain)?,
         }
     }
-    text.push(b'\n')?;
+    text.push(LINE_FEED)?;
     Ok(())
 }
 
 /// The names that a text is of.
 pub fn names_of_text(alloc: Global, text: &[u8]) -> Result<List<Text>, DatabaseFault> {
-    let count = text.iter().filter(|byte| **byte == b'\n').count();
+    let count = text.iter().filter(|byte| **byte == LINE_FEED).count();
     let mut names = Vec::with_capacity(alloc, count)?;
     let mut rest = text;
     for _ in 0..count {
-        let (name, behind) = first_name(alloc, rest)?;
-        names.push(name)?;
-        rest = behind;
+        let Some(end) = rest.iter().position(|byte| *byte == LINE_FEED) else {
+            break;
+        };
+        names.push(read_name(alloc, &rest[..end])?)?;
+        rest = &rest[end + 1..];
     }
     if rest.is_empty() {
         Ok(List::from_vec(names))
@@ -47,36 +53,30 @@ pub fn names_of_text(alloc: Global, text: &[u8]) -> Result<List<Text>, DatabaseF
     }
 }
 
-/// The first name of a text, and what stands behind it.
-fn first_name(alloc: Global, text: &[u8]) -> Result<(Text, &[u8]), DatabaseFault> {
+/// The name that is written so, without the line feed behind it.
+fn read_name(alloc: Global, written: &[u8]) -> Result<Text, DatabaseFault> {
     let mut name = Vec::new(alloc);
-    let mut at = 0;
-    while at < text.len() {
-        match text[at] {
-            b'\n' => return Ok((read_text(name)?, &text[at + 1..])),
-            b'\\' => {
-                at += 1;
-                name.push(escaped(text, at)?)?;
+    let mut escaped = false;
+    for byte in written {
+        match (escaped, *byte) {
+            (false, BACKSLASH) => escaped = true,
+            (false, plain) => name.push(plain)?,
+            (true, BACKSLASH) => {
+                name.push(BACKSLASH)?;
+                escaped = false;
             }
-            plain => name.push(plain)?,
+            (true, b'n') => {
+                name.push(LINE_FEED)?;
+                escaped = false;
+            }
+            (true, _) => return Err(DatabaseFault::NoRecord),
         }
-        at += 1;
     }
-    Err(DatabaseFault::NoRecord)
-}
-
-/// The character that stands behind a backslash for itself or for a line feed.
-fn escaped(text: &[u8], at: usize) -> Result<u8, DatabaseFault> {
-    match text.get(at) {
-        Some(b'n') => Ok(b'\n'),
-        Some(b'\\') => Ok(b'\\'),
-        _ => Err(DatabaseFault::NoRecord),
+    if escaped {
+        return Err(DatabaseFault::NoRecord);
     }
-}
-
-fn read_text(bytes: Vec<u8>) -> Result<Text, DatabaseFault> {
-    match String::from_utf8(bytes) {
-        Ok(text) => Ok(Text::from_string(text)),
+    match String::from_utf8(name) {
+        Ok(name) => Ok(Text::from_string(name)),
         Err(_) => Err(DatabaseFault::NoRecord),
     }
 }
