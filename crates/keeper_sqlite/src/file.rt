@@ -25,6 +25,7 @@ const MAGIC: &[u8] = b"SQLite format 3\0";
 
 /// Where its header tells how long a page is, in two bytes, and the end of the word there.
 const PAGE_SIZE: usize = 16;
+
 const PAGE_SIZE_END: usize = 20;
 
 /// How long a log is, in bytes, in which nothing is committed.
