@@ -1,8 +1,5 @@
 //! Whether the system gives as many threads as a service has.
 
-ghost use Rattle.std.specs.Prelude.{◌≡◌};
-ghost use Rattle.serve_start.specs.Files.{tree_threads};
-
 use std::alloc::{AllocError, AllocFailed, Global};
 use std::io::{PipeReader, Read};
 use std::sync::Arc;
@@ -11,13 +8,6 @@ use std::{io, thread};
 
 /// The threads that the tree has beside the posts: those that open its files.
 pub const TREE_THREADS: usize = 8;
-
-/// The constant is the number of the definitions.
-///
-/// It does nothing; its contract is the law.
-pub fn tree_threads_are_told()
-    ensures { TREE_THREADS ≡ tree_threads }
-{}
 
 /// Why it isn't known whether there are threads enough.
 #[derive(Debug, Drop)]

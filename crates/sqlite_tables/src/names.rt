@@ -1,0 +1,82 @@
+//! The names of a row, as the one text that is kept of them.
+//!
+//! Each name ends in a line feed. So that a name may hold any character, a line
+//! feed in it is written as a backslash and an `n`, and a backslash as two.
+
+use crate::fault::DatabaseFault;
+use portal_base::list::List;
+use portal_base::text::Text;
+use std::alloc::Global;
+
+const LINE_FEED: u8 = b'\n';
+
+const BACKSLASH: u8 = b'\\';
+
+/// The text of names.
+pub fn text_of_names(alloc: Global, names: &[Text]) -> Result<Vec<u8>, DatabaseFault> {
+    let mut text = Vec::new(alloc);
+    for name in names {
+        write_name(&mut text, name.as_bytes())?;
+    }
+    Ok(text)
+}
+
+/// Puts a name at the end of a text.
+fn write_name(text: &mut Vec<u8>, name: &[u8]) -> Result<(), DatabaseFault> {
+    for byte in name {
+        match *byte {
+            LINE_FEED => text.extend_from_slice(b"\\n")?,
+            BACKSLASH => text.extend_from_slice(b"\\\\")?,
+            plain => text.push(plain)?,
+        }
+    }
+    text.push(LINE_FEED)?;
+    Ok(())
+}
+
+/// The names that a text is of.
+pub fn names_of_text(alloc: Global, text: &[u8]) -> Result<List<Text>, DatabaseFault> {
+    let count = text.iter().filter(|byte| **byte == LINE_FEED).count();
+    let mut names = Vec::with_capacity(alloc, count)?;
+    let mut rest = text;
+    for _ in 0..count {
+        let Some(end) = rest.iter().position(|byte| *byte == LINE_FEED) else {
+            break;
+        };
+        names.push(read_name(alloc, &rest[..end])?)?;
+        rest = &rest[end + 1..];
+    }
+    if rest.is_empty() {
+        Ok(List::from_vec(names))
+    } else {
+        Err(DatabaseFault::NoRecord)
+    }
+}
+
+/// The name that is written so, without the line feed behind it.
+fn read_name(alloc: Global, written: &[u8]) -> Result<Text, DatabaseFault> {
+    let mut name = Vec::new(alloc);
+    let mut escaped = false;
+    for byte in written {
+        match (escaped, *byte) {
+            (false, BACKSLASH) => escaped = true,
+            (false, plain) => name.push(plain)?,
+            (true, BACKSLASH) => {
+                name.push(BACKSLASH)?;
+                escaped = false;
+            }
+            (true, b'n') => {
+                name.push(LINE_FEED)?;
+                escaped = false;
+            }
+            (true, _) => return Err(DatabaseFault::NoRecord),
+        }
+    }
+    if escaped {
+        return Err(DatabaseFault::NoRecord);
+    }
+    match String::from_utf8(name) {
+        Ok(name) => Ok(Text::from_string(name)),
+        Err(_) => Err(DatabaseFault::NoRecord),
+    }
+}
