@@ -49,6 +49,8 @@ class Person:
         if not child:
             status = 99
             try:
+                # Whoever runs the checks in the background may have this one ignored.
+                signal.signal(signal.SIGINT, signal.default_int_handler)
                 os.dup2(given.fileno(), 0)
                 os.dup2(out[1], 1)
                 os.dup2(said[1], 2)
