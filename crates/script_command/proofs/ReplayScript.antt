@@ -100,7 +100,7 @@ module _ (text : List ℕ) (lines : List ScriptLine) (entries : Entries) (kept :
           said = said;
           last = last;
           replay = is_replay entries text lines (p.front ++ p.line ∷ []) p.later (p.history ++ more) (p.out ++ said) last kept size script ahead valid
-          (plays_on p.front (first_scene entries lines) p.last last p.line p.history more p.out said p.plays does);
+              (plays_on p.front (first_scene entries lines) p.last last p.line p.history more p.out said p.plays does);
           first = first;
           are_first = are_first;
           output = refl;
