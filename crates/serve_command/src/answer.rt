@@ -24,7 +24,15 @@ const WRITE_FAULT: u8 = 4;
 pub fn answer<R: System + Sync>(rt: &R, system: &HostRuntime, words: &[Text]) -> u8 {
     let standing = Standing::new(system);
     let mut openers = SystemOpeners::new(rt, system, &standing);
-    let obeyed = obey(system.alloc(), rt, words, &mut openers, &standing);
+    number_of_words(
+        system,
+        &standing,
+        obey(system.alloc(), rt, words, &mut openers, &standing),
+    )
+}
+
+/// The number of what words came to, which is told.
+fn number_of_words(system: &HostRuntime, standing: &Standing<'_>, obeyed: Obeyed) -> u8 {
     standing.clear();
     match obeyed {
         Obeyed::Told(text) => print(system, text.as_str()),

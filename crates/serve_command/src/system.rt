@@ -1,6 +1,6 @@
 //! What the system gives a service.
 
-ghost use Rattle.std.specs.Prelude.{◌≡◌, ◌×◌, MatchResult};
+ghost use Rattle.std.specs.Prelude.{◌≡◌, MatchResult};
 ghost use Rattle.portal_base.specs.Outside.{HasRisen};
 ghost use Rattle.serve_start.specs.declared.end.ServeEnd.TheVariants.{Memory};
 ghost use Rattle.serve_start.specs.Openings.{IsOfSocket, Opens, Refuses};
@@ -14,32 +14,34 @@ use keeper_sqlite::{DatabaseFault, SqliteKeeper};
 use portal_base::list::List;
 use portal_base::memory::WantOfMemory;
 use portal_base::text::Text;
+use portal_start::start::StartError;
 use serve_start::end::ServeEnd;
 use serve_start::openers::Openers;
 use serve_start::sockets::Socket;
 use serve_words::words::ServeWords;
-use std::fmt;
+use std::io::ErrorKind;
 use std::marker::Model;
+use std::{fmt, io};
 use system_devices::{SystemClock, SystemWords};
-use unix_links::{SocketFolder, SocketListener};
+use unix_links::{BindError, SocketFolder, SocketListener};
 
 /// What the begin of a connection costs the history at most, in bytes: 128, and an
 /// application's name.
 const COST_OF_CONNECTION: u64 = 383;
 
 /// A listener at a socket of a service.
-pub(crate) type SystemListener<'a> = SocketListener<'a, Standing<'a>>;
+pub(crate) type SystemListener<'v, 'a> = SocketListener<'v, Standing<'a>>;
 
 /// What the system gives a service, which contracts see as its count of refusals.
 #[derive(Drop)]
-pub(crate) struct SystemOpeners<'a, R> {
-    rt: &'a R,
+pub(crate) struct SystemOpeners<'v, 'a, R> {
+    rt: &'v R,
     system: &'a HostRuntime,
-    standing: &'a Standing<'a>,
+    standing: &'v Standing<'a>,
     faults: u64,
 }
 
-impl<'a, R> Model for SystemOpeners<'a, R> {
+impl<'v, 'a, R> Model for SystemOpeners<'v, 'a, R> {
     ghost use Rattle.std.specs.Prelude.{ℕ};
 
     ghost Value = { ℕ };
@@ -47,13 +49,13 @@ impl<'a, R> Model for SystemOpeners<'a, R> {
     ghost view = { λ o. o.faults };
 }
 
-impl<'a, R> SystemOpeners<'a, R> {
+impl<'v, 'a, R> SystemOpeners<'v, 'a, R> {
     /// What the system gives to posts that share this, of which nothing was refused so far.
     pub(crate) fn new(
-        rt: &'a R,
+        rt: &'v R,
         system: &'a HostRuntime,
-        standing: &'a Standing<'a>,
-    ) -> SystemOpeners<'a, R>
+        standing: &'v Standing<'a>,
+    ) -> SystemOpeners<'v, 'a, R>
         ensures { result ≡ 0 }
     {
         SystemOpeners {
@@ -152,12 +154,12 @@ fn reason<E: fmt::Display>(system: &HostRuntime, error: &E) -> Result<String, Wa
 }
 
 impl<'a, R: System> Openers<
-    SystemListener<'a>,
+    SystemListener<'v, 'a>,
     RealTree<R>,
     ToldKeeper<'a>,
     SystemClock<&'a HostRuntime>,
     SystemWords,
-> for SystemOpeners<'a, R> {
+> for SystemOpeners<'v, 'a, R> {
     ghost faults = { λ count. count };
 
     ghost at = { λ _ _. Unit {0} };
@@ -241,14 +243,14 @@ impl<'a, R: System> Openers<
         let hall = self.hall(taken, folder, sockets)?;
         match self.standing.take(hall) {
             Ok(()) => Ok(()),
-            Err(_) => Err(self.no_socket(folder, &"a service is running there")),
+            Err(_) => Err(self.no_socket(folder, &BindError::Live)),
         }
     }
 
-    fn listen(&mut self, socket: &Socket) -> Result<SystemListener<'a>, ServeEnd> {
+    fn listen(&mut self, socket: &Socket) -> Result<SystemListener<'v, 'a>, ServeEnd> {
         let standing = self.standing;
         let Some(made) = standing.socket_at(&socket.path) else {
-            return Err(self.no_socket(&socket.path, &"it wasn't made"));
+            return Err(self.no_socket(&socket.path, &io::Error::from(ErrorKind::NotFound)));
         };
         match SocketListener::new(made, standing) {
             Ok(listener) => Ok(listener),
@@ -281,7 +283,7 @@ impl<'a, R: System> Openers<
     fn fault_of(&self, keeper: &ToldKeeper<'a>) -> Result<String, WantOfMemory> {
         match keeper.keeper().last_fault() {
             Some(fault) => reason(self.system, &fault),
-            None => reason(self.system, &"the keeper failed to load the records"),
+            None => reason(self.system, &StartError::KeeperFault),
         }
     }
 }

@@ -1,12 +1,13 @@
 -- What running a service comes to.
-use Rattle.std.specs.Prelude.{◌≡◌, ◌⊎◌, ℕ, List, Option}
+use Rattle.std.specs.Prelude.{◌≡◌, ◌⊎◌, ℕ, List, Option, false}
 use Rattle.host_tree.specs.Trees.{TreeIs}
 use Rattle.portal_base.specs.declared.limits.Settings.{Settings}
 use Rattle.record_keeper.specs.Keepers.{KeeperIs}
 use Rattle.serve_posts.specs.declared.status.ServeStatus.{ServeStatus}
 use Rattle.serve_posts.specs.Statuses.{ServesAs}
 use Rattle.serve_words.specs.declared.words.ServeWords.{ServeWords}
-use Rattle.serve_words.specs.Words.{AsksFor, AsksText, IsFaulty}
+use Rattle.serve_words.specs.Form.{are_taken, found_in}
+use Rattle.serve_words.specs.Words.{AsksFor, IsFaulty}
 use Rattle.worker_gate.specs.declared.worker.Post.{Post}
 use Rattle.worker_gate.specs.Working.{Hall, Sides}
 use Rattle.serve_start.specs.declared.end.ServeEnd.{ServeEnd}
@@ -19,7 +20,7 @@ use Rattle.serve_start.specs.Openings.{Refuses}
 use Rattle.serve_start.specs.Services.{IsService}
 use Rattle.serve_start.specs.Statuses.{EndsStatus}
 
-module _ {L S I T K C W : Type 0} (s : Sides S I) (hall_of : L → Hall S I)
+module _ {L S I T K W : Type 0} (C : Type 0) (s : Sides S I) (hall_of : L → Hall S I)
     (at : L → List ℕ → Type 0) (tree_is : T → TreeIs) (keeper_is : K → KeeperIs)
     (told : W → Option (List ℕ)) (words : ServeWords) where
   -- the posts and the devices of a service of these words were served, and this came of it
@@ -50,15 +51,15 @@ IsUsage end = ⊥
 
 -- What the words behind `serve` came to: a text that they ask for; a usage, where they are faulty; no
 -- memory to read them; or how a service of what they ask for ended.
-module _ {L S I T K C W : Type 0} (s : Sides S I) (hall_of : L → Hall S I)
+module _ {L S I T K W : Type 0} (C : Type 0) (s : Sides S I) (hall_of : L → Hall S I)
     (at : L → List ℕ → Type 0) (tree_is : T → TreeIs) (keeper_is : K → KeeperIs)
     (told : W → Option (List ℕ)) (texts : List (List ℕ)) where
   abbrev pub EndsWords : ℕ → ServeEnd → ℕ → Type 0
   EndsWords old end new = (IsUsage end × IsFaulty texts × (new ≡ old))
       ⊎ (((end ≡ ends.Memory) × (new ≡ old))
-      ⊎ ((words : ServeWords) × AsksFor texts words
-      × EndsSo {C = C} s hall_of at tree_is keeper_is told words old end new))
+      ⊎ ((words : ServeWords) × AsksFor (found_in texts) words
+      × EndsSo C s hall_of at tree_is keeper_is told words old end new))
 
   abbrev pub Obeys : ℕ → Obeyed → ℕ → Type 0
-  Obeys old (obeyed.Told text) new = AsksText texts × (new ≡ old)
+  Obeys old (obeyed.Told text) new = (are_taken texts ≡ false) × (new ≡ old)
   Obeys old (obeyed.Ended end) new = EndsWords old end new

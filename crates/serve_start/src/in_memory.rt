@@ -1,6 +1,7 @@
 //! Openers in memory.
 
-ghost use Rattle.std.specs.Prelude.{◌≡◌, IfSome, false, true};
+ghost use Rattle.std.specs.Prelude.{◌≡◌, false, true};
+ghost use Rattle.std.specs.Option.{ForSome};
 ghost use Rattle.portal_base.specs.Outside.{HasRisen};
 
 use crate::end::ServeEnd;
@@ -80,7 +81,7 @@ pub struct MemoryOpeners<L, T: HostTree, K, W> {
     words: Option<W>,
     listeners: vec::IntoIter<L>,
     faults: u64,
-    ghost fresh: { IfSome tree (λ t. (T.is t).told ≡ (T.is t).began) },
+    ghost fresh: { ForSome tree (λ t. (T.is t).told ≡ (T.is t).began) },
 }
 
 impl<L, T: HostTree, K, W> MemoryOpeners<L, T, K, W> {

@@ -48,7 +48,7 @@ where
     C: Clock + Send + Drop,
     W: Words + Send + Drop,
     G: Gate + Sync,
-    ensures { Obeys (sides L.In.left L.In.faults L.Out.told L.Out.faults)
+    ensures { Obeys C (sides L.In.left L.In.faults L.Out.told L.Out.faults)
         (halls L.links L.ends L.faults) O.at T.is K.is W.told words.now (O.faults openers.old)
         result (O.faults openers.new) }
 {

@@ -52,7 +52,7 @@ where
     W: Words + Send + Drop,
     G: Gate + Sync,
     requires { IsInForm words.now }
-    ensures { RunsAs (sides L.In.left L.In.faults L.Out.told L.Out.faults)
+    ensures { RunsAs C (sides L.In.left L.In.faults L.Out.told L.Out.faults)
         (halls L.links L.ends L.faults) O.at T.is K.is W.told words.now (O.faults openers.old)
         result (O.faults openers.new) }
 {
