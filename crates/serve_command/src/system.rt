@@ -100,11 +100,7 @@ impl<'a, R> SystemOpeners<'a, R> {
     }
 
     /// The sockets, made out of sight in their folder.
-    fn places(
-        &mut self,
-        folder: &SocketFolder,
-        sockets: &[Socket],
-    ) -> Result<List<Place>, ServeEnd>
+    fn places(&mut self, folder: &SocketFolder, sockets: &[Socket]) -> Result<List<Place>, ServeEnd>
         ensures opens { Opens self.old result self.new }
     {
         let mut places = List::new(self.system.alloc());
@@ -155,10 +151,13 @@ fn reason<E: fmt::Display>(system: &HostRuntime, error: &E) -> Result<String, Wa
     Ok(format!(in system.alloc(); "{error}")?)
 }
 
-impl<'a, R: System>
-    Openers<SystemListener<'a>, RealTree<R>, ToldKeeper<'a>, SystemClock<&'a HostRuntime>, SystemWords>
-    for SystemOpeners<'a, R>
-{
+impl<'a, R: System> Openers<
+    SystemListener<'a>,
+    RealTree<R>,
+    ToldKeeper<'a>,
+    SystemClock<&'a HostRuntime>,
+    SystemWords,
+> for SystemOpeners<'a, R> {
     ghost faults = { λ count. count };
 
     ghost at = { λ _ _. Unit {0} };
@@ -196,7 +195,13 @@ impl<'a, R: System>
 
     fn open_root(&mut self, root: &Text, beside: u64) -> Result<RealTree<R>, ServeEnd> {
         let kept = files_beside(beside);
-        match RealTree::open(*self.rt, *self.system, self.system.alloc(), root.as_str(), kept) {
+        match RealTree::open(
+            *self.rt,
+            *self.system,
+            self.system.alloc(),
+            root.as_str(),
+            kept,
+        ) {
             Ok(tree) => Ok(tree),
             Err(OpenError::Memory) => Err(ServeEnd::Memory),
             Err(error) => Err(ServeEnd::NoRoot {

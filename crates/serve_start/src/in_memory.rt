@@ -132,9 +132,8 @@ impl<L, T: HostTree, K, W> MemoryOpeners<L, T, K, W> {
     }
 }
 
-impl<L: Drop, T: HostTree + Drop, K: Drop, W: Drop>
-    Openers<PathListener<L>, T, K, SetClock, W> for MemoryOpeners<L, T, K, W>
-{
+impl<L: Drop, T: HostTree + Drop, K: Drop, W: Drop> Openers<PathListener<L>, T, K, SetClock, W>
+    for MemoryOpeners<L, T, K, W> {
     ghost faults = { λ o. o.faults };
 
     ghost at = { λ l path. l.path ≡ path };

@@ -1,17 +1,18 @@
 -- Applications that are added one after another.
-use Rattle.std.proofs.Common.{◌≡◌, ◌≢◌, ◌⊎◌, inl, inr, ℕ, Bool, true, false, List, [], ◌∷◌, ◌++◌, ◌&&◌, length, ap, sym, ◌∙◌, refl, subst, arith, length-append}
+use Rattle.std.proofs.Common.{◌≡◌, ◌≢◌, ℕ, Bool, true, false, List, [], ◌∷◌, ◌++◌, ◌&&◌, ◌+◌, ◌<◌, suc, get_or, length, ap, sym, ◌∙◌, refl, subst, arith, length-append}
 use Rattle.std.specs.Borrow.{Bor}
 use Rattle.std.specs.Prelude.{map, take, drop}
 use Rattle.std.specs.List.{list_all, list_any, AllByRecursion, IsDistinct}
 use Rattle.std.specs.Cmp.Lexicographic.{lists_equiv}
 use Rattle.std.specs.Cmp.{IsEquivalence}
 use Rattle.std.proofs.lemmas.Bool.{and_parts}
+use Rattle.std.proofs.Math.Seq.{take-suc}
 use Rattle.std.proofs.lemmas.List.{map-append, take-append-drop}
 use Rattle.std.proofs.lemmas.List.Folds.{list_all-append}
 use Rattle.std.proofs.lemmas.Map.Keys.{IsDistinct-push}
 use Rattle.std.proofs.lemmas.Cmp.{nat_eq_equiv}
 use Rattle.portal_base.specs.Names.{is_app_name, is_same}
-use Rattle.serve_words.specs.Words.{AreApps, AreNamed}
+use Rattle.serve_words.specs.Words.{AreNamed}
 
 equal : IsEquivalence is_same
 equal = lists_equiv nat_eq_equiv
@@ -79,6 +80,16 @@ not_nameless apps app other n =
     let last = (and_parts (list_all is_app_name apps) (list_all is_app_name (app ∷ [])) (sym (list_all-append is_app_name apps (app ∷ [])) ∙ n.named)).1 in
     let name = (and_parts (is_app_name app) true last).0 in
     cc (name, other)
+
+-- one name more of the first ones
+pub one_more_name : (names : List (Bor (List ℕ))) (n : ℕ) (d : Bor (List ℕ)) (xs : List (List ℕ)) → n < length names → xs ≡ map (λ (name : Bor (List ℕ)). name.now) (take n names) → xs ++ (get_or names n d).now ∷ [] ≡ map (λ (name : Bor (List ℕ)). name.now) (take (n + 1) names)
+one_more_name names n d xs within are =
+    let now : Bor (List ℕ) → List ℕ = λ name. name.now in
+    let next : suc n ≡ n + 1 = omega arith in
+    ap (λ (l : List (List ℕ)). l ++ (get_or names n d).now ∷ []) are
+    ∙ (sym (map-append now (take n names) (get_or names n d ∷ []))
+    ∙ (ap (λ (l : List (Bor (List ℕ))). map now l) (sym (take-suc names n d within))
+    ∙ ap (λ (k : ℕ). map now (take k names)) next))
 
 -- the first so many of names that are so
 pub first_are : (names : List (Bor (List ℕ))) (n : ℕ) (xs : List (List ℕ)) → xs ≡ map (λ (name : Bor (List ℕ)). name.now) (take n names) → AreNamed (map (λ (name : Bor (List ℕ)). name.now) names) → AreNamed xs

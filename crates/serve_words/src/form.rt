@@ -72,12 +72,7 @@ pub fn form<'a>(alloc: Global) -> Result<Command<'a>, AllocError>
 }
 
 /// A required option whose value is a path.
-fn folder<'a>(
-    alloc: Global,
-    name: &'static str,
-    value: &'static str,
-    help: &'static str,
-) -> Arg<'a>
+fn folder<'a>(alloc: Global, name: &'static str, value: &'static str, help: &'static str) -> Arg<'a>
     ensures rule { rule_of result ≡ path_rule name.now }
     ensures own { result.global ≡ false }
 {

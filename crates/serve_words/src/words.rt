@@ -74,9 +74,9 @@ pub enum WordsError {
 impl From<WantOfMemory> for WordsError {
     ghost use Rattle.std.specs.Prelude.{◌≡◌};
     ghost use Rattle.clap.specs.declared.error.kind.ErrorKind.TheVariants.{OutOfMemory};
-ghost use Rattle.serve_words.specs.Digits.{are_digits_in, leads_with_zero_in};
-ghost use Rattle.serve_words.specs.Form.{value_in, values_in};
-ghost use Rattle.serve_words.specs.declared.words.WordsError.TheVariants.{Memory};
+    ghost use Rattle.serve_words.specs.Digits.{are_digits_in, leads_with_zero_in};
+    ghost use Rattle.serve_words.specs.Form.{value_in, values_in};
+    ghost use Rattle.serve_words.specs.declared.words.WordsError.TheVariants.{Memory};
 
     ghost from_gives = { λ _ error. error ≡ Memory };
 
@@ -88,9 +88,9 @@ ghost use Rattle.serve_words.specs.declared.words.WordsError.TheVariants.{Memory
 impl From<AllocError> for WordsError {
     ghost use Rattle.std.specs.Prelude.{◌≡◌};
     ghost use Rattle.clap.specs.declared.error.kind.ErrorKind.TheVariants.{OutOfMemory};
-ghost use Rattle.serve_words.specs.Digits.{are_digits_in, leads_with_zero_in};
-ghost use Rattle.serve_words.specs.Form.{value_in, values_in};
-ghost use Rattle.serve_words.specs.declared.words.WordsError.TheVariants.{Memory};
+    ghost use Rattle.serve_words.specs.Digits.{are_digits_in, leads_with_zero_in};
+    ghost use Rattle.serve_words.specs.Form.{value_in, values_in};
+    ghost use Rattle.serve_words.specs.declared.words.WordsError.TheVariants.{Memory};
 
     ghost from_gives = { λ _ error. error ≡ Memory };
 

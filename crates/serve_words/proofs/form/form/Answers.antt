@@ -1,6 +1,6 @@
-use Rattle.std.proofs.Common.{◌≡◌, ◌∷◌, [], ◌∙◌, true, Some, ap}
+use Rattle.std.proofs.Common.{◌≡◌, [], ◌∙◌, true, ap}
 use Rattle.std.specs.Prelude.{codes}
-use Rattle.clap.specs.Simple.{App, app_of, app_of_fields, new_app, new_shape, on_top, with_rule}
+use Rattle.clap.specs.Simple.{App, app_of, app_of_fields, new_shape, on_top}
 use Rattle.serve_words.specs.Form.{number_rule, path_rule, serve_form, words_rule}
 use Rattle.serve_words.proofs.Forms.{adds}
 use Rattle.serve_words.proofs.form.form.Goals as goal

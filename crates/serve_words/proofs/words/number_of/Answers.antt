@@ -1,8 +1,7 @@
-use Rattle.std.proofs.Common.{◌≡◌, ◌<◌, ◌^◌, ℕ, arith}
+use Rattle.std.proofs.Common.{◌≡◌, ◌<◌, ◌^◌, arith}
 use Rattle.clap.specs.Matches.{found_of}
 use Rattle.clap.specs.Walk.{rows_of}
 use Rattle.serve_words.specs.Form.{value_in}
-use Rattle.serve_words.specs.Words.{GivesNumber}
 use Rattle.serve_words.proofs.Numbers.{same_number}
 use Rattle.serve_words.proofs.words.number_of.Goals as goal
 use Rattle.serve_words.proofs.words.number_of.Goals.{then-number-least-via-then-number-least, then-number-least-via-else-number-least+then-most-number}

@@ -1,4 +1,4 @@
-use Rattle.std.proofs.Common.{rules, ◌≡◌, ℕ, List, true, false, Ok, Err}
+use Rattle.std.proofs.Common.{rules, ◌≡◌, ℕ, true, false, Ok, Err}
 use Rattle.std.specs.Str.Parse.{ParsesUnsigned}
 use Rattle.serve_words.specs.Digits.{are_digits_in}
 use Rattle.serve_words.proofs.Numbers.{no_digits, no_number, number_fits, number_read}
