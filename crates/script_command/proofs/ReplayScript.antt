@@ -94,21 +94,23 @@ module _ (text : List ℕ) (lines : List ScriptLine) (entries : Entries) (kept :
   line_answered p (more, said, last, first, does, are_first, wrote) =
       let ahead : lines ≡ (p.front ++ p.line ∷ []) ++ p.later = p.ahead ∙ sym (append_assoc p.front (p.line ∷ []) p.later) in (
         p.out ++ first,
-        wrote ∙ onto_more told p.out first,
-        inr (record {
-          entries = more;
-          said = said;
-          last = last;
-          replay = is_replay entries text lines (p.front ++ p.line ∷ []) p.later (p.history ++ more) (p.out ++ said) last kept size script ahead valid
-              (plays_on p.front (first_scene entries lines) p.last last p.line p.history more p.out said p.plays does);
-          first = first;
-          are_first = are_first;
-          output = refl;
-        }),
+        (
+          wrote ∙ onto_more told p.out first,
+          inr (record {
+            entries = more;
+            said = said;
+            last = last;
+            replay = is_replay entries text lines (p.front ++ p.line ∷ []) p.later (p.history ++ more) (p.out ++ said) last kept size script ahead valid
+                (plays_on p.front (first_scene entries lines) p.last last p.line p.history more p.out said p.plays does);
+            first = first;
+            are_first = are_first;
+            output = refl;
+          }),
+        ),
       )
 
   line_ends : (p : PlaysUpTo (first_scene entries lines) lines told told') → (told' ≡ onto told p.out) ⊎ WritesPart AreFirst p.last p.line (onto told p.out) told' → (pieces : List (List ℕ)) × Ends pieces p
-  line_ends p (inl nothing) = (p.out, nothing, inl refl)
+  line_ends p (inl nothing) = (p.out, (nothing, inl refl))
   line_ends p (inr part) = line_answered p part
 
   played_up_to : PlaysUpTo (first_scene entries lines) lines told told' → Replayed text told told' Memory
