@@ -136,8 +136,21 @@ pub fn talk(system: &HostRuntime, alloc: Global, rest: &str) -> Result<String, V
     let (path, rest) = cut(rest);
     let (text, answer) = cut(rest);
     let socket = given(alloc, placed(system, path))?;
-    let first = given(alloc, SocketListener::new(&socket, &Quiet))?;
-    let told = match given(alloc, SocketListener::new(&socket, &Quiet)) {
+    let told = talk_over(system, alloc, &socket, path, text, answer);
+    drop(socket);
+    told
+}
+
+fn talk_over(
+    system: &HostRuntime,
+    alloc: Global,
+    socket: &UnixListener,
+    path: &str,
+    text: &str,
+    answer: &str,
+) -> Result<String, VectorError> {
+    let first = given(alloc, SocketListener::new(socket, &Quiet))?;
+    let told = match given(alloc, SocketListener::new(socket, &Quiet)) {
         Ok(mut second) => talk_at(system, alloc, &mut second, path, text, answer),
         Err(error) => Err(error),
     };
@@ -199,7 +212,19 @@ fn both_heard(
 pub fn leave(system: &HostRuntime, alloc: Global, rest: &str) -> Result<String, VectorError> {
     let (path, text) = cut(rest);
     let socket = given(alloc, placed(system, path))?;
-    let mut listener = given(alloc, SocketListener::new(&socket, &Quiet))?;
+    let told = leave_over(system, alloc, &socket, path, text);
+    drop(socket);
+    told
+}
+
+fn leave_over(
+    system: &HostRuntime,
+    alloc: Global,
+    socket: &UnixListener,
+    path: &str,
+    text: &str,
+) -> Result<String, VectorError> {
+    let mut listener = given(alloc, SocketListener::new(socket, &Quiet))?;
     let told = match send(system, alloc, path, text) {
         Ok(()) => left(alloc, &mut listener),
         Err(error) => Err(error),
