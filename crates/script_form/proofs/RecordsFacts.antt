@@ -36,14 +36,14 @@ docs_push earlier line =
 
 numbered_same : (n : ℕ) (earlier : List ScriptLine) → list_any (is_numbered n) (docs earlier) ≡ list_any (keeps n) earlier
 numbered_same n [] = refl
-numbered_same n (Doc id reusable path grants ∷ ls) = ap (λ (b : Bool). (id.number == n) || b) (numbered_same n ls)
+numbered_same n (Doc id reusable strict path grants ∷ ls) = ap (λ (b : Bool). (id.number == n) || b) (numbered_same n ls)
 numbered_same n (line ∷ ls) = numbered_same n ls
 
 docs_count : (earlier : List ScriptLine) → length (docs earlier) ≡ count_by is_doc earlier
 docs_count [] = refl
-docs_count (Doc id reusable path grants ∷ ls) =
+docs_count (Doc id reusable strict path grants ∷ ls) =
     let rest = docs_count ls in
-    let one = sum_by-append (λ (l : ScriptLine). cond (is_doc l) 1 0) (Doc id reusable path grants ∷ []) ls in
+    let one = sum_by-append (λ (l : ScriptLine). cond (is_doc l) 1 0) (Doc id reusable strict path grants ∷ []) ls in
     omega arith
 docs_count (line ∷ ls) = let rest = docs_count ls in omega arith
 
@@ -54,9 +54,9 @@ names_same (d ∷ ds) = ap (λ (t : List (List ℕ)). names_kept d ++ t) (names_
 good_documents : (limits : Limits) → HoldsScripts limits → (lines earlier : List ScriptLine) → StandBehind earlier lines
     → EachBehind (IsGoodDocument limits) (docs earlier) (docs lines)
 good_documents limits holds [] earlier all = tt
-good_documents limits holds (Doc id reusable path grants ∷ ls) earlier all =
-    let line = Doc id reusable path grants in
-    let document = kept_document id reusable path grants in
+good_documents limits holds (Doc id reusable strict path grants ∷ ls) earlier all =
+    let line = Doc id reusable strict path grants in
+    let document = kept_document id reusable strict path grants in
     let count = docs_count earlier in
     let room = doc_room earlier _ _ all.0.order in
     let documents = holds.documents in

@@ -84,15 +84,15 @@ grants_long (g ∷ gs) all = joined_long g gs all
 
 line_names : (line : ScriptLine) → KeepsRules line → 4 * length (names_in line) ≤ length (line_text line) + 1
 unfolding line_text
-line_names (Doc id reusable path grants) k =
+line_names (Doc id reusable strict path grants) k =
     let long = grants_long grants k.2.grants in
     let names = length-map grants (λ (g : GrantRecord). g.app) in
     omega (
       arith,
       length-append (map (λ (g : GrantRecord). g.app) grants) [],
       length-append path (32 ∷ grants_text grants),
-      length-append (flags_text reusable) (32 ∷ (path ++ (32 ∷ grants_text grants))),
-      length-append (doc_text id.number) (32 ∷ (flags_text reusable ++ (32 ∷ (path ++ (32 ∷ grants_text grants))))),
+      length-append (flags_text reusable strict) (32 ∷ (path ++ (32 ∷ grants_text grants))),
+      length-append (doc_text id.number) (32 ∷ (flags_text reusable strict ++ (32 ∷ (path ++ (32 ∷ grants_text grants))))),
     )
 line_names line k = omega arith
 

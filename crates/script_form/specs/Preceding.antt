@@ -52,7 +52,7 @@ HasMore one old new = (test : List ℕ → Bool) → list_any test new ≡ (test
 abbrev pub Notes : Preceding → ScriptLine → Preceding → Type 0
 Notes p (line.File path content) q = (q ≡ record p { paths = q.paths })
     × HasMore path p.paths q.paths
-Notes p (line.Doc id reusable path grants) q =
+Notes p (line.Doc id reusable strict path grants) q =
     (q ≡ record p { documents = p.documents + 1; ids = q.ids })
     × (q.ids.keys ≡ insert_key nat_cmp p.ids.keys id.number)
 Notes p (line.Entry entry) q = (q ≡ record p { keys = q.keys })

@@ -85,17 +85,26 @@ fn read_id(word: &[u8]) -> Option<DocId>
     Some(id)
 }
 
-/// Whether `r` stands for a document that may be used again; else it is `-`.
-fn read_flags(word: &[u8]) -> Option<bool>
+/// What the flags of a document say.
+#[derive(Clone, Copy)]
+struct DocFlags {
+    reusable: bool,
+    strict: bool,
+}
+
+/// Reads `r` of a document that may be used again, `s` of a strict one, `rs` of one
+/// that is both, and `-` of one that is neither.
+fn read_flags(word: &[u8]) -> Option<DocFlags>
     ensures { ReadsFlags word.now result }
 {
-    if word == b"r".as_slice() {
-        return Some(true);
-    }
-    if word == b"-".as_slice() {
-        return Some(false);
-    }
-    None
+    let (reusable, strict) = match word {
+        b"rs" => (true, true),
+        b"r" => (true, false),
+        b"s" => (false, true),
+        b"-" => (false, false),
+        _ => return None,
+    };
+    Some(DocFlags { reusable, strict })
 }
 
 /// Reads `ID FLAGS PATH GRANTS` of a `doc` line.
@@ -114,7 +123,7 @@ fn read_doc(alloc: Global, rest: &[u8]) -> Result<Option<ScriptLine>, WantOfMemo
     let Some(id) = read_id(id) else {
         return Ok(None);
     };
-    let Some(reusable) = read_flags(flags) else {
+    let Some(DocFlags { reusable, strict }) = read_flags(flags) else {
         return Ok(None);
     };
     let Some(path) = read_path(alloc, path)? else {
@@ -126,6 +135,7 @@ fn read_doc(alloc: Global, rest: &[u8]) -> Result<Option<ScriptLine>, WantOfMemo
     Ok(Some(ScriptLine::Doc {
         id,
         reusable,
+        strict,
         path,
         grants,
     }))

@@ -57,7 +57,7 @@ no_load_fails (line ∷ lines) earlier h = no_load_fails lines _ h.1
 -- what is loaded of a script's records is what the script opens with
 loaded_documents : (lines : List ScriptLine) → map document_loaded (map (λ (d : OpeningDocument). d.kept) (documents_of lines)) ≡ documents_of lines
 loaded_documents [] = refl
-loaded_documents (Doc id reusable path grants ∷ lines) = ap (λ (z : List OpeningDocument). document_in (Doc id reusable path grants) ++ z) (loaded_documents lines)
+loaded_documents (Doc id reusable strict path grants ∷ lines) = ap (λ (z : List OpeningDocument). document_in (Doc id reusable strict path grants) ++ z) (loaded_documents lines)
 loaded_documents (line ∷ lines) = loaded_documents lines
 
 loaded_numbers : (ds : List OpeningDocument) → map (λ (d : DocRecord). id_of d.number) (map (λ (d : OpeningDocument). d.kept) ds) ≡ map (λ (d : OpeningDocument). id_of d.kept.number) ds
