@@ -1,5 +1,5 @@
 -- A text is at most one line's, and no line's text has a line feed.
-use Rattle.std.proofs.Common.{◌≡◌, ◌≢◌, ◌×◌, get_or, ℕ, ◌^◌, ◌<◌, ◌≤◌, Bool, true, false, List, [], ◌∷◌, ◌++◌, length, drop, refl, sym, ap, ◌∙◌, arith, map, Some}
+use Rattle.std.proofs.Common.{◌≡◌, ◌≢◌, get_or, ℕ, ◌^◌, ◌<◌, ◌≤◌, Bool, true, false, List, [], ◌∷◌, ◌++◌, length, drop, refl, sym, ap, ◌∙◌, arith, map, Some}
 use Rattle.std.specs.Prelude.{not, ◌==◌, codes}
 use Rattle.std.specs.Char.{is_ascii_digit}
 use Rattle.std.specs.Fmt.{decimal}
