@@ -1,7 +1,8 @@
 //! Making changes.
 
 use portal_model::records::RecordChange;
-use sqlite::{Alter, Connection, Error, ErrorCode, Transaction};
+use sqlite::{Alter, Connection, Transaction};
+use sqlite_tables::calls::begin;
 use sqlite_tables::documents::{add_document, remove_document, set_grants};
 use sqlite_tables::entries::{remove_entry, set_entry};
 use sqlite_tables::fault::DatabaseFault;
@@ -13,10 +14,7 @@ pub(crate) fn make_all<S: Alter>(
     conn: &mut Connection<S>,
     changes: &[RecordChange],
 ) -> Result<(), DatabaseFault> {
-    if !conn.is_autocommit() {
-        return Err(DatabaseFault::Sqlite(Error::SqliteFailure(ErrorCode::TransactionState)));
-    }
-    let mut transaction = conn.transaction();
+    let mut transaction = begin(conn)?;
     for change in changes {
         make(alloc, &mut transaction, change)?;
     }

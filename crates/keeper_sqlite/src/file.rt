@@ -223,5 +223,7 @@ pub(crate) fn has_tables(page: &[u8]) -> bool {
 
 /// Whether each of the texts stands in a page.
 fn has_each(page: &[u8], texts: &[&str]) -> bool {
-    texts.iter().all(|text| memmem::find(page, text.as_bytes()).is_some())
+    texts
+        .iter()
+        .all(|text| memmem::find(page, text.as_bytes()).is_some())
 }

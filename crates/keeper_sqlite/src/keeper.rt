@@ -10,14 +10,12 @@ ghost use Rattle.sqlite_tables.specs.declared.fault.KeeperFault.TheVariants.{Unk
 use crate::changes::make_all;
 use crate::file::open_database;
 use crate::kept::can_keep_all;
-use crate::loading::read_records;
+use crate::loading::{read_records, ready_tables};
 use portal_base::list::List;
 use portal_model::records::RecordChange;
 use record_keeper::{Keeper, KeeperDone, KeeperLoad};
 use sqlite::{Connection, File, FileStore};
-use sqlite_tables::earlier::{EARLIER_VERSION, renew_tables};
 use sqlite_tables::fault::{DatabaseFault, KeeperFault};
-use sqlite_tables::tables::{make_tables, read_version};
 use std::alloc::Global;
 use std::marker::Model;
 
@@ -49,10 +47,7 @@ impl SqliteKeeper {
         ensures { IfOk result (λ keeper. keeper ≡ record { faults = 0; last = None }) }
     {
         let mut conn = open_database(rt, path)?;
-        make_tables(&mut conn)?;
-        if read_version(&mut conn)? == EARLIER_VERSION {
-            renew_tables(rt.alloc(), &mut conn)?;
-        }
+        ready_tables(rt.alloc(), &mut conn)?;
         Ok(SqliteKeeper {
             alloc: rt.alloc(),
             conn,

@@ -17,7 +17,7 @@
 //! |---|---|
 //! | `keeper` | [`SqliteKeeper`] |
 //! | `file`, `log` | whose file a path leads to, seen before SQLite opens it |
-//! | `loading` | the records that the tables hold |
+//! | `loading` | the tables, made and read |
 //! | `kept`, `changes` | which changes can be kept, and making them |
 //!
 //! The tables, their rows and what may go wrong with them stand in `sqlite_tables`.

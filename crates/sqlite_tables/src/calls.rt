@@ -7,8 +7,16 @@ use crate::fault::DatabaseFault;
 use portal_base::list::{ByteList, List};
 use portal_base::text::Text;
 use sqlite::types::ValueRef;
-use sqlite::{Alter, Connection, Row as Line, Transaction};
+use sqlite::{Alter, Connection, Error, ErrorCode, Row as Line, Transaction};
 use std::alloc::Global;
+
+/// Begins a transaction, which changes nothing where it is dropped before its commit.
+pub fn begin<S: Alter>(conn: &mut Connection<S>) -> Result<Transaction<'_, S>, DatabaseFault> {
+    if !conn.is_autocommit() {
+        return Err(DatabaseFault::Sqlite(Error::SqliteFailure(ErrorCode::TransactionState)));
+    }
+    Ok(conn.transaction())
+}
 
 /// Runs a statement of a transaction.
 pub fn run<S: Alter>(
@@ -20,19 +28,13 @@ pub fn run<S: Alter>(
     Ok(())
 }
 
-/// The lines of a query of a transaction.
-pub fn lines_inside<S: Alter>(
+/// The lines of a query.
+pub fn lines_of<S: Alter>(
     transaction: &mut Transaction<'_, S>,
     sql: &str,
     params: &[ValueRef<'_>],
 ) -> Result<Vec<Line>, DatabaseFault> {
     let lines = transaction.query_all(sql, params)?;
-    Ok(lines)
-}
-
-/// The lines of a query.
-pub fn lines_of<S: Alter>(conn: &mut Connection<S>, sql: &str) -> Result<Vec<Line>, DatabaseFault> {
-    let lines = conn.query_all(sql, &[])?;
     Ok(lines)
 }
 
@@ -45,11 +47,11 @@ pub trait TakesLines {
 /// Hands over the lines of a query one after another, so that they needn't all be in memory.
 pub fn hand_lines<S: Alter, T: TakesLines>(
     alloc: Global,
-    conn: &mut Connection<S>,
+    transaction: &mut Transaction<'_, S>,
     sql: &str,
     to: &mut T,
 ) -> Result<(), DatabaseFault> {
-    let mut lines = conn.query(sql, &[])?;
+    let mut lines = transaction.query(sql, &[])?;
     for _ in 0..u64::MAX {
         lines.advance()?;
         let Some(line) = lines.get() else {

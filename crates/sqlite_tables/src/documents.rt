@@ -4,13 +4,13 @@
 ghost use Rattle.std.specs.Prelude.{◌<◌, IfOk, vec_len};
 
 use crate::calls::{
-    TakesLines, bytes_at, flag_at, hand_lines, lines_inside, number_at, place_at, rights_at, run,
+    TakesLines, bytes_at, flag_at, hand_lines, lines_of, number_at, place_at, rights_at, run,
 };
 use crate::fault::DatabaseFault;
 use portal_base::list::{ByteList, List};
 use portal_model::records::{DocRecord, GrantRecord};
 use sqlite::types::{ToSql, ValueRef};
-use sqlite::{Alter, Connection, Row as Line, Transaction, params};
+use sqlite::{Alter, Row as Line, Transaction, params};
 use std::alloc::Global;
 
 const LOAD: &str = "SELECT place, number, path, reusable, strict FROM document ORDER BY place";
@@ -54,14 +54,14 @@ struct ReadGrants<'a> {
 /// The documents, in their order.
 pub fn read_documents<S: Alter>(
     alloc: Global,
-    conn: &mut Connection<S>,
+    transaction: &mut Transaction<'_, S>,
 ) -> Result<List<DocRecord>, DatabaseFault> {
     let mut documents = ReadDocuments::new(alloc);
-    hand_lines(alloc, conn, LOAD, &mut documents)?;
+    hand_lines(alloc, transaction, LOAD, &mut documents)?;
     let mut grants = ReadGrants {
         documents: &mut documents,
     };
-    hand_lines(alloc, conn, LOAD_GRANTS, &mut grants)?;
+    hand_lines(alloc, transaction, LOAD_GRANTS, &mut grants)?;
     documents.records(alloc)
 }
 
@@ -188,7 +188,7 @@ pub fn set_grants<S: Alter>(
     number: u32,
     grants: &[GrantRecord],
 ) -> Result<(), DatabaseFault> {
-    let lines = lines_inside(transaction, FIND, params![number])?;
+    let lines = lines_of(transaction, FIND, params![number])?;
     let Some(line) = lines.as_slice().first() else {
         return Ok(());
     };
@@ -211,7 +211,7 @@ fn kept_grants<S: Alter>(
     transaction: &mut Transaction<'_, S>,
     document: i64,
 ) -> Result<Vec<KeptGrant>, DatabaseFault> {
-    let lines = lines_inside(transaction, READ_GRANTS, params![document])?;
+    let lines = lines_of(transaction, READ_GRANTS, params![document])?;
     let mut kept = Vec::new(alloc);
     for line in lines.as_slice() {
         kept.push(KeptGrant {
@@ -245,7 +245,8 @@ fn renew_grant<S: Alter>(
 /// Whether an application has been given rights.
 fn is_kept(kept: &[KeptGrant], grant: &GrantRecord) -> bool {
     let app = grant.app.as_slice();
-    kept.binary_search_by(|old| old.app.as_slice().cmp(app)).is_ok()
+    kept.binary_search_by(|old| old.app.as_slice().cmp(app))
+        .is_ok()
 }
 
 fn add_grant<S: Alter>(

@@ -12,7 +12,7 @@ use crate::fault::DatabaseFault;
 use crate::tables::add_tables;
 use portal_base::list::List;
 use portal_model::records::{DocRecord, EntryRecord, GrantRecord};
-use sqlite::{Alter, Connection, Error, ErrorCode, Row as Line, Transaction};
+use sqlite::{Alter, Row as Line, Transaction};
 use std::alloc::Global;
 
 /// The version of the tables that are read here.
@@ -84,38 +84,21 @@ struct EarlierNames<'a> {
     entries: &'a mut ReadEntries,
 }
 
-/// Copies the records into the tables of this version, in one transaction: all of them,
-/// or none.
+/// Copies the records into the tables of this version, which take the place of the others.
 pub fn renew_tables<S: Alter>(
     alloc: Global,
-    conn: &mut Connection<S>,
-) -> Result<(), DatabaseFault> {
-    let documents = read_documents(alloc, conn)?;
-    let entries = read_entries(alloc, conn)?;
-    if !conn.is_autocommit() {
-        return Err(DatabaseFault::Sqlite(Error::SqliteFailure(ErrorCode::TransactionState)));
-    }
-    let mut transaction = conn.transaction();
-    for drop in DROPS {
-        run(&mut transaction, drop, &[])?;
-    }
-    add_tables(&mut transaction)?;
-    add_records(alloc, &mut transaction, documents.as_slice(), entries.as_slice())?;
-    transaction.commit()?;
-    Ok(())
-}
-
-/// Adds records to tables that have none.
-fn add_records<S: Alter>(
-    alloc: Global,
     transaction: &mut Transaction<'_, S>,
-    documents: &[DocRecord],
-    entries: &[EntryRecord],
 ) -> Result<(), DatabaseFault> {
-    for document in documents {
+    let documents = read_documents(alloc, transaction)?;
+    let entries = read_entries(alloc, transaction)?;
+    for drop in DROPS {
+        run(transaction, drop, &[])?;
+    }
+    add_tables(transaction)?;
+    for document in documents.iter() {
         add_document(transaction, document)?;
     }
-    for entry in entries {
+    for entry in entries.iter() {
         add_entry(alloc, transaction, entry)?;
     }
     Ok(())
@@ -124,31 +107,31 @@ fn add_records<S: Alter>(
 /// The documents, in their order.
 pub fn read_documents<S: Alter>(
     alloc: Global,
-    conn: &mut Connection<S>,
+    transaction: &mut Transaction<'_, S>,
 ) -> Result<List<DocRecord>, DatabaseFault> {
     let mut documents = ReadDocuments::new(alloc);
     let mut reader = EarlierDocuments {
         documents: &mut documents,
     };
-    hand_lines(alloc, conn, LOAD, &mut reader)?;
+    hand_lines(alloc, transaction, LOAD, &mut reader)?;
     let mut grants = EarlierGrants {
         documents: &mut documents,
     };
-    hand_lines(alloc, conn, LOAD_GRANTS, &mut grants)?;
+    hand_lines(alloc, transaction, LOAD_GRANTS, &mut grants)?;
     documents.records(alloc)
 }
 
 /// The entries, in their order.
 pub fn read_entries<S: Alter>(
     alloc: Global,
-    conn: &mut Connection<S>,
+    transaction: &mut Transaction<'_, S>,
 ) -> Result<List<EntryRecord>, DatabaseFault> {
     let mut entries = ReadEntries::new(alloc);
-    hand_lines(alloc, conn, LOAD_ENTRIES, &mut entries)?;
+    hand_lines(alloc, transaction, LOAD_ENTRIES, &mut entries)?;
     let mut names = EarlierNames {
         entries: &mut entries,
     };
-    hand_lines(alloc, conn, LOAD_NAMES, &mut names)?;
+    hand_lines(alloc, transaction, LOAD_NAMES, &mut names)?;
     entries.records(alloc)
 }
 

@@ -3,16 +3,14 @@
 
 ghost use Rattle.std.specs.Prelude.{◌<◌, IfOk, vec_len};
 
-use crate::calls::{
-    TakesLines, bytes_at, hand_lines, lines_inside, place_at, run, slice_at, text_at,
-};
+use crate::calls::{TakesLines, bytes_at, hand_lines, lines_of, place_at, run, slice_at, text_at};
 use crate::fault::DatabaseFault;
 use crate::names::names_of_text;
 use crate::rows::{add_rows, renew_rows};
 use portal_base::list::{ByteList, List};
 use portal_base::text::Text;
 use portal_model::records::{EntryRecord, Row};
-use sqlite::{Alter, Connection, Row as Line, Transaction, params};
+use sqlite::{Alter, Row as Line, Transaction, params};
 use std::alloc::Global;
 
 /// Loads the entries, which are the same in each version of the tables.
@@ -52,14 +50,14 @@ struct ReadRows<'a> {
 /// The entries, in their order.
 pub fn read_entries<S: Alter>(
     alloc: Global,
-    conn: &mut Connection<S>,
+    transaction: &mut Transaction<'_, S>,
 ) -> Result<List<EntryRecord>, DatabaseFault> {
     let mut entries = ReadEntries::new(alloc);
-    hand_lines(alloc, conn, LOAD, &mut entries)?;
+    hand_lines(alloc, transaction, LOAD, &mut entries)?;
     let mut rows = ReadRows {
         entries: &mut entries,
     };
-    hand_lines(alloc, conn, LOAD_ROWS, &mut rows)?;
+    hand_lines(alloc, transaction, LOAD_ROWS, &mut rows)?;
     entries.records(alloc)
 }
 
@@ -95,7 +93,10 @@ impl ReadEntries {
     fn index_of(&self, place: i64) -> Result<usize, DatabaseFault>
         ensures { IfOk result (λ at. at < vec_len self.now.entries) }
     {
-        let found = self.entries.as_slice().binary_search_by(|entry| entry.place.cmp(&place));
+        let found = self
+            .entries
+            .as_slice()
+            .binary_search_by(|entry| entry.place.cmp(&place));
         found.map_err(|_| DatabaseFault::NoRecord)
     }
 
@@ -194,7 +195,7 @@ fn place_of_entry<S: Alter>(
     table: &Text,
     id: &Text,
 ) -> Result<Option<i64>, DatabaseFault> {
-    let lines = lines_inside(transaction, FIND, params![table.as_str(), id.as_str()])?;
+    let lines = lines_of(transaction, FIND, params![table.as_str(), id.as_str()])?;
     match lines.as_slice().first() {
         Some(line) => Ok(Some(place_at(line, 0)?)),
         None => Ok(None),

@@ -1,7 +1,7 @@
 //! The rows of an entry of the permission store: one of the table `permission`
 //! for each application, with its names as one text.
 
-use crate::calls::{bytes_at, lines_inside, place_at, run};
+use crate::calls::{bytes_at, lines_of, place_at, run};
 use crate::fault::DatabaseFault;
 use crate::names::text_of_names;
 use portal_base::list::ByteList;
@@ -68,7 +68,7 @@ fn kept_rows<S: Alter>(
     transaction: &mut Transaction<'_, S>,
     entry: i64,
 ) -> Result<Vec<KeptRow>, DatabaseFault> {
-    let lines = lines_inside(transaction, READ, params![entry])?;
+    let lines = lines_of(transaction, READ, params![entry])?;
     let mut kept = Vec::new(alloc);
     for line in lines.as_slice() {
         kept.push(KeptRow {
@@ -105,7 +105,8 @@ fn renew_row<S: Alter>(
 /// Whether an application has a row.
 fn is_kept(kept: &[KeptRow], row: &Row) -> bool {
     let app = row.app.as_bytes();
-    kept.binary_search_by(|old| old.app.as_slice().cmp(app)).is_ok()
+    kept.binary_search_by(|old| old.app.as_slice().cmp(app))
+        .is_ok()
 }
 
 fn add_row<S: Alter>(

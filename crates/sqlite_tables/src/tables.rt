@@ -5,7 +5,7 @@
 
 use crate::calls::{lines_of, number_at, run};
 use crate::fault::DatabaseFault;
-use sqlite::{Alter, Connection, Error, ErrorCode, Transaction, params};
+use sqlite::{Alter, Transaction, params};
 
 /// The version of the tables that are made here.
 pub const TABLES_VERSION: u32 = 2;
@@ -58,23 +58,9 @@ const FIND: &str = "SELECT name FROM sqlite_schema WHERE type = 'table' AND name
 
 const VERSION: &str = "SELECT version FROM version";
 
-/// Makes the tables, in one transaction, where there are none.
-pub fn make_tables<S: Alter>(conn: &mut Connection<S>) -> Result<(), DatabaseFault> {
-    if have_tables(conn)? {
-        return Ok(());
-    }
-    if !conn.is_autocommit() {
-        return Err(DatabaseFault::Sqlite(Error::SqliteFailure(ErrorCode::TransactionState)));
-    }
-    let mut transaction = conn.transaction();
-    add_tables(&mut transaction)?;
-    transaction.commit()?;
-    Ok(())
-}
-
 /// Whether there are tables, of whichever version.
-fn have_tables<S: Alter>(conn: &mut Connection<S>) -> Result<bool, DatabaseFault> {
-    let lines = lines_of(conn, FIND)?;
+pub fn have_tables<S: Alter>(transaction: &mut Transaction<'_, S>) -> Result<bool, DatabaseFault> {
+    let lines = lines_of(transaction, FIND, &[])?;
     Ok(!lines.is_empty())
 }
 
@@ -90,8 +76,8 @@ pub fn add_tables<S: Alter>(transaction: &mut Transaction<'_, S>) -> Result<(), 
 }
 
 /// The version of the tables, which is in the one row of its table.
-pub fn read_version<S: Alter>(conn: &mut Connection<S>) -> Result<u32, DatabaseFault> {
-    let lines = lines_of(conn, VERSION)?;
+pub fn read_version<S: Alter>(transaction: &mut Transaction<'_, S>) -> Result<u32, DatabaseFault> {
+    let lines = lines_of(transaction, VERSION, &[])?;
     match lines.as_slice() {
         [line] => number_at(line, 0),
         _ => Err(DatabaseFault::NoRecord),
