@@ -90,7 +90,7 @@ def check_version_1(see, folder, tables):
         see("version of its tables", rows["version"], [(2,)])
         see("documents in their order", rows["document"], IN_ORDER)
         see("entries in their order", [row[1:3] for row in rows["entry"]], ENTRIES_IN_ORDER)
-        see("names of each row", [row[1:] for row in rows["permission"] if row[0] == 4],
+        see("names of each row", [row[2:] for row in rows["permission"] if row[1] == 4],
             sorted((app, written(names)) for app, names in ENTRIES[("odd", "names")][0].items()))
 
 

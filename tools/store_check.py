@@ -19,9 +19,9 @@ except ImportError:
 TABLES = {
     "version": ("version", "version"),
     "document": ("place, number, path, reusable, strict", "place"),
-    "document_grant": ("document, application, rights", "document, application"),
+    "document_grant": ("place, document, application, rights", "document, application"),
     "entry": ("place, store_table, id, datum", "place"),
-    "permission": ("entry, application, names", "entry, application"),
+    "permission": ("place, entry, application, names", "entry, application"),
 }
 
 KEPT, SHARED = AddFlags.PERSISTENT, AddFlags.PERSISTENT | AddFlags.REUSE_EXISTING
@@ -79,10 +79,12 @@ def first_tables(numbers):
         "version": [(2,)],
         "document": [(1, first, b"/b\xc3\xbc.txt", 1, 0), (2, second, b"/a.txt", 1, 0),
                      (3, third, b"/c.txt", 0, 0)],
-        "document_grant": [(2, "org.ed", READ_WRITE), (2, "org.tv", READ_WRITE), (3, "org.ed", 1)],
+        "document_grant": [(1, 2, "org.ed", READ_WRITE), (2, 2, "org.tv", READ_WRITE),
+                           (3, 3, "org.ed", 1)],
         "entry": [(1, "devices", "mic", SPELLED_SEVEN), (2, "devices", "camera", SPELLED_SEVEN),
                   (3, "background", "background", SPELLED_SEVEN)],
-        "permission": [(1, "org.ed", "yes\n"), (2, "org.ed", "yes\n"), (2, "org.tv", "no\nask\n")],
+        "permission": [(1, 1, "org.ed", "yes\n"), (2, 2, "org.ed", "yes\n"),
+                       (3, 2, "org.tv", "no\nask\n")],
     }
 
 
@@ -100,15 +102,16 @@ def change_each(documents, store, numbers):
 
 
 def changed_tables(numbers):
+    """Behind those changes: a row that stays, or is changed, keeps its place."""
     first, second, _ = numbers
     return {
         "version": [(2,)],
         "document": [(1, first, b"/b\xc3\xbc.txt", 1, 0), (2, second, b"/a.txt", 1, 0)],
-        "document_grant": [(2, "org.aa", ALL_RIGHTS), (2, "org.tv", ALL_RIGHTS)],
+        "document_grant": [(4, 2, "org.aa", ALL_RIGHTS), (2, 2, "org.tv", ALL_RIGHTS)],
         "entry": [(1, "devices", "mic", SPELLED_EIGHT), (2, "devices", "camera", SPELLED_SEVEN),
                   (3, "background", "other", SPELLED_SEVEN)],
-        "permission": [(1, "org.aa", "no\n"), (1, "org.ed", "yes\n"), (1, "org.tv", "ask\n"),
-                       (2, "org.tv", "ask\nno\n"), (3, "org.ed", "yes\n")],
+        "permission": [(4, 1, "org.aa", "no\n"), (1, 1, "org.ed", "yes\n"), (5, 1, "org.tv", "ask\n"),
+                       (3, 2, "org.tv", "ask\nno\n"), (6, 3, "org.ed", "yes\n")],
     }
 
 

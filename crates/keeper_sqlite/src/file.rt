@@ -23,8 +23,10 @@ const OWNERS_MODE: u32 = 0o600;
 /// What a SQLite database begins with (Database File Format, "The Database Header").
 const MAGIC: &[u8] = b"SQLite format 3\0";
 
-/// Up to where its header tells how long a page is.
-const PAGE_SIZE_END: usize = 18;
+/// Where its header tells how long a page is, in two bytes, and the end of the word there.
+const PAGE_SIZE: usize = 16;
+
+const PAGE_SIZE_END: usize = 20;
 
 /// How long a log is, in bytes, in which nothing is committed.
 const BARE_LOG_LEN: u64 = 32;
@@ -187,16 +189,18 @@ fn first_page(alloc: Global, file: &File) -> Result<Option<Vec<u8>>, DatabaseFau
     if !header.as_slice().starts_with(MAGIC) {
         return Ok(None);
     }
-    match header.as_slice() {
-        [.., high, low] => bytes_from(alloc, file, 0, page_size(*high, *low)),
-        _ => Ok(None),
-    }
+    let size = match word_at(header.as_slice(), PAGE_SIZE) / 65536 {
+        1 => 65536,
+        size => size as usize,
+    };
+    bytes_from(alloc, file, 0, size)
 }
 
-fn page_size(high: u8, low: u8) -> usize {
-    match usize::from(high) * 256 + usize::from(low) {
-        1 => 65536,
-        size => size,
+/// The word at an offset, its highest byte first; 0 where there is none.
+pub(crate) fn word_at(bytes: &[u8], at: usize) -> u32 {
+    match bytes.get(at..) {
+        Some([a, b, c, d, ..]) => u32::from_be_bytes([*a, *b, *c, *d]),
+        _ => 0,
     }
 }
 

@@ -2,7 +2,7 @@
 //!
 //! Its form is that of SQLite (Database File Format, "The Write-Ahead Log").
 
-use crate::file::{bytes_from, has_tables, length_of, log_beside, met};
+use crate::file::{bytes_from, has_tables, length_of, log_beside, met, word_at};
 use sqlite_tables::fault::DatabaseFault;
 use std::alloc::Global;
 use std::fs::{self, File};
@@ -61,7 +61,8 @@ impl Log {
         };
         let head = head.as_slice();
         let page_size = word_at(head, 8);
-        if word_at(head, 0) | 1 != MAGIC | 1 || !(512..=65536).contains(&page_size) {
+        let is_log = word_at(head, 0) / 2 == MAGIC / 2;
+        if !is_log || page_size < 512 || page_size > 65536 {
             return Ok(None);
         }
         Ok(Some(Log {
@@ -107,14 +108,6 @@ impl Log {
     /// Whether it begins a database, of which so many bytes are written.
     pub(crate) fn begins_a_file_of(&self, length: u64) -> bool {
         self.checkpoints == BEGUN && length <= u64::from(self.page_size)
-    }
-}
-
-/// The word at an offset, its highest byte first; 0 where there is none.
-fn word_at(bytes: &[u8], at: usize) -> u32 {
-    match bytes.get(at..) {
-        Some([a, b, c, d, ..]) => u32::from_be_bytes([*a, *b, *c, *d]),
-        _ => 0,
     }
 }
 
