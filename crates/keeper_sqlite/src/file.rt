@@ -47,7 +47,8 @@ pub(crate) fn open_database(
         Ok(conn) => Ok(conn),
         Err(error) => {
             if let Some(real) = alone {
-                remove_bare_log(rt, real.as_str())?;
+                // What the database is refused for is told, whatever comes of its log.
+                let _ = remove_bare_log(rt, real.as_str());
             }
             Err(DatabaseFault::from(error))
         }
