@@ -3,8 +3,8 @@
 use portal_model::records::RecordChange;
 use sqlite::{Alter, Connection, Transaction};
 use sqlite_tables::calls::begin;
-use sqlite_tables::earlier::{EARLIER_VERSION, renew_tables};
 use sqlite_tables::documents::{add_document, remove_document, set_grants};
+use sqlite_tables::earlier::{EARLIER_VERSION, renew_tables};
 use sqlite_tables::entries::{remove_entry, set_entry};
 use sqlite_tables::fault::DatabaseFault;
 use sqlite_tables::tables::read_version;

@@ -35,11 +35,11 @@ pub enum RecordsFault {
 /// What is wrong with kept records under the limits of live and of made
 /// documents, or `None` where a portal can open with them.
 ///
-/// A document is bad where it is strict in records of the first version, where
-/// its path is none on the host, where one of the applications that it grants rights to has no application's
-/// name, where they don't rise in byte order, where one of them has no right or
-/// another than the four, where its number stood before, or where a limit is
-/// passed with it. An entry is bad where [`is_sound_entry`] says that it isn't
+/// A document is bad where it is strict in records of the first version, where its
+/// path is none on the host, where one of the applications that it grants rights to
+/// has no application's name, where they don't rise in byte order, where one of them
+/// has no right or another than the four, where its number stood before, or where a
+/// limit is passed with it. An entry is bad where [`is_sound_entry`] says that it isn't
 /// sound, or where its table and identifier stood before.
 ///
 /// [`is_sound_entry`]: crate::is_sound_entry

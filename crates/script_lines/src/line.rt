@@ -92,19 +92,32 @@ struct DocFlags {
     strict: bool,
 }
 
+impl DocFlags {
+    fn of(reusable: bool, strict: bool) -> DocFlags
+        ensures { result ≡ record { reusable = reusable; strict = strict } }
+    {
+        DocFlags { reusable, strict }
+    }
+}
+
 /// Reads `r` of a document that may be used again, `s` of a strict one, `rs` of one
 /// that is both, and `-` of one that is neither.
 fn read_flags(word: &[u8]) -> Option<DocFlags>
     ensures { ReadsFlags word.now result }
 {
-    let (reusable, strict) = match word {
-        b"rs" => (true, true),
-        b"r" => (true, false),
-        b"s" => (false, true),
-        b"-" => (false, false),
-        _ => return None,
-    };
-    Some(DocFlags { reusable, strict })
+    if word == b"r".as_slice() {
+        return Some(DocFlags::of(true, false));
+    }
+    if word == b"-".as_slice() {
+        return Some(DocFlags::of(false, false));
+    }
+    if word == b"s".as_slice() {
+        return Some(DocFlags::of(false, true));
+    }
+    if word == b"rs".as_slice() {
+        return Some(DocFlags::of(true, true));
+    }
+    None
 }
 
 /// Reads `ID FLAGS PATH GRANTS` of a `doc` line.
