@@ -39,15 +39,14 @@ impl Model for SqliteKeeper {
 
 impl SqliteKeeper {
     /// Opens the database of a path. Where nothing stands there, or an empty file,
-    /// the database and its tables are made, in a file of mode 0600. Tables of an
-    /// earlier version become those of this one. A file that another process or
-    /// keeper has open is refused, and so is one that holds anything else, which
-    /// stays as it is.
+    /// the database and its tables are made, in a file of mode 0600. A file that
+    /// another process or keeper has open is refused, and so is one that holds
+    /// anything else, which stays as it is.
     pub fn open(rt: &HostRuntime, path: &str) -> Result<SqliteKeeper, DatabaseFault>
         ensures { IfOk result (λ keeper. keeper ≡ record { faults = 0; last = None }) }
     {
         let mut conn = open_database(rt, path)?;
-        ready_tables(rt.alloc(), &mut conn)?;
+        ready_tables(&mut conn)?;
         Ok(SqliteKeeper {
             alloc: rt.alloc(),
             conn,

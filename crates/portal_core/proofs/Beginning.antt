@@ -1,6 +1,6 @@
 -- A portal that starts: its lists are those of a valid state, and the keeper's records stand for it.
-use Rattle.std.specs.Prelude.{IfSome}
-use Rattle.std.proofs.Common.{◌≡◌, ℕ, List, [], ◌∷◌, ◌++◌, map, cond, Option, Some, None, refl, sym, ap, subst, ◌∙◌, arith}
+use Rattle.std.specs.Prelude.{IfSome, option_map}
+use Rattle.std.proofs.Common.{◌≡◌, ℕ, inl, inr, List, [], ◌∷◌, ◌++◌, map, cond, Option, Some, None, refl, sym, ap, subst, ◌∙◌, arith}
 use Rattle.std.specs.List.{IsDistinct}
 use Rattle.document_records.specs.Documents.{DocumentList}
 use Rattle.node_looks.specs.OpenHandles.{AreOpened, open_on}
@@ -14,12 +14,14 @@ use Rattle.portal_desk.proofs.Openings.{opens}
 use Rattle.portal_model.specs.declared.opening.OpeningDocument.{OpeningDocument}
 use Rattle.portal_model.specs.declared.opening.OpeningState.{OpeningState}
 use Rattle.portal_model.specs.declared.records.DocRecord.{DocRecord}
+use Rattle.portal_model.specs.declared.records.RecordChange.TheVariants.{Upgrade}
 use Rattle.portal_model.specs.declared.records.Records.{Records}
 use Rattle.portal_model.specs.declared.state.Triple.{Triple}
-use Rattle.portal_model.specs.Kept.{records_of}
+use Rattle.portal_model.specs.Kept.{records_of, records_version}
 use Rattle.portal_model.specs.Opening.{document_kept, each, files_of, first_named, id_of, is_told, names_kept, opened_over, rights_kept}
+use Rattle.portal_model.specs.RecordChanges.{changed_by}
 use Rattle.portal_model.specs.Valid.{Valid}
-use Rattle.record_keeper.specs.BadRecords.{names_granted}
+use Rattle.record_keeper.specs.BadRecords.{IsVersion, names_granted}
 use Rattle.record_keeper.specs.Keepers.{KeeperIs}
 use Rattle.record_keeper.proofs.HeldEntries.{good_rows}
 use Rattle.portal_steps.specs.Answered.{KeepsState}
@@ -96,11 +98,30 @@ same_told : (began : Option (List File)) (o : OpeningState) (told : Option Recor
 same_told began o None records g e = tt
 same_told began o (Some kept) records g e = sym (e ∙ g)
 
+-- the same of a keeper whose records became this version's
+same_upgraded : (began : Option (List File)) (o : OpeningState) (told : Option Records) (records : Records) → IfSome told (λ kept. records ≡ kept) → records_of (opened_over began o) ≡ record records { version = records_version } →
+    KeepsState (option_map (changed_by (Upgrade ∷ [])) told) (opened_over began o)
+same_upgraded began o None records g e = tt
+same_upgraded began o (Some kept) records g e = sym (e ∙ ap (λ (r : Records). record r { version = records_version }) g)
+
 pub kept_first : (began : Option (List File)) (o : OpeningState) (limits : Limits) (old new : KeeperIs) → LoadsGood limits old o new → KeepsState new.told (opened_over began o)
-kept_first began o limits old new g =
-    let told : new.told ≡ old.told = ap (λ (x : KeeperIs). x.told) g.loads.goes in
-    let same : records_of (opened_over began o) ≡ g.records = ap (λ (x : OpeningState). records_of (opened_over began x)) g.opening_is.whole ∙ back limits g.records began o.entries g.opening_is.entries g.good in
-    subst (λ (t : Option Records). KeepsState t (opened_over began o)) (sym told) (same_told began o old.told g.records g.loads.gives same)
+kept_first began o limits old new g = by_version g.good.version
+  where
+    loaded : g.loaded.told ≡ old.told
+    loaded = ap (λ (x : KeeperIs). x.told) g.loads.goes
+
+    same : records_of (opened_over began o) ≡ record g.records { version = records_version }
+    same = ap (λ (x : OpeningState). records_of (opened_over began x)) g.opening_is.whole ∙ back limits g.records began o.entries g.opening_is.entries g.good
+
+    by_version : IsVersion g.records.version → KeepsState new.told (opened_over began o)
+    by_version (inl first) =
+        let told : new.told ≡ option_map (changed_by (Upgrade ∷ [])) old.told =
+        ap (λ (x : KeeperIs). x.told) (g.upgrades.made first).goes ∙ ap (option_map (changed_by (Upgrade ∷ []))) loaded in
+        subst (λ (t : Option Records). KeepsState t (opened_over began o)) (sym told) (same_upgraded began o old.told g.records g.loads.gives same)
+    by_version (inr this) =
+        let told : new.told ≡ old.told = ap (λ (x : KeeperIs). x.told) (g.upgrades.stays (λ first. absurd (cc (sym this ∙ first)))) ∙ loaded in
+        let whole : records_of (opened_over began o) ≡ g.records = same ∙ ap (λ (n : ℕ). record g.records { version = n }) (sym this) in
+        subst (λ (t : Option Records). KeepsState t (opened_over began o)) (sym told) (same_told began o old.told g.records g.loads.gives whole)
 
 -- ---- the state that records open with is an opening state
 

@@ -36,9 +36,9 @@ document_record rights d = record {
   grants = map (grant_record rights d.id.number) (holders rights d.id.number);
 }
 
--- the form of records
+-- the form of records that are written
 abbrev pub records_version : ℕ
-records_version = 1
+records_version = 2
 
 -- the persistent documents in order of addition, and all permission entries in order of creation
 abbrev pub records_of : State → Records

@@ -3,6 +3,7 @@
 use Rattle.std.specs.Prelude.{ℕ, ◌==◌, List, [], ◌∷◌, ◌++◌, Bool, not, ◌&&◌, cond}
 use Rattle.std.specs.List.{filter, list_any}
 use Rattle.portal_base.specs.Names.{is_same}
+use Rattle.portal_model.specs.Kept.{records_version}
 use Rattle.portal_model.specs.declared.records.DocRecord.{DocRecord}
 use Rattle.portal_model.specs.declared.records.EntryRecord.{EntryRecord}
 use Rattle.portal_model.specs.declared.records.RecordChange.{RecordChange}
@@ -45,7 +46,7 @@ changed (SetGrants number grants) r =
     }
 changed (SetEntry entry) r = record r { entries = set_entry entry r.entries }
 changed (RemoveEntry table id) r = record r { entries = filter (is_other_key table id) r.entries }
-changed Upgrade r = record r { version = 2 }
+changed Upgrade r = record r { version = records_version }
 
 -- changes one after another
 abbrev pub changed_by : List RecordChange → Records → Records

@@ -71,7 +71,7 @@ close_leads (Some at) a b seat es out h = comes_lead a b seat _ _ _ es out h
 
 pub does_lead : (line : ScriptLine) (a b : Scene) (es : List Entry) (out : List (List ℕ)) → Does a line es out b → Leads a es b
 does_lead (File path content) a b es out h = passes_lead a b es out h
-does_lead (Doc id reusable path grants) a b es out h = passes_lead a b es out h
+does_lead (Doc id reusable strict path grants) a b es out h = passes_lead a b es out h
 does_lead (Now moment) a b es out h = sets_lead moment a b es out h
 does_lead (line.Entry entry) a b es out h = passes_lead a b es out h
 does_lead (Fail device call) a b es out h = passes_lead a b es out h

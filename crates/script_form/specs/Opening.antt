@@ -16,8 +16,8 @@ use Rattle.script_lines.specs.declared.script.ScriptLine.TheVariants.{File, Doc,
 
 -- the document that a line keeps
 abbrev pub document_in : ScriptLine → List OpeningDocument
-document_in (Doc id reusable path grants) =
-    record { kept = kept_document id reusable path grants; persistent = true } ∷ []
+document_in (Doc id reusable strict path grants) =
+    record { kept = kept_document id reusable strict path grants; persistent = true } ∷ []
 document_in line = []
 
 -- the entry that a line keeps

@@ -3,6 +3,9 @@
 //! Each name ends in a line feed. So that a name may hold any character, a line
 //! feed in it is written as a backslash and an `n`, and a backslash as two.
 
+ghost use Rattle.std.specs.Prelude.{◌≡◌, ◌++◌, IfOk, OnOk};
+ghost use Rattle.sqlite_tables.specs.Names.{byte_text, name_text, names_text, written as written_of};
+
 use crate::fault::DatabaseFault;
 use portal_base::list::List;
 use portal_base::text::Text;
@@ -13,7 +16,9 @@ const LINE_FEED: u8 = b'\n';
 const BACKSLASH: u8 = b'\\';
 
 /// The text of names.
-pub fn text_of_names(alloc: Global, names: &[Text]) -> Result<Vec<u8>, DatabaseFault> {
+pub fn text_of_names(alloc: Global, names: &[Text]) -> Result<Vec<u8>, DatabaseFault>
+    ensures { IfOk result (λ text. text.items ≡ names_text names.now) }
+{
     let mut text = Vec::new(alloc);
     for name in names {
         write_name(&mut text, name.as_bytes())?;
@@ -22,20 +27,34 @@ pub fn text_of_names(alloc: Global, names: &[Text]) -> Result<Vec<u8>, DatabaseF
 }
 
 /// Puts a name at the end of a text.
-fn write_name(text: &mut Vec<u8>, name: &[u8]) -> Result<(), DatabaseFault> {
+fn write_name(text: &mut Vec<u8>, name: &[u8]) -> Result<(), DatabaseFault>
+    ensures { OnOk result (text.new.items ≡ text.old.items ++ name_text name.now) }
+{
     for byte in name {
-        match *byte {
-            LINE_FEED => text.extend_from_slice(b"\\n")?,
-            BACKSLASH => text.extend_from_slice(b"\\\\")?,
-            plain => text.push(plain)?,
-        }
+        write_byte(text, *byte)?;
     }
     text.push(LINE_FEED)?;
     Ok(())
 }
 
+/// Puts a byte of a name at the end of a text.
+fn write_byte(text: &mut Vec<u8>, byte: u8) -> Result<(), DatabaseFault>
+    ensures { OnOk result (text.new.items ≡ text.old.items ++ byte_text byte) }
+{
+    if byte == LINE_FEED {
+        text.extend_from_slice(b"\\n")?;
+    } else if byte == BACKSLASH {
+        text.extend_from_slice(b"\\\\")?;
+    } else {
+        text.push(byte)?;
+    }
+    Ok(())
+}
+
 /// The names that a text is of.
-pub fn names_of_text(alloc: Global, text: &[u8]) -> Result<List<Text>, DatabaseFault> {
+pub fn names_of_text(alloc: Global, text: &[u8]) -> Result<List<Text>, DatabaseFault>
+    ensures { IfOk result (λ names. names_text names ≡ text.now) }
+{
     let count = text.iter().filter(|byte| **byte == LINE_FEED).count();
     let mut names = Vec::with_capacity(alloc, count)?;
     let mut rest = text;
@@ -54,7 +73,9 @@ pub fn names_of_text(alloc: Global, text: &[u8]) -> Result<List<Text>, DatabaseF
 }
 
 /// The name that is written so, without the line feed behind it.
-fn read_name(alloc: Global, written: &[u8]) -> Result<Text, DatabaseFault> {
+fn read_name(alloc: Global, written: &[u8]) -> Result<Text, DatabaseFault>
+    ensures { IfOk result (λ name. written_of name ≡ written.now) }
+{
     let mut name = Vec::new(alloc);
     let mut escaped = false;
     for byte in written {
