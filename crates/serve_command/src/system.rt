@@ -153,7 +153,7 @@ fn reason<E: fmt::Display>(system: &HostRuntime, error: &E) -> Result<String, Wa
     Ok(format!(in system.alloc(); "{error}")?)
 }
 
-impl<'a, R: System> Openers<
+impl<'v, 'a, R: System> Openers<
     SystemListener<'v, 'a>,
     RealTree<R>,
     ToldKeeper<'a>,
