@@ -1,6 +1,6 @@
 //! What the system gives a service.
 
-ghost use Rattle.std.specs.Prelude.{◌≡◌, MatchResult};
+ghost use Rattle.std.specs.Prelude.{◌≡◌, IfErr, MatchResult};
 ghost use Rattle.portal_base.specs.Outside.{HasRisen};
 ghost use Rattle.serve_start.specs.declared.end.ServeEnd.TheVariants.{Memory};
 ghost use Rattle.serve_start.specs.Openings.{IsOfSocket, Opens, Refuses};
@@ -104,6 +104,7 @@ impl<'v, 'a, R> SystemOpeners<'v, 'a, R> {
     /// The sockets, made out of sight in their folder.
     fn places(&mut self, folder: &SocketFolder, sockets: &[Socket]) -> Result<List<Place>, ServeEnd>
         ensures opens { Opens self.old result self.new }
+        ensures end { IfErr result IsOfSocket }
     {
         let mut places = List::new(self.system.alloc());
         for socket in sockets {
@@ -126,6 +127,7 @@ impl<'v, 'a, R> SystemOpeners<'v, 'a, R> {
         sockets: &[Socket],
     ) -> Result<Hall, ServeEnd>
         ensures opens { Opens self.old result self.new }
+        ensures end { IfErr result IsOfSocket }
     {
         let places = match self.places(&folder, sockets) {
             Ok(places) => places,
