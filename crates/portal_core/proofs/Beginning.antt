@@ -17,9 +17,9 @@ use Rattle.portal_model.specs.declared.records.DocRecord.{DocRecord}
 use Rattle.portal_model.specs.declared.records.RecordChange.TheVariants.{Upgrade}
 use Rattle.portal_model.specs.declared.records.Records.{Records}
 use Rattle.portal_model.specs.declared.state.Triple.{Triple}
-use Rattle.portal_model.specs.Kept.{records_of, records_version}
+use Rattle.portal_model.specs.Kept.{records_of}
 use Rattle.portal_model.specs.Opening.{document_kept, each, files_of, first_named, id_of, is_told, names_kept, opened_over, rights_kept}
-use Rattle.portal_model.specs.RecordChanges.{changed_by}
+use Rattle.portal_model.specs.RecordChanges.{changed_by, records_version}
 use Rattle.portal_model.specs.Valid.{Valid}
 use Rattle.record_keeper.specs.BadRecords.{IsVersion, names_granted}
 use Rattle.record_keeper.specs.Keepers.{KeeperIs}

@@ -3,12 +3,15 @@
 use Rattle.std.specs.Prelude.{ℕ, ◌==◌, List, [], ◌∷◌, ◌++◌, Bool, not, ◌&&◌, cond}
 use Rattle.std.specs.List.{filter, list_any}
 use Rattle.portal_base.specs.Names.{is_same}
-use Rattle.portal_model.specs.Kept.{records_version}
 use Rattle.portal_model.specs.declared.records.DocRecord.{DocRecord}
 use Rattle.portal_model.specs.declared.records.EntryRecord.{EntryRecord}
 use Rattle.portal_model.specs.declared.records.RecordChange.{RecordChange}
 use Rattle.portal_model.specs.declared.records.RecordChange.TheVariants.{AddDocument, RemoveDocument, SetGrants, SetEntry, RemoveEntry, Upgrade}
 use Rattle.portal_model.specs.declared.records.Records.{Records}
+
+-- the form of records that are written
+abbrev pub records_version : ℕ
+records_version = 2
 
 -- the first that passes the test changed, in its place
 abbrev pub change_first : {X : Type 0} → (X → Bool) → (X → X) → List X → List X

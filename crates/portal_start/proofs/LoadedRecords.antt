@@ -9,7 +9,8 @@ use Rattle.portal_model.specs.declared.opening.OpeningDocument.{OpeningDocument}
 use Rattle.portal_model.specs.declared.opening.OpeningState.{OpeningState}
 use Rattle.portal_model.specs.declared.records.Records.{Records}
 use Rattle.portal_model.specs.declared.state.Document.{Document}
-use Rattle.portal_model.specs.Kept.{records_of, records_version}
+use Rattle.portal_model.specs.Kept.{records_of}
+use Rattle.portal_model.specs.RecordChanges.{records_version}
 use Rattle.portal_model.specs.Opening.{SoundOpening, document_kept, id_of, opened_over}
 use Rattle.portal_model.specs.Store.{Entries}
 use Rattle.portal_model.specs.Valid.{Valid}

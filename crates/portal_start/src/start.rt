@@ -23,9 +23,7 @@ use portal_base::memory::{Replica, WantOfMemory};
 use portal_model::opening::OpeningState;
 use portal_model::records::{RecordChange, Records};
 use record_keeper::laws::good_records_keep_good_entries;
-use record_keeper::{
-    FIRST_VERSION, Keeper, KeeperDone, KeeperLoad, RecordsFault, records_fault,
-};
+use record_keeper::{FIRST_VERSION, Keeper, KeeperDone, KeeperLoad, RecordsFault, records_fault};
 use std::alloc::Global;
 use thiserror::Error;
 

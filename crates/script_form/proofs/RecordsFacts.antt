@@ -6,9 +6,8 @@ use Rattle.std.proofs.lemmas.Grind.{flat_map-append}
 use Rattle.std.proofs.lemmas.List.{map-append}
 use Rattle.std.proofs.lemmas.List.Sums.{sum_by-append}
 use Rattle.portal_base.specs.declared.limits.Limits.{Limits}
-use Rattle.portal_model.specs.Kept.{records_version}
 use Rattle.portal_model.specs.Opening.{each, first_named, names_kept}
-use Rattle.portal_model.specs.RecordChanges.{is_numbered, is_of_key}
+use Rattle.portal_model.specs.RecordChanges.{is_numbered, is_of_key, records_version}
 use Rattle.portal_model.specs.Valid.{applications_limit}
 use Rattle.portal_model.specs.declared.opening.OpeningDocument.{OpeningDocument}
 use Rattle.portal_model.specs.declared.records.DocRecord.{DocRecord}
