@@ -11,8 +11,9 @@ use Rattle.portal_model.specs.declared.state.Connection.{Connection}
 use Rattle.portal_model.specs.Allowed.{is_refusal}
 use Rattle.portal_model.specs.Bus.{is_tree, kept, settled}
 use Rattle.portal_model.specs.Errno.{eio}
-use Rattle.portal_model.specs.Kept.{records_of, records_version}
+use Rattle.portal_model.specs.Kept.{records_of}
 use Rattle.portal_model.specs.Outside.{ChangesRecords, meets_limit, verdict_of}
+use Rattle.portal_model.specs.RecordChanges.{records_version}
 use Rattle.portal_model.specs.State.{State}
 use Rattle.portal_model.specs.Store.{record_of}
 use Rattle.portal_model.specs.Verdict.{Doing, Verdict, Refuses, Does}
