@@ -44,9 +44,8 @@ pub struct Documents {
     most_made: u64,
     live: List<Document>,
     made: List<DocId>,
-    // Contracts see the two lists, in order of addition. The other two fields find in them: a
-    // number's place among the made ones, and by halving, since they rise, that place among those
-    // of the live documents.
+    // The two lists have the order of addition, which contracts see; the two below find in them.
+    // A number's place in `made` rises with that order, so it's found beside `live` by halving.
     /// The place of each made number in `made`.
     places: BTreeMap<u32, usize>,
     /// The place in `made` of the number of each live document, in their order.
@@ -232,8 +231,8 @@ impl Documents {
     fn place_of(&self, id: DocId) -> Option<usize>
         ensures { result ≡ position (has_number id.number) self.now.live }
     {
-        let made = self.places.get(&id.number)?;
-        self.live_places.as_slice().binary_search(made).ok()
+        let place = self.places.get(&id.number)?;
+        self.live_places.as_slice().binary_search(place).ok()
     }
 }
 
