@@ -1,5 +1,5 @@
 -- How a request that may change a file follows its walk.
-use Rattle.std.proofs.Common.{◌≡◌, ℕ, List, [], ◌∷◌, Bool, true, false, cond, Option, Some, None, refl, sym, ap, subst, ◌∙◌, IfSome, Result, Ok, Err, length, map, take, unwrap_or, not, nat_lt, ◌≤◌, arith}
+use Rattle.std.proofs.Common.{◌≡◌, ℕ, List, [], ◌∷◌, Bool, true, false, cond, Option, Some, None, refl, sym, ap, subst, ◌∙◌, IfSome, Result, Ok, Err, length, map, take, unwrap_or, not, nat_lt, ◌≤◌, arith, inl, inr}
 use Rattle.std.specs.Option.{option_map}
 use Rattle.std.proofs.lemmas.Bool.Decides.{nat_tests}
 use Rattle.std.specs.List.{slice_set}
@@ -29,7 +29,7 @@ use Rattle.portal_model.specs.declared.state.Document.{Document}
 use Rattle.portal_model.specs.Place.{Folder, Sight, SightOfFolder, place_of, reach_at}
 use Rattle.portal_model.specs.Walk.{AtPath, Ends, Gives, IsFound, IsShown, LastCall, Looks, Named, Target, Walk, changes_file, is_found, look_of_file}
 use Rattle.app_view.specs.declared.book.ViewBook.{ViewBook}
-use Rattle.node_looks.specs.TreeCalls.{Call, Calling, CallsAsTold, WasCalled, after_calls, call_at, call_doing, unfailed, with_files}
+use Rattle.node_looks.specs.TreeCalls.{Call, Calling, CallsAsTold, WasCalled, WasCalledOnce, after_calls, call_at, call_doing, unfailed, with_files}
 use Rattle.open_handles.specs.Opened.{HandleTable, handle_of as handle_in, opened_on}
 use Rattle.portal_model.specs.declared.handle.Handle.{Handle}
 use Rattle.portal_model.specs.declared.request.NodeOp.{NodeOp}
@@ -43,7 +43,7 @@ use Rattle.node_looks.specs.declared.opened.Allowed.{Allowed}
 use Rattle.node_looks.specs.declared.opened.OpenFile.{OpenFile as FileLent}
 use Rattle.node_looks.specs.declared.served.FileBook.{FileBook}
 use Rattle.node_looks.specs.declared.served.NodeCall.{NodeCall}
-use Rattle.node_looks.specs.Done.{Does, DoneBy, answer_of, file_change, handle_change}
+use Rattle.node_looks.specs.Done.{Does, DoneBy, Wants, answer_of, file_change, handle_change}
 use Rattle.node_looks.specs.Opened.{IsAllowed, by_open_file, file_of}
 use Rattle.node_looks.specs.OpenHandles.{Handled}
 use Rattle.node_looks.proofs.DoneLemmas.{IsExact, done-in, handle-is, handles-stay, same-answer, walk-is}
@@ -274,6 +274,11 @@ wanted-memory {kind} allows change d old new e c =
       kind ∷ [],
       record { goes = h.goes ∙ ap (λ (t : Option (List File)). after_call old kind false t) h.does; fails = (h.fails, tt) },
     )
+
+-- of one that was called once at most
+pub once-wants : (table : HandleTable) (old new : TreeIs) → WasCalledOnce old new → Wants table old table new
+once-wants table old new (inl e) = record { handles = λ s h. h; calls = ([], record { goes = e; fails = tt }) }
+once-wants table old new (inr k) = record { handles = λ s h. h; calls = (k.0 ∷ [], k.1) }
 
 -- ---- parts of a walk
 

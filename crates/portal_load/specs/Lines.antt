@@ -40,7 +40,7 @@ granted_rights = 3
 
 -- a document has the number of its file, and gives one of the applications in turn its rights
 abbrev pub doc_line : ℕ → ScriptLine
-doc_line number = Doc (record { number = number }) true (file_path number)
+doc_line number = Doc (record { number = number }) true false (file_path number)
     (record { app = app_name (number % app_count); rights = granted_rights } ∷ [])
 
 -- ---- connections

@@ -1,7 +1,7 @@
 -- What the devices of a portal went through in an entry.
 use Rattle.std.proofs.Common.{◌≡◌, ◌≢◌, ℕ, List, [], ◌∷◌, ◌++◌, length, Bool, true, false, Option, Some, None, refl, sym, ap, subst, ◌∙◌, inl}
 use Rattle.host_tree.specs.Trees.{TreeIs}
-use Rattle.node_looks.specs.Done.{Reads}
+use Rattle.node_looks.specs.Done.{MayRead, Reads}
 use Rattle.portal_base.specs.declared.files.File.{File}
 use Rattle.portal_model.specs.declared.entry.Entry.{Entry}
 use Rattle.portal_model.specs.declared.entry.Fault.{Fault}

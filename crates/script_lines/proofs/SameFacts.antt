@@ -1,5 +1,5 @@
 -- A text is at most one line's, and no line's text has a line feed.
-use Rattle.std.proofs.Common.{◌≡◌, ◌≢◌, get_or, ℕ, ◌^◌, ◌<◌, ◌≤◌, Bool, true, false, List, [], ◌∷◌, ◌++◌, length, drop, refl, sym, ap, ◌∙◌, arith, map, Some}
+use Rattle.std.proofs.Common.{◌≡◌, ◌≢◌, ℕ, ◌^◌, ◌<◌, ◌≤◌, Bool, true, false, List, [], ◌∷◌, ◌++◌, length, drop, refl, sym, ap, ◌∙◌, arith, map, Some}
 use Rattle.std.specs.Prelude.{not, ◌==◌, codes}
 use Rattle.std.specs.Char.{is_ascii_digit}
 use Rattle.std.specs.Fmt.{decimal}
@@ -47,24 +47,24 @@ id_same a b ha hb e =
     let found : Some a ≡ Some b = sym (id_again a.number ha) ∙ ap doc_id_of e ∙ id_again b.number hb in
     cc found
 
--- what may not be used again doesn't begin with an r
-flags_begin : (d : Bool) → 114 ≡ get_or (flags_text false d) 0 0 → ⊥
-flags_begin true e = absurd (cc e)
-flags_begin false e = absurd (cc e)
+-- what may be used again begins with an r, and nothing else does
+flags_begin : (c d : Bool) → flags_text true c ≡ flags_text false d → ⊥
+flags_begin true true e = cc (differ_at 0 114 _ _ e refl refl)
+flags_begin true false e = cc (differ_at 0 114 _ _ e refl refl)
+flags_begin false true e = cc (differ_at 0 114 _ _ e refl refl)
+flags_begin false false e = cc (differ_at 0 114 _ _ e refl refl)
 
 pub flags_same : (a c b d : Bool) → flags_text a c ≡ flags_text b d → (a ≡ b) × (c ≡ d)
 flags_same true true true true e = (refl, refl)
 flags_same true false true false e = (refl, refl)
 flags_same false true false true e = (refl, refl)
 flags_same false false false false e = (refl, refl)
-flags_same true true true false e = absurd (cc (ap length e))
-flags_same true false true true e = absurd (cc (ap length e))
-flags_same true true false d e = absurd (flags_begin d (ap (λ (w : List ℕ). get_or w 0 0) e))
-flags_same true false false d e = absurd (flags_begin d (ap (λ (w : List ℕ). get_or w 0 0) e))
-flags_same false c true true e = absurd (flags_begin c (sym (ap (λ (w : List ℕ). get_or w 0 0) e)))
-flags_same false c true false e = absurd (flags_begin c (sym (ap (λ (w : List ℕ). get_or w 0 0) e)))
+flags_same true true true false e = absurd (cc e)
+flags_same true false true true e = absurd (cc e)
 flags_same false true false false e = absurd (cc (differ_at 0 115 _ _ e refl refl))
 flags_same false false false true e = absurd (cc (differ_at 0 45 _ _ e refl refl))
+flags_same true c false d e = absurd (flags_begin c d e)
+flags_same false c true d e = absurd (flags_begin d c (sym e))
 
 texts_same : (gs hs : List GrantRecord) → All IsGrant gs → All IsGrant hs → map grant_text gs ≡ map grant_text hs → gs ≡ hs
 texts_same [] [] ag ah e = refl

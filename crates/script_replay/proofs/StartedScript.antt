@@ -1,5 +1,5 @@
 -- The portal that a script opens.
-use Rattle.std.proofs.Common.{◌≡◌, ℕ, ◌≤◌, ◌==◌, List, [], ◌∷◌, ◌++◌, map, Option, Some, None, true, false, refl, sym, ap, ◌∙◌, subst, arith}
+use Rattle.std.proofs.Common.{◌≡◌, ℕ, ◌≤◌, ◌==◌, List, [], ◌∷◌, ◌++◌, map, Option, Some, None, true, false, inl, inr, refl, sym, ap, ◌∙◌, subst, arith}
 use Rattle.host_tree.specs.Devices.{TreeState, tree_of}
 use Rattle.portal_base.specs.Calls.{Calls, FailsAsTold, next_call}
 use Rattle.portal_base.specs.declared.limits.Limits.{Limits}
