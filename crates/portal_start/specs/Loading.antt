@@ -52,6 +52,13 @@ pub record Upgrades (version : ℕ) (old new : KeeperIs) : Type 0 where
   pub made : version ≡ first_version → Applies (Upgrade ∷ []) old done.Done new
   pub stays : version ≢ first_version → new ≡ old
 
+-- why records don't become those of this version
+abbrev pub UpgradesBadly : KeeperIs → StartError → KeeperIs → Type 0
+UpgradesBadly old KeeperFault new = Applies (Upgrade ∷ []) old done.Failed new
+UpgradesBadly old (BadVersion found) new = ⊥
+UpgradesBadly old (BadRecord index) new = ⊥
+UpgradesBadly old Memory new = (new ≡ old) ⊎ Applies (Upgrade ∷ []) old done.Memory new
+
 -- the records that were loaded are good, the opening state stands for them, and the keeper has them
 -- in this version
 pub record LoadsGood (limits : Limits) (old : KeeperIs) (opening : OpeningState)

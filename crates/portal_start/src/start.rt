@@ -1,17 +1,15 @@
 //! Starting a portal with the records that its keeper loads.
 
-ghost use Rattle.std.specs.Prelude.{◌≡◌, ◌⊎◌, ◌<◌, ◌^◌, [], ◌∷◌, map, true, None, IfErr, IfOk, OnOk};
+ghost use Rattle.std.specs.Prelude.{◌≡◌, ◌<◌, ◌^◌, [], ◌∷◌, map, true, None, IfErr, IfOk, OnOk};
 ghost use Rattle.std.specs.List.{list_all};
 ghost use Rattle.portal_model.specs.Opening.{id_of, opened_over};
 ghost use Rattle.portal_model.specs.Rows.{are_rows};
 ghost use Rattle.portal_model.specs.Valid.{Valid};
-ghost use Rattle.portal_start.specs.Loading.{AreLists, AreBad, IsOpening, LoadsBadly, LoadsGood};
 ghost use Rattle.portal_model.specs.declared.records.RecordChange.TheVariants.{Upgrade};
-ghost use Rattle.portal_start.specs.declared.start.StartError.TheVariants.{KeeperFault, Memory};
+ghost use Rattle.portal_start.specs.Loading.{AreLists, AreBad, IsOpening, LoadsBadly, LoadsGood, UpgradesBadly};
 ghost use Rattle.record_keeper.specs.BadRecords.{AreGood};
 ghost use Rattle.record_keeper.specs.Keepers.{Applies};
-ghost use Rattle.record_keeper.specs.declared.keeper.KeeperDone.TheVariants as KeeperDone;
-ghost use Rattle.record_keeper.specs.declared.keeper.KeeperDone.TheVariants.{Done, Failed};
+ghost use Rattle.record_keeper.specs.declared.keeper.KeeperDone.TheVariants.{Done};
 
 use crate::opening;
 use document_records::{Applications, Documents, Grants};
@@ -100,31 +98,38 @@ pub fn load<K: Keeper>(alloc: Global, keeper: &mut K, limits: &Limits) -> Result
         KeeperLoad::Memory => return Err(StartError::Memory),
     };
     let version = records.version;
-    let lists = lists_of(alloc, records, limits)?;
     // Records that are bad stay as they are, of whichever version.
-    if version == FIRST_VERSION {
-        upgrade(alloc, keeper)?;
+    let lists = lists_of(alloc, records, limits)?;
+    if version != FIRST_VERSION {
+        return Ok(lists);
     }
+    upgrade(alloc, keeper)?;
     Ok(lists)
 }
 
-/// Makes the records those of this version, by one change alone.
+/// Makes the records of a keeper those of this version, by one change alone.
 fn upgrade<K: Keeper>(alloc: Global, keeper: &mut K) -> Result<(), StartError>
     ensures ok { OnOk result (Applies (Upgrade ∷ []) (K.is keeper.old) Done (K.is keeper.new)) }
-    ensures bad { IfErr result (λ error. ((error ≡ KeeperFault)
-        × Applies (Upgrade ∷ []) (K.is keeper.old) Failed (K.is keeper.new))
-        ⊎ ((error ≡ Memory) × ((K.is keeper.new ≡ K.is keeper.old)
-        ⊎ Applies (Upgrade ∷ []) (K.is keeper.old) KeeperDone.Memory (K.is keeper.new)))) }
+    ensures bad { IfErr result (λ error. UpgradesBadly (K.is keeper.old) error
+        (K.is keeper.new)) }
 {
-    let mut changes = List::new(alloc);
-    if changes.push(RecordChange::Upgrade).is_err() {
+    let Ok(changes) = upgrade_alone(alloc) else {
         return Err(StartError::Memory);
-    }
+    };
     match keeper.apply(&changes) {
         KeeperDone::Done => Ok(()),
         KeeperDone::Failed => Err(StartError::KeeperFault),
         KeeperDone::Memory => Err(StartError::Memory),
     }
+}
+
+/// The change to this version, and no other.
+fn upgrade_alone(alloc: Global) -> Result<List<RecordChange>, WantOfMemory>
+    ensures { IfOk result (λ changes. changes ≡ Upgrade ∷ []) }
+{
+    let mut changes = List::new(alloc);
+    changes.push(RecordChange::Upgrade)?;
+    Ok(changes)
 }
 
 /// The lists that records stand for, which are to be good.
