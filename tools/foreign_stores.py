@@ -190,9 +190,9 @@ def check_others(see, folder, words):
         link = os.path.join(folder, "link%d" % number)
         os.mkdir(link)
         os.symlink(path, os.path.join(link, "s.db"))
+        before = all_bytes(place)
         see_refused(see, "a link to " + what, words, os.path.join(link, "s.db"), OTHER)
-        see(what + " stays behind a link", sorted(os.listdir(place)),
-            sorted(os.path.basename(name) for name in [path, path + "-wal"] if os.path.exists(name)))
+        see(what + " stays behind a link", all_bytes(place) == before)
 
 
 def check_paths(see, folder, words):

@@ -1,5 +1,5 @@
 -- A script that is run at the portal that it opens, and an application's trace in its history.
-use Rattle.std.proofs.Common.{◌≡◌, ℕ, ◌+◌, ◌≤◌, List, [], ◌++◌, length, map, true, Some, None, Result, Ok, Err, IfOk, sym, ap, ◌∙◌, subst, arith}
+use Rattle.std.proofs.Common.{◌≡◌, ℕ, ◌+◌, ◌≤◌, List, [], ◌++◌, length, Some, None, Result, Ok, Err, IfOk, sym, ap, ◌∙◌, subst, arith}
 use Rattle.std.proofs.lemmas.List.{append-nil}
 use Rattle.app_trace.specs.declared.trace.Trace as plain
 use Rattle.app_trace.specs.Told.{trace_told}
@@ -9,7 +9,7 @@ use Rattle.portal_model.specs.declared.entry.Entry.{Entry}
 use Rattle.portal_model.specs.declared.opening.OpeningState.{OpeningState}
 use Rattle.portal_desk.specs.Opening.{IsOpeningState}
 use Rattle.portal_model.specs.History.{Legal, cost}
-use Rattle.portal_model.specs.Opening.{file_of, id_of, opened, opened_over}
+use Rattle.portal_model.specs.Opening.{opened, opened_over}
 use Rattle.portal_model.specs.State.{State}
 use Rattle.portal_model.specs.Store.{Entries}
 use Rattle.record_keeper.proofs.KeptFacts.{kept_in_one_way}
@@ -26,7 +26,6 @@ use Rattle.script_replay.specs.Started.{StartsScript}
 use Rattle.script_replay.specs.Steps.{MayPlay, scene}
 use Rattle.script_command.specs.Worlds.{IsTraceIn, RanAt}
 use Rattle.script_command.proofs.ReplayScript.{is_replay, itself, may_replay, scene_is}
-use Rattle.script_replay.proofs.StartedScript.{holds}
 
 -- ---- the run
 

@@ -120,10 +120,14 @@ module _ (lines : List ScriptLine) (tree : TreeState) (keeper : KeeperState) (wo
         ap (λ (x : Option (List File)). opened_over x p.story.opening) (s.began ∙ ap (λ (x : TreeState). Some x.began) t)
         ∙ (ap (opened_over (Some (tree_files lines))) opened ∙ loaded_state entries (Some (tree_files lines)) lines)
 
+    -- the records are this version's, so the keeper was not asked to change them
+    stayed : keeper_of p.keeper ≡ s.loaded.loaded
+    stayed = s.loaded.upgrades.stays (λ first. absurd (cc (ap (λ (x : Records). x.version) records_are, first)))
+
     went : outside_at p ≡ after_keeper_call (outside_of lines)
     went =
         let calls : p.tree.count.calls ≡ (script_tree lines).count.calls = ap (λ (x : TreeState). x.count.calls) (s.tree_kept ∙ t) in
-        let loaded : p.keeper.count.calls ≡ next_call keeper.count.calls = some_is _ _ (ap (λ (x : KeeperIs). x.calls) (s.loaded.upgrades.stays (λ first. absurd (cc (ap (λ (x : Records). x.version) (s.loaded.loads.gives ∙ ap (λ (x : KeeperState). x.records) k), first))) ∙ s.loaded.loads.goes)) in
+        let loaded : p.keeper.count.calls ≡ next_call keeper.count.calls = some_is _ _ (ap (λ (x : KeeperIs). x.calls) (stayed ∙ s.loaded.loads.goes)) in
         ap (λ (x : List ℕ). outside x p.clock p.tree.count.calls p.keeper.count.calls) (s.words_kept ∙ w)
         ∙ (ap (λ (x : ℕ). outside (script_words lines) x p.tree.count.calls p.keeper.count.calls) (s.clock_kept ∙ c)
         ∙ (ap (λ (x : Calls). outside (script_words lines) 0 x p.keeper.count.calls) calls

@@ -3,7 +3,7 @@
 //! Each name ends in a line feed. So that a name may hold any character, a line
 //! feed in it is written as a backslash and an `n`, and a backslash as two.
 
-ghost use Rattle.std.specs.Prelude.{◌≡◌, ◌++◌, IfOk, OnOk};
+ghost use Rattle.std.specs.Prelude.{◌≡◌, ◌∷◌, ◌++◌, IfOk, IfSome, OnOk};
 ghost use Rattle.sqlite_tables.specs.Names.{byte_text, name_text, names_text, written as written_of};
 
 use crate::fault::DatabaseFault;
@@ -58,12 +58,9 @@ pub fn names_of_text(alloc: Global, text: &[u8]) -> Result<List<Text>, DatabaseF
     let count = text.iter().filter(|byte| **byte == LINE_FEED).count();
     let mut names = Vec::with_capacity(alloc, count)?;
     let mut rest = text;
-    for _ in 0..count {
-        let Some(end) = rest.iter().position(|byte| *byte == LINE_FEED) else {
-            break;
-        };
-        names.push(read_name(alloc, &rest[..end])?)?;
-        rest = &rest[end + 1..];
+    while let Some((name, behind)) = cut_name(rest) {
+        names.push(read_name(alloc, name)?)?;
+        rest = behind;
     }
     if rest.is_empty() {
         Ok(List::from_vec(names))
@@ -72,14 +69,23 @@ pub fn names_of_text(alloc: Global, text: &[u8]) -> Result<List<Text>, DatabaseF
     }
 }
 
+/// What is written of the first name, without the line feed behind it, and what stands behind that.
+fn cut_name(text: &[u8]) -> Option<(&[u8], &[u8])>
+    ensures { IfSome result (λ halves. text.entry.now ≡ halves.0.now ++ 10 ∷ halves.1.now) }
+{
+    let end = text.iter().position(|byte| *byte == LINE_FEED)?;
+    Some((&text[..end], &text[end + 1..]))
+}
+
 /// The name that is written so, without the line feed behind it.
 fn read_name(alloc: Global, written: &[u8]) -> Result<Text, DatabaseFault>
     ensures { IfOk result (λ name. written_of name ≡ written.now) }
 {
-    let mut name = Vec::new(alloc);
+    let mut name = Vec::with_capacity(alloc, written.len())?;
     let mut escaped = false;
     for byte in written {
         match (escaped, *byte) {
+            (false, LINE_FEED) => return Err(DatabaseFault::NoRecord),
             (false, BACKSLASH) => escaped = true,
             (false, plain) => name.push(plain)?,
             (true, BACKSLASH) => {

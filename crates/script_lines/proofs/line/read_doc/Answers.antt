@@ -1,4 +1,3 @@
-use Rattle.std.proofs.Common.{refl}
 use Rattle.script_lines.proofs.LineFacts.{doc_line, doc_cut, doc_cut_flags, doc_cut_path, no_id, no_flags, no_path, doc_made, script_path}
 use Rattle.script_lines.proofs.line.read_doc.Goals as goal
 
