@@ -80,7 +80,7 @@ module _ {K : Type 0} (keeper_is : K → KeeperIs) (quiet : (k : K) → (keeper_
     none-if Fault.Tree h = absurd (fails (λ n. let no : Fault.Tree ≡ Fault.None = sym h ∙ n in cc))
     none-if Fault.Keeper h = absurd (fails (λ n. let no : Fault.Keeper ≡ Fault.None = sym h ∙ n in cc))
 
-  pub replies : (seat : ℕ) → Answers quiet_tree_of keeper_is (λ c. Some c) (λ ws. Some ws) old new seat request reply → is_told old.story.began ≡ true → Replies old seat request new reply
+  pub replies : (seat : ℕ) → Answers quiet_tree_of keeper_is Shows (λ ws. Some ws) old new seat request reply → is_told old.story.began ≡ true → Replies old seat request new reply
   replies seat a told =
       let s : State = state_now old.story in
       let is : reply ≡ reply_at s a.entry = subst (λ (b : Bool). Alike b request (reply_at s a.entry) reply) told a.reply_is in
