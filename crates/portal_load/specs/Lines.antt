@@ -1,5 +1,5 @@
 -- The script of the load: its files, its documents, its connections, and its requests.
-use Rattle.std.specs.Prelude.{ℕ, ◌+◌, ◌/◌, ◌%◌, true, List, [], ◌∷◌, ◌++◌, map, replicate, codes}
+use Rattle.std.specs.Prelude.{ℕ, ◌+◌, ◌/◌, ◌%◌, true, false, List, [], ◌∷◌, ◌++◌, map, replicate, codes}
 use Rattle.std.specs.List.{range_with_len}
 use Rattle.portal_base.specs.declared.who.Who.TheVariants.{Host, App}
 use Rattle.portal_base.specs.declared.who.Kind.TheVariants.{Bus, Mount}
