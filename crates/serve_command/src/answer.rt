@@ -3,7 +3,9 @@
 ghost use Rattle.std.specs.Prelude.{◌≡◌};
 ghost use Rattle.serve_start.specs.Ends.{number_of};
 
+use crate::descriptors::files_open;
 use crate::line::on_one_line;
+use crate::root::root_of_words;
 use crate::standing::Standing;
 use crate::system::SystemOpeners;
 use host_real::System;
@@ -23,7 +25,9 @@ const WRITE_FAULT: u8 = 4;
 /// 0 is told by one line on standard error.
 pub fn answer<R: System + Sync>(rt: &R, system: &HostRuntime, words: &[Text]) -> u8 {
     let standing = Standing::new(system);
-    let mut openers = SystemOpeners::new(rt, system, &standing);
+    let held = files_open(system);
+    let root = root_of_words(rt, system, held, words);
+    let mut openers = SystemOpeners::new(rt, system, &standing, held, root);
     number_of_words(
         system,
         &standing,

@@ -8,6 +8,9 @@ use std::fs;
 /// Standard input, output and error.
 const STANDARD_FILES: u64 = 3;
 
+/// The most files that are counted.
+pub(crate) const MOST_FILES: u64 = 1_000_000;
+
 /// How many files the process may have open (getrlimit(2)), where the system tells it.
 pub(crate) fn files_allowed() -> Option<u64> {
     let mut limit = rlimit {
@@ -29,8 +32,8 @@ pub(crate) fn files_open(system: &HostRuntime) -> u64
         return STANDARD_FILES;
     };
     let mut held = 0_u64;
-    for entry in entries.take(1_000_000) {
-        if entry.is_ok() && held < 1_000_000 {
+    for entry in entries.take(MOST_FILES as usize) {
+        if entry.is_ok() && held < MOST_FILES {
             held += 1;
         }
     }

@@ -9,6 +9,7 @@
 //! | `answer` | what the program does for its words, and the number that it ends with |
 //! | `system` | what the system gives a service: its files, threads, sockets and devices |
 //! | `standing` | what its posts share: when the sockets stand, and what is told |
+//! | `root` | the folder of its files, opened ahead of all else |
 //! | `descriptors`, `threads` | how many files may be open, and whether there are threads enough |
 //! | `store` | [`store::ToldKeeper`]: a keeper whose failures are told |
 //! | `line` | a word or a path as it is printed, on one line |
@@ -23,6 +24,7 @@
 pub mod answer;
 mod descriptors;
 mod line;
+mod root;
 pub mod standing;
 pub mod store;
 mod system;

@@ -5,11 +5,12 @@ ghost use Rattle.portal_base.specs.Outside.{HasRisen};
 ghost use Rattle.serve_start.specs.declared.end.ServeEnd.TheVariants.{Memory};
 ghost use Rattle.serve_start.specs.Openings.{IsOfSocket, Opens, Refuses};
 
-use crate::descriptors::{files_allowed, files_open};
+use crate::descriptors::{MOST_FILES, files_allowed};
+use crate::root::Root;
 use crate::standing::{Hall, Place, Standing};
 use crate::store::ToldKeeper;
 use crate::threads::{TREE_THREADS, TrialError, gives_threads};
-use host_real::{OpenError, RealTree, System, Waiter, files_beside};
+use host_real::{OpenError, RealTree, System, Waiter};
 use keeper_sqlite::{DatabaseFault, SqliteKeeper};
 use portal_base::list::List;
 use portal_base::memory::WantOfMemory;
@@ -34,14 +35,18 @@ pub(crate) type SystemListener<'v, 'a> = SocketListener<'v, Standing<'a>>;
 
 /// What the system gives a service, which contracts see as its count of refusals.
 #[derive(Drop)]
-pub(crate) struct SystemOpeners<'v, 'a, R> {
+pub(crate) struct SystemOpeners<'v, 'a, R: Waiter> {
     rt: &'v R,
     system: &'a HostRuntime,
     standing: &'v Standing<'a>,
+    /// How many files were open before the folder of the service's files.
+    held: u64,
+    /// That folder, until it is handed over.
+    root: Option<Root<R>>,
     faults: u64,
 }
 
-impl<'v, 'a, R> Model for SystemOpeners<'v, 'a, R> {
+impl<'v, 'a, R: Waiter> Model for SystemOpeners<'v, 'a, R> {
     ghost use Rattle.std.specs.Prelude.{ℕ};
 
     ghost Value = { ℕ };
@@ -49,12 +54,15 @@ impl<'v, 'a, R> Model for SystemOpeners<'v, 'a, R> {
     ghost view = { λ o. o.faults };
 }
 
-impl<'v, 'a, R> SystemOpeners<'v, 'a, R> {
-    /// What the system gives to posts that share this, of which nothing was refused so far.
+impl<'v, 'a, R: Waiter> SystemOpeners<'v, 'a, R> {
+    /// What the system gives to posts that share this, of which nothing was refused so far, with
+    /// the folder of the files.
     pub(crate) fn new(
         rt: &'v R,
         system: &'a HostRuntime,
         standing: &'v Standing<'a>,
+        held: u64,
+        root: Option<Root<R>>,
     ) -> SystemOpeners<'v, 'a, R>
         ensures { result ≡ 0 }
     {
@@ -62,6 +70,8 @@ impl<'v, 'a, R> SystemOpeners<'v, 'a, R> {
             rt,
             system,
             standing,
+            held,
+            root,
             faults: 0,
         }
     }
@@ -167,7 +177,7 @@ impl<'v, 'a, R: System> Openers<
     ghost at = { λ _ _. Unit {0} };
 
     fn files_open(&self) -> u64 {
-        files_open(self.system)
+        self.held.min(MOST_FILES)
     }
 
     fn see_files(&mut self, wanted: u64) -> Result<(), ServeEnd> {
@@ -182,7 +192,12 @@ impl<'v, 'a, R: System> Openers<
 
     fn see_threads(&mut self, posts: usize) -> Result<(), ServeEnd> {
         let wanted = posts + TREE_THREADS;
-        match gives_threads(self.rt, self.system, wanted) {
+        // A tree that is open has its threads.
+        let missing = match &self.root {
+            Some(Ok(_)) => posts,
+            _ => wanted,
+        };
+        match gives_threads(self.rt, self.system, missing) {
             Ok(true) => Ok(()),
             Ok(false) => {
                 self.count();
@@ -197,18 +212,12 @@ impl<'v, 'a, R: System> Openers<
         }
     }
 
-    fn open_root(&mut self, root: &Text, beside: u64) -> Result<RealTree<R>, ServeEnd> {
-        let kept = files_beside(beside);
-        match RealTree::open(
-            *self.rt,
-            *self.system,
-            self.system.alloc(),
-            root.as_str(),
-            kept,
-        ) {
-            Ok(tree) => Ok(tree),
-            Err(OpenError::Memory) => Err(ServeEnd::Memory),
-            Err(error) => Err(ServeEnd::NoRoot {
+    fn open_root(&mut self, _root: &Text, _beside: u64) -> Result<RealTree<R>, ServeEnd> {
+        match self.root.take() {
+            Some(Ok(tree)) => Ok(tree),
+            // Without memory to read the words nothing was opened.
+            Some(Err(OpenError::Memory)) | None => Err(ServeEnd::Memory),
+            Some(Err(error)) => Err(ServeEnd::NoRoot {
                 why: self.refusal(&error)?,
             }),
         }
