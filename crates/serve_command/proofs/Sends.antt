@@ -6,7 +6,7 @@ use Rattle.std.proofs.Crossing.{crosses}
 use Rattle.keeper_sqlite.specs.contracts.keeper.SqliteKeeper as SqliteKeeper
 use Rattle.sqlite_tables.specs.contracts.fault.DatabaseFault as DatabaseFault
 use Rattle.sqlite_tables.specs.contracts.fault.KeeperFault as KeeperFault
-use Rattle.std_io.specs.contracts.io.kind.ErrorKind as ErrorKind
+use Rattle.std.specs.contracts.io.ErrorKind as ErrorKind
 use Rattle.sqlite.specs.contracts.connection.Connection as Connection
 use Rattle.sqlite.proofs.connection.Connection.TheSendSync as connection
 use Rattle.sqlite_disk.specs.contracts.modelled.Modelled as Modelled
