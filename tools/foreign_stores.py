@@ -18,6 +18,8 @@ except ImportError:
     sqlite3 = None
 
 KEPT = os.path.join(TOP, "examples", "stores", "version_1.db")
+# How long a log is, in bytes, in which nothing is committed.
+BARE_LOG = 41
 
 FAULT = "docportal: store fault: "
 OTHER = FAULT + "the file of the records holds something else, and is left as it is\n"
@@ -172,11 +174,27 @@ def see_refused(see, what, words, path, line):
     words = list(words)
     words[words.index("--store") + 1] = path
     status, out, said = run(*words)
-    if line is None:
-        see(what, (status, out, said.startswith(FAULT), said.count("\n")), (3, "", True, 1))
-    else:
-        see(what, (status, out, said), (3, "", line))
+    see(what, (status, out, said), (3, "", line))
     see(what + " stays", all_bytes(place) == before)
+
+
+def see_cut_refused(see, what, words, path):
+    """A start with a store of ours that was cut is refused with a line, and leaves its bytes. A log
+    in which nothing is committed may stand beside it then."""
+    with open(path, "rb") as file:
+        before = file.read()
+    words = list(words)
+    words[words.index("--store") + 1] = path
+    status, out, said = run(*words)
+    see(what, (status, out, said.startswith(FAULT), said.count("\n")), (3, "", True, 1))
+    with open(path, "rb") as file:
+        see(what + " stays", file.read() == before)
+    beside = os.listdir(os.path.dirname(path))
+    log = os.path.basename(path) + "-wal"
+    see(what + " and its log", all(name in (os.path.basename(path), log) for name in beside))
+    if log in beside:
+        see(what + " has a log without changes", os.path.getsize(path + "-wal") <= BARE_LOG)
+        os.remove(path + "-wal")
 
 
 def check_others(see, folder, words):
@@ -216,4 +234,4 @@ def check_paths(see, folder, words):
     size = os.path.getsize(path)
     for left in (size - 1, size - 4096, size // 2, 4096, 100, 1):
         os.truncate(path, left)
-        see_refused(see, "a store cut to %d bytes" % left, words, path, None)
+        see_cut_refused(see, "a store cut to %d bytes" % left, words, path)
