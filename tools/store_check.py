@@ -3,8 +3,10 @@ Python's own SQLite reads them, restarts, and stores that were changed by hand."
 
 import os
 import shutil
+import stat
 import tempfile
 
+from foreign_stores import check_others, check_paths, check_version_1
 from service import Service, run
 from docportal_client import AddFlags, DBusError, Variant
 
@@ -13,13 +15,13 @@ try:
 except ImportError:
     sqlite3 = None
 
-# The tables, each with what orders its rows.
+# The tables, each with what is read of its rows, and what orders these.
 TABLES = {
-    "version": "version",
-    "document": "place",
-    "document_grant": "document, application",
-    "entry": "place",
-    "permission": "entry, application, place",
+    "version": ("version", "version"),
+    "document": ("place, number, path, reusable, strict", "place"),
+    "document_grant": ("place, document, application, rights", "document, application"),
+    "entry": ("place, store_table, id, datum", "place"),
+    "permission": ("place, entry, application, names", "entry, application"),
 }
 
 KEPT, SHARED = AddFlags.PERSISTENT, AddFlags.PERSISTENT | AddFlags.REUSE_EXISTING
@@ -52,8 +54,9 @@ def tables(store):
             if os.path.exists(store + end):
                 shutil.copyfile(store + end, copy + end)
         connection = sqlite3.connect(copy)
-        rows = {table: connection.execute("SELECT * FROM %s ORDER BY %s" % (table, order)).fetchall()
-                for table, order in TABLES.items()}
+        rows = {table: connection.execute(
+                    "SELECT %s FROM %s ORDER BY %s" % (columns, table, order)).fetchall()
+                for table, (columns, order) in TABLES.items()}
         connection.close()
     return rows
 
@@ -73,15 +76,15 @@ def make_first(documents, store):
 def first_tables(numbers):
     first, second, third = numbers
     return {
-        "version": [(1,)],
-        "document": [(1, first, b"/b\xc3\xbc.txt", 1), (2, second, b"/a.txt", 1),
-                     (3, third, b"/c.txt", 0)],
-        "document_grant": sorted([(second, "org.ed", READ_WRITE), (second, "org.tv", READ_WRITE),
-                                  (third, "org.ed", 1)]),
+        "version": [(2,)],
+        "document": [(1, first, b"/b\xc3\xbc.txt", 1, 0), (2, second, b"/a.txt", 1, 0),
+                     (3, third, b"/c.txt", 0, 0)],
+        "document_grant": [(1, 2, "org.ed", READ_WRITE), (2, 2, "org.tv", READ_WRITE),
+                           (3, 3, "org.ed", 1)],
         "entry": [(1, "devices", "mic", SPELLED_SEVEN), (2, "devices", "camera", SPELLED_SEVEN),
                   (3, "background", "background", SPELLED_SEVEN)],
-        "permission": [(1, "org.ed", 0, "yes"), (2, "org.ed", 0, "yes"),
-                       (2, "org.tv", 0, "no"), (2, "org.tv", 1, "ask")],
+        "permission": [(1, 1, "org.ed", "yes\n"), (2, 2, "org.ed", "yes\n"),
+                       (3, 2, "org.tv", "no\nask\n")],
     }
 
 
@@ -99,16 +102,16 @@ def change_each(documents, store, numbers):
 
 
 def changed_tables(numbers):
+    """Behind those changes: a row that stays, or is changed, keeps its place."""
     first, second, _ = numbers
     return {
-        "version": [(1,)],
-        "document": [(1, first, b"/b\xc3\xbc.txt", 1), (2, second, b"/a.txt", 1)],
-        "document_grant": [(second, "org.aa", ALL_RIGHTS), (second, "org.tv", ALL_RIGHTS)],
+        "version": [(2,)],
+        "document": [(1, first, b"/b\xc3\xbc.txt", 1, 0), (2, second, b"/a.txt", 1, 0)],
+        "document_grant": [(4, 2, "org.aa", ALL_RIGHTS), (2, 2, "org.tv", ALL_RIGHTS)],
         "entry": [(1, "devices", "mic", SPELLED_EIGHT), (2, "devices", "camera", SPELLED_SEVEN),
                   (3, "background", "other", SPELLED_SEVEN)],
-        "permission": [(1, "org.aa", 0, "no"), (1, "org.ed", 0, "yes"), (1, "org.tv", 0, "ask"),
-                       (2, "org.tv", 0, "ask"), (2, "org.tv", 1, "no"),
-                       (3, "org.ed", 0, "yes")],
+        "permission": [(4, 1, "org.aa", "no\n"), (1, 1, "org.ed", "yes\n"), (5, 1, "org.tv", "ask\n"),
+                       (3, 2, "org.tv", "ask\nno\n"), (6, 3, "org.ed", "yes\n")],
     }
 
 
@@ -134,7 +137,7 @@ def failed_addition(service):
 def see_changes(see, service):
     """The tables of a new store, and after changes: what the service then answers."""
     see("tables of a new store", tables(service.store),
-        {table: [(1,)] if table == "version" else [] for table in TABLES})
+        {table: [(2,)] if table == "version" else [] for table in TABLES})
     with service.bus() as bus:
         documents, store = bus.documents, bus.permissions
         numbers = make_first(documents, store)
@@ -183,3 +186,18 @@ def check_store(see, folder):
     finally:
         service.kill()
     see_changes_by_hand(see, service, answers, held)
+    see_mode_of_a_new_store(see, service)
+    check_version_1(see, folder, tables)
+    check_others(see, folder, service.words)
+    check_paths(see, folder, service.words)
+
+
+def see_mode_of_a_new_store(see, service):
+    """A new store and its log are its owner's alone."""
+    for end in ("", "-wal"):
+        if os.path.exists(service.store + end):
+            os.remove(service.store + end)
+    service.start()
+    modes = [stat.S_IMODE(os.stat(service.store + end).st_mode) for end in ("", "-wal")]
+    service.kill()
+    see("modes of a new store and its log", modes, [0o600, 0o600])

@@ -4,6 +4,7 @@ use Rattle.std.proofs.lemmas.List.{take_more}
 use Rattle.portal_base.specs.declared.files.File.{File}
 use Rattle.portal_base.specs.declared.files.Look.{Look}
 use Rattle.host_tree.specs.Trees.{Asks, TreeIs, after_call, Looks}
+use Rattle.host_tree.specs.declared.tree.TreeCall.TheVariants as TreeCall
 use Rattle.host_tree.specs.declared.tree.LookAnswer.TheVariants as look
 use Rattle.portal_model.specs.Walk.{AtPath, IsShown, Gives, Walk, Answers, looks_at_all, walked}
 use Rattle.add_calls.specs.Shown.{Asked, Shows}
@@ -32,20 +33,20 @@ shows-failing told (p ∷ ps) path rest [] h = cc
 shows-failing told (p ∷ ps) path rest (l ∷ ls) h = (h.0, shows-failing told ps path rest ls h.1)
 
 -- one call more, which is done or fails
-pub asked-more : (n : ℕ) (old mid new : TreeIs) → Asked old n false mid → Asks mid false new → Asked old (n + 1) false new
-asked-more zero old mid new h k = let m : Asks old false new = subst (λ (t : TreeIs). Asks t false new) h k in (m.fails, m.goes)
+pub asked-more : (n : ℕ) (old mid new : TreeIs) → Asked old n false mid → Asks TreeCall.Look mid false new → Asked old (n + 1) false new
+asked-more zero old mid new h k = let m : Asks TreeCall.Look old false new = subst (λ (t : TreeIs). Asks TreeCall.Look t false new) h k in (m.fails, m.goes)
 asked-more (suc n) old mid new h k =
     let one : suc n + 1 ≡ suc (n + 1) = omega arith in
-    subst (λ (m : ℕ). Asked old m false new) (sym one) (h.0, asked-more n (after_call old false old.told) mid new h.1 k)
+    subst (λ (m : ℕ). Asked old m false new) (sym one) (h.0, asked-more n (after_call old TreeCall.Look false old.told) mid new h.1 k)
 
-pub asked-failing : (n : ℕ) (old mid new : TreeIs) → Asked old n false mid → Asks mid true new → Asked old n true new
-asked-failing zero old mid new h k = subst (λ (t : TreeIs). Asks t true new) h k
-asked-failing (suc n) old mid new h k = (h.0, asked-failing n (after_call old false old.told) mid new h.1 k)
+pub asked-failing : (n : ℕ) (old mid new : TreeIs) → Asked old n false mid → Asks TreeCall.Look mid true new → Asked old n true new
+asked-failing zero old mid new h k = subst (λ (t : TreeIs). Asks TreeCall.Look t true new) h k
+asked-failing (suc n) old mid new h k = (h.0, asked-failing n (after_call old TreeCall.Look false old.told) mid new h.1 k)
 
 pub asked-told : (n : ℕ) (old new : TreeIs) (failed : Bool) → Asked old n failed new → new.told ≡ old.told
 asked-told zero old new false h = ap (λ (t : TreeIs). t.told) h
 asked-told zero old new true h = ap (λ (t : TreeIs). t.told) h.goes
-asked-told (suc n) old new failed h = asked-told n (after_call old false old.told) new failed h.1
+asked-told (suc n) old new failed h = asked-told n (after_call old TreeCall.Look false old.told) new failed h.1
 
 pub next-path : (paths : List (List ℕ)) (i : ℕ) (p d : List ℕ) → i < length paths → p ≡ get_or paths i d → take (i + 1) paths ≡ take i paths ++ p ∷ []
 next-path paths i p d h e = take_more paths i d h ∙ ap (λ (x : List ℕ). take i paths ++ x ∷ []) (sym e)

@@ -5,6 +5,7 @@ use Rattle.portal_base.specs.Calls.{FailsAsTold}
 use Rattle.portal_base.specs.declared.files.File.{File}
 use Rattle.portal_base.specs.declared.files.Look.{Look}
 use Rattle.host_tree.specs.Trees.{Asks, TreeIs, after_call}
+use Rattle.host_tree.specs.declared.tree.TreeCall.TheVariants as TreeCall
 use Rattle.portal_model.specs.Verdict.{Verdict}
 use Rattle.portal_model.specs.Walk.{Answers, AtPath, Gives, IsShown, Walk, looks_at_all, walked}
 
@@ -15,13 +16,13 @@ Shows told (path ∷ paths) [] failed = failed ≡ true
 Shows told (path ∷ paths) (look ∷ looks) failed =
     IsShown told (AtPath path) look × Shows told paths looks failed
 
--- The tree was asked so many times without a fault, and then once more where that failed; its files
--- stay.
+-- The tree was looked at so many times without a fault, and then once more where that failed; its
+-- files stay.
 abbrev pub Asked : TreeIs → ℕ → Bool → TreeIs → Type 0
 Asked old zero false new = new ≡ old
-Asked old zero true new = Asks old true new
+Asked old zero true new = Asks TreeCall.Look old true new
 Asked old (suc n) failed new =
-    FailsAsTold old.calls false × Asked (after_call old false old.told) n failed new
+    FailsAsTold old.calls false × Asked (after_call old TreeCall.Look false old.told) n failed new
 
 -- A walk that looks at paths and then answers by what they show is given just that; where no call
 -- fails it comes to the answer, and else to none.

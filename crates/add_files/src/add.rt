@@ -23,12 +23,11 @@ use std::alloc::Global;
 /// the records of documents and rights; each handle of the call names one of
 /// the files. Neither the tree nor a limit is asked, and no number is drawn.
 ///
-/// `InvalidArgument`: there are more than 16 files, or unknown flags, or the
-/// document is to be both persistent and strict; what is named is neither nobody
-/// nor an application, or a right is unknown; or a named file has no name, or no
-/// path. `NotAllowed`: an application lists, for the application that is named,
-/// rights that it doesn't have itself then. The first of these that applies is
-/// told.
+/// `InvalidArgument`: there are more than 16 files, or unknown flags; what is
+/// named is neither nobody nor an application, or a right is unknown; or a named
+/// file has no name, or no path. `NotAllowed`: an application lists, for the
+/// application that is named, rights that it doesn't have itself then. The first of
+/// these that applies is told.
 ///
 /// It goes over the documents once for each file at most.
 pub fn plan_add(

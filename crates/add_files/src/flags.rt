@@ -19,13 +19,12 @@ const STRICT: u32 = 16;
 /// The first flag that there isn't: to export a folder. All below it are known.
 const EXPORT_DIRECTORY: u32 = 8;
 
-/// Says whether each flag is one that there is, and the document isn't to be both
-/// strict and kept: the records that outlive a run don't tell what is strict.
+/// Says whether each flag is one that there is.
 pub fn are_flags(flags: u32) -> bool
     ensures { result ≡ are_flags flags }
 {
     let others = flags / EXPORT_DIRECTORY;
-    others == 0 || (others == STRICT / EXPORT_DIRECTORY && flags / PERSISTENT % 2 != 1)
+    others == 0 || others == STRICT / EXPORT_DIRECTORY
 }
 
 /// Says whether a live document of the same path may be used again, by the flag 1.

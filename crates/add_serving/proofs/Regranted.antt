@@ -11,8 +11,8 @@ use Rattle.portal_model.specs.declared.records.RecordChange.{RecordChange}
 use Rattle.portal_model.specs.declared.records.Records.{Records}
 use Rattle.portal_model.specs.declared.state.Document.{Document}
 use Rattle.portal_model.specs.declared.state.Triple.{Triple}
-use Rattle.portal_model.specs.Kept.{document_record, records_version}
-use Rattle.portal_model.specs.RecordChanges.{change_first, changed, changed_by, is_numbered}
+use Rattle.portal_model.specs.Kept.{document_record}
+use Rattle.portal_model.specs.RecordChanges.{change_first, changed, changed_by, is_numbered, records_version}
 use Rattle.portal_model.proofs.TripleOrder.{nat_is}
 use Rattle.document_records.proofs.HeldInDocument.{records_in}
 use Rattle.document_records.proofs.KeptDocuments.{Others, is_here, kept_records, numbers, same-record}

@@ -5,7 +5,8 @@ use Rattle.portal_base.specs.Outside.{onto}
 use Rattle.portal_base.specs.declared.who.Who.{Who}
 use Rattle.portal_model.specs.declared.reply.Refused.{Refused}
 use Rattle.portal_model.specs.declared.reply.Reply.{Reply}
-use Rattle.portal_model.specs.Seated.{Exchange, Known, Seated, is_open, state_seen}
+use Rattle.portal_desk.specs.Knowing.{Known}
+use Rattle.portal_model.specs.Seated.{Exchange, Seated, is_open, state_seen}
 use Rattle.app_world.specs.World.{Trace, trace}
 use Rattle.session.specs.declared.act.Client.{Client}
 use Rattle.session.specs.declared.served.Served.{Served}

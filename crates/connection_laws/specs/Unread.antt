@@ -6,7 +6,8 @@ use Rattle.portal_model.specs.declared.entry.Entry.{Entry}
 use Rattle.portal_model.specs.Content.{OfFile}
 use Rattle.portal_model.specs.History.{Legal, makes, replies}
 use Rattle.portal_model.specs.Lawful.{Lawful}
-use Rattle.portal_model.specs.Seated.{Known, Seated}
+use Rattle.portal_desk.specs.Knowing.{Known}
+use Rattle.portal_model.specs.Seated.{Seated}
 use Rattle.portal_model.specs.State.{State}
 use Rattle.portal_model.specs.Step.{after, reply_at}
 use Rattle.portal_model.specs.Valid.{Valid}

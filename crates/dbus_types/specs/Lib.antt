@@ -2,4 +2,5 @@ pub mod Types
 pub mod Reading
 pub mod Breaks
 pub mod Names
+pub mod Messages
 pub mod formers

@@ -2,6 +2,9 @@
 //!
 //! Source: D-Bus Specification, "Message Format" and "Header Fields".
 
+ghost use Rattle.std.specs.Prelude.{◌≡◌};
+ghost use Rattle.dbus_types.specs.Messages.{error_reply, method_call, method_return, no_reply_expected, signal_emission};
+
 use crate::types::{Endian, Value, WireType};
 use portal_base::list::List;
 use portal_base::text::Text;
@@ -20,6 +23,17 @@ pub const SIGNAL: u8 = 4;
 
 /// The flag that no reply is expected.
 pub const NO_REPLY_EXPECTED: u8 = 1;
+
+/// The types of messages and the flag are the numbers of the standard.
+///
+/// It does nothing; its contract is the law.
+pub fn message_types_are_told()
+    ensures call { METHOD_CALL ≡ method_call }
+    ensures method_return { METHOD_RETURN ≡ method_return }
+    ensures error { ERROR ≡ error_reply }
+    ensures signal { SIGNAL ≡ signal_emission }
+    ensures flag { NO_REPLY_EXPECTED ≡ no_reply_expected }
+{}
 
 // Messages as plain data stand below the crates that read and write bytes, so that what makes and
 // answers them needs neither.

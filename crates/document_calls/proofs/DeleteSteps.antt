@@ -13,8 +13,8 @@ use Rattle.portal_model.specs.declared.state.Connection.{Connection}
 use Rattle.portal_model.specs.declared.state.Document.{Document}
 use Rattle.portal_model.specs.declared.state.Triple.{Triple}
 use Rattle.portal_model.specs.DeleteDocument.{delete_document, deleted}
-use Rattle.portal_model.specs.Kept.{records_of, records_version}
-use Rattle.portal_model.specs.RecordChanges.{is_numbered, is_other_number}
+use Rattle.portal_model.specs.Kept.{records_of}
+use Rattle.portal_model.specs.RecordChanges.{is_numbered, is_other_number, records_version}
 use Rattle.portal_model.specs.Rights.{forget_document}
 use Rattle.portal_model.specs.State.{State}
 use Rattle.portal_model.specs.Store.{record_of}

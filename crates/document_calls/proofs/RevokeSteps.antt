@@ -12,8 +12,8 @@ use Rattle.portal_model.specs.declared.request.Request.{Request}
 use Rattle.portal_model.specs.declared.request.RightsCall.{RightsCall}
 use Rattle.portal_model.specs.declared.state.Connection.{Connection}
 use Rattle.portal_model.specs.declared.state.Triple.{Triple}
-use Rattle.portal_model.specs.Kept.{records_of, records_version}
-use Rattle.portal_model.specs.RecordChanges.{changed}
+use Rattle.portal_model.specs.Kept.{records_of}
+use Rattle.portal_model.specs.RecordChanges.{changed, records_version}
 use Rattle.portal_model.specs.Revoke.{revoke}
 use Rattle.portal_model.specs.Rights.{take_rights}
 use Rattle.portal_model.specs.State.{State, held_of}

@@ -1,6 +1,9 @@
 -- Rights kept together: one item for each application and document.
-use Rattle.std.specs.Prelude.{◌≡◌, ℕ, ◌==◌, nat_lt, List, Bool, true, not, ◌&&◌, cond}
+use Rattle.std.specs.Prelude.{◌≡◌, ℕ, ◌==◌, nat_lt, List, Bool, true, not, ◌&&◌, cond, if◌then◌else◌}
+use Rattle.std.specs.Cmp.Lexicographic.{slice_cmp}
 use Rattle.std.specs.List.{flat_map, list_all}
+use Rattle.std.specs.Ordering.{nat_cmp}
+use Rattle.std.specs.declared.cmp.Ordering.{Ordering}
 use Rattle.portal_base.specs.Names.{is_same}
 use Rattle.rights_rule.specs.Rights.{RightSet, union, minus, is_no_right}
 use Rattle.portal_model.specs.declared.state.Triple.{Triple}
@@ -28,6 +31,11 @@ is_before app number g = cond (g.id.number == number) (bytes_less g.app app)
 
 abbrev pub grant_less : Grant → Grant → Bool
 grant_less g h = is_before h.app h.id.number g
+
+-- which of two grants has its place first: the same order, as a comparison
+abbrev pub grant_order : Grant → Grant → Ordering
+grant_order g h = if g.id.number == h.id.number then slice_cmp nat_cmp g.app h.app
+    else nat_cmp g.id.number h.id.number
 
 abbrev pub are_grants_in_order : List Grant → Bool
 are_grants_in_order grants = is_rising grant_less grants

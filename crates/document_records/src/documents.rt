@@ -15,7 +15,7 @@ use portal_base::memory::WantOfMemory;
 use portal_base::names::{DocId, HostPath};
 use portal_model::state::Document;
 use std::alloc::Global;
-use std::collections::BTreeSet;
+use std::collections::BTreeMap;
 use std::marker::Model;
 use thiserror::Error;
 
@@ -44,9 +44,12 @@ pub struct Documents {
     most_made: u64,
     live: List<Document>,
     made: List<DocId>,
-    // The list has the order in which they were made, which contracts see; the set finds them.
-    /// The made numbers, to be looked up.
-    numbers: BTreeSet<u32>,
+    // The two lists have the order of addition, which contracts see; the two below find in them.
+    // A number's place in `made` rises with that order, so it's found beside `live` by halving.
+    /// The place of each made number in `made`.
+    places: BTreeMap<u32, usize>,
+    /// The place in `made` of the number of each live document, in their order.
+    live_places: List<usize>,
 }
 
 impl Model for Documents {
@@ -62,7 +65,8 @@ impl Model for Documents {
       made = a.made;
     } };
 
-    ghost invariant = { λ a. IsIndexed a.most_live a.most_made a.live a.made a.numbers };
+    ghost invariant = { λ a. IsIndexed a.most_live a.most_made a.live a.made a.places
+        a.live_places };
 }
 
 impl Documents {
@@ -78,7 +82,8 @@ impl Documents {
             most_made: limits.made,
             live: List::new(alloc),
             made: List::new(alloc),
-            numbers: BTreeSet::new(alloc),
+            places: BTreeMap::new(alloc),
+            live_places: List::new(alloc),
         }
     }
 
@@ -108,16 +113,23 @@ impl Documents {
             });
         }
         let id = document.id;
-        if self.numbers.insert(id.number).is_err() {
+        let place = self.made.len();
+        if self.places.insert(id.number, place).is_err() {
             return Err(DocError::Memory);
         }
         if self.made.push(id).is_err() {
-            self.numbers.remove(&id.number);
+            self.places.remove(&id.number);
+            return Err(DocError::Memory);
+        }
+        if self.live_places.push(place).is_err() {
+            self.made.pop();
+            self.places.remove(&id.number);
             return Err(DocError::Memory);
         }
         if self.live.push(document).is_err() {
+            self.live_places.pop();
             self.made.pop();
-            self.numbers.remove(&id.number);
+            self.places.remove(&id.number);
             return Err(DocError::Memory);
         }
         Ok(())
@@ -131,7 +143,7 @@ impl Documents {
         // As many look-ups as made numbers are in the way, and one more. There is a free one,
         // since fewer than 2^32 may be made.
         let mut number = word;
-        while self.numbers.contains(&number) {
+        while self.places.contains_key(&number) {
             number = number.wrapping_add(1);
         }
         DocId { number }
@@ -145,14 +157,13 @@ impl Documents {
         self.live.as_slice()
     }
 
-    /// The live document of a number.
+    /// The live document of a number, which is found in about log n steps among n
+    /// that were made.
     pub fn find(&self, id: DocId) -> Option<&Document>
         ensures { option_copied result ≡ document_of self.now.live id.number }
     {
-        self.live
-            .as_slice()
-            .iter()
-            .find(|document| document.id.number == id.number)
+        let at = self.place_of(id)?;
+        self.live.get(at)
     }
 
     /// The first live document that may stand for a new one of this path and
@@ -188,7 +199,8 @@ impl Documents {
         ensures document { result ≡ document_of self.old.live id.number }
         ensures rest { self.new ≡ without_document self.old id.number }
     {
-        let at = place_of(self.live.as_slice(), id)?;
+        let at = self.place_of(id)?;
+        self.live_places.remove(at);
         Some(self.live.remove(at))
     }
 
@@ -210,8 +222,17 @@ impl Documents {
         ensures { self.new ≡ without_last self.old }
     {
         self.live.pop();
+        self.live_places.pop();
         self.made.pop();
-        self.numbers.remove(&id.number);
+        self.places.remove(&id.number);
+    }
+
+    /// The place of the document of a number among the live ones.
+    fn place_of(&self, id: DocId) -> Option<usize>
+        ensures { result ≡ position (has_number id.number) self.now.live }
+    {
+        let place = self.places.get(&id.number)?;
+        self.live_places.as_slice().binary_search(place).ok()
     }
 }
 
@@ -222,12 +243,4 @@ fn room(most_live: u64, most_made: u64, live: &List<Document>, made: &List<DocId
     let live = most_live.saturating_sub(live.len() as u64);
     let made = most_made.saturating_sub(made.len() as u64);
     live.min(made)
-}
-
-/// The place of the document of a number in a list.
-fn place_of(live: &[Document], id: DocId) -> Option<usize>
-    ensures { result ≡ position (has_number id.number) live.now }
-{
-    live.iter()
-        .position(|document| document.id.number == id.number)
 }

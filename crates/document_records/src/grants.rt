@@ -160,10 +160,12 @@ impl Grants {
     }
 }
 
-ghost use Rattle.document_records.specs.Grants.{is_of, is_before, given, taken, has_a_right, is_elsewhere, grant_less, are_grants_in_order, with_given};
+ghost use Rattle.document_records.specs.Grants.{is_of, is_before, given, taken, has_a_right, is_elsewhere, grant_less, grant_order, are_grants_in_order, with_given};
 
 /// Which of two grants has its place first.
-fn place_order(first: &Grant, second: &Grant) -> Ordering {
+fn place_order(first: &Grant, second: &Grant) -> Ordering
+    ensures { result ≡ grant_order first.now second.now }
+{
     if first.id.number == second.id.number {
         return first.app.as_bytes().cmp(second.app.as_bytes());
     }

@@ -6,6 +6,7 @@ use Rattle.portal_base.specs.declared.files.FileName.{FileName}
 use Rattle.portal_base.specs.declared.files.Look.{Look}
 use Rattle.portal_base.specs.declared.who.Who.{Who}
 use Rattle.host_tree.specs.Trees.{Asks, Changes, Does as DoesFiles, Looks as Shows, TreeIs, is_look_fault, may_create}
+use Rattle.host_tree.specs.declared.tree.TreeCall.TheVariants as TreeCall
 use Rattle.host_tree.specs.declared.tree.LookAnswer.{LookAnswer}
 use Rattle.host_tree.specs.declared.tree.LookAnswer.TheVariants as look
 use Rattle.host_tree.specs.declared.tree.TreeDone.{TreeDone}
@@ -58,7 +59,7 @@ makes-by path change told done.Failed new m h = h
 makes-by path change told done.Memory new m h = h
 
 makes : (path : List ℕ) (change : List File → List File) (old : TreeIs) (d : TreeDone) (new : TreeIs) → IfSome old.told (λ files. Look.Missing ≡ look_at files path) →
-    Changes (λ files. may_create files path) change old d new → Changes (λ files. is_found files (Makes path)) change old d new
+    Changes TreeCall.Create (λ files. may_create files path) change old d new → Changes TreeCall.Create (λ files. is_found files (Makes path)) change old d new
 makes path change old d new m h = record { goes = h.goes; does = makes-by path change old.told d new.told m h.does; fails = h.fails }
 
 -- ---- the last call
@@ -68,12 +69,12 @@ abbrev pub first_of : Document → FileName
 first_of d = record { path = d.path; generation = 0 }
 
 module _ (r : NodeRequest) (flags : ℕ) (table : HandleTable) (seat : ℕ) (document : Document) (name : FileName) (node now : ℕ) (old new : TreeIs) (d : TreeDone) (first : name ≡ first_of document)
-    (missing : IfSome old.told (λ files. Look.Missing ≡ look_at files name.path)) (creates : Changes (λ files. may_create files name.path) (files_after true (Creates name.path now)) old d new) where
+    (missing : IfSome old.told (λ files. Look.Missing ≡ look_at files name.path)) (creates : Changes TreeCall.Create (λ files. may_create files name.path) (files_after true (Creates name.path now)) old d new) where
   m : IfSome old.told (λ files. Look.Missing ≡ look_at files document.path)
   m = subst (λ (n : FileName). IfSome old.told (λ files. Look.Missing ≡ look_at files n.path)) first missing
 
-  h : Changes (λ files. may_create files document.path) (files_after true (Creates document.path now)) old d new
-  h = subst (λ (n : FileName). Changes (λ files. may_create files n.path) (files_after true (Creates n.path now)) old d new) first creates
+  h : Changes TreeCall.Create (λ files. may_create files document.path) (files_after true (Creates document.path now)) old d new
+  h = subst (λ (n : FileName). Changes TreeCall.Create (λ files. may_create files n.path) (files_after true (Creates n.path now)) old d new) first creates
 
   pub made-done : (attr : Attr) (fh : ℕ) (handle : Handle) (ended : Ended) (after : HandleTable) → d ≡ done.Done → attr ≡ attr_of_file (on_node r node) true 0 now → fh ≡ next_handle (room_in table seat) →
       handle ≡ file_handle document name node flags → ended ≡ ended_by now came.Done (NodeAnswer.Created attr fh) → Handled seat (Opens handle) table after →
@@ -83,7 +84,7 @@ module _ (r : NodeRequest) (flags : ℕ) (table : HandleTable) (seat : ℕ) (doc
     goes = subst (λ (x : Ended). Goes (Ends (Makes document.path) (created r flags (room_in table seat) document node) (Errs enoent)) old (done_of_ended x) (Opens handle) new) (sym b)
         (ends-done (Makes document.path) (created r flags (room_in table seat) document node) (record { answer = NodeAnswer.Created attr fh; file = Creates document.path now; handle = Opens handle }) now old new refl
         (λ i. Yields (record { answer = NodeAnswer.Created (sym a i) (sym n i); file = Creates document.path now; handle = Opens (sym same i) }))
-        (subst (λ (x : TreeDone). Changes (λ files. is_found files (Makes document.path)) (files_after true (Creates document.path now)) old x new) e (makes document.path (files_after true (Creates document.path now)) old d new m h)));
+        (subst (λ (x : TreeDone). Changes TreeCall.Create (λ files. is_found files (Makes document.path)) (files_after true (Creates document.path now)) old x new) e (makes document.path (files_after true (Creates document.path now)) old d new m h)));
     handled = o;
   }
 
@@ -93,7 +94,7 @@ module _ (r : NodeRequest) (flags : ℕ) (table : HandleTable) (seat : ℕ) (doc
     change = HandlesStay;
     goes = subst (λ (x : Ended). Goes (Ends (Makes document.path) (created r flags (room_in table seat) document node) (Errs enoent)) old (done_of_ended x) HandlesStay new) (sym b)
         (ends-missing (Makes document.path) (created r flags (room_in table seat) document node) (files_after true (Creates document.path now)) NodeAnswer.Empty now old new refl
-        (subst (λ (x : TreeDone). Changes (λ files. is_found files (Makes document.path)) (files_after true (Creates document.path now)) old x new) e (makes document.path (files_after true (Creates document.path now)) old d new m h)));
+        (subst (λ (x : TreeDone). Changes TreeCall.Create (λ files. is_found files (Makes document.path)) (files_after true (Creates document.path now)) old x new) e (makes document.path (files_after true (Creates document.path now)) old d new m h)));
     handled = handles-stay seat table;
   }
 
@@ -103,7 +104,7 @@ module _ (r : NodeRequest) (flags : ℕ) (table : HandleTable) (seat : ℕ) (doc
     change = HandlesStay;
     goes = subst (λ (x : Ended). Goes (Ends (Makes document.path) (created r flags (room_in table seat) document node) (Errs enoent)) old (done_of_ended x) HandlesStay new) (sym b)
         (ends-failed (Makes document.path) (created r flags (room_in table seat) document node) (files_after true (Creates document.path now)) NodeAnswer.Empty now old new refl
-        (subst (λ (x : TreeDone). Changes (λ files. is_found files (Makes document.path)) (files_after true (Creates document.path now)) old x new) e (makes document.path (files_after true (Creates document.path now)) old d new m h)));
+        (subst (λ (x : TreeDone). Changes TreeCall.Create (λ files. is_found files (Makes document.path)) (files_after true (Creates document.path now)) old x new) e (makes document.path (files_after true (Creates document.path now)) old d new m h)));
     handled = handles-stay seat table;
   }
 
@@ -114,7 +115,7 @@ stays-open w seat table old done new g = record { change = HandlesStay; goes = g
 
 -- ---- behind the look
 
-opening-behind : (path : List ℕ) (next : Look → Walk NodeVerdict) (a : LookAnswer) (seat : ℕ) (table : HandleTable) (ended : Ended) (after : HandleTable) (old mid new : TreeIs) → Asks old (is_look_fault a) mid → Shows old.told path a →
+opening-behind : (path : List ℕ) (next : Look → Walk NodeVerdict) (a : LookAnswer) (seat : ℕ) (table : HandleTable) (ended : Ended) (after : HandleTable) (old mid new : TreeIs) → Asks TreeCall.Look old (is_look_fault a) mid → Shows old.told path a →
     OpeningBehind next a seat table mid ended after new → Opening (Looks (AtPath path) next) seat table old (done_behind (Some a) ended) after new
 opening-behind path next (look.Is shown) seat table ended after old mid new a i o = record {
   change = o.change;
@@ -127,13 +128,13 @@ opening-behind path next look.Failed seat table ended after old mid new a i o = 
   handled = o.1;
 }
 
-pub made-behind : (r : NodeRequest) (flags : ℕ) (room : Room) (document : Document) (node : ℕ) (a : LookAnswer) (seat : ℕ) (table : HandleTable) (ended : Ended) (after : HandleTable) (old mid new : TreeIs) → Asks old (is_look_fault a) mid →
+pub made-behind : (r : NodeRequest) (flags : ℕ) (room : Room) (document : Document) (node : ℕ) (a : LookAnswer) (seat : ℕ) (table : HandleTable) (ended : Ended) (after : HandleTable) (old mid new : TreeIs) → Asks TreeCall.Look old (is_look_fault a) mid →
     Shows old.told document.path a → OpeningBehind (create_there r flags room document node) a seat table mid ended after new → Opening (made_walk r flags room document node) seat table old (done_behind (Some a) ended) after new
 made-behind r flags room document node a seat table ended after old mid new asks shows o =
     opening-behind document.path (create_there r flags room document node) a seat table ended after old mid new asks shows o
 
 -- a copy of the path stands for it, and what was shown is still there
-pub shown-still : (path copy : List ℕ) (a : LookAnswer) (old mid : TreeIs) → copy ≡ path → Asks old (is_look_fault a) mid → Shows old.told path a → Shows mid.told copy a
+pub shown-still : (path copy : List ℕ) (a : LookAnswer) (old mid : TreeIs) → copy ≡ path → Asks TreeCall.Look old (is_look_fault a) mid → Shows old.told path a → Shows mid.told copy a
 shown-still path copy a old mid e asks h =
     subst (λ (p : List ℕ). Shows mid.told p a) (sym e) (subst (λ (t : Option (List File)). Shows t path a) (sym (ap (λ (t : TreeIs). t.told) asks.goes)) h)
 

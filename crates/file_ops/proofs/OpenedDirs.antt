@@ -5,6 +5,7 @@ use Rattle.portal_base.specs.declared.who.Who.{Who}
 use Rattle.portal_base.specs.declared.files.Look.{Look}
 use Rattle.host_tree.specs.Trees.{Asks, TreeIs, is_look_fault, Looks as Answered}
 use Rattle.host_tree.specs.declared.tree.LookAnswer.{LookAnswer}
+use Rattle.host_tree.specs.declared.tree.TreeCall.TheVariants as TreeCall
 use Rattle.host_tree.specs.declared.tree.LookAnswer.TheVariants as look
 use Rattle.open_handles.specs.Opened.{HandleTable}
 use Rattle.portal_model.specs.declared.handle.Handle.{Handle}
@@ -47,7 +48,7 @@ module _ (r : NodeRequest) (view : ℕ) (d : Document) (may_write : Bool) (seat 
   looks : open_dir r (Some folder) (room_in table seat) ≡ Looks (AtPath d.path) (next (room_in table seat))
   looks = ap (λ (b : Bool). errs_if b emfile (Looks (AtPath d.path) (next (room_in table seat)))) free
 
-  behind : (look : LookAnswer) → Asks old (is_look_fault look) new → Answered old.told d.path look → ListsBehind r (Some folder) seat look mid answer after →
+  behind : (look : LookAnswer) → Asks TreeCall.Look old (is_look_fault look) new → Answered old.told d.path look → ListsBehind r (Some folder) seat look mid answer after →
       DoneBy (Looks (AtPath d.path) (next (room_in table seat))) NodeOp.OpenDir seat table old (done_with (record { answer = answer; look = Some look })) after new
   behind (look.Is shown) a l f =
       let room : room_in mid seat ≡ room_in table seat = room-stays seat table mid kept in
@@ -59,12 +60,12 @@ module _ (r : NodeRequest) (view : ℕ) (d : Document) (may_write : Bool) (seat 
       (handled-after seat (Opens (Handle.Folder r.node f.entries)) table mid after kept f.handled)
   behind look.Failed a l f = failed-by NodeOp.OpenDir tt seat d.path (next (room_in table seat)) answer table after old new a f.0 (handled-after seat HandlesStay table mid after kept f.1)
 
-  pub folder-behind : (look : LookAnswer) → Asks old (is_look_fault look) new → Answered old.told d.path look → ListsBehind r (Some folder) seat look mid answer after →
+  pub folder-behind : (look : LookAnswer) → Asks TreeCall.Look old (is_look_fault look) new → Answered old.told d.path look → ListsBehind r (Some folder) seat look mid answer after →
       DoneBy (open_dir r (Some folder) (room_in table seat)) NodeOp.OpenDir seat table old (done_with (record { answer = answer; look = Some look })) after new
   folder-behind look a l f = subst (λ (w : Walk NodeVerdict). DoneBy w NodeOp.OpenDir seat table old (done_with (record { answer = answer; look = Some look })) after new) (sym looks) (behind look a l f)
 
 pub dir-behind-look : (r : NodeRequest) (sight : Sight) (path : List ℕ) (seat : ℕ) (look : LookAnswer) (answer : Answer) (table mid after : HandleTable) (old new : TreeIs) → path_in sight ≡ Some path → (room_in table seat).full ≡ false →
-    Handled seat HandlesStay table mid → Asks old (is_look_fault look) new → Answered old.told path look → ListsBehind r (Some sight) seat look mid answer after →
+    Handled seat HandlesStay table mid → Asks TreeCall.Look old (is_look_fault look) new → Answered old.told path look → ListsBehind r (Some sight) seat look mid answer after →
     DoneBy (open_dir r (Some sight) (room_in table seat)) NodeOp.OpenDir seat table old (done_with (record { answer = answer; look = Some look })) after new
 dir-behind-look r (SightOfFile d w) path seat look answer table mid after old new e free kept a l f = cc
 dir-behind-look r (SightOfFolder (RootOf view numbers views)) path seat look answer table mid after old new e free kept a l f = cc

@@ -6,6 +6,7 @@ use Rattle.portal_base.specs.declared.files.Look.{Look}
 use Rattle.portal_base.specs.declared.memory.WantOfMemory.{WantOfMemory}
 use Rattle.portal_base.specs.declared.who.Who.{Who}
 use Rattle.host_tree.specs.Trees.{Asks, Changes as ChangesFiles, TreeIs, change_named, has_file, is_look_fault, Looks as Shows, resized}
+use Rattle.host_tree.specs.declared.tree.TreeCall.{TreeCall}
 use Rattle.host_tree.specs.declared.tree.TreeDone.{TreeDone}
 use Rattle.host_tree.specs.declared.tree.TreeDone.TheVariants as done
 use Rattle.host_tree.specs.declared.tree.LookAnswer.{LookAnswer}
@@ -77,7 +78,7 @@ module _ (r : NodeRequest) (flags : ℕ) (document : Document) (name : FileName)
   cuts-walk t = ap (λ (b : Bool). cond b (Ends (Changes name) cut_then (Errs enoent)) (Answers (opened_file (room_in table seat) (file_handle document name r.node flags) FilesStay))) t
 
   abbrev SetsLength : TreeDone → Type 0
-  SetsLength d = ChangesFiles (has_file name) (change_named name (resized 0 now)) old d new
+  SetsLength d = ChangesFiles TreeCall.SetLen (has_file name) (change_named name (resized 0 now)) old d new
 
   stays-at : truncates flags ≡ true → (e : Ended) → ended ≡ e → Goes (Ends (Changes name) cut_then (Errs enoent)) old (done_of_ended e) HandlesStay new → Opening (open_name r flags (room_in table seat) document name) seat table old (done_of_ended ended) table new
   stays-at t e s g = subst (λ (w : Walk NodeVerdict). Opening w seat table old (done_of_ended ended) table new) (sym (cuts-walk t))
@@ -98,7 +99,7 @@ pub behind-file : (next : OnFile) (answer : LookAnswer) (shown : Look) (generati
 behind-file next answer shown generation size moment seat table old o after new e f g =
     subst (λ (a : LookAnswer). IfOk o (λ ended. OpeningBehind (if_file next) a seat table old ended after new)) (sym (e ∙ ap look.Is f)) g
 
-pub behind-look : (path : List ℕ) (next : Look → Walk NodeVerdict) (answer : LookAnswer) (seat : ℕ) (table : HandleTable) (old mid : TreeIs) (ended : Ended) (after : HandleTable) (new : TreeIs) → Asks old (is_look_fault answer) mid → Shows old.told path answer →
+pub behind-look : (path : List ℕ) (next : Look → Walk NodeVerdict) (answer : LookAnswer) (seat : ℕ) (table : HandleTable) (old mid : TreeIs) (ended : Ended) (after : HandleTable) (new : TreeIs) → Asks TreeCall.Look old (is_look_fault answer) mid → Shows old.told path answer →
     OpeningBehind next answer seat table mid ended after new → Opening (Looks (AtPath path) next) seat table old (done_behind (Some answer) ended) after new
 behind-look path next (look.Is shown) seat table old mid ended after new a l g = record {
   change = g.change;
@@ -111,7 +112,7 @@ behind-look path next look.Failed seat table old mid ended after new a l g = rec
   handled = g.1;
 }
 
-pub wants-behind : (table : HandleTable) (old mid : TreeIs) (failed : Bool) (after : HandleTable) (new : TreeIs) → failed ≡ false → Asks old failed mid → Wants table mid after new → Wants table old after new
+pub wants-behind : {kind : TreeCall} (table : HandleTable) (old mid : TreeIs) (failed : Bool) (after : HandleTable) (new : TreeIs) → failed ≡ false → Asks kind old failed mid → Wants table mid after new → Wants table old after new
 wants-behind table old mid failed after new f a w = record { handles = w.handles; calls = called-behind old mid new failed f a w.calls }
 
 -- ---- the request

@@ -1,5 +1,5 @@
 -- How a request that may change a file follows its walk.
-use Rattle.std.proofs.Common.{◌≡◌, ℕ, List, [], ◌∷◌, Bool, true, false, cond, Option, Some, None, refl, sym, ap, subst, ◌∙◌, IfSome, Result, Ok, Err, length, replicate, suc, take, unwrap_or, not, nat_lt, ◌≤◌, arith}
+use Rattle.std.proofs.Common.{◌≡◌, ℕ, List, [], ◌∷◌, Bool, true, false, cond, Option, Some, None, refl, sym, ap, subst, ◌∙◌, IfSome, Result, Ok, Err, length, map, take, unwrap_or, not, nat_lt, ◌≤◌, arith, inl, inr}
 use Rattle.std.specs.Option.{option_map}
 use Rattle.std.proofs.lemmas.Bool.Decides.{nat_tests}
 use Rattle.std.specs.List.{slice_set}
@@ -14,6 +14,7 @@ use Rattle.portal_base.specs.declared.who.Who.{Who}
 use Rattle.host_tree.specs.Trees.{Asks, Attrs, Changes as ChangesFiles, Looks as Shows, TreeIs, after_call, attributes_of, is_look_fault}
 use Rattle.host_tree.specs.declared.tree.AttrAnswer.TheVariants as attr
 use Rattle.host_tree.specs.declared.tree.LookAnswer.{LookAnswer}
+use Rattle.host_tree.specs.declared.tree.TreeCall.{TreeCall}
 use Rattle.host_tree.specs.declared.tree.LookAnswer.TheVariants as look
 use Rattle.host_tree.specs.declared.tree.TreeDone.{TreeDone}
 use Rattle.host_tree.specs.declared.tree.TreeDone.TheVariants as done
@@ -28,7 +29,7 @@ use Rattle.portal_model.specs.declared.state.Document.{Document}
 use Rattle.portal_model.specs.Place.{Folder, Sight, SightOfFolder, place_of, reach_at}
 use Rattle.portal_model.specs.Walk.{AtPath, Ends, Gives, IsFound, IsShown, LastCall, Looks, Named, Target, Walk, changes_file, is_found, look_of_file}
 use Rattle.app_view.specs.declared.book.ViewBook.{ViewBook}
-use Rattle.node_looks.specs.TreeCalls.{Calling, CallsAsTold, WasCalled, after_calls, with_files}
+use Rattle.node_looks.specs.TreeCalls.{Call, Calling, CallsAsTold, WasCalled, WasCalledOnce, after_calls, call_at, call_doing, unfailed, with_files}
 use Rattle.open_handles.specs.Opened.{HandleTable, handle_of as handle_in, opened_on}
 use Rattle.portal_model.specs.declared.handle.Handle.{Handle}
 use Rattle.portal_model.specs.declared.request.NodeOp.{NodeOp}
@@ -42,7 +43,7 @@ use Rattle.node_looks.specs.declared.opened.Allowed.{Allowed}
 use Rattle.node_looks.specs.declared.opened.OpenFile.{OpenFile as FileLent}
 use Rattle.node_looks.specs.declared.served.FileBook.{FileBook}
 use Rattle.node_looks.specs.declared.served.NodeCall.{NodeCall}
-use Rattle.node_looks.specs.Done.{Does, DoneBy, answer_of, file_change, handle_change}
+use Rattle.node_looks.specs.Done.{Does, DoneBy, Wants, answer_of, file_change, handle_change}
 use Rattle.node_looks.specs.Opened.{IsAllowed, by_open_file, file_of}
 use Rattle.node_looks.specs.OpenHandles.{Handled}
 use Rattle.node_looks.proofs.DoneLemmas.{IsExact, done-in, handle-is, handles-stay, same-answer, walk-is}
@@ -61,16 +62,16 @@ pub same-told : (t : Option (List File)) → t ≡ option_map (files_after true 
 same-told None = refl
 same-told (Some files) = refl
 
-one-call : (old : TreeIs) (failed : Bool) (new : TreeIs) → new ≡ after_call old failed new.told → FailsAsTold old.calls failed → Calling old (failed ∷ []) new.told new
+one-call : {kind : TreeCall} (old : TreeIs) (failed : Bool) (new : TreeIs) → new ≡ after_call old kind failed new.told → FailsAsTold old.calls failed → Calling old ((kind, failed) ∷ []) new.told new
 one-call old failed new g f = record { goes = g; fails = (f, tt) }
 
-pub more-calls : (old : TreeIs) (failed : Bool) (mid : TreeIs) (calls : List Bool) (files : Option (List File)) (new : TreeIs) → Asks old failed mid → Calling mid calls files new → Calling old (failed ∷ calls) files new
+pub more-calls : {kind : TreeCall} (old : TreeIs) (failed : Bool) (mid : TreeIs) (calls : List Call) (files : Option (List File)) (new : TreeIs) → Asks kind old failed mid → Calling mid calls files new → Calling old ((kind, failed) ∷ calls) files new
 more-calls old failed mid calls files new a c = record {
   goes = c.goes ∙ ap (λ (t : TreeIs). with_files (after_calls t calls) files) a.goes;
   fails = (a.fails, subst (λ x. CallsAsTold x calls) (ap (λ (t : TreeIs). t.calls) a.goes) c.fails);
 }
 
-told-stays : (old : TreeIs) (failed : Bool) (new : TreeIs) → Asks old failed new → new.told ≡ old.told
+told-stays : {kind : TreeCall} (old : TreeIs) (failed : Bool) (new : TreeIs) → Asks kind old failed new → new.told ≡ old.told
 told-stays old failed new a = ap (λ (t : TreeIs). t.told) a.goes
 
 -- ---- the room for looks
@@ -129,7 +130,7 @@ found-told None call found h = tt
 found-told (Some files) call found h = sym h
 
 pub ends-done : (call : LastCall) (f : ℕ → NodeVerdict) (d : NodeDoing) (now : ℕ) (old new : TreeIs) → changes_file call ≡ true → f now ≡ Yields d →
-    ChangesFiles (λ files. is_found files call) (files_after true d.file) old done.Done new → Goes (Ends call f (Errs enoent)) old (done_of_ended (ended_by now came.Done d.answer)) d.handle new
+    ChangesFiles (call_doing (f 0)) (λ files. is_found files call) (files_after true d.file) old done.Done new → Goes (Ends call f (Errs enoent)) old (done_of_ended (ended_by now came.Done d.answer)) d.handle new
 ends-done call f d now old new k e h = record {
   gives = found-told old.told call true h.does.1;
   clock = sym k;
@@ -143,7 +144,7 @@ ends-done call f d now old new k e h = record {
 }
 
 pub ends-missing : (call : LastCall) (f : ℕ → NodeVerdict) (change : List File → List File) (answer : NodeAnswer) (now : ℕ) (old new : TreeIs) → changes_file call ≡ true →
-    ChangesFiles (λ files. is_found files call) change old done.NotFile new → Goes (Ends call f (Errs enoent)) old (done_of_ended (ended_by now came.NotFile answer)) HandlesStay new
+    ChangesFiles (call_doing (f 0)) (λ files. is_found files call) change old done.NotFile new → Goes (Ends call f (Errs enoent)) old (done_of_ended (ended_by now came.NotFile answer)) HandlesStay new
 ends-missing call f change answer now old new k h = record {
   gives = (refl, refl, refl, found-told old.told call false h.does.1);
   clock = sym k;
@@ -157,7 +158,7 @@ ends-missing call f change answer now old new k h = record {
 }
 
 pub ends-failed : (call : LastCall) (f : ℕ → NodeVerdict) (change : List File → List File) (answer : NodeAnswer) (now : ℕ) (old new : TreeIs) → changes_file call ≡ true →
-    ChangesFiles (λ files. is_found files call) change old done.Failed new → Goes (Ends call f (Errs enoent)) old (done_of_ended (ended_by now came.Failed answer)) HandlesStay new
+    ChangesFiles (call_doing (f 0)) (λ files. is_found files call) change old done.Failed new → Goes (Ends call f (Errs enoent)) old (done_of_ended (ended_by now came.Failed answer)) HandlesStay new
 ends-failed call f change answer now old new k h = record {
   gives = tt;
   clock = sym k;
@@ -171,20 +172,20 @@ ends-failed call f change answer now old new k h = record {
 }
 
 ends-goes : (call : LastCall) (f : ℕ → NodeVerdict) (change : FileChange) (answer : NodeAnswer) (now : ℕ) (c : Came) (old new : TreeIs) → changes_file call ≡ true → f now ≡ changes change answer →
-    ChangesFiles (λ files. is_found files call) (files_after true change) old (tree_done c) new → Goes (Ends call f (Errs enoent)) old (done_of_ended (ended_by now c answer)) HandlesStay new
+    ChangesFiles (call_doing (f 0)) (λ files. is_found files call) (files_after true change) old (tree_done c) new → Goes (Ends call f (Errs enoent)) old (done_of_ended (ended_by now c answer)) HandlesStay new
 ends-goes call f change answer now came.Done old new k e h = ends-done call f (record { answer = answer; file = change; handle = HandlesStay }) now old new k e h
 ends-goes call f change answer now came.NotFile old new k e h = ends-missing call f (files_after true change) answer now old new k h
 ends-goes call f change answer now came.Failed old new k e h = ends-failed call f (files_after true change) answer now old new k h
 
 pub changed-goes : (call : LastCall) (f : ℕ → NodeVerdict) (change : FileChange) (answer : NodeAnswer) (now : ℕ) (c : Came) (d : TreeDone) (ended : Ended) (old new : TreeIs) → changes_file call ≡ true → f now ≡ changes change answer →
-    d ≡ tree_done c → ended ≡ ended_by now c answer → ChangesFiles (λ files. is_found files call) (files_after true change) old d new → Goes (Ends call f (Errs enoent)) old (done_of_ended ended) HandlesStay new
+    d ≡ tree_done c → ended ≡ ended_by now c answer → ChangesFiles (call_doing (f 0)) (λ files. is_found files call) (files_after true change) old d new → Goes (Ends call f (Errs enoent)) old (done_of_ended ended) HandlesStay new
 changed-goes call f change answer now c d ended old new k e s a h =
     subst (λ (x : Ended). Goes (Ends call f (Errs enoent)) old (done_of_ended x) HandlesStay new) (sym a)
-    (ends-goes call f change answer now c old new k e (subst (λ (x : TreeDone). ChangesFiles (λ files. is_found files call) (files_after true change) old x new) s h))
+    (ends-goes call f change answer now c old new k e (subst (λ (x : TreeDone). ChangesFiles (call_doing (f 0)) (λ files. is_found files call) (files_after true change) old x new) s h))
 
 -- ---- a look ahead
 
-pub looked-goes : (target : Target) (next : Look → Walk NodeVerdict) (shown : Look) (ended : Ended) (change : HandleChange) (old mid new : TreeIs) → Asks old false mid → IsShown old.told target shown →
+pub looked-goes : (target : Target) (next : Look → Walk NodeVerdict) (shown : Look) (ended : Ended) (change : HandleChange) (old mid new : TreeIs) → Asks (call_at target) old false mid → IsShown old.told target shown →
     Goes (next shown) mid (done_of_ended ended) change new → Goes (Looks target next) old (done_behind (Some (look.Is shown)) ended) change new
 looked-goes target next shown ended change old mid new a i g = record {
   gives = (i, subst (λ (t : Option (List File)). Gives t (next shown) (shown_behind ended.call) (is_tree (fault_of_call ended.call))) (told-stays old false mid a) g.gives);
@@ -198,7 +199,7 @@ looked-goes target next shown ended change old mid new a i g = record {
   calls = more-calls old false mid _ new.told new a g.calls;
 }
 
-failed-goes : (target : Target) (next : Look → Walk NodeVerdict) (old new : TreeIs) → Asks old true new → Goes (Looks target next) old (done_behind (Some look.Failed) (refuses eio)) HandlesStay new
+failed-goes : (target : Target) (next : Look → Walk NodeVerdict) (old new : TreeIs) → Asks (call_at target) old true new → Goes (Looks target next) old (done_behind (Some look.Failed) (refuses eio)) HandlesStay new
 failed-goes target next old new a = record {
   gives = refl;
   clock = refl;
@@ -234,13 +235,13 @@ named-shown (Some files) name size moment h = in-files files h
             rw (← same, ← size-is, ← moment-is) refl
         by false n e more = more e
 
-pub behind-goes : (target : Target) (next : Look → Walk NodeVerdict) (a : LookAnswer) (ended : Ended) (change : HandleChange) (old mid new : TreeIs) → Asks old (is_look_fault a) mid → ShowsAt old.told target a →
+pub behind-goes : (target : Target) (next : Look → Walk NodeVerdict) (a : LookAnswer) (ended : Ended) (change : HandleChange) (old mid new : TreeIs) → Asks (call_at target) old (is_look_fault a) mid → ShowsAt old.told target a →
     GoesBehind next a mid ended change new → Goes (Looks target next) old (done_behind (Some a) ended) change new
 behind-goes target next (look.Is shown) ended change old mid new a i g = looked-goes target next shown ended change old mid new a i g
 behind-goes target next look.Failed ended change old mid new a i g =
     subst (λ (e : Ended). Goes (Looks target next) old (done_behind (Some look.Failed) e) change new) (sym g.0)
     (subst (λ (h : HandleChange). Goes (Looks target next) old (done_behind (Some look.Failed) (refuses eio)) h new) (sym g.1)
-    (failed-goes target next old new (subst (λ (t : TreeIs). Asks old true t) (sym g.2) a)))
+    (failed-goes target next old new (subst (λ (t : TreeIs). Asks (call_at target) old true t) (sym g.2) a)))
 
 on-file : (errno : ℕ) (a : LookAnswer) (answer : Answer) (t : TreeIs) → ComesToBehind (errs_on_file errno) a answer → GoesBehind (if_file (errs_on_file errno)) a t (record { answer = answer; call = None }) HandlesStay t
 on-file errno (look.Is (Look.File generation size moment)) answer t h = as-refused errno answer t h
@@ -248,7 +249,7 @@ on-file errno (look.Is Look.Folder) answer t h = as-refused enoent answer t h
 on-file errno (look.Is Look.Missing) answer t h = as-refused enoent answer t h
 on-file errno look.Failed answer t h = (ap (λ (x : Answer). record { answer = x; call = None }) h, refl, refl)
 
-pub on-file-goes : (path : List ℕ) (errno : ℕ) (a : LookAnswer) (answer : Answer) (old new : TreeIs) → Asks old (is_look_fault a) new → Shows old.told path a → ComesToBehind (errs_on_file errno) a answer →
+pub on-file-goes : (path : List ℕ) (errno : ℕ) (a : LookAnswer) (answer : Answer) (old new : TreeIs) → Asks TreeCall.Look old (is_look_fault a) new → Shows old.told path a → ComesToBehind (errs_on_file errno) a answer →
     Goes (at_file path (errs_on_file errno)) old (done_behind (Some a) (record { answer = answer; call = None })) HandlesStay new
 on-file-goes path errno a answer old new asks shows h = behind-goes (AtPath path) (if_file (errs_on_file errno)) a (record { answer = answer; call = None }) HandlesStay old new new asks (shows-path old.told path a shows) (on-file errno a answer new h)
 
@@ -258,13 +259,26 @@ pub on-err : {A : Type 0} (r : Result A WantOfMemory) (P : Type 0) → P → OnE
 on-err (Ok x) P p = tt
 on-err (Err e) P p = p
 
-pub called-behind : (old mid new : TreeIs) (failed : Bool) → failed ≡ false → Asks old failed mid → WasCalled mid new → WasCalled old new
-called-behind old mid new failed f a w =
-    let asked : Asks old false mid = subst (λ (b : Bool). Asks old b mid) f a in (
-      suc w.0,
-      more-calls old false mid (replicate w.0 false) old.told new asked
-          (subst (λ (t : Option (List File)). Calling mid (replicate w.0 false) t new) (told-stays old false mid asked) w.1),
+pub called-behind : {kind : TreeCall} (old mid new : TreeIs) (failed : Bool) → failed ≡ false → Asks kind old failed mid → WasCalled mid new → WasCalled old new
+called-behind {kind} old mid new failed f a w =
+    let asked : Asks kind old false mid = subst (λ (b : Bool). Asks kind old b mid) f a in (
+      kind ∷ w.0,
+      more-calls old false mid (map unfailed w.0) old.told new asked
+          (subst (λ (t : Option (List File)). Calling mid (map unfailed w.0) t new) (told-stays old false mid asked) w.1),
     )
+
+-- a call that wanted memory
+pub wanted-memory : {kind : TreeCall} (allows : List File → Bool) (change : List File → List File) (d : TreeDone) (old new : TreeIs) → d ≡ done.Memory → ChangesFiles kind allows change old d new → WasCalled old new
+wanted-memory {kind} allows change d old new e c =
+    let h : ChangesFiles kind allows change old done.Memory new = subst (λ (x : TreeDone). ChangesFiles kind allows change old x new) e c in (
+      kind ∷ [],
+      record { goes = h.goes ∙ ap (λ (t : Option (List File)). after_call old kind false t) h.does; fails = (h.fails, tt) },
+    )
+
+-- of one that was called once at most
+pub once-wants : (table : HandleTable) (old new : TreeIs) → WasCalledOnce old new → Wants table old table new
+once-wants table old new (inl e) = record { handles = λ s h. h; calls = ([], record { goes = e; fails = tt }) }
+once-wants table old new (inr k) = record { handles = λ s h. h; calls = (k.0 ∷ [], k.1) }
 
 -- ---- parts of a walk
 

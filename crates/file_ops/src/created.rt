@@ -16,7 +16,7 @@ ghost use Rattle.portal_model.specs.State.{State};
 ghost use Rattle.app_view.specs.Books.{Lends};
 ghost use Rattle.app_view.specs.declared.book.ViewBook.{ViewBook};
 ghost use Rattle.file_ops.specs.Creates.{Opening, OpeningBehind, made_walk, target_walk};
-ghost use Rattle.node_looks.specs.Done.{Does, Reads, Wants, room_in};
+ghost use Rattle.node_looks.specs.Done.{Does, MayRead, Reads, Wants, room_in};
 ghost use Rattle.node_looks.specs.OpenHandles.{Handled};
 ghost use Rattle.node_looks.specs.Sights.{sight_of, view_of};
 ghost use Rattle.node_looks.specs.TreeCalls.{WasCalled};
@@ -86,9 +86,9 @@ pub fn create<T: HostTree, C: Clock>(
     requires { IsSome (opened_on handles.old.seats call.now.seat) }
     ensures ok { call.now.request.now.op ≡ NodeOp.Create name.now flags → IfOk result (λ done.
         Does book.now call.now handles.old (T.is tree.old) done handles.new (T.is tree.new)) }
-    ensures clock { IfOk result (λ done. Reads C.told clock.old done.now clock.new) }
+    ensures clock { IfOk result (λ done. Reads C.reads clock.old done.now clock.new) }
     ensures err { OnErr result (Wants handles.old (T.is tree.old) handles.new (T.is tree.new)) }
-    ensures clock_err { OnErr result (C.told clock.new ≡ C.told clock.old) }
+    ensures clock_err { OnErr result (MayRead C.reads clock.old clock.new) }
 {
     let room = room_for_looks(alloc)?;
     let target = find_target(&book.view, call.who, call.request, name, flags);
@@ -175,11 +175,11 @@ fn make<T: HostTree, C: Clock>(
         call.now.seat handles.old (T.is tree.old) (done_of_tried tried) handles.new
         (T.is tree.new)) }
     ensures clock { IfOk result (λ tried.
-        Reads C.told clock.old (moment_of tried.ended.call) clock.new) }
+        Reads C.reads clock.old (moment_of tried.ended.call) clock.new) }
     ensures err { OnErr result (WasCalled (T.is tree.old) (T.is tree.new)) }
     ensures handles_err { OnErr result
         (Handled call.now.seat HandlesStay handles.old handles.new) }
-    ensures clock_err { OnErr result (C.told clock.new ≡ C.told clock.old) }
+    ensures clock_err { OnErr result (MayRead C.reads clock.old clock.new) }
 {
     match target {
         Target::Refused(errno) => Ok(Tried::unlooked(Ended::refused(errno))),
@@ -214,11 +214,11 @@ fn make_new<T: HostTree, C: Clock>(
         call.now.seat handles.old (T.is tree.old) (done_of_tried tried) handles.new
         (T.is tree.new)) }
     ensures clock { IfOk result (λ tried.
-        Reads C.told clock.old (moment_of tried.ended.call) clock.new) }
+        Reads C.reads clock.old (moment_of tried.ended.call) clock.new) }
     ensures err { OnErr result (WasCalled (T.is tree.old) (T.is tree.new)) }
     ensures handles_err { OnErr result
         (Handled call.now.seat HandlesStay handles.old handles.new) }
-    ensures clock_err { OnErr result (C.told clock.new ≡ C.told clock.old) }
+    ensures clock_err { OnErr result (MayRead C.reads clock.old clock.new) }
 {
     // Memory for the handle's path is taken ahead of the call that makes the file.
     let path = made.document.path.replica(alloc)?;
@@ -253,12 +253,12 @@ fn make_looked<T: HostTree, C: Clock>(
         (create_there call.now.request.now flags (room_in handles.old call.now.seat)
         made.entry.document.now made.entry.node) look call.now.seat handles.old (T.is tree.old)
         ended handles.new (T.is tree.new)) }
-    ensures clock { IfOk result (λ ended. Reads C.told clock.old (moment_of ended.call) clock.new) }
+    ensures clock { IfOk result (λ ended. Reads C.reads clock.old (moment_of ended.call) clock.new) }
     ensures err { OnErr result (WasCalled (T.is tree.old) (T.is tree.new)) }
     ensures shown { OnErr result (is_look_fault look ≡ false) }
     ensures handles_err { OnErr result
         (Handled call.now.seat HandlesStay handles.old handles.new) }
-    ensures clock_err { OnErr result (C.told clock.new ≡ C.told clock.old) }
+    ensures clock_err { OnErr result (MayRead C.reads clock.old clock.new) }
 {
     match look {
         LookAnswer::Is(Look::Missing) => make_file(handles, tree, clock, call, flags, made, file),
@@ -287,11 +287,11 @@ fn make_file<T: HostTree, C: Clock>(
         (create_there call.now.request.now flags (room_in handles.old call.now.seat)
         made.entry.document.now made.entry.node Look.Missing) call.now.seat handles.old
         (T.is tree.old) (done_of_ended ended) handles.new (T.is tree.new)) }
-    ensures clock { IfOk result (λ ended. Reads C.told clock.old (moment_of ended.call) clock.new) }
+    ensures clock { IfOk result (λ ended. Reads C.reads clock.old (moment_of ended.call) clock.new) }
     ensures err { OnErr result (WasCalled (T.is tree.old) (T.is tree.new)) }
     ensures handles_err { OnErr result
         (Handled call.now.seat HandlesStay handles.old handles.new) }
-    ensures clock_err { OnErr result (C.told clock.new ≡ C.told clock.old) }
+    ensures clock_err { OnErr result (MayRead C.reads clock.old clock.new) }
 {
     let now = clock.now();
     let came = came_of(tree.create(&file.path, now))?;

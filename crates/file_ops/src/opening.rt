@@ -10,7 +10,7 @@ ghost use Rattle.portal_model.specs.Open.{file_handle, open_file, open_name, ope
 ghost use Rattle.portal_model.specs.Place.{place_of};
 ghost use Rattle.portal_model.specs.State.{State};
 ghost use Rattle.app_view.specs.Books.{Lends};
-ghost use Rattle.node_looks.specs.Done.{Does, Reads, Wants, room_in};
+ghost use Rattle.node_looks.specs.Done.{Does, MayRead, Reads, Wants, room_in};
 ghost use Rattle.node_looks.specs.OpenHandles.{Handled};
 ghost use Rattle.file_ops.specs.Creates.{Opening, OpeningBehind};
 ghost use Rattle.file_ops.specs.Tries.{done_of_ended, done_of_tried, moment_of};
@@ -50,9 +50,9 @@ pub fn open<T: HostTree, C: Clock>(
     requires { IsSome (opened_on handles.old.seats call.now.seat) }
     ensures ok { call.now.request.now.op ≡ NodeOp.Open flags → IfOk result (λ done.
         Does book.now call.now handles.old (T.is tree.old) done handles.new (T.is tree.new)) }
-    ensures clock { IfOk result (λ done. Reads C.told clock.old done.now clock.new) }
+    ensures clock { IfOk result (λ done. Reads C.reads clock.old done.now clock.new) }
     ensures err { OnErr result (Wants handles.old (T.is tree.old) handles.new (T.is tree.new)) }
-    ensures clock_err { OnErr result (C.told clock.new ≡ C.told clock.old) }
+    ensures clock_err { OnErr result (MayRead C.reads clock.old clock.new) }
 {
     let room = room_for_looks(alloc)?;
     let tried = opened(alloc, &book.view, handles, tree, clock, call, flags)?;
@@ -76,9 +76,9 @@ fn opened<T: HostTree, C: Clock>(
         (room_in handles.old call.now.seat)) call.now.seat handles.old (T.is tree.old)
         (done_of_tried tried) handles.new (T.is tree.new)) }
     ensures clock { IfOk result (λ tried.
-        Reads C.told clock.old (moment_of tried.ended.call) clock.new) }
+        Reads C.reads clock.old (moment_of tried.ended.call) clock.new) }
     ensures err { OnErr result (Wants handles.old (T.is tree.old) handles.new (T.is tree.new)) }
-    ensures clock_err { OnErr result (C.told clock.new ≡ C.told clock.old) }
+    ensures clock_err { OnErr result (MayRead C.reads clock.old clock.new) }
 {
     if has_no_mode(flags) {
         return Ok(Tried::unlooked(Ended::refused(EINVAL)));
@@ -110,9 +110,9 @@ fn open_document<T: HostTree, C: Clock>(
         seen.entry.document.now seen.entry.may_write)) call.now.seat handles.old
         (T.is tree.old) (done_of_tried tried) handles.new (T.is tree.new)) }
     ensures clock { IfOk result (λ tried.
-        Reads C.told clock.old (moment_of tried.ended.call) clock.new) }
+        Reads C.reads clock.old (moment_of tried.ended.call) clock.new) }
     ensures err { OnErr result (Wants handles.old (T.is tree.old) handles.new (T.is tree.new)) }
-    ensures clock_err { OnErr result (C.told clock.new ≡ C.told clock.old) }
+    ensures clock_err { OnErr result (MayRead C.reads clock.old clock.new) }
 {
     let look = tree.look(&seen.document.path);
     let ended = open_looked(alloc, handles, tree, clock, call, flags, seen, look)?;
@@ -138,10 +138,10 @@ fn open_looked<T: HostTree, C: Clock>(
         (open_file call.now.request.now flags (room_in handles.old call.now.seat)
         seen.entry.document.now seen.entry.may_write)) look call.now.seat handles.old
         (T.is tree.old) ended handles.new (T.is tree.new)) }
-    ensures clock { IfOk result (λ ended. Reads C.told clock.old (moment_of ended.call) clock.new) }
+    ensures clock { IfOk result (λ ended. Reads C.reads clock.old (moment_of ended.call) clock.new) }
     ensures err { OnErr result (Wants handles.old (T.is tree.old) handles.new (T.is tree.new)) }
     ensures shown { OnErr result (is_look_fault look ≡ false) }
-    ensures clock_err { OnErr result (C.told clock.new ≡ C.told clock.old) }
+    ensures clock_err { OnErr result (MayRead C.reads clock.old clock.new) }
 {
     match look {
         LookAnswer::Is(Look::File { generation, .. }) => {
@@ -168,9 +168,9 @@ fn open_shown<T: HostTree, C: Clock>(
         (open_file call.now.request.now flags (room_in handles.old call.now.seat)
         seen.entry.document.now seen.entry.may_write generation size moment) call.now.seat
         handles.old (T.is tree.old) (done_of_ended ended) handles.new (T.is tree.new)) }
-    ensures clock { IfOk result (λ ended. Reads C.told clock.old (moment_of ended.call) clock.new) }
+    ensures clock { IfOk result (λ ended. Reads C.reads clock.old (moment_of ended.call) clock.new) }
     ensures err { OnErr result (Wants handles.old (T.is tree.old) handles.new (T.is tree.new)) }
-    ensures clock_err { OnErr result (C.told clock.new ≡ C.told clock.old) }
+    ensures clock_err { OnErr result (MayRead C.reads clock.old clock.new) }
 {
     if is_denied(flags, seen.may_write) {
         return Ok(Ended::refused(EACCES));
@@ -200,9 +200,9 @@ fn open_name<T: HostTree, C: Clock>(
     ensures ok { IfOk result (λ ended. Opening (open_name call.now.request.now flags
         (room_in handles.old call.now.seat) document.now name) call.now.seat handles.old
         (T.is tree.old) (done_of_ended ended) handles.new (T.is tree.new)) }
-    ensures clock { IfOk result (λ ended. Reads C.told clock.old (moment_of ended.call) clock.new) }
+    ensures clock { IfOk result (λ ended. Reads C.reads clock.old (moment_of ended.call) clock.new) }
     ensures err { OnErr result (Wants handles.old (T.is tree.old) handles.new (T.is tree.new)) }
-    ensures clock_err { OnErr result (C.told clock.new ≡ C.told clock.old) }
+    ensures clock_err { OnErr result (MayRead C.reads clock.old clock.new) }
 {
     if truncates(flags) {
         open_cut(handles, tree, clock, call, flags, document, name)
@@ -226,9 +226,9 @@ fn open_cut<T: HostTree, C: Clock>(
     ensures ok { IfOk result (λ ended. Opening (open_name call.now.request.now flags
         (room_in handles.old call.now.seat) document.now name) call.now.seat handles.old
         (T.is tree.old) (done_of_ended ended) handles.new (T.is tree.new)) }
-    ensures clock { IfOk result (λ ended. Reads C.told clock.old (moment_of ended.call) clock.new) }
+    ensures clock { IfOk result (λ ended. Reads C.reads clock.old (moment_of ended.call) clock.new) }
     ensures err { OnErr result (Wants handles.old (T.is tree.old) handles.new (T.is tree.new)) }
-    ensures clock_err { OnErr result (C.told clock.new ≡ C.told clock.old) }
+    ensures clock_err { OnErr result (MayRead C.reads clock.old clock.new) }
 {
     let now = clock.now();
     match came_of(tree.set_len(&name, 0, now))? {

@@ -11,7 +11,7 @@ ghost use Rattle.portal_model.specs.Place.{Folder, place_of, reach_at};
 ghost use Rattle.portal_model.specs.SetAttr.{set_attr, set_attr_at, set_attr_of_folder, set_attr_open, sets_by_handle, sets_owner_or_mode, sets_size};
 ghost use Rattle.portal_model.specs.State.{State};
 ghost use Rattle.app_view.specs.Books.{Lends};
-ghost use Rattle.node_looks.specs.Done.{Does, Reads};
+ghost use Rattle.node_looks.specs.Done.{Does, MayRead, Reads};
 ghost use Rattle.node_looks.specs.Opened.{file_of};
 ghost use Rattle.file_ops.specs.Sets.{denial_of, generation_of, set_subject, sets_file, sets_length, sets_of};
 ghost use Rattle.node_looks.specs.Sights.{sight_of};
@@ -72,9 +72,9 @@ pub fn set_attr<T: HostTree, C: Clock>(
         handle_of (opened_on table.seats call.now.seat) fh ≡ option_copied handle.entry →
         call.now.request.now.op ≡ NodeOp.SetAttr valid fh size → IfOk result (λ done.
         Does book.now call.now table (T.is tree.old) done table (T.is tree.new)) }
-    ensures clock { IfOk result (λ done. Reads C.told clock.old done.now clock.new) }
+    ensures clock { IfOk result (λ done. Reads C.reads clock.old done.now clock.new) }
     ensures err { OnErr result (WasCalled (T.is tree.old) (T.is tree.new)) }
-    ensures clock_err { OnErr result (C.told clock.new ≡ C.told clock.old) }
+    ensures clock_err { OnErr result (MayRead C.reads clock.old clock.new) }
 {
     let room = room_for_looks(alloc)?;
     let setting = Setting {
@@ -111,9 +111,9 @@ fn set<T: HostTree, C: Clock>(
         (place_of s who.now request.now.node) (option_copied handle.entry)) (T.is tree.old)
         (done_of_tried tried) HandlesStay (T.is tree.new)) }
     ensures clock { IfOk result (λ tried.
-        Reads C.told clock.old (moment_of tried.ended.call) clock.new) }
+        Reads C.reads clock.old (moment_of tried.ended.call) clock.new) }
     ensures err { OnErr result (WasCalled (T.is tree.old) (T.is tree.new)) }
-    ensures clock_err { OnErr result (C.told clock.new ≡ C.told clock.old) }
+    ensures clock_err { OnErr result (MayRead C.reads clock.old clock.new) }
 {
     // Times are passed over instead: a program that sets them behind a write is to go on.
     if sets_owner_or_mode(setting.valid) {
@@ -164,9 +164,9 @@ fn set_open<T: HostTree, C: Clock>(
         (set_attr_open (reach_at s who.now) request.now (sets_of setting))) (T.is tree.old)
         (done_of_tried tried) HandlesStay (T.is tree.new)) }
     ensures clock { IfOk result (λ tried.
-        Reads C.told clock.old (moment_of tried.ended.call) clock.new) }
+        Reads C.reads clock.old (moment_of tried.ended.call) clock.new) }
     ensures err { OnErr result (WasCalled (T.is tree.old) (T.is tree.new)) }
-    ensures clock_err { OnErr result (C.told clock.new ≡ C.told clock.old) }
+    ensures clock_err { OnErr result (MayRead C.reads clock.old clock.new) }
 {
     match open_file(handle) {
         Some(file) => set_open_file(book, tree, clock, who, request, setting, file),
@@ -188,9 +188,9 @@ fn set_open_file<T: HostTree, C: Clock>(
         (set_attr_open (reach_at s who.now) request.now (sets_of setting) (file_of file.entry))
         (T.is tree.old) (done_of_tried tried) HandlesStay (T.is tree.new)) }
     ensures clock { IfOk result (λ tried.
-        Reads C.told clock.old (moment_of tried.ended.call) clock.new) }
+        Reads C.reads clock.old (moment_of tried.ended.call) clock.new) }
     ensures err { OnErr result (WasCalled (T.is tree.old) (T.is tree.new)) }
-    ensures clock_err { OnErr result (C.told clock.new ≡ C.told clock.old) }
+    ensures clock_err { OnErr result (MayRead C.reads clock.old clock.new) }
 {
     let allowed = allowed_now(book, who, file);
     let subject = Subject {
@@ -231,9 +231,9 @@ fn set_where<T: HostTree, C: Clock>(
         (at_name name.now (set_subject request.now (sets_of setting) subject name.now)))
         (T.is tree.old) (done_of_tried tried) HandlesStay (T.is tree.new)) }
     ensures clock { IfOk result (λ tried.
-        Reads C.told clock.old (moment_of tried.ended.call) clock.new) }
+        Reads C.reads clock.old (moment_of tried.ended.call) clock.new) }
     ensures err { OnErr result (WasCalled (T.is tree.old) (T.is tree.new)) }
-    ensures clock_err { OnErr result (C.told clock.new ≡ C.told clock.old) }
+    ensures clock_err { OnErr result (MayRead C.reads clock.old clock.new) }
 {
     if !reaches {
         return Ok(Tried::unlooked(Ended::refused(EACCES)));
@@ -254,9 +254,9 @@ fn set_named<T: HostTree, C: Clock>(
         (at_name name.now (set_subject request.now (sets_of setting) subject name.now))
         (T.is tree.old) (done_of_tried tried) HandlesStay (T.is tree.new)) }
     ensures clock { IfOk result (λ tried.
-        Reads C.told clock.old (moment_of tried.ended.call) clock.new) }
+        Reads C.reads clock.old (moment_of tried.ended.call) clock.new) }
     ensures err { OnErr result (WasCalled (T.is tree.old) (T.is tree.new)) }
-    ensures clock_err { OnErr result (C.told clock.new ≡ C.told clock.old) }
+    ensures clock_err { OnErr result (MayRead C.reads clock.old clock.new) }
 {
     let look = look_named(tree, name);
     let ended = set_looked(tree, clock, request, setting, name, subject, look)?;
@@ -290,10 +290,10 @@ fn set_looked<T: HostTree, C: Clock>(
     ensures ok { IfOk result (λ ended. GoesBehind
         (if_file (set_subject request.now (sets_of setting) subject name.now)) look
         (T.is tree.old) ended HandlesStay (T.is tree.new)) }
-    ensures clock { IfOk result (λ ended. Reads C.told clock.old (moment_of ended.call) clock.new) }
+    ensures clock { IfOk result (λ ended. Reads C.reads clock.old (moment_of ended.call) clock.new) }
     ensures err { OnErr result (WasCalled (T.is tree.old) (T.is tree.new)) }
     ensures shown { OnErr result (is_look_fault look ≡ false) }
-    ensures clock_err { OnErr result (C.told clock.new ≡ C.told clock.old) }
+    ensures clock_err { OnErr result (MayRead C.reads clock.old clock.new) }
 {
     match look {
         LookAnswer::Is(Look::File { size, moment, .. }) => {
@@ -319,9 +319,9 @@ fn set_file<T: HostTree, C: Clock>(
         (sets_file (on_node request.now subject.node) (sets_of setting) subject.denial name.now
         subject.may_write size moment) (T.is tree.old) (done_of_ended ended) HandlesStay
         (T.is tree.new)) }
-    ensures clock { IfOk result (λ ended. Reads C.told clock.old (moment_of ended.call) clock.new) }
+    ensures clock { IfOk result (λ ended. Reads C.reads clock.old (moment_of ended.call) clock.new) }
     ensures err { OnErr result (WasCalled (T.is tree.old) (T.is tree.new)) }
-    ensures clock_err { OnErr result (C.told clock.new ≡ C.told clock.old) }
+    ensures clock_err { OnErr result (MayRead C.reads clock.old clock.new) }
 {
     if sets_size(setting.valid) {
         set_size(tree, clock, request, setting, name, subject)
@@ -343,9 +343,9 @@ fn set_size<T: HostTree, C: Clock>(
     ensures ok { IfOk result (λ ended. Goes
         (sets_length (on_node request.now subject.node) (sets_of setting) subject.denial name.now
         subject.may_write) (T.is tree.old) (done_of_ended ended) HandlesStay (T.is tree.new)) }
-    ensures clock { IfOk result (λ ended. Reads C.told clock.old (moment_of ended.call) clock.new) }
+    ensures clock { IfOk result (λ ended. Reads C.reads clock.old (moment_of ended.call) clock.new) }
     ensures err { OnErr result (WasCalled (T.is tree.old) (T.is tree.new)) }
-    ensures clock_err { OnErr result (C.told clock.new ≡ C.told clock.old) }
+    ensures clock_err { OnErr result (MayRead C.reads clock.old clock.new) }
 {
     if !subject.may_write {
         return Ok(Ended::refused(subject.denial));
@@ -377,9 +377,9 @@ fn set_place<T: HostTree, C: Clock>(
         (set_attr_of_folder request.now (sets_of setting))) (T.is tree.old) (done_of_tried tried)
         HandlesStay (T.is tree.new)) }
     ensures clock { IfOk result (λ tried.
-        Reads C.told clock.old (moment_of tried.ended.call) clock.new) }
+        Reads C.reads clock.old (moment_of tried.ended.call) clock.new) }
     ensures err { OnErr result (WasCalled (T.is tree.old) (T.is tree.new)) }
-    ensures clock_err { OnErr result (C.told clock.new ≡ C.told clock.old) }
+    ensures clock_err { OnErr result (MayRead C.reads clock.old clock.new) }
 {
     match place {
         SeenPlace::File { seen, .. } => set_placed(
@@ -426,9 +426,9 @@ fn set_placed<T: HostTree, C: Clock>(
         (set_attr_at request.now (sets_of setting) document.now may_write))
         (T.is tree.old) (done_of_tried tried) HandlesStay (T.is tree.new)) }
     ensures clock { IfOk result (λ tried.
-        Reads C.told clock.old (moment_of tried.ended.call) clock.new) }
+        Reads C.reads clock.old (moment_of tried.ended.call) clock.new) }
     ensures err { OnErr result (WasCalled (T.is tree.old) (T.is tree.new)) }
-    ensures clock_err { OnErr result (C.told clock.new ≡ C.told clock.old) }
+    ensures clock_err { OnErr result (MayRead C.reads clock.old clock.new) }
 {
     let path_copy = document.path.replica(alloc)?;
     let look = tree.look(&document.path);

@@ -2,7 +2,7 @@
 
 ghost use Rattle.std.specs.Prelude.{◌≡◌, IfOk, IsSome, OnErr, false};
 ghost use Rattle.open_handles.specs.Opened.{opened_on};
-ghost use Rattle.node_looks.specs.Done.{Does, Reads, Wants};
+ghost use Rattle.node_looks.specs.Done.{Does, MayRead, Reads, Wants};
 ghost use Rattle.file_ops.specs.Wanting.{may_call_in_vain, may_change_file};
 
 use crate::created::create;
@@ -38,9 +38,9 @@ pub fn serve_node<T: HostTree, C: Clock>(
     requires { IsSome (opened_on handles.old.seats call.now.seat) }
     ensures ok { IfOk result (λ done. Does book.now call.now handles.old (T.is tree.old) done
         handles.new (T.is tree.new)) }
-    ensures clock { IfOk result (λ done. Reads C.told clock.old done.now clock.new) }
+    ensures clock { IfOk result (λ done. Reads C.reads clock.old done.now clock.new) }
     ensures err { OnErr result (Wants handles.old (T.is tree.old) handles.new (T.is tree.new)) }
-    ensures clock_err { OnErr result (C.told clock.new ≡ C.told clock.old) }
+    ensures clock_err { OnErr result (MayRead C.reads clock.old clock.new) }
     ensures unasked { may_call_in_vain call.now.request.now.op ≡ false
         → OnErr result (tree.new ≡ tree.old) }
     ensures unread { may_change_file call.now.request.now.op ≡ false

@@ -9,7 +9,7 @@ ghost use Rattle.portal_model.specs.Place.{reach_at};
 ghost use Rattle.portal_model.specs.State.{State};
 ghost use Rattle.portal_model.specs.Write.{write, write_content, write_name, write_open};
 ghost use Rattle.app_view.specs.Books.{Lends};
-ghost use Rattle.node_looks.specs.Done.{Does, Reads};
+ghost use Rattle.node_looks.specs.Done.{Does, MayRead, Reads};
 ghost use Rattle.node_looks.specs.Opened.{file_of};
 ghost use Rattle.node_looks.specs.TreeCalls.{WasCalled};
 ghost use Rattle.file_ops.specs.Tries.{Goes, done_of_ended, moment_of};
@@ -52,9 +52,9 @@ pub fn write<T: HostTree, C: Clock>(
         handle_of (opened_on table.seats call.now.seat) fh ≡ option_copied handle.entry →
         call.now.request.now.op ≡ NodeOp.Write fh offset content.now → IfOk result (λ done.
         Does book.now call.now table (T.is tree.old) done table (T.is tree.new)) }
-    ensures clock { IfOk result (λ done. Reads C.told clock.old done.now clock.new) }
+    ensures clock { IfOk result (λ done. Reads C.reads clock.old done.now clock.new) }
     ensures err { OnErr result (WasCalled (T.is tree.old) (T.is tree.new)) }
-    ensures clock_err { OnErr result (C.told clock.new ≡ C.told clock.old) }
+    ensures clock_err { OnErr result (MayRead C.reads clock.old clock.new) }
 {
     let room = room_for_looks(alloc)?;
     let ended = written(book, tree, clock, call.who, handle, offset, content)?;
@@ -75,9 +75,9 @@ fn written<T: HostTree, C: Clock>(
         (write (reach_at s who.now) book.now.file_limit offset content.now
         (option_copied handle.entry)) (T.is tree.old) (done_of_ended ended) HandlesStay
         (T.is tree.new)) }
-    ensures clock { IfOk result (λ ended. Reads C.told clock.old (moment_of ended.call) clock.new) }
+    ensures clock { IfOk result (λ ended. Reads C.reads clock.old (moment_of ended.call) clock.new) }
     ensures err { OnErr result (WasCalled (T.is tree.old) (T.is tree.new)) }
-    ensures clock_err { OnErr result (C.told clock.new ≡ C.told clock.old) }
+    ensures clock_err { OnErr result (MayRead C.reads clock.old clock.new) }
 {
     // More than INIT's `max_write` is refused and not cut short.
     if content.len() > WRITE_LIMIT {
@@ -103,9 +103,9 @@ fn write_open<T: HostTree, C: Clock>(
     ensures ok { IfOk result (λ ended. (s : State) → Lends book.now.view s → Goes
         (write_open (reach_at s who.now) book.now.file_limit offset content.now
         (file_of file.entry)) (T.is tree.old) (done_of_ended ended) HandlesStay (T.is tree.new)) }
-    ensures clock { IfOk result (λ ended. Reads C.told clock.old (moment_of ended.call) clock.new) }
+    ensures clock { IfOk result (λ ended. Reads C.reads clock.old (moment_of ended.call) clock.new) }
     ensures err { OnErr result (WasCalled (T.is tree.old) (T.is tree.new)) }
-    ensures clock_err { OnErr result (C.told clock.new ≡ C.told clock.old) }
+    ensures clock_err { OnErr result (MayRead C.reads clock.old clock.new) }
 {
     let allowed = allowed_now(&book.view, who, file);
     write_where(
@@ -136,9 +136,9 @@ fn write_where<T: HostTree, C: Clock>(
     ensures ok { IfOk result (λ ended. Goes (errs_if (not opened) ebadf
         (errs_if (not may_write) eacces (write_content file_limit name.now offset content.now)))
         (T.is tree.old) (done_of_ended ended) HandlesStay (T.is tree.new)) }
-    ensures clock { IfOk result (λ ended. Reads C.told clock.old (moment_of ended.call) clock.new) }
+    ensures clock { IfOk result (λ ended. Reads C.reads clock.old (moment_of ended.call) clock.new) }
     ensures err { OnErr result (WasCalled (T.is tree.old) (T.is tree.new)) }
-    ensures clock_err { OnErr result (C.told clock.new ≡ C.told clock.old) }
+    ensures clock_err { OnErr result (MayRead C.reads clock.old clock.new) }
 {
     if !opened {
         return Ok(Ended::refused(EBADF));
@@ -165,9 +165,9 @@ fn write_named<T: HostTree, C: Clock>(
     ensures ok { IfOk result (λ ended.
         Goes (write_name file_limit name.now offset content.now) (T.is tree.old)
         (done_of_ended ended) HandlesStay (T.is tree.new)) }
-    ensures clock { IfOk result (λ ended. Reads C.told clock.old (moment_of ended.call) clock.new) }
+    ensures clock { IfOk result (λ ended. Reads C.reads clock.old (moment_of ended.call) clock.new) }
     ensures err { OnErr result (WasCalled (T.is tree.old) (T.is tree.new)) }
-    ensures clock_err { OnErr result (C.told clock.new ≡ C.told clock.old) }
+    ensures clock_err { OnErr result (MayRead C.reads clock.old clock.new) }
 {
     if is_past(file_limit, offset, content.len()) {
         return Ok(Ended::refused(EFBIG));

@@ -5,7 +5,7 @@ use Rattle.node_looks.specs.Done.{Reads}
 use Rattle.given_laws.specs.Faulted.{FaultsChangeNothing, failure_of}
 use Rattle.given_laws.specs.OneGiven.{AreFirst}
 use Rattle.host_tree.specs.Devices.{QuietState, quiet_tree_of}
-use Rattle.portal_base.specs.Outside.{HasRisen}
+use Rattle.portal_base.specs.Outside.{HasRisen, Shows}
 use Rattle.portal_steps.specs.Answered.{Answers, TellsFault}
 use Rattle.portal_steps.specs.Devices.{Drawn, TellsFailure}
 use Rattle.portal_steps.specs.Story.{PortalIs, state_now}
@@ -26,7 +26,7 @@ use Rattle.history_trace.specs.Replayed.{Replies}
 
 -- ---- what comes of the clock and of the words
 
-moment-shown : (old : ℕ) (now : Option ℕ) (new : ℕ) → Reads (λ c. Some c) old now new → IfSome now (λ n. n ≡ old)
+moment-shown : (old : ℕ) (now : Option ℕ) (new : ℕ) → Reads Shows old now new → IfSome now (λ n. n ≡ old)
 moment-shown old None new h = tt
 moment-shown old (Some now) new h = h.value
 
@@ -80,7 +80,7 @@ module _ {K : Type 0} (keeper_is : K → KeeperIs) (quiet : (k : K) → (keeper_
     none-if Fault.Tree h = absurd (fails (λ n. let no : Fault.Tree ≡ Fault.None = sym h ∙ n in cc))
     none-if Fault.Keeper h = absurd (fails (λ n. let no : Fault.Keeper ≡ Fault.None = sym h ∙ n in cc))
 
-  pub replies : (seat : ℕ) → Answers quiet_tree_of keeper_is (λ c. Some c) (λ ws. Some ws) old new seat request reply → is_told old.story.began ≡ true → Replies old seat request new reply
+  pub replies : (seat : ℕ) → Answers quiet_tree_of keeper_is Shows (λ ws. Some ws) old new seat request reply → is_told old.story.began ≡ true → Replies old seat request new reply
   replies seat a told =
       let s : State = state_now old.story in
       let is : reply ≡ reply_at s a.entry = subst (λ (b : Bool). Alike b request (reply_at s a.entry) reply) told a.reply_is in

@@ -6,8 +6,8 @@ ghost use Rattle.portal_base.specs.Content.{ArePlaced, paths_of};
 ghost use Rattle.portal_base.specs.Names.{is_host_path};
 ghost use Rattle.host_tree.specs.Devices.{quiet_with_file};
 ghost use Rattle.host_tree.specs.Trees.{put_file};
-ghost use Rattle.portal_model.specs.Opening.{file_of, id_of, opened};
-ghost use Rattle.portal_model.specs.Rows.{are_rows};
+ghost use Rattle.portal_desk.specs.Opening.{IsOpeningState};
+ghost use Rattle.portal_model.specs.Opening.{file_of, opened};
 ghost use Rattle.portal_model.specs.Valid.{Valid};
 ghost use Rattle.history_trace.specs.Replayed.{Begins, tree_with, without_files};
 
@@ -30,9 +30,7 @@ pub(crate) fn opened_portal(
     opening: &OpeningState,
 ) -> Result<QuietPortal, WantOfMemory>
     requires valid { Valid (opened opening.now) }
-    requires placed { ArePlaced (paths_of (map file_of opening.now.files)) }
-    requires made { opening.now.made ≡ map (λ d. id_of d.kept.number) opening.now.documents }
-    requires rows { list_all (λ e. are_rows e.rows) opening.now.entries ≡ true }
+    requires started { IsOpeningState (opened opening.now) }
     ensures { IfOk result (λ portal. Begins opening.now portal.story) }
 {
     let tree = tree_of(alloc, opening.files.as_slice())?;

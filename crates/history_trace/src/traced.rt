@@ -1,13 +1,11 @@
 //! The trace of an application in a history.
 
-ghost use Rattle.std.specs.Prelude.{◌≡◌, ◌≤◌, map, true, IfOk};
-ghost use Rattle.std.specs.List.{list_all};
+ghost use Rattle.std.specs.Prelude.{◌≡◌, ◌≤◌, map, IfOk};
 ghost use Rattle.app_trace.specs.Told.{item_told, trace_told};
 ghost use Rattle.app_world.specs.World.{items, trace};
-ghost use Rattle.portal_base.specs.Content.{ArePlaced, paths_of};
+ghost use Rattle.portal_desk.specs.Opening.{IsOpeningState};
 ghost use Rattle.portal_model.specs.History.{Legal, cost};
-ghost use Rattle.portal_model.specs.Opening.{file_of, id_of, opened};
-ghost use Rattle.portal_model.specs.Rows.{are_rows};
+ghost use Rattle.portal_model.specs.Opening.{opened};
 ghost use Rattle.history_trace.specs.Replayed.{Begins};
 
 use crate::beginning::{QuietPortal, opened_portal};
@@ -20,13 +18,9 @@ use portal_model::entry::Entry;
 use portal_model::opening::OpeningState;
 use std::alloc::Global;
 
-/// The trace of an application in a legal history, which costs no more than its
-/// limit: what it holds of the state that the history begins in, and what then
-/// happens to it.
-///
-/// No number was made in that state but those of its documents, its files stand
-/// in the order of a tree, and its entries have their rows in order, as a portal
-/// has them that starts with records.
+/// The trace of an application in a legal history, which begins in an opening
+/// state and costs no more than its limit: what it holds of that state, and what
+/// then happens to it.
 pub fn trace_of(
     alloc: Global,
     opening: &OpeningState,
@@ -35,9 +29,7 @@ pub fn trace_of(
 ) -> Result<Trace, WantOfMemory>
     requires legal { Legal (opened opening.now) history.now }
     requires within { cost history.now ≤ opening.now.limits.history }
-    requires placed { ArePlaced (paths_of (map file_of opening.now.files)) }
-    requires made { opening.now.made ≡ map (λ d. id_of d.kept.number) opening.now.documents }
-    requires rows { list_all (λ e. are_rows e.rows) opening.now.entries ≡ true }
+    requires started { IsOpeningState (opened opening.now) }
     ensures { IfOk result (λ t. trace_told t
         ≡ trace app.now (opened opening.now) history.now) }
 {
@@ -61,9 +53,7 @@ fn items_told(
 ) -> Result<List<TraceItem>, WantOfMemory>
     requires legal { Legal (opened opening.now) history.now }
     requires within { cost history.now ≤ opening.now.limits.history }
-    requires placed { ArePlaced (paths_of (map file_of opening.now.files)) }
-    requires made { opening.now.made ≡ map (λ d. id_of d.kept.number) opening.now.documents }
-    requires rows { list_all (λ e. are_rows e.rows) opening.now.entries ≡ true }
+    requires started { IsOpeningState (opened opening.now) }
     ensures { IfOk result (λ told. map item_told told
         ≡ items app.now (opened opening.now) history.now) }
 {

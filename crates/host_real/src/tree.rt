@@ -83,8 +83,15 @@ impl<R: Waiter> RealTree<R> {
 
 impl<R: Waiter> HostTree for RealTree<R> {
     ghost use Rattle.std.specs.Prelude.{None};
+    ghost use Rattle.host_tree.specs.Trees.{unnoted};
 
-    ghost is = { λ count. record { began = None; told = None; faults = count; calls = None } };
+    ghost is = { λ count. record {
+      began = None;
+      told = None;
+      faults = count;
+      calls = None;
+      noted = unnoted;
+    } };
 
     fn look(&mut self, path: &HostPath) -> LookAnswer {
         match self.below.look(path) {

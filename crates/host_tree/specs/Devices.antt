@@ -1,14 +1,30 @@
 -- What the trees in memory are.
-use Rattle.std.specs.Prelude.{ℕ, List, [], Some}
-use Rattle.portal_base.specs.Calls.{Counted}
+use Rattle.std.specs.Prelude.{ℕ, List, [], Bool, Some}
+use Rattle.portal_base.specs.Calls.{Counted, counted, uncalled}
 use Rattle.portal_base.specs.declared.files.File.{File}
-use Rattle.host_tree.specs.Trees.{TreeIs, put_file}
+use Rattle.host_tree.specs.Trees.{Noted, TreeIs, note, put_file, unnoted}
+use Rattle.host_tree.specs.declared.tree.TreeCall.{TreeCall}
+
+-- the calls of a tree, and the kinds of the first of them
+pub record CallsMade : Type 0 where
+  pub count : Counted
+  pub noted : Noted
+
+-- none so far
+abbrev pub none_made : List ℕ → CallsMade
+none_made failing = record { count = uncalled failing; noted = unnoted }
+
+-- one call more, of this kind
+abbrev pub made : TreeCall → CallsMade → Bool → CallsMade
+made kind calls failed =
+    record { count = counted calls.count failed; noted = note kind calls.noted }
 
 -- the files that the tree began with and those that it has, and its calls
 pub record TreeState : Type 0 where
   pub began : List File
   pub files : List File
   pub count : Counted
+  pub noted : Noted
 
 abbrev pub tree_of : TreeState → TreeIs
 tree_of s = record {
@@ -16,6 +32,7 @@ tree_of s = record {
   told = Some s.files;
   faults = s.count.faults;
   calls = Some s.count.calls;
+  noted = s.noted;
 }
 
 -- the same of a tree that never fails, whose calls are numbered all the same
@@ -30,6 +47,7 @@ quiet_tree_of s = record {
   told = Some s.files;
   faults = 0;
   calls = Some (record { made = s.made; failing = [] });
+  noted = unnoted;
 }
 
 -- one more file, of those that it began with too

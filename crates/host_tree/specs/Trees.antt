@@ -1,5 +1,5 @@
 -- What a tree of files answers, and what each call leaves of it.
-use Rattle.std.specs.Prelude.{◌≡◌, ℕ, ◌+◌, ◌≤◌, List, length, Bool, true, false, not, ◌&&◌, cond, Option, Some, None, is_some, option_map, IfSome}
+use Rattle.std.specs.Prelude.{◌≡◌, ℕ, ◌+◌, ◌≤◌, min, nat_lt, List, [], ◌∷◌, ◌++◌, length, Bool, true, false, not, ◌&&◌, cond, Option, Some, None, is_some, option_map, IfSome}
 use Rattle.std.specs.List.{filter}
 use Rattle.portal_base.specs.Calls.{Calls, next_call, FailsAsTold}
 use Rattle.portal_base.specs.Devices.{count_after}
@@ -12,12 +12,22 @@ use Rattle.host_tree.specs.declared.tree.AttrAnswer.{AttrAnswer}
 use Rattle.host_tree.specs.declared.tree.AttrAnswer.TheVariants as attr
 use Rattle.host_tree.specs.declared.tree.LookAnswer.{LookAnswer}
 use Rattle.host_tree.specs.declared.tree.LookAnswer.TheVariants as look
+use Rattle.host_tree.specs.declared.tree.TreeCall.{TreeCall}
 use Rattle.host_tree.specs.declared.tree.TreeDone.{TreeDone}
 use Rattle.host_tree.specs.declared.tree.TreeDone.TheVariants as done
 use Rattle.host_tree.specs.declared.tree.TreeRead.{TreeRead}
 use Rattle.host_tree.specs.declared.tree.TreeRead.TheVariants as read
 
 -- ---- what a tree means
+
+-- the kinds of its first calls, in their order, as many as it has room to note
+pub record Noted : Type 0 where
+  pub room : ℕ
+  pub kinds : List TreeCall
+
+-- no call is noted
+abbrev pub unnoted : Noted
+unnoted = record { room = 0; kinds = [] }
 
 pub record TreeIs : Type 0 where
   -- the files that it began with and those that it has, where it tells them
@@ -26,15 +36,28 @@ pub record TreeIs : Type 0 where
   pub faults : ℕ
   -- its calls, where it tells them
   pub calls : Option Calls
+  pub noted : Noted
 
 -- ---- calls and faults
 
--- the tree after a call that failed or didn't, with these files
-abbrev pub after_call : TreeIs → Bool → Option (List File) → TreeIs
-after_call tree failed told = record tree {
+-- one call more, of this kind
+abbrev pub note : TreeCall → Noted → Noted
+note kind noted = record noted {
+  kinds = cond (nat_lt (length noted.kinds) noted.room) (noted.kinds ++ kind ∷ []) noted.kinds;
+}
+
+-- as many kinds are noted as calls were made, up to the room; the number of calls stands still at
+-- the greatest that is counted
+abbrev pub AreNoted : Noted → Calls → Type 0
+AreNoted noted calls = length noted.kinds ≡ min noted.room calls.made
+
+-- the tree after a call of this kind that failed or didn't, with these files
+abbrev pub after_call : TreeIs → TreeCall → Bool → Option (List File) → TreeIs
+after_call tree kind failed told = record tree {
   told = told;
   faults = count_after tree.faults failed;
   calls = option_map next_call tree.calls;
+  noted = note kind tree.noted;
 }
 
 -- ---- answers
@@ -114,14 +137,14 @@ as_before files = files
 
 -- ---- one call
 
--- A call that asks: the files stay.
-pub record Asks (old : TreeIs) (failed : Bool) (new : TreeIs) : Type 0 where
-  pub goes : new ≡ after_call old failed old.told
+-- A call of this kind that asks: the files stay.
+pub record Asks (kind : TreeCall) (old : TreeIs) (failed : Bool) (new : TreeIs) : Type 0 where
+  pub goes : new ≡ after_call old kind failed old.told
   pub fails : FailsAsTold old.calls failed
 
--- A call that changes the files, or doesn't.
-pub record Changes (allows : List File → Bool) (change : List File
+-- A call of this kind that changes the files, or doesn't.
+pub record Changes (kind : TreeCall) (allows : List File → Bool) (change : List File
     → List File) (old : TreeIs) (answer : TreeDone) (new : TreeIs) : Type 0 where
-  pub goes : new ≡ after_call old (is_done_fault answer) new.told
+  pub goes : new ≡ after_call old kind (is_done_fault answer) new.told
   pub does : Does allows change old.told answer new.told
   pub fails : FailsAsTold old.calls (is_done_fault answer)

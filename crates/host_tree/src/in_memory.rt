@@ -5,14 +5,15 @@ ghost use Rattle.portal_base.specs.Content.{IsTree, ArePlaced, paths_of};
 ghost use Rattle.portal_base.specs.Calls.{uncalled};
 ghost use Rattle.host_tree.specs.Trees.{put_file, file_with};
 ghost use Rattle.host_tree.specs.Devices.{with_file, quiet_with_file};
+ghost use Rattle.host_tree.specs.Trees.{unnoted};
 
 use crate::files::{Files, bytes_from};
-use crate::tree::{AttrAnswer, HostTree, LookAnswer, TreeDone, TreeRead};
+use crate::made::CallsMade;
+use crate::tree::{AttrAnswer, HostTree, LookAnswer, TreeCall, TreeDone, TreeRead};
 use portal_base::files::FileName;
 use portal_base::list::{ByteList, List};
 use portal_base::memory::{Replica, WantOfMemory};
 use portal_base::names::HostPath;
-use portal_base::outside::CallCount;
 use std::alloc::Global;
 use std::marker::Model;
 
@@ -23,7 +24,7 @@ pub struct MemoryTree {
     // Contracts speak of the files that it began with too, so each file takes its room twice.
     began: Files,
     files: Files,
-    count: CallCount,
+    made: CallsMade,
 }
 
 impl Model for MemoryTree {
@@ -31,20 +32,30 @@ impl Model for MemoryTree {
 
     ghost Value = { TreeState };
 
-    ghost view = { λ t. record { began = t.began; files = t.files; count = t.count } };
+    ghost view = { λ t. record {
+      began = t.began;
+      files = t.files;
+      count = t.made.count;
+      noted = t.made.noted;
+    } };
 }
 
 impl MemoryTree {
     /// A tree without files, whose calls of these numbers fail, counted from
     /// 1.
     pub fn new(alloc: Global, fails: List<u64>) -> MemoryTree
-        ensures { result ≡ record { began = []; files = []; count = uncalled fails } }
+        ensures { result ≡ record {
+          began = [];
+          files = [];
+          count = uncalled fails;
+          noted = unnoted;
+        } }
     {
         MemoryTree {
             alloc,
             began: Files::new(alloc),
             files: Files::new(alloc),
-            count: CallCount::new(fails),
+            made: CallsMade::new(alloc, fails),
         }
     }
 
@@ -72,6 +83,18 @@ impl MemoryTree {
             moment,
         )
     }
+
+    /// Has the tree note the kinds of its first `room` calls, before the first
+    /// of them.
+    pub fn note_calls(&mut self, room: u32) -> Result<(), WantOfMemory>
+        requires { self.old.count.calls.made ≡ 0 }
+        ensures ok { OnOk result (self.new ≡ record self.old {
+          noted = record { room = room; kinds = self.old.noted.kinds };
+        }) }
+        ensures err { OnErr result (self.new ≡ self.old) }
+    {
+        self.made.take_room(room)
+    }
 }
 
 impl HostTree for MemoryTree {
@@ -80,49 +103,49 @@ impl HostTree for MemoryTree {
     ghost is = { tree_of };
 
     fn look(&mut self, path: &HostPath) -> LookAnswer {
-        if self.count.next_fails() {
+        if self.made.next_fails(TreeCall::Look) {
             return LookAnswer::Failed;
         }
         LookAnswer::Is(self.files.look(path))
     }
 
     fn attr(&mut self, file: &FileName) -> AttrAnswer {
-        if self.count.next_fails() {
+        if self.made.next_fails(TreeCall::Attr) {
             return AttrAnswer::Failed;
         }
         attributes(&self.files, file)
     }
 
     fn read(&mut self, file: &FileName, offset: u64, size: u32) -> TreeRead {
-        if self.count.next_fails() {
+        if self.made.next_fails(TreeCall::Read) {
             return TreeRead::Failed;
         }
         content(self.alloc, &self.files, file, offset, size)
     }
 
     fn write(&mut self, file: &FileName, offset: u64, content: &[u8], now: u64) -> TreeDone {
-        if self.count.next_fails() {
+        if self.made.next_fails(TreeCall::Write) {
             return TreeDone::Failed;
         }
         self.files.write(file, offset, content, now)
     }
 
     fn set_len(&mut self, file: &FileName, size: u64, now: u64) -> TreeDone {
-        if self.count.next_fails() {
+        if self.made.next_fails(TreeCall::SetLen) {
             return TreeDone::Failed;
         }
         self.files.set_len(file, size, now)
     }
 
     fn create(&mut self, path: &HostPath, now: u64) -> TreeDone {
-        if self.count.next_fails() {
+        if self.made.next_fails(TreeCall::Create) {
             return TreeDone::Failed;
         }
         self.files.create(self.alloc, path, now)
     }
 
     fn sync(&mut self, file: &FileName) -> TreeDone {
-        if self.count.next_fails() {
+        if self.made.next_fails(TreeCall::Sync) {
             return TreeDone::Failed;
         }
         rest(&self.files, file)
@@ -131,6 +154,7 @@ impl HostTree for MemoryTree {
     fn known(&self) {
         self.began.known();
         self.files.known();
+        self.made.known();
     }
 }
 

@@ -4,13 +4,15 @@
 //! **It promises**, of each call, what it answers in both directions, and what the
 //! files are afterwards, equal in every other place. `Failed`, `NotFile` and
 //! `Memory` change nothing; a call of a tree that tells its calls fails exactly
-//! where its number is among those that are to.
+//! where its number is among those that are to. Which method was called is seen
+//! of the first calls, as many as a tree has room to note.
 //!
 //! | Room | Holds |
 //! |---|---|
 //! | `tree` | the trait [`HostTree`] and its answers |
 //! | `in_memory` | [`MemoryTree`], whose told calls fail, and [`QuietTree`], which never fails |
 //! | `files` | the files of a tree in memory, by path |
+//! | `made` | the calls of a tree in memory |
 //!
 //! ```text
 //! let mut tree = QuietTree::new(alloc);
@@ -20,7 +22,8 @@
 
 mod files;
 mod in_memory;
+mod made;
 mod tree;
 
 pub use in_memory::{MemoryTree, QuietTree};
-pub use tree::{AttrAnswer, HostTree, LookAnswer, TreeDone, TreeRead};
+pub use tree::{AttrAnswer, HostTree, LookAnswer, TreeCall, TreeDone, TreeRead};

@@ -4,7 +4,8 @@
 //! real one doesn't. Its count of faults rises at each `Failed` and at nothing
 //! else; it stops at the greatest `u64`. One that tells its calls has the
 //! number of those that came and the numbers of those that are to fail,
-//! counted from 1; each call but `known` is one.
+//! counted from 1; each call but `known` is one. The kinds of the first calls
+//! are noted, as many as the tree has room for, which may be none.
 //!
 //! A tree has folders at `/` and at every path above a file. The generation of
 //! each file in memory is 0.
@@ -68,26 +69,45 @@ pub enum TreeDone {
     Memory,
 }
 
+/// A call of a tree, by the method that makes it.
+#[derive(Clone, Copy, Debug, PartialEq, Eq)]
+pub enum TreeCall {
+    /// [`HostTree::look`].
+    Look,
+    /// [`HostTree::attr`].
+    Attr,
+    /// [`HostTree::read`].
+    Read,
+    /// [`HostTree::write`].
+    Write,
+    /// [`HostTree::set_len`].
+    SetLen,
+    /// [`HostTree::create`].
+    Create,
+    /// [`HostTree::sync`].
+    Sync,
+}
+
 /// A tree of files.
 pub trait HostTree {
-    ghost use Rattle.host_tree.specs.Trees.{TreeIs, Asks, Changes, Looks, Attrs, Gets, is_look_fault, is_attr_fault, is_read_fault, has_file, change_named, written, resized, may_create, put_file, new_file, as_before};
+    ghost use Rattle.host_tree.specs.Trees.{TreeIs, Asks, AreNoted, Changes, Looks, Attrs, Gets, is_look_fault, is_attr_fault, is_read_fault, has_file, change_named, written, resized, may_create, put_file, new_file, as_before};
 
     /// What the tree means.
     ghost is: { Self → TreeIs };
 
     /// What stands at a path; it takes no memory.
     fn look(&mut self, path: &HostPath) -> LookAnswer
-        ensures asks { Asks (is self.old) (is_look_fault result) (is self.new) }
+        ensures asks { Asks TreeCall.Look (is self.old) (is_look_fault result) (is self.new) }
         ensures looks { Looks (is self.old).told path.now result };
 
     /// The length and the moment of a file; it takes no memory.
     fn attr(&mut self, file: &FileName) -> AttrAnswer
-        ensures asks { Asks (is self.old) (is_attr_fault result) (is self.new) }
+        ensures asks { Asks TreeCall.Attr (is self.old) (is_attr_fault result) (is self.new) }
         ensures attrs { Attrs (is self.old).told file.now result };
 
     /// The bytes of a file from an offset on, at most `size`.
     fn read(&mut self, file: &FileName, offset: u64, size: u32) -> TreeRead
-        ensures asks { Asks (is self.old) (is_read_fault result) (is self.new) }
+        ensures asks { Asks TreeCall.Read (is self.old) (is_read_fault result) (is self.new) }
         ensures gets { Gets (is self.old).told file.now offset size result };
 
     /// Writes over a file's bytes from an offset on, and sets its moment.
@@ -95,29 +115,32 @@ pub trait HostTree {
     /// A gap behind the former end is filled with zero bytes. A write of no
     /// bytes changes nothing.
     fn write(&mut self, file: &FileName, offset: u64, content: &[u8], now: u64) -> TreeDone
-        ensures { Changes (has_file file.now)
+        ensures { Changes TreeCall.Write (has_file file.now)
             (change_named file.now (written offset content.now now)) (is self.old) result
             (is self.new) };
 
     /// Cuts a file to a length, or fills it with zero bytes up to it, and sets
     /// its moment.
     fn set_len(&mut self, file: &FileName, size: u64, now: u64) -> TreeDone
-        ensures { Changes (has_file file.now) (change_named file.now (resized size now))
-            (is self.old) result (is self.new) };
+        ensures { Changes TreeCall.SetLen (has_file file.now)
+            (change_named file.now (resized size now)) (is self.old) result (is self.new) };
 
     /// Makes an empty file where nothing stands and the parent is a folder.
     fn create(&mut self, path: &HostPath, now: u64) -> TreeDone
-        ensures { Changes (λ files. may_create files path.now) (put_file (new_file path.now now))
-            (is self.old) result (is self.new) };
+        ensures { Changes TreeCall.Create (λ files. may_create files path.now)
+            (put_file (new_file path.now now)) (is self.old) result (is self.new) };
 
     /// Brings a file's bytes to rest.
     fn sync(&mut self, file: &FileName) -> TreeDone
-        ensures { Changes (has_file file.now) as_before (is self.old) result (is self.new) };
+        ensures { Changes TreeCall.Sync (has_file file.now) as_before (is self.old) result
+            (is self.new) };
 
     // No law of a trait can say this of every value, so it is a method, which costs no call.
     /// What is true at each moment: the files that are told are those of a
-    /// tree. It is no call of the tree.
+    /// tree, and as many kinds are noted as calls were made, up to the room. It
+    /// is no call of the tree.
     fn known(&self)
         ensures told { IfSome (is self.now).told IsTree }
-        ensures began { IfSome (is self.now).began IsTree };
+        ensures began { IfSome (is self.now).began IsTree }
+        ensures noted { IfSome (is self.now).calls (AreNoted (is self.now).noted) };
 }

@@ -1,6 +1,5 @@
 -- Which changes of records the tables have a place for. They have the applications of a document or
--- an entry in byte order of their names, each once, and one row for each permission. They are those
--- of version 1, in which no document is strict.
+-- an entry in byte order of their names, each once, and none without a permission.
 use Rattle.std.specs.Prelude.{◌≡◌, List, map, false}
 use Rattle.std.specs.List.{list_any}
 use Rattle.portal_model.specs.declared.records.GrantRecord.{GrantRecord}
@@ -18,9 +17,9 @@ pub record AreRows (rows : List Row) : Type 0 where
   pub rising : IsRising (map (λ row. row.app) rows)
 
 abbrev pub CanKeep : RecordChange → Type 0
-CanKeep (AddDocument document) = (document.strict ≡ false) × AreGrants document.grants
+CanKeep (AddDocument document) = AreGrants document.grants
 CanKeep (RemoveDocument number) = Unit {0}
 CanKeep (SetGrants number grants) = AreGrants grants
 CanKeep (SetEntry entry) = AreRows entry.rows
 CanKeep (RemoveEntry table id) = Unit {0}
-CanKeep Upgrade = ⊥
+CanKeep Upgrade = Unit {0}

@@ -1,10 +1,13 @@
 //! Making changes.
 
 use portal_model::records::RecordChange;
-use sqlite::{Alter, Connection, Error, ErrorCode, Transaction};
+use sqlite::{Alter, Connection, Transaction};
+use sqlite_tables::calls::begin;
 use sqlite_tables::documents::{add_document, remove_document, set_grants};
+use sqlite_tables::earlier::{EARLIER_VERSION, renew_tables};
 use sqlite_tables::entries::{remove_entry, set_entry};
 use sqlite_tables::fault::DatabaseFault;
+use sqlite_tables::tables::read_version;
 use std::alloc::Global;
 
 /// Makes the changes one after another, in one transaction: all of them, or none.
@@ -13,10 +16,7 @@ pub(crate) fn make_all<S: Alter>(
     conn: &mut Connection<S>,
     changes: &[RecordChange],
 ) -> Result<(), DatabaseFault> {
-    if !conn.is_autocommit() {
-        return Err(DatabaseFault::Sqlite(Error::SqliteFailure(ErrorCode::TransactionState)));
-    }
-    let mut transaction = conn.transaction();
+    let mut transaction = begin(conn)?;
     for change in changes {
         make(alloc, &mut transaction, change)?;
     }
@@ -34,11 +34,21 @@ fn make<S: Alter>(
         RecordChange::AddDocument(document) => add_document(transaction, document),
         RecordChange::RemoveDocument { number } => remove_document(transaction, *number),
         RecordChange::SetGrants { number, grants } => {
-            set_grants(transaction, *number, grants.as_slice())
+            set_grants(alloc, transaction, *number, grants.as_slice())
         }
         RecordChange::SetEntry(entry) => set_entry(alloc, transaction, entry),
         RecordChange::RemoveEntry { table, id } => remove_entry(transaction, table, id),
-        // A change that the tables have no place for was refused before.
-        RecordChange::Upgrade => Err(DatabaseFault::NoRecord),
+        RecordChange::Upgrade => upgrade(alloc, transaction),
     }
+}
+
+/// Makes tables of the earlier version this one's.
+fn upgrade<S: Alter>(
+    alloc: Global,
+    transaction: &mut Transaction<'_, S>,
+) -> Result<(), DatabaseFault> {
+    if read_version(transaction)? == EARLIER_VERSION {
+        renew_tables(alloc, transaction)?;
+    }
+    Ok(())
 }

@@ -8,14 +8,14 @@ ghost use Rattle.keeper_sqlite.specs.Met.{IsOfDatabase, keeper_of};
 ghost use Rattle.sqlite_tables.specs.declared.fault.KeeperFault.TheVariants.{Unkept};
 
 use crate::changes::make_all;
+use crate::file::open_database;
 use crate::kept::can_keep_all;
-use crate::loading::read_records;
+use crate::loading::{read_records, ready_tables};
 use portal_base::list::List;
 use portal_model::records::RecordChange;
 use record_keeper::{Keeper, KeeperDone, KeeperLoad};
 use sqlite::{Connection, File, FileStore};
 use sqlite_tables::fault::{DatabaseFault, KeeperFault};
-use sqlite_tables::tables::make_tables;
 use std::alloc::Global;
 use std::marker::Model;
 
@@ -38,16 +38,15 @@ impl Model for SqliteKeeper {
 }
 
 impl SqliteKeeper {
-    /// Opens the database of a path, or makes it, with its tables. A file that
-    /// another process or keeper has open is refused, and so is a file that is
-    /// no database.
+    /// Opens the database of a path. Where nothing stands there, or an empty file,
+    /// the database and its tables are made, in a file of mode 0600. A file that
+    /// another process or keeper has open is refused, and so is one that holds
+    /// anything else, which stays as it is.
     pub fn open(rt: &HostRuntime, path: &str) -> Result<SqliteKeeper, DatabaseFault>
         ensures { IfOk result (λ keeper. keeper ≡ record { faults = 0; last = None }) }
     {
-        // A commit is synced once, as SQLite's WAL with synchronous FULL does, on the premise that
-        // a torn write leaves each byte old or new. To take no such premise would sync twice.
-        let mut conn = Connection::open(rt, path)?;
-        make_tables(&mut conn)?;
+        let mut conn = open_database(rt, path)?;
+        ready_tables(&mut conn)?;
         Ok(SqliteKeeper {
             alloc: rt.alloc(),
             conn,

@@ -1,8 +1,7 @@
 //! Which changes the tables have a place for.
 //!
 //! The tables have the applications of a document or an entry in byte order of
-//! their names, each once, and one row for each permission. They are those of
-//! version 1, in which no document is strict.
+//! their names, each once, and none without a permission.
 
 ghost use Rattle.std.specs.Prelude.{◌≡◌, ◌↔◌, All, IsTrue, map};
 ghost use Rattle.std.specs.List.{list_any};
@@ -59,14 +58,12 @@ fn can_keep(change: &RecordChange) -> bool
     ensures { IsTrue result ↔ CanKeep change.now }
 {
     match change {
-        RecordChange::AddDocument(document) => {
-            !document.strict && names_rise(document.grants.as_slice())
-        }
+        RecordChange::AddDocument(document) => names_rise(document.grants.as_slice()),
         RecordChange::RemoveDocument { .. } => true,
         RecordChange::SetGrants { number: _, grants } => names_rise(grants.as_slice()),
         RecordChange::SetEntry(entry) => can_keep_rows(entry.rows.as_slice()),
         RecordChange::RemoveEntry { .. } => true,
-        RecordChange::Upgrade => false,
+        RecordChange::Upgrade => true,
     }
 }
 

@@ -16,7 +16,8 @@
 //! | Room | Holds |
 //! |---|---|
 //! | `keeper` | [`SqliteKeeper`] |
-//! | `loading` | the records that the tables hold |
+//! | `file`, `log` | whose file a path leads to, seen before SQLite opens it |
+//! | `loading` | the tables, made and read |
 //! | `kept`, `changes` | which changes can be kept, and making them |
 //!
 //! The tables, their rows and what may go wrong with them stand in `sqlite_tables`.
@@ -28,9 +29,11 @@
 #![tactic(auto)]
 
 mod changes;
+mod file;
 mod keeper;
 mod kept;
 mod loading;
+mod log;
 
 pub use keeper::SqliteKeeper;
 pub use sqlite_tables::fault::{DatabaseFault, KeeperFault};

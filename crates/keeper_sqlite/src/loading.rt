@@ -1,45 +1,51 @@
-//! The records that the tables hold.
+//! The tables, made and read.
 
 use portal_base::list::List;
 use portal_model::records::Records;
-use record_keeper::RECORDS_VERSION;
 use sqlite::{Alter, Connection};
-use sqlite_tables::calls::{lines_of, number_at};
+use sqlite_tables::calls::begin;
 use sqlite_tables::documents::read_documents;
+use sqlite_tables::earlier::{self, EARLIER_VERSION};
 use sqlite_tables::entries::read_entries;
 use sqlite_tables::fault::DatabaseFault;
+use sqlite_tables::tables::{TABLES_VERSION, add_tables, have_tables, read_version};
 use std::alloc::Global;
 
-const VERSION: &str = "SELECT version FROM version";
+/// Makes the tables where there are none, in one transaction.
+pub(crate) fn ready_tables<S: Alter>(conn: &mut Connection<S>) -> Result<(), DatabaseFault> {
+    let mut transaction = begin(conn)?;
+    if have_tables(&mut transaction)? {
+        return Ok(());
+    }
+    add_tables(&mut transaction)?;
+    transaction.commit()?;
+    Ok(())
+}
 
-/// The records. Where they have another version than this crate reads, they are
-/// given with that version and without records.
+/// The records, of version 1 or 2. Where the tables have another version, they are given
+/// with that version and without records.
 pub(crate) fn read_records<S: Alter>(
     alloc: Global,
     conn: &mut Connection<S>,
 ) -> Result<Records, DatabaseFault> {
-    let version = read_version(conn)?;
-    // The tables of another version aren't known. A portal doesn't start then, and says which
-    // version it found.
-    if version != RECORDS_VERSION {
-        return Ok(Records {
-            version,
-            documents: List::new(alloc),
-            entries: List::new(alloc),
-        });
-    }
+    let mut transaction = begin(conn)?;
+    let version = read_version(&mut transaction)?;
+    let (documents, entries) = match version {
+        EARLIER_VERSION => (
+            earlier::read_documents(alloc, &mut transaction)?,
+            earlier::read_entries(alloc, &mut transaction)?,
+        ),
+        TABLES_VERSION => (
+            read_documents(alloc, &mut transaction)?,
+            read_entries(alloc, &mut transaction)?,
+        ),
+        // The tables of another version aren't known. A portal doesn't start then, and says which
+        // version it found.
+        _ => (List::new(alloc), List::new(alloc)),
+    };
     Ok(Records {
         version,
-        documents: read_documents(alloc, conn)?,
-        entries: read_entries(alloc, conn)?,
+        documents,
+        entries,
     })
-}
-
-/// The version of the records, which is in the one row of its table.
-fn read_version<S: Alter>(conn: &mut Connection<S>) -> Result<u32, DatabaseFault> {
-    let lines = lines_of(conn, VERSION)?;
-    match lines.as_slice() {
-        [line] => number_at(line, 0),
-        _ => Err(DatabaseFault::NoRecord),
-    }
 }

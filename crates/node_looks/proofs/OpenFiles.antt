@@ -10,6 +10,7 @@ use Rattle.host_tree.specs.Trees.{Asks, Attrs, TreeIs, attributes_of, is_attr_fa
 use Rattle.host_tree.specs.declared.tree.AttrAnswer.{AttrAnswer}
 use Rattle.host_tree.specs.declared.tree.AttrAnswer.TheVariants as attr
 use Rattle.host_tree.specs.declared.tree.LookAnswer.{LookAnswer}
+use Rattle.host_tree.specs.declared.tree.TreeCall.{TreeCall}
 use Rattle.open_handles.specs.Opened.{HandleTable, handle_of as handle_in, opened_on}
 use Rattle.portal_model.specs.declared.handle.Handle.{Handle}
 use Rattle.portal_model.specs.declared.reply.Answer.{Answer}
@@ -30,7 +31,7 @@ use Rattle.portal_model.specs.Walk.{Answers, Ends, Gives, IsShown, Looks, Named,
 use Rattle.node_looks.specs.Done.{Does, IsCalled}
 use Rattle.node_looks.specs.Opened.{IsAllowed}
 use Rattle.node_looks.specs.Served.{Told}
-use Rattle.node_looks.specs.TreeCalls.{Calling, calls_of}
+use Rattle.node_looks.specs.TreeCalls.{Call, Calling, calls_of, unfailed}
 use Rattle.node_looks.specs.Walks.{ComesTo, ComesToBehind, Follows, look_of_attr}
 use Rattle.node_looks.specs.declared.asked.Asked.{Asked}
 use Rattle.node_looks.specs.declared.opened.Allowed.{Allowed}
@@ -74,8 +75,8 @@ module _ (a : Answer) where
 
 -- ---- one call
 
-pub one-call : (old : TreeIs) (failed : Bool) (new : TreeIs) → Asks old failed new → Calling old (failed ∷ []) old.told new
-one-call old failed new a = record { goes = a.goes; fails = (a.fails, tt) }
+pub one-call : (kind : TreeCall) (old : TreeIs) (failed : Bool) (new : TreeIs) → Asks kind old failed new → Calling old ((kind, failed) ∷ []) old.told new
+one-call kind old failed new a = record { goes = a.goes; fails = (a.fails, tt) }
 
 -- an answer for which the tree wasn't called
 pub comes-follows : (w : Walk NodeVerdict) (a : Answer) (tree : TreeIs) → ComesTo w a → Follows w tree (record { answer = a; look = None }) tree
@@ -83,7 +84,7 @@ comes-follows w a tree e = record {
   gives = comes-gives a tree.told w e;
   settles = λ s c. comes-settles a s c w e;
   clock = comes-clock a w e;
-  calls = subst (λ (calls : List Bool). Calling tree calls tree.told tree) (sym (comes-calls a w e)) (record { goes = refl; fails = tt });
+  calls = subst (λ (calls : List Call). Calling tree calls tree.told tree) (sym (comes-calls a w e)) (record { goes = refl; fails = tt });
 }
 
 -- ---- the request
@@ -137,31 +138,31 @@ missing-shown None name h = tt
 missing-shown (Some files) name h = sym (ap look_of_file h)
 
 -- what the tree tells of the file is a look at its name
-named-look : (name : FileName) (next : OnFile) (old : TreeIs) (answer : AttrAnswer) (new : TreeIs) (a : Answer) → Asks old (is_attr_fault answer) new → Attrs old.told name answer → ComesToBehind next (look_of_attr name answer) a →
+named-look : (name : FileName) (next : OnFile) (old : TreeIs) (answer : AttrAnswer) (new : TreeIs) (a : Answer) → Asks TreeCall.Attr old (is_attr_fault answer) new → Attrs old.told name answer → ComesToBehind next (look_of_attr name answer) a →
     Follows (at_name name next) old (record { answer = a; look = Some (look_of_attr name answer) }) new
 named-look name next old (attr.Is size moment) new a asks attrs e = record {
   gives = (attrs-shown old.told name size moment attrs, comes-gives a old.told (next name.generation size moment) e);
   settles = λ s c. comes-settles a s c (next name.generation size moment) e;
   clock = comes-clock a (next name.generation size moment) e;
-  calls = subst (λ (calls : List Bool). Calling old (false ∷ calls) old.told new) (sym (comes-calls a (next name.generation size moment) e)) (one-call old false new asks);
+  calls = subst (λ (calls : List Call). Calling old (unfailed TreeCall.Attr ∷ calls) old.told new) (sym (comes-calls a (next name.generation size moment) e)) (one-call TreeCall.Attr old false new asks);
 }
 named-look name next old attr.NotFile new a asks attrs e = record {
   gives = (missing-shown old.told name attrs, (refl, refl));
   settles = λ s c. ap (λ (x : Answer). (s, x)) (sym e);
   clock = refl;
-  calls = one-call old false new asks;
+  calls = one-call TreeCall.Attr old false new asks;
 }
 named-look name next old attr.Failed new a asks attrs e = record {
   gives = refl;
   settles = λ s c. ap (λ (x : Answer). (s, x)) (sym e);
   clock = refl;
-  calls = one-call old true new asks;
+  calls = one-call TreeCall.Attr old true new asks;
 }
 
 pub told-folder : (r : NodeRequest) (a : Attr) (asked : Asked) → a ≡ attr_of_folder (on_node r r.node) → ((t : TreeIs) → Follows (told (NodeAnswer.Attr a)) t asked t) → (t : TreeIs) (f : Folder) → Follows (tells_folder r f) t asked t
 told-folder r a asked e h t f = subst (λ (x : Attr). Follows (told (NodeAnswer.Attr x)) t asked t) e (h t)
 
-pub same-look : (name : FileName) (next : OnFile) (old : TreeIs) (answer : AttrAnswer) (new : TreeIs) (a : Answer) (shown : LookAnswer) → shown ≡ look_of_attr name answer → Asks old (is_attr_fault answer) new → Attrs old.told name answer →
+pub same-look : (name : FileName) (next : OnFile) (old : TreeIs) (answer : AttrAnswer) (new : TreeIs) (a : Answer) (shown : LookAnswer) → shown ≡ look_of_attr name answer → Asks TreeCall.Attr old (is_attr_fault answer) new → Attrs old.told name answer →
     ComesToBehind next shown a → Follows (at_name name next) old (record { answer = a; look = Some shown }) new
 same-look name next old answer new a shown e asks attrs comes =
     subst (λ (x : LookAnswer). Follows (at_name name next) old (record { answer = a; look = Some x }) new) (sym e)

@@ -1,6 +1,5 @@
 -- A request on a node, whatever it changes: the one relation that all of them are served by.
-use Rattle.std.specs.Prelude.{◌≡◌, ℕ, nat_lt, List, [], length, Bool, is_some, true, false, not, Option, Some, None, option_map}
-use Rattle.portal_base.specs.Outside.{Shows}
+use Rattle.std.specs.Prelude.{◌≡◌, ◌⊎◌, ℕ, nat_lt, List, [], length, Bool, is_some, true, false, not, Option, Some, None, option_map}
 use Rattle.portal_base.specs.declared.files.File.{File}
 use Rattle.host_tree.specs.Trees.{TreeIs}
 use Rattle.open_handles.specs.Opened.{HandleTable, Opened, opened_on}
@@ -77,9 +76,13 @@ pub record Wants (table : HandleTable) (old : TreeIs) (after : HandleTable) (new
   pub calls : WasCalled old new
 
 -- the clock was read once, where there is a moment, and else it is the same
-abbrev pub Reads : {C : Type 0} → (C → Option ℕ) → C → Option ℕ → C → Type 0
-Reads told old None new = new ≡ old
-Reads told old (Some now) new = Shows (told old) now (told new)
+abbrev pub Reads : {C : Type 0} → (C → ℕ → C → Type 0) → C → Option ℕ → C → Type 0
+Reads reads old None new = new ≡ old
+Reads reads old (Some now) new = reads old now new
+
+-- the clock was read once at most
+abbrev pub MayRead : {C : Type 0} → (C → ℕ → C → Type 0) → C → C → Type 0
+MayRead reads old new = (new ≡ old) ⊎ ((now : ℕ) × reads old now new)
 
 -- ---- the same by its walk
 

@@ -1,45 +1,88 @@
--- The calls of the tree that a request makes, told by its walk and by what was shown: which of them
--- failed, and what the tree is behind them.
-use Rattle.std.specs.Prelude.{◌≡◌, ◌≤◌, ℕ, List, [], ◌∷◌, Bool, false, replicate, Option, option_map}
+-- The calls of the tree that a request makes, told by its walk and by what was shown: of which kind
+-- each is and whether it failed, and what the tree is behind them.
+use Rattle.std.specs.Prelude.{◌≡◌, ◌⊎◌, List, [], ◌∷◌, Bool, false, map, Option, option_map}
 use Rattle.portal_base.specs.Calls.{Calls, next_call, FailsAsTold}
 use Rattle.portal_base.specs.declared.files.File.{File}
 use Rattle.portal_base.specs.declared.files.Look.{Look}
 use Rattle.host_tree.specs.Trees.{TreeIs, after_call}
-use Rattle.portal_model.specs.Walk.{Walk, Answers, Ends, Looks}
+use Rattle.host_tree.specs.declared.tree.TreeCall.{TreeCall}
+use Rattle.portal_model.specs.declared.reply.NodeAnswer.{NodeAnswer}
+use Rattle.portal_model.specs.NodeVerdict.{NodeVerdict, Errs, Yields, FileChange, FilesStay, Writes, Resizes, Creates}
+use Rattle.portal_model.specs.Walk.{Walk, Answers, Ends, Looks, Target, AtPath, Named}
 
--- For each call, in order, whether it failed: a call for each look, and the last call where it is
--- reached. That one didn't fail where it found nothing, for which there is a look too.
-abbrev pub calls_of : {X : Type 0} → Walk X → List Look → Bool → List Bool
-calls_of (Answers x) looks failed = []
-calls_of (Looks target next) [] failed = failed ∷ []
-calls_of (Looks target next) (look ∷ looks) failed = false ∷ calls_of (next look) looks failed
-calls_of (Ends call done missing) looks failed = failed ∷ []
+-- a call: its kind, and whether it failed
+abbrev pub Call : Type 0
+Call = TreeCall × Bool
+
+abbrev pub unfailed : TreeCall → Call
+unfailed kind = (kind, false)
+
+-- ---- which calls
+
+-- what stands at a path is looked at, and the file of a name by what it tells of itself
+abbrev pub call_at : Target → TreeCall
+call_at (AtPath path) = TreeCall.Look
+call_at (Named name) = TreeCall.Attr
+
+-- the call of a file that stays: its content is read, where that is told, and else it is brought to
+-- rest
+abbrev pub call_telling : NodeAnswer → TreeCall
+call_telling (NodeAnswer.Content bytes) = TreeCall.Read
+call_telling answer = TreeCall.Sync
+
+-- the call by which the files change so
+abbrev pub call_changing : FileChange → NodeAnswer → TreeCall
+call_changing FilesStay answer = call_telling answer
+call_changing (Writes name offset content now) answer = TreeCall.Write
+call_changing (Resizes name size now) answer = TreeCall.SetLen
+call_changing (Creates path now) answer = TreeCall.Create
+
+-- the call that does what is done behind it: the last of a walk, which is never done with an error
+abbrev pub call_doing : NodeVerdict → TreeCall
+call_doing (Errs errno) = TreeCall.Sync
+call_doing (Yields d) = call_changing d.file d.answer
+
+-- A call for each look, and the last call where it is reached; that one didn't fail where it found
+-- nothing, for which there is a look too. By which call does what a walk comes to at its end.
+abbrev pub calls_by : {X : Type 0} → (X → TreeCall) → Walk X → List Look → Bool → List Call
+calls_by last (Answers x) looks failed = []
+calls_by last (Looks target next) [] failed = (call_at target, failed) ∷ []
+calls_by last (Looks target next) (look ∷ looks) failed =
+    unfailed (call_at target) ∷ calls_by last (next look) looks failed
+calls_by last (Ends call done missing) looks failed = (last (done 0), failed) ∷ []
+
+-- those of a request on a node, in order
+abbrev pub calls_of : Walk NodeVerdict → List Look → Bool → List Call
+calls_of walk looks failed = calls_by call_doing walk looks failed
+
+-- ---- the tree behind them
 
 -- the tree after calls that left its files
-abbrev pub after_calls : TreeIs → List Bool → TreeIs
+abbrev pub after_calls : TreeIs → List Call → TreeIs
 after_calls tree [] = tree
-after_calls tree (failed ∷ more) = after_calls (after_call tree failed tree.told) more
+after_calls tree (call ∷ more) = after_calls (after_call tree call.0 call.1 tree.told) more
 
 abbrev pub with_files : TreeIs → Option (List File) → TreeIs
 with_files tree files = record tree { told = files }
 
 -- where calls are told, just those failed that were to
-abbrev pub CallsAsTold : Option Calls → List Bool → Type 0
+abbrev pub CallsAsTold : Option Calls → List Call → Type 0
 CallsAsTold calls [] = Unit {0}
-CallsAsTold calls (failed ∷ more) =
-    FailsAsTold calls failed × CallsAsTold (option_map next_call calls) more
+CallsAsTold calls (call ∷ more) =
+    FailsAsTold calls call.1 × CallsAsTold (option_map next_call calls) more
 
 -- just these calls were made, each failed exactly where the tree tells that it does, and the tree
 -- has these files now
-pub record Calling (old : TreeIs) (calls : List Bool) (files : Option (List File))
+pub record Calling (old : TreeIs) (calls : List Call) (files : Option (List File))
     (new : TreeIs) : Type 0 where
   pub goes : new ≡ with_files (after_calls old calls) files
   pub fails : CallsAsTold old.calls calls
 
--- the tree was called so often, without a failure, and its files stay
+-- the tree got some calls, without a failure, and its files stay
 abbrev pub WasCalled : TreeIs → TreeIs → Type 0
-WasCalled old new = (made : ℕ) × Calling old (replicate made false) old.told new
+WasCalled old new = (kinds : List TreeCall) × Calling old (map unfailed kinds) old.told new
 
--- the same, once at most
+-- the same, one call at most
 abbrev pub WasCalledOnce : TreeIs → TreeIs → Type 0
-WasCalledOnce old new = (made : ℕ) × (made ≤ 1) × Calling old (replicate made false) old.told new
+WasCalledOnce old new =
+    (new ≡ old) ⊎ ((kind : TreeCall) × Calling old (unfailed kind ∷ []) old.told new)

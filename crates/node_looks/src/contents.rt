@@ -1,6 +1,7 @@
 //! FUSE_READ: the bytes of an open file.
 
-ghost use Rattle.std.specs.Prelude.{◌≡◌, [], ◌∷◌, false, IfOk, None, OnErr, not, option_copied};
+ghost use Rattle.std.specs.Prelude.{◌≡◌, [], ◌∷◌, IfOk, None, OnErr, not, option_copied};
+ghost use Rattle.host_tree.specs.declared.tree.TreeCall.TheVariants as TreeCall;
 ghost use Rattle.portal_model.specs.declared.reply.Answer.TheVariants as Answer;
 ghost use Rattle.portal_model.specs.declared.reply.Code.TheVariants as Code;
 ghost use Rattle.portal_model.specs.declared.request.NodeOp.TheVariants as NodeOp;
@@ -13,7 +14,7 @@ ghost use Rattle.app_view.specs.Books.{Lends};
 ghost use Rattle.node_looks.specs.ReadFiles.{FindsAny};
 ghost use Rattle.node_looks.specs.Done.{Does};
 ghost use Rattle.node_looks.specs.Opened.{file_of};
-ghost use Rattle.node_looks.specs.TreeCalls.{Calling, WasCalledOnce};
+ghost use Rattle.node_looks.specs.TreeCalls.{Calling, WasCalledOnce, unfailed};
 
 use crate::asked::{Asked, done, no_such_file, refusal, room_for_look, tree_failed};
 use crate::listed::asks_too_much;
@@ -70,8 +71,8 @@ fn content<T: HostTree>(
     ensures ok { IfOk result (λ asked. (s : State) → Lends book.now s → FindsAny size
         (λ bytes. read (reach_at s who.now) bytes offset size (option_copied handle.entry))
         (T.is tree.old) asked (T.is tree.new)) }
-    ensures err { OnErr result (Calling (T.is tree.old) (false ∷ []) (T.is tree.old).told
-        (T.is tree.new)) }
+    ensures err { OnErr result (Calling (T.is tree.old) (unfailed TreeCall.Read ∷ [])
+        (T.is tree.old).told (T.is tree.new)) }
 {
     // More is refused and not cut short.
     if asks_too_much(size) {
@@ -108,8 +109,8 @@ fn content_of<T: HostTree>(
     ensures ok { IfOk result (λ asked. (s : State) → Lends book.now s → FindsAny size
         (λ bytes. read_open (reach_at s who.now) bytes offset size (file_of file.entry))
         (T.is tree.old) asked (T.is tree.new)) }
-    ensures err { OnErr result (Calling (T.is tree.old) (false ∷ []) (T.is tree.old).told
-        (T.is tree.new)) }
+    ensures err { OnErr result (Calling (T.is tree.old) (unfailed TreeCall.Read ∷ [])
+        (T.is tree.old).told (T.is tree.new)) }
 {
     let allowed = allowed_now(book, who, file);
     content_where(file.read, allowed.read, tree, file.name, offset, size)
@@ -128,8 +129,8 @@ fn content_where<T: HostTree>(
     ensures ok { IfOk result (λ asked. FindsAny size (λ bytes. errs_if (not opened) ebadf
         (errs_if (not may_read) eacces (read_name bytes offset size name.now)))
         (T.is tree.old) asked (T.is tree.new)) }
-    ensures err { OnErr result (Calling (T.is tree.old) (false ∷ []) (T.is tree.old).told
-        (T.is tree.new)) }
+    ensures err { OnErr result (Calling (T.is tree.old) (unfailed TreeCall.Read ∷ [])
+        (T.is tree.old).told (T.is tree.new)) }
 {
     if !opened {
         return Ok(refused(EBADF));
@@ -149,8 +150,8 @@ fn content_named<T: HostTree>(
 ) -> Result<Asked, WantOfMemory>
     ensures ok { IfOk result (λ asked. FindsAny size
         (λ bytes. read_name bytes offset size name.now) (T.is tree.old) asked (T.is tree.new)) }
-    ensures err { OnErr result (Calling (T.is tree.old) (false ∷ []) (T.is tree.old).told
-        (T.is tree.new)) }
+    ensures err { OnErr result (Calling (T.is tree.old) (unfailed TreeCall.Read ∷ [])
+        (T.is tree.old).told (T.is tree.new)) }
 {
     match tree.read(name, offset, size) {
         TreeRead::Got(bytes) => Ok(Asked {

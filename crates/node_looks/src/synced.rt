@@ -1,13 +1,14 @@
 //! FUSE_FLUSH and FUSE_FSYNC: what was written to an open file is to be kept.
 
-ghost use Rattle.std.specs.Prelude.{◌≡◌, [], ◌∷◌, false, IfOk, OnErr, Some, option_copied, None};
+ghost use Rattle.std.specs.Prelude.{◌≡◌, [], ◌∷◌, IfOk, OnErr, Some, option_copied, None};
 ghost use Rattle.host_tree.specs.Trees.{TreeIs};
+ghost use Rattle.host_tree.specs.declared.tree.TreeCall.TheVariants as TreeCall;
 ghost use Rattle.portal_model.specs.declared.reply.NodeAnswer.TheVariants as NodeAnswer;
 ghost use Rattle.portal_model.specs.declared.request.NodeOp.TheVariants as NodeOp;
 ghost use Rattle.portal_model.specs.Flush.{flush};
 ghost use Rattle.portal_model.specs.Fsync.{fsync};
 ghost use Rattle.node_looks.specs.Done.{Does};
-ghost use Rattle.node_looks.specs.TreeCalls.{Calling, WasCalledOnce};
+ghost use Rattle.node_looks.specs.TreeCalls.{Calling, WasCalledOnce, unfailed};
 ghost use Rattle.node_looks.specs.Walks.{ComesTo, Follows, used};
 ghost use Rattle.node_looks.specs.declared.served.FileBook.{FileBook};
 
@@ -69,8 +70,8 @@ pub fn fsync<T: HostTree>(
 fn synced<T: HostTree>(tree: &mut T, handle: Option<&Handle>) -> Result<Asked, WantOfMemory>
     ensures ok { IfOk result (λ asked. Follows (fsync (option_copied handle.entry))
         (T.is tree.old) asked (T.is tree.new)) }
-    ensures err { OnErr result (Calling (T.is tree.old) (false ∷ []) (T.is tree.old).told
-        (T.is tree.new)) }
+    ensures err { OnErr result (Calling (T.is tree.old) (unfailed TreeCall.Sync ∷ [])
+        (T.is tree.old).told (T.is tree.new)) }
 {
     match handle {
         None => Ok(refused(EBADF)),
@@ -82,8 +83,8 @@ fn synced<T: HostTree>(tree: &mut T, handle: Option<&Handle>) -> Result<Asked, W
 fn synced_open<T: HostTree>(tree: &mut T, handle: &Handle) -> Result<Asked, WantOfMemory>
     ensures ok { IfOk result (λ asked. Follows (fsync (Some handle.now)) (T.is tree.old) asked
         (T.is tree.new)) }
-    ensures err { OnErr result (Calling (T.is tree.old) (false ∷ []) (T.is tree.old).told
-        (T.is tree.new)) }
+    ensures err { OnErr result (Calling (T.is tree.old) (unfailed TreeCall.Sync ∷ [])
+        (T.is tree.old).told (T.is tree.new)) }
 {
     match handle {
         Handle::File { name, .. } => synced_file(tree, name),
@@ -95,8 +96,8 @@ fn synced_open<T: HostTree>(tree: &mut T, handle: &Handle) -> Result<Asked, Want
 fn synced_file<T: HostTree>(tree: &mut T, name: &FileName) -> Result<Asked, WantOfMemory>
     ensures ok { IfOk result (λ asked. Follows (used name.now NodeAnswer.Empty) (T.is tree.old)
         asked (T.is tree.new)) }
-    ensures err { OnErr result (Calling (T.is tree.old) (false ∷ []) (T.is tree.old).told
-        (T.is tree.new)) }
+    ensures err { OnErr result (Calling (T.is tree.old) (unfailed TreeCall.Sync ∷ [])
+        (T.is tree.old).told (T.is tree.new)) }
 {
     match tree.sync(name) {
         TreeDone::Done => Ok(Asked {

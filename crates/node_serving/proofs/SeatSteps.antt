@@ -5,7 +5,7 @@ use Rattle.std.proofs.lemmas.Bool.Decides.{nat_tests}
 use Rattle.node_looks.specs.Done.{Does, DoneIn, IsAnswer}
 use Rattle.node_looks.specs.OpenHandles.{AreOpen}
 use Rattle.node_looks.specs.Served.{given_to}
-use Rattle.node_looks.specs.TreeCalls.{Calling, after_calls, calls_of}
+use Rattle.node_looks.specs.TreeCalls.{Call, Calling, after_calls, calls_of}
 use Rattle.node_looks.specs.declared.served.FileBook.{FileBook}
 use Rattle.node_looks.specs.declared.served.NodeCall.{NodeCall}
 use Rattle.node_looks.specs.declared.served.NodeDone.{NodeDone}
@@ -164,8 +164,8 @@ never-failed s c (Some (Yields d)) = λ e. cc
 
 -- ---- the calls of the tree
 
-abbrev is_failed : Bool → Bool
-is_failed b = b
+abbrev is_failed : Call → Bool
+is_failed call = call.1
 
 failed-called : (told : Option (List File)) (looks : List Look) (w : Walk NodeVerdict) → Gives told w looks true → list_any is_failed (calls_of w looks true) ≡ true
 failed-called told looks (Answers x) k = let no : true ≡ false = k.1 in cc
@@ -174,15 +174,15 @@ failed-called told (look ∷ looks) (Looks target next) k = failed-called told l
 failed-called told [] (Ends call done missing) k = refl
 failed-called told (look ∷ looks) (Ends call done missing) k = let no : true ≡ false = k.2 in cc
 
-calls-grow : (calls : List Bool) (old : TreeIs) → old.faults ≤ (after_calls old calls).faults
+calls-grow : (calls : List Call) (old : TreeIs) → old.faults ≤ (after_calls old calls).faults
 calls-grow [] old = omega arith
-calls-grow (true ∷ more) old = let rest = calls-grow more (after_call old true old.told) in omega (arith, rest)
-calls-grow (false ∷ more) old = calls-grow more (after_call old false old.told)
+calls-grow ((kind, true) ∷ more) old = let rest = calls-grow more (after_call old kind true old.told) in omega (arith, rest)
+calls-grow ((kind, false) ∷ more) old = calls-grow more (after_call old kind false old.told)
 
-calls-rise : (calls : List Bool) (old : TreeIs) → list_any is_failed calls ≡ true → HasRisen old.faults (after_calls old calls).faults
+calls-rise : (calls : List Call) (old : TreeIs) → list_any is_failed calls ≡ true → HasRisen old.faults (after_calls old calls).faults
 calls-rise [] old e = absurd (cc)
-calls-rise (true ∷ more) old e = let rest = calls-grow more (after_call old true old.told) in omega (arith, rest)
-calls-rise (false ∷ more) old e = calls-rise more (after_call old false old.told) e
+calls-rise ((kind, true) ∷ more) old e = let rest = calls-grow more (after_call old kind true old.told) in omega (arith, rest)
+calls-rise ((kind, false) ∷ more) old e = calls-rise more (after_call old kind false old.told) e
 
 call-risen : (told files : Option (List File)) (looks : List Look) (w : Walk NodeVerdict) (failed : Bool) (old new : TreeIs) → Gives told w looks failed → Calling old (calls_of w looks failed) files new → failed ≡ true → HasRisen old.faults new.faults
 call-risen told files looks w true old new g k e = rw k.goes (calls-rise (calls_of w looks true) old (failed-called told looks w g))

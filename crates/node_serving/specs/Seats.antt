@@ -1,9 +1,9 @@
 -- A request of a seat on a node that was served.
-use Rattle.std.specs.Prelude.{◌≡◌, ◌≢◌, ℕ, List, [], Bool, Option, Some, None, is_some}
+use Rattle.std.specs.Prelude.{◌≡◌, ◌≢◌, ℕ, List, [], Option, Some, None, is_some}
 use Rattle.app_view.specs.Books.{Lends}
 use Rattle.node_looks.specs.OpenHandles.{AreOpen}
 use Rattle.node_looks.specs.Served.{given_to}
-use Rattle.node_looks.specs.TreeCalls.{Calling, calls_of}
+use Rattle.node_looks.specs.TreeCalls.{Call, Calling, calls_of}
 use Rattle.node_looks.specs.declared.served.FileBook.{FileBook}
 use Rattle.node_looks.specs.declared.served.NodeDone.{NodeDone}
 use Rattle.host_tree.specs.Trees.{TreeIs}
@@ -63,12 +63,12 @@ seat_step s seat r given = node_step s r given (mount_of (connection_of s.connec
 
 -- the calls of the tree that it makes: those of the walk, in the state in which the connection was
 -- told what it waited for
-abbrev pub calls_on : State → NodeRequest → Given → Option Connection → List Bool
+abbrev pub calls_on : State → NodeRequest → Given → Option Connection → List Call
 calls_on s r given None = []
 calls_on s r given (Some c) =
     calls_of (walk_on_node (all_told c.seat s) c r) given.looks (is_tree given.fault)
 
-abbrev pub seat_calls : State → ℕ → NodeRequest → Given → List Bool
+abbrev pub seat_calls : State → ℕ → NodeRequest → Given → List Call
 seat_calls s seat r given = calls_on s r given (mount_of (connection_of s.connections seat))
 
 -- What was given is lawful; the step makes of it the state that the connections, the table and the

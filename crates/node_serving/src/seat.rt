@@ -1,7 +1,7 @@
 //! A request of a seat.
 
 ghost use Rattle.std.specs.Prelude.{◌≡◌, IfOk, OnErr, false, length, option_copied};
-ghost use Rattle.node_looks.specs.Done.{Reads, Wants};
+ghost use Rattle.node_looks.specs.Done.{MayRead, Reads, Wants};
 ghost use Rattle.file_ops.specs.Wanting.{may_call_in_vain, may_change_file};
 ghost use Rattle.node_serving.specs.Counted.{Counts};
 ghost use Rattle.node_serving.specs.Seats.{AreEntered, IsServedIn, ServesSeat, refused_here};
@@ -50,12 +50,12 @@ pub fn serve<T: HostTree, C: Clock>(
         IsServedIn s book.now connections.old handles.old (T.is tree.old).told →
         ServesSeat s seat request.now (T.is tree.old) done connections.new handles.new
         (T.is tree.new)) }
-    ensures clock { IfOk result (λ done. Reads C.told clock.old done.now clock.new) }
+    ensures clock { IfOk result (λ done. Reads C.reads clock.old done.now clock.new) }
     ensures counts { IfOk result (λ done.
         Counts seat request.now done.answer counts.old.counts counts.new.counts) }
     ensures count { length connections.new ≡ length connections.old }
     ensures err { OnErr result (Wants handles.old (T.is tree.old) handles.new (T.is tree.new)) }
-    ensures clock_err { OnErr result (C.told clock.new ≡ C.told clock.old) }
+    ensures clock_err { OnErr result (MayRead C.reads clock.old clock.new) }
     ensures unasked { may_call_in_vain request.now.op ≡ false
         → OnErr result (tree.new ≡ tree.old) }
     ensures unread { may_change_file request.now.op ≡ false → clock.new ≡ clock.old }

@@ -75,6 +75,7 @@ pub fn opens_to_write(flags: u32) -> bool
 pub fn is_denied(flags: u32, may_write: bool) -> bool
     ensures { result ≡ (opens_to_write flags && not may_write) }
 {
-    // Permissions are asked where a file is opened, and by no request that goes by a handle.
+    // Permissions are asked where a file is opened; of the requests that go by a handle only those
+    // on a strict document ask again.
     opens_to_write(flags) && !may_write
 }

@@ -64,9 +64,9 @@ ReadCounts old (read.Got n) new = new ≡ old
 ReadCounts old read.End new = new ≡ old
 ReadCounts old read.Failed new = (old ≤ new) × HasRisen old new
 
--- A clock that tells answers its value, and keeps it.
-pub record Shows (old : Option ℕ) (seconds : ℕ) (new : Option ℕ) : Type 0 where
-  pub value : IfSome old (λ told. seconds ≡ told)
+-- One reading of a clock that was set: it shows its seconds, and keeps them.
+pub record Shows (old : ℕ) (seconds : ℕ) (new : ℕ) : Type 0 where
+  pub value : seconds ≡ old
   pub stays : new ≡ old
 
 -- Of words that tell, the first comes and leaves the others; behind the last comes 0.

@@ -5,7 +5,7 @@
 //! it stops at the greatest `u64`, and one that stands there counts as risen.
 
 ghost use Rattle.std.specs.Prelude.{◌≡◌, ℕ, ◌<◌, List, Option, length};
-ghost use Rattle.portal_base.specs.Outside.{Writes, WriteCounts, Reads, ReadCounts, Shows, Draws};
+ghost use Rattle.portal_base.specs.Outside.{Writes, WriteCounts, Reads, ReadCounts, Draws};
 
 mod calls;
 mod in_memory;
@@ -68,12 +68,14 @@ pub trait Sink {
 
 /// The time.
 pub trait Clock {
-    /// The seconds that the clock shows, where it tells them.
-    ghost told: { Self → Option ℕ };
+    /// What one reading is: the clock ahead of it, the seconds that it shows, and the
+    /// clock behind it. So contracts of what reads a clock say how many times, also of a
+    /// clock that doesn't tell its seconds.
+    ghost reads: { Self → ℕ → Self → Type 0 };
 
     /// The seconds since the epoch.
     fn now(&mut self) -> u64
-        ensures { Shows (told self.old) result (told self.new) };
+        ensures { reads self.old result self.new };
 }
 
 /// Words that identifiers are drawn from.

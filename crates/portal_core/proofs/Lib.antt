@@ -1,3 +1,4 @@
 pub mod Beginning
+pub mod HeldCounts
 pub mod Desks
 pub mod StrictAnswers

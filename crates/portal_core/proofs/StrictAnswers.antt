@@ -55,9 +55,9 @@ same-done false r stepped given e = node-done r.op stepped.answer given.answer e
 
 -- ---- the answer to a request
 
-pub strict-follows : {T K C W : Type 0} → (tree_is : T → TreeIs) (keeper_is : K → KeeperIs) (clock_told : C → Option ℕ) (words_told : W → Option (List ℕ)) (old new : PortalIs T K C W) (seat : ℕ) (request : Request) (reply : Reply) →
-    StrictHandlesFollowRevocations → Answers tree_is keeper_is clock_told words_told old new seat request reply → StrictFollows old.story seat request reply
-strict-follows tree_is keeper_is clock_told words_told old new seat request reply law a = λ app r fh document own asked by strict done.
+pub strict-follows : {T K C W : Type 0} → (tree_is : T → TreeIs) (keeper_is : K → KeeperIs) (clock_reads : C → ℕ → C → Type 0) (words_told : W → Option (List ℕ)) (old new : PortalIs T K C W) (seat : ℕ) (request : Request) (reply : Reply) →
+    StrictHandlesFollowRevocations → Answers tree_is keeper_is clock_reads words_told old new seat request reply → StrictFollows old.story seat request reply
+strict-follows tree_is keeper_is clock_reads words_told old new seat request reply law a = λ app r fh document own asked by strict done.
     let s = state_now old.story in
     law app r fh document s a.entry (record {
       own = ap (λ (n : ℕ). made_by app (connection_of s.connections n) a.entry.request) a.seat_is ∙ (ap (made_by app (connection_of s.connections seat)) a.request_is ∙ own);

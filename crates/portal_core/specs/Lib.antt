@@ -1,6 +1,7 @@
 pub mod Started
 pub mod Growth
 pub mod OpenFiles
+pub mod LookUps
 pub mod Chain
 pub mod Lending
 pub mod Borrowing

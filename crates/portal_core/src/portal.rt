@@ -1,13 +1,12 @@
 //! The portal.
 
 ghost use Rattle.std.specs.Prelude.{◌≡◌, ◌+◌, ◌<◌, ◌≤◌, ◌^◌, [], length, map, false, true, IfErr, IfOk, IsOk, OnErr, OnOk, None, unwrap_or};
-ghost use Rattle.std.specs.List.{list_all};
 ghost use Rattle.app_view.specs.Books.{Lends as LendsBook};
 ghost use Rattle.change_signals.specs.Unsent.{AtSeat, holding, unsent_on};
 ghost use Rattle.node_looks.specs.OpenHandles.{AreOpen};
+ghost use Rattle.portal_desk.specs.Opening.{IsOpeningState};
 ghost use Rattle.portal_model.specs.History.{Legal, cost};
-ghost use Rattle.portal_model.specs.Opening.{id_of, opened_over};
-ghost use Rattle.portal_model.specs.Rows.{are_rows};
+ghost use Rattle.portal_model.specs.Opening.{opened_over};
 ghost use Rattle.portal_model.specs.Seated.{is_open};
 ghost use Rattle.portal_model.specs.Valid.{Valid};
 ghost use Rattle.portal_steps.specs.Answered.{Answers, KeepsState, Spends, TellsFault};
@@ -62,7 +61,8 @@ use std::mem;
 /// Contracts see the four devices, the opening state, the files that the tree
 /// began with, and the history. The history is legal, and the portal is in the
 /// state after it: a tree that tells has the files of that state, and a keeper
-/// that tells the records that stand for it.
+/// that tells the records that stand for it. The counts of nodes are those that
+/// the history looked up and forgot, on which no answer depends.
 #[derive(Drop)]
 pub struct Portal<T: HostTree, K: Keeper, C: Clock, W: Words> {
     tree: T,
@@ -82,9 +82,11 @@ pub struct Portal<T: HostTree, K: Keeper, C: Clock, W: Words> {
 }
 
 impl<T: HostTree, K: Keeper, C: Clock, W: Words> Model for Portal<T, K, C, W> {
-    ghost use Rattle.std.specs.Prelude.{◌≡◌, ◌≤◌, length};
+    ghost use Rattle.std.specs.Prelude.{◌≡◌, ◌≤◌, length, None};
+    ghost use Rattle.portal_desk.specs.Opening.{IsOpeningState};
     ghost use Rattle.portal_steps.specs.Answered.{KeepsState};
     ghost use Rattle.portal_steps.specs.Held.{Stands};
+    ghost use Rattle.portal_core.specs.LookUps.{AreHeld};
     ghost use Rattle.portal_model.specs.History.{run};
     ghost use Rattle.portal_model.specs.Opening.{opened_over};
     ghost use Rattle.portal_steps.specs.Story.{PortalIs};
@@ -115,7 +117,9 @@ impl<T: HostTree, K: Keeper, C: Clock, W: Words> Model for Portal<T, K, C, W> {
         × KeepsState (K.is p.keeper).told
         (run (opened_over (T.is p.tree).began p.opening) p.history.entries)
         × HasStore (run (opened_over (T.is p.tree).began p.opening) p.history.entries)
-        p.tables p.outboxes };
+        p.tables p.outboxes
+        × IsOpeningState (opened_over None p.opening)
+        × AreHeld (opened_over (T.is p.tree).began p.opening) p.history.entries p.counts.counts };
 }
 
 impl<T: HostTree, K: Keeper, C: Clock, W: Words> Portal<T, K, C, W> {
@@ -163,6 +167,7 @@ impl<T: HostTree, K: Keeper, C: Clock, W: Words> Portal<T, K, C, W> {
     ) -> Portal<T, K, C, W>
         requires lists { AreLists lists }
         requires valid { Valid (opened_over None lists.opening) }
+        requires started { IsOpeningState (opened_over None lists.opening) }
         requires told { (T.is tree).told ≡ (T.is tree).began }
         requires kept { KeepsState (K.is keeper).told
             (opened_over (T.is tree).began lists.opening) }
@@ -237,12 +242,14 @@ impl<T: HostTree, K: Keeper, C: Clock, W: Words> Portal<T, K, C, W> {
         &self.handles
     }
 
-    /// What is true of every portal: its history is legal, within its limit
-    /// and countable, its state is valid, and its devices tell the files and
-    /// the records of that state, where they tell. An OPEN that was done had
-    /// each right that was taken before given again, and what goes by the
-    /// number of a handle meets the handle that was opened by that number.
+    /// What is true of every portal: its history began in an opening state, is
+    /// legal, within its limit and countable, its state is valid, and its
+    /// devices tell the files and the records of that state, where they tell.
+    /// An OPEN that was done had each right that was taken before given again,
+    /// and what goes by the number of a handle meets the handle that was opened
+    /// by that number.
     pub fn known(&self)
+        ensures started { IsOpeningState (state_first self.now.story) }
         ensures legal { Legal (state_first self.now.story) self.now.story.history }
         ensures valid { Valid (state_now self.now.story) }
         ensures within { cost self.now.story.history ≤ limit_of self.now.story }
@@ -253,6 +260,7 @@ impl<T: HostTree, K: Keeper, C: Clock, W: Words> Portal<T, K, C, W> {
         ensures handles { GoesByHandles self.now.story }
     {
         let _ = self.history.len();
+        self.tree.known();
         no_open_after_a_revocation();
         older_handles_keep_their_rights();
     }
@@ -279,12 +287,12 @@ impl<T: HostTree, K: Keeper, C: Clock, W: Words> Portal<T, K, C, W> {
     pub fn ask(&mut self, alloc: Global, seat: u32, request: Request) -> Result<Reply, Refused>
         ensures began { self.new.story.began ≡ self.old.story.began }
         ensures opening { self.new.story.opening ≡ self.old.story.opening }
-        ensures ok { IfOk result (Answers T.is K.is C.told W.told self.old self.new seat request) }
+        ensures ok { IfOk result (Answers T.is K.is C.reads W.told self.old self.new seat request) }
         ensures strict { IfOk result (StrictFollows self.old.story seat request) }
         ensures fault { IfOk result (TellsFault (T.is self.old.tree) (T.is self.new.tree)) }
         ensures failure { IfOk result (TellsFailure (T.is self.old.tree) (T.is self.new.tree)
             (K.is self.old.keeper) (K.is self.new.keeper)) }
-        ensures err { OnErr result (Spends T.is K.is C.told W.told self.old request self.new) }
+        ensures err { OnErr result (Spends T.is K.is C.reads W.told self.old request self.new) }
         ensures unasked { may_ask_in_vain request ≡ false → OnErr result (self.new ≡ self.old) }
 
         // Both ways: it is full exactly where the cost would pass the limit. Nothing is asked then.
@@ -300,6 +308,7 @@ impl<T: HostTree, K: Keeper, C: Clock, W: Words> Portal<T, K, C, W> {
             → IsOk result }
 
         // Whatever it answers.
+        ensures started { IsOpeningState (state_first self.new.story) }
         ensures legal { Legal (state_first self.new.story) self.new.story.history }
         ensures valid { Valid (state_now self.new.story) }
         ensures within { cost self.new.story.history ≤ limit_of self.new.story }
@@ -318,11 +327,11 @@ impl<T: HostTree, K: Keeper, C: Clock, W: Words> Portal<T, K, C, W> {
     fn answer(&mut self, alloc: Global, seat: u32, request: Request) -> Result<Reply, Refused>
         ensures began { self.new.story.began ≡ self.old.story.began }
         ensures opening { self.new.story.opening ≡ self.old.story.opening }
-        ensures ok { IfOk result (Answers T.is K.is C.told W.told self.old self.new seat request) }
+        ensures ok { IfOk result (Answers T.is K.is C.reads W.told self.old self.new seat request) }
         ensures fault { IfOk result (TellsFault (T.is self.old.tree) (T.is self.new.tree)) }
         ensures failure { IfOk result (TellsFailure (T.is self.old.tree) (T.is self.new.tree)
             (K.is self.old.keeper) (K.is self.new.keeper)) }
-        ensures err { OnErr result (Spends T.is K.is C.told W.told self.old request self.new) }
+        ensures err { OnErr result (Spends T.is K.is C.reads W.told self.old request self.new) }
         ensures unasked { may_ask_in_vain request ≡ false → OnErr result (self.new ≡ self.old) }
         ensures full { limit_of self.old.story < cost_with self.old.story request
             → result
@@ -397,7 +406,7 @@ impl<T: HostTree, K: Keeper, C: Clock, W: Words> Portal<T, K, C, W> {
         ensures began { self.new.story.began ≡ self.old.story.began }
         ensures opening { self.new.story.opening ≡ self.old.story.opening }
         ensures ok { IfOk result
-            (Answers T.is K.is C.told W.told self.old self.new seat (Request.Enter who kind)) }
+            (Answers T.is K.is C.reads W.told self.old self.new seat (Request.Enter who kind)) }
         ensures fault { IfOk result (TellsFault (T.is self.old.tree) (T.is self.new.tree)) }
         ensures failure { IfOk result (TellsFailure (T.is self.old.tree) (T.is self.new.tree)
             (K.is self.old.keeper) (K.is self.new.keeper)) }
@@ -435,12 +444,12 @@ impl<T: HostTree, K: Keeper, C: Clock, W: Words> Portal<T, K, C, W> {
         ensures began { self.new.story.began ≡ self.old.story.began }
         ensures opening { self.new.story.opening ≡ self.old.story.opening }
         ensures ok { IfOk result
-            (Answers T.is K.is C.told W.told self.old self.new seat (Request.Node request)) }
+            (Answers T.is K.is C.reads W.told self.old self.new seat (Request.Node request)) }
         ensures fault { IfOk result (TellsFault (T.is self.old.tree) (T.is self.new.tree)) }
         ensures failure { IfOk result (TellsFailure (T.is self.old.tree) (T.is self.new.tree)
             (K.is self.old.keeper) (K.is self.new.keeper)) }
         ensures err { OnErr result
-            (Spends T.is K.is C.told W.told self.old (Request.Node request) self.new) }
+            (Spends T.is K.is C.reads W.told self.old (Request.Node request) self.new) }
         ensures unasked { may_ask_tree_in_vain (Request.Node request) ≡ false
             → OnErr result (self.new ≡ self.old) }
     {
@@ -488,11 +497,11 @@ impl<T: HostTree, K: Keeper, C: Clock, W: Words> Portal<T, K, C, W> {
         requires call { is_document_call request ≡ true }
         ensures began { self.new.story.began ≡ self.old.story.began }
         ensures opening { self.new.story.opening ≡ self.old.story.opening }
-        ensures ok { IfOk result (Answers T.is K.is C.told W.told self.old self.new seat request) }
+        ensures ok { IfOk result (Answers T.is K.is C.reads W.told self.old self.new seat request) }
         ensures fault { IfOk result (TellsFault (T.is self.old.tree) (T.is self.new.tree)) }
         ensures failure { IfOk result (TellsFailure (T.is self.old.tree) (T.is self.new.tree)
             (K.is self.old.keeper) (K.is self.new.keeper)) }
-        ensures err { OnErr result (Spends T.is K.is C.told W.told self.old request self.new) }
+        ensures err { OnErr result (Spends T.is K.is C.reads W.told self.old request self.new) }
         ensures unasked { may_change_records request ≡ false
             → OnErr result (self.new ≡ self.old) }
     {
@@ -539,12 +548,12 @@ impl<T: HostTree, K: Keeper, C: Clock, W: Words> Portal<T, K, C, W> {
         ensures began { self.new.story.began ≡ self.old.story.began }
         ensures opening { self.new.story.opening ≡ self.old.story.opening }
         ensures ok { IfOk result
-            (Answers T.is K.is C.told W.told self.old self.new seat (Request.Add add)) }
+            (Answers T.is K.is C.reads W.told self.old self.new seat (Request.Add add)) }
         ensures fault { IfOk result (TellsFault (T.is self.old.tree) (T.is self.new.tree)) }
         ensures failure { IfOk result (TellsFailure (T.is self.old.tree) (T.is self.new.tree)
             (K.is self.old.keeper) (K.is self.new.keeper)) }
         ensures err { OnErr result
-            (Spends T.is K.is C.told W.told self.old (Request.Add add) self.new) }
+            (Spends T.is K.is C.reads W.told self.old (Request.Add add) self.new) }
     {
         let taken = taken(
             &mut self.history,
@@ -590,12 +599,12 @@ impl<T: HostTree, K: Keeper, C: Clock, W: Words> Portal<T, K, C, W> {
         ensures began { self.new.story.began ≡ self.old.story.began }
         ensures opening { self.new.story.opening ≡ self.old.story.opening }
         ensures ok { IfOk result
-            (Answers T.is K.is C.told W.told self.old self.new seat (Request.Store call)) }
+            (Answers T.is K.is C.reads W.told self.old self.new seat (Request.Store call)) }
         ensures fault { IfOk result (TellsFault (T.is self.old.tree) (T.is self.new.tree)) }
         ensures failure { IfOk result (TellsFailure (T.is self.old.tree) (T.is self.new.tree)
             (K.is self.old.keeper) (K.is self.new.keeper)) }
         ensures err { OnErr result
-            (Spends T.is K.is C.told W.told self.old (Request.Store call) self.new) }
+            (Spends T.is K.is C.reads W.told self.old (Request.Store call) self.new) }
         ensures unasked { may_change_entries call ≡ false → OnErr result (self.new ≡ self.old) }
     {
         // A request of a bus takes the box of its seat ahead of all it does, and its own changes
@@ -639,7 +648,7 @@ impl<T: HostTree, K: Keeper, C: Clock, W: Words> Portal<T, K, C, W> {
     fn leave(&mut self, alloc: Global, seat: u32) -> Result<Reply, WantOfMemory>
         ensures began { self.new.story.began ≡ self.old.story.began }
         ensures opening { self.new.story.opening ≡ self.old.story.opening }
-        ensures ok { IfOk result (Answers T.is K.is C.told W.told self.old self.new seat Request.Leave) }
+        ensures ok { IfOk result (Answers T.is K.is C.reads W.told self.old self.new seat Request.Leave) }
         ensures fault { IfOk result (TellsFault (T.is self.old.tree) (T.is self.new.tree)) }
         ensures failure { IfOk result (TellsFailure (T.is self.old.tree) (T.is self.new.tree)
             (K.is self.old.keeper) (K.is self.new.keeper)) }
@@ -669,7 +678,7 @@ impl<T: HostTree, K: Keeper, C: Clock, W: Words> Portal<T, K, C, W> {
         requires { cost_with self.old.story Request.Collect ≤ limit_of self.old.story }
         ensures began { self.new.story.began ≡ self.old.story.began }
         ensures opening { self.new.story.opening ≡ self.old.story.opening }
-        ensures ok { IfOk result (Answers T.is K.is C.told W.told self.old self.new seat Request.Collect) }
+        ensures ok { IfOk result (Answers T.is K.is C.reads W.told self.old self.new seat Request.Collect) }
         ensures fault { IfOk result (TellsFault (T.is self.old.tree) (T.is self.new.tree)) }
         ensures failure { IfOk result (TellsFailure (T.is self.old.tree) (T.is self.new.tree)
             (K.is self.old.keeper) (K.is self.new.keeper)) }
@@ -692,10 +701,9 @@ impl<T: HostTree + Drop, K: Keeper + Drop, C: Clock + Drop, W: Words + Drop> Por
     /// A portal that opens with this state, over devices that have what stands
     /// for it, of which none is asked.
     ///
-    /// The state is valid over the tree's files, which are those that it began
-    /// with; no number was made but those of its documents, and its entries
-    /// have their rows in order. A keeper that tells its records has those that
-    /// stand for the state.
+    /// It is an opening state, and valid over the tree's files, which are those
+    /// that it began with. A keeper that tells its records has those that stand
+    /// for the state.
     pub fn reopen(
         alloc: Global,
         tree: T,
@@ -705,15 +713,12 @@ impl<T: HostTree + Drop, K: Keeper + Drop, C: Clock + Drop, W: Words + Drop> Por
         opening: OpeningState,
     ) -> Result<Portal<T, K, C, W>, WantOfMemory>
         requires valid { Valid (opened_over (T.is tree).began opening) }
-        requires made { opening.made ≡ map (λ d. id_of d.kept.number) opening.documents }
-        requires rows { list_all (λ e. are_rows e.rows) opening.entries ≡ true }
+        requires started { IsOpeningState (opened_over (T.is tree).began opening) }
         requires told { (T.is tree).told ≡ (T.is tree).began }
         requires kept { KeepsState (K.is keeper).told (opened_over (T.is tree).began opening) }
         ensures { IfOk result
             (λ portal. portal ≡ reopened T.is tree keeper clock words opening) }
     {
-        // Two things that `Valid` doesn't say are asked for: the made numbers are those of the
-        // documents, and rows are in order.
         match lists_of_opening(alloc, opening) {
             Ok(lists) => Ok(Portal::over(alloc, tree, keeper, clock, words, lists)),
             Err(error) => Err(error),

@@ -1,6 +1,7 @@
 //! What keeps a history.
 
 ghost use Rattle.std.specs.Prelude.{◌≡◌, ◌<◌, ◌≤◌, ◌^◌, length, true, IfErr, IfOk, IsOk, OnErr};
+ghost use Rattle.portal_desk.specs.Opening.{IsOpeningState};
 ghost use Rattle.portal_core.specs.Growth.{GrowsBy, RefusedFor, cost_after};
 ghost use Rattle.portal_model.specs.History.{Legal, cost, run};
 ghost use Rattle.portal_model.specs.Seated.{is_open};
@@ -67,6 +68,7 @@ pub trait Storied {
             → is_open (run (opening self.old) (entries self.old)) seat ≡ true → IsOk result }
 
         // Whatever it answers.
+        ensures started { IsOpeningState (opening self.new) }
         ensures legal { Legal (opening self.new) (entries self.new) }
         ensures within { cost (entries self.new) ≤ (opening self.new).limits.history }
         ensures short { length (entries self.new) < 2 ^ 64 };
@@ -75,9 +77,10 @@ pub trait Storied {
     fn entry_count(&self) -> u64
         ensures { result ≡ length (entries self.now) };
 
-    /// What is true at each moment: the history is legal, within its limit and
-    /// countable.
+    /// What is true at each moment: the history began in an opening state, is
+    /// legal, within its limit and countable.
     fn known(&self)
+        ensures started { IsOpeningState (opening self.now) }
         ensures legal { Legal (opening self.now) (entries self.now) }
         ensures within { cost (entries self.now) ≤ (opening self.now).limits.history }
         ensures short { length (entries self.now) < 2 ^ 64 };
@@ -93,10 +96,10 @@ impl<T: HostTree, K: Keeper, C: Clock, W: Words> Storied for Portal<T, K, C, W> 
     ghost entries = { λ p. p.story.history };
 
     // Just the calls of the tree that the step reaches were made, and the one of the keeper.
-    ghost says = { Went T.is K.is C.told W.told };
+    ghost says = { Went T.is K.is C.reads W.told };
 
     // The devices may have been asked, and then memory was wanted.
-    ghost spends = { Spends T.is K.is C.told W.told };
+    ghost spends = { Spends T.is K.is C.reads W.told };
 
     fn ask(&mut self, alloc: Global, seat: u32, request: Request) -> Result<Reply, Refused> {
         Portal::ask(self, alloc, seat, request)

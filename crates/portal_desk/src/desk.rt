@@ -1,6 +1,7 @@
 //! Where a seat asks.
 
-ghost use Rattle.portal_model.specs.Seated.{Asks, Known};
+ghost use Rattle.portal_desk.specs.Knowing.{Known};
+ghost use Rattle.portal_model.specs.Seated.{Asks};
 
 use portal_model::reply::{Refused, Reply};
 use portal_model::request::Request;
@@ -13,7 +14,8 @@ use std::alloc::Global;
 /// of its requests were refused.
 pub trait Desk {
     ghost use Rattle.std.specs.Prelude.{◌≡◌, ℕ};
-    ghost use Rattle.portal_model.specs.Seated.{Asks, Known, Seated};
+    ghost use Rattle.portal_desk.specs.Knowing.{Known};
+    ghost use Rattle.portal_model.specs.Seated.{Asks, Seated};
 
     /// What the seat knows.
     ghost seated: { Self → Seated };
@@ -34,8 +36,8 @@ pub trait Desk {
         ensures asks { Asks (seated self.old) request result (seated self.new) }
         ensures goes { goes self.old self.new };
 
-    /// What is true at each moment: a legal history is seen, and the seat's
-    /// own entries are those of the seat in it.
+    /// What is true at each moment: a legal history is seen, that began in an
+    /// opening state, and the seat's own entries are those of the seat in it.
     fn known(&self)
         ensures { Known (seated self.now) };
 

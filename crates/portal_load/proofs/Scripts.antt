@@ -44,7 +44,6 @@ doc_keeps n h = (
   omega arith,
   and_from _ (list_all is_plain (file_path n)) (file_path-is_host_path n h) (path_written n h),
   record {
-    plain = refl;
     path = file_path-is_host_path n h;
     grants = All-cons IsGrant (record { app = app_name (n % 4); rights = 3 }) [] (one_granted n) (All-nil IsGrant);
     rising = tt;

@@ -1,5 +1,5 @@
 -- The script of the load: its files, its documents, its connections, and its requests.
-use Rattle.std.specs.Prelude.{ℕ, ◌+◌, ◌/◌, ◌%◌, true, List, [], ◌∷◌, ◌++◌, map, replicate, codes}
+use Rattle.std.specs.Prelude.{ℕ, ◌+◌, ◌/◌, ◌%◌, true, false, List, [], ◌∷◌, ◌++◌, map, replicate, codes}
 use Rattle.std.specs.List.{range_with_len}
 use Rattle.portal_base.specs.declared.who.Who.TheVariants.{Host, App}
 use Rattle.portal_base.specs.declared.who.Kind.TheVariants.{Bus, Mount}
@@ -40,7 +40,7 @@ granted_rights = 3
 
 -- a document has the number of its file, and gives one of the applications in turn its rights
 abbrev pub doc_line : ℕ → ScriptLine
-doc_line number = Doc (record { number = number }) true (file_path number)
+doc_line number = Doc (record { number = number }) true false (file_path number)
     (record { app = app_name (number % app_count); rights = granted_rights } ∷ [])
 
 -- ---- connections

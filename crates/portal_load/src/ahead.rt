@@ -113,6 +113,7 @@ fn doc_line(alloc: Global, number: u8) -> Result<ScriptLine, WantOfMemory>
             number: u32::from(number),
         },
         reusable: true,
+        strict: false,
         path: file_path(alloc, number)?,
         grants,
     })

@@ -1,5 +1,5 @@
 -- Refusals change nothing but queues, and what is allowed is done.
-use Rattle.std.proofs.Common.{◌≡◌, ℕ, List, [], ◌∷◌, ◌++◌, map, length, nat_lt, drop, Bool, true, false, not, ◌&&◌, ◌||◌, cond, Option, Some, None, is_some, Ok, Err, refl, sym, ap, subst, ◌∙◌, inl, inr, ◌⊎◌, arith}
+use Rattle.std.proofs.Common.{◌≡◌, ◌≢◌, ℕ, List, [], ◌∷◌, ◌++◌, map, length, nat_lt, drop, Bool, true, false, not, ◌&&◌, ◌||◌, cond, Option, Some, None, is_some, Ok, Err, refl, sym, ap, subst, ◌∙◌, inl, inr, ◌⊎◌, arith}
 use Rattle.portal_base.specs.Names.{is_app_name, is_same}
 use Rattle.portal_base.specs.declared.files.File.{File}
 use Rattle.portal_base.specs.declared.files.Look.{Look}
@@ -21,7 +21,7 @@ use Rattle.portal_model.specs.declared.store.StoreAnswer.{StoreAnswer}
 use Rattle.portal_model.specs.declared.store.StoreCall.{StoreCall}
 use Rattle.portal_model.specs.declared.store.StoredEntry.{StoredEntry}
 use Rattle.portal_model.specs.declared.store.StoreError.TheVariants.{NotFound, TooLong, Memory}
-use Rattle.portal_model.specs.Add.{add, add_allowed, add_looking, add_presented, added, added_files, are_of_kind, may_list_all}
+use Rattle.portal_model.specs.Add.{add, add_allowed, add_looking, add_presented, add_shown, added, added_files, are_of_kind, may_list_all}
 use Rattle.portal_model.specs.AddArguments.{are_add_arguments, are_presented, document_paths, paths_shown}
 use Rattle.portal_model.specs.Allowed.{has_place, is_allowed, is_live, is_refusal, is_too_long_for, may_add, may_delete_in, may_grant_in, may_revoke_in}
 use Rattle.portal_model.specs.Arguments.{ahead_of_end, document_named, if_reached, is_ended_path, reached}
@@ -43,7 +43,7 @@ use Rattle.portal_model.specs.State.{is_host, State, who_has}
 use Rattle.portal_model.specs.Store.{Entries, Outcome, becomes, becomes_if_told, can_be_told, change_of, entry_of, entry_to_set, has_row, store_call, with_entry, with_permissions, without_entry, without_permissions}
 use Rattle.portal_model.specs.StoreRequest.{are_store_arguments, has_entry_for, may_call, own_table, store_allowed, store_answered, store_request, store_too_long, store_verdict, table_of}
 use Rattle.portal_model.specs.Verdict.{Doing, Verdict, Refuses, Does, does, unless, walk_unless}
-use Rattle.portal_model.specs.Walk.{Walk, Answers, Gives, looks_at_all, walked}
+use Rattle.portal_model.specs.Walk.{Walk, Answers, Ends, Gives, Looks, looks_at_all, walked}
 use Rattle.portal_model.proofs.BusLaws.{HoldsGiven, bus_walk-holds, walked-holds}
 
 -- ---- refusals
@@ -106,10 +106,100 @@ settled_left s refused given None code n e = inl refl
 settled_left s refused given (Some (Refuses other)) code n e = inr refl
 settled_left s refused given (Some (Does d)) code n e = full_left s refused given.full given.fault d code n.1 e
 
+-- ---- where a device fails
+
+-- this verdict is no refusal that tells a failure
+abbrev NoFailure : Verdict → Type 0
+NoFailure (Refuses code) = code ≢ Code.Failed
+NoFailure (Does d) = Unit {0}
+
+abbrev NoFailureGiven : Option Verdict → Type 0
+NoFailureGiven None = Unit {0}
+NoFailureGiven (Some v) = NoFailure v
+
+abbrev NoFailureWalk : Walk Verdict → Type 0
+NoFailureWalk (Answers v) = NoFailure v
+NoFailureWalk (Looks target next) = (look : Look) → NoFailureWalk (next look)
+NoFailureWalk (Ends call done missing) = ((now : ℕ) → NoFailure (done now)) × NoFailure missing
+
+unless_fails : (wrong : Bool) (code : Code) (v : Verdict) → code ≢ Code.Failed → NoFailure v → NoFailure (unless wrong code v)
+unless_fails true code v n h = n
+unless_fails false code v n h = h
+
+walk_unless_fails : (wrong : Bool) (code : Code) (w : Walk Verdict) → code ≢ Code.Failed → NoFailureWalk w → NoFailureWalk (walk_unless wrong code w)
+walk_unless_fails true code w n h = n
+walk_unless_fails false code w n h = h
+
+looks_fail : (paths : List (List ℕ)) (next : List Look → Walk Verdict) → ((looks : List Look) → NoFailureWalk (next looks)) → NoFailureWalk (looks_at_all paths next)
+looks_fail [] next h = h []
+looks_fail (path ∷ paths) next h = λ look. looks_fail paths (λ looks. next (look ∷ looks)) (λ looks. h (look ∷ looks))
+
+walked_fails : (w : Walk Verdict) (now : ℕ) (looks : List Look) (failed : Bool) → NoFailureWalk w → NoFailureGiven (walked w now looks failed)
+walked_fails (Answers v) now looks failed h = h
+walked_fails (Looks target next) now [] failed h = tt
+walked_fails (Looks target next) now (look ∷ looks) failed h = walked_fails (next look) now looks failed (h look)
+walked_fails (Ends call done missing) now [] true h = tt
+walked_fails (Ends call done missing) now [] false h = h.0 now
+walked_fails (Ends call done missing) now (look ∷ looks) failed h = h.1
+
+add_fails : (s : State) (c : Connection) (a : AddRequest) (numbers : List DocId) → NoFailureWalk (add s c a numbers)
+add_fails s c a numbers =
+    walk_unless_fails (not (are_presented c.queue a)) Code.InvalidArgs (add_presented s c a numbers) (λ e. cc)
+    (walk_unless_fails (not (are_add_arguments c.queue a)) Code.InvalidArgument (add_allowed s c a numbers) (λ e. cc)
+    (walk_unless_fails (not (may_list_all s c.who a (document_paths c.queue a))) Code.NotAllowed (add_looking s c a numbers) (λ e. cc)
+    (looks_fail (paths_shown c.queue a) (add_shown s c a numbers)
+    (λ looks. unless_fails (not (are_of_kind a looks)) Code.InvalidArgument (added s (added_files s c a numbers)) (λ e. cc) tt))))
+
+-- the code of a refusal
+abbrev code_in : Answer → Code
+code_in (Answer.Refused code) = code
+code_in told = Code.NotHere
+
+kept_failed : (s : State) (fault : Fault) (d : Doing) (code : Code) → is_refusal d.answer ≡ false → (kept s fault d).1 ≡ Answer.Refused code → ((kept s fault d).0 ≡ s) × (code ≡ Code.Failed)
+kept_failed s Fault.None d code n e = let no : is_refusal d.answer ≡ true = ap is_refusal e in cc
+kept_failed s Fault.Tree d code n e = let no : is_refusal d.answer ≡ true = ap is_refusal e in cc
+kept_failed s Fault.Keeper d code n e = (refl, sym (ap code_in e))
+
+full_failed : (s refused : State) (full : Bool) (fault : Fault) (d : Doing) → is_refusal d.answer ≡ false →
+    (cond full (refused, Answer.Refused Code.LimitsExceeded) (kept s fault d)).1 ≡ Answer.Refused Code.Failed → (cond full (refused, Answer.Refused Code.LimitsExceeded) (kept s fault d)).0 ≡ s
+full_failed s refused true fault d n e = let no : Code.LimitsExceeded ≡ Code.Failed = ap code_in e in cc
+full_failed s refused false fault d n e = (kept_failed s fault d Code.Failed n e).0
+
+full_taken : (s refused : State) (full : Bool) (fault : Fault) (d : Doing) (code : Code) → is_refusal d.answer ≡ false → code ≢ Code.Failed →
+    (cond full (refused, Answer.Refused Code.LimitsExceeded) (kept s fault d)).1 ≡ Answer.Refused code → (cond full (refused, Answer.Refused Code.LimitsExceeded) (kept s fault d)).0 ≡ refused
+full_taken s refused true fault d code n k e = refl
+full_taken s refused false fault d code n k e = absurd (k (kept_failed s fault d code n e).1)
+
+settled_failed : (s refused : State) (given : Given) (v : Option Verdict) → NoRefusal v → NoFailureGiven v → (settled s refused given v).1 ≡ Answer.Refused Code.Failed → (settled s refused given v).0 ≡ s
+settled_failed s refused given None n f e = refl
+settled_failed s refused given (Some (Refuses other)) n f e = absurd (f (ap code_in e))
+settled_failed s refused given (Some (Does d)) n f e = full_failed s refused given.full given.fault d n.1 e
+
+settled_taken : (s refused : State) (given : Given) (v : Option Verdict) (code : Code) → NoRefusal v → code ≢ Code.Failed → (settled s refused given v).1 ≡ Answer.Refused code → (settled s refused given v).0 ≡ refused
+settled_taken s refused given None code n k e = absurd (k (sym (ap code_in e)))
+settled_taken s refused given (Some (Refuses other)) code n k e = refl
+settled_taken s refused given (Some (Does d)) code n k e = full_taken s refused given.full given.fault d code n.1 k e
+
+-- what a refusal leaves is the state, where it takes nothing
+left_alone : (s refused t : State) → refused ≡ s → IsLeft s refused t → t ≡ s
+left_alone s refused t h (inl e) = e
+left_alone s refused t h (inr e) = e ∙ h
+
+left-so : (s : State) (c : Connection) (request : Request) (given : Given) (code : Code) → answer_of_bus s c request given ≡ Answer.Refused code → IsLeft s (refused_state s c request) (after_bus s c request given)
+left-so s c request given code e =
+    settled_left s (refused_state s c request) given (verdict_given (bus_walk s c request given.numbers) given) code (never_refused s c request given) e
+
+failed-stays : (s : State) (c : Connection) (request : Request) (given : Given) → answer_of_bus s c request given ≡ Answer.Refused Code.Failed → after_bus s c request given ≡ s
+failed-stays s c (Request.Add a) given e =
+    settled_failed s (refused_state s c (Request.Add a)) given (verdict_given (add s c a given.numbers) given) (never_refused s c (Request.Add a) given)
+    (walked_fails (add s c a given.numbers) (moment_given given.now) given.looks (is_tree given.fault) (add_fails s c a given.numbers)) e
+failed-stays s c request given e = left_alone s (refused_state s c request) (after_bus s c request given) refl (left-so s c request given Code.Failed e)
+
 pub refusals-keep : RefusalsKeep
 refusals-keep = record {
   lists = refused-lists;
-  queues = λ s c request given code e. settled_left s (refused_state s c request) given (verdict_given (bus_walk s c request given.numbers) given) code (never_refused s c request given) e;
+  failed = failed-stays;
+  taken = λ s c request given code e k. settled_taken s (refused_state s c request) given (verdict_given (bus_walk s c request given.numbers) given) code (never_refused s c request given) k e;
 }
 
 -- ---- what is allowed

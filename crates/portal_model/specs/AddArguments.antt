@@ -28,10 +28,10 @@ is_as_needed a = a.flags / 4 % 2 == 1
 abbrev pub makes_strict : AddRequest → Bool
 makes_strict a = a.flags / 16 % 2 == 1
 
--- 1, 2, 4 and 16, but 2 and 16 not together: records that outlive a run don't tell what is strict.
--- This project's own rule: 8, to export a folder, is refused as every unknown flag is.
+-- 1, 2, 4 and 16. This project's own rule: 8, to export a folder, is refused as every unknown flag
+-- is.
 abbrev pub are_flags : ℕ → Bool
-are_flags flags = flags / 8 == 0 || (flags / 8 == 2 && not (flags / 2 % 2 == 1))
+are_flags flags = flags / 8 == 0 || flags / 8 == 2
 
 -- ---- the application that is named, or nothing
 

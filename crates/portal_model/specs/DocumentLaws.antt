@@ -1,6 +1,6 @@
 -- Laws of the requests of a bus, and of entries, which the public functions of
 -- src/document_laws.rt state.
-use Rattle.std.specs.Prelude.{◌≡◌, ◌⊎◌, true, false}
+use Rattle.std.specs.Prelude.{◌≡◌, ◌≢◌, true, false}
 use Rattle.portal_model.specs.declared.entry.Entry.{Entry}
 use Rattle.portal_model.specs.declared.entry.Fault.{Fault}
 use Rattle.portal_model.specs.declared.entry.Given.{Given}
@@ -23,18 +23,23 @@ abbrev pub answer_of_bus : State → Connection → Request → Given → Answer
 answer_of_bus s c request given = (bus_answer s c request given).1
 
 -- A refusal leaves documents, rights, applications, files and entries as they were: all but
--- the connections, of which a queue may have changed. For the state is as it was, or but for the
--- presented files that an Add takes.
+-- the connections, of which a queue may have changed. Where a device failed, the presented files
+-- stay, and so does the state; any other refusal of an Add that names presented files takes them,
+-- and of a request of another kind, or of an Add that names others, nothing.
 pub record RefusalsKeep : Type 0 where
   pub lists :
       (s : State) (c : Connection) (request : Request) (given : Given) (code : Code) →
       answer_of_bus s c request given ≡ Answer.Refused code →
       after_bus s c request given
       ≡ record s { connections = (after_bus s c request given).connections }
-  pub queues :
+  pub failed :
+      (s : State) (c : Connection) (request : Request) (given : Given) →
+      answer_of_bus s c request given ≡ Answer.Refused Code.Failed →
+      after_bus s c request given ≡ s
+  pub taken :
       (s : State) (c : Connection) (request : Request) (given : Given) (code : Code) →
-      answer_of_bus s c request given ≡ Answer.Refused code →
-      (after_bus s c request given ≡ s) ⊎ (after_bus s c request given ≡ refused_state s c request)
+      answer_of_bus s c request given ≡ Answer.Refused code → code ≢ Code.Failed →
+      after_bus s c request given ≡ refused_state s c request
 
 -- The same of any entry: a refused one may have taken presented files from a queue, and told what
 -- a connection waited for, and that is all.

@@ -11,6 +11,7 @@ use Rattle.portal_model.specs.declared.state.Document.{Document}
 use Rattle.portal_model.specs.declared.state.Triple.{Triple}
 use Rattle.portal_model.specs.Info.{holders}
 use Rattle.portal_model.specs.State.{State, bit_of, held_of}
+use Rattle.portal_model.specs.RecordChanges.{records_version}
 use Rattle.portal_model.specs.Store.{record_of}
 
 abbrev pub bit_if : Bool → Right → ℕ
@@ -35,10 +36,6 @@ document_record rights d = record {
   strict = d.strict;
   grants = map (grant_record rights d.id.number) (holders rights d.id.number);
 }
-
--- the form of records
-abbrev pub records_version : ℕ
-records_version = 1
 
 -- the persistent documents in order of addition, and all permission entries in order of creation
 abbrev pub records_of : State → Records

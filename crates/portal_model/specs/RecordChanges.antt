@@ -9,6 +9,10 @@ use Rattle.portal_model.specs.declared.records.RecordChange.{RecordChange}
 use Rattle.portal_model.specs.declared.records.RecordChange.TheVariants.{AddDocument, RemoveDocument, SetGrants, SetEntry, RemoveEntry, Upgrade}
 use Rattle.portal_model.specs.declared.records.Records.{Records}
 
+-- the form of records that are written
+abbrev pub records_version : ℕ
+records_version = 2
+
 -- the first that passes the test changed, in its place
 abbrev pub change_first : {X : Type 0} → (X → Bool) → (X → X) → List X → List X
 change_first test change [] = []
@@ -45,7 +49,7 @@ changed (SetGrants number grants) r =
     }
 changed (SetEntry entry) r = record r { entries = set_entry entry r.entries }
 changed (RemoveEntry table id) r = record r { entries = filter (is_other_key table id) r.entries }
-changed Upgrade r = record r { version = 2 }
+changed Upgrade r = record r { version = records_version }
 
 -- changes one after another
 abbrev pub changed_by : List RecordChange → Records → Records

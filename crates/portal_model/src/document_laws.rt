@@ -11,7 +11,8 @@ ghost use Rattle.portal_model.specs.DocumentLaws.{
 };
 
 /// A refusal leaves documents, rights, applications, files and entries as they
-/// were, and the connections but for the presented files that an Add takes.
+/// were, and the connections but for the presented files that an Add takes: they
+/// stay where a device failed, and have left the queue where it is refused otherwise.
 pub fn refusals_keep_documents()
     ensures { RefusalsKeep }
 {}

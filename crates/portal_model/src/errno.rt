@@ -1,6 +1,9 @@
 //! The numbers of errors, as `include/uapi/asm-generic/errno-base.h` and
 //! `errno.h` give them.
 
+ghost use Rattle.std.specs.Prelude.{◌≡◌};
+ghost use Rattle.portal_model.specs.Errno.{eacces, ebadf, eexist, efbig, einval, eio, eisdir, emfile, enametoolong, enoent, enomem, enospc, enosys, enotdir, eperm, eproto};
+
 /// Operation not permitted.
 pub const EPERM: u32 = 1;
 /// No such file or directory.
@@ -33,3 +36,25 @@ pub const ENAMETOOLONG: u32 = 36;
 pub const ENOSYS: u32 = 38;
 /// Protocol error.
 pub const EPROTO: u32 = 71;
+
+/// Each is the number that the headers give.
+///
+/// It does nothing; its contract is the law.
+pub fn errnos_are_told()
+    ensures is_eperm { EPERM ≡ eperm }
+    ensures is_enoent { ENOENT ≡ enoent }
+    ensures is_eio { EIO ≡ eio }
+    ensures is_ebadf { EBADF ≡ ebadf }
+    ensures is_enomem { ENOMEM ≡ enomem }
+    ensures is_eacces { EACCES ≡ eacces }
+    ensures is_eexist { EEXIST ≡ eexist }
+    ensures is_enotdir { ENOTDIR ≡ enotdir }
+    ensures is_eisdir { EISDIR ≡ eisdir }
+    ensures is_einval { EINVAL ≡ einval }
+    ensures is_emfile { EMFILE ≡ emfile }
+    ensures is_efbig { EFBIG ≡ efbig }
+    ensures is_enospc { ENOSPC ≡ enospc }
+    ensures is_enametoolong { ENAMETOOLONG ≡ enametoolong }
+    ensures is_enosys { ENOSYS ≡ enosys }
+    ensures is_eproto { EPROTO ≡ eproto }
+{}

@@ -95,7 +95,7 @@ impl Replica for EntryRecord {
 /// The records that outlive a run.
 #[derive(Debug, Drop)]
 pub struct Records {
-    /// The version of their form, 1.
+    /// The version of their form, 1 or 2. In version 1 no document is strict.
     pub version: u32,
     /// The kept documents, in order of addition.
     pub documents: List<DocRecord>,

@@ -1,5 +1,8 @@
 //! The items of the portal's lists, which the definitions speak of.
 
+ghost use Rattle.std.specs.Prelude.{◌≡◌};
+ghost use Rattle.portal_model.specs.Valid.{applications_limit};
+
 use crate::reply::Change;
 use crate::rights::Right;
 pub use portal_base::files::File;
@@ -13,6 +16,13 @@ use std::alloc::Global;
 
 /// The greatest number of applications that may be numbered.
 pub const APPLICATIONS_LIMIT: u32 = 16_777_216;
+
+/// The constant is the limit of the definitions.
+///
+/// It does nothing; its contract is the law.
+pub fn applications_limit_is_told()
+    ensures { APPLICATIONS_LIMIT ≡ applications_limit }
+{}
 
 /// A live document.
 #[derive(Drop)]

@@ -68,12 +68,12 @@ module _ {X K : Type 0} (f : X → K) (same : K → K → Bool) where
 
 -- ---- documents
 
-module _ (limits : Limits) where
-  pub all_sound : (ds earlier : List DocRecord) → EachBehind (IsGoodDocument limits) earlier ds → All IsSoundDocument ds
+module _ (version : ℕ) (limits : Limits) where
+  pub all_sound : (ds earlier : List DocRecord) → EachBehind (IsGoodDocument version limits) earlier ds → All IsSoundDocument ds
   all_sound [] earlier all = All-nil IsSoundDocument
   all_sound (d ∷ ds) earlier all = All-cons IsSoundDocument d ds all.0.itself (all_sound ds (earlier ++ (d ∷ [])) all.1)
 
-  few : (ds earlier : List DocRecord) (most : ℕ) → ((e : List DocRecord) (d : DocRecord) → IsGoodDocument limits e d → length e < most) → length earlier ≤ most → EachBehind (IsGoodDocument limits) earlier ds → length earlier + length ds ≤ most
+  few : (ds earlier : List DocRecord) (most : ℕ) → ((e : List DocRecord) (d : DocRecord) → IsGoodDocument version limits e d → length e < most) → length earlier ≤ most → EachBehind (IsGoodDocument version limits) earlier ds → length earlier + length ds ≤ most
   few [] earlier most limit h all = omega (arith, h)
   few (d ∷ ds) earlier most limit h all =
       let one : length earlier < most = limit earlier d all.0 in
@@ -81,12 +81,12 @@ module _ (limits : Limits) where
       let rest = few ds (earlier ++ (d ∷ [])) most limit (omega (arith, one, longer)) all.1 in
       omega (arith, rest, longer)
 
-  few_named : (ds earlier : List DocRecord) → length (applications_of earlier) ≤ applications_limit → EachBehind (IsGoodDocument limits) earlier ds → length (applications_of (earlier ++ ds)) ≤ applications_limit
+  few_named : (ds earlier : List DocRecord) → length (applications_of earlier) ≤ applications_limit → EachBehind (IsGoodDocument version limits) earlier ds → length (applications_of (earlier ++ ds)) ≤ applications_limit
   few_named [] earlier h all = rw (append-nil earlier) h
   few_named (d ∷ ds) earlier h all = subst (λ (x : List DocRecord). length (applications_of x) ≤ applications_limit) (append_assoc earlier (d ∷ []) ds) (few_named ds (earlier ++ (d ∷ [])) all.0.applications all.1)
 
-  pub numbers_apart : (ds : List DocRecord) → AllGood (IsGoodDocument limits) ds → IsDistinct nat_eq (map (λ (d : DocRecord). d.number) ds)
-  numbers_apart ds all = differ_mapped (λ (d : DocRecord). d.number) nat_eq ds (each_differs (IsGoodDocument limits) (λ (a b : DocRecord). nat_eq a.number b.number) (λ earlier x good. good.new) ds [] all)
+  pub numbers_apart : (ds : List DocRecord) → AllGood (IsGoodDocument version limits) ds → IsDistinct nat_eq (map (λ (d : DocRecord). d.number) ds)
+  numbers_apart ds all = differ_mapped (λ (d : DocRecord). d.number) nat_eq ds (each_differs (IsGoodDocument version limits) (λ (a b : DocRecord). nat_eq a.number b.number) (λ earlier x good. good.new) ds [] all)
 
 numbers_loaded : (ds : List DocRecord) → map (λ (d : OpeningDocument). d.kept.number) (map document_loaded ds) ≡ map (λ (d : DocRecord). d.number) ds
 numbers_loaded [] = refl
@@ -153,11 +153,11 @@ no_files = tt
 pub sound_records : (limits : Limits) (records : Records) (entries : Entries) → KeepEntries records.entries entries → AreGood limits records → list_all is_narrow (opening_loaded entries limits records).made ≡ true → limits.made < 2 ^ 32 → limits.queued < 2 ^ 32 → SoundOpening (opening_loaded entries limits records)
 sound_records limits records entries kept good narrow made queued =
     let ds = records.documents in
-    let sound = all_sound limits ds [] good.documents in
+    let sound = all_sound records.version limits ds [] good.documents in
     record {
       made = sym (made_loaded ds);
       applications = ap first_named (each_loaded ds);
-      numbers_differ = subst (IsDistinct nat_eq) (sym (numbers_loaded ds)) (numbers_apart limits ds good.documents);
+      numbers_differ = subst (IsDistinct nat_eq) (sym (numbers_loaded ds)) (numbers_apart records.version limits ds good.documents);
       identifiers = narrow_loaded ds narrow;
       paths = paths_loaded ds sound;
       names = names_loaded ds sound;
@@ -168,9 +168,9 @@ sound_records limits records entries kept good narrow made queued =
       files_differ = no_files;
       files_apart = refl;
       files_named = refl;
-      documents_within = rw (length-map ds document_loaded) (let within = few limits ds [] limits.documents (λ e d k. k.live) (omega arith) good.documents in omega (arith, within));
-      made_within = rw (length-map ds document_loaded) (let within = few limits ds [] limits.made (λ e d k. k.made) (omega arith) good.documents in omega (arith, within));
-      applications_within = few_named limits ds [] (omega arith) good.documents;
+      documents_within = rw (length-map ds document_loaded) (let within = few records.version limits ds [] limits.documents (λ e d k. k.live) (omega arith) good.documents in omega (arith, within));
+      made_within = rw (length-map ds document_loaded) (let within = few records.version limits ds [] limits.made (λ e d k. k.made) (omega arith) good.documents in omega (arith, within));
+      applications_within = few_named records.version limits ds [] (omega arith) good.documents;
       made_limit = made;
       queued_limit = queued;
     }

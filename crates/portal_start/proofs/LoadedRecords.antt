@@ -10,6 +10,7 @@ use Rattle.portal_model.specs.declared.opening.OpeningState.{OpeningState}
 use Rattle.portal_model.specs.declared.records.Records.{Records}
 use Rattle.portal_model.specs.declared.state.Document.{Document}
 use Rattle.portal_model.specs.Kept.{records_of}
+use Rattle.portal_model.specs.RecordChanges.{records_version}
 use Rattle.portal_model.specs.Opening.{SoundOpening, document_kept, id_of, opened_over}
 use Rattle.portal_model.specs.Store.{Entries}
 use Rattle.portal_model.specs.Valid.{Valid}
@@ -42,11 +43,11 @@ listed_documents o items ds e i m = e ∙ (λ j. record {
   made = (ap (map (λ (d : OpeningDocument). id_of d.kept.number)) i ∙ sym m) j;
 })
 
--- the records that stand for the state that records open are those records
-pub back : (limits : Limits) (records : Records) (began : Option (List File)) (entries : Entries) → KeepEntries records.entries entries → AreGood limits records → records_of (opened_over began (opening_loaded entries limits records)) ≡ records
+-- the records that stand for the state that records open are those records, in this version
+pub back : (limits : Limits) (records : Records) (began : Option (List File)) (entries : Entries) → KeepEntries records.entries entries → AreGood limits records → records_of (opened_over began (opening_loaded entries limits records)) ≡ record records { version = records_version }
 back limits records began entries kept good = λ i. record {
-  version = sym good.version i;
-  documents = all_back records.documents (numbers_apart limits records.documents good.documents) (all_sound limits records.documents [] good.documents) i;
+  version = records_version;
+  documents = all_back records.documents (numbers_apart records.version limits records.documents good.documents) (all_sound records.version limits records.documents [] good.documents) i;
   entries = kept.kept i;
 }
 

@@ -1,18 +1,21 @@
 -- The lists that records open a portal with, or why they open none.
-use Rattle.std.specs.Prelude.{◌≡◌, ◌^◌, nat_lt, [], Bool, true, false, map, Some}
+use Rattle.std.specs.Prelude.{◌≡◌, ◌≢◌, ◌⊎◌, ℕ, ◌^◌, nat_lt, [], ◌∷◌, Bool, true, false, map, Some}
 use Rattle.portal_base.specs.declared.limits.Limits.{Limits}
 use Rattle.portal_base.specs.declared.names.doc_id.DocId.{DocId}
 use Rattle.portal_model.specs.declared.opening.OpeningDocument.{OpeningDocument}
 use Rattle.portal_model.specs.declared.opening.OpeningState.{OpeningState}
 use Rattle.portal_model.specs.declared.records.DocRecord.{DocRecord}
+use Rattle.portal_model.specs.declared.records.RecordChange.TheVariants.{Upgrade}
 use Rattle.portal_model.specs.declared.records.Records.{Records}
 use Rattle.portal_model.specs.Opening.{id_of, document_kept, rights_kept}
 use Rattle.portal_model.specs.Store.{Entries}
 use Rattle.portal_base.specs.Calls.{FailsAsTold}
-use Rattle.record_keeper.specs.BadRecords.{AreGood, IsWrong, applications_of}
+use Rattle.record_keeper.specs.BadRecords.{AreGood, IsWrong, applications_of, first_version}
 use Rattle.record_keeper.specs.KeptEntries.{KeepEntries}
-use Rattle.record_keeper.specs.Keepers.{KeeperIs, Loads, after_call}
+use Rattle.record_keeper.specs.Keepers.{Applies, KeeperIs, Loads, after_call}
 use Rattle.record_keeper.specs.declared.fault.RecordsFault.TheVariants as wrong
+use Rattle.record_keeper.specs.declared.keeper.KeeperDone.{KeeperDone}
+use Rattle.record_keeper.specs.declared.keeper.KeeperDone.TheVariants as done
 use Rattle.record_keeper.specs.declared.keeper.KeeperLoad.TheVariants as load
 use Rattle.portal_start.specs.declared.start.Lists.{Lists}
 use Rattle.portal_start.specs.declared.start.StartError.{StartError}
@@ -44,18 +47,46 @@ pub record IsOpening (limits : Limits) (records : Records) (opening : OpeningSta
 abbrev pub is_narrow : DocId → Bool
 is_narrow id = nat_lt id.number (2 ^ 32)
 
--- the records that were loaded are good, and the opening state stands for them
+-- records of the first version become those of this one by one change alone, and others stay
+pub record Upgrades (version : ℕ) (old new : KeeperIs) : Type 0 where
+  pub made : version ≡ first_version → Applies (Upgrade ∷ []) old done.Done new
+  pub stays : version ≢ first_version → new ≡ old
+
+-- why records don't become those of this version
+abbrev pub UpgradesBadly : KeeperIs → StartError → KeeperIs → Type 0
+UpgradesBadly old KeeperFault new = Applies (Upgrade ∷ []) old done.Failed new
+UpgradesBadly old (BadVersion found) new = ⊥
+UpgradesBadly old (BadRecord index) new = ⊥
+UpgradesBadly old Memory new = (new ≡ old) ⊎ Applies (Upgrade ∷ []) old done.Memory new
+
+-- the records that were loaded are good, the opening state stands for them, and the keeper has them
+-- in this version
 pub record LoadsGood (limits : Limits) (old : KeeperIs) (opening : OpeningState)
     (new : KeeperIs) : Type 0 where
   pub records : Records
-  pub loads : Loads old (load.Got records) new
+  pub loaded : KeeperIs
+  pub loads : Loads old (load.Got records) loaded
   pub good : AreGood limits records
   pub opening_is : IsOpening limits records opening
+  pub upgrades : Upgrades records.version loaded new
 
--- Why no portal starts: the keeper failed, whose count rose; the records that were loaded have
--- another version; one of them is bad, and this is the first; or there was no memory.
+-- good records of the first version were loaded, and the change that makes them this version's is
+-- answered so
+pub record FailsToUpgrade (limits : Limits) (old : KeeperIs) (answer : KeeperDone) (new : KeeperIs)
+    : Type 0 where
+  pub records : Records
+  pub loaded : KeeperIs
+  pub loads : Loads old (load.Got records) loaded
+  pub good : AreGood limits records
+  pub version : records.version ≡ first_version
+  pub applies : Applies (Upgrade ∷ []) loaded answer new
+
+-- Why no portal starts: the keeper failed, whose count rose, to load or to upgrade; the records that
+-- were loaded have another version; one of them is bad, and this is the first; or there was no
+-- memory.
 abbrev pub LoadsBadly : Limits → KeeperIs → StartError → KeeperIs → Type 0
-LoadsBadly limits old KeeperFault new = Loads old load.Failed new
+LoadsBadly limits old KeeperFault new =
+    Loads old load.Failed new ⊎ FailsToUpgrade limits old done.Failed new
 LoadsBadly limits old (BadVersion found) new =
     (records : Records) × Loads old (load.Got records) new
     × IsWrong limits records (Some (wrong.BadVersion found))
@@ -63,7 +94,8 @@ LoadsBadly limits old (BadRecord index) new =
     (records : Records) × Loads old (load.Got records) new
     × IsWrong limits records (Some (wrong.BadRecord index))
 LoadsBadly limits old Memory new =
-    (new ≡ after_call old false old.told) × FailsAsTold old.calls false
+    ((new ≡ after_call old false old.told) × FailsAsTold old.calls false)
+    ⊎ FailsToUpgrade limits old done.Memory new
 
 -- the lists are those of the opening state
 pub record AreLists (lists : Lists) : Type 0 where

@@ -1,33 +1,38 @@
 //! Starting a portal with the records that its keeper loads.
 
-ghost use Rattle.std.specs.Prelude.{◌≡◌, ◌<◌, ◌^◌, map, true, None, IfErr, IfOk};
+ghost use Rattle.std.specs.Prelude.{◌≡◌, ◌<◌, ◌^◌, [], ◌∷◌, map, true, None, IfErr, IfOk, OnOk};
 ghost use Rattle.std.specs.List.{list_all};
 ghost use Rattle.portal_model.specs.Opening.{id_of, opened_over};
 ghost use Rattle.portal_model.specs.Rows.{are_rows};
 ghost use Rattle.portal_model.specs.Valid.{Valid};
-ghost use Rattle.portal_start.specs.Loading.{AreLists, AreBad, IsOpening, LoadsBadly, LoadsGood};
+ghost use Rattle.portal_model.specs.declared.records.RecordChange.TheVariants.{Upgrade};
+ghost use Rattle.portal_start.specs.Loading.{AreLists, AreBad, IsOpening, LoadsBadly, LoadsGood, UpgradesBadly};
 ghost use Rattle.record_keeper.specs.BadRecords.{AreGood};
+ghost use Rattle.record_keeper.specs.Keepers.{Applies};
+ghost use Rattle.record_keeper.specs.declared.keeper.KeeperDone.TheVariants.{Done};
 
 use crate::opening;
 use document_records::{Applications, Documents, Grants};
 use permission_table::Tables;
 use permission_table::laws::valid_entries_are_held;
 use portal_base::limits::Limits;
+use portal_base::list::List;
 use portal_base::memory::{Replica, WantOfMemory};
 use portal_model::opening::OpeningState;
-use portal_model::records::Records;
+use portal_model::records::{RecordChange, Records};
 use record_keeper::laws::good_records_keep_good_entries;
-use record_keeper::{Keeper, KeeperLoad, RecordsFault, records_fault};
+use record_keeper::{FIRST_VERSION, Keeper, KeeperDone, KeeperLoad, RecordsFault, records_fault};
 use std::alloc::Global;
 use thiserror::Error;
 
 /// Why no portal starts.
 #[derive(Clone, Copy, Debug, PartialEq, Eq, Error)]
 pub enum StartError {
-    /// The keeper failed to load the records.
+    /// The keeper failed to load the records, or to bring those of version 1 to
+    /// version 2.
     #[error("the keeper failed to load the records")]
     KeeperFault,
-    /// The records have another version than 1.
+    /// The records have another version than 1 and 2.
     #[error("the records have the version {found}")]
     BadVersion {
         /// The version that they have.
@@ -52,7 +57,7 @@ pub struct StartRefusal<T, K, C, W> {
     pub error: StartError,
     /// The tree, as it was.
     pub tree: T,
-    /// The keeper, which was asked once.
+    /// The keeper, which was asked once, or twice where its records are of version 1.
     pub keeper: K,
     /// The clock, as it was.
     pub clock: C,
@@ -75,7 +80,8 @@ pub struct Lists {
     pub tables: Tables,
 }
 
-/// Loads the records of a keeper, which are to be good under the limits.
+/// Loads the records of a keeper, which are to be good under the limits. Those of
+/// version 1 become those of version 2, by one change alone.
 pub fn load<K: Keeper>(alloc: Global, keeper: &mut K, limits: &Limits) -> Result<Lists, StartError>
     requires made { limits.now.made < 2 ^ 32 }
     requires queued { limits.now.queued < 2 ^ 32 }
@@ -86,11 +92,44 @@ pub fn load<K: Keeper>(alloc: Global, keeper: &mut K, limits: &Limits) -> Result
     ensures bad { IfErr result (λ error. LoadsBadly limits.now (K.is keeper.old) error
         (K.is keeper.new)) }
 {
-    match keeper.load() {
-        KeeperLoad::Got(records) => lists_of(alloc, records, limits),
-        KeeperLoad::Failed => Err(StartError::KeeperFault),
-        KeeperLoad::Memory => Err(StartError::Memory),
+    let records = match keeper.load() {
+        KeeperLoad::Got(records) => records,
+        KeeperLoad::Failed => return Err(StartError::KeeperFault),
+        KeeperLoad::Memory => return Err(StartError::Memory),
+    };
+    let version = records.version;
+    // Records that are bad stay as they are, of whichever version.
+    let lists = lists_of(alloc, records, limits)?;
+    if version != FIRST_VERSION {
+        return Ok(lists);
     }
+    upgrade(alloc, keeper)?;
+    Ok(lists)
+}
+
+/// Makes the records of a keeper those of this version, by one change alone.
+fn upgrade<K: Keeper>(alloc: Global, keeper: &mut K) -> Result<(), StartError>
+    ensures ok { OnOk result (Applies (Upgrade ∷ []) (K.is keeper.old) Done (K.is keeper.new)) }
+    ensures bad { IfErr result (λ error. UpgradesBadly (K.is keeper.old) error
+        (K.is keeper.new)) }
+{
+    let Ok(changes) = upgrade_alone(alloc) else {
+        return Err(StartError::Memory);
+    };
+    match keeper.apply(&changes) {
+        KeeperDone::Done => Ok(()),
+        KeeperDone::Failed => Err(StartError::KeeperFault),
+        KeeperDone::Memory => Err(StartError::Memory),
+    }
+}
+
+/// The change to this version, and no other.
+fn upgrade_alone(alloc: Global) -> Result<List<RecordChange>, WantOfMemory>
+    ensures { IfOk result (λ changes. changes ≡ Upgrade ∷ []) }
+{
+    let mut changes = List::new(alloc);
+    changes.push(RecordChange::Upgrade)?;
+    Ok(changes)
 }
 
 /// The lists that records stand for, which are to be good.

@@ -1,6 +1,7 @@
 -- The calls of the tree that a request on documents makes: one for each look, and none but looks; and no moment is read for it.
-use Rattle.std.proofs.Common.{◌≡◌, ℕ, zero, suc, List, [], ◌∷◌, length, replicate, Bool, true, false, not, Option, Some, None, is_some, refl, sym, ap, ◌∙◌}
-use Rattle.node_looks.specs.TreeCalls.{calls_of}
+use Rattle.std.proofs.Common.{◌≡◌, ℕ, zero, suc, List, [], ◌∷◌, length, map, replicate, Bool, true, false, not, Option, Some, None, is_some, refl, sym, ap, ◌∙◌}
+use Rattle.host_tree.specs.declared.tree.TreeCall.{TreeCall}
+use Rattle.node_looks.specs.TreeCalls.{Call, call_at, calls_by, unfailed}
 use Rattle.portal_base.specs.declared.files.File.{File}
 use Rattle.portal_base.specs.declared.files.Look.{Look}
 use Rattle.portal_base.specs.declared.names.doc_id.DocId.{DocId}
@@ -20,24 +21,24 @@ use Rattle.portal_model.specs.Step.{all_told}
 use Rattle.portal_model.specs.Verdict.{Verdict, walk_unless}
 use Rattle.portal_model.specs.Walk.{Walk, Answers, Looks, Ends, Gives, looks_at_all, reads_clock}
 use Rattle.portal_steps.specs.Documents.{is_document_call}
-use Rattle.portal_steps.specs.TreeCalls.{bus_calls, document_calls, request_calls}
+use Rattle.portal_steps.specs.TreeCalls.{bus_calls, document_calls, only_looks, request_calls}
 use Rattle.portal_steps.proofs.CallVerdicts.{is_on_bus, walk-is}
 
--- so many calls that didn't fail, and one behind them that did, or none
-abbrev pub listed : ℕ → Bool → List Bool
+-- so many looks that didn't fail, and one behind them that did, or none
+abbrev pub listed : ℕ → Bool → List Call
 listed zero false = []
-listed zero true = true ∷ []
-listed (suc n) failed = false ∷ listed n failed
+listed zero true = (TreeCall.Look, true) ∷ []
+listed (suc n) failed = unfailed TreeCall.Look ∷ listed n failed
 
-pub listed-none : (n : ℕ) → listed n false ≡ replicate n false
+pub listed-none : (n : ℕ) → listed n false ≡ map unfailed (replicate n TreeCall.Look)
 listed-none zero = refl
-listed-none (suc n) = ap (λ (l : List Bool). false ∷ l) (listed-none n)
+listed-none (suc n) = ap (λ (l : List Call). unfailed TreeCall.Look ∷ l) (listed-none n)
 
 -- ---- a walk that only looks
 
 abbrev OnlyLooks : {X : Type 0} → Walk X → Type 0
 OnlyLooks (Answers x) = Unit {0}
-OnlyLooks (Looks target next) = (look : Look) → OnlyLooks (next look)
+OnlyLooks (Looks target next) = (call_at target ≡ TreeCall.Look) × ((look : Look) → OnlyLooks (next look))
 OnlyLooks (Ends call done missing) = ⊥
 
 answered-calls : (looks : List Look) (failed : Bool) → looks ≡ [] → failed ≡ false → [] ≡ listed (length looks) failed
@@ -45,16 +46,18 @@ answered-calls [] false e f = refl
 answered-calls [] true e f = absurd (cc)
 answered-calls (look ∷ looks) failed e f = absurd (cc)
 
-walk-calls : {X : Type 0} (told : Option (List File)) (looks : List Look) (failed : Bool) (w : Walk X) → OnlyLooks w → Gives told w looks failed → calls_of w looks failed ≡ listed (length looks) failed
-walk-calls told looks failed (Answers x) o g = answered-calls looks failed g.0 g.1
-walk-calls told [] failed (Looks target next) o g = ap (λ (b : Bool). b ∷ []) g ∙ ap (listed 0) (sym g)
-walk-calls told (look ∷ looks) failed (Looks target next) o g = ap (λ (l : List Bool). false ∷ l) (walk-calls told looks failed (next look) (o look) g.1)
-walk-calls told looks failed (Ends call done missing) o g = absurd o
+walk-calls : {X : Type 0} (last : X → TreeCall) (told : Option (List File)) (looks : List Look) (failed : Bool) (w : Walk X) → OnlyLooks w → Gives told w looks failed → calls_by last w looks failed ≡ listed (length looks) failed
+walk-calls last told looks failed (Answers x) o g = answered-calls looks failed g.0 g.1
+walk-calls last told [] failed (Looks target next) o g = ap (λ (k : TreeCall). (k, failed) ∷ []) o.0 ∙ (ap (λ (b : Bool). (TreeCall.Look, b) ∷ []) g ∙ ap (listed 0) (sym g))
+walk-calls last told (look ∷ looks) failed (Looks target next) o g =
+    ap (λ (k : TreeCall). unfailed k ∷ calls_by last (next look) looks failed) o.0
+    ∙ ap (λ (l : List Call). unfailed TreeCall.Look ∷ l) (walk-calls last told looks failed (next look) (o.1 look) g.1)
+walk-calls last told looks failed (Ends call done missing) o g = absurd o
 
 walk-clock : {X : Type 0} (looks : List Look) (w : Walk X) → OnlyLooks w → reads_clock w looks ≡ false
 walk-clock looks (Answers x) o = refl
 walk-clock [] (Looks target next) o = refl
-walk-clock (look ∷ looks) (Looks target next) o = walk-clock looks (next look) (o look)
+walk-clock (look ∷ looks) (Looks target next) o = walk-clock looks (next look) (o.1 look)
 walk-clock looks (Ends call done missing) o = absurd o
 
 -- ---- the requests on documents
@@ -65,7 +68,7 @@ only-unless false code w o = o
 
 only-all : (paths : List (List ℕ)) (next : List Look → Walk Verdict) → ((looks : List Look) → OnlyLooks (next looks)) → OnlyLooks (looks_at_all paths next)
 only-all [] next o = o []
-only-all (path ∷ paths) next o = λ look. only-all paths (λ looks. next (look ∷ looks)) (λ looks. o (look ∷ looks))
+only-all (path ∷ paths) next o = (refl, λ look. only-all paths (λ looks. next (look ∷ looks)) (λ looks. o (look ∷ looks)))
 
 only-add : (s : State) (c : Connection) (a : AddRequest) (numbers : List DocId) → OnlyLooks (add s c a numbers)
 only-add s c a numbers =
@@ -82,12 +85,12 @@ only-bus s c request numbers = tt
 pub add-calls : (s : State) (a : AddRequest) (given : Given) (o : Option Connection) → LawfulOnBus s (Request.Add a) given o → bus_calls s (Request.Add a) given o ≡ listed (length given.looks) (is_tree given.fault)
 add-calls s a given None l = sym (ap (λ (g : Given). listed (length g.looks) (is_tree g.fault)) l)
 add-calls s a given (Some c) l =
-    walk-calls (files_told (all_told c.seat s)) given.looks (is_tree given.fault) (bus_walk (all_told c.seat s) c (Request.Add a) given.numbers) (only-bus (all_told c.seat s) c (Request.Add a) given.numbers) l.looks
+    walk-calls only_looks (files_told (all_told c.seat s)) given.looks (is_tree given.fault) (bus_walk (all_told c.seat s) c (Request.Add a) given.numbers) (only-bus (all_told c.seat s) c (Request.Add a) given.numbers) l.looks
 
 -- the others make none
 pub call-calls : (s : State) (request : Request) (given : Given) (o : Option Connection) → is_document_call request ≡ true → bus_calls s request given o ≡ []
 call-calls s request given None h = refl
-call-calls s request given (Some c) h = ap (λ (w : Walk Verdict). calls_of w given.looks (is_tree given.fault)) (walk-is (all_told c.seat s) c request given.numbers h)
+call-calls s request given (Some c) h = ap (λ (w : Walk Verdict). calls_by only_looks w given.looks (is_tree given.fault)) (walk-is (all_told c.seat s) c request given.numbers h)
 
 -- a call of the permission store makes none either
 pub store-calls : (s : State) (call : StoreCall) (given : Given) (o : Option Connection) → bus_calls s (Request.Store call) given o ≡ []

@@ -1,6 +1,6 @@
 -- What a request on a node asks of the devices, and how it is replied to.
-use Rattle.std.proofs.Common.{◌≡◌, ◌≢◌, ℕ, List, [], ◌∷◌, replicate, Bool, true, false, Option, Some, None, refl, sym, ap, subst, ◌∙◌}
-use Rattle.node_looks.specs.TreeCalls.{after_calls}
+use Rattle.std.proofs.Common.{◌≡◌, ◌≢◌, ℕ, List, [], ◌∷◌, map, Bool, true, false, Option, Some, None, refl, sym, ap, subst, ◌∙◌}
+use Rattle.node_looks.specs.TreeCalls.{Call, after_calls, unfailed}
 use Rattle.file_ops.specs.Wanting.{may_call_in_vain, may_change_file}
 use Rattle.node_looks.specs.declared.served.NodeDone.{NodeDone}
 use Rattle.host_tree.specs.Trees.{TreeIs, after_call}
@@ -35,15 +35,15 @@ never-kept s r given None k = λ e. let no : Fault.Keeper ≡ Fault.None = sym e
 never-kept s r given (Some c) k = k.keeper
 
 -- the tree keeps what it began with
-after-began : (calls : List Bool) (old : TreeIs) → (after_calls old calls).began ≡ old.began
+after-began : (calls : List Call) (old : TreeIs) → (after_calls old calls).began ≡ old.began
 after-began [] old = refl
-after-began (failed ∷ more) old = after-began more (after_call old failed old.told)
+after-began (call ∷ more) old = after-began more (after_call old call.0 call.1 old.told)
 
-pub calls-keep : (old : TreeIs) (calls : List Bool) (files : Option (List File)) (new : TreeIs) → Calling old calls files new → new.began ≡ old.began
+pub calls-keep : (old : TreeIs) (calls : List Call) (files : Option (List File)) (new : TreeIs) → Calling old calls files new → new.began ≡ old.began
 calls-keep old calls files new k = ap (λ (t : TreeIs). t.began) k.goes ∙ after-began calls old
 
 pub was-called-keeps : (old new : TreeIs) → WasCalled old new → (new.began ≡ old.began) × (new.told ≡ old.told)
-was-called-keeps old new k = (calls-keep old (replicate k.0 false) old.told new k.1, ap (λ (t : TreeIs). t.told) k.1.goes)
+was-called-keeps old new k = (calls-keep old (map unfailed k.0) old.told new k.1, ap (λ (t : TreeIs). t.told) k.1.goes)
 
 -- the same reply is alike, to a request that reads no file
 pub alike-same : (told : Bool) (request : Request) (stepped given : Reply) → is_on_node request ≡ false → given ≡ stepped → Alike told request stepped given

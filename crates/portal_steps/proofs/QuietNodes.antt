@@ -4,7 +4,7 @@ use Rattle.std.specs.List.{list_all, IsDistinct}
 use Rattle.change_signals.specs.Unsent.{Boxes}
 use Rattle.node_looks.specs.OpenHandles.{AreOpen}
 use Rattle.node_looks.specs.Served.{given_to}
-use Rattle.node_looks.specs.TreeCalls.{Calling, calls_of}
+use Rattle.node_looks.specs.TreeCalls.{Call, Calling, calls_of}
 use Rattle.node_looks.specs.declared.served.NodeDone.{NodeDone}
 use Rattle.host_tree.specs.Trees.{TreeIs}
 use Rattle.node_serving.specs.Seats.{ServesSeat, calls_on, seat_step}
@@ -241,7 +241,7 @@ serves-loudly s seat r old done cs' table' new v k =
         };
         handles = open-loud table' step.0 (subst (λ (x : State × Reply). AreOpen x.0 table') same k.handles);
         files = ap (λ (x : State × Reply). files_told x.0) (sym same) ∙ k.files;
-        calls = subst (λ (calls : List Bool). Calling old calls new.told new) (ap (calls_on (quiet s) r given) mount_is ∙ calls-loud s v seat r given mount) k.calls;
+        calls = subst (λ (calls : List Call). Calling old calls new.told new) (ap (calls_on (quiet s) r given) mount_is ∙ calls-loud s v seat r given mount) k.calls;
         fault = k.fault;
         failure = k.failure;
       };

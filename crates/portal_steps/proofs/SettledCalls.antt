@@ -13,6 +13,7 @@ use Rattle.portal_model.specs.Bus.{is_tree, kept, settled}
 use Rattle.portal_model.specs.Errno.{eio}
 use Rattle.portal_model.specs.Kept.{records_of}
 use Rattle.portal_model.specs.Outside.{ChangesRecords, meets_limit, verdict_of}
+use Rattle.portal_model.specs.RecordChanges.{records_version}
 use Rattle.portal_model.specs.State.{State}
 use Rattle.portal_model.specs.Store.{record_of}
 use Rattle.portal_model.specs.Verdict.{Doing, Verdict, Refuses, Does}
@@ -76,7 +77,7 @@ module _ (s : State) (c : Connection) (request : Request) (given : Given) (after
   done-keeps d is within e true h =
       let documents = same_records-eq (records_of d.state).documents (records_of s).documents h in
       let entries : d.state.entries ≡ s.entries = ap (λ (t : State). t.entries) e ∙ same in
-      let records : records_of d.state ≡ records_of s = λ i. record { version = 1; documents = documents i; entries = map record_of (entries i) } in
+      let records : records_of d.state ≡ records_of s = λ i. record { version = records_version; documents = documents i; entries = map record_of (entries i) } in
       uncalled-keeps s after old new (went.uncalled (λ changes. (subst (ChangesRecords s) is changes).1 records)) (ap records_of (sym e) ∙ records) keeps
   done-keeps d is within e false h =
       let changes : ChangesRecords s (Some (Does d)) = (within, λ r. same_records-not (records_of d.state).documents (records_of s).documents h (ap (λ (x : Records). x.documents) r)) in

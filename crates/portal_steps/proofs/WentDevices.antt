@@ -1,7 +1,7 @@
 -- What the devices of a portal went through in an entry.
 use Rattle.std.proofs.Common.{◌≡◌, ◌≢◌, ℕ, List, [], ◌∷◌, ◌++◌, length, Bool, true, false, Option, Some, None, refl, sym, ap, subst, ◌∙◌, inl}
 use Rattle.host_tree.specs.Trees.{TreeIs}
-use Rattle.node_looks.specs.Done.{Reads}
+use Rattle.node_looks.specs.Done.{MayRead, Reads}
 use Rattle.portal_base.specs.declared.files.File.{File}
 use Rattle.portal_model.specs.declared.entry.Entry.{Entry}
 use Rattle.portal_model.specs.declared.entry.Fault.{Fault}
@@ -23,6 +23,7 @@ use Rattle.portal_steps.proofs.AskedCalls.{asked-calling, asked-keeps, was-asked
 use Rattle.portal_steps.proofs.BusCalls.{listed}
 use Rattle.portal_steps.proofs.DrawnWords.{drawn-drew}
 use Rattle.portal_steps.specs.Story.{PortalIs, state_now}
+use Rattle.node_looks.specs.TreeCalls.{Call}
 use Rattle.portal_steps.specs.TreeCalls.{Calling, WasCalled, entry_calls}
 
 -- ---- requests that are none on documents
@@ -56,22 +57,22 @@ drawn-none told words e = subst (λ (ws : List ℕ). Drawn told ws told) (sym e)
 pub calling-none : (t : TreeIs) → Calling t [] t.told t
 calling-none t = record { goes = refl; fails = tt }
 
-reads-none : {C : Type 0} (told : C → Option ℕ) (old : C) (moment : Option ℕ) (new : C) → moment ≡ None → new ≡ old → Reads told old moment new
-reads-none told old None new e k = k
-reads-none told old (Some now) new e k = absurd (cc)
+reads-none : {C : Type 0} (reads : C → ℕ → C → Type 0) (old : C) (moment : Option ℕ) (new : C) → moment ≡ None → new ≡ old → Reads reads old moment new
+reads-none reads old None new e k = k
+reads-none reads old (Some now) new e k = absurd (cc)
 
-module _ {T K C W : Type 0} (tree_is : T → TreeIs) (keeper_is : K → KeeperIs) (clock_told : C → Option ℕ) (words_told : W → Option (List ℕ)) (old new : PortalIs T K C W) (e : Entry) where
+module _ {T K C W : Type 0} (tree_is : T → TreeIs) (keeper_is : K → KeeperIs) (clock_reads : C → ℕ → C → Type 0) (words_told : W → Option (List ℕ)) (old new : PortalIs T K C W) (e : Entry) where
   -- by an entry, and nothing else
   story-grown : new.story.began ≡ old.story.began → new.story.opening ≡ old.story.opening → new.story.history ≡ old.story.history ++ e ∷ [] → new.story ≡ record old.story { history = old.story.history ++ e ∷ [] }
   story-grown b o h = λ i. record { began = b i; opening = o i; history = h i }
 
   still-called : entry_calls (state_now old.story) e ≡ [] → new.tree ≡ old.tree → Calling (tree_is old.tree) (entry_calls (state_now old.story) e) (tree_is new.tree).told (tree_is new.tree)
-  still-called none t = subst (λ (calls : List Bool). Calling (tree_is old.tree) calls (tree_is new.tree).told (tree_is new.tree)) (sym none)
+  still-called none t = subst (λ (calls : List Call). Calling (tree_is old.tree) calls (tree_is new.tree).told (tree_is new.tree)) (sym none)
       (subst (λ (x : T). Calling (tree_is old.tree) [] (tree_is x).told (tree_is x)) (sym t) (calling-none (tree_is old.tree)))
 
   -- a request on a node
   pub went-node : new.story.began ≡ old.story.began → new.story.opening ≡ old.story.opening → new.story.history ≡ old.story.history ++ e ∷ [] → is_plain e.request ≡ true → Calling (tree_is old.tree) (entry_calls (state_now old.story) e) (tree_is new.tree).told (tree_is new.tree) → e.given.fault ≢ Fault.Keeper → e.given.words ≡ [] → new.keeper ≡ old.keeper →
-      Reads clock_told old.clock e.given.now new.clock → new.words ≡ old.words → Went tree_is keeper_is clock_told words_told old e new
+      Reads clock_reads old.clock e.given.now new.clock → new.words ≡ old.words → Went tree_is keeper_is clock_reads words_told old e new
   went-node b o h plain calling fault drawn k c w = record {
     grown = story-grown b o h;
     tree = calling;
@@ -85,17 +86,17 @@ module _ {T K C W : Type 0} (tree_is : T → TreeIs) (keeper_is : K → KeeperIs
 
   -- an Enter, a Leave or a Collect
   pub went-plain : new.story.began ≡ old.story.began → new.story.opening ≡ old.story.opening → new.story.history ≡ old.story.history ++ e ∷ [] → is_plain e.request ≡ true → entry_calls (state_now old.story) e ≡ [] → new.tree ≡ old.tree → e.given.fault ≢ Fault.Keeper → e.given.words ≡ [] → new.keeper ≡ old.keeper → e.given.now ≡ None → new.clock ≡ old.clock → new.words ≡ old.words →
-      Went tree_is keeper_is clock_told words_told old e new
-  went-plain b o h plain none t fault drawn k moment c w = went-node b o h plain (still-called none t) fault drawn k (reads-none clock_told old.clock e.given.now new.clock moment c) w
+      Went tree_is keeper_is clock_reads words_told old e new
+  went-plain b o h plain none t fault drawn k moment c w = went-node b o h plain (still-called none t) fault drawn k (reads-none clock_reads old.clock e.given.now new.clock moment c) w
 
   -- a request on documents but Add
   pub went-call : new.story.began ≡ old.story.began → new.story.opening ≡ old.story.opening → new.story.history ≡ old.story.history ++ e ∷ [] → new.tree ≡ old.tree → entry_calls (state_now old.story) e ≡ [] → Keeping (state_now old.story) e (state_now new.story) (keeper_is old.keeper) (keeper_is new.keeper) → e.given.now ≡ None → new.clock ≡ old.clock →
-      e.given.words ≡ [] → new.words ≡ old.words → (may_change_records e.request ≡ false → (e.given.fault ≢ Fault.Keeper) × (new.keeper ≡ old.keeper)) → Went tree_is keeper_is clock_told words_told old e new
+      e.given.words ≡ [] → new.words ≡ old.words → (may_change_records e.request ≡ false → (e.given.fault ≢ Fault.Keeper) × (new.keeper ≡ old.keeper)) → Went tree_is keeper_is clock_reads words_told old e new
   went-call b o h t none keeping moment c drawn w unkept = record {
     grown = story-grown b o h;
     tree = still-called none t;
     keeper = keeping;
-    clock = reads-none clock_told old.clock e.given.now new.clock moment c;
+    clock = reads-none clock_reads old.clock e.given.now new.clock moment c;
     words = subst (λ (x : W). Drawn (words_told old.words) e.given.words (words_told x)) (sym w) (drawn-none (words_told old.words) e.given.words drawn);
     unkept = unkept;
     undrawn = λ _. w;
@@ -103,14 +104,14 @@ module _ {T K C W : Type 0} (tree_is : T → TreeIs) (keeper_is : K → KeeperIs
 
   -- an Add
   pub went-add : new.story.began ≡ old.story.began → new.story.opening ≡ old.story.opening → new.story.history ≡ old.story.history ++ e ∷ [] → may_draw e.request ≡ true → may_change_records e.request ≡ true → entry_calls (state_now old.story) e ≡ listed (length e.given.looks) (is_tree e.given.fault) → Asked (tree_is old.tree) (length e.given.looks) (is_tree e.given.fault) (tree_is new.tree) →
-      Keeping (state_now old.story) e (state_now new.story) (keeper_is old.keeper) (keeper_is new.keeper) → e.given.now ≡ None → new.clock ≡ old.clock → Drew (words_told old.words) e.given.words (words_told new.words) → Went tree_is keeper_is clock_told words_told old e new
+      Keeping (state_now old.story) e (state_now new.story) (keeper_is old.keeper) (keeper_is new.keeper) → e.given.now ≡ None → new.clock ≡ old.clock → Drew (words_told old.words) e.given.words (words_told new.words) → Went tree_is keeper_is clock_reads words_told old e new
   went-add b o h draws changes calls asked keeping moment c drew = record {
     grown = story-grown b o h;
-    tree = subst (λ (l : List Bool). Calling (tree_is old.tree) l (tree_is new.tree).told (tree_is new.tree)) (sym calls)
+    tree = subst (λ (l : List Call). Calling (tree_is old.tree) l (tree_is new.tree).told (tree_is new.tree)) (sym calls)
         (subst (λ (files : Option (List File)). Calling (tree_is old.tree) (listed (length e.given.looks) (is_tree e.given.fault)) files (tree_is new.tree)) (sym (asked-keeps (length e.given.looks) (is_tree e.given.fault) (tree_is old.tree) (tree_is new.tree) asked).1)
         (asked-calling (length e.given.looks) (is_tree e.given.fault) (tree_is old.tree) (tree_is new.tree) asked));
     keeper = keeping;
-    clock = reads-none clock_told old.clock e.given.now new.clock moment c;
+    clock = reads-none clock_reads old.clock e.given.now new.clock moment c;
     words = drawn-drew e.given.words (words_told old.words) (words_told new.words) drew;
     unkept = λ f. let no : true ≡ false = sym changes ∙ f in absurd (cc);
     undrawn = λ f. let no : true ≡ false = sym draws ∙ f in absurd (cc);
@@ -120,14 +121,14 @@ module _ {T K C W : Type 0} (tree_is : T → TreeIs) (keeper_is : K → KeeperIs
 pub same-portal : {T K C W : Type 0} (old new : PortalIs T K C W) → new.tree ≡ old.tree → new.keeper ≡ old.keeper → new.clock ≡ old.clock → new.words ≡ old.words → new.story.began ≡ old.story.began → new.story.opening ≡ old.story.opening → new.story.history ≡ old.story.history → new ≡ old
 same-portal old new t k c w b o h = λ i. record { tree = t i; keeper = k i; clock = c i; words = w i; story = record { began = b i; opening = o i; history = h i } }
 
-module _ {T K C W : Type 0} (tree_is : T → TreeIs) (keeper_is : K → KeeperIs) (clock_told : C → Option ℕ) (words_told : W → Option (List ℕ)) (old : PortalIs T K C W) (request : Request) (new : PortalIs T K C W) where
+module _ {T K C W : Type 0} (tree_is : T → TreeIs) (keeper_is : K → KeeperIs) (clock_reads : C → ℕ → C → Type 0) (words_told : W → Option (List ℕ)) (old : PortalIs T K C W) (request : Request) (new : PortalIs T K C W) where
   -- that of an Add, which may have asked each device but the clock
   pub spends-add : may_draw request ≡ true → may_ask_tree_in_vain request ≡ true → may_change_records request ≡ true → WasAsked (tree_is old.tree) (tree_is new.tree) → KeeperStays (keeper_is old.keeper) (keeper_is new.keeper) → new.clock ≡ old.clock →
-      HasDrawn (words_told old.words) (words_told new.words) → new.story.began ≡ old.story.began → new.story.opening ≡ old.story.opening → new.story.history ≡ old.story.history → Spends tree_is keeper_is clock_told words_told old request new
+      HasDrawn (words_told old.words) (words_told new.words) → new.story.began ≡ old.story.began → new.story.opening ≡ old.story.opening → new.story.history ≡ old.story.history → Spends tree_is keeper_is clock_reads words_told old request new
   spends-add draws asks changes t k c w b o h = record {
     tree = was-asked-called (tree_is old.tree) (tree_is new.tree) t;
     keeper = k;
-    clock = ap clock_told c;
+    clock = inl c;
     words = w;
     story = λ i. record { began = b i; opening = o i; history = h i };
     unkept = λ f. let no : true ≡ false = sym changes ∙ f in absurd (cc);
@@ -137,8 +138,8 @@ module _ {T K C W : Type 0} (tree_is : T → TreeIs) (keeper_is : K → KeeperIs
   }
 
   -- that of a request on a node, which may have asked the tree and the clock
-  pub spends-node : (may_ask_tree_in_vain request ≡ false → new.tree ≡ old.tree) → (may_read_clock request ≡ false → new.clock ≡ old.clock) → WasCalled (tree_is old.tree) (tree_is new.tree) → new.keeper ≡ old.keeper → clock_told new.clock ≡ clock_told old.clock → new.words ≡ old.words → new.story.began ≡ old.story.began → new.story.opening ≡ old.story.opening → new.story.history ≡ old.story.history →
-      Spends tree_is keeper_is clock_told words_told old request new
+  pub spends-node : (may_ask_tree_in_vain request ≡ false → new.tree ≡ old.tree) → (may_read_clock request ≡ false → new.clock ≡ old.clock) → WasCalled (tree_is old.tree) (tree_is new.tree) → new.keeper ≡ old.keeper → MayRead clock_reads old.clock new.clock → new.words ≡ old.words → new.story.began ≡ old.story.began → new.story.opening ≡ old.story.opening → new.story.history ≡ old.story.history →
+      Spends tree_is keeper_is clock_reads words_told old request new
   spends-node asks reads t k c w b o h = record {
     tree = t;
     keeper = inl (ap keeper_is k);

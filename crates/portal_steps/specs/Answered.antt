@@ -17,7 +17,7 @@ use Rattle.portal_model.specs.State.{State}
 use Rattle.portal_model.specs.Step.{reply_at}
 use Rattle.record_keeper.specs.Keepers.{KeeperIs}
 use Rattle.add_calls.specs.Placing.{HasDrawn}
-use Rattle.node_looks.specs.Done.{Reads}
+use Rattle.node_looks.specs.Done.{MayRead, Reads}
 use Rattle.document_calls.specs.KeeperCalls.{KeeperStays}
 use Rattle.portal_steps.specs.Devices.{Drawn, Keeping, may_ask_tree_in_vain, may_change_records}
 use Rattle.portal_steps.specs.Devices.{may_draw, may_read_clock}
@@ -27,17 +27,18 @@ use Rattle.portal_steps.specs.TreeCalls.{Calling, WasCalled, entry_calls}
 -- The history grew by an entry, and this is what the devices went through in it: just the calls of
 -- the tree that its step reaches were made; the keeper was asked once where the faultless step
 -- changes the records, and else not at all; the words that were drawn are the first that were to
--- come; the clock was read where the entry has a moment, and else it stayed. Where the request may
--- not change the records the keeper is the same, and so are the words where it may draw none.
+-- come; the clock was read once where the entry has a moment, and else not at all. Where the
+-- request may not change the records the keeper is the same, and so are the words where it may draw
+-- none.
 pub record Went {T K C W : Type 0} (tree_is : T → TreeIs) (keeper_is : K
-    → KeeperIs) (clock_told : C → Option ℕ) (words_told : W → Option (List ℕ))
+    → KeeperIs) (clock_reads : C → ℕ → C → Type 0) (words_told : W → Option (List ℕ))
     (old : PortalIs T K C W) (e : Entry) (new : PortalIs T K C W) : Type 0 where
   pub grown : new.story ≡ record old.story { history = old.story.history ++ e ∷ [] }
   pub tree : Calling (tree_is old.tree) (entry_calls (state_now old.story) e)
       (tree_is new.tree).told (tree_is new.tree)
   pub keeper : Keeping (state_now old.story) e (state_now new.story) (keeper_is old.keeper)
       (keeper_is new.keeper)
-  pub clock : Reads clock_told old.clock e.given.now new.clock
+  pub clock : Reads clock_reads old.clock e.given.now new.clock
   pub words : Drawn (words_told old.words) e.given.words (words_told new.words)
   pub unkept : may_change_records e.request ≡ false →
       (e.given.fault ≢ Fault.Keeper) × (new.keeper ≡ old.keeper)
@@ -46,15 +47,15 @@ pub record Went {T K C W : Type 0} (tree_is : T → TreeIs) (keeper_is : K
 -- What a refusal does, which comes where memory is wanted: the keeper may have been asked once and
 -- have wanted memory too. Where the request may ask the tree in vain, that may have been asked, of
 -- which no call failed, and else it is the same; where it may draw words, some may have been drawn,
--- and else they are the same; and where it may read the clock, that may have been read, which shows
--- what it showed, and else it is the same; and where it may not change the records the keeper is
--- the same. All else is as before.
+-- and else they are the same; and where it may read the clock, that may have been read once, and
+-- else it is the same; and where it may not change the records the keeper is the same. All else is
+-- as before.
 pub record Spends {T K C W : Type 0} (tree_is : T → TreeIs) (keeper_is : K
-    → KeeperIs) (clock_told : C → Option ℕ) (words_told : W → Option (List ℕ))
+    → KeeperIs) (clock_reads : C → ℕ → C → Type 0) (words_told : W → Option (List ℕ))
     (old : PortalIs T K C W) (request : Request) (new : PortalIs T K C W) : Type 0 where
   pub tree : WasCalled (tree_is old.tree) (tree_is new.tree)
   pub keeper : KeeperStays (keeper_is old.keeper) (keeper_is new.keeper)
-  pub clock : clock_told new.clock ≡ clock_told old.clock
+  pub clock : MayRead clock_reads old.clock new.clock
   pub words : HasDrawn (words_told old.words) (words_told new.words)
   pub story : new.story ≡ old.story
   pub unkept : may_change_records request ≡ false → new.keeper ≡ old.keeper
@@ -65,7 +66,7 @@ pub record Spends {T K C W : Type 0} (tree_is : T → TreeIs) (keeper_is : K
 -- The history grew by one lawful entry, of this seat and request. The reply is alike to that of its
 -- step: over a tree that tells its files it is that one.
 pub record Answers {T K C W : Type 0} (tree_is : T → TreeIs) (keeper_is : K
-    → KeeperIs) (clock_told : C → Option ℕ) (words_told : W → Option (List ℕ))
+    → KeeperIs) (clock_reads : C → ℕ → C → Type 0) (words_told : W → Option (List ℕ))
     (old new : PortalIs T K C W) (seat : ℕ) (request : Request) (reply : Reply) : Type 0 where
   pub entry : Entry
   pub grown : new.story.history ≡ old.story.history ++ entry ∷ []
@@ -74,7 +75,7 @@ pub record Answers {T K C W : Type 0} (tree_is : T → TreeIs) (keeper_is : K
   pub lawful : Lawful (state_now old.story) entry
   pub reply_is : Alike (state_first old.story).told request
       (reply_at (state_now old.story) entry) reply
-  pub went : Went tree_is keeper_is clock_told words_told old entry new
+  pub went : Went tree_is keeper_is clock_reads words_told old entry new
 
 -- a reply of EIO tells that a call of the tree failed: its count rose
 abbrev pub TellsFault : TreeIs → TreeIs → Reply → Type 0

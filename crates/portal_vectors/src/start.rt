@@ -18,7 +18,8 @@ type Refusal = StartRefusal<MemoryTree, MemoryKeeper, SetClock, ListWords>;
 /// `start VERSION FAILS | NUMBER PATH GRANTS | ..`: why no portal starts over a keeper whose
 /// calls of these numbers fail, and which has records of this version: documents, with rights
 /// as `APP=RIGHTS,..`; and what the devices give that come back: the clock, which shows 5, the
-/// words, of which the first is 7, and the keeper. `started` where one starts.
+/// words, of which the first is 7, and how many documents of which version the keeper
+/// loads. `started` where one starts.
 pub fn start(alloc: Global, rest: &str) -> Result<String, VectorError> {
     let words = ListWords::new(List::copied(alloc, [7].as_slice())?);
     let keeper = keeper(alloc, rest)?;
@@ -104,7 +105,7 @@ fn shown_refusal(alloc: Global, refusal: &mut Refusal) -> Result<String, VectorE
     Ok(format!(in alloc; "{error:?}; clock {moment}, word {word}, keeper {load}")?)
 }
 
-/// How many documents a keeper loads.
+/// How many documents a keeper loads, of which version.
 fn loaded(alloc: Global, keeper: &mut MemoryKeeper) -> Result<String, VectorError> {
     let load = keeper.load();
     let shown = shown_load(alloc, &load);
@@ -116,7 +117,8 @@ fn shown_load(alloc: Global, load: &KeeperLoad) -> Result<String, VectorError> {
     match load {
         KeeperLoad::Got(records) => {
             let documents = records.documents.len();
-            Ok(format!(in alloc; "{documents}")?)
+            let version = records.version;
+            Ok(format!(in alloc; "{documents} of version {version}")?)
         }
         load => Ok(debug(alloc, load)?),
     }

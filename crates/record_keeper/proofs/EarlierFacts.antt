@@ -17,7 +17,7 @@ use Rattle.portal_model.specs.RecordChanges.{is_numbered, is_of_key}
 use Rattle.portal_model.specs.Valid.{is_text}
 use Rattle.portal_model.specs.declared.records.DocRecord.{DocRecord}
 use Rattle.portal_model.specs.declared.records.EntryRecord.{EntryRecord}
-use Rattle.record_keeper.specs.BadRecords.{names_granted, applications_of}
+use Rattle.record_keeper.specs.BadRecords.{first_version, names_granted, applications_of}
 use Rattle.record_keeper.specs.Earlier.{KeepsDocuments, TakesDocument, TakesEntry, key_text}
 use Rattle.record_keeper.specs.Naming.{also_named}
 use Rattle.record_keeper.specs.SoundRecords.{IsSoundDocument, IsSoundEntry}
@@ -48,11 +48,11 @@ numbers_more old new earlier document kept fresh keys = λ n.
     more (is_numbered n) earlier document _ (is_at (nat_cmp n) k) (eqb_turned k n ∙ unsigned_ties n k)
     (ap (list_any (is_at (nat_cmp n))) keys ∙ any_inserted nat_cmp k (is_at (nat_cmp n)) old.numbers.keys fresh ∙ ap (λ (b : Bool). is_at (nat_cmp n) k || b) (kept.numbers n))
 
-pub taken : (limits : Limits) (old new : EarlierDocuments) (document : DocRecord) (n : ℕ) → old.count < limits.documents → old.count < limits.made
-    → contains nat_cmp old.numbers document.number ≡ false → IsSoundDocument document → new.count ≡ old.count + 1
+pub taken : (version : ℕ) (limits : Limits) (old new : EarlierDocuments) (document : DocRecord) (n : ℕ) → old.count < limits.documents → old.count < limits.made
+    → contains nat_cmp old.numbers document.number ≡ false → IsSoundDocument document → (version ≡ first_version → document.strict ≡ false) → new.count ≡ old.count + 1
     → new.numbers.keys ≡ insert_key nat_cmp old.numbers.keys document.number → new.applications ≡ fold also_named old.applications (names_granted document)
-    → n ≡ length new.applications → (b : Bool) → leb n 16777216 ≡ b → TakesDocument limits old document new b
-taken limits old new document n live made fresh sound count keys names many true within = λ earlier kept.
+    → n ≡ length new.applications → (b : Bool) → leb n 16777216 ≡ b → TakesDocument version limits old document new b
+taken version limits old new document n live made fresh sound plain count keys names many true within = λ earlier kept.
     let counted = kept.count in
     let applications : new.applications ≡ applications_of (earlier ++ (document ∷ [])) =
     names ∙ ap (λ (a : List (List ℕ)). fold also_named a (names_granted document)) kept.applications ∙ named_with_document earlier document in
@@ -60,6 +60,7 @@ taken limits old new document n live made fresh sound count keys names many true
     let longer = length-append earlier (document ∷ []) in (
       record {
         itself = sound;
+        plain = plain;
         new = sym (kept.numbers document.number) ∙ fresh;
         live = omega arith;
         made = omega arith;
@@ -67,7 +68,7 @@ taken limits old new document n live made fresh sound count keys names many true
       },
       record { count = omega arith; numbers = numbers_more old new earlier document kept fresh keys; applications = applications },
     )
-taken limits old new document n live made fresh sound count keys names many false past = λ earlier kept good.
+taken version limits old new document n live made fresh sound plain count keys names many false past = λ earlier kept good.
     let applications : new.applications ≡ applications_of (earlier ++ (document ∷ [])) =
     names ∙ ap (λ (a : List (List ℕ)). fold also_named a (names_granted document)) kept.applications ∙ named_with_document earlier document in
     let same = many ∙ ap length applications in

@@ -19,12 +19,13 @@ pub record KeepsDocuments (kept : EarlierDocuments) (earlier : List DocRecord) :
   pub applications : kept.applications ≡ applications_of earlier
 
 -- the document is good behind those that are kept, and is kept too; or it isn't
-abbrev pub TakesDocument : Limits → EarlierDocuments → DocRecord → EarlierDocuments → Bool → Type 0
-TakesDocument limits old document new true = (earlier : List DocRecord)
+abbrev pub TakesDocument : ℕ → Limits → EarlierDocuments → DocRecord → EarlierDocuments → Bool
+    → Type 0
+TakesDocument version limits old document new true = (earlier : List DocRecord)
     → KeepsDocuments old earlier
-    → IsGoodDocument limits earlier document × KeepsDocuments new (earlier ++ document ∷ [])
-TakesDocument limits old document new false = (earlier : List DocRecord)
-    → KeepsDocuments old earlier → IsGoodDocument limits earlier document → ⊥
+    → IsGoodDocument version limits earlier document × KeepsDocuments new (earlier ++ document ∷ [])
+TakesDocument version limits old document new false = (earlier : List DocRecord)
+    → KeepsDocuments old earlier → IsGoodDocument version limits earlier document → ⊥
 
 -- a table and an identifier in one text, with a zero byte between them
 abbrev pub key_text : List ℕ → List ℕ → List ℕ

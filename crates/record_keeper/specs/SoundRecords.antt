@@ -31,10 +31,8 @@ pub record IsGrant (grant : GrantRecord) : Type 0 where
   pub some_right : 1 ≤ grant.rights
   pub no_other : grant.rights ≤ 15
 
--- a path on the host, and the rights of applications whose names rise; in version 1 of records no
--- document is strict
+-- a path on the host, and the rights of applications whose names rise
 pub record IsSoundDocument (document : DocRecord) : Type 0 where
-  pub plain : document.strict ≡ false
   pub path : is_host_path document.path ≡ true
   pub grants : All IsGrant document.grants
   pub rising : IsRising (map (λ grant. grant.app) document.grants)

@@ -4,12 +4,10 @@ ghost use Rattle.std.specs.Prelude.{◌≡◌, ℕ, ◌+◌, ◌<◌, ◌≤◌,
 ghost use Rattle.std.specs.List.{filter, position};
 ghost use Rattle.portal_model.specs.RecordChanges.{changed, changed_by, change_first, is_numbered, is_other_number, is_of_key, is_other_key, set_entry};
 
+use crate::fault::RECORDS_VERSION;
 use portal_base::list::List;
 use portal_base::text::Text;
 use portal_model::records::{DocRecord, EntryRecord, GrantRecord, RecordChange};
-
-/// The version of the records after an upgrade.
-const UPGRADED_VERSION: u32 = 2;
 
 /// Makes the changes one after another.
 pub(crate) fn make_all(
@@ -66,7 +64,7 @@ fn make(
         RecordChange::SetGrants { number, grants } => set_grants(documents, number, grants),
         RecordChange::SetEntry(entry) => set_entry(entries, entry),
         RecordChange::RemoveEntry { table, id } => remove_entry(entries, &table, &id),
-        RecordChange::Upgrade => *version = UPGRADED_VERSION,
+        RecordChange::Upgrade => *version = RECORDS_VERSION,
     }
 }
 

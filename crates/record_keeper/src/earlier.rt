@@ -1,14 +1,15 @@
 //! What the check of records keeps of those that it has passed.
 
-ghost use Rattle.std.specs.Prelude.{◌≡◌, ◌<◌, ◌^◌, ◌+◌, ◌++◌, ◌∷◌, [], IfOk, OnOk, fold};
+ghost use Rattle.std.specs.Prelude.{◌≡◌, ◌↔◌, false, IsTrue, ◌<◌, ◌^◌, ◌+◌, ◌++◌, ◌∷◌, [], IfOk, OnOk, fold};
 ghost use Rattle.std.specs.BTreeSet.{contains, insert_key};
 ghost use Rattle.std.specs.Ordering.{nat_cmp};
 ghost use Rattle.portal_base.specs.Names.{is_app_name};
-ghost use Rattle.record_keeper.specs.BadRecords.{names_granted};
+ghost use Rattle.record_keeper.specs.BadRecords.{first_version, names_granted};
 ghost use Rattle.record_keeper.specs.SoundRecords.{IsSoundDocument};
 ghost use Rattle.record_keeper.specs.Earlier.{KeepsDocuments, TakesDocument, TakesEntry, key_text};
 ghost use Rattle.record_keeper.specs.Naming.{also_named};
 
+use crate::fault::FIRST_VERSION;
 use crate::name_set::{Name, NameSet};
 use crate::naming::Named;
 use crate::sound::is_sound_entry;
@@ -44,15 +45,16 @@ impl EarlierDocuments {
         }
     }
 
-    /// Whether a document is good behind those that are kept. Then it is kept
-    /// too.
+    /// Whether a document is good in records of a version behind those that are
+    /// kept. Then it is kept too.
     pub fn take(
         &mut self,
         alloc: Global,
         document: &DocRecord,
+        version: u32,
         limits: &Limits,
     ) -> Result<bool, WantOfMemory>
-        ensures { IfOk result (TakesDocument limits.now self.old document.now self.new) }
+        ensures { IfOk result (TakesDocument version limits.now self.old document.now self.new) }
     {
         // The record with which a limit is passed is the bad one, though the one before it would
         // do.
@@ -62,7 +64,7 @@ impl EarlierDocuments {
         if self.numbers.contains(&document.number) {
             return Ok(false);
         }
-        if !is_sound_document(document) {
+        if !is_sound_document(document) || !suits_version(document, version) {
             return Ok(false);
         }
         self.put(alloc, document)?;
@@ -84,6 +86,13 @@ impl EarlierDocuments {
         self.applications
             .add_granted(alloc, document.grants.as_slice())
     }
+}
+
+/// Whether a version has documents as this one: the first has no strict ones.
+fn suits_version(document: &DocRecord, version: u32) -> bool
+    ensures { IsTrue result ↔ (version ≡ first_version → document.now.strict ≡ false) }
+{
+    version != FIRST_VERSION || !document.strict
 }
 
 /// The table and the identifier of an entry in one text.

@@ -48,7 +48,7 @@ mod sound_document;
 
 pub use datum::read_datum;
 pub use entries::kept_entries;
-pub use fault::{RECORDS_VERSION, RecordsFault, records_fault};
+pub use fault::{FIRST_VERSION, RECORDS_VERSION, RecordsFault, records_fault};
 pub use in_memory::MemoryKeeper;
 pub use keeper::{Keeper, KeeperDone, KeeperLoad};
 pub use name_set::{Name, NameSet};

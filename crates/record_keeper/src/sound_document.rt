@@ -1,6 +1,6 @@
 //! Which documents may be kept, as far as that depends on each alone.
 
-ghost use Rattle.std.specs.Prelude.{◌≡◌, ◌↔◌, IsTrue};
+ghost use Rattle.std.specs.Prelude.{◌↔◌, IsTrue};
 ghost use Rattle.std.specs.List.{All};
 ghost use Rattle.record_keeper.specs.SoundRecords.{IsGrant, IsSoundDocument};
 
@@ -12,18 +12,15 @@ use portal_model::records::{DocRecord, GrantRecord};
 /// All four rights together.
 const ALL_RIGHTS: u8 = 15;
 
-/// Whether a document may be kept in version 1 of records, as far as that
-/// depends on it alone: it isn't strict, its path is one on the host, and the
-/// names of applications that it grants rights to keep their rule and stand in
-/// rising byte order, each with at least one of the four rights and no other.
+/// Whether a document may be kept, as far as that depends on it alone: its path
+/// is one on the host, and the names of applications that it grants rights to keep
+/// their rule and stand in rising byte order, each with at least one of the four
+/// rights and no other.
 pub fn is_sound_document(document: &DocRecord) -> bool
     ensures { IsTrue result ↔ IsSoundDocument document.now }
 {
     let grants = document.grants.as_slice();
-    !document.strict
-        && HostPath::is_path(document.path.as_slice())
-        && are_grants(grants)
-        && keys_rise(grants)
+    HostPath::is_path(document.path.as_slice()) && are_grants(grants) && keys_rise(grants)
 }
 
 /// Whether an application gets at least one of the four rights, and no other,

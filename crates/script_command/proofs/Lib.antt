@@ -10,6 +10,7 @@ pub mod Parted
 pub mod TreeTable
 pub mod WorldRun
 pub mod WorldsCompared
+pub mod ComparedText
 pub mod Counts
 pub mod LoadRun
 pub mod AnyRun

@@ -10,7 +10,8 @@ use Rattle.portal_base.specs.declared.files.File.{File}
 use Rattle.portal_base.specs.declared.files.Look.{Look}
 use Rattle.portal_base.specs.declared.names.doc_id.DocId.{DocId}
 use Rattle.portal_steps.specs.Devices.{Drawn}
-use Rattle.portal_steps.specs.TreeCalls.{CallsAsTold, bus_calls}
+use Rattle.node_looks.specs.TreeCalls.{call_doing}
+use Rattle.portal_steps.specs.TreeCalls.{CallsAsTold, bus_calls, only_looks}
 use Rattle.node_serving.specs.Seats.{calls_on}
 use Rattle.portal_model.specs.declared.entry.Entry.{Entry}
 use Rattle.portal_model.specs.declared.entry.Fault.{Fault}
@@ -148,7 +149,7 @@ node_one s r g h calls moment (Some x) t c d m n l k =
     let told = told_files at t in
     let lg = subst (λ (files : Option (List File)). Gives files w g.looks (is_tree g.fault)) told l.looks in
     let lh = subst (λ (files : Option (List File)). Gives files w h.looks (is_tree h.fault)) told k.looks in
-    let both = one_given s.files w g.looks h.looks (is_tree g.fault) (is_tree h.fault) calls lg lh c d in
+    let both = one_given call_doing s.files w g.looks h.looks (is_tree g.fault) (is_tree h.fault) calls lg lh c d in
     let read : is_some g.now ≡ is_some h.now = l.clock ∙ (ap (reads_clock w) both.0 ∙ sym k.clock) in
     given_is g h
     (moment_one g.now h.now moment read m n)
@@ -171,7 +172,7 @@ module _ (s : State) (o : Outside) (request : Request) (g h : Given) (left also 
       let told = told_files at t in
       let lg = subst (λ (files : Option (List File)). Gives files wg g.looks (is_tree g.fault)) told l.looks in
       let lh = subst (λ (files : Option (List File)). Gives files wh h.looks (is_tree h.fault)) told k.looks in
-      let both = alike_given DrawAlike s.files wg wh g.looks h.looks (is_tree g.fault) (is_tree h.fault) o.tree alike lg lh c d in
+      let both = alike_given DrawAlike only_looks s.files wg wh g.looks h.looks (is_tree g.fault) (is_tree h.fault) o.tree alike lg lh c d in
       let count : words_drawn (verdict_of at x request g) ≡ words_drawn (verdict_of at x request h) =
       alike_drawn wg wh g.looks (moment_given g.now) (moment_given h.now) (is_tree g.fault) alike
       ∙ (ap (λ (z : List Look). words_drawn (walked wh (moment_given h.now) z (is_tree g.fault))) both.0

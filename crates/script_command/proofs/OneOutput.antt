@@ -105,7 +105,7 @@ close_one (Some at) a b c seat es fs out also told h k = comes_one a b c seat _ 
 
 does_one : (line : ScriptLine) (a b c : Scene) (es fs : List Entry) (out also : List (List ℕ)) → a.portal.told ≡ true → Does a line es out b → Does a line fs also c → AreSame es fs out also b c
 does_one (File path content) a b c es fs out also told h k = passes_one a b c es fs out also h k
-does_one (Doc id reusable path grants) a b c es fs out also told h k = passes_one a b c es fs out also h k
+does_one (Doc id reusable strict path grants) a b c es fs out also told h k = passes_one a b c es fs out also h k
 does_one (Now moment) a b c es fs out also told h k = (h.0 ∙ sym k.0, h.1 ∙ sym k.1, h.2 ∙ sym k.2)
 does_one (line.Entry entry) a b c es fs out also told h k = passes_one a b c es fs out also h k
 does_one (Fail device call) a b c es fs out also told h k = passes_one a b c es fs out also h k

@@ -1,7 +1,8 @@
 -- Over a tree that tells its files and its calls, one thing is given to a walk.
 use Rattle.std.proofs.Common.{◌≡◌, ℕ, List, [], ◌∷◌, Bool, true, false, Option, Some, None, is_some, refl, sym, ap, subst, ◌∙◌}
 use Rattle.std.specs.Prelude.{IfSome}
-use Rattle.node_looks.specs.TreeCalls.{CallsAsTold, calls_of}
+use Rattle.host_tree.specs.declared.tree.TreeCall.{TreeCall}
+use Rattle.node_looks.specs.TreeCalls.{CallsAsTold, calls_by}
 use Rattle.portal_base.specs.Calls.{Calls, next_call}
 use Rattle.portal_base.specs.declared.files.File.{File}
 use Rattle.portal_base.specs.declared.files.Look.{Look}
@@ -11,10 +12,10 @@ use Rattle.portal_model.specs.Walk.{Walk, Answers, Looks, Ends, Gives}
 pub not_both : {Y : Type 0} (f b : Bool) → f ≡ true → f ≡ b → false ≡ b → Y
 not_both f b t e k = let x : true ≡ false = sym t ∙ (e ∙ sym k) in absurd (cc)
 
-module _ {X : Type 0} where
+module _ {X : Type 0} (last : X → TreeCall) where
   -- the same looks are given, and the same call fails
   pub one_given : (files : List File) (w : Walk X) (xs ys : List Look) (f g : Bool) (calls : Calls) → Gives (Some files) w xs f → Gives (Some files) w ys g
-      → CallsAsTold (Some calls) (calls_of w xs f) → CallsAsTold (Some calls) (calls_of w ys g) → (xs ≡ ys) × (f ≡ g)
+      → CallsAsTold (Some calls) (calls_by last w xs f) → CallsAsTold (Some calls) (calls_by last w ys g) → (xs ≡ ys) × (f ≡ g)
   one_given files (Answers x) xs ys f g calls a b c d = (a.0 ∙ sym b.0, a.1 ∙ sym b.1)
   one_given files (Looks target next) [] [] f g calls a b c d = (refl, a ∙ sym b)
   one_given files (Looks target next) [] (y ∷ ys) f g calls a b c d = not_both f _ a c.0 d.0
@@ -22,7 +23,7 @@ module _ {X : Type 0} where
   one_given files (Looks target next) (x ∷ xs) (y ∷ ys) f g calls a b c d =
       let same : x ≡ y = a.0 ∙ sym b.0 in
       let behind : Gives (Some files) (next x) ys g = subst (λ (l : Look). Gives (Some files) (next l) ys g) (sym same) b.1 in
-      let calling : CallsAsTold (Some (next_call calls)) (calls_of (next x) ys g) = subst (λ (l : Look). CallsAsTold (Some (next_call calls)) (calls_of (next l) ys g)) (sym same) d.1 in
+      let calling : CallsAsTold (Some (next_call calls)) (calls_by last (next x) ys g) = subst (λ (l : Look). CallsAsTold (Some (next_call calls)) (calls_by last (next l) ys g)) (sym same) d.1 in
       let rest = one_given files (next x) xs ys f g (next_call calls) a.1 behind c.1 calling in
       (ap (λ (l : Look). l ∷ xs) same ∙ ap (λ (ls : List Look). y ∷ ls) rest.0, rest.1)
   one_given files (Ends call done missing) [] [] f g calls a b c d = (refl, c.0 ∙ sym d.0)

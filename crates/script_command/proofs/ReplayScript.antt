@@ -1,5 +1,5 @@
 -- A text replayed, and a run of the program.
-use Rattle.std.proofs.Common.{◌≡◌, ℕ, ◌+◌, ◌*◌, ◌≤◌, List, [], ◌++◌, length, Option, refl, sym, ap, ◌∙◌, subst, inl, inr, ◌⊎◌, arith}
+use Rattle.std.proofs.Common.{◌≡◌, ℕ, ◌+◌, ◌*◌, ◌≤◌, List, [], ◌∷◌, ◌++◌, length, Option, refl, sym, ap, ◌∙◌, subst, inl, inr, ◌⊎◌, append_assoc, arith}
 use Rattle.std.proofs.lemmas.List.{append-nil}
 use Rattle.portal_base.specs.Outside.{Short, onto}
 use Rattle.portal_model.specs.declared.entry.Entry.{Entry}
@@ -20,17 +20,17 @@ use Rattle.script_command.specs.declared.input.InputError.TheVariants as input
 use Rattle.script_replay.specs.declared.status.Status.{Status}
 use Rattle.script_replay.specs.declared.status.Status.TheVariants.{Done, Usage, ScriptFault, ReadFault, WriteFault, Memory, TooLong}
 use Rattle.script_command.specs.Inputs.{script_limit, AtEnd, IsWhole, Stops}
-use Rattle.script_replay.specs.Plays.{Plays, PlaysAll, PlaysPart, PlayStops}
+use Rattle.script_replay.specs.Plays.{Plays, PlaysAll, PlaysPart, PlaysUpTo, PlayStops}
 use Rattle.script_command.specs.Commands.{replay_words, IsNoCommand}
-use Rattle.script_command.specs.Runs.{Cause, IsReplay, Ran, Replays, Risen, WroteFront}
+use Rattle.script_command.specs.Runs.{AnsweredAll, Cause, IsReplay, Ran, Replays, Risen, WroteShort, WroteUpTo}
 use Rattle.script_replay.specs.Scenes.{Scene, ScriptPortal, first_scene, held_in, opening_state, outside_at, run_limits, sessions_of}
-use Rattle.script_replay.specs.Steps.{Agrees, AreFirst, MayPlay, scene}
+use Rattle.script_replay.specs.Steps.{Agrees, AreFirst, MayPlay, WritesPart, scene}
 use Rattle.script_replay.specs.Started.{StartsScript}
 use Rattle.script_command.proofs.BytesAhead.{behind_none}
 use Rattle.script_replay.proofs.HeldBytes.{nothing_held}
 use Rattle.script_command.proofs.OneOutput.{plays_one}
-use Rattle.script_replay.proofs.RunLines.{onto_none, plays_cost, text_joined}
-use Rattle.script_command.proofs.SoundHistory.{sound}
+use Rattle.script_replay.proofs.RunLines.{onto_more, onto_none, plays_cost, plays_on, text_joined}
+use Rattle.script_command.proofs.SoundHistory.{script_opens, sound}
 
 -- ---- a text
 
@@ -56,7 +56,7 @@ is_replay entries text lines front later history out last kept short script ahea
   only = λ held h o b k p.
       let same = kept_in_one_way (entries_of lines) held entries k kept in
       plays_one front (first_scene entries lines) b last h history o out refl (subst (λ (z : Entries). Plays (first_scene z lines) front h o b) same p) plays;
-  sound = sound entries lines front history out last valid plays;
+  sound = sound entries lines front history out last (script_opens entries lines script.good kept valid) valid plays;
   room = λ later e. front_room entries text lines front later history out last short script plays e;
 }
 
@@ -68,8 +68,8 @@ is_replay_with entries text lines front later history out last kept short script
 
 -- a text of these lines, whose opening is valid, and a portal that opened so
 module _ (text : List ℕ) (lines : List ScriptLine) (entries : Entries) (kept : KeepEntries (entries_of lines) entries) (size : length text ≤ script_limit) (script : IsRead text lines) (valid : Valid (opening_state entries lines)) (told told' : Option (List (List ℕ))) where
-  played_part : (IsPart : List (List ℕ) → List (List ℕ) → Type 0) → PlaysPart IsPart (first_scene entries lines) lines told told' → (pieces : List (List ℕ)) × (told' ≡ onto told pieces) × WroteFront IsPart text pieces
-  played_part IsPart p = (
+  played_part : PlaysPart Short (first_scene entries lines) lines told told' → (pieces : List (List ℕ)) × (told' ≡ onto told pieces) × WroteShort text pieces
+  played_part p = (
     p.pieces,
     p.output,
     record {
@@ -86,16 +86,60 @@ module _ (text : List ℕ) (lines : List ScriptLine) (entries : Entries) (kept :
     },
   )
 
-  part_memory : (pieces : List (List ℕ)) × (told' ≡ onto told pieces) × WroteFront AreFirst text pieces → Replayed text told told' Memory
-  part_memory p = (p.0, p.1, inr p.2)
+  abbrev Ends : List (List ℕ) → PlaysUpTo (first_scene entries lines) lines told told' → Type 0
+  Ends pieces p = (told' ≡ onto told pieces) × ((pieces ≡ p.out) ⊎ AnsweredAll lines p.front p.line p.history p.out pieces)
+
+  -- each request of the line is an entry
+  line_answered : (p : PlaysUpTo (first_scene entries lines) lines told told') → WritesPart AreFirst p.last p.line (onto told p.out) told' → (pieces : List (List ℕ)) × Ends pieces p
+  line_answered p (more, said, last, first, does, are_first, wrote) =
+      let ahead : lines ≡ (p.front ++ p.line ∷ []) ++ p.later = p.ahead ∙ sym (append_assoc p.front (p.line ∷ []) p.later) in (
+        p.out ++ first,
+        (
+          wrote ∙ onto_more told p.out first,
+          inr (record {
+            entries = more;
+            said = said;
+            last = last;
+            replay = is_replay entries text lines (p.front ++ p.line ∷ []) p.later (p.history ++ more) (p.out ++ said) last kept size script ahead valid
+                (plays_on p.front (first_scene entries lines) p.last last p.line p.history more p.out said p.plays does);
+            first = first;
+            are_first = are_first;
+            output = refl;
+          }),
+        ),
+      )
+
+  line_ends : (p : PlaysUpTo (first_scene entries lines) lines told told') → (told' ≡ onto told p.out) ⊎ WritesPart AreFirst p.last p.line (onto told p.out) told' → (pieces : List (List ℕ)) × Ends pieces p
+  line_ends p (inl nothing) = (p.out, (nothing, inl refl))
+  line_ends p (inr part) = line_answered p part
+
+  played_up_to : PlaysUpTo (first_scene entries lines) lines told told' → Replayed text told told' Memory
+  played_up_to p =
+      let e = line_ends p p.ends in (
+        e.0,
+        e.1.0,
+        inr (record {
+          lines = lines;
+          script = script;
+          front = p.front;
+          line = p.line;
+          later = p.later;
+          ahead = p.ahead;
+          history = p.history;
+          out = p.out;
+          last = p.last;
+          replay = is_replay entries text lines p.front (p.line ∷ p.later) p.history p.out p.last kept size script p.ahead valid p.plays;
+          ends = e.1.1;
+        }),
+      )
 
   stopped : (faults faults' : ℕ) (status : Status) → PlayStops (first_scene entries lines) lines told faults told' faults' status → Replayed text told told' status
   stopped faults faults' Done p = absurd p
   stopped faults faults' Usage p = absurd p
   stopped faults faults' (ScriptFault line) p = absurd p
   stopped faults faults' ReadFault p = absurd p
-  stopped faults faults' WriteFault p = played_part Short p.1
-  stopped faults faults' Memory p = part_memory (played_part AreFirst p.1)
+  stopped faults faults' WriteFault p = played_part p.1
+  stopped faults faults' Memory p = played_up_to p.1
   stopped faults faults' TooLong p = absurd p
 
 ended : (text : List ℕ) (lines : List ScriptLine) (entries : Entries) (told told' : Option (List (List ℕ))) (history : List Entry) (out : List (List ℕ)) (last : Scene)
@@ -167,7 +211,7 @@ cause_of words t left pieces Usage w l e r = absurd r
 cause_of words t left pieces (ScriptFault line) w l e r = (w, l, e, r.0, r.1)
 cause_of words t left pieces ReadFault w l e r = absurd r
 cause_of words t left pieces WriteFault w l e r = (w, l, e, r)
-cause_of words t left pieces Memory w l e r = (w, elim r as (λ _. (pieces ≡ []) ⊎ ((length t ≤ script_limit) × AtEnd left × WroteFront AreFirst t pieces)) [ inl none ↦ inl none | inr front ↦ inr (l, e, front) ])
+cause_of words t left pieces Memory w l e r = (w, elim r as (λ _. (pieces ≡ []) ⊎ ((length t ≤ script_limit) × AtEnd left × WroteUpTo t pieces)) [ inl none ↦ inl none | inr front ↦ inr (l, e, front) ])
 cause_of words t left pieces TooLong w l e r = absurd r
 
 pub ran_whole : (words : List (List ℕ)) (text : List ℕ) (left left' : Option (List ℕ)) (told told' : Option (List (List ℕ))) (status : Status)

@@ -1,5 +1,10 @@
 -- The history of lines that are run is legal, and isolates each application.
 use Rattle.std.proofs.Common.{◌≡◌, ℕ, List, [], ◌∷◌, Option, Some, None, refl, sym, ap, ◌∙◌, subst}
+use Rattle.std.proofs.lemmas.List.Folds.{list_all-map}
+use Rattle.portal_base.specs.Names.{is_host_path}
+use Rattle.portal_base.specs.declared.files.File.{File as HostFile}
+use Rattle.portal_desk.specs.Opening.{IsOpeningState}
+use Rattle.portal_desk.proofs.Openings.{opens}
 use Rattle.portal_model.specs.declared.entry.Entry.{Entry}
 use Rattle.portal_model.specs.declared.request.Request.{Request}
 use Rattle.portal_model.specs.History.{EachLawful, run}
@@ -17,7 +22,15 @@ use Rattle.script_replay.specs.Lines.{Comes, CloseDoes, DataDoes, Does, Goes, Pa
 use Rattle.script_replay.specs.Plays.{Plays}
 use Rattle.script_command.specs.Runs.{IsSound}
 use Rattle.portal_model.specs.Store.{Entries}
-use Rattle.script_replay.specs.Scenes.{Scene, first_scene, opening_state}
+use Rattle.record_keeper.specs.KeptEntries.{KeepEntries}
+use Rattle.record_keeper.proofs.HeldEntries.{good_rows}
+use Rattle.script_form.specs.Devices.{tree_files}
+use Rattle.script_form.specs.Opening.{entries_of, opening_with}
+use Rattle.script_form.specs.Order.{IsScript}
+use Rattle.script_form.proofs.FilesPlaced.{script_placed}
+use Rattle.script_form.proofs.RecordsFacts.{never_bad}
+use Rattle.script_replay.proofs.StartedScript.{holds}
+use Rattle.script_replay.specs.Scenes.{Scene, first_scene, opening_state, run_limits}
 use Rattle.script_replay.proofs.GivenEntries.{given_lawful}
 
 -- entries are lawful from a scene, and lead to the portal of another
@@ -58,7 +71,7 @@ close_leads (Some at) a b seat es out h = comes_lead a b seat _ _ _ es out h
 
 pub does_lead : (line : ScriptLine) (a b : Scene) (es : List Entry) (out : List (List ℕ)) → Does a line es out b → Leads a es b
 does_lead (File path content) a b es out h = passes_lead a b es out h
-does_lead (Doc id reusable path grants) a b es out h = passes_lead a b es out h
+does_lead (Doc id reusable strict path grants) a b es out h = passes_lead a b es out h
 does_lead (Now moment) a b es out h = sets_lead moment a b es out h
 does_lead (line.Entry entry) a b es out h = passes_lead a b es out h
 does_lead (Fail device call) a b es out h = passes_lead a b es out h
@@ -74,10 +87,18 @@ plays_lawful (line ∷ front) a b es out (first, more, said, rest, mid, entries_
     let behind = subst (λ (s : State). EachLawful s more) leads.portal (plays_lawful front mid b more rest plays) in
     subst (EachLawful a.portal) (sym entries_are) (EachLawful-append first more a.portal leads.lawful behind)
 
-pub sound : (entries : Entries) (lines front : List ScriptLine) (history : List Entry) (out : List (List ℕ)) (last : Scene) → Valid (opening_state entries lines) → Plays (first_scene entries lines) front history out last → IsSound entries lines history
-sound entries lines front history out last valid plays =
+-- the state that a script opens with is an opening state
+pub script_opens : (entries : Entries) (lines : List ScriptLine) → IsScript lines → KeepEntries (entries_of lines) entries → Valid (opening_state entries lines) → IsOpeningState (opening_state entries lines)
+script_opens entries lines good kept valid =
+    opens (Some (tree_files lines)) (opening_with entries run_limits lines) refl refl
+    (good_rows (entries_of lines) entries (never_bad run_limits lines good holds).entries kept)
+    (record { placed = script_placed lines good; names = list_all-map is_host_path (λ (f : HostFile). f.path) (tree_files lines) ∙ valid.files_named })
+
+pub sound : (entries : Entries) (lines front : List ScriptLine) (history : List Entry) (out : List (List ℕ)) (last : Scene) → IsOpeningState (opening_state entries lines) → Valid (opening_state entries lines) → Plays (first_scene entries lines) front history out last → IsSound entries lines history
+sound entries lines front history out last started valid plays =
     let lawful = plays_lawful front (first_scene entries lines) last history out plays in
     record {
+      started = started;
       legal = record { opening = valid; lawful = lawful };
       isolated = λ app. replies_of_trace history app (opening_state entries lines) refl valid lawful;
     }

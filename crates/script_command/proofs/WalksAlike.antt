@@ -1,6 +1,7 @@
 -- Walks of requests on documents that look alike: over a tree that tells its files and its calls, what is given to the one is given to the other.
 use Rattle.std.proofs.Common.{◌≡◌, ℕ, List, [], ◌∷◌, Bool, false, Some, refl, sym, ap, subst, ◌∙◌}
-use Rattle.node_looks.specs.TreeCalls.{CallsAsTold, calls_of}
+use Rattle.host_tree.specs.declared.tree.TreeCall.{TreeCall}
+use Rattle.node_looks.specs.TreeCalls.{CallsAsTold, calls_by}
 use Rattle.portal_base.specs.Calls.{Calls, next_call}
 use Rattle.portal_base.specs.declared.files.File.{File}
 use Rattle.portal_base.specs.declared.files.Look.{Look}
@@ -31,22 +32,22 @@ module _ {X : Type 0} (Same : X → X → Type 0) where
   alike_clock (Ends call done missing) u looks h = absurd h
 
   -- the same looks are given, and the same call fails
-  pub alike_given : (files : List File) (w u : Walk X) (xs ys : List Look) (f g : Bool) (calls : Calls) → WalkAlike w u → Gives (Some files) w xs f → Gives (Some files) u ys g
-      → CallsAsTold (Some calls) (calls_of w xs f) → CallsAsTold (Some calls) (calls_of u ys g) → (xs ≡ ys) × (f ≡ g)
-  alike_given files (Answers x) (Answers y) xs ys f g calls h a b c d = (a.0 ∙ sym b.0, a.1 ∙ sym b.1)
-  alike_given files (Answers x) (Looks other more) xs ys f g calls h a b c d = absurd h
-  alike_given files (Answers x) (Ends call done missing) xs ys f g calls h a b c d = absurd h
-  alike_given files (Looks target next) (Answers y) xs ys f g calls h a b c d = absurd h
-  alike_given files (Looks target next) (Ends call done missing) xs ys f g calls h a b c d = absurd h
-  alike_given files (Ends call done missing) u xs ys f g calls h a b c d = absurd h
-  alike_given files (Looks target next) (Looks other more) [] [] f g calls h a b c d = (refl, a ∙ sym b)
-  alike_given files (Looks target next) (Looks other more) [] (y ∷ ys) f g calls h a b c d = not_both f _ a c.0 d.0
-  alike_given files (Looks target next) (Looks other more) (x ∷ xs) [] f g calls h a b c d = not_both g _ b d.0 c.0
-  alike_given files (Looks target next) (Looks other more) (x ∷ xs) (y ∷ ys) f g calls h a b c d =
+  pub alike_given : (last : X → TreeCall) (files : List File) (w u : Walk X) (xs ys : List Look) (f g : Bool) (calls : Calls) → WalkAlike w u → Gives (Some files) w xs f → Gives (Some files) u ys g
+      → CallsAsTold (Some calls) (calls_by last w xs f) → CallsAsTold (Some calls) (calls_by last u ys g) → (xs ≡ ys) × (f ≡ g)
+  alike_given last files (Answers x) (Answers y) xs ys f g calls h a b c d = (a.0 ∙ sym b.0, a.1 ∙ sym b.1)
+  alike_given last files (Answers x) (Looks other more) xs ys f g calls h a b c d = absurd h
+  alike_given last files (Answers x) (Ends call done missing) xs ys f g calls h a b c d = absurd h
+  alike_given last files (Looks target next) (Answers y) xs ys f g calls h a b c d = absurd h
+  alike_given last files (Looks target next) (Ends call done missing) xs ys f g calls h a b c d = absurd h
+  alike_given last files (Ends call done missing) u xs ys f g calls h a b c d = absurd h
+  alike_given last files (Looks target next) (Looks other more) [] [] f g calls h a b c d = (refl, a ∙ sym b)
+  alike_given last files (Looks target next) (Looks other more) [] (y ∷ ys) f g calls h a b c d = not_both f _ a c.0 d.0
+  alike_given last files (Looks target next) (Looks other more) (x ∷ xs) [] f g calls h a b c d = not_both g _ b d.0 c.0
+  alike_given last files (Looks target next) (Looks other more) (x ∷ xs) (y ∷ ys) f g calls h a b c d =
       let same : x ≡ y = a.0 ∙ (ap (shown_at files) h.0 ∙ sym b.0) in
       let behind : Gives (Some files) (more x) ys g = subst (λ (l : Look). Gives (Some files) (more l) ys g) (sym same) b.1 in
-      let calling : CallsAsTold (Some (next_call calls)) (calls_of (more x) ys g) = subst (λ (l : Look). CallsAsTold (Some (next_call calls)) (calls_of (more l) ys g)) (sym same) d.1 in
-      let rest = alike_given files (next x) (more x) xs ys f g (next_call calls) (h.1 x) a.1 behind c.1 calling in
+      let calling : CallsAsTold (Some (next_call calls)) (calls_by last (more x) ys g) = subst (λ (l : Look). CallsAsTold (Some (next_call calls)) (calls_by last (more l) ys g)) (sym same) d.1 in
+      let rest = alike_given last files (next x) (more x) xs ys f g (next_call calls) (h.1 x) a.1 behind c.1 calling in
       (ap (λ (l : Look). l ∷ xs) same ∙ ap (λ (ls : List Look). y ∷ ls) rest.0, rest.1)
 
 -- and as many words are drawn of what they come to, where that is so of what they may come to

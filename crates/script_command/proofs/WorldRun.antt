@@ -1,29 +1,23 @@
 -- A script that is run at the portal that it opens, and an application's trace in its history.
-use Rattle.std.proofs.Common.{◌≡◌, ℕ, ◌+◌, ◌≤◌, List, [], ◌++◌, length, map, true, Some, None, Result, Ok, Err, IfOk, sym, ap, ◌∙◌, subst, arith}
+use Rattle.std.proofs.Common.{◌≡◌, ℕ, ◌+◌, ◌≤◌, List, [], ◌++◌, length, Some, None, Result, Ok, Err, IfOk, sym, ap, ◌∙◌, subst, arith}
 use Rattle.std.proofs.lemmas.List.{append-nil}
 use Rattle.app_trace.specs.declared.trace.Trace as plain
 use Rattle.app_trace.specs.Told.{trace_told}
 use Rattle.app_world.specs.World.{Trace, trace}
-use Rattle.std.specs.List.{list_all}
 use Rattle.portal_base.specs.declared.files.File.{File}
-use Rattle.portal_base.specs.Content.{ArePlaced, paths_of}
 use Rattle.portal_model.specs.declared.entry.Entry.{Entry}
-use Rattle.portal_model.specs.declared.opening.OpeningDocument.{OpeningDocument}
 use Rattle.portal_model.specs.declared.opening.OpeningState.{OpeningState}
+use Rattle.portal_desk.specs.Opening.{IsOpeningState}
 use Rattle.portal_model.specs.History.{Legal, cost}
-use Rattle.portal_model.specs.Opening.{file_of, id_of, opened, opened_over}
-use Rattle.portal_model.specs.Rows.{are_rows}
+use Rattle.portal_model.specs.Opening.{opened, opened_over}
 use Rattle.portal_model.specs.State.{State}
 use Rattle.portal_model.specs.Store.{Entries}
-use Rattle.record_keeper.proofs.HeldEntries.{good_rows}
 use Rattle.record_keeper.proofs.KeptFacts.{kept_in_one_way}
 use Rattle.script_lines.specs.declared.script.ScriptLine.{ScriptLine}
 use Rattle.script_lines.specs.Lines.{text_of}
 use Rattle.script_form.specs.Devices.{tree_files}
 use Rattle.script_form.specs.Opening.{entries_of}
 use Rattle.script_form.specs.Order.{IsRead, IsScript}
-use Rattle.script_form.proofs.FilesPlaced.{script_placed}
-use Rattle.script_form.proofs.RecordsFacts.{never_bad}
 use Rattle.script_command.specs.Inputs.{script_limit}
 use Rattle.script_command.specs.Openings.{StandsFor}
 use Rattle.script_replay.specs.Plays.{Plays, PlaysAll}
@@ -32,7 +26,6 @@ use Rattle.script_replay.specs.Started.{StartsScript}
 use Rattle.script_replay.specs.Steps.{MayPlay, scene}
 use Rattle.script_command.specs.Worlds.{IsTraceIn, RanAt}
 use Rattle.script_command.proofs.ReplayScript.{is_replay, itself, may_replay, scene_is}
-use Rattle.script_replay.proofs.StartedScript.{holds}
 
 -- ---- the run
 
@@ -78,16 +71,8 @@ module _ (lines : List ScriptLine) (p : ScriptPortal) (o : OpeningState) (entrie
       let limit : o.limits.history ≡ run_limits.history = ap (λ (x : OpeningState). x.limits.history) stands.whole in
       omega arith
 
-  pub made : o.made ≡ map (λ d. id_of d.kept.number) o.documents
-  made =
-      ap (λ (x : OpeningState). x.made) stands.whole
-      ∙ ap (map (λ (d : OpeningDocument). id_of d.kept.number)) (sym (ap (λ (x : OpeningState). x.documents) stands.whole))
-
-  pub rows : list_all (λ e. are_rows e.rows) o.entries ≡ true
-  rows = good_rows (entries_of lines) o.entries (never_bad run_limits lines good holds).entries stands.entries
-
-  pub placed : ArePlaced (paths_of (map file_of o.files))
-  placed = subst (λ (fs : List File). ArePlaced (paths_of fs)) (sym stands.files) (script_placed lines good)
+  pub started : IsOpeningState (opened o)
+  started = subst IsOpeningState (sym first) ran.replay.sound.started
 
   traced : (app : List ℕ) (told : Trace) → told ≡ trace app (opened o) entries → IsTraceIn app lines told
   traced app told e = (

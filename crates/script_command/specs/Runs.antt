@@ -1,7 +1,8 @@
 -- What a run of the program comes to.
-use Rattle.std.specs.Prelude.{◌≡◌, ◌⊎◌, ℕ, ◌+◌, ◌*◌, ◌<◌, ◌≤◌, List, [], ◌++◌, length, Option}
+use Rattle.std.specs.Prelude.{◌≡◌, ◌⊎◌, ℕ, ◌+◌, ◌*◌, ◌<◌, ◌≤◌, List, [], ◌∷◌, ◌++◌, length, Option}
 use Rattle.portal_base.specs.Outside.{behind, onto, HasRisen, Short}
 use Rattle.portal_model.specs.declared.entry.Entry.{Entry}
+use Rattle.portal_desk.specs.Opening.{IsOpeningState}
 use Rattle.portal_model.specs.History.{Legal, cost, replies}
 use Rattle.portal_model.specs.Store.{Entries}
 use Rattle.record_keeper.specs.KeptEntries.{KeepEntries}
@@ -18,10 +19,11 @@ use Rattle.script_replay.specs.Plays.{Plays}
 use Rattle.script_replay.specs.Scenes.{Scene, first_scene, held_in, opening_state, run_limits}
 use Rattle.script_replay.specs.Steps.{AreFirst}
 
--- the history of the lines is legal, and the replies to each application are those of its own
--- machine over its trace
+-- the history of the lines is legal from an opening state, and the replies to each application are
+-- those of its own machine over its trace
 pub record IsSound (entries : Entries) (lines : List ScriptLine) (history : List Entry)
     : Type 0 where
+  pub started : IsOpeningState (opening_state entries lines)
   pub legal : Legal (opening_state entries lines) history
   pub isolated : (app : List ℕ)
       → replies app (opening_state entries lines) history
@@ -51,10 +53,9 @@ pub record WroteAll (text : List ℕ) (pieces : List (List ℕ)) : Type 0 where
   pub last : Scene
   pub replay : IsReplay lines lines history pieces last
 
--- The text is a script, and the pieces are such a part of the output of some of its lines: some
--- whole pieces, and at a fault a front of the next or nothing.
-pub record WroteFront (IsPart : List (List ℕ) → List (List ℕ)
-    → Type 0) (text : List ℕ) (pieces : List (List ℕ)) : Type 0 where
+-- The text is a script, and the pieces are a part of the output of some of its lines: some whole
+-- pieces, and then a front of the next or nothing.
+pub record WroteShort (text : List ℕ) (pieces : List (List ℕ)) : Type 0 where
   pub lines : List ScriptLine
   pub script : IsRead text lines
   pub front : List ScriptLine
@@ -64,7 +65,35 @@ pub record WroteFront (IsPart : List (List ℕ) → List (List ℕ)
   pub out : List (List ℕ)
   pub last : Scene
   pub replay : IsReplay lines front history out last
-  pub output : IsPart pieces out
+  pub output : Short pieces out
+
+-- each request of a line is an entry behind the history of the front, and the pieces are the output
+-- of the front and the first of the line's
+pub record AnsweredAll (lines front : List ScriptLine) (line : ScriptLine) (history : List Entry)
+    (out pieces : List (List ℕ)) : Type 0 where
+  pub entries : List Entry
+  pub said : List (List ℕ)
+  pub last : Scene
+  pub replay : IsReplay lines (front ++ line ∷ []) (history ++ entries) (out ++ said) last
+  pub first : List (List ℕ)
+  pub are_first : AreFirst first said
+  pub output : pieces ≡ out ++ first
+
+-- The text is a script, and at one of its lines there was no memory. What answers the lines before
+-- it is written, and nothing behind that unless each request of the line is an entry: so a request
+-- that finds no memory ends the run, and no answer to it is written.
+pub record WroteUpTo (text : List ℕ) (pieces : List (List ℕ)) : Type 0 where
+  pub lines : List ScriptLine
+  pub script : IsRead text lines
+  pub front : List ScriptLine
+  pub line : ScriptLine
+  pub later : List ScriptLine
+  pub ahead : lines ≡ front ++ line ∷ later
+  pub history : List Entry
+  pub out : List (List ℕ)
+  pub last : Scene
+  pub replay : IsReplay lines front history out last
+  pub ends : (pieces ≡ out) ⊎ AnsweredAll lines front line history out pieces
 
 -- Why a run ends so that was told these words, read this text, left this of the source, and wrote
 -- these pieces.
@@ -77,10 +106,9 @@ Cause words text left pieces (ScriptFault line) = (words ≡ replay_words)
 Cause words text left pieces ReadFault = (words ≡ replay_words) × (length text ≤ script_limit)
     × (pieces ≡ [])
 Cause words text left pieces WriteFault = (words ≡ replay_words) × (length text ≤ script_limit)
-    × AtEnd left × WroteFront Short text pieces
+    × AtEnd left × WroteShort text pieces
 Cause words text left pieces Memory = (words ≡ replay_words)
-    × ((pieces ≡ []) ⊎ ((length text ≤ script_limit) × AtEnd left
-    × WroteFront AreFirst text pieces))
+    × ((pieces ≡ []) ⊎ ((length text ≤ script_limit) × AtEnd left × WroteUpTo text pieces))
 Cause words text left pieces TooLong = (words ≡ replay_words) × (script_limit < length text)
     × (pieces ≡ [])
 
@@ -110,6 +138,6 @@ Replays text pieces Done = WroteAll text pieces
 Replays text pieces Usage = ⊥
 Replays text pieces (ScriptFault line) = IsFault text line × (pieces ≡ [])
 Replays text pieces ReadFault = ⊥
-Replays text pieces WriteFault = WroteFront Short text pieces
-Replays text pieces Memory = (pieces ≡ []) ⊎ WroteFront AreFirst text pieces
+Replays text pieces WriteFault = WroteShort text pieces
+Replays text pieces Memory = (pieces ≡ []) ⊎ WroteUpTo text pieces
 Replays text pieces TooLong = ⊥

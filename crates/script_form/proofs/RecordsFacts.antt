@@ -1,5 +1,5 @@
 -- The records of a script aren't bad.
-use Rattle.std.proofs.Common.{◌≡◌, ℕ, ◌≤◌, Bool, ◌||◌, List, [], ◌∷◌, ◌++◌, length, map, refl, sym, ap, subst, ◌∙◌, arith, cond}
+use Rattle.std.proofs.Common.{◌≡◌, ℕ, inr, ◌≤◌, Bool, ◌||◌, List, [], ◌∷◌, ◌++◌, length, map, refl, sym, ap, subst, ◌∙◌, arith, cond}
 use Rattle.std.specs.Prelude.{◌==◌, count_by}
 use Rattle.std.specs.List.{list_any}
 use Rattle.std.proofs.lemmas.Grind.{flat_map-append}
@@ -7,7 +7,7 @@ use Rattle.std.proofs.lemmas.List.{map-append}
 use Rattle.std.proofs.lemmas.List.Sums.{sum_by-append}
 use Rattle.portal_base.specs.declared.limits.Limits.{Limits}
 use Rattle.portal_model.specs.Opening.{each, first_named, names_kept}
-use Rattle.portal_model.specs.RecordChanges.{is_numbered, is_of_key}
+use Rattle.portal_model.specs.RecordChanges.{is_numbered, is_of_key, records_version}
 use Rattle.portal_model.specs.Valid.{applications_limit}
 use Rattle.portal_model.specs.declared.opening.OpeningDocument.{OpeningDocument}
 use Rattle.portal_model.specs.declared.records.DocRecord.{DocRecord}
@@ -36,14 +36,14 @@ docs_push earlier line =
 
 numbered_same : (n : ℕ) (earlier : List ScriptLine) → list_any (is_numbered n) (docs earlier) ≡ list_any (keeps n) earlier
 numbered_same n [] = refl
-numbered_same n (Doc id reusable path grants ∷ ls) = ap (λ (b : Bool). (id.number == n) || b) (numbered_same n ls)
+numbered_same n (Doc id reusable strict path grants ∷ ls) = ap (λ (b : Bool). (id.number == n) || b) (numbered_same n ls)
 numbered_same n (line ∷ ls) = numbered_same n ls
 
 docs_count : (earlier : List ScriptLine) → length (docs earlier) ≡ count_by is_doc earlier
 docs_count [] = refl
-docs_count (Doc id reusable path grants ∷ ls) =
+docs_count (Doc id reusable strict path grants ∷ ls) =
     let rest = docs_count ls in
-    let one = sum_by-append (λ (l : ScriptLine). cond (is_doc l) 1 0) (Doc id reusable path grants ∷ []) ls in
+    let one = sum_by-append (λ (l : ScriptLine). cond (is_doc l) 1 0) (Doc id reusable strict path grants ∷ []) ls in
     omega arith
 docs_count (line ∷ ls) = let rest = docs_count ls in omega arith
 
@@ -52,11 +52,11 @@ names_same [] = refl
 names_same (d ∷ ds) = ap (λ (t : List (List ℕ)). names_kept d ++ t) (names_same ds)
 
 good_documents : (limits : Limits) → HoldsScripts limits → (lines earlier : List ScriptLine) → StandBehind earlier lines
-    → EachBehind (IsGoodDocument limits) (docs earlier) (docs lines)
+    → EachBehind (IsGoodDocument records_version limits) (docs earlier) (docs lines)
 good_documents limits holds [] earlier all = tt
-good_documents limits holds (Doc id reusable path grants ∷ ls) earlier all =
-    let line = Doc id reusable path grants in
-    let document = kept_document id reusable path grants in
+good_documents limits holds (Doc id reusable strict path grants ∷ ls) earlier all =
+    let line = Doc id reusable strict path grants in
+    let document = kept_document id reusable strict path grants in
     let count = docs_count earlier in
     let room = doc_room earlier _ _ all.0.order in
     let documents = holds.documents in
@@ -65,15 +65,16 @@ good_documents limits holds (Doc id reusable path grants ∷ ls) earlier all =
     ap (each names_granted) (sym (docs_push earlier line)) ∙ names_same (documents_of (earlier ++ (line ∷ []))) in (
       record {
         itself = all.0.itself.2;
+        plain = λ e. absurd (cc e);
         new = numbered_same id.number earlier ∙ doc_new earlier id.number _ _ all.0.order;
         live = omega arith;
         made = omega arith;
         applications = subst (λ (ns : List (List ℕ)). length (first_named ns) ≤ applications_limit) (sym names) all.0.applications;
       },
-      subst (λ (ds : List DocRecord). EachBehind (IsGoodDocument limits) ds (docs ls)) (docs_push earlier line) (good_documents limits holds ls (earlier ++ (line ∷ [])) all.1),
+      subst (λ (ds : List DocRecord). EachBehind (IsGoodDocument records_version limits) ds (docs ls)) (docs_push earlier line) (good_documents limits holds ls (earlier ++ (line ∷ [])) all.1),
     )
 good_documents limits holds (line ∷ ls) earlier all =
-    subst (λ (ds : List DocRecord). EachBehind (IsGoodDocument limits) ds (docs ls)) (docs_push earlier _ ∙ append_nil (docs earlier)) (good_documents limits holds ls _ all.1)
+    subst (λ (ds : List DocRecord). EachBehind (IsGoodDocument records_version limits) ds (docs ls)) (docs_push earlier _ ∙ append_nil (docs earlier)) (good_documents limits holds ls _ all.1)
 
 -- ---- entries
 
@@ -95,4 +96,4 @@ good_entries (line ∷ ls) earlier all =
     subst (λ (es : List EntryRecord). EachBehind IsGoodEntry es (entries_of ls)) (entries_push earlier _ ∙ append_nil (entries_of earlier)) (good_entries ls _ all.1)
 
 pub never_bad : (limits : Limits) (lines : List ScriptLine) → IsScript lines → HoldsScripts limits → AreGood limits (records_of lines)
-never_bad limits lines good holds = record { version = refl; documents = good_documents limits holds lines [] good; entries = good_entries lines [] good }
+never_bad limits lines good holds = record { version = inr refl; documents = good_documents limits holds lines [] good; entries = good_entries lines [] good }

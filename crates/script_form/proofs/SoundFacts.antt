@@ -55,7 +55,7 @@ doc_new earlier n b c h =
 
 later_numbers : (n : ℕ) (lines earlier : List ScriptLine) → list_any (keeps n) earlier ≡ true → StandBehind earlier lines → AllByRecursion (λ y. (n == y) ≡ false) (numbers lines)
 later_numbers n [] earlier kept all = tt
-later_numbers n (Doc id reusable path grants ∷ ls) earlier kept all = (
+later_numbers n (Doc id reusable strict path grants ∷ ls) earlier kept all = (
   no_true (n == id.number) (λ same.
       let e : n ≡ id.number = grind (arith, nat_tests) in
       let new = doc_new earlier id.number _ _ all.0.order in
@@ -67,8 +67,8 @@ later_numbers n (line ∷ ls) earlier kept all = later_numbers n ls _ (still (ke
 pub numbers_differ : (lines earlier : List ScriptLine) → StandBehind earlier lines → IsDistinct nat_eq (numbers lines)
 unfolding IsDistinct
 numbers_differ [] earlier all = tt
-numbers_differ (Doc id reusable path grants ∷ ls) earlier all = (
-  later_numbers id.number ls _ (now (keeps id.number) earlier (Doc id reusable path grants) (eqb_yes id.number)) all.1,
+numbers_differ (Doc id reusable strict path grants ∷ ls) earlier all = (
+  later_numbers id.number ls _ (now (keeps id.number) earlier (Doc id reusable strict path grants) (eqb_yes id.number)) all.1,
   numbers_differ ls _ all.1,
 )
 numbers_differ (line ∷ ls) earlier all = numbers_differ ls _ all.1
@@ -81,7 +81,7 @@ both_true a b ha hb = rw (ha, hb) refl
 
 pub paths_are : (lines earlier : List ScriptLine) → StandBehind earlier lines → list_all (λ (d : OpeningDocument). is_host_path d.kept.path) (documents_of lines) ≡ true
 paths_are [] earlier all = refl
-paths_are (Doc id reusable path grants ∷ ls) earlier all = both_true (is_host_path path) _ (path_is path all.0.itself.1) (paths_are ls _ all.1)
+paths_are (Doc id reusable strict path grants ∷ ls) earlier all = both_true (is_host_path path) _ (path_is path all.0.itself.1) (paths_are ls _ all.1)
 paths_are (line ∷ ls) earlier all = paths_are ls _ all.1
 
 grant_names : (gs : List GrantRecord) → All IsGrant gs → list_all is_app_name (map (λ (g : GrantRecord). g.app) gs) ≡ true
@@ -90,7 +90,7 @@ grant_names (g ∷ gs) all = both_true (is_app_name g.app) _ (All-head IsGrant g
 
 pub names_are : (lines earlier : List ScriptLine) → StandBehind earlier lines → list_all (λ (d : OpeningDocument). list_all is_app_name (names_kept d)) (documents_of lines) ≡ true
 names_are [] earlier all = refl
-names_are (Doc id reusable path grants ∷ ls) earlier all = both_true (list_all is_app_name (map (λ (g : GrantRecord). g.app) grants)) _ (grant_names grants all.0.itself.2.grants) (names_are ls _ all.1)
+names_are (Doc id reusable strict path grants ∷ ls) earlier all = both_true (list_all is_app_name (map (λ (g : GrantRecord). g.app) grants)) _ (grant_names grants all.0.itself.2.grants) (names_are ls _ all.1)
 names_are (line ∷ ls) earlier all = names_are ls _ all.1
 
 grants_right : (gs : List GrantRecord) → All IsGrant gs → list_all is_grant gs ≡ true
@@ -104,12 +104,12 @@ grants_right (g ∷ gs) all =
 
 pub grants_are : (lines earlier : List ScriptLine) → StandBehind earlier lines → list_all has_grants (documents_of lines) ≡ true
 grants_are [] earlier all = refl
-grants_are (Doc id reusable path grants ∷ ls) earlier all = both_true (list_all is_grant grants) _ (grants_right grants all.0.itself.2.grants) (grants_are ls _ all.1)
+grants_are (Doc id reusable strict path grants ∷ ls) earlier all = both_true (list_all is_grant grants) _ (grants_right grants all.0.itself.2.grants) (grants_are ls _ all.1)
 grants_are (line ∷ ls) earlier all = grants_are ls _ all.1
 
 pub identifiers_are : (lines earlier : List ScriptLine) → StandBehind earlier lines → list_all (λ (d : OpeningDocument). nat_lt d.kept.number (2 ^ 32)) (documents_of lines) ≡ true
 identifiers_are [] earlier all = refl
-identifiers_are (Doc id reusable path grants ∷ ls) earlier all = both_true (nat_lt id.number (2 ^ 32)) _ (below id.number all.0.itself.0) (identifiers_are ls _ all.1)
+identifiers_are (Doc id reusable strict path grants ∷ ls) earlier all = both_true (nat_lt id.number (2 ^ 32)) _ (below id.number all.0.itself.0) (identifiers_are ls _ all.1)
   where
     below : (n : ℕ) → n < 2 ^ 32 → nat_lt n (2 ^ 32) ≡ true
     below n l = grind (arith, nat_tests)
@@ -134,7 +134,7 @@ rising_differ (a ∷ b ∷ names) rising = (below_all a b names rising.0 rising.
 
 pub grants_differ : (lines earlier : List ScriptLine) → StandBehind earlier lines → GrantsDiffer (documents_of lines)
 grants_differ [] earlier all = tt
-grants_differ (Doc id reusable path grants ∷ ls) earlier all = (rising_differ (map (λ (g : GrantRecord). g.app) grants) all.0.itself.2.rising, grants_differ ls _ all.1)
+grants_differ (Doc id reusable strict path grants ∷ ls) earlier all = (rising_differ (map (λ (g : GrantRecord). g.app) grants) all.0.itself.2.rising, grants_differ ls _ all.1)
 grants_differ (line ∷ ls) earlier all = grants_differ ls _ all.1
 
 pub doc_room : (earlier : List ScriptLine) (b c : Bool) → (b && (c && nat_lt (count_by is_doc earlier) document_limit)) ≡ true → count_by is_doc earlier < 65536
@@ -145,10 +145,10 @@ count_push line earlier = sum_by-append (λ (l : ScriptLine). cond (is_doc l) 1 
 
 pub documents_few : (lines earlier : List ScriptLine) → count_by is_doc earlier ≤ 65536 → StandBehind earlier lines → length (documents_of lines) + count_by is_doc earlier ≤ 65536
 documents_few [] earlier few all = omega arith
-documents_few (Doc id reusable path grants ∷ ls) earlier few all =
-    let e = count_push (Doc id reusable path grants) earlier in
+documents_few (Doc id reusable strict path grants ∷ ls) earlier few all =
+    let e = count_push (Doc id reusable strict path grants) earlier in
     let room = doc_room earlier _ _ all.0.order in
-    let rest = documents_few ls (earlier ++ (Doc id reusable path grants ∷ [])) (omega arith) all.1 in omega arith
+    let rest = documents_few ls (earlier ++ (Doc id reusable strict path grants ∷ [])) (omega arith) all.1 in omega arith
 documents_few (line ∷ ls) earlier few all =
     let e = count_push line earlier in
     let rest = documents_few ls (earlier ++ (line ∷ [])) (omega arith) all.1 in omega arith

@@ -278,9 +278,9 @@ module _ (p s : Preceding) (t : Tracks p) where
 
   noted : (line : ScriptLine) → KeepsRules line → goes_with p.lines line ≡ true → Notes p line s → Tracks (placed s (p.lines ++ (line ∷ [])))
   noted (File path content) k g n = file_tracks path content n
-  noted (Doc id reusable path grants) k g n =
+  noted (Doc id reusable strict path grants) k g n =
       let parts = and_parts (not (list_any is_open p.lines)) _ g in
-      doc_tracks (Doc id reusable path grants) id.number refl (λ m. refl) (λ m. refl) refl (λ m. refl) (λ a b. refl) (λ o. refl)
+      doc_tracks (Doc id reusable strict path grants) id.number refl (λ m. refl) (λ m. refl) refl (λ m. refl) (λ a b. refl) (λ o. refl)
       (not_false _ (and_parts (not (list_any (keeps id.number) p.lines)) _ parts.1).0) n.0 n.1 n.2
   noted (Entry entry) k g n = entry_tracks entry k.0.table n
   noted (Open seat kind who) k g n =
@@ -293,7 +293,7 @@ noted_more p s q line t k g n same = subst Tracks (sym same) (noted p s t line k
 
 pub lines_stay : (p s : Preceding) (line : ScriptLine) → Notes p line s → s.lines ≡ p.lines
 lines_stay p s (File path content) n = ap (λ (x : Preceding). x.lines) n.0
-lines_stay p s (Doc id reusable path grants) n = ap (λ (x : Preceding). x.lines) n.0
+lines_stay p s (Doc id reusable strict path grants) n = ap (λ (x : Preceding). x.lines) n.0
 lines_stay p s (Entry entry) n = ap (λ (x : Preceding). x.lines) n.0
 lines_stay p s (Open seat kind who) n = ap (λ (x : Preceding). x.lines) n.0
 lines_stay p s (Close seat) n = ap (λ (x : Preceding). x.lines) n.0

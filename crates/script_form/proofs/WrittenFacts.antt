@@ -64,9 +64,9 @@ pub file_line : (o : List ℕ) (path content : List ℕ) → ((o ++ (codes "file
 unfolding line_text
 file_line o path content = three_words o (codes "file") path (hex_text content)
 
-pub doc_line : (o : List ℕ) (id : DocId) (reusable : Bool) (path : List ℕ) (grants : List GrantRecord) → ((((o ++ (codes "doc" ++ (32 ∷ []))) ++ (doc_text id.number ++ (32 ∷ []))) ++ (flags_text reusable ++ (32 ∷ []))) ++ (path ++ (32 ∷ []))) ++ grants_text grants ≡ o ++ line_text (Doc id reusable path grants)
+pub doc_line : (o : List ℕ) (id : DocId) (reusable strict : Bool) (path : List ℕ) (grants : List GrantRecord) → ((((o ++ (codes "doc" ++ (32 ∷ []))) ++ (doc_text id.number ++ (32 ∷ []))) ++ (flags_text reusable strict ++ (32 ∷ []))) ++ (path ++ (32 ∷ []))) ++ grants_text grants ≡ o ++ line_text (Doc id reusable strict path grants)
 unfolding line_text
-doc_line o id reusable path grants = five_words o (codes "doc") (doc_text id.number) (flags_text reusable) path (grants_text grants)
+doc_line o id reusable strict path grants = five_words o (codes "doc") (doc_text id.number) (flags_text reusable strict) path (grants_text grants)
 
 pub fail_line : (o : List ℕ) (device : Device) (call : ℕ) → ((o ++ (codes "fail" ++ (32 ∷ []))) ++ (device_text device ++ (32 ∷ []))) ++ decimal call ≡ o ++ line_text (Fail device call)
 unfolding line_text

@@ -1,13 +1,13 @@
 -- The state that a script opens with.
 use Rattle.std.specs.Prelude.{◌≡◌, ℕ, ◌^◌, ◌<◌, ◌≤◌, true, List, [], ◌∷◌, ◌++◌, map}
 use Rattle.portal_base.specs.declared.limits.Limits.{Limits}
+use Rattle.portal_model.specs.RecordChanges.{records_version}
 use Rattle.portal_model.specs.Opening.{each, first_named, id_of, names_kept}
 use Rattle.portal_model.specs.declared.opening.FileItem.{FileItem}
 use Rattle.portal_model.specs.declared.opening.OpeningDocument.{OpeningDocument}
 use Rattle.portal_model.specs.declared.opening.OpeningState.{OpeningState}
 use Rattle.portal_model.specs.declared.records.EntryRecord.{EntryRecord}
 use Rattle.portal_model.specs.declared.records.Records.{Records}
-use Rattle.portal_model.specs.Kept.{records_version}
 use Rattle.portal_model.specs.Store.{Entries}
 use Rattle.record_keeper.specs.KeptEntries.{KeepEntries}
 use Rattle.script_lines.specs.Lines.{kept_document}
@@ -16,8 +16,8 @@ use Rattle.script_lines.specs.declared.script.ScriptLine.TheVariants.{File, Doc,
 
 -- the document that a line keeps
 abbrev pub document_in : ScriptLine → List OpeningDocument
-document_in (Doc id reusable path grants) =
-    record { kept = kept_document id reusable path grants; persistent = true } ∷ []
+document_in (Doc id reusable strict path grants) =
+    record { kept = kept_document id reusable strict path grants; persistent = true } ∷ []
 document_in line = []
 
 -- the entry that a line keeps

@@ -22,12 +22,12 @@ closes n (Close seat) = seat == n
 closes n line = false
 
 abbrev pub is_doc : ScriptLine → Bool
-is_doc (Doc id reusable path grants) = true
+is_doc (Doc id reusable strict path grants) = true
 is_doc line = false
 
 -- the line keeps the document of that number
 abbrev pub keeps : ℕ → ScriptLine → Bool
-keeps n (Doc id reusable path grants) = id.number == n
+keeps n (Doc id reusable strict path grants) = id.number == n
 keeps n line = false
 
 -- the line keeps the entry of that table and that identifier
@@ -52,7 +52,7 @@ document_limit = 65536
 abbrev pub goes_with : List ScriptLine → ScriptLine → Bool
 goes_with earlier (File path content) = not (list_any is_open earlier)
     && not (list_any (clashes path) earlier)
-goes_with earlier (Doc id reusable path grants) = not (list_any is_open earlier)
+goes_with earlier (Doc id reusable strict path grants) = not (list_any is_open earlier)
     && (not (list_any (keeps id.number) earlier) && nat_lt (count_by is_doc earlier) document_limit)
 goes_with earlier (Entry entry) = not (list_any is_open earlier)
     && not (list_any (stores entry.table entry.id) earlier)

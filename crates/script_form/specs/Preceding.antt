@@ -57,11 +57,11 @@ HasMore one old new = (test : List ℕ → Bool) → list_any test new ≡ (test
 abbrev pub Notes : Preceding → ScriptLine → Preceding → Type 0
 Notes p (line.File path content) q = (q ≡ record p { paths = q.paths })
     × HasMore path p.paths q.paths
-Notes p (line.Doc id reusable path grants) q =
+Notes p (line.Doc id reusable strict path grants) q =
     (q ≡ record p { documents = p.documents + 1; ids = q.ids; named = q.named })
     × (q.ids.keys ≡ insert_key nat_cmp p.ids.keys id.number)
     × (q.named ≡ fold also_named p.named
-    (each names_kept (document_in (line.Doc id reusable path grants))))
+    (each names_kept (document_in (line.Doc id reusable strict path grants))))
 Notes p (line.Entry entry) q = (q ≡ record p { keys = q.keys })
     × HasMore (key_text entry.table entry.id) p.keys q.keys
 Notes p (line.Open seat kind who) q = (q ≡ record p { begun = true; numbers = q.numbers })

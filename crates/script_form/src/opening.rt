@@ -86,6 +86,7 @@ fn add_document(
         ScriptLine::Doc {
             id,
             reusable,
+            strict,
             path,
             grants,
         } => documents.push(OpeningDocument {
@@ -93,7 +94,7 @@ fn add_document(
                 number: id.number,
                 path: List::copied(alloc, path.as_bytes())?,
                 reusable: *reusable,
-                strict: false,
+                strict: *strict,
                 grants: grants.replica(alloc)?,
             },
             persistent: true,

@@ -41,9 +41,10 @@ fn write_line(alloc: Global, out: &mut ByteList, line: &ScriptLine) -> Result<()
         ScriptLine::Doc {
             id,
             reusable,
+            strict,
             path,
             grants,
-        } => write_doc(out, *id, *reusable, path, grants.as_slice()),
+        } => write_doc(out, *id, *reusable, *strict, path, grants.as_slice()),
         ScriptLine::Entry(entry) => write_entry(alloc, out, entry),
         ScriptLine::Fail { device, call } => write_fail(alloc, out, *device, *call),
         ScriptLine::Word { word } => write_word(out, *word),
@@ -106,13 +107,16 @@ fn write_file(
     write_hex(alloc, out, content)
 }
 
-/// The word of a document that a later addition may use again, or of another.
-fn flags(reusable: bool) -> &'static [u8]
-    ensures { result.now ≡ flags_text reusable }
+/// The word of a document that a later addition may use again or not, and that is
+/// strict or not.
+fn flags(reusable: bool, strict: bool) -> &'static [u8]
+    ensures { result.now ≡ flags_text reusable strict }
 {
-    match reusable {
-        true => b"r",
-        false => b"-",
+    match (reusable, strict) {
+        (true, true) => b"rs",
+        (true, false) => b"r",
+        (false, true) => b"s",
+        (false, false) => b"-",
     }
 }
 
@@ -131,15 +135,16 @@ fn write_doc(
     out: &mut ByteList,
     id: DocId,
     reusable: bool,
+    strict: bool,
     path: &HostPath,
     grants: &[GrantRecord],
 ) -> Result<(), WantOfMemory>
     ensures { OnOk result (out.new
-        ≡ out.old ++ line_text (ScriptLine.Doc id reusable path.now grants.now)) }
+        ≡ out.old ++ line_text (ScriptLine.Doc id reusable strict path.now grants.now)) }
 {
     put(out, b"doc")?;
     put(out, &id.text())?;
-    put(out, flags(reusable))?;
+    put(out, flags(reusable, strict))?;
     put(out, path.as_bytes())?;
     write_grants(out, grants)
 }

@@ -6,7 +6,6 @@ use Rattle.std.specs.Cmp.Lexicographic.{pointwise}
 use Rattle.std.specs.Fmt.{decimal}
 use Rattle.std.specs.List.{list_all}
 use Rattle.std.proofs.lemmas.Bool.{and_parts}
-use Rattle.std.proofs.lemmas.List.Elements.{All-nil, All-cons}
 use Rattle.portal_base.specs.DocIds.{doc_id_of}
 use Rattle.portal_base.specs.Names.{is_app_name, is_host_path, is_doc_id, is_lower_hex, doc_text, hex_number}
 use Rattle.portal_base.specs.declared.names.doc_id.DocId.{DocId}
@@ -47,9 +46,11 @@ script_path path h = (and_parts (is_host_path path) (list_all is_plain path) h).
 pub seat_free : (n : ℕ) → n ≤ last_seat → IsFree 32 (decimal n)
 seat_free n h = free_from is_ascii_digit 32 refl (decimal n) (all_digits n (omega arith))
 
-pub flags_free : (reusable : Bool) → IsFree 32 (flags_text reusable)
-flags_free true = All-cons (λ b. (b == 32) ≡ false) 114 [] refl (All-nil (λ b. (b == 32) ≡ false))
-flags_free false = All-cons (λ b. (b == 32) ≡ false) 45 [] refl (All-nil (λ b. (b == 32) ≡ false))
+pub flags_free : (reusable strict : Bool) → IsFree 32 (flags_text reusable strict)
+flags_free true true = free_from (λ b. not (b == 32)) 32 refl (codes "rs") refl
+flags_free true false = free_from (λ b. not (b == 32)) 32 refl (codes "r") refl
+flags_free false true = free_from (λ b. not (b == 32)) 32 refl (codes "s") refl
+flags_free false false = free_from (λ b. not (b == 32)) 32 refl (codes "-") refl
 
 pub kind_free : (kind : Kind) → IsFree 32 (kind_text kind)
 kind_free Bus = free_from (λ b. not (b == 32)) 32 refl (codes "bus") refl
@@ -113,25 +114,26 @@ file_made rest a b path content cut p c = rw (cut.whole, ← p, c) refl
 pub record DocText (rest : List ℕ) : Type 0 where
   pub id : DocId
   pub reusable : Bool
+  pub strict : Bool
   pub path : List ℕ
   pub grants : List GrantRecord
-  pub same : rest ≡ doc_text id.number ++ (32 ∷ (flags_text reusable ++ (32 ∷ (path ++ (32 ∷ grants_text grants)))))
-  pub rules : KeepsRules (Doc id reusable path grants)
+  pub same : rest ≡ doc_text id.number ++ (32 ∷ (flags_text reusable strict ++ (32 ∷ (path ++ (32 ∷ grants_text grants)))))
+  pub rules : KeepsRules (Doc id reusable strict path grants)
 
 pub doc_line : (rest : List ℕ) (line : ScriptLine) → KeepsRules line → codes "doc" ++ (32 ∷ rest) ≡ line_text line → DocText rest
 unfolding line_text
-doc_line rest (Doc id reusable path grants) rules e = record { id = id; reusable = reusable; path = path; grants = grants; same = cc e; rules = rules }
+doc_line rest (Doc id reusable strict path grants) rules e = record { id = id; reusable = reusable; strict = strict; path = path; grants = grants; same = cc e; rules = rules }
 doc_line rest line rules e = absurd (apart (codes "doc" ++ (32 ∷ rest)) (line_text line) refl e)
 
 pub doc_cut : (rest a b : List ℕ) (t : DocText rest) → CutsAt 32 rest a b
-    → (a ≡ doc_text t.id.number) × (b ≡ flags_text t.reusable ++ (32 ∷ (t.path ++ (32 ∷ grants_text t.grants))))
+    → (a ≡ doc_text t.id.number) × (b ≡ flags_text t.reusable t.strict ++ (32 ∷ (t.path ++ (32 ∷ grants_text t.grants))))
 doc_cut rest a b t cut =
-    cut_same 32 a b (doc_text t.id.number) (flags_text t.reusable ++ (32 ∷ (t.path ++ (32 ∷ grants_text t.grants)))) cut.first (id_free t.id.number t.rules.0) (sym cut.whole ∙ t.same)
+    cut_same 32 a b (doc_text t.id.number) (flags_text t.reusable t.strict ++ (32 ∷ (t.path ++ (32 ∷ grants_text t.grants)))) cut.first (id_free t.id.number t.rules.0) (sym cut.whole ∙ t.same)
 
 pub doc_cut_flags : (rest a b c d : List ℕ) (t : DocText rest) → CutsAt 32 rest a b → CutsAt 32 b c d
-    → (c ≡ flags_text t.reusable) × (d ≡ t.path ++ (32 ∷ grants_text t.grants))
+    → (c ≡ flags_text t.reusable t.strict) × (d ≡ t.path ++ (32 ∷ grants_text t.grants))
 doc_cut_flags rest a b c d t cut more =
-    cut_same 32 c d (flags_text t.reusable) (t.path ++ (32 ∷ grants_text t.grants)) more.first (flags_free t.reusable) (sym more.whole ∙ (doc_cut rest a b t cut).1)
+    cut_same 32 c d (flags_text t.reusable t.strict) (t.path ++ (32 ∷ grants_text t.grants)) more.first (flags_free t.reusable t.strict) (sym more.whole ∙ (doc_cut rest a b t cut).1)
 
 pub doc_cut_path : (rest a b c d e f : List ℕ) (t : DocText rest) → CutsAt 32 rest a b → CutsAt 32 b c d → CutsAt 32 d e f
     → (e ≡ t.path) × (f ≡ grants_text t.grants)
@@ -139,20 +141,20 @@ doc_cut_path rest a b c d e f t cut more last =
     cut_same 32 e f t.path (grants_text t.grants) last.first (path_free t.path t.rules.1) (sym last.whole ∙ (doc_cut_flags rest a b c d t cut more).1)
 
 pub no_id : (rest : List ℕ) → IsFree 32 rest → DocText rest → ⊥
-no_id rest free t = not_free 32 (doc_text t.id.number) (flags_text t.reusable ++ (32 ∷ (t.path ++ (32 ∷ grants_text t.grants)))) (rw t.same at free)
+no_id rest free t = not_free 32 (doc_text t.id.number) (flags_text t.reusable t.strict ++ (32 ∷ (t.path ++ (32 ∷ grants_text t.grants)))) (rw t.same at free)
 
 pub no_flags : (rest a b : List ℕ) (t : DocText rest) → CutsAt 32 rest a b → IsFree 32 b → ⊥
-no_flags rest a b t cut free = not_free 32 (flags_text t.reusable) (t.path ++ (32 ∷ grants_text t.grants)) (rw (doc_cut rest a b t cut).1 at free)
+no_flags rest a b t cut free = not_free 32 (flags_text t.reusable t.strict) (t.path ++ (32 ∷ grants_text t.grants)) (rw (doc_cut rest a b t cut).1 at free)
 
 pub no_path : (rest a b c d : List ℕ) (t : DocText rest) → CutsAt 32 rest a b → CutsAt 32 b c d → IsFree 32 d → ⊥
 no_path rest a b c d t cut more free = not_free 32 t.path (grants_text t.grants) (rw (doc_cut_flags rest a b c d t cut more).1 at free)
 
-pub doc_made : (rest a b c d e f : List ℕ) (id : DocId) (reusable : Bool) (path : List ℕ) (grants : List GrantRecord)
+pub doc_made : (rest a b c d e f : List ℕ) (id : DocId) (reusable strict : Bool) (path : List ℕ) (grants : List GrantRecord)
     → CutsAt 32 rest a b → CutsAt 32 b c d → CutsAt 32 d e f
-    → a ≡ doc_text id.number → c ≡ flags_text reusable → path ≡ e → f ≡ grants_text grants
-    → codes "doc" ++ (32 ∷ rest) ≡ line_text (Doc id reusable path grants)
+    → a ≡ doc_text id.number → c ≡ flags_text reusable strict → path ≡ e → f ≡ grants_text grants
+    → codes "doc" ++ (32 ∷ rest) ≡ line_text (Doc id reusable strict path grants)
 unfolding line_text
-doc_made rest a b c d e f id reusable path grants cut more last i r p g = rw (cut.whole, more.whole, last.whole, i, r, ← p, g) refl
+doc_made rest a b c d e f id reusable strict path grants cut more last i r p g = rw (cut.whole, more.whole, last.whole, i, r, ← p, g) refl
 
 -- ---- open
 
@@ -347,7 +349,7 @@ word_free word h = free_from (λ b. not (b == 32)) 32 refl word h
 pub any_line : (text : List ℕ) (line : ScriptLine) → text ≡ line_text line → AnyText text
 unfolding line_text
 any_line text (File path content) e = record { command = codes "file"; rest = _; same = e; free = word_free (codes "file") refl; known = refl }
-any_line text (Doc id reusable path grants) e = record { command = codes "doc"; rest = _; same = e; free = word_free (codes "doc") refl; known = refl }
+any_line text (Doc id reusable strict path grants) e = record { command = codes "doc"; rest = _; same = e; free = word_free (codes "doc") refl; known = refl }
 any_line text (Entry entry) e = record { command = codes "entry"; rest = _; same = e; free = word_free (codes "entry") refl; known = refl }
 any_line text (Fail device call) e = record { command = codes "fail"; rest = _; same = e; free = word_free (codes "fail") refl; known = refl }
 any_line text (Word word) e = record { command = codes "word"; rest = _; same = e; free = word_free (codes "word") refl; known = refl }

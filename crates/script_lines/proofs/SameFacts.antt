@@ -47,11 +47,24 @@ id_same a b ha hb e =
     let found : Some a ≡ Some b = sym (id_again a.number ha) ∙ ap doc_id_of e ∙ id_again b.number hb in
     cc found
 
-pub flags_same : (a b : Bool) → flags_text a ≡ flags_text b → a ≡ b
-flags_same true true e = refl
-flags_same false false e = refl
-flags_same true false e = absurd (cc (differ_at 0 114 _ _ e refl refl))
-flags_same false true e = absurd (cc (differ_at 0 45 _ _ e refl refl))
+-- what may be used again begins with an r, and nothing else does
+flags_begin : (c d : Bool) → flags_text true c ≡ flags_text false d → ⊥
+flags_begin true true e = cc (differ_at 0 114 _ _ e refl refl)
+flags_begin true false e = cc (differ_at 0 114 _ _ e refl refl)
+flags_begin false true e = cc (differ_at 0 114 _ _ e refl refl)
+flags_begin false false e = cc (differ_at 0 114 _ _ e refl refl)
+
+pub flags_same : (a c b d : Bool) → flags_text a c ≡ flags_text b d → (a ≡ b) × (c ≡ d)
+flags_same true true true true e = (refl, refl)
+flags_same true false true false e = (refl, refl)
+flags_same false true false true e = (refl, refl)
+flags_same false false false false e = (refl, refl)
+flags_same true true true false e = absurd (cc e)
+flags_same true false true true e = absurd (cc e)
+flags_same false true false false e = absurd (cc (differ_at 0 115 _ _ e refl refl))
+flags_same false false false true e = absurd (cc (differ_at 0 45 _ _ e refl refl))
+flags_same true c false d e = absurd (flags_begin c d e)
+flags_same false c true d e = absurd (flags_begin d c (sym e))
 
 texts_same : (gs hs : List GrantRecord) → All IsGrant gs → All IsGrant hs → map grant_text gs ≡ map grant_text hs → gs ≡ hs
 texts_same [] [] ag ah e = refl
@@ -129,15 +142,15 @@ line_same (File p c) (File q d) kl km e =
     let halves = cut_same 32 p (hex_text c) q (hex_text d) (path_free p kl.0) (path_free q km.0) (ap (drop 5) e) in
     let bytes = hex_same c d kl.2 km.2 halves.1 in
     cc (halves.0, bytes)
-line_same (Doc i r p g) (Doc j f q h) kl km e =
-    let one = cut_same 32 (doc_text i.number) (flags_text r ++ (32 ∷ (p ++ (32 ∷ grants_text g)))) (doc_text j.number) (flags_text f ++ (32 ∷ (q ++ (32 ∷ grants_text h))))
+line_same (Doc i r s p g) (Doc j f t q h) kl km e =
+    let one = cut_same 32 (doc_text i.number) (flags_text r s ++ (32 ∷ (p ++ (32 ∷ grants_text g)))) (doc_text j.number) (flags_text f t ++ (32 ∷ (q ++ (32 ∷ grants_text h))))
     (id_free i.number kl.0) (id_free j.number km.0) (ap (drop 4) e) in
-    let two = cut_same 32 (flags_text r) (p ++ (32 ∷ grants_text g)) (flags_text f) (q ++ (32 ∷ grants_text h)) (flags_free r) (flags_free f) one.1 in
+    let two = cut_same 32 (flags_text r s) (p ++ (32 ∷ grants_text g)) (flags_text f t) (q ++ (32 ∷ grants_text h)) (flags_free r s) (flags_free f t) one.1 in
     let three = cut_same 32 p (grants_text g) q (grants_text h) (path_free p kl.1) (path_free q km.1) two.1 in
     let ids = id_same i j kl.0 km.0 one.0 in
-    let flags = flags_same r f two.0 in
+    let flags = flags_same r s f t two.0 in
     let grants = grants_same g h kl.2.grants km.2.grants three.1 in
-    cc (ids, flags, three.0, grants)
+    cc (ids, flags.0, flags.1, three.0, grants)
 line_same (Open s k w) (Open t l v) kl km e =
     let one = seat_same s t (kind_text k ++ (32 ∷ who_text w)) (kind_text l ++ (32 ∷ who_text v)) kl.1 km.1 (ap (drop 5) e) in
     let two = cut_same 32 (kind_text k) (who_text w) (kind_text l) (who_text v) (kind_free k) (kind_free l) one.1 in
@@ -194,9 +207,11 @@ id_line n h =
     let parts = and_parts (length (doc_text n) == 8) (list_all is_lower_hex (doc_text n)) (is_id (doc_text n) (record { number = n }) (id_again n h)) in
     free_from is_lower_hex 10 refl (doc_text n) parts.1
 
-flags_line : (reusable : Bool) → IsFree 10 (flags_text reusable)
-flags_line true = word (codes "r") refl
-flags_line false = word (codes "-") refl
+flags_line : (reusable strict : Bool) → IsFree 10 (flags_text reusable strict)
+flags_line true true = word (codes "rs") refl
+flags_line true false = word (codes "r") refl
+flags_line false true = word (codes "s") refl
+flags_line false false = word (codes "-") refl
 
 commas : (t : List ℕ) (ts : List (List ℕ)) → All (IsFree 10) (t ∷ ts) → IsFree 10 (join_with_byte 44 (t ∷ ts))
 commas t [] all = All-head (IsFree 10) t [] all
@@ -243,9 +258,9 @@ number_line n h = free_from is_ascii_digit 10 refl (decimal n) (all_digits n h)
 pub line_free : (line : ScriptLine) → KeepsRules line → IsFree 10 (line_text line)
 unfolding line_text
 line_free (File path content) k = joined (codes "file") _ (word (codes "file") refl) (joined path _ (path_line path k.0) (hex_line content k.2))
-line_free (Doc id reusable path grants) k =
+line_free (Doc id reusable strict path grants) k =
     joined (codes "doc") _ (word (codes "doc") refl) (joined (doc_text id.number) _ (id_line id.number k.0)
-    (joined (flags_text reusable) _ (flags_line reusable) (joined path _ (path_line path k.1) (grants_line grants k.2.grants))))
+    (joined (flags_text reusable strict) _ (flags_line reusable strict) (joined path _ (path_line path k.1) (grants_line grants k.2.grants))))
 line_free (Entry entry) k =
     joined (codes "entry") _ (word (codes "entry") refl) (joined entry.table _ (name_free 10 refl entry.table k.0.table)
     (joined entry.id _ (name_free 10 refl entry.id k.0.id) (joined (hex_text entry.datum) _ (hex_line entry.datum k.0.bytes) (rows_line entry.rows k.0.rows))))

@@ -44,9 +44,12 @@ abbrev pub grants_text : List GrantRecord → List ℕ
 grants_text [] = codes "-"
 grants_text (grant ∷ grants) = join_with_byte 44 (map grant_text (grant ∷ grants))
 
-abbrev pub flags_text : Bool → List ℕ
-flags_text true = codes "r"
-flags_text false = codes "-"
+-- "r" of a document that a later addition may use again, "s" of a strict one, or "-" of neither
+abbrev pub flags_text : Bool → Bool → List ℕ
+flags_text true true = codes "rs"
+flags_text true false = codes "r"
+flags_text false true = codes "s"
+flags_text false false = codes "-"
 
 abbrev pub kind_text : Kind → List ℕ
 kind_text Bus = codes "bus"
@@ -72,7 +75,7 @@ device_text Keeper = codes "keeper"
 -- the words of a line
 abbrev pub words_of : ScriptLine → List (List ℕ)
 words_of (File path content) = codes "file" ∷ path ∷ hex_text content ∷ []
-words_of (Doc id reusable path grants) = codes "doc" ∷ doc_text id.number ∷ flags_text reusable
+words_of (Doc id reusable strict path grants) = codes "doc" ∷ doc_text id.number ∷ flags_text reusable strict
     ∷ path ∷ grants_text grants ∷ []
 words_of (Entry entry) = codes "entry" ∷ entry.table ∷ entry.id ∷ hex_text entry.datum
     ∷ rows_text entry.rows ∷ []
@@ -105,13 +108,13 @@ is_script_path path = is_host_path path && list_all is_plain path
 abbrev pub AreBytes : List ℕ → Type 0
 AreBytes = All (λ b. b < 256)
 
--- the record of a kept document, which isn't strict
-abbrev pub kept_document : DocId → Bool → List ℕ → List GrantRecord → DocRecord
-kept_document id reusable path grants = record {
+-- the record of a kept document
+abbrev pub kept_document : DocId → Bool → Bool → List ℕ → List GrantRecord → DocRecord
+kept_document id reusable strict path grants = record {
   number = id.number;
   path = path;
   reusable = reusable;
-  strict = false;
+  strict = strict;
   grants = grants;
 }
 
@@ -139,8 +142,8 @@ last_seat = 65535
 -- the rules of a line that don't speak of other lines
 abbrev pub KeepsRules : ScriptLine → Type 0
 KeepsRules (File path content) = (is_script_path path ≡ true) × (path ≢ root) × AreBytes content
-KeepsRules (Doc id reusable path grants) = (id.number < 2 ^ 32) × (is_script_path path ≡ true)
-    × IsSoundDocument (kept_document id reusable path grants)
+KeepsRules (Doc id reusable strict path grants) = (id.number < 2 ^ 32) × (is_script_path path ≡ true)
+    × IsSoundDocument (kept_document id reusable strict path grants)
 KeepsRules (Entry entry) = HasNames entry × IsSoundEntry entry
 KeepsRules (Fail device call) = (1 ≤ call) × (call < 2 ^ 64)
 KeepsRules (Word word) = word < 2 ^ 32

@@ -13,6 +13,7 @@ use Rattle.portal_base.specs.Names.{is_app_name}
 use Rattle.portal_model.specs.declared.records.Row.{Row}
 use Rattle.record_keeper.specs.SoundRecords.{IsGrant, IsRising}
 use Rattle.script_lines.specs.Lines.{line_text, KeepsRules, hex_text, flags_text, AreBytes, is_script_path, grant_text, grants_text, row_text, rows_text, letters, IsNamedRow, device_text, last_seat, kind_text, who_text, IsCaller}
+use Rattle.script_lines.specs.declared.line.DocFlags.{DocFlags}
 use Rattle.script_lines.specs.declared.script.Device.{Device}
 use Rattle.script_lines.specs.declared.script.ScriptLine.{ScriptLine}
 
@@ -120,9 +121,9 @@ abbrev pub ReadsId : List ℕ → Option DocId → Type 0
 ReadsId word read = MatchOption read ((id : DocId) → id.number < 2 ^ 32
     → word ≢ doc_text id.number) (λ id. (id.number < 2 ^ 32) × (word ≡ doc_text id.number))
 
-abbrev pub ReadsFlags : List ℕ → Option Bool → Type 0
-ReadsFlags word read = MatchOption read ((reusable : Bool)
-    → word ≢ flags_text reusable) (λ reusable. word ≡ flags_text reusable)
+abbrev pub ReadsFlags : List ℕ → Option DocFlags → Type 0
+ReadsFlags word read = MatchOption read ((reusable strict : Bool)
+    → word ≢ flags_text reusable strict) (λ flags. word ≡ flags_text flags.reusable flags.strict)
 
 abbrev pub ReadsKind : List ℕ → Option Kind → Type 0
 ReadsKind word read = MatchOption read ((kind : Kind)

@@ -85,15 +85,37 @@ fn read_id(word: &[u8]) -> Option<DocId>
     Some(id)
 }
 
-/// Whether `r` stands for a document that may be used again; else it is `-`.
-fn read_flags(word: &[u8]) -> Option<bool>
+/// What the flags of a document say.
+#[derive(Clone, Copy)]
+struct DocFlags {
+    reusable: bool,
+    strict: bool,
+}
+
+impl DocFlags {
+    fn of(reusable: bool, strict: bool) -> DocFlags
+        ensures { result ≡ record { reusable = reusable; strict = strict } }
+    {
+        DocFlags { reusable, strict }
+    }
+}
+
+/// Reads `r` of a document that may be used again, `s` of a strict one, `rs` of one
+/// that is both, and `-` of one that is neither.
+fn read_flags(word: &[u8]) -> Option<DocFlags>
     ensures { ReadsFlags word.now result }
 {
     if word == b"r".as_slice() {
-        return Some(true);
+        return Some(DocFlags::of(true, false));
     }
     if word == b"-".as_slice() {
-        return Some(false);
+        return Some(DocFlags::of(false, false));
+    }
+    if word == b"s".as_slice() {
+        return Some(DocFlags::of(false, true));
+    }
+    if word == b"rs".as_slice() {
+        return Some(DocFlags::of(true, true));
     }
     None
 }
@@ -114,7 +136,7 @@ fn read_doc(alloc: Global, rest: &[u8]) -> Result<Option<ScriptLine>, WantOfMemo
     let Some(id) = read_id(id) else {
         return Ok(None);
     };
-    let Some(reusable) = read_flags(flags) else {
+    let Some(DocFlags { reusable, strict }) = read_flags(flags) else {
         return Ok(None);
     };
     let Some(path) = read_path(alloc, path)? else {
@@ -126,6 +148,7 @@ fn read_doc(alloc: Global, rest: &[u8]) -> Result<Option<ScriptLine>, WantOfMemo
     Ok(Some(ScriptLine::Doc {
         id,
         reusable,
+        strict,
         path,
         grants,
     }))

@@ -32,6 +32,8 @@ pub enum ScriptLine {
         id: DocId,
         /// Whether a later addition of the same path may use it.
         reusable: bool,
+        /// Whether open handles of its file follow later revocations.
+        strict: bool,
         /// Its path.
         path: HostPath,
         /// The rights in it, in byte order of the applications' names.

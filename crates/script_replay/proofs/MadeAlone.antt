@@ -7,7 +7,7 @@ use Rattle.std.specs.Prelude.{IfSome}
 use Rattle.std.proofs.lemmas.Bool.Decides.{nat_tests}
 use Rattle.std.proofs.lemmas.List.{append_cancel_left}
 use Rattle.node_looks.specs.Done.{Reads}
-use Rattle.node_looks.specs.TreeCalls.{after_calls}
+use Rattle.node_looks.specs.TreeCalls.{Call, after_calls}
 use Rattle.host_tree.specs.Devices.{tree_of}
 use Rattle.host_tree.specs.Trees.{TreeIs, after_call}
 use Rattle.portal_base.specs.Calls.{Calls, next_call}
@@ -44,18 +44,15 @@ Goes = Chain (Went tree_of keeper_of clock_of words_of) (Spends tree_of keeper_o
 some_is : (x y : Calls) → Some x ≡ Some y → x ≡ y
 some_is x y e = cc
 
-some_number : (x y : ℕ) → Some x ≡ Some y → x ≡ y
-some_number x y e = cc
-
 -- the tree was called so often as there are calls
-calls_go : (calls : List Bool) (t : TreeIs) (c : Calls) → t.calls ≡ Some c → (after_calls t calls).calls ≡ Some (calls_past c calls)
+calls_go : (calls : List Call) (t : TreeIs) (c : Calls) → t.calls ≡ Some c → (after_calls t calls).calls ≡ Some (calls_past c calls)
 calls_go [] t c e = e
-calls_go (failed ∷ more) t c e = calls_go more (after_call t failed t.told) (next_call c) (ap (option_map next_call) e)
+calls_go (call ∷ more) t c e = calls_go more (after_call t call.0 call.1 t.told) (next_call c) (ap (option_map next_call) e)
 
 -- a clock that was set shows its moment, and stays
 clock_goes : (now : Option ℕ) (a b : ℕ) → Reads clock_of a now b → IfSome now (λ n. n ≡ a) × (b ≡ a)
 clock_goes None a b k = (tt, k)
-clock_goes (Some n) a b k = (k.value, some_number b a k.stays)
+clock_goes (Some n) a b k = (k.value, k.stays)
 
 -- the keeper was called as the outside says
 keeper_went : (s : State) (e : Entry) (then : State) (x y : KeeperState) (c : Option Connection) → KeeperWentOn s e then (keeper_of x) (keeper_of y) c

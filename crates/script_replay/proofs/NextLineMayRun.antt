@@ -156,7 +156,7 @@ close_agrees (Some at) a b seat es out agrees h = comes_agree a b seat (Request.
 
 pub does_agree : (line : ScriptLine) (a b : Scene) (es : List Entry) (out : List (List ℕ)) → Agrees a → IsNew a line → Does a line es out b → Agrees b
 does_agree (File path content) a b es out agrees new h = passes_agree a b es out agrees h
-does_agree (Doc id reusable path grants) a b es out agrees new h = passes_agree a b es out agrees h
+does_agree (Doc id reusable strict path grants) a b es out agrees new h = passes_agree a b es out agrees h
 does_agree (Now moment) a b es out agrees new h = sets_agree moment a b es out agrees h
 does_agree (line.Entry entry) a b es out agrees new h = passes_agree a b es out agrees h
 does_agree (Fail device call) a b es out agrees new h = passes_agree a b es out agrees h
@@ -241,7 +241,7 @@ close_cost (Some at) a b seat es out n high h = over_cost a b seat [] _ es out n
 
 pub does_cost : (line : ScriptLine) (a b : Scene) (es : List Entry) (out : List (List ℕ)) → KeepsRules line → Does a line es out b → cost es + 8 * held_in b ≤ 8 * (held_in a + (length (line_text line) + 1))
 does_cost (File path content) a b es out k h = passes_cost a b es out _ h
-does_cost (Doc id reusable path grants) a b es out k h = passes_cost a b es out _ h
+does_cost (Doc id reusable strict path grants) a b es out k h = passes_cost a b es out _ h
 does_cost (Now moment) a b es out k h = sets_cost moment a b es out _ h
 does_cost (line.Entry entry) a b es out k h = passes_cost a b es out _ h
 does_cost (Fail device call) a b es out k h = passes_cost a b es out _ h
@@ -301,7 +301,7 @@ close_room (Some at) a b seat es out less more le room h = comes_room a b seat (
 
 pub does_room : (line : ScriptLine) (a b : Scene) (es : List Entry) (out : List (List ℕ)) (less : ℕ) → less ≤ longest → HaveRoom a (length (line_text line) + 1 + less) → Does a line es out b → HaveRoom b less
 does_room (File path content) a b es out less short room h = passes_room a b es out less _ (omega arith) room h
-does_room (Doc id reusable path grants) a b es out less short room h = passes_room a b es out less _ (omega arith) room h
+does_room (Doc id reusable strict path grants) a b es out less short room h = passes_room a b es out less _ (omega arith) room h
 does_room (Now moment) a b es out less short room h = sets_room moment a b es out less _ (omega arith) room h
 does_room (line.Entry entry) a b es out less short room h = passes_room a b es out less _ (omega arith) room h
 does_room (Fail device call) a b es out less short room h = passes_room a b es out less _ (omega arith) room h
@@ -369,7 +369,7 @@ opens_own n seat h k = grind (arith, nat_tests)
 
 pub does_close : (line : ScriptLine) (a b : Scene) (es : List Entry) (out : List (List ℕ)) (lines : List ScriptLine) → AreClosed lines a → Does a line es out b → AreClosed (lines ++ line ∷ []) b
 does_close (File path content) a b es out lines closed h = passes_closed a b es out lines (File path content) closed h
-does_close (Doc id reusable path grants) a b es out lines closed h = passes_closed a b es out lines (Doc id reusable path grants) closed h
+does_close (Doc id reusable strict path grants) a b es out lines closed h = passes_closed a b es out lines (Doc id reusable strict path grants) closed h
 does_close (Now moment) a b es out lines closed h = subst (AreClosed (lines ++ Now moment ∷ [])) (sym h.2) (λ n k. closed n (front_closed n lines (Now moment) k).0)
 does_close (line.Entry entry) a b es out lines closed h = passes_closed a b es out lines (line.Entry entry) closed h
 does_close (Fail device call) a b es out lines closed h = passes_closed a b es out lines (Fail device call) closed h

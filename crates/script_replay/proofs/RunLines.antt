@@ -1,6 +1,6 @@
 -- Lines run one after another.
 use Prim.Native.Nat.{zero}
-use Rattle.std.proofs.Common.{◌≡◌, ℕ, suc, ◌+◌, ◌*◌, ◌<◌, ◌≤◌, List, [], ◌∷◌, ◌++◌, length, take, drop, get_or, Option, Some, None, Bool, true, false, not, refl, sym, ap, ◌∙◌, subst, inl, inr, append_assoc, add-one, arith, drop-cons, length-take}
+use Rattle.std.proofs.Common.{◌≡◌, ◌⊎◌, ℕ, suc, ◌+◌, ◌*◌, ◌<◌, ◌≤◌, List, [], ◌∷◌, ◌++◌, length, take, drop, get_or, Option, Some, None, Bool, true, false, not, refl, sym, ap, ◌∙◌, subst, inl, inr, append_assoc, add-one, arith, drop-cons, length-take}
 use Rattle.std.proofs.Math.Seq.{take-suc}
 use Rattle.std.proofs.lemmas.List.{append-nil, take-append-drop, take_all}
 use Rattle.portal_base.specs.Outside.{HasRisen, Short, onto}
@@ -17,7 +17,7 @@ use Rattle.session.specs.Standings.{Standing}
 use Rattle.script_replay.specs.declared.error.LineError.{LineError}
 use Rattle.script_replay.specs.declared.error.LineError.TheVariants as not_run
 use Rattle.script_replay.specs.Lines.{Does}
-use Rattle.script_replay.specs.Plays.{Plays, PlaysAll, PlaysPart, PlayStops, status_of}
+use Rattle.script_replay.specs.Plays.{Plays, PlaysAll, PlaysPart, PlaysUpTo, PlayStops, status_of}
 use Rattle.script_replay.specs.Scenes.{Scene, ScriptPortal, held_in, sessions_of}
 use Rattle.script_replay.specs.Steps.{Agrees, AreFirst, Breaks, HaveRoom, IsNew, MayPlay, MayRun, Runs, WritesPart, scene}
 use Rattle.script_replay.proofs.Costs.{text_more}
@@ -75,7 +75,7 @@ first_front = record { after = first_after; more = first_more; all = first_whole
 
 -- ---- lines that were run, and one more
 
-plays_on : (front : List ScriptLine) (a b c : Scene) (line : ScriptLine) (es fs : List Entry) (out said : List (List ℕ)) → Plays a front es out b → Does b line fs said c → Plays a (front ++ line ∷ []) (es ++ fs) (out ++ said) c
+pub plays_on : (front : List ScriptLine) (a b c : Scene) (line : ScriptLine) (es fs : List Entry) (out said : List (List ℕ)) → Plays a front es out b → Does b line fs said c → Plays a (front ++ line ∷ []) (es ++ fs) (out ++ said) c
 plays_on [] a b c line es fs out said h d =
     let does : Does a line fs said c = subst (λ (z : Scene). Does z line fs said c) h.2 d in
     (fs, [], said, [], c, ap (λ (z : List Entry). z ++ fs) h.0 ∙ sym (append-nil fs), ap (λ (z : List (List ℕ)). z ++ said) h.1 ∙ sym (append-nil said), does, (refl, refl, refl))
@@ -154,25 +154,26 @@ part_on IsPart front first lines told told' told'' index p table line h is befor
   output = wrote ∙ (ap (λ (z : Option (List (List ℕ))). onto z pieces) before.wrote ∙ onto_more told before.out pieces);
 }
 
--- nothing of the line was written
-none_on : (first : ScriptPortal) (lines : List ScriptLine) (told told' told'' : Option (List (List ℕ))) (index : ℕ) (p : ScriptPortal) (table : List (Option Standing)) → Played first lines told told' index p table → told'' ≡ told' → PlaysPart AreFirst (scene first []) lines told told''
-none_on first lines told told' told'' index p table before same = record {
+-- there was no memory at the line
+up_to : (first : ScriptPortal) (lines : List ScriptLine) (told told' told'' : Option (List (List ℕ))) (index : ℕ) (p : ScriptPortal) (table : List (Option Standing)) (line : ScriptLine)
+    → index < length lines → line ≡ get_or lines index line → Played first lines told told' index p table → (told'' ≡ told') ⊎ WritesPart AreFirst (scene p table) line told' told'' → PlaysUpTo (scene first []) lines told told''
+up_to first lines told told' told'' index p table line h is before ends = record {
   front = take index lines;
+  line = line;
+  later = drop (index + 1) lines;
+  ahead = whole_is lines index line h is;
   history = before.history;
   out = before.out;
   last = scene p table;
-  plays = (drop index lines, sym (take-append-drop index lines), before.plays);
-  pieces = before.out;
-  part = first_whole before.out;
-  output = same ∙ before.wrote;
+  plays = before.plays;
+  ends = subst (λ (z : Option (List (List ℕ))). (told'' ≡ z) ⊎ WritesPart AreFirst (scene p table) line z told'') before.wrote ends;
 }
 
 pub play_stops : (first : ScriptPortal) (lines : List ScriptLine) (told told' told'' : Option (List (List ℕ))) (faults faults' faults'' : ℕ) (index : ℕ) (p : ScriptPortal) (table : List (Option Standing)) (line : ScriptLine)
     → index < length lines → line ≡ get_or lines index line → faults' ≡ faults → Played first lines told told' index p table
     → (e : LineError) → Breaks (scene p table) line told' faults' told'' faults'' e → PlayStops (scene first []) lines told faults told'' faults'' (status_of e)
 play_stops first lines told told' told'' faults faults' faults'' index p table line h is same before not_run.WriteFault b = (later faults faults'' faults' same b.0, part_on Short short_front first lines told told' told'' index p table line h is before b.1)
-play_stops first lines told told' told'' faults faults' faults'' index p table line h is same before not_run.Memory (counts, inl unwritten) = (counts ∙ same, none_on first lines told told' told'' index p table before unwritten)
-play_stops first lines told told' told'' faults faults' faults'' index p table line h is same before not_run.Memory (counts, inr part) = (counts ∙ same, part_on AreFirst first_front first lines told told' told'' index p table line h is before part)
+play_stops first lines told told' told'' faults faults' faults'' index p table line h is same before not_run.Memory b = (b.0 ∙ same, up_to first lines told told' told'' index p table line h is before b.1)
 
 -- ---- what the lines need
 

@@ -1,5 +1,5 @@
 -- The portal that a script opens.
-use Rattle.std.proofs.Common.{◌≡◌, ℕ, ◌≤◌, ◌==◌, List, [], ◌∷◌, ◌++◌, map, Option, Some, None, true, false, refl, sym, ap, ◌∙◌, subst, arith}
+use Rattle.std.proofs.Common.{◌≡◌, ℕ, ◌≤◌, ◌==◌, List, [], ◌∷◌, ◌++◌, map, Option, Some, None, true, false, inl, inr, refl, sym, ap, ◌∙◌, subst, arith}
 use Rattle.host_tree.specs.Devices.{TreeState, tree_of}
 use Rattle.portal_base.specs.Calls.{Calls, FailsAsTold, next_call}
 use Rattle.portal_base.specs.declared.limits.Limits.{Limits}
@@ -11,7 +11,7 @@ use Rattle.portal_steps.specs.Story.{state_first, state_now}
 use Rattle.portal_model.specs.declared.records.Records.{Records}
 use Rattle.portal_model.specs.History.{run}
 use Rattle.portal_model.specs.Valid.{Valid}
-use Rattle.record_keeper.specs.BadRecords.{AreGood, IsWrong}
+use Rattle.record_keeper.specs.BadRecords.{AreGood, IsWrong, first_version}
 use Rattle.record_keeper.specs.Devices.{KeeperState, keeper_of}
 use Rattle.record_keeper.specs.KeptEntries.{KeepEntries}
 use Rattle.record_keeper.specs.Keepers.{KeeperIs, Loads}
@@ -57,7 +57,7 @@ no_load_fails (line ∷ lines) earlier h = no_load_fails lines _ h.1
 -- what is loaded of a script's records is what the script opens with
 loaded_documents : (lines : List ScriptLine) → map document_loaded (map (λ (d : OpeningDocument). d.kept) (documents_of lines)) ≡ documents_of lines
 loaded_documents [] = refl
-loaded_documents (Doc id reusable path grants ∷ lines) = ap (λ (z : List OpeningDocument). document_in (Doc id reusable path grants) ++ z) (loaded_documents lines)
+loaded_documents (Doc id reusable strict path grants ∷ lines) = ap (λ (z : List OpeningDocument). document_in (Doc id reusable strict path grants) ++ z) (loaded_documents lines)
 loaded_documents (line ∷ lines) = loaded_documents lines
 
 loaded_numbers : (ds : List OpeningDocument) → map (λ (d : DocRecord). id_of d.number) (map (λ (d : OpeningDocument). d.kept) ds) ≡ map (λ (d : OpeningDocument). id_of d.kept.number) ds
@@ -120,10 +120,14 @@ module _ (lines : List ScriptLine) (tree : TreeState) (keeper : KeeperState) (wo
         ap (λ (x : Option (List File)). opened_over x p.story.opening) (s.began ∙ ap (λ (x : TreeState). Some x.began) t)
         ∙ (ap (opened_over (Some (tree_files lines))) opened ∙ loaded_state entries (Some (tree_files lines)) lines)
 
+    -- the records are this version's, so the keeper was not asked to change them
+    stayed : keeper_of p.keeper ≡ s.loaded.loaded
+    stayed = s.loaded.upgrades.stays (λ first. absurd (cc (ap (λ (x : Records). x.version) records_are, first)))
+
     went : outside_at p ≡ after_keeper_call (outside_of lines)
     went =
         let calls : p.tree.count.calls ≡ (script_tree lines).count.calls = ap (λ (x : TreeState). x.count.calls) (s.tree_kept ∙ t) in
-        let loaded : p.keeper.count.calls ≡ next_call keeper.count.calls = some_is _ _ (ap (λ (x : KeeperIs). x.calls) s.loaded.loads.goes) in
+        let loaded : p.keeper.count.calls ≡ next_call keeper.count.calls = some_is _ _ (ap (λ (x : KeeperIs). x.calls) (stayed ∙ s.loaded.loads.goes)) in
         ap (λ (x : List ℕ). outside x p.clock p.tree.count.calls p.keeper.count.calls) (s.words_kept ∙ w)
         ∙ (ap (λ (x : ℕ). outside (script_words lines) x p.tree.count.calls p.keeper.count.calls) (s.clock_kept ∙ c)
         ∙ (ap (λ (x : Calls). outside (script_words lines) 0 x p.keeper.count.calls) calls
@@ -154,9 +158,16 @@ module _ (lines : List ScriptLine) (tree : TreeState) (keeper : KeeperState) (wo
       let e : None ≡ Some fault = one_is_wrong limits records None (Some fault) fine wrong in
       cc e
 
+  -- and they are this version's
+  never_first : (records : Records) (new : KeeperIs) → Loads (keeper_of keeper) (load.Got records) new → records.version ≡ first_version → ⊥
+  never_first records new loads first =
+      let same : records ≡ records_of lines = loads.gives ∙ ap (λ (x : KeeperState). x.records) k in
+      cc (ap (λ (x : Records). x.version) same, first)
+
   -- so where no portal starts there was no memory
   pub only_memory : (e : StartError) (new : KeeperIs) → LoadsBadly limits (keeper_of keeper) e new → e ≡ start_error.Memory
-  only_memory start_error.KeeperFault new h = absurd (never_fails new h)
+  only_memory start_error.KeeperFault new (inl h) = absurd (never_fails new h)
+  only_memory start_error.KeeperFault new (inr h) = absurd (never_first h.records h.loaded h.loads h.version)
   only_memory (start_error.BadVersion found) new h = absurd (never_wrong (wrong.BadVersion found) new h)
   only_memory (start_error.BadRecord index) new h = absurd (never_wrong (wrong.BadRecord index) new h)
   only_memory start_error.Memory new h = refl

@@ -1,10 +1,11 @@
 -- The entries that the outside of a script gives to requests: its tree shows the files of the
 -- state, its clock shows what it was set to, its words come in their order, and those calls fail
 -- that are to fail.
-use Rattle.std.specs.Prelude.{◌≡◌, ℕ, List, [], ◌∷◌, Bool, Option, Some, None, IfSome}
+use Rattle.std.specs.Prelude.{◌≡◌, ℕ, List, [], ◌∷◌, Option, Some, None, IfSome}
 use Rattle.document_calls.specs.KeeperCalls.{is_keeper}
 use Rattle.portal_base.specs.Calls.{Calls, FailsAsTold, next_call}
 use Rattle.portal_steps.specs.Devices.{Drawn}
+use Rattle.node_looks.specs.TreeCalls.{Call}
 use Rattle.portal_steps.specs.TreeCalls.{CallsAsTold, entry_calls}
 use Rattle.portal_model.specs.declared.entry.Entry.{Entry}
 use Rattle.portal_model.specs.declared.entry.Fault.{Fault}
@@ -20,10 +21,10 @@ use Rattle.session.specs.Answers.{Outcome, Made}
 
 -- ---- the calls of an entry
 
--- the calls of the tree after these, for each of which it is told whether it failed
-abbrev pub calls_past : Calls → List Bool → Calls
+-- the calls of the tree after these
+abbrev pub calls_past : Calls → List Call → Calls
 calls_past calls [] = calls
-calls_past calls (failed ∷ more) = calls_past (next_call calls) more
+calls_past calls (call ∷ more) = calls_past (next_call calls) more
 
 -- the step of the entry changes the records, where the keeper doesn't fail; on a seat without an
 -- open bus no step does

@@ -112,7 +112,7 @@ Does a (line.Entry entry) entries out b = Passes a entries out b
 Does a (Fail device call) entries out b = Passes a entries out b
 Does a (Word word) entries out b = Passes a entries out b
 Does a (Now moment) entries out b = Sets a moment entries out b
-Does a (Doc id reusable path grants) entries out b = Passes a entries out b
+Does a (Doc id reusable strict path grants) entries out b = Passes a entries out b
 Does a (Open seat kind who) entries out b = Comes a seat (Request.Enter who kind ∷ []) []
     (Some (fresh (client who kind run_settings))) entries out b
 Does a (Data seat bytes) entries out b = DataDoes a seat bytes (a.sessions seat) entries out b

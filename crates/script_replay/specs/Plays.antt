@@ -1,5 +1,5 @@
 -- What running lines one after another comes to.
-use Rattle.std.specs.Prelude.{◌≡◌, ℕ, List, [], ◌∷◌, ◌++◌, Option}
+use Rattle.std.specs.Prelude.{◌≡◌, ◌⊎◌, ℕ, List, [], ◌∷◌, ◌++◌, Option}
 use Rattle.portal_base.specs.Outside.{HasRisen, Short, onto}
 use Rattle.portal_steps.specs.Story.{state_now}
 use Rattle.portal_model.specs.declared.entry.Entry.{Entry}
@@ -11,7 +11,7 @@ use Rattle.script_replay.specs.declared.error.LineError.{LineError}
 use Rattle.script_replay.specs.declared.error.LineError.TheVariants as line
 use Rattle.script_replay.specs.Lines.{Does}
 use Rattle.script_replay.specs.Scenes.{Scene, ScriptPortal}
-use Rattle.script_replay.specs.Steps.{AreFirst, scene}
+use Rattle.script_replay.specs.Steps.{AreFirst, WritesPart, scene}
 
 -- Lines are run, each from the scene that the one before it left: these are their entries and their
 -- output.
@@ -55,6 +55,21 @@ pub record PlaysPart (IsPart : List (List ℕ) → List (List ℕ) → Type 0) (
   pub part : IsPart pieces out
   pub output : told' ≡ onto told pieces
 
+-- Where the lines end at which there was no memory, and what is written then: all output of those
+-- before it; and of the line itself nothing, as where a request of it found no memory, or the first
+-- pieces of its output, where each of its requests is an entry.
+pub record PlaysUpTo (a : Scene) (lines : List ScriptLine) (told told' : Option (List (List ℕ)))
+    : Type 0 where
+  pub front : List ScriptLine
+  pub line : ScriptLine
+  pub later : List ScriptLine
+  pub ahead : lines ≡ front ++ line ∷ later
+  pub history : List Entry
+  pub out : List (List ℕ)
+  pub last : Scene
+  pub plays : Plays a front history out last
+  pub ends : (told' ≡ onto told out) ⊎ WritesPart AreFirst last line (onto told out) told'
+
 -- why not all lines are run; only a fault is counted
 abbrev pub PlayStops : Scene → List ScriptLine → Option (List (List ℕ)) → ℕ → Option (List (List ℕ))
     → ℕ → Status → Type 0
@@ -65,7 +80,7 @@ PlayStops a lines told faults told' faults' ReadFault = ⊥
 PlayStops a lines told faults told' faults' WriteFault =
     HasRisen faults faults' × PlaysPart Short a lines told told'
 PlayStops a lines told faults told' faults' Memory =
-    (faults' ≡ faults) × PlaysPart AreFirst a lines told told'
+    (faults' ≡ faults) × PlaysUpTo a lines told told'
 PlayStops a lines told faults told' faults' TooLong = ⊥
 
 -- how a run ends of which a line is not run

@@ -3,6 +3,7 @@ use Rattle.std.specs.Prelude.{◌≡◌, ℕ, ◌+◌, ◌*◌, ◌≤◌, Bool,
 use Rattle.std.specs.Prelude.{Option, Some, Result}
 use Rattle.std.proofs.Common.{inl, inr}
 use Rattle.portal_base.specs.Devices.{SinkState}
+use Rattle.portal_base.specs.Outside.{Shows}
 use Rattle.host_tree.specs.Devices.{tree_of}
 use Rattle.portal_steps.specs.Answered.{Spends, Went}
 use Rattle.portal_core.specs.Chain.{Chain, refused}
@@ -38,9 +39,9 @@ known_at p seat refusals = seated_at (state_first p.story) p.story.history seat 
 abbrev pub sunk : Seated → SinkState → World
 sunk d sink = world d (Some sink.pieces) sink.faults
 
--- what the clock shows
-abbrev pub clock_of : ℕ → Option ℕ
-clock_of seconds = Some seconds
+-- a reading of the clock, which was set
+abbrev pub clock_of : ℕ → ℕ → ℕ → Type 0
+clock_of old seconds new = Shows old seconds new
 
 -- the words to come
 abbrev pub words_of : List ℕ → Option (List ℕ)

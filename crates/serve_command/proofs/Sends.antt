@@ -4,6 +4,9 @@ use denote.RattleType.{RattleType}
 use denote.Param.Send.{IsSend, sendable}
 use Rattle.std.proofs.Crossing.{crosses}
 use Rattle.keeper_sqlite.specs.contracts.keeper.SqliteKeeper as SqliteKeeper
+use Rattle.sqlite_tables.specs.contracts.fault.DatabaseFault as DatabaseFault
+use Rattle.sqlite_tables.specs.contracts.fault.KeeperFault as KeeperFault
+use Rattle.std.specs.contracts.io.ErrorKind as ErrorKind
 use Rattle.sqlite.specs.contracts.connection.Connection as Connection
 use Rattle.sqlite.proofs.connection.Connection.TheSendSync as connection
 use Rattle.sqlite_disk.specs.contracts.modelled.Modelled as Modelled
@@ -66,5 +69,14 @@ store_send = search (file_send, wanted, saved, cursor, cache, layer, free_set, p
 connection_send : IsSend (Connection.the_row store (stores file (disk Host.the_row Unknown.the_row calls no_disk start no_disk no_disk) no_store))
 connection_send = connection.the_send store (stores file (disk Host.the_row Unknown.the_row calls no_disk start no_disk no_disk) no_store) store_send
 
+kind : IsSend (ErrorKind.the_field).row
+kind = search (crosses, sendable) depth 60 fits 20000
+
+database_fault : IsSend (DatabaseFault.the_field).row
+database_fault = search (kind, crosses, sendable) depth 60 fits 20000
+
+keeper_fault : IsSend (KeeperFault.the_field).row
+keeper_fault = search (database_fault, crosses, sendable) depth 60 fits 20000
+
 pub keeper_send : IsSend SqliteKeeper.the_row
-keeper_send = search (connection_send, crosses, sendable) depth 60 fits 50000
+keeper_send = search (connection_send, keeper_fault, crosses, sendable) depth 60 fits 50000

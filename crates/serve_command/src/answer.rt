@@ -1,29 +1,46 @@
 //! What the program does for the words behind `serve`.
 
 ghost use Rattle.std.specs.Prelude.{◌≡◌};
-ghost use Rattle.serve_command.specs.Ends.{number_of};
+ghost use Rattle.serve_start.specs.Ends.{number_of};
 
-use crate::end::ServeEnd;
+use crate::descriptors::files_open;
 use crate::line::on_one_line;
-use crate::service::run;
+use crate::root::root_of_words;
+use crate::standing::Standing;
+use crate::system::SystemOpeners;
 use host_real::System;
 use portal_base::memory::WantOfMemory;
 use portal_base::outside::{Sink, StdSink, WriteAnswer};
 use portal_base::text::Text;
-use serve_words::words::{ServeAsk, WordsError, read_words};
+use serve_start::end::ServeEnd;
+use serve_start::obey::{Obeyed, obey};
 
 /// The number that the program ends with where help can't be written.
 const WRITE_FAULT: u8 = 4;
 
 /// Does what the words behind `serve` ask for: the number that the program ends with.
 ///
-/// What isn't 0 is told by one line on standard error.
+/// One line on standard output tells that all sockets stand, once each post is about to
+/// accept. It returns only where the sockets, the connections and the devices do. What isn't
+/// 0 is told by one line on standard error.
 pub fn answer<R: System + Sync>(rt: &R, system: &HostRuntime, words: &[Text]) -> u8 {
-    match read_words(system.alloc(), words) {
-        Ok(ServeAsk::Serve(words)) => tell(system, &run(rt, system, &words)),
-        Ok(ServeAsk::Tell(text)) => print(system, text.as_str()),
-        Err(WordsError::Faulty(why)) => tell(system, &ServeEnd::Usage { why }),
-        Err(WordsError::Memory) => tell(system, &ServeEnd::Memory),
+    let standing = Standing::new(system);
+    let held = files_open(system);
+    let root = root_of_words(rt, system, held, words);
+    let mut openers = SystemOpeners::new(rt, system, &standing, held, root);
+    number_of_words(
+        system,
+        &standing,
+        obey(system.alloc(), rt, words, &mut openers, &standing),
+    )
+}
+
+/// The number of what words came to, which is told.
+fn number_of_words(system: &HostRuntime, standing: &Standing<'_>, obeyed: Obeyed) -> u8 {
+    standing.clear();
+    match obeyed {
+        Obeyed::Told(text) => print(system, text.as_str()),
+        Obeyed::Ended(end) => tell(system, &end),
     }
 }
 

@@ -1,33 +1,31 @@
-//! `docportal serve`: its words, and the service that they ask for.
+//! `docportal serve`: a service of the system.
 //!
-//! **It promises** that the sockets are those of the host and then of each application, a bus
-//! and a mount of each, where a socket's path tells whose it is and what it speaks; that the
-//! posts are bound as the sockets are; and that each end of a service has its number.
+//! **It promises** what `serve_start` does of which end comes, over what the system gives: an end that
+//! tells of the system comes only where that was counted. What the system gives is outside what any
+//! contract says.
 //!
 //! | Room | Holds |
 //! |---|---|
 //! | `answer` | what the program does for its words, and the number that it ends with |
-//! | `service` | the service that the words ask for: what it makes sure of, its posts, and how it ends |
-//! | `sockets` | the sockets of a service: the path of each, whose it is, and what it speaks |
+//! | `system` | what the system gives a service: its files, threads, sockets and devices |
 //! | `standing` | what its posts share: when the sockets stand, and what is told |
-//! | `settings`, `guid` | what the portal of a service is set to |
-//! | `laws` | a path tells whose a socket is |
-//! | `end` | how a service ended: its number, and its line |
+//! | `root` | the folder of its files, opened ahead of all else |
+//! | `descriptors`, `threads` | how many files may be open, and whether there are threads enough |
+//! | `store` | [`store::ToldKeeper`]: a keeper whose failures are told |
 //! | `line` | a word or a path as it is printed, on one line |
 //!
 //! ```text
-//! let number = answer(rt, words);    // the one that the program ends with
+//! let number = answer(rt, system, words);    // the one that the program ends with
 //! ```
 //!
 //! Its words are read in `serve_words`. `docs/serve.md` is for one who runs it, `docs/statuses.md` has its statuses.
 #![tactic(auto)]
 
 pub mod answer;
-pub mod end;
-mod guid;
-pub mod laws;
+mod descriptors;
 mod line;
-mod service;
-pub mod settings;
-pub mod sockets;
+mod root;
 pub mod standing;
+pub mod store;
+mod system;
+mod threads;

@@ -1,7 +1,7 @@
 //! What the posts of a service share: when its sockets stand, and what is told.
 
 use crate::line::on_one_line;
-use crate::sockets::Socket;
+use portal_base::list::List;
 use portal_base::outside::{Sink, StdSink};
 use portal_base::text::Text;
 use portal_model::reply::Refused;
@@ -20,19 +20,30 @@ const PAUSE: u64 = 100;
 /// A socket that is made, and is to stand at its path.
 #[derive(Drop)]
 pub struct Place {
-    /// Where it is to stand, whose it is, and what it speaks.
-    pub socket: Socket,
+    /// Where it is to stand.
+    pub path: Text,
     /// The socket itself.
     pub listener: UnixListener,
 }
 
+/// The sockets of a service, which were made in a folder.
+#[derive(Drop)]
+pub struct Hall {
+    /// The folder.
+    pub folder: SocketFolder,
+    /// Its path.
+    pub path: Text,
+    /// The sockets.
+    pub places: List<Place>,
+}
+
 /// Why a socket couldn't be put in its place.
 #[derive(Drop)]
-pub struct PlaceFault<'a> {
-    /// The place.
-    pub place: &'a Place,
+struct PlaceFault {
+    /// The number of the place, from 0.
+    number: usize,
     /// What the system says.
-    pub error: io::Error,
+    error: io::Error,
 }
 
 /// What the posts of a service share.
@@ -43,28 +54,19 @@ pub struct PlaceFault<'a> {
 #[derive(Drop)]
 pub struct Standing<'a> {
     system: &'a HostRuntime,
-    folder: &'a SocketFolder,
-    folder_path: &'a Text,
-    places: &'a [Place],
+    hall: OnceLock<Hall>,
     to_begin: AtomicU64,
-    fault: OnceLock<PlaceFault<'a>>,
+    fault: OnceLock<PlaceFault>,
     told_wait: AtomicBool,
     told_full: AtomicBool,
 }
 
 impl<'a> Standing<'a> {
-    /// What posts share at these places in a folder.
-    pub fn new(
-        system: &'a HostRuntime,
-        folder: &'a SocketFolder,
-        folder_path: &'a Text,
-        places: &'a [Place],
-    ) -> Standing<'a> {
+    /// What posts share, before there are sockets.
+    pub fn new(system: &'a HostRuntime) -> Standing<'a> {
         Standing {
             system,
-            folder,
-            folder_path,
-            places,
+            hall: OnceLock::new(),
             to_begin: AtomicU64::new(0),
             fault: OnceLock::new(),
             told_wait: AtomicBool::new(false),
@@ -72,49 +74,78 @@ impl<'a> Standing<'a> {
         }
     }
 
+    /// Takes the sockets that were made. They are handed back where there are some already.
+    pub fn take(&self, hall: Hall) -> Result<(), Hall> {
+        match self.hall.try_set(hall) {
+            Ok(_) => Ok(()),
+            Err(hall) => Err(hall),
+        }
+    }
+
+    /// The socket that was made for a path.
+    pub fn socket_at(&self, path: &Text) -> Option<&UnixListener> {
+        let hall = self.hall.get()?;
+        let mut places = hall.places.as_slice().iter();
+        let place = places.find(|place| place.path.as_str() == path.as_str())?;
+        Some(&place.listener)
+    }
+
     /// So many posts are to begin before the sockets are put in their places.
     pub fn expect(&self, posts: u64) {
         self.to_begin.store(posts, Ordering::SeqCst);
     }
 
-    /// Why the sockets don't stand, where one couldn't be put in its place.
-    pub fn fault(&self) -> Option<&PlaceFault<'a>> {
-        self.fault.get()
+    /// The socket that couldn't be put in its place, where there was one, and why.
+    pub fn fault(&self) -> Option<(&Place, &io::Error)> {
+        let fault = self.fault.get()?;
+        let place = self.hall.get()?.places.get(fault.number)?;
+        Some((place, &fault.error))
+    }
+
+    /// Takes the sockets away that were made and don't stand.
+    pub fn clear(&self) {
+        if let Some(hall) = self.hall.get() {
+            hall.folder.clear(self.system);
+        }
     }
 
     /// Puts each socket in its place.
     fn show(&self) {
-        for (number, place) in self.places.iter().enumerate() {
-            let path = place.socket.path.as_str();
-            if let Err(error) = self.folder.show(self.system, number, path) {
-                self.give_up(number, PlaceFault { place, error });
+        let Some(hall) = self.hall.get() else {
+            return;
+        };
+        for (number, place) in hall.places.as_slice().iter().enumerate() {
+            let path = place.path.as_str();
+            if let Err(error) = hall.folder.show(self.system, number, path) {
+                self.give_up(hall, PlaceFault { number, error });
                 return;
             }
         }
-        self.folder.clear(self.system);
-        self.tell_ready();
+        hall.folder.clear(self.system);
+        self.tell_ready(hall);
     }
 
-    /// Takes the sockets away again that stand already, so many, and ends all accepts.
-    fn give_up(&self, shown: usize, fault: PlaceFault<'a>) {
+    /// Takes the sockets away again that stand already, and ends all accepts.
+    fn give_up(&self, hall: &Hall, fault: PlaceFault) {
+        let shown = fault.number;
         // Ahead of the ends of posts, which aren't told then.
         let _ = self.fault.try_set(fault);
-        for place in self.places.iter().take(shown) {
-            let _ = fs::remove_file(self.system, place.socket.path.as_str());
+        for place in hall.places.as_slice().iter().take(shown) {
+            let _ = fs::remove_file(self.system, place.path.as_str());
         }
-        for place in self.places {
+        for place in hall.places.as_slice() {
             // An accept at a socket that is shut down fails, also one that waits (shutdown(2)).
             libc::net::shutdown(place.listener.as_raw_fd(), libc::net::SHUT_RDWR);
         }
     }
 
     /// Tells on standard output that the sockets stand.
-    fn tell_ready(&self) {
+    fn tell_ready(&self, hall: &Hall) {
         // Who waits for the line may be gone, or there is no memory for it: the sockets are served
         // all the same.
         let alloc = self.system.alloc();
-        let count = self.places.len();
-        let Ok(folder) = on_one_line(alloc, self.folder_path.as_str()) else {
+        let count = hall.places.len();
+        let Ok(folder) = on_one_line(alloc, hall.path.as_str()) else {
             return;
         };
         if let Ok(line) = format!(in alloc; "docportal: {count} sockets stand in {folder}\n") {

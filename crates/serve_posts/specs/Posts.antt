@@ -2,8 +2,10 @@
 use Rattle.std.specs.Prelude.{◌≡◌, ◌⊎◌, ℕ, ◌+◌, ◌<◌, List, length, slice_get, Some, Option, false}
 use Rattle.portal_base.specs.declared.limits.Settings.{Settings}
 use Rattle.portal_model.specs.declared.entry.Entry.{Entry}
+use Rattle.portal_desk.specs.Knowing.{Known}
+use Rattle.portal_desk.specs.Opening.{IsOpeningState}
 use Rattle.portal_model.specs.History.{Legal, of_seat, run}
-use Rattle.portal_model.specs.Seated.{BeginsWith, Known, Seated, exchanges, is_open, state_seen}
+use Rattle.portal_model.specs.Seated.{BeginsWith, Seated, exchanges, is_open, state_seen}
 use Rattle.portal_model.specs.State.{State}
 use Rattle.session.specs.Standings.{client}
 use Rattle.turn_desk.specs.Sights.{Sight, Stays, seated_of}
@@ -60,9 +62,10 @@ module _ {L S K : Type 0} (s : Sides S K) (hall_of : L → Hall S K) (settings :
     pub closed : is_open (run o log) seat ≡ false
 
   -- Each post was served by the seat of its number, from 1, and came back in its place with the end
-  -- of its worker. The history is legal, and has no entries of other numbers.
+  -- of its worker. The history is legal from an opening state, and has no entries of other numbers.
   pub record ServesPosts (o : State) (base log : List Entry) (posts : List (Post L))
       (ends : List WorkEnd) (back : List (Post L)) : Type 0 where
+    pub started : IsOpeningState o
     pub legal : Legal o log
     pub begins : BeginsWith log base
     pub all_ended : length ends ≡ length posts

@@ -1,1 +1,10 @@
+pub mod Sockets
 pub mod Files
+pub mod Ends
+pub mod Openings
+pub mod Guids
+pub mod Posts
+pub mod Settings
+pub mod Services
+pub mod Statuses
+pub mod Runs

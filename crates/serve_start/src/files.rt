@@ -1,14 +1,11 @@
 //! How many files a service has open at once.
 
 ghost use Rattle.std.specs.Prelude.{◌≡◌, ◌≤◌};
-ghost use Rattle.serve_start.specs.Files.{files_of_service};
-
-use libc::types::rlimit;
-use std::fs;
+ghost use Rattle.serve_start.specs.Files.{IsLeastLimit};
 
 /// The files that the tree has open at once: one that it keeps, three folders on the way
 /// down, and one that each of its eight threads opens.
-pub const TREE_FILES: u64 = 12;
+const TREE_FILES: u64 = 12;
 
 /// The files that the store has open at once: its database and the log of that, and what
 /// it opens to sync their folder.
@@ -21,46 +18,15 @@ const FOLDER_FILES: u64 = 2;
 /// is listed.
 const PASSING_FILES: u64 = 4;
 
-/// Standard input, output and error.
-const STANDARD_FILES: u64 = 3;
-
-/// How many files a service has open at once that has so many sockets and posts, where
-/// so many are held open before it.
+/// The least limit of open files (getrlimit(2), RLIMIT_NOFILE) under which a service of so many
+/// sockets and posts can open each descriptor that it needs, where so many are held open
+/// before it.
 ///
-/// Each post has a connection and a descriptor in spare.
+/// Each post has a connection and a descriptor in spare. What the tree, the store and the
+/// folders have open is counted by hand, and no clause of theirs says it.
 pub fn files_wanted(held: u64, sockets: u64, posts: u64) -> u64
     requires { (held ≤ 1000000) × (sockets ≤ 1000000) × (posts ≤ 1000000) }
-    ensures { result ≡ files_of_service held sockets posts }
+    ensures { IsLeastLimit held sockets posts result }
 {
     held + sockets + 2 * posts + TREE_FILES + STORE_FILES + FOLDER_FILES + PASSING_FILES
-}
-
-/// How many files the process may have open (getrlimit(2)), where the system tells it.
-pub fn files_allowed() -> Option<u64> {
-    let mut limit = rlimit {
-        rlim_cur: 0,
-        rlim_max: 0,
-    };
-    if libc::getrlimit(libc::RLIMIT_NOFILE, &mut limit) != 0 {
-        return None;
-    }
-    Some(limit.rlim_cur)
-}
-
-/// How many files the process has open now, at most a million; three where `/proc` isn't
-/// mounted.
-pub fn files_open(system: &HostRuntime) -> u64
-    ensures { result ≤ 1000000 }
-{
-    let Ok(entries) = fs::read_dir(system, "/proc/self/fd") else {
-        return STANDARD_FILES;
-    };
-    let mut held = 0_u64;
-    for entry in entries.take(1_000_000) {
-        if entry.is_ok() && held < 1_000_000 {
-            held += 1;
-        }
-    }
-    // The folder that is listed is one of them.
-    held.saturating_sub(1)
 }

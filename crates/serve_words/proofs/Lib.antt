@@ -1,1 +1,5 @@
 pub mod Apps
+pub mod Finding
+pub mod Forms
+pub mod Numbers
+pub mod Reading

@@ -1,1 +1,3 @@
+pub mod Digits
+pub mod Form
 pub mod Words

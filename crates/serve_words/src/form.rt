@@ -1,5 +1,10 @@
 //! What `clap` is told of the words.
 
+ghost use Rattle.std.specs.Prelude.{◌≡◌, IfOk, codes, false};
+ghost use Rattle.clap.specs.Simple.{app_of};
+ghost use Rattle.clap.specs.Walk.{rule_of};
+ghost use Rattle.serve_words.specs.Form.{number_rule, path_rule, serve_form, words_rule};
+
 use clap::{Arg, ArgAction, Command};
 use std::alloc::{AllocError, Global};
 
@@ -22,8 +27,10 @@ failed. docs/serve.md says how to run it and how to keep its store.";
 pub const VERSION: &str = "0.1.0";
 
 /// The command, as `clap` reads it.
-pub fn form<'a>(alloc: Global) -> Result<Command<'a>, AllocError> {
-    Command::new(alloc, "docportal serve")
+pub fn form<'a>(alloc: Global) -> Result<Command<'a>, AllocError>
+    ensures { IfOk result (λ command. app_of command ≡ serve_form) }
+{
+    let command = Command::new(alloc, "docportal serve")
         .version(VERSION)
         .about(ABOUT)
         .after_help(AFTER_HELP)
@@ -60,16 +67,15 @@ pub fn form<'a>(alloc: Global) -> Result<Command<'a>, AllocError> {
             "How many bytes the history of requests may cost, up to 4294967296",
             "536870912",
         ))?
-        .arg(apps(alloc))
+        .arg(apps(alloc))?;
+    Ok(command)
 }
 
 /// A required option whose value is a path.
-fn folder<'a>(
-    alloc: Global,
-    name: &'static str,
-    value: &'static str,
-    help: &'static str,
-) -> Arg<'a> {
+fn folder<'a>(alloc: Global, name: &'static str, value: &'static str, help: &'static str) -> Arg<'a>
+    ensures rule { rule_of result ≡ path_rule name.now }
+    ensures own { result.global ≡ false }
+{
     Arg::new(alloc, name)
         .long(name)
         .value_name(value)
@@ -85,7 +91,10 @@ fn number<'a>(
     value: &'static str,
     help: &'static str,
     usual: &'static str,
-) -> Arg<'a> {
+) -> Arg<'a>
+    ensures rule { rule_of result ≡ number_rule name.now usual.now }
+    ensures own { result.global ≡ false }
+{
     Arg::new(alloc, name)
         .long(name)
         .value_name(value)
@@ -95,7 +104,10 @@ fn number<'a>(
 }
 
 /// The names of the applications.
-fn apps<'a>(alloc: Global) -> Arg<'a> {
+fn apps<'a>(alloc: Global) -> Arg<'a>
+    ensures rule { rule_of result ≡ words_rule (codes "app") }
+    ensures own { result.global ≡ false }
+{
     Arg::new(alloc, "app")
         .value_name("APP")
         .action(ArgAction::Append)

@@ -1,9 +1,19 @@
 //! The words of `docportal serve`.
 
-ghost use Rattle.std.specs.Prelude.{◌≡◌, ◌≤◌, IfOk, IfSome, OnOk};
-ghost use Rattle.std.specs.List.{list_any};
-ghost use Rattle.portal_base.specs.Names.{is_same};
-ghost use Rattle.serve_words.specs.Words.{AreApps, AsksInForm, IsInForm, most_history, most_workers};
+ghost use Rattle.std.specs.Prelude.{◌≡◌, ◌≤◌, ◌<◌, ◌^◌, ◌++◌, ◌∷◌, [], ℕ, List, IfOk, IfSome, MatchOption, OnOk, codes, false, map, true};
+ghost use Rattle.std.specs.Fmt.{decimal};
+ghost use Rattle.std.specs.List.{list_all, list_any};
+ghost use Rattle.std.specs.Char.{is_ascii_digit};
+ghost use Rattle.std.specs.Option.{option_map};
+ghost use Rattle.clap.specs.Values.{kind_of};
+ghost use Rattle.clap.specs.Matches.{found_of};
+ghost use Rattle.clap.specs.Walk.{rows_of};
+ghost use Rattle.portal_base.specs.Names.{is_app_name, is_same};
+ghost use Rattle.clap.specs.declared.error.kind.ErrorKind.TheVariants.{OutOfMemory};
+ghost use Rattle.serve_words.specs.Digits.{are_digits_in, leads_with_zero_in};
+ghost use Rattle.serve_words.specs.Form.{value_in, values_in};
+ghost use Rattle.serve_words.specs.declared.words.ServeWords.{ServeWords};
+ghost use Rattle.serve_words.specs.Words.{AreNamed, Asks, AsksFor, AsksInForm, AsksOneOf, GivesNumber, GivesPath, IsFaulty, IsInForm, IsText, TellsFault, most_history, most_workers};
 
 use crate::form::form;
 use clap::ArgMatches;
@@ -63,6 +73,9 @@ pub enum WordsError {
 
 impl From<WantOfMemory> for WordsError {
     ghost use Rattle.std.specs.Prelude.{◌≡◌};
+    ghost use Rattle.clap.specs.declared.error.kind.ErrorKind.TheVariants.{OutOfMemory};
+    ghost use Rattle.serve_words.specs.Digits.{are_digits_in, leads_with_zero_in};
+    ghost use Rattle.serve_words.specs.Form.{value_in, values_in};
     ghost use Rattle.serve_words.specs.declared.words.WordsError.TheVariants.{Memory};
 
     ghost from_gives = { λ _ error. error ≡ Memory };
@@ -74,6 +87,9 @@ impl From<WantOfMemory> for WordsError {
 
 impl From<AllocError> for WordsError {
     ghost use Rattle.std.specs.Prelude.{◌≡◌};
+    ghost use Rattle.clap.specs.declared.error.kind.ErrorKind.TheVariants.{OutOfMemory};
+    ghost use Rattle.serve_words.specs.Digits.{are_digits_in, leads_with_zero_in};
+    ghost use Rattle.serve_words.specs.Form.{value_in, values_in};
     ghost use Rattle.serve_words.specs.declared.words.WordsError.TheVariants.{Memory};
 
     ghost from_gives = { λ _ error. error ≡ Memory };
@@ -84,8 +100,13 @@ impl From<AllocError> for WordsError {
 }
 
 /// What the words behind `serve` ask for.
+///
+/// They are faulty where `clap` doesn't take them, or where what it finds in them asks for no
+/// service.
 pub fn read_words(alloc: Global, words: &[Text]) -> Result<ServeAsk, WordsError>
-    ensures { IfOk result AsksInForm }
+    ensures asks { IfOk result (Asks words.now) }
+    ensures form { IfOk result AsksInForm }
+    ensures faulty { TellsFault result → IsFaulty words.now }
 {
     let mut texts = List::new(alloc);
     for word in words {
@@ -96,21 +117,34 @@ pub fn read_words(alloc: Global, words: &[Text]) -> Result<ServeAsk, WordsError>
 
 /// What words ask for.
 fn read_texts(alloc: Global, words: &[&str]) -> Result<ServeAsk, WordsError>
-    ensures { IfOk result AsksInForm }
+    ensures asks { IfOk result (Asks (map (λ word. word.now) words.now)) }
+    ensures form { IfOk result AsksInForm }
+    ensures faulty { TellsFault result → IsFaulty (map (λ word. word.now) words.now) }
 {
     let command = form(alloc)?;
     match command.try_get_matches_from(words) {
-        Ok(matches) => match service_of(alloc, &matches) {
-            Ok(words) => Ok(ServeAsk::Serve(words)),
-            Err(error) => Err(error),
-        },
+        Ok(matches) => ask_of(alloc, &matches),
         Err(error) => told_by(alloc, &error),
+    }
+}
+
+/// What is asked for by what was found in words.
+fn ask_of(alloc: Global, matches: &ArgMatches<'_>) -> Result<ServeAsk, WordsError>
+    ensures asks { IfOk result (AsksOneOf (rows_of (found_of matches.now))) }
+    ensures form { IfOk result AsksInForm }
+    ensures faulty { TellsFault result
+        → (service : ServeWords) → AsksFor (rows_of (found_of matches.now)) service → ⊥ }
+{
+    match service_of(alloc, matches) {
+        Ok(words) => Ok(ServeAsk::Serve(words)),
+        Err(error) => Err(error),
     }
 }
 
 /// What `clap` tells in place of matches: what is to be printed, or what is faulty.
 fn told_by(alloc: Global, error: &clap::Error) -> Result<ServeAsk, WordsError>
-    ensures { IfOk result AsksInForm }
+    ensures asks { IfOk result (λ ask. IsText ask × (kind_of error.now ≡ OutOfMemory → ⊥)) }
+    ensures faulty { TellsFault result → kind_of error.now ≡ OutOfMemory → ⊥ }
 {
     let text = format!(in alloc; "{error}")?;
     match error.kind() {
@@ -137,38 +171,63 @@ fn one_line(alloc: Global, message: &str) -> Result<String, WantOfMemory> {
     Ok(line)
 }
 
-/// The service that words in form ask for.
+/// The service that is asked for by what was found in words.
 fn service_of(alloc: Global, matches: &ArgMatches<'_>) -> Result<ServeWords, WordsError>
-    ensures { IfOk result IsInForm }
+    ensures asks { IfOk result (AsksFor (rows_of (found_of matches.now))) }
+    ensures form { IfOk result IsInForm }
+    ensures faulty { TellsFault result
+        → (service : ServeWords) → AsksFor (rows_of (found_of matches.now)) service → ⊥ }
 {
+    let root = path_of(alloc, matches, "root")?;
+    let store = path_of(alloc, matches, "store")?;
+    let sockets = path_of(alloc, matches, "sockets")?;
+    let workers = workers_of(alloc, matches)?;
+    let history = history_of(alloc, matches)?;
+    let apps = apps_of(alloc, matches)?;
     Ok(ServeWords {
-        root: path_of(alloc, matches, "root")?,
-        store: path_of(alloc, matches, "store")?,
-        sockets: path_of(alloc, matches, "sockets")?,
-        workers: workers_of(alloc, matches)?,
-        history: history_of(alloc, matches)?,
-        apps: apps_of(alloc, matches)?,
+        root,
+        store,
+        sockets,
+        workers,
+        history,
+        apps,
     })
 }
 
+/// The first value of a name.
+fn value_of<'a>(matches: &ArgMatches<'a>, name: &str) -> Option<&'a str>
+    ensures { option_map (λ value. value.now) result
+        ≡ value_in (rows_of (found_of matches.now)) name.now }
+{
+    matches.get_str(name)
+}
+
 /// The path that an option has, which isn't empty.
-fn path_of(alloc: Global, matches: &ArgMatches<'_>, name: &str) -> Result<Text, WordsError> {
-    let path = matches.get_str(name).unwrap_or("");
-    if path.is_empty() {
-        let why = format!(in alloc; "the value of --{name} is empty")?;
-        return Err(WordsError::Faulty(why));
+fn path_of(alloc: Global, matches: &ArgMatches<'_>, name: &str) -> Result<Text, WordsError>
+    ensures given { IfOk result (GivesPath (rows_of (found_of matches.now)) name.now) }
+    ensures faulty { TellsFault result
+        → (path : List ℕ) → GivesPath (rows_of (found_of matches.now)) name.now path → ⊥ }
+{
+    match value_of(matches, name) {
+        Some(path) if !path.is_empty() => Ok(Text::copied(alloc, path)?),
+        _ => {
+            let why = format!(in alloc; "the value of --{name} is empty")?;
+            Err(WordsError::Faulty(why))
+        }
     }
-    Ok(Text::copied(alloc, path)?)
 }
 
 /// How many posts a listener has.
 fn workers_of(alloc: Global, matches: &ArgMatches<'_>) -> Result<u32, WordsError>
-    ensures { IfOk result (λ workers. (1 ≤ workers) × (workers ≤ most_workers)) }
+    ensures given { IfOk result (λ workers.
+        GivesNumber (rows_of (found_of matches.now)) (codes "workers") 1 most_workers workers) }
+    ensures faulty { TellsFault result → (workers : ℕ)
+        → GivesNumber (rows_of (found_of matches.now)) (codes "workers") 1 most_workers workers
+        → ⊥ }
 {
-    let workers = number_of(matches, "workers", MOST_WORKERS);
-    match workers {
-        Some(workers) if workers > 0 => Ok(workers as u32),
-        _ => {
+    match number_of(matches, "workers", 1, MOST_WORKERS) {
+        Some(workers) => Ok(workers as u32),
+        None => {
             let why = format!(in alloc;
                 "the value of --workers is no number from 1 to {MOST_WORKERS}"
             )?;
@@ -179,9 +238,13 @@ fn workers_of(alloc: Global, matches: &ArgMatches<'_>) -> Result<u32, WordsError
 
 /// What the history may cost.
 fn history_of(alloc: Global, matches: &ArgMatches<'_>) -> Result<u64, WordsError>
-    ensures { IfOk result (λ history. history ≤ most_history) }
+    ensures given { IfOk result (λ history.
+        GivesNumber (rows_of (found_of matches.now)) (codes "history") 0 most_history history) }
+    ensures faulty { TellsFault result → (history : ℕ)
+        → GivesNumber (rows_of (found_of matches.now)) (codes "history") 0 most_history history
+        → ⊥ }
 {
-    match number_of(matches, "history", MOST_HISTORY) {
+    match number_of(matches, "history", 0, MOST_HISTORY) {
         Some(history) => Ok(history),
         None => {
             let why = format!(in alloc;
@@ -192,49 +255,88 @@ fn history_of(alloc: Global, matches: &ArgMatches<'_>) -> Result<u64, WordsError
     }
 }
 
-/// The number that an option has, where it is at most `most`.
-fn number_of(matches: &ArgMatches<'_>, name: &str, most: u64) -> Option<u64>
-    ensures { IfSome result (λ number. number ≤ most) }
+/// The number that an option has, where it is in these bounds.
+fn number_of(matches: &ArgMatches<'_>, name: &str, least: u64, most: u64) -> Option<u64>
+    ensures { MatchOption result
+        ((number : ℕ) → GivesNumber (rows_of (found_of matches.now)) name.now least most number
+        → ⊥)
+        (GivesNumber (rows_of (found_of matches.now)) name.now least most) }
 {
-    let word = matches.get_str(name)?;
+    let word = value_of(matches, name)?;
     let number = read_number(word)?;
-    if number > most {
+    if number < least || most < number {
         return None;
     }
     Some(number)
 }
 
 /// The number that decimal digits without leading zeros stand for.
-fn read_number(word: &str) -> Option<u64> {
+fn read_number(word: &str) -> Option<u64>
+    ensures { MatchOption result ((n : ℕ) → n < 2 ^ 64 → word.now ≡ decimal n → ⊥)
+        (λ n. (n < 2 ^ 64) × (word.now ≡ decimal n)) }
+{
     // As everywhere in the program, numbers are decimal digits without a sign or a leading zero,
     // and not what `parse` takes.
-    let bytes = word.as_bytes();
-    if bytes.len() > 1 && bytes[0] == b'0' {
+    if !are_digits(word.as_bytes()) {
         return None;
     }
-    if !bytes.iter().all(|byte| byte.is_ascii_digit()) {
-        return None;
+    match word.parse::<u64>() {
+        Ok(number) => Some(number),
+        Err(_) => None,
     }
-    word.parse::<u64>().ok()
+}
+
+/// Whether bytes are decimal digits without a leading zero.
+fn are_digits(bytes: &[u8]) -> bool
+    ensures { result ≡ are_digits_in bytes.now }
+{
+    !bytes.is_empty() && !leads_with_zero(bytes) && all_digits(bytes)
+}
+
+/// Whether there is more than one byte, and a zero first.
+#[tactic(auto, using(crate::proofs::Numbers::leads_long, crate::proofs::Numbers::leads_short))]
+fn leads_with_zero(bytes: &[u8]) -> bool
+    ensures { result ≡ leads_with_zero_in bytes.now }
+{
+    bytes.len() > 1 && bytes[0] == b'0'
+}
+
+/// Whether each byte is a decimal digit.
+fn all_digits(bytes: &[u8]) -> bool
+    ensures { result ≡ list_all is_ascii_digit bytes.now }
+{
+    bytes.iter().all(|byte| byte.is_ascii_digit())
 }
 
 /// The applications that are named, in order.
-#[tactic(auto, using(crate::proofs::Apps::none_are))]
 fn apps_of(alloc: Global, matches: &ArgMatches<'_>) -> Result<List<AppId>, WordsError>
-    ensures { IfOk result AreApps }
+    ensures given { IfOk result (λ apps.
+        (apps ≡ values_in (rows_of (found_of matches.now)) (codes "app")) × AreNamed apps) }
+    ensures faulty { TellsFault result
+        → AreNamed (values_in (rows_of (found_of matches.now)) (codes "app")) → ⊥ }
+{
+    apps_named(alloc, matches.get_strs("app").unwrap_or(&[]))
+}
+
+/// The applications of these names, in order.
+fn apps_named(alloc: Global, names: &[&str]) -> Result<List<AppId>, WordsError>
+    ensures given { IfOk result (λ apps. (apps ≡ map (λ name. name.now) names.now)
+        × AreNamed apps) }
+    ensures faulty { TellsFault result → AreNamed (map (λ name. name.now) names.now) → ⊥ }
 {
     let mut apps = List::new(alloc);
-    for name in matches.get_strs("app").unwrap_or(&[]) {
+    for name in names {
         add_app(alloc, &mut apps, name)?;
     }
     Ok(apps)
 }
 
 /// Adds an application to those that are named.
-#[tactic(auto, using(crate::proofs::Apps::one_more_are))]
+#[tactic(auto, using(crate::proofs::Apps::not_nameless, crate::proofs::Apps::not_many))]
 fn add_app(alloc: Global, apps: &mut List<AppId>, name: &str) -> Result<(), WordsError>
-    requires { AreApps apps.old }
-    ensures { OnOk result (AreApps apps.new) }
+    requires { AreNamed apps.old }
+    ensures named { OnOk result ((apps.new ≡ apps.old ++ name.now ∷ []) × AreNamed apps.new) }
+    ensures faulty { TellsFault result → AreNamed (apps.old ++ name.now ∷ []) → ⊥ }
 {
     if apps.len() == MOST_APPS {
         let why = format!(in alloc; "more than {MOST_APPS} applications")?;
@@ -250,7 +352,10 @@ fn add_app(alloc: Global, apps: &mut List<AppId>, name: &str) -> Result<(), Word
 }
 
 /// The application of a name.
-fn app_of(alloc: Global, name: &str) -> Result<AppId, WordsError> {
+fn app_of(alloc: Global, name: &str) -> Result<AppId, WordsError>
+    ensures named { IfOk result (λ app. (app ≡ name.now) × (is_app_name name.now ≡ true)) }
+    ensures faulty { TellsFault result → is_app_name name.now ≡ false }
+{
     match AppId::read(alloc, name.as_bytes()) {
         Ok(app) => Ok(app),
         Err(NameError::Memory) => Err(WordsError::Memory),

@@ -7,7 +7,8 @@ use Rattle.portal_model.specs.declared.entry.Entry.{Entry}
 use Rattle.portal_model.specs.declared.reply.Refused.{Refused}
 use Rattle.portal_model.specs.declared.reply.Refused.TheVariants as refused
 use Rattle.portal_model.specs.History.{Legal, makes, of_seat, replies, run}
-use Rattle.portal_model.specs.Seated.{BeginsWith, Binding, Exchange, Known, Seated, bound, bound_by, is_open, state_seen}
+use Rattle.portal_desk.specs.Knowing.{Known}
+use Rattle.portal_model.specs.Seated.{BeginsWith, Binding, Exchange, Seated, bound, bound_by, is_open, state_seen}
 use Rattle.portal_model.specs.State.{State, connection_of}
 use Rattle.portal_model.specs.Step.{reply_at}
 use Rattle.app_world.specs.World.{app_run, trace}

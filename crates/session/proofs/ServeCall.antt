@@ -17,7 +17,8 @@ use Rattle.portal_model.specs.declared.reply.Reply.{Reply}
 use Rattle.portal_model.specs.declared.request.Request.{Request}
 use Rattle.portal_model.specs.Alike.{Alike, AnswersAlike}
 use Rattle.portal_model.specs.History.{Legal, run}
-use Rattle.portal_model.specs.Seated.{Asks, Known, Seated}
+use Rattle.portal_desk.specs.Knowing.{Known}
+use Rattle.portal_model.specs.Seated.{Asks, Seated}
 use Rattle.portal_model.specs.State.{State}
 use Rattle.portal_model.specs.Step.{reply_at}
 use Rattle.portal_model.specs.Valid.{Valid, is_sound_change}

@@ -6,7 +6,8 @@ use Rattle.portal_base.specs.declared.who.Who.{Who}
 use Rattle.portal_model.specs.declared.reply.Refused.{Refused}
 use Rattle.portal_model.specs.declared.reply.Reply.{Reply}
 use Rattle.portal_model.specs.declared.request.Request.{Request}
-use Rattle.portal_model.specs.Seated.{Asks, Known, Seated, is_open, state_seen}
+use Rattle.portal_desk.specs.Knowing.{Known}
+use Rattle.portal_model.specs.Seated.{Asks, Seated, is_open, state_seen}
 use Rattle.session.specs.declared.act.Client.{Client}
 use Rattle.session.specs.declared.serve.Run.{Run}
 use Rattle.session.specs.declared.serve.Stage.{Stage}

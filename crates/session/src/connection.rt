@@ -1,7 +1,8 @@
 //! Serving one connection over a source and a sink.
 
 ghost use Rattle.std.specs.Prelude.{◌≡◌, length, false};
-ghost use Rattle.portal_model.specs.Seated.{Known, is_open, state_seen};
+ghost use Rattle.portal_desk.specs.Knowing.{Known};
+ghost use Rattle.portal_model.specs.Seated.{is_open, state_seen};
 ghost use Rattle.session.specs.Ledger.{world};
 ghost use Rattle.session.specs.Standings.{client, fresh};
 ghost use Rattle.session.specs.Pumps.{longest_piece, spring, Pumps};
@@ -91,7 +92,8 @@ pub fn serve_connection<D: Desk, S: Source, K: Sink>(
         (world (D.seated desk.new) (K.told sink.new) (K.faults sink.new)) }
     // The desk's seat has no open connection then either.
     ensures closed_now { is_open (state_seen (D.seated desk.new)) (D.seated desk.new).seat ≡ false }
-    // The history that the desk sees is legal, and the seat's entries in it are its own.
+    // The history that the desk sees is legal from an opening state, and the seat's entries in it
+    // are its own.
     ensures known { Known (D.seated desk.new) }
     // None of the connection's requests meets a seat that isn't there: one on a
     // node has an answer that a frame tells, one on documents isn't answered

@@ -1,118 +1,152 @@
 //! The kept documents, in the table `document`, with the rights in them in
 //! `document_grant`.
 
-ghost use Rattle.std.specs.Prelude.{◌<◌, IfOk, length};
+ghost use Rattle.std.specs.Prelude.{◌<◌, IfOk, vec_len};
 
-use crate::calls::{bytes_at, lines_of, number_at, place_at, run};
+use crate::calls::{
+    TakesLines, bytes_at, flag_at, hand_lines, lines_of, number_at, place_at, rights_at, run,
+};
 use crate::fault::DatabaseFault;
-use portal_base::list::List;
+use portal_base::list::{ByteList, List};
 use portal_model::records::{DocRecord, GrantRecord};
 use sqlite::types::{ToSql, ValueRef};
-use sqlite::{Alter, Connection, Row as Line, Transaction, params};
+use sqlite::{Alter, Row as Line, Transaction, params};
 use std::alloc::Global;
 
-const LOAD: &str = "SELECT place, number, path, reusable FROM document ORDER BY place";
+const LOAD: &str = "SELECT place, number, path, reusable, strict FROM document ORDER BY place";
 
-const LOAD_GRANTS: &str = "SELECT document.place, application, rights
-    FROM document_grant JOIN document ON document.number = document_grant.document
-    ORDER BY document.place, application";
+const LOAD_GRANTS: &str = "SELECT document, application, rights FROM document_grant ORDER BY place";
 
-const ADD: &str = "INSERT INTO document (number, path, reusable) VALUES (?1, ?2, ?3)";
+const ADD: &str = "INSERT INTO document (number, path, reusable, strict) VALUES (?1, ?2, ?3, ?4)";
+
+const FIND: &str = "SELECT place FROM document WHERE number = ?1";
 
 const REMOVE: &str = "DELETE FROM document WHERE number = ?1";
 
-/// A document that isn't there gets none.
-const ADD_GRANT: &str = "INSERT INTO document_grant (document, application, rights)
-    SELECT number, ?2, ?3 FROM document WHERE number = ?1";
+const READ_GRANTS: &str = "SELECT place, application, rights FROM document_grant
+    WHERE document = ?1 ORDER BY application";
 
-const REMOVE_GRANTS: &str = "DELETE FROM document_grant WHERE document = ?1";
+const ADD_GRANT: &str =
+    "INSERT INTO document_grant (document, application, rights) VALUES (?1, ?2, ?3)";
 
-/// A document that is being read, and its place.
+const CHANGE_GRANT: &str = "UPDATE document_grant SET rights = ?2 WHERE place = ?1";
+
+const REMOVE_GRANT: &str = "DELETE FROM document_grant WHERE place = ?1";
+
+/// The documents as they are read, each with its place.
+#[derive(Drop)]
+pub struct ReadDocuments {
+    documents: Vec<PlacedDocument>,
+}
+
 #[derive(Drop)]
 struct PlacedDocument {
     place: i64,
     record: DocRecord,
 }
 
+/// The rights in documents as they are read.
+#[derive(Drop)]
+struct ReadGrants<'a> {
+    documents: &'a mut ReadDocuments,
+}
+
 /// The documents, in their order.
 pub fn read_documents<S: Alter>(
     alloc: Global,
-    conn: &mut Connection<S>,
+    transaction: &mut Transaction<'_, S>,
 ) -> Result<List<DocRecord>, DatabaseFault> {
-    let mut documents = documents_without_grants(alloc, conn)?;
-    let lines = lines_of(conn, LOAD_GRANTS)?;
-    read_grants(alloc, &mut documents, lines.as_slice())?;
-    let mut records = List::new(alloc);
-    for document in documents {
-        let PlacedDocument { place: _, record } = document;
-        records.push(record)?;
-    }
-    Ok(records)
-}
-
-/// The documents, in their order, with no rights given yet.
-fn documents_without_grants<S: Alter>(
-    alloc: Global,
-    conn: &mut Connection<S>,
-) -> Result<Vec<PlacedDocument>, DatabaseFault> {
-    let lines = lines_of(conn, LOAD)?;
-    let mut documents = Vec::new(alloc);
-    for line in lines.as_slice() {
-        documents.push(document_of(alloc, line)?)?;
-    }
-    Ok(documents)
-}
-
-fn document_of(alloc: Global, line: &Line) -> Result<PlacedDocument, DatabaseFault> {
-    Ok(PlacedDocument {
-        place: place_at(line, 0)?,
-        record: DocRecord {
-            number: number_at(line, 1)?,
-            path: bytes_at(alloc, line, 2)?,
-            reusable: place_at(line, 3)? != 0,
-            // The tables are those of version 1, in which no document is strict.
-            strict: false,
-            grants: List::new(alloc),
-        },
-    })
-}
-
-/// Gives the documents the rights in them, of which those in an earlier
-/// document come first.
-fn read_grants(
-    alloc: Global,
-    documents: &mut [PlacedDocument],
-    lines: &[Line],
-) -> Result<(), DatabaseFault> {
-    let mut at = 0;
-    for line in lines {
-        let place = place_at(line, 0)?;
-        at = index_from(documents, at, place)?;
-        documents[at].record.grants.push(grant_of(alloc, line)?)?;
-    }
-    Ok(())
-}
-
-fn grant_of(alloc: Global, line: &Line) -> Result<GrantRecord, DatabaseFault> {
-    let Ok(rights) = u8::try_from(number_at(line, 2)?) else {
-        return Err(DatabaseFault::NoRecord);
+    let mut documents = ReadDocuments::new(alloc);
+    hand_lines(alloc, transaction, LOAD, &mut documents)?;
+    let mut grants = ReadGrants {
+        documents: &mut documents,
     };
-    Ok(GrantRecord {
-        app: bytes_at(alloc, line, 1)?,
-        rights,
-    })
+    hand_lines(alloc, transaction, LOAD_GRANTS, &mut grants)?;
+    documents.records(alloc)
 }
 
-/// Where the document of a place stands, from an index on.
-fn index_from(documents: &[PlacedDocument], from: usize, place: i64) -> Result<usize, DatabaseFault>
-    ensures { IfOk result (λ at. at < length documents.now) }
-{
-    for at in from..documents.len() {
-        if documents[at].place == place {
-            return Ok(at);
+impl ReadDocuments {
+    /// None yet.
+    pub fn new(alloc: Global) -> ReadDocuments {
+        ReadDocuments {
+            documents: Vec::new(alloc),
         }
     }
-    Err(DatabaseFault::NoRecord)
+
+    /// Puts a document behind those that were read, whose places are lower.
+    pub fn push(&mut self, place: i64, record: DocRecord) -> Result<(), DatabaseFault> {
+        self.documents.push(PlacedDocument { place, record })?;
+        Ok(())
+    }
+
+    /// Gives the document of a place rights.
+    pub fn grant(&mut self, place: i64, grant: GrantRecord) -> Result<(), DatabaseFault> {
+        let at = self.index_of(place)?;
+        self.documents[at].record.grants.push(grant)?;
+        Ok(())
+    }
+
+    /// Where the document of a place stands.
+    fn index_of(&self, place: i64) -> Result<usize, DatabaseFault>
+        ensures { IfOk result (λ at. at < vec_len self.now.documents) }
+    {
+        let documents = self.documents.as_slice();
+        let found = documents.binary_search_by(|document| document.place.cmp(&place));
+        found.map_err(|_| DatabaseFault::NoRecord)
+    }
+
+    /// The records, with the applications of each document in byte order.
+    pub fn records(self, alloc: Global) -> Result<List<DocRecord>, DatabaseFault> {
+        let ReadDocuments { documents } = self;
+        let mut records = Vec::with_capacity(alloc, documents.len())?;
+        for document in documents {
+            records.push(in_order(document.record))?;
+        }
+        Ok(List::from_vec(records))
+    }
+}
+
+/// The document, with its applications in byte order.
+fn in_order(document: DocRecord) -> DocRecord {
+    let DocRecord {
+        number,
+        path,
+        reusable,
+        strict,
+        grants,
+    } = document;
+    let mut grants = grants.into_vec();
+    grants.sort_unstable_by(|one, other| one.app.as_slice().cmp(other.app.as_slice()));
+    DocRecord {
+        number,
+        path,
+        reusable,
+        strict,
+        grants: List::from_vec(grants),
+    }
+}
+
+impl TakesLines for ReadDocuments {
+    fn take(&mut self, alloc: Global, line: &Line) -> Result<(), DatabaseFault> {
+        let record = DocRecord {
+            number: number_at(line, 1)?,
+            path: bytes_at(alloc, line, 2)?,
+            reusable: flag_at(line, 3)?,
+            strict: flag_at(line, 4)?,
+            grants: List::new(alloc),
+        };
+        self.push(place_at(line, 0)?, record)
+    }
+}
+
+impl<'a> TakesLines for ReadGrants<'a> {
+    fn take(&mut self, alloc: Global, line: &Line) -> Result<(), DatabaseFault> {
+        let grant = GrantRecord {
+            app: bytes_at(alloc, line, 1)?,
+            rights: rights_at(line, 2)?,
+        };
+        self.documents.grant(place_at(line, 0)?, grant)
+    }
 }
 
 /// Puts a document behind the others.
@@ -121,9 +155,13 @@ pub fn add_document<S: Alter>(
     document: &DocRecord,
 ) -> Result<(), DatabaseFault> {
     let path = document.path.as_slice();
-    let params = params![document.number, path, document.reusable];
+    let params = params![document.number, path, document.reusable, document.strict];
     run(transaction, ADD, params)?;
-    add_grants(transaction, document.number, document.grants.as_slice())
+    let place = transaction.last_insert_rowid();
+    for grant in document.grants.iter() {
+        add_grant(transaction, place, grant)?;
+    }
+    Ok(())
 }
 
 /// The document of a number goes away.
@@ -134,34 +172,90 @@ pub fn remove_document<S: Alter>(
     run(transaction, REMOVE, params![number])
 }
 
-/// The document of a number has these rights given.
-pub fn set_grants<S: Alter>(
-    transaction: &mut Transaction<'_, S>,
-    number: u32,
-    grants: &[GrantRecord],
-) -> Result<(), DatabaseFault> {
-    run(transaction, REMOVE_GRANTS, params![number])?;
-    add_grants(transaction, number, grants)
+/// What an application has been given, and where that stands.
+#[derive(Drop)]
+struct KeptGrant {
+    place: i64,
+    app: ByteList,
+    rights: u8,
 }
 
-fn add_grants<S: Alter>(
+/// The document of a number has these rights given, where there is one. What stays as it
+/// is isn't written.
+pub fn set_grants<S: Alter>(
+    alloc: Global,
     transaction: &mut Transaction<'_, S>,
     number: u32,
     grants: &[GrantRecord],
 ) -> Result<(), DatabaseFault> {
+    let lines = lines_of(transaction, FIND, params![number])?;
+    let Some(line) = lines.as_slice().first() else {
+        return Ok(());
+    };
+    let document = place_at(line, 0)?;
+    let kept = kept_grants(alloc, transaction, document)?;
+    for old in kept.as_slice() {
+        renew_grant(transaction, old, grants)?;
+    }
     for grant in grants {
-        add_grant(transaction, number, grant)?;
+        if !is_kept(kept.as_slice(), grant) {
+            add_grant(transaction, document, grant)?;
+        }
     }
     Ok(())
 }
 
+/// The rights in the document of a place, in byte order of the applications.
+fn kept_grants<S: Alter>(
+    alloc: Global,
+    transaction: &mut Transaction<'_, S>,
+    document: i64,
+) -> Result<Vec<KeptGrant>, DatabaseFault> {
+    let lines = lines_of(transaction, READ_GRANTS, params![document])?;
+    let mut kept = Vec::new(alloc);
+    for line in lines.as_slice() {
+        kept.push(KeptGrant {
+            place: place_at(line, 0)?,
+            app: bytes_at(alloc, line, 1)?,
+            rights: rights_at(line, 2)?,
+        })?;
+    }
+    Ok(kept)
+}
+
+/// Changes what an application was given, or removes it, as the new rights say.
+fn renew_grant<S: Alter>(
+    transaction: &mut Transaction<'_, S>,
+    old: &KeptGrant,
+    grants: &[GrantRecord],
+) -> Result<(), DatabaseFault> {
+    let app = old.app.as_slice();
+    let Ok(at) = grants.binary_search_by(|grant| grant.app.as_slice().cmp(app)) else {
+        return run(transaction, REMOVE_GRANT, params![old.place]);
+    };
+    match grants.get(at) {
+        Some(grant) if grant.rights != old.rights => {
+            let rights = u32::from(grant.rights);
+            run(transaction, CHANGE_GRANT, params![old.place, rights])
+        }
+        _ => Ok(()),
+    }
+}
+
+/// Whether an application has been given rights.
+fn is_kept(kept: &[KeptGrant], grant: &GrantRecord) -> bool {
+    let app = grant.app.as_slice();
+    kept.binary_search_by(|old| old.app.as_slice().cmp(app))
+        .is_ok()
+}
+
 fn add_grant<S: Alter>(
     transaction: &mut Transaction<'_, S>,
-    number: u32,
+    document: i64,
     grant: &GrantRecord,
 ) -> Result<(), DatabaseFault> {
     let app = ValueRef::Text(grant.app.as_slice());
     let rights = u32::from(grant.rights);
-    let params = &[number.to_sql(), app, rights.to_sql()];
+    let params = &[document.to_sql(), app, rights.to_sql()];
     run(transaction, ADD_GRANT, params)
 }

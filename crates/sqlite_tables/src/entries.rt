@@ -1,21 +1,22 @@
 //! The entries of the permission store, in the table `entry`, with their rows
 //! in `permission`.
 
-ghost use Rattle.std.specs.Prelude.{◌<◌, IfOk, length};
+ghost use Rattle.std.specs.Prelude.{◌<◌, IfOk, vec_len};
 
-use crate::calls::{bytes_at, lines_inside, lines_of, place_at, run, text_at};
+use crate::calls::{TakesLines, bytes_at, hand_lines, lines_of, place_at, run, slice_at, text_at};
 use crate::fault::DatabaseFault;
-use crate::rows::{add_name, add_rows, renew_rows};
+use crate::names::names_of_text;
+use crate::rows::{add_rows, renew_rows};
 use portal_base::list::{ByteList, List};
 use portal_base::text::Text;
 use portal_model::records::{EntryRecord, Row};
-use sqlite::{Alter, Connection, Row as Line, Transaction, params};
+use sqlite::{Alter, Row as Line, Transaction, params};
 use std::alloc::Global;
 
-const LOAD: &str = "SELECT place, store_table, id, datum FROM entry ORDER BY place";
+/// Loads the entries, which are the same in each version of the tables.
+pub const LOAD: &str = "SELECT place, store_table, id, datum FROM entry ORDER BY place";
 
-const LOAD_ROWS: &str =
-    "SELECT entry, application, name FROM permission ORDER BY entry, application, place";
+const LOAD_ROWS: &str = "SELECT entry, application, names FROM permission ORDER BY place";
 
 const FIND: &str = "SELECT place FROM entry WHERE store_table = ?1 AND id = ?2";
 
@@ -25,7 +26,12 @@ const SET_DATUM: &str = "UPDATE entry SET datum = ?2 WHERE place = ?1 AND datum 
 
 const REMOVE: &str = "DELETE FROM entry WHERE store_table = ?1 AND id = ?2";
 
-/// An entry that is being read, and its place.
+/// The entries as they are read, each with its place.
+#[derive(Drop)]
+pub struct ReadEntries {
+    entries: Vec<PlacedEntry>,
+}
+
 #[derive(Drop)]
 struct PlacedEntry {
     place: i64,
@@ -35,52 +41,106 @@ struct PlacedEntry {
     rows: Vec<Row>,
 }
 
+/// The rows of entries as they are read.
+#[derive(Drop)]
+struct ReadRows<'a> {
+    entries: &'a mut ReadEntries,
+}
+
 /// The entries, in their order.
 pub fn read_entries<S: Alter>(
     alloc: Global,
-    conn: &mut Connection<S>,
+    transaction: &mut Transaction<'_, S>,
 ) -> Result<List<EntryRecord>, DatabaseFault> {
-    let mut entries = entries_without_rows(alloc, conn)?;
-    let lines = lines_of(conn, LOAD_ROWS)?;
-    read_rows(alloc, &mut entries, lines.as_slice())?;
-    let mut records = List::new(alloc);
-    for entry in entries {
-        records.push(record_of(entry))?;
-    }
-    Ok(records)
+    let mut entries = ReadEntries::new(alloc);
+    hand_lines(alloc, transaction, LOAD, &mut entries)?;
+    let mut rows = ReadRows {
+        entries: &mut entries,
+    };
+    hand_lines(alloc, transaction, LOAD_ROWS, &mut rows)?;
+    entries.records(alloc)
 }
 
-/// The entries, in their order, with no row yet.
-fn entries_without_rows<S: Alter>(
+impl ReadEntries {
+    /// None yet.
+    pub fn new(alloc: Global) -> ReadEntries {
+        ReadEntries {
+            entries: Vec::new(alloc),
+        }
+    }
+
+    /// Puts a row behind those of the entry of a place.
+    fn push_row(&mut self, place: i64, row: Row) -> Result<(), DatabaseFault> {
+        let at = self.index_of(place)?;
+        self.entries[at].rows.push(row)?;
+        Ok(())
+    }
+
+    /// Puts a name behind those of the application's row in the entry of a place, if it is
+    /// the last row, or into a row of its own behind the others.
+    pub fn push_name(
+        &mut self,
+        alloc: Global,
+        place: i64,
+        app: Text,
+        name: Text,
+    ) -> Result<(), DatabaseFault> {
+        let at = self.index_of(place)?;
+        add_name(alloc, &mut self.entries[at].rows, app, name)
+    }
+
+    /// Where the entry of a place stands.
+    fn index_of(&self, place: i64) -> Result<usize, DatabaseFault>
+        ensures { IfOk result (λ at. at < vec_len self.now.entries) }
+    {
+        let found = self
+            .entries
+            .as_slice()
+            .binary_search_by(|entry| entry.place.cmp(&place));
+        found.map_err(|_| DatabaseFault::NoRecord)
+    }
+
+    /// The records, with the applications of each entry in byte order.
+    pub fn records(self, alloc: Global) -> Result<List<EntryRecord>, DatabaseFault> {
+        let ReadEntries { entries } = self;
+        let mut records = Vec::with_capacity(alloc, entries.len())?;
+        for entry in entries {
+            records.push(record_of(entry))?;
+        }
+        Ok(List::from_vec(records))
+    }
+}
+
+/// Puts a name behind those of the application's row, if it is the last, or into a
+/// row of its own behind the others.
+fn add_name(
     alloc: Global,
-    conn: &mut Connection<S>,
-) -> Result<Vec<PlacedEntry>, DatabaseFault> {
-    let lines = lines_of(conn, LOAD)?;
-    let mut entries = Vec::new(alloc);
-    for line in lines.as_slice() {
-        entries.push(entry_of(alloc, line)?)?;
+    rows: &mut Vec<Row>,
+    app: Text,
+    name: Text,
+) -> Result<(), DatabaseFault> {
+    if let Some(row) = rows.last_mut()
+        && row.app == app
+    {
+        row.names.push(name)?;
+        return Ok(());
     }
-    Ok(entries)
+    let mut names = List::new(alloc);
+    names.push(name)?;
+    rows.push(Row { app, names })?;
+    Ok(())
 }
 
-fn entry_of(alloc: Global, line: &Line) -> Result<PlacedEntry, DatabaseFault> {
-    Ok(PlacedEntry {
-        place: place_at(line, 0)?,
-        table: text_at(line, 1)?,
-        id: text_at(line, 2)?,
-        datum: bytes_at(alloc, line, 3)?,
-        rows: Vec::new(alloc),
-    })
-}
-
+/// The record of an entry, with its applications in byte order.
 fn record_of(entry: PlacedEntry) -> EntryRecord {
     let PlacedEntry {
         place: _,
         table,
         id,
         datum,
-        rows,
+        mut rows,
     } = entry;
+    rows.sort_unstable_by(|one, other| one.app.as_bytes().cmp(other.app.as_bytes()));
     EntryRecord {
         table,
         id,
@@ -89,33 +149,27 @@ fn record_of(entry: PlacedEntry) -> EntryRecord {
     }
 }
 
-/// Gives the entries their rows, of which those of an earlier entry come first.
-fn read_rows(
-    alloc: Global,
-    entries: &mut [PlacedEntry],
-    lines: &[Line],
-) -> Result<(), DatabaseFault> {
-    let mut at = 0;
-    for line in lines {
-        let place = place_at(line, 0)?;
-        at = index_from(entries, at, place)?;
-        let app = text_at(line, 1)?;
-        let name = text_at(line, 2)?;
-        add_name(alloc, &mut entries[at].rows, app, name)?;
+impl TakesLines for ReadEntries {
+    fn take(&mut self, alloc: Global, line: &Line) -> Result<(), DatabaseFault> {
+        self.entries.push(PlacedEntry {
+            place: place_at(line, 0)?,
+            table: text_at(line, 1)?,
+            id: text_at(line, 2)?,
+            datum: bytes_at(alloc, line, 3)?,
+            rows: Vec::new(alloc),
+        })?;
+        Ok(())
     }
-    Ok(())
 }
 
-/// Where the entry of a place stands, from an index on.
-fn index_from(entries: &[PlacedEntry], from: usize, place: i64) -> Result<usize, DatabaseFault>
-    ensures { IfOk result (λ at. at < length entries.now) }
-{
-    for at in from..entries.len() {
-        if entries[at].place == place {
-            return Ok(at);
-        }
+impl<'a> TakesLines for ReadRows<'a> {
+    fn take(&mut self, alloc: Global, line: &Line) -> Result<(), DatabaseFault> {
+        let row = Row {
+            app: text_at(line, 1)?,
+            names: names_of_text(alloc, slice_at(line, 2)?)?,
+        };
+        self.entries.push_row(place_at(line, 0)?, row)
     }
-    Err(DatabaseFault::NoRecord)
 }
 
 /// Puts an entry in the place of the one with its table and identifier, or else
@@ -131,10 +185,7 @@ pub fn set_entry<S: Alter>(
             set_datum(transaction, place, &entry.datum)?;
             renew_rows(alloc, transaction, place, rows)
         }
-        None => {
-            let place = add_entry(transaction, entry)?;
-            add_rows(transaction, place, rows)
-        }
+        None => add_entry(alloc, transaction, entry),
     }
 }
 
@@ -144,7 +195,7 @@ fn place_of_entry<S: Alter>(
     table: &Text,
     id: &Text,
 ) -> Result<Option<i64>, DatabaseFault> {
-    let lines = lines_inside(transaction, FIND, params![table.as_str(), id.as_str()])?;
+    let lines = lines_of(transaction, FIND, params![table.as_str(), id.as_str()])?;
     match lines.as_slice().first() {
         Some(line) => Ok(Some(place_at(line, 0)?)),
         None => Ok(None),
@@ -159,15 +210,17 @@ fn set_datum<S: Alter>(
     run(transaction, SET_DATUM, params![place, datum.as_slice()])
 }
 
-/// Adds an entry without its rows; its place.
-fn add_entry<S: Alter>(
+/// Puts an entry behind the others.
+pub fn add_entry<S: Alter>(
+    alloc: Global,
     transaction: &mut Transaction<'_, S>,
     entry: &EntryRecord,
-) -> Result<i64, DatabaseFault> {
+) -> Result<(), DatabaseFault> {
     let table = entry.table.as_str();
     let id = entry.id.as_str();
     run(transaction, ADD, params![table, id, entry.datum.as_slice()])?;
-    Ok(transaction.last_insert_rowid())
+    let place = transaction.last_insert_rowid();
+    add_rows(alloc, transaction, place, entry.rows.as_slice())
 }
 
 /// The entry of a table and an identifier goes away.

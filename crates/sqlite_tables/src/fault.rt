@@ -3,6 +3,7 @@
 use portal_base::memory::WantOfMemory;
 use sqlite::{Error, ErrorCode};
 use std::alloc::{AllocError, AllocFailed};
+use std::io::ErrorKind;
 use thiserror::Error as ThisError;
 
 /// Why the database can't be opened, read or changed.
@@ -17,6 +18,19 @@ pub enum DatabaseFault {
     /// A row of the database is no record.
     #[error("the database of the records has a row that is no record")]
     NoRecord,
+    /// The database's file can't be made or read.
+    #[error("the file of the records can't be used: {0}")]
+    File(ErrorKind),
+    /// What stands at the database's path is a folder, a device or the like, or a link to
+    /// nothing.
+    #[error("the path of the records leads to no regular file")]
+    NoFile,
+    /// The database's file has a second name, by which another may change it.
+    #[error("the file of the records has a second name (a hard link)")]
+    Linked,
+    /// The file isn't empty, and holds something else than the tables of the records.
+    #[error("the file of the records holds something else, and is left as it is")]
+    Foreign,
 }
 
 /// What was met by a call of a keeper that answered `Failed`.

@@ -7,7 +7,8 @@
 //! |---|---|
 //! | `tables` | the tables of the database, and how they are made |
 //! | `documents`, `entries` | reading and changing these |
-//! | `rows` | the rows of an entry, and how some become others |
+//! | `rows`, `names` | the rows of an entry and how some become others, and the names of a row as one text |
+//! | `earlier` | the tables of version 1, and how they become those of this version |
 //! | `calls` | the calls of SQLite |
 //! | `fault` | [`fault::DatabaseFault`], [`fault::KeeperFault`] |
 //!
@@ -16,7 +17,9 @@
 
 pub mod calls;
 pub mod documents;
+pub mod earlier;
 pub mod entries;
 pub mod fault;
+pub mod names;
 pub mod rows;
 pub mod tables;

@@ -1,50 +1,41 @@
 //! The rows of an entry of the permission store: one of the table `permission`
-//! for each name.
+//! for each application, with its names as one text.
 
-use crate::calls::{lines_inside, run, text_at};
+use crate::calls::{bytes_at, lines_of, place_at, run};
 use crate::fault::DatabaseFault;
-use portal_base::list::List;
-use portal_base::text::Text;
+use crate::names::text_of_names;
+use portal_base::list::ByteList;
 use portal_model::records::Row;
+use sqlite::types::{ToSql, ValueRef};
 use sqlite::{Alter, Transaction, params};
 use std::alloc::Global;
 
 const READ: &str =
-    "SELECT application, name FROM permission WHERE entry = ?1 ORDER BY application, place";
+    "SELECT place, application, names FROM permission WHERE entry = ?1 ORDER BY application";
 
-const ADD: &str =
-    "INSERT INTO permission (entry, application, place, name) VALUES (?1, ?2, ?3, ?4)";
+const ADD: &str = "INSERT INTO permission (entry, application, names) VALUES (?1, ?2, ?3)";
 
-const REMOVE: &str = "DELETE FROM permission WHERE entry = ?1 AND application = ?2";
+const CHANGE: &str = "UPDATE permission SET names = ?2 WHERE place = ?1";
 
-/// Puts a name behind those of the application's row, which is the last, or
-/// into a row of its own behind the others.
-pub fn add_name(
-    alloc: Global,
-    rows: &mut Vec<Row>,
-    app: Text,
-    name: Text,
-) -> Result<(), DatabaseFault> {
-    if let Some(row) = rows.last_mut()
-        && row.app == app
-    {
-        row.names.push(name)?;
-        return Ok(());
-    }
-    let mut names = List::new(alloc);
-    names.push(name)?;
-    rows.push(Row { app, names })?;
-    Ok(())
+const REMOVE: &str = "DELETE FROM permission WHERE place = ?1";
+
+/// A row that is kept, and where it stands.
+#[derive(Drop)]
+struct KeptRow {
+    place: i64,
+    app: ByteList,
+    names: ByteList,
 }
 
 /// Gives a new entry its rows.
 pub fn add_rows<S: Alter>(
+    alloc: Global,
     transaction: &mut Transaction<'_, S>,
     entry: i64,
     rows: &[Row],
 ) -> Result<(), DatabaseFault> {
     for row in rows {
-        add_row(transaction, entry, row)?;
+        add_row(alloc, transaction, entry, row)?;
     }
     Ok(())
 }
@@ -57,68 +48,75 @@ pub fn renew_rows<S: Alter>(
     entry: i64,
     rows: &[Row],
 ) -> Result<(), DatabaseFault> {
-    // A change of one application's permissions writes that application's rows alone, however many
+    // A change of one application's permissions writes that application's row alone, however many
     // others the entry has.
     let kept = kept_rows(alloc, transaction, entry)?;
-    for row in kept.as_slice() {
-        if !is_among(row, rows) {
-            remove_row(transaction, entry, row)?;
-        }
+    for old in kept.as_slice() {
+        renew_row(alloc, transaction, old, rows)?;
     }
     for row in rows {
-        if !is_among(row, kept.as_slice()) {
-            add_row(transaction, entry, row)?;
+        if !is_kept(kept.as_slice(), row) {
+            add_row(alloc, transaction, entry, row)?;
         }
     }
     Ok(())
 }
 
-/// The rows of an entry.
+/// The rows of an entry, in byte order of the applications.
 fn kept_rows<S: Alter>(
     alloc: Global,
     transaction: &mut Transaction<'_, S>,
     entry: i64,
-) -> Result<Vec<Row>, DatabaseFault> {
-    let lines = lines_inside(transaction, READ, params![entry])?;
-    let mut rows = Vec::new(alloc);
+) -> Result<Vec<KeptRow>, DatabaseFault> {
+    let lines = lines_of(transaction, READ, params![entry])?;
+    let mut kept = Vec::new(alloc);
     for line in lines.as_slice() {
-        let app = text_at(line, 0)?;
-        let name = text_at(line, 1)?;
-        add_name(alloc, &mut rows, app, name)?;
+        kept.push(KeptRow {
+            place: place_at(line, 0)?,
+            app: bytes_at(alloc, line, 1)?,
+            names: bytes_at(alloc, line, 2)?,
+        })?;
     }
-    Ok(rows)
+    Ok(kept)
 }
 
-/// Whether a row stands among others, whose applications rise.
-fn is_among(row: &Row, others: &[Row]) -> bool {
-    let app = row.app.as_bytes();
-    let Ok(at) = others.binary_search_by(|other| other.app.as_bytes().cmp(app)) else {
-        return false;
+/// Changes the names of a row that is kept, or removes it, as the new rows say.
+fn renew_row<S: Alter>(
+    alloc: Global,
+    transaction: &mut Transaction<'_, S>,
+    old: &KeptRow,
+    rows: &[Row],
+) -> Result<(), DatabaseFault> {
+    let app = old.app.as_slice();
+    let Ok(at) = rows.binary_search_by(|row| row.app.as_bytes().cmp(app)) else {
+        return run(transaction, REMOVE, params![old.place]);
     };
-    match others.get(at) {
-        Some(other) => other.names == row.names,
-        None => false,
+    let Some(row) = rows.get(at) else {
+        return Ok(());
+    };
+    let names = text_of_names(alloc, row.names.as_slice())?;
+    if names.as_slice() == old.names.as_slice() {
+        return Ok(());
     }
+    let params = &[old.place.to_sql(), ValueRef::Text(names.as_slice())];
+    run(transaction, CHANGE, params)
+}
+
+/// Whether an application has a row.
+fn is_kept(kept: &[KeptRow], row: &Row) -> bool {
+    let app = row.app.as_bytes();
+    kept.binary_search_by(|old| old.app.as_slice().cmp(app))
+        .is_ok()
 }
 
 fn add_row<S: Alter>(
+    alloc: Global,
     transaction: &mut Transaction<'_, S>,
     entry: i64,
     row: &Row,
 ) -> Result<(), DatabaseFault> {
-    let mut place = 0i64;
-    for name in row.names.iter() {
-        let (app, name) = (row.app.as_str(), name.as_str());
-        run(transaction, ADD, params![entry, app, place, name])?;
-        place = place.saturating_add(1);
-    }
-    Ok(())
-}
-
-fn remove_row<S: Alter>(
-    transaction: &mut Transaction<'_, S>,
-    entry: i64,
-    row: &Row,
-) -> Result<(), DatabaseFault> {
-    run(transaction, REMOVE, params![entry, row.app.as_str()])
+    let names = text_of_names(alloc, row.names.as_slice())?;
+    let app = ValueRef::Text(row.app.as_bytes());
+    let params = &[entry.to_sql(), app, ValueRef::Text(names.as_slice())];
+    run(transaction, ADD, params)
 }

@@ -1,69 +1,85 @@
-//! The tables of the database.
+//! The tables of the database, and how they are made.
 //!
-//! A person reads them with `sqlite3`, say
-//! `SELECT number, path, application, rights FROM document JOIN document_grant ON
-//! document = number` for who may do what with which document, or
-//! `SELECT store_table, id, application, name FROM entry JOIN permission ON
-//! entry = entry.place` for the permission store.
+//! A person reads them with `sqlite3`: `docs/database.md` has the queries for who may do
+//! what with which document, and for the permission store.
 
-use crate::calls::lines_of;
+use crate::calls::{lines_of, number_at, run};
 use crate::fault::DatabaseFault;
-use sqlite::{Alter, Connection, Error, ErrorCode};
+use sqlite::{Alter, Transaction, params};
 
-/// The version of the records, one row. Documents in the order of their
-/// addition, and entries in that of their creation, both by `place`. The order of
-/// applications is the byte order of their names. Rights: read 1, write 2,
-/// grant-permissions 4, delete 8. `datum` is the data of an entry, spelled as a
-/// D-Bus variant with the lowest byte of each number first.
-const TABLES: &str = "
-CREATE TABLE version (version INTEGER NOT NULL) STRICT;
-INSERT INTO version (version) VALUES (1);
-CREATE TABLE document (
+/// The version of the tables that are made here.
+pub const TABLES_VERSION: u32 = 2;
+
+/// The tables of this version: the version, one row; documents in the order of their
+/// addition, and entries in that of their creation, both by `place`, with what they give
+/// to applications. Rights: read 1, write 2, grant-permissions 4, delete 8. `datum` is the
+/// data of an entry, spelled as a D-Bus variant with the lowest byte of each number first.
+/// `names` are the permissions of an application, each ended by a line feed.
+pub const TABLES: [&str; 5] = [
+    "CREATE TABLE version (version INTEGER NOT NULL) STRICT",
+    "CREATE TABLE document (
     place INTEGER PRIMARY KEY,
     number INTEGER NOT NULL UNIQUE,
     path BLOB NOT NULL,
-    reusable INTEGER NOT NULL
-) STRICT;
-CREATE TABLE document_grant (
-    document INTEGER NOT NULL REFERENCES document (number) ON DELETE CASCADE,
+    reusable INTEGER NOT NULL,
+    strict INTEGER NOT NULL
+) STRICT",
+    "CREATE TABLE document_grant (
+    place INTEGER PRIMARY KEY,
+    document INTEGER NOT NULL REFERENCES document (place) ON DELETE CASCADE,
     application TEXT NOT NULL,
-    rights INTEGER NOT NULL,
-    PRIMARY KEY (document, application)
-) STRICT;
-CREATE TABLE entry (
+    rights INTEGER NOT NULL
+) STRICT",
+    "CREATE TABLE entry (
     place INTEGER PRIMARY KEY,
     store_table TEXT NOT NULL,
     id TEXT NOT NULL,
     datum BLOB NOT NULL,
     UNIQUE (store_table, id)
-) STRICT;
-CREATE TABLE permission (
+) STRICT",
+    "CREATE TABLE permission (
+    place INTEGER PRIMARY KEY,
     entry INTEGER NOT NULL REFERENCES entry (place) ON DELETE CASCADE,
     application TEXT NOT NULL,
-    place INTEGER NOT NULL,
-    name TEXT NOT NULL,
-    PRIMARY KEY (entry, application, place)
-) STRICT;";
+    names TEXT NOT NULL
+) STRICT",
+];
+
+/// What finds the rights of a document, and the permissions of an entry.
+const INDEXES: [&str; 2] = [
+    "CREATE INDEX grants_of_document ON document_grant (document)",
+    "CREATE INDEX permissions_of_entry ON permission (entry)",
+];
+
+const ADD_VERSION: &str = "INSERT INTO version (version) VALUES (?1)";
 
 /// Finds the table of the version, which is made with the others.
 const FIND: &str = "SELECT name FROM sqlite_schema WHERE type = 'table' AND name = 'version'";
 
-/// Makes the tables, in one transaction, where they aren't there.
-pub fn make_tables<S: Alter>(conn: &mut Connection<S>) -> Result<(), DatabaseFault> {
-    if have_tables(conn)? {
-        return Ok(());
-    }
-    if !conn.is_autocommit() {
-        return Err(DatabaseFault::Sqlite(Error::SqliteFailure(ErrorCode::TransactionState)));
-    }
-    let mut transaction = conn.transaction();
-    transaction.execute_batch(TABLES)?;
-    transaction.commit()?;
-    Ok(())
+const VERSION: &str = "SELECT version FROM version";
+
+/// Whether there are tables, of whichever version.
+pub fn have_tables<S: Alter>(transaction: &mut Transaction<'_, S>) -> Result<bool, DatabaseFault> {
+    let lines = lines_of(transaction, FIND, &[])?;
+    Ok(!lines.is_empty())
 }
 
-/// Whether the tables are there.
-fn have_tables<S: Alter>(conn: &mut Connection<S>) -> Result<bool, DatabaseFault> {
-    let lines = lines_of(conn, FIND)?;
-    Ok(!lines.is_empty())
+/// Adds the tables, which are empty but for the version.
+pub fn add_tables<S: Alter>(transaction: &mut Transaction<'_, S>) -> Result<(), DatabaseFault> {
+    for table in TABLES {
+        run(transaction, table, &[])?;
+    }
+    for index in INDEXES {
+        run(transaction, index, &[])?;
+    }
+    run(transaction, ADD_VERSION, params![TABLES_VERSION])
+}
+
+/// The version of the tables, which is in the one row of its table.
+pub fn read_version<S: Alter>(transaction: &mut Transaction<'_, S>) -> Result<u32, DatabaseFault> {
+    let lines = lines_of(transaction, VERSION, &[])?;
+    match lines.as_slice() {
+        [line] => number_at(line, 0),
+        _ => Err(DatabaseFault::NoRecord),
+    }
 }

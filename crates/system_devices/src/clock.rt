@@ -1,7 +1,6 @@
 //! The clock of the system.
 
-ghost use Rattle.std.specs.Prelude.{◌≡◌, ◌⊎◌};
-ghost use Rattle.portal_base.specs.Outside.{rises_by};
+ghost use Rattle.std.specs.Prelude.{◌≡◌};
 
 use portal_base::outside::Clock;
 use std::marker::Model;
@@ -47,13 +46,12 @@ impl<R> SystemClock<R> {
 }
 
 impl<R: time::Clock> Clock for SystemClock<R> {
-    ghost use Rattle.std.specs.Prelude.{None};
+    ghost use Rattle.std.specs.Prelude.{◌≡◌, ◌⊎◌};
+    ghost use Rattle.portal_base.specs.Outside.{rises_by};
 
-    ghost told = { λ _. None };
+    ghost reads = { λ old _ new. (new ≡ old) ⊎ (new ≡ rises_by old 1) };
 
-    fn now(&mut self) -> u64
-        ensures counts { (self.new ≡ self.old) ⊎ (self.new ≡ rises_by self.old 1) }
-    {
+    fn now(&mut self) -> u64 {
         match self.clock.since_1970() {
             Ok(time) => self.shown = time.as_secs(),
             // `Clock` has no answer for a fault, so it shows what it showed last.

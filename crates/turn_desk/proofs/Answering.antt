@@ -5,6 +5,7 @@ use Rattle.std.specs.Prelude.{IsOk}
 use Rattle.atomic_table.specs.Seated.{TableId}
 use Rattle.atomic_table.specs.Table.{Me}
 use Rattle.portal_core.specs.Growth.{GrowsBy, RefusedFor}
+use Rattle.portal_desk.specs.Opening.{IsOpeningState}
 use Rattle.portal_model.specs.declared.entry.Entry.{Entry}
 use Rattle.portal_model.specs.declared.reply.Refused.{Refused}
 use Rattle.portal_model.specs.declared.reply.Refused.TheVariants.{Memory, Full}
@@ -36,17 +37,17 @@ unwritten v log = freed (holding v log)
 
 -- ---- between two calls
 
-pub rests_fresh : (n : ℕ) (o : State) (base : List Entry) (made : ℕ) → 0 < n → Legal o base → cost base ≤ o.limits.history → Rests (fresh n o base made)
-rests_fresh n o base made live legal within = record { sits = record { live = live; free = refl; alone = refl }; legal = legal; within = within; own = refl }
+pub rests_fresh : (n : ℕ) (o : State) (base : List Entry) (made : ℕ) → 0 < n → IsOpeningState o → Legal o base → cost base ≤ o.limits.history → Rests (fresh n o base made)
+rests_fresh n o base made live started legal within = record { sits = record { live = live; free = refl; alone = refl }; started = started; legal = legal; within = within; own = refl }
 
 pub rests_looked : (v : View) (n : ℕ) → Rests v → Rests (looked v n)
-rests_looked v n r = record { sits = record { live = r.sits.live; free = r.sits.free; alone = r.sits.alone }; legal = r.legal; within = r.within; own = r.own }
+rests_looked v n r = record { sits = record { live = r.sits.live; free = r.sits.free; alone = r.sits.alone }; started = r.started; legal = r.legal; within = r.within; own = r.own }
 
 pub rests_lost : (v : View) (n : ℕ) → Rests v → Rests (lost v n)
-rests_lost v n r = record { sits = record { live = r.sits.live; free = r.sits.free; alone = r.sits.alone }; legal = r.legal; within = r.within; own = r.own }
+rests_lost v n r = record { sits = record { live = r.sits.live; free = r.sits.free; alone = r.sits.alone }; started = r.started; legal = r.legal; within = r.within; own = r.own }
 
 pub rests_unwritten : (v : View) (log : List Entry) → Rests v → Legal v.opening log → cost log ≤ v.opening.limits.history → exchanges v.number v.opening log ≡ v.mine → Rests (unwritten v log)
-rests_unwritten v log r legal within own = record { sits = record { live = r.sits.live; free = refl; alone = r.sits.alone }; legal = legal; within = within; own = own }
+rests_unwritten v log r legal within own = record { sits = record { live = r.sits.live; free = refl; alone = r.sits.alone }; started = r.started; legal = legal; within = within; own = own }
 
 own_written : (v : View) (log : List Entry) (e : Entry) → exchanges v.number v.opening log ≡ v.mine → e.seat ≡ v.number → exchanges v.number v.opening (log ++ e ∷ []) ≡ v.mine ++ exchange (run v.opening log) e ∷ []
 own_written v log e own seat = exchanges-own v.number v.opening log e seat ∙ ap (λ (xs : List Exchange). xs ++ exchange (run v.opening log) e ∷ []) own
@@ -54,6 +55,7 @@ own_written v log e own seat = exchanges-own v.number v.opening log e seat ∙ a
 pub rests_written : (v : View) (log : List Entry) (e : Entry) → Rests v → Legal v.opening (log ++ e ∷ []) → cost (log ++ e ∷ []) ≤ v.opening.limits.history → exchanges v.number v.opening log ≡ v.mine → e.seat ≡ v.number → Rests (written v log e)
 rests_written v log e r legal within own seat = record {
   sits = record { live = r.sits.live; free = refl; alone = r.sits.alone };
+  started = r.started;
   legal = legal;
   within = within;
   own = own_written v log e own seat;
@@ -79,7 +81,7 @@ pub is_busy : (t t' : TableId) (v w : View) (r h : ℕ) (request : Request) → 
 is_busy t t' v w r h request rests table is some another most = subst (λ (z : View). Tries (sight t v r) request (Asked.Busy h request) (sight t' z r)) (sym is) (record {
   stays = record { table = table; seat = record { number = refl; opening = refl; base = refl; made = refl }; read = omega arith };
   free = rests.sits.free;
-  known = record { legal = rests.legal; mine = rests.own };
+  known = record { started = rests.started; legal = rests.legal; mine = rests.own };
   within = rests.within;
   moved = record { opening = refl; seat = refl; begins = begins-itself v.seen };
   told = record { losses = refl; holder_is = refl; seated = (some, most); another = another; request_is = refl; seen = refl; mine = refl; refusals = refl };
@@ -105,7 +107,7 @@ module _ (v : View) (log : List Entry) (e : Entry) (request : Request) (reply : 
   is_answered t t' w r rests table is legal within own = subst (λ (z : View). Tries (sight t v r) request (Asked.Answered reply) (sight t' z r)) (sym is) (record {
     stays = record { table = table; seat = record { number = refl; opening = refl; base = refl; made = refl }; read = omega arith };
     free = refl;
-    known = record { legal = legal; mine = own_written v log e own seat };
+    known = record { started = rests.started; legal = legal; mine = own_written v log e own seat };
     within = within;
     moved = record { opening = refl; seat = refl; begins = begins-longer log v.seen e begins };
     told = (is_made t t' r, refl);
@@ -134,7 +136,7 @@ pub is_refused : (t t' : TableId) (v w : View) (r r' : ℕ) (log : List Entry) (
 is_refused t t' v w r r' log request why rests table is legal within own begins cause no_leave count = subst (λ (z : View). Tries (sight t v r) request (Asked.Refused why) (sight t' z r')) (sym is) (record {
   stays = record { table = table; seat = record { number = refl; opening = refl; base = refl; made = refl }; read = omega arith };
   free = refl;
-  known = record { legal = legal; mine = own };
+  known = record { started = rests.started; legal = legal; mine = own };
   within = within;
   moved = record { opening = refl; seat = refl; begins = begins };
   told = (

@@ -3,7 +3,8 @@ use Rattle.std.specs.Prelude.{◌≡◌, ◌≢◌, ℕ, ◌+◌, ◌≤◌, fal
 use Rattle.portal_core.specs.Growth.{RefusedFor}
 use Rattle.portal_model.specs.declared.request.Request.{Request}
 use Rattle.portal_model.specs.History.{cost}
-use Rattle.portal_model.specs.Seated.{Denied, Known, Made, Moved}
+use Rattle.portal_desk.specs.Knowing.{Known}
+use Rattle.portal_model.specs.Seated.{Denied, Made, Moved}
 use Rattle.portal_model.specs.declared.asked.Asked.{Asked}
 use Rattle.turn_desk.specs.Sights.{Sight, Stays, seated_of}
 

@@ -3,6 +3,7 @@ use Rattle.std.specs.Prelude.{◌≡◌, ℕ, ◌+◌, ◌<◌, ◌≤◌, List,
 use mathlib.Core.Option.{some}
 use lib.ListN.{get_elem?}
 use Rattle.portal_model.specs.declared.entry.Entry.{Entry}
+use Rattle.portal_desk.specs.Opening.{IsOpeningState}
 use Rattle.portal_model.specs.History.{Legal, cost, run}
 use Rattle.portal_model.specs.Seated.{exchange, exchanges}
 use Rattle.turn_desk.specs.Knowing.{Done, View, fresh}
@@ -62,9 +63,10 @@ pub record Sits (v : View) : Type 0 where
   pub alone : v.kept ≡ []
 
 -- between two calls: the seat doesn't hold the turn, and has seen a legal history within its limit,
--- in which its own entries are those that it knows
+-- that began in an opening state, in which its own entries are those that it knows
 pub record Rests (v : View) : Type 0 where
   pub sits : Sits v
+  pub started : IsOpeningState v.opening
   pub legal : Legal v.opening v.seen
   pub within : cost v.seen ≤ v.opening.limits.history
   pub own : exchanges v.number v.opening v.seen ≡ v.mine

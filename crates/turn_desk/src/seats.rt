@@ -1,7 +1,7 @@
 //! A turn, its passes and its seats.
 
 ghost use Rattle.std.specs.Prelude.{◌≡◌, ◌≤◌, length};
-ghost use Rattle.portal_model.specs.Seated.{Known};
+ghost use Rattle.portal_desk.specs.Knowing.{Known};
 ghost use Rattle.turn_desk.specs.Asking.{Looks, Tries};
 ghost use Rattle.turn_desk.specs.Sights.{seated_of};
 
@@ -146,8 +146,8 @@ impl<'a, S: Storied> Seat<'a, S> {
         Pass { place, number }
     }
 
-    /// What is true between two calls: a legal history is seen, and the seat's
-    /// own entries are those of the seat in it.
+    /// What is true between two calls: a legal history is seen, that began in an
+    /// opening state, and the seat's own entries are those of the seat in it.
     pub fn known(&self)
         ensures { Known (seated_of self.now) }
     {

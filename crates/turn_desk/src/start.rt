@@ -1,6 +1,7 @@
 //! How a turn is started.
 
 ghost use Rattle.std.specs.Prelude.{◌≡◌, ℕ, ◌+◌, ◌≤◌, [], Some, vec_len, vec_capacity, slice_get, MatchResult, IfOk, ◌==◌, if◌then◌else◌};
+ghost use Rattle.portal_desk.specs.Opening.{IsOpeningState};
 ghost use Rattle.portal_model.specs.History.{Legal, cost};
 ghost use Rattle.turn_desk.specs.declared.start.TurnError.TheVariants as TurnError;
 ghost use Rattle.turn_desk.specs.Deals.{IsDealt};
@@ -44,6 +45,7 @@ fn spread<S: Storied>(
     requires table { (first.table_id ≡ top.now.table_id) × (top.now.table_id.words ≡ 2)
         × (1 ≤ seats) × (seats ≤ 65535) }
     requires first { first.me ≡ (fresh 1 first.me.0.opening first.me.0.base 1, []) }
+    requires started { IsOpeningState first.me.0.opening }
     requires legal { Legal first.me.0.opening first.me.0.base }
     requires within { cost first.me.0.base ≤ first.me.0.opening.limits.history }
     requires room { (passes.old.items ≡ []) × (seats ≤ vec_capacity passes.old) }

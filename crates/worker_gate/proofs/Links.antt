@@ -5,7 +5,8 @@ use Rattle.portal_base.specs.declared.limits.Settings.{Settings}
 use Rattle.portal_base.specs.declared.who.Kind.{Kind}
 use Rattle.portal_base.specs.declared.who.Who.{Who}
 use Rattle.portal_base.specs.Outside.{HasRisen}
-use Rattle.portal_model.specs.Seated.{Exchange, Known, Moved, Seated, is_open, state_seen}
+use Rattle.portal_desk.specs.Knowing.{Known}
+use Rattle.portal_model.specs.Seated.{Exchange, Moved, Seated, is_open, state_seen}
 use Rattle.session.specs.declared.act.Client.{Client}
 use Rattle.session.specs.declared.served.Served.{Served}
 use Rattle.session.specs.Connections.{Serves}

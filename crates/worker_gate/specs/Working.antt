@@ -1,7 +1,8 @@
 -- What a worker does: it serves the links of a listener at a desk, one after another.
 use Rattle.std.specs.Prelude.{◌≡◌, ℕ, List, [], ◌∷◌, ◌++◌, false, Option, Some, None, IfSome}
 use Rattle.portal_base.specs.Outside.{HasRisen}
-use Rattle.portal_model.specs.Seated.{Exchange, Known, Moved, Seated, is_open, state_seen}
+use Rattle.portal_desk.specs.Knowing.{Known}
+use Rattle.portal_model.specs.Seated.{Exchange, Moved, Seated, is_open, state_seen}
 use Rattle.session.specs.declared.act.Client.{Client}
 use Rattle.session.specs.declared.served.Served.{Served}
 use Rattle.session.specs.Connections.{Serves}

@@ -1,7 +1,8 @@
 //! A worker, which serves the links of a post.
 
 ghost use Rattle.std.specs.Prelude.{◌≡◌, List, false};
-ghost use Rattle.portal_model.specs.Seated.{Exchange, Known, is_open, state_seen};
+ghost use Rattle.portal_desk.specs.Knowing.{Known};
+ghost use Rattle.portal_model.specs.Seated.{Exchange, is_open, state_seen};
 ghost use Rattle.session.specs.Standings.{client};
 ghost use Rattle.worker_gate.specs.Working.{ServesLink, Works, hall, sides};
 
@@ -63,7 +64,8 @@ pub fn work<R: Wait, D: Desk, L: Listener, G: Gate>(
         (D.seated desk.new) }
     // The desk's seat has no open connection then either.
     ensures closed_now { is_open (state_seen (D.seated desk.new)) (D.seated desk.new).seat ≡ false }
-    // The history that the desk sees is legal, and the seat's entries in it are its own.
+    // The history that the desk sees is legal from an opening state, and the seat's entries in it
+    // are its own.
     ensures known { Known (D.seated desk.new) }
     ensures who { post.new.who ≡ post.old.who }
     ensures kind { post.new.kind ≡ post.old.kind }

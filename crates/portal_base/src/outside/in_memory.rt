@@ -207,9 +207,9 @@ impl SetClock {
 }
 
 impl Clock for SetClock {
-    ghost use Rattle.std.specs.Prelude.{Some};
+    ghost use Rattle.portal_base.specs.Outside.{Shows};
 
-    ghost told = { λ seconds. Some seconds };
+    ghost reads = { λ old seconds new. Shows old seconds new };
 
     fn now(&mut self) -> u64 {
         self.seconds

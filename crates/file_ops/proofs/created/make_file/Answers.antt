@@ -1,6 +1,7 @@
 use Rattle.std.proofs.Common.{◌∙◌, ap}
 use Rattle.file_ops.specs.Tries.{tree_done}
 use Rattle.file_ops.proofs.Creates.{made-failed, made-missing}
+use Rattle.file_ops.proofs.Tries.{on-err, wanted-memory}
 use Rattle.file_ops.proofs.created.make_file.Goals as goal
 
 pub returns-in-NotFile-clause-ok : goal.returns-in-NotFile-clause-ok
@@ -12,3 +13,6 @@ pub returns-in-Failed-clause-ok : goal.returns-in-Failed-clause-ok
 returns-in-Failed-clause-ok g c =
     made-failed c.args.call.now.request.now c.args.flags c.args.handles.now c.args.call.now.seat c.args.made.document.now c.args.file c.args.made.node c.now-now.result _ _ c.create.result c.requires.first c.requires.missing c.create.ensures c.failed.result
     (c.in_ok-came.ensures.ok ∙ ap tree_done c.in-Failed.is) c.failed.ensures
+
+pub returns-in_err-came-clause-err : goal.returns-in_err-came-clause-err
+returns-in_err-came-clause-err g c = on-err c.from_residual.result _ (wanted-memory _ _ c.create.result _ _ c.in_err-came.ensures.err c.create.ensures)

@@ -1,5 +1,6 @@
 use Rattle.std.proofs.Common.{◌∙◌, Bool, Option, Some, ap, not, subst, sym}
 use Rattle.host_tree.specs.Trees.{Asks}
+use Rattle.host_tree.specs.declared.tree.TreeCall.TheVariants as TreeCall
 use Rattle.portal_model.specs.declared.request.NodeOp.TheVariants as NodeOp
 use Rattle.portal_model.specs.OpenDir.{open_dir}
 use Rattle.portal_model.specs.Place.{Sight}
@@ -14,7 +15,7 @@ pub returns-in_err-by_look-in-Some-clause-err : goal.returns-in_err-by_look-in-S
 returns-in_err-by_look-in-Some-clause-err g c =
     on-err c.from_residual-in_err-by_look-in-Some.result _
     (still-wants c.args.call.now.seat _ _ _ _ _ c.take_room.ensures.kept c.in_err-by_look-in-Some.ensures.err.0
-    (called-once _ _ (subst (λ (b : Bool). Asks (g.T.HostTree.is c.args.tree.now) b (g.T.HostTree.is c.look-look.new.self)) c.in_err-by_look-in-Some.ensures.err.1 c.look-look.ensures.asks)))
+    (called-once _ _ (subst (λ (b : Bool). Asks TreeCall.Look (g.T.HostTree.is c.args.tree.now) b (g.T.HostTree.is c.look-look.new.self)) c.in_err-by_look-in-Some.ensures.err.1 c.look-look.ensures.asks)))
 
 pub returns-in_ok-by_look-in-Some-clause-ok : goal.returns-in_ok-by_look-in-Some-clause-ok
 returns-in_ok-by_look-in-Some-clause-ok g c = λ s l.

@@ -3,6 +3,7 @@ use Rattle.std.proofs.lemmas.Result.{IfOk-weaker, on_err_weaker}
 use Rattle.portal_model.specs.declared.request.NodeOp.TheVariants as NodeOp
 use Rattle.node_looks.specs.Done.{Forgets}
 use Rattle.node_looks.proofs.DoneLemmas.{IsExact, tells-does}
+use Rattle.file_ops.proofs.Tries.{once-wants}
 use Rattle.file_ops.proofs.serve.serve_node.Goals as goal
 
 pub returns-in-Lookup-clause-ok : goal.returns-in-Lookup-clause-ok
@@ -39,14 +40,14 @@ returns-in-Fsync-clause-ok g c = c.fsync.ensures.ok c.in-Fsync.is c.args.book.no
 
 pub returns-in-Fsync-clause-err : goal.returns-in-Fsync-clause-err
 returns-in-Fsync-clause-err g c =
-    on_err_weaker c.fsync.result (λ called. record { handles = λ s h. h; calls = (called.0, called.2) }) c.fsync.ensures.err
+    on_err_weaker c.fsync.result (once-wants c.args.handles.now _ _) c.fsync.ensures.err
 
 pub returns-in-Read-clause-ok : goal.returns-in-Read-clause-ok
 returns-in-Read-clause-ok g c = c.read.ensures.ok c.in-Read.is
 
 pub returns-in-Read-clause-err : goal.returns-in-Read-clause-err
 returns-in-Read-clause-err g c =
-    on_err_weaker c.read.result (λ called. record { handles = λ s h. h; calls = (called.0, called.2) }) c.read.ensures.err
+    on_err_weaker c.read.result (once-wants c.args.handles.now _ _) c.read.ensures.err
 
 pub returns-in-Access-clause-ok : goal.returns-in-Access-clause-ok
 returns-in-Access-clause-ok g c =

@@ -10,7 +10,7 @@ use Rattle.portal_start.proofs.LoadedRecords.{if_ok}
 use Rattle.portal_start.proofs.start.lists_of_good.Goals as goal
 
 pub opening_loaded-requires-clause-documents : goal.opening_loaded-requires-clause-documents
-opening_loaded-requires-clause-documents c = all_sound c.args.limits.now c.args.records.documents [] c.requires.good.documents
+opening_loaded-requires-clause-documents c = all_sound c.args.records.version c.args.limits.now c.args.records.documents [] c.requires.good.documents
 
 pub opening_loaded-requires-clause-entries : goal.opening_loaded-requires-clause-entries
 opening_loaded-requires-clause-entries c = entries_right c.args.records.entries [] c.requires.good.entries

@@ -1,4 +1,3 @@
-use Rattle.std.proofs.Common.{refl}
 use Rattle.script_lines.proofs.LineFacts.{doc_line, doc_cut, doc_cut_flags, doc_cut_path, no_id, no_flags, no_path, doc_made, script_path}
 use Rattle.script_lines.proofs.line.read_doc.Goals as goal
 
@@ -21,7 +20,7 @@ returns-in_default-read_id c = λ line rules same.
 pub returns-in_default-read_flags : goal.returns-in_default-read_flags
 returns-in_default-read_flags c = λ line rules same.
     let t = doc_line c.args.rest.now line rules same in
-    c.in_default-read_flags.ensures t.reusable (doc_cut_flags c.args.rest.now _ _ _ _ t c.in-Some.ensures c.in-Some-cut.ensures).0
+    c.in_default-read_flags.ensures t.reusable t.strict (doc_cut_flags c.args.rest.now _ _ _ _ t c.in-Some.ensures c.in-Some-cut.ensures).0
 
 pub returns-in_default-2 : goal.returns-in_default-2
 returns-in_default-2 c = λ line rules same.
@@ -41,6 +40,6 @@ returns c =
     let id = c.in-Some-read_id.ensures in
     let path = rw c.in-Some-2.is at c.in_ok-path.ensures in
     let grants = rw c.in-Some-3.is at c.in_ok-grants.ensures in (
-      (id.0, rw path.0 path.1, record { plain = refl; path = rw path.0 (script_path _ path.1); grants = grants.each; rising = grants.rising }),
-      doc_made c.args.rest.now _ _ _ _ _ _ _ _ _ _ c.in-Some.ensures c.in-Some-cut.ensures c.in-Some-cut-2.ensures id.1 c.in-Some-read_flags.ensures path.0 grants.same,
+      (id.0, rw path.0 path.1, record { path = rw path.0 (script_path _ path.1); grants = grants.each; rising = grants.rising }),
+      doc_made c.args.rest.now _ _ _ _ _ _ _ _ _ _ _ c.in-Some.ensures c.in-Some-cut.ensures c.in-Some-cut-2.ensures id.1 c.in-Some-read_flags.ensures path.0 grants.same,
     )

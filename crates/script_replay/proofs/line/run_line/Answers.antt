@@ -9,7 +9,7 @@ pub returns-in-File-clause-ok : goal.returns-in-File-clause-ok
 returns-in-File-clause-ok g c = opening_runs c.args.portal.now c.args.connections.now c.args.line.now (File c.in-File.path c.in-File.content) _ c.in-File.is (λ a. (refl, refl, refl))
 
 pub returns-in-Doc-clause-ok : goal.returns-in-Doc-clause-ok
-returns-in-Doc-clause-ok g c = opening_runs c.args.portal.now c.args.connections.now c.args.line.now (Doc c.in-Doc.id c.in-Doc.reusable c.in-Doc.path c.in-Doc.grants) _ c.in-Doc.is (λ a. (refl, refl, refl))
+returns-in-Doc-clause-ok g c = opening_runs c.args.portal.now c.args.connections.now c.args.line.now (Doc c.in-Doc.id c.in-Doc.reusable c.in-Doc.strict c.in-Doc.path c.in-Doc.grants) _ c.in-Doc.is (λ a. (refl, refl, refl))
 
 pub returns-in-Now-clause-ok : goal.returns-in-Now-clause-ok
 returns-in-Now-clause-ok g c =

@@ -1,6 +1,7 @@
 use Rattle.std.proofs.Common.{◌≡◌, ◌<◌, ◌⊎◌, ◌++◌, ℕ, List, length, map, Some, ap, sym, subst, ◌∙◌}
 use Rattle.std.specs.Prelude.{slice_get, take, drop}
 use Rattle.std.proofs.lemmas.List.{length-map}
+use Rattle.portal_desk.specs.Opening.{IsOpeningState}
 use Rattle.portal_model.specs.History.{Legal, of_seat}
 use Rattle.portal_model.specs.Seated.{BeginsWith}
 use Rattle.portal_model.specs.State.{State}
@@ -64,6 +65,7 @@ returns-clause-serves g c =
     let stands : (k : ℕ) (p : Sight) → slice_get c.stand_up-passes.result.passes.items k ≡ Some p → Stands (g.S.Storied.opening c.args.story) (g.S.Storied.entries c.close-story.result) p.knows =
     λ k p at. subst (λ x. Stands (g.S.Storied.opening x) (g.S.Storied.entries c.close-story.result) p.knows) start (c.close-story.ensures.seats k p at) in
     record {
+      started = subst IsOpeningState (c.close-story.ensures.opening ∙ ap g.S.Storied.opening start) c.known.ensures.started;
       legal = subst (λ (o : State). Legal o (g.S.Storied.entries c.close-story.result)) (c.close-story.ensures.opening ∙ ap g.S.Storied.opening start) c.known.ensures.legal;
       begins = subst (λ x. BeginsWith (g.S.Storied.entries c.close-story.result) (g.S.Storied.entries x)) start c.close-story.ensures.begins;
       all_ended = as_long (λ (v : Worker g.row.R.Denot g.row.L.Denot g.row.S.Denot). v.end) c.from_vec-2.result c.work_all.new.workers c.as_mut_slice.result.now c.args.posts c.len-count.result ended did.count did.number c.len-count.ensures;

@@ -1,5 +1,6 @@
 use Rattle.std.proofs.Common.{◌≡◌, false}
-use Rattle.portal_model.specs.Seated.{Known, is_open, state_seen}
+use Rattle.portal_desk.specs.Knowing.{Known}
+use Rattle.portal_model.specs.Seated.{is_open, state_seen}
 use Rattle.session.specs.Standings.{client}
 use Rattle.worker_gate.specs.Working.{hall, sides}
 use Rattle.worker_gate.proofs.Links.{SoFar}

@@ -4,4 +4,4 @@ use Rattle.document_records.proofs.DocumentLemmas.{kept-seen}
 use Rattle.document_records.proofs.documents.Documents.room.Goals as goal
 
 pub returns-clause-kept : goal.returns-clause-kept
-returns-clause-kept c = subst AreKept c.self.view_is (kept-seen _ c.self.inside.numbers c.self.invariant)
+returns-clause-kept c = subst AreKept c.self.view_is (kept-seen _ c.self.inside.places c.self.inside.live_places c.self.invariant)

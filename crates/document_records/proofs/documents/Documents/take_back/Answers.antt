@@ -8,8 +8,9 @@ invariant_of-self c =
     let live : c.self.inside.live ≡ c.requires.before.live ++ c.requires.last ∷ [] = ap (λ (s : DocumentList). s.live) c.self.view_is ∙ ap (λ (s : DocumentList). s.live) c.requires.added in
     let made : c.self.inside.made ≡ c.requires.before.made ++ c.requires.last.id ∷ [] = ap (λ (s : DocumentList). s.made) c.self.view_is ∙ ap (λ (s : DocumentList). s.made) c.requires.added in
     let live_left : c.pop.new.self ≡ c.requires.before.live = popped c.pop.result c.self.inside.live c.pop.new.self c.requires.before.live c.requires.last c.pop.ensures live in
-    let made_left : c.pop-2.new.self ≡ c.requires.before.made = popped c.pop-2.result c.self.inside.made c.pop-2.new.self c.requires.before.made c.requires.last.id c.pop-2.ensures made in
+    let made_left : c.pop-3.new.self ≡ c.requires.before.made = popped c.pop-3.result c.self.inside.made c.pop-3.new.self c.requires.before.made c.requires.last.id c.pop-3.ensures made in
     rw (live_left, made_left)
-    (indexed-back c.self.inside.most_live c.self.inside.most_made c.requires.before.live c.requires.before.made c.self.inside.numbers c.remove.new.self c.requires.last
+    (indexed-back c.self.inside.most_live c.self.inside.most_made c.requires.before.live c.requires.before.made c.self.inside.places c.remove.new.self c.self.inside.live_places c.pop-2.new.self c.pop-2.result c.requires.last
     (rw live at (rw made at c.self.invariant))
-    (rw c.requires.number c.remove.ensures.updates.0))
+    (rw c.requires.number c.remove.ensures.updates.0)
+    c.pop-2.ensures)

@@ -16,6 +16,7 @@ use Rattle.portal_steps.proofs.CallSteps.{comes_added, entry_with, failed_device
 use Rattle.portal_steps.proofs.Boxes.{taken-empty}
 use Rattle.portal_steps.proofs.Steps.{signals-now, stored_back}
 use Rattle.portal_steps.proofs.WentDevices.{spends-add, went-add}
+use Rattle.portal_core.proofs.HeldCounts.{held_over, held_same}
 use Rattle.portal_core.proofs.portal.Portal.add.Goals as goal
 
 pub invariant_of-self-in-Ok-served : goal.invariant_of-self-in-Ok-served
@@ -42,6 +43,9 @@ invariant_of-self-in-Ok-served g c =
       omega (arith, room, count),
       both.1,
       stored_over began after.began k.opening (k.history.entries ++ entry_with c.args.seat (Request.Add c.args.add) given ∷ []) k.tables c.taken-taken.new.outboxes kept.0 stored,
+      c.self.invariant.4,
+      held_over began after.began k.opening (k.history.entries ++ entry_with c.args.seat (Request.Add c.args.add) given ∷ []) k.counts.counts kept.0
+          (held_same (opened_over began k.opening) k.history.entries (entry_with c.args.seat (Request.Add c.args.add) given) k.counts.counts (λ answer held. refl) c.self.invariant.5),
     )
 
 pub give_back-requires : goal.give_back-requires
@@ -64,6 +68,8 @@ invariant_of-self-in-Err g c =
       stored_over tree.began after.began k.opening k.history.entries k.tables c.give_back.new.self kept.0
           (stored_back tree.began k.opening k.history.entries k.history.limit k.documents k.rights k.applications k.connections k.handles tree.told c.self.invariant.0 c.args.seat k.tables k.outboxes c.taken-taken.new.outboxes c.taken-taken.new.outboxes c.give_back.new.self c.in-Ok.signals
           c.in-Ok.ensures.rest (λ s. refl) c.in-Ok.ensures.signals c.give_back.ensures c.self.invariant.3),
+      c.self.invariant.4,
+      held_over tree.began after.began k.opening k.history.entries k.counts.counts kept.0 c.self.invariant.5,
     )
 
 pub returns-in-Ok-served-clause-began : goal.returns-in-Ok-served-clause-began

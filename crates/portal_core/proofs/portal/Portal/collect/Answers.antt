@@ -8,6 +8,8 @@ use Rattle.portal_steps.specs.Story.{state_now}
 use Rattle.portal_steps.proofs.Steps.{collect_answered, keeps-collected, stands_collected, stored_collected}
 use Rattle.portal_steps.proofs.NodeSteps.{alike-same}
 use Rattle.portal_steps.proofs.WentDevices.{went-plain}
+use Rattle.portal_model.specs.Opening.{opened_over}
+use Rattle.portal_core.proofs.HeldCounts.{held_same}
 use Rattle.portal_core.proofs.portal.Portal.collect.Goals as goal
 
 pub invariant_of-self-2 : goal.invariant_of-self-2
@@ -19,6 +21,8 @@ invariant_of-self-2 g c =
       omega (arith, room),
       keeps-collected (g.T.HostTree.is c.self.inside.tree).began c.self.inside.opening c.self.inside.history.entries c.self.inside.history.limit c.self.inside.documents c.self.inside.rights c.self.inside.applications c.self.inside.connections c.self.inside.handles (g.T.HostTree.is c.self.inside.tree).told c.self.invariant.0 c.args.seat (g.K.Keeper.is c.self.inside.keeper).told c.self.invariant.2,
       stored_collected (g.T.HostTree.is c.self.inside.tree).began c.self.inside.opening c.self.inside.history.entries c.self.inside.history.limit c.self.inside.documents c.self.inside.rights c.self.inside.applications c.self.inside.connections c.self.inside.handles (g.T.HostTree.is c.self.inside.tree).told c.self.invariant.0 c.args.seat c.self.inside.tables c.self.inside.outboxes c.taken.new.outboxes c.in_ok-signals.ensures.rest c.self.invariant.3,
+      c.self.invariant.4,
+      held_same (opened_over (g.T.HostTree.is c.self.inside.tree).began c.self.inside.opening) c.self.inside.history.entries (entry_of c.args.seat Request.Collect [] Fault.None) c.self.inside.counts.counts (λ answer held. refl) c.self.invariant.5,
     )
 
 pub returns-clause-ok : goal.returns-clause-ok

@@ -14,6 +14,7 @@ use Rattle.portal_steps.proofs.NodeSteps.{alike-same, call-off-nodes}
 use Rattle.portal_steps.proofs.Boxes.{taken-empty}
 use Rattle.portal_steps.proofs.Steps.{signals-now, stored_back}
 use Rattle.portal_steps.proofs.WentDevices.{went-call}
+use Rattle.portal_core.proofs.HeldCounts.{held_same, uncounted}
 use Rattle.portal_core.proofs.portal.Portal.document.Goals as goal
 
 pub invariant_of-self-in-Ok-served : goal.invariant_of-self-in-Ok-served
@@ -37,6 +38,8 @@ invariant_of-self-in-Ok-served g c =
           (g.K.Keeper.is k.keeper) (g.K.Keeper.is served.keeper) came,
       stored_served began k.opening k.history.entries k.history.limit k.documents k.rights k.applications k.connections k.handles told c.self.invariant.0 served.documents served.rights served.applications served.connections c.args.seat c.args.request c.in-Ok-served.field-0.given c.in-Ok.signals c.in-Ok-served.field-0.answer
           (g.K.Keeper.is k.keeper) (g.K.Keeper.is served.keeper) k.tables k.outboxes c.taken-taken.new.outboxes came c.in-Ok.ensures.rest c.self.invariant.3,
+      c.self.invariant.4,
+      held_same (opened_over began k.opening) k.history.entries (entry_with c.args.seat c.args.request c.in-Ok-served.field-0.given) k.counts.counts (λ answer held. uncounted c.args.request c.args.seat answer held c.requires.call) c.self.invariant.5,
     )
 
 pub give_back-requires : goal.give_back-requires
@@ -55,6 +58,8 @@ invariant_of-self-in-Err g c =
       c.self.invariant.2,
       stored_back tree.began k.opening k.history.entries k.history.limit k.documents k.rights k.applications k.connections k.handles tree.told c.self.invariant.0 c.args.seat k.tables k.outboxes c.taken-taken.new.outboxes c.taken-taken.new.outboxes c.give_back.new.self c.in-Ok.signals
           c.in-Ok.ensures.rest (λ s. refl) c.in-Ok.ensures.signals c.give_back.ensures c.self.invariant.3,
+      c.self.invariant.4,
+      c.self.invariant.5,
     )
 
 pub returns-in-Ok-served-clause-ok : goal.returns-in-Ok-served-clause-ok

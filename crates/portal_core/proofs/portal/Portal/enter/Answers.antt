@@ -11,6 +11,8 @@ use Rattle.portal_steps.specs.Story.{state_now}
 use Rattle.portal_steps.proofs.Steps.{closed, keeps-entered, new_replied, stands_new, stands_there, stored_new, stored_there, there_replied, unheard}
 use Rattle.portal_steps.proofs.NodeSteps.{alike-same}
 use Rattle.portal_steps.proofs.WentDevices.{went-plain}
+use Rattle.portal_model.specs.Opening.{opened_over}
+use Rattle.portal_core.proofs.HeldCounts.{held_same}
 use Rattle.portal_core.proofs.portal.Portal.enter.Goals as goal
 
 pub invariant_of-self-then-is_here : goal.invariant_of-self-then-is_here
@@ -22,6 +24,8 @@ invariant_of-self-then-is_here g c =
       omega (arith, room),
       keeps-entered (g.T.HostTree.is c.self.inside.tree).began c.self.inside.opening c.self.inside.history.entries c.self.inside.history.limit c.self.inside.documents c.self.inside.rights c.self.inside.applications c.self.inside.connections c.self.inside.handles (g.T.HostTree.is c.self.inside.tree).told c.self.invariant.0 c.args.seat c.args.who c.args.kind (g.K.Keeper.is c.self.inside.keeper).told c.self.invariant.2,
       stored_there (g.T.HostTree.is c.self.inside.tree).began c.self.inside.opening c.self.inside.history.entries c.self.inside.history.limit c.self.inside.documents c.self.inside.rights c.self.inside.applications c.self.inside.connections c.self.inside.handles (g.T.HostTree.is c.self.inside.tree).told c.self.invariant.0 c.args.seat c.args.who c.args.kind c.self.inside.tables c.self.inside.outboxes (search rules) c.self.invariant.3,
+      c.self.invariant.4,
+      held_same (opened_over (g.T.HostTree.is c.self.inside.tree).began c.self.inside.opening) c.self.inside.history.entries (entry_of c.args.seat (Request.Enter c.args.who c.args.kind) [] Fault.None) c.self.inside.counts.counts (λ answer held. refl) c.self.invariant.5,
     )
 
 pub invariant_of-self-2 : goal.invariant_of-self-2
@@ -33,6 +37,8 @@ invariant_of-self-2 g c =
       rw (length-append c.self.inside.connections (new_connection c.args.seat c.args.who c.args.kind ∷ [])) (omega (arith, room)),
       keeps-entered (g.T.HostTree.is c.self.inside.tree).began c.self.inside.opening c.self.inside.history.entries c.self.inside.history.limit c.self.inside.documents c.self.inside.rights c.self.inside.applications c.self.inside.connections c.self.inside.handles (g.T.HostTree.is c.self.inside.tree).told c.self.invariant.0 c.args.seat c.args.who c.args.kind (g.K.Keeper.is c.self.inside.keeper).told c.self.invariant.2,
       stored_new (g.T.HostTree.is c.self.inside.tree).began c.self.inside.opening c.self.inside.history.entries c.self.inside.history.limit c.self.inside.documents c.self.inside.rights c.self.inside.applications c.self.inside.connections c.self.inside.handles (g.T.HostTree.is c.self.inside.tree).told c.self.invariant.0 c.args.seat c.args.who c.args.kind c.self.inside.tables c.self.inside.outboxes c.enter.new.outboxes (search rules) (rw (c.opened_connection.ensures) at c.in_ok-enter.ensures.heard) c.self.invariant.3,
+      c.self.invariant.4,
+      held_same (opened_over (g.T.HostTree.is c.self.inside.tree).began c.self.inside.opening) c.self.inside.history.entries (entry_of c.args.seat (Request.Enter c.args.who c.args.kind) [] Fault.None) c.self.inside.counts.counts (λ answer held. refl) c.self.invariant.5,
     )
 
 pub enter-requires-clause-outboxes : goal.enter-requires-clause-outboxes
@@ -55,6 +61,8 @@ invariant_of-self-in_err-enter g c =
       omega (arith, room),
       c.self.invariant.2,
       record { stored = st.stored; waiting = λ q. boxes q ∙ st.waiting q },
+      c.self.invariant.4,
+      c.self.invariant.5,
     )
 
 pub returns-then-is_here-clause-ok : goal.returns-then-is_here-clause-ok

@@ -1,8 +1,12 @@
-use Rattle.std.proofs.Common.{subst}
+use Rattle.std.proofs.Common.{None, subst}
+use Rattle.portal_desk.proofs.Openings.{opens-over}
 use Rattle.portal_model.proofs.ValidLaws.{run-Valid}
 use Rattle.portal_model.specs.History.{Legal}
 use Rattle.portal_steps.specs.Story.{state_first}
 use Rattle.portal_core.proofs.portal.Portal.known.Goals as goal
+
+pub returns-clause-started : goal.returns-clause-started
+returns-clause-started g c = rw (← c.self.view_is) (opens-over None (g.T.HostTree.is c.self.inside.tree).began c.self.inside.opening c.self.invariant.4 c.known.ensures.began)
 
 pub returns-clause-valid : goal.returns-clause-valid
 returns-clause-valid g c = run-Valid c.args.self.now.story.history (state_first c.args.self.now.story) (rw (← c.self.view_is) c.self.invariant.0.legal)

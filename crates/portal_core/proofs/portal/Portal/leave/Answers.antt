@@ -11,6 +11,8 @@ use Rattle.portal_steps.specs.Story.{state_now}
 use Rattle.portal_steps.proofs.Steps.{absent_closed, absent_replied, fewer_others, keeps-left, left_replied, stands_absent, stands_left, stored_absent, stored_left}
 use Rattle.portal_steps.proofs.NodeSteps.{alike-same}
 use Rattle.portal_steps.proofs.WentDevices.{went-plain}
+use Rattle.portal_model.specs.Opening.{opened_over}
+use Rattle.portal_core.proofs.HeldCounts.{held_left}
 use Rattle.portal_core.proofs.portal.Portal.leave.Goals as goal
 
 pub invariant_of-self-then-not-is_here : goal.invariant_of-self-then-not-is_here
@@ -22,6 +24,8 @@ invariant_of-self-then-not-is_here g c =
       omega (arith, room),
       keeps-left (g.T.HostTree.is c.self.inside.tree).began c.self.inside.opening c.self.inside.history.entries c.self.inside.history.limit c.self.inside.documents c.self.inside.rights c.self.inside.applications c.self.inside.connections c.self.inside.handles (g.T.HostTree.is c.self.inside.tree).told c.self.invariant.0 c.args.seat (g.K.Keeper.is c.self.inside.keeper).told c.self.invariant.2,
       stored_absent (g.T.HostTree.is c.self.inside.tree).began c.self.inside.opening c.self.inside.history.entries c.self.inside.history.limit c.self.inside.documents c.self.inside.rights c.self.inside.applications c.self.inside.connections c.self.inside.handles (g.T.HostTree.is c.self.inside.tree).told c.self.invariant.0 c.args.seat c.self.inside.tables c.self.inside.outboxes (search rules) c.self.invariant.3,
+      c.self.invariant.4,
+      held_left (opened_over (g.T.HostTree.is c.self.inside.tree).began c.self.inside.opening) c.self.inside.history.entries (entry_of c.args.seat Request.Leave [] Fault.None) (Answer.Refused Code.NotHere) c.self.inside.counts.counts c.self.inside.counts.counts refl (absent_replied (g.T.HostTree.is c.self.inside.tree).began c.self.inside.opening c.self.inside.history.entries c.self.inside.history.limit c.self.inside.documents c.self.inside.rights c.self.inside.applications c.self.inside.connections c.self.inside.handles (g.T.HostTree.is c.self.inside.tree).told c.self.invariant.0 c.args.seat (search rules)) (λ q n. refl) c.self.invariant.5,
     )
 
 pub invariant_of-self-2 : goal.invariant_of-self-2
@@ -33,6 +37,8 @@ invariant_of-self-2 g c =
       omega (arith, c.self.invariant.1),
       keeps-left (g.T.HostTree.is c.self.inside.tree).began c.self.inside.opening c.self.inside.history.entries c.self.inside.history.limit c.self.inside.documents c.self.inside.rights c.self.inside.applications c.self.inside.connections c.self.inside.handles (g.T.HostTree.is c.self.inside.tree).told c.self.invariant.0 c.args.seat (g.K.Keeper.is c.self.inside.keeper).told c.self.invariant.2,
       stored_left (g.T.HostTree.is c.self.inside.tree).began c.self.inside.opening c.self.inside.history.entries c.self.inside.history.limit c.self.inside.documents c.self.inside.rights c.self.inside.applications c.self.inside.connections c.self.inside.handles (g.T.HostTree.is c.self.inside.tree).told c.self.invariant.0 c.args.seat c.self.inside.tables c.self.inside.outboxes c.leave-3.new.self here c.leave-3.ensures c.self.invariant.3,
+      c.self.invariant.4,
+      held_left (opened_over (g.T.HostTree.is c.self.inside.tree).began c.self.inside.opening) c.self.inside.history.entries (entry_of c.args.seat Request.Leave [] Fault.None) Answer.Done c.self.inside.counts.counts c.leave-2.new.self.counts refl (left_replied (g.T.HostTree.is c.self.inside.tree).began c.self.inside.opening c.self.inside.history.entries c.self.inside.history.limit c.self.inside.documents c.self.inside.rights c.self.inside.applications c.self.inside.connections c.self.inside.handles (g.T.HostTree.is c.self.inside.tree).told c.self.invariant.0 c.args.seat here) c.leave-2.ensures.counts c.self.invariant.5,
     )
 
 pub returns-then-not-is_here-clause-ok : goal.returns-then-not-is_here-clause-ok

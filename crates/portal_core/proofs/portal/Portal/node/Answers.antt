@@ -1,4 +1,4 @@
-use Rattle.std.proofs.Common.{◌≡◌, ◌≢◌, ◌≤◌, ◌+◌, ◌∷◌, ◌++◌, [], ap, arith, refl, rules, sym, ◌∙◌}
+use Rattle.std.proofs.Common.{◌≡◌, ◌≢◌, ◌≤◌, ◌+◌, ℕ, List, ◌∷◌, ◌++◌, [], ap, arith, refl, rules, subst, sym, ◌∙◌}
 use Rattle.node_looks.specs.Done.{Reads}
 use Rattle.node_looks.specs.Served.{given_to}
 use Rattle.node_serving.specs.Seats.{seat_calls, seat_step}
@@ -20,6 +20,9 @@ use Rattle.portal_steps.proofs.NodeSteps.{calls-keep, never-kept, replied-node, 
 use Rattle.portal_steps.proofs.QuietNodes.{quiet}
 use Rattle.portal_steps.proofs.Steps.{entered-now, keeps-node, lawful_node, loud-served, served_in, stands_node, stands_wanting, stored_node}
 use Rattle.portal_steps.proofs.WentDevices.{same-portal, spends-node, went-node}
+use Rattle.portal_core.proofs.HeldCounts.{held_node, held_over}
+use Rattle.portal_core.specs.LookUps.{AreHeld}
+use Rattle.inode_table.specs.declared.inodes.SeatNode.{SeatNode}
 use Rattle.portal_core.proofs.portal.Portal.node.Goals as goal
 
 pub serve-served-requires : goal.serve-served-requires
@@ -43,6 +46,7 @@ invariant_of-self-in-Ok g c =
     let stands = stands_node tree.began k.opening k.history.entries k.history.limit k.documents k.rights k.applications k.connections k.handles tree.told c.self.invariant.0 c.args.seat c.args.request tree done new.connections new.handles after s fits in
     let keeps = keeps-node tree.began k.opening k.history.entries k.history.limit k.documents k.rights k.applications k.connections k.handles tree.told c.self.invariant.0 c.args.seat c.args.request tree done new.connections new.handles after s (g.K.Keeper.is k.keeper).told c.self.invariant.2 in
     let kept = calls-keep tree (seat_calls (quiet at) c.args.seat c.args.request (given_to done)) after.told after s.calls in
+    let loud = loud-served tree.began k.opening k.history.entries k.history.limit k.documents k.rights k.applications k.connections k.handles tree.told c.self.invariant.0 c.args.seat c.args.request tree done new.connections new.handles after s in
     let both = stands_over tree.began after.began k.opening (k.history.entries ++ node_entry c.args.seat c.args.request done ∷ []) k.history.limit k.documents k.rights k.applications new.connections new.handles after.told after.told (g.K.Keeper.is k.keeper).told kept refl stands keeps in
     rw (c.push.ensures, c.in_ok-make_room.ensures.entries, c.in_ok-make_room.ensures.limit, c.node_entry-entry.ensures) (
       both.0,
@@ -50,6 +54,9 @@ invariant_of-self-in-Ok g c =
       both.1,
       stored_over tree.began after.began k.opening (k.history.entries ++ node_entry c.args.seat c.args.request done ∷ []) k.tables k.outboxes kept
           (stored_node tree.began k.opening k.history.entries k.history.limit k.documents k.rights k.applications k.connections k.handles tree.told c.self.invariant.0 c.args.seat c.args.request tree done new.connections new.handles after s k.tables k.outboxes c.self.invariant.3),
+      c.self.invariant.4,
+      held_over tree.began after.began k.opening (k.history.entries ++ node_entry c.args.seat c.args.request done ∷ []) new.counts.counts kept
+          (held_node (opened_over tree.began k.opening) k.history.entries (node_entry c.args.seat c.args.request done) c.args.request done.answer at.told k.counts.counts new.counts.counts refl c.in-Ok.ensures.counts loud.serves.reply c.self.invariant.5),
     )
 
 pub invariant_of-self-in-Err : goal.invariant_of-self-in-Err
@@ -66,6 +73,9 @@ invariant_of-self-in-Err g c =
       omega (arith, room),
       both.1,
       stored_over tree.began after.began k.opening k.history.entries k.tables k.outboxes kept.0 c.self.invariant.3,
+      c.self.invariant.4,
+      held_over tree.began after.began k.opening k.history.entries c.serve-served.new.counts.counts kept.0
+          (subst (λ (counts : List (SeatNode × ℕ)). AreHeld (opened_over tree.began k.opening) k.history.entries counts) (sym c.in-Err.ensures.kept) c.self.invariant.5),
     )
 
 pub returns-in-Ok-clause-ok : goal.returns-in-Ok-clause-ok
@@ -89,7 +99,7 @@ returns-in-Ok-clause-ok g c =
     rw (← c.self.view_is) (replied-node (opened_over tree.began k.opening).told at c.args.seat c.args.request tree done (seat_step at c.args.seat c.args.request (given_to done)).0.connections new.handles after (told-on k.history.entries (opened_over tree.began k.opening)) loud.serves) in
     let calling : Calling (g.T.HostTree.is c.args.self.now.tree) (entry_calls (state_now c.args.self.now.story) made) after.told after = rw (← c.self.view_is) loud.serves.calls in
     let kept_not : made.given.fault ≢ Fault.Keeper = never-kept _ c.args.request made.given _ loud.serves.lawful in
-    let moment : Reads g.C.Clock.told c.args.self.now.clock made.given.now new.clock = rw (← c.self.view_is) c.in-Ok.ensures.clock in
+    let moment : Reads g.C.Clock.reads c.args.self.now.clock made.given.now new.clock = rw (← c.self.view_is) c.in-Ok.ensures.clock in
     record {
       entry = c.node_entry-entry.result.0;
       grown = search rules;

@@ -1,6 +1,8 @@
-use Rattle.std.proofs.Common.{ap, arith, sym}
+use Rattle.std.proofs.Common.{ℕ, List, ap, arith, sym}
 use Rattle.change_signals.specs.Unsent.{Boxes, unsent_on}
 use Rattle.portal_core.proofs.Beginning.{stands_first}
+use Rattle.inode_table.specs.Counts.{count_of}
+use Rattle.inode_table.specs.declared.inodes.SeatNode.{SeatNode}
 use Rattle.portal_core.proofs.portal.Portal.over.Goals as goal
 
 pub invariant_of-result : goal.invariant_of-result
@@ -14,4 +16,6 @@ invariant_of-result g c =
       omega arith,
       c.requires.kept,
       record { stored = sym are.tables; waiting = λ q. ap (λ (boxes : Boxes). unsent_on boxes q) c.new.ensures },
+      c.requires.started,
+      λ seat node. ap (λ (counts : List (SeatNode × ℕ)). count_of counts seat node) c.new-3.ensures,
     )

@@ -15,6 +15,7 @@ use Rattle.portal_steps.proofs.NodeSteps.{alike-same}
 use Rattle.portal_steps.proofs.Steps.{signals-now, stored_back}
 use Rattle.portal_steps.proofs.StoredCalls.{keeping_stored, keeps_stored, stands_stored, stored_stored, stores}
 use Rattle.portal_steps.proofs.WentDevices.{went-call}
+use Rattle.portal_core.proofs.HeldCounts.{held_same}
 use Rattle.portal_core.proofs.portal.Portal.store.Goals as goal
 
 pub invariant_of-self-in-Ok-served : goal.invariant_of-self-in-Ok-served
@@ -39,6 +40,8 @@ invariant_of-self-in-Ok-served g c =
       omega (arith, room),
       keeps_stored began k.opening k.history.entries k.history.limit k.documents k.rights k.applications k.connections k.handles told c.self.invariant.0 c.args.seat c.args.call k.tables new.tables k.outboxes taken new.outboxes signals old_keeper new_keeper served came,
       stored_stored began k.opening k.history.entries k.history.limit k.documents k.rights k.applications k.connections k.handles told c.self.invariant.0 c.args.seat c.args.call k.tables new.tables k.outboxes taken new.outboxes signals old_keeper new_keeper served came,
+      c.self.invariant.4,
+      held_same (opened_over began k.opening) k.history.entries (entry_with c.args.seat (Request.Store c.args.call) served.given) k.counts.counts (λ answer held. refl) c.self.invariant.5,
     )
 
 pub give_back-requires : goal.give_back-requires
@@ -57,6 +60,8 @@ invariant_of-self-in-Err g c =
       c.self.invariant.2,
       stored_back tree.began k.opening k.history.entries k.history.limit k.documents k.rights k.applications k.connections k.handles tree.told c.self.invariant.0 c.args.seat k.tables k.outboxes c.taken-taken.new.outboxes new.outboxes c.give_back.new.self c.in-Ok.signals
           c.in-Ok.ensures.rest c.in-Err.ensures.outboxes c.in-Ok.ensures.signals c.give_back.ensures c.self.invariant.3,
+      c.self.invariant.4,
+      c.self.invariant.5,
     )
 
 pub returns-in-Ok-served-clause-ok : goal.returns-in-Ok-served-clause-ok

@@ -1,0 +1,234 @@
+//! Whose file a path leads to, seen before SQLite opens it.
+//!
+//! SQLite makes a log beside a file that it opens, and takes a file of one byte for one that
+//! it may write over. So a file that holds no records is found out first, and only read.
+
+use crate::log::{FirstPage, Log};
+use memchr::memmem;
+use os::RangeLock;
+use sqlite::{Connection, Error, ErrorCode, File as DatabaseFile, FileStore};
+use sqlite_tables::earlier::EARLIER_TABLES;
+use sqlite_tables::fault::DatabaseFault;
+use sqlite_tables::tables::TABLES;
+use std::alloc::Global;
+use std::fs::{self, File, Metadata, OpenOptions};
+use std::io::{self, ErrorKind};
+use std::os::fd::AsRawFd;
+use std::os::unix::fs::{FileExt, MetadataExt, OpenOptionsExt};
+use std::path::PathBuf;
+
+/// Only the owner may read and write a database that is made; its log has its mode.
+const OWNERS_MODE: u32 = 0o600;
+
+/// What a SQLite database begins with (Database File Format, "The Database Header").
+const MAGIC: &[u8] = b"SQLite format 3\0";
+
+/// Where its header tells how long a page is, in two bytes, and the end of the word there.
+const PAGE_SIZE: usize = 16;
+
+const PAGE_SIZE_END: usize = 20;
+
+/// How long a log is, in bytes, in which nothing is committed.
+const BARE_LOG_LEN: u64 = 32;
+
+/// The bytes that a process locks that has a database open (Database File Format, "The
+/// Lock-Byte Page").
+const LOCK_BYTES: (u64, u64) = (1 << 30, 512);
+
+/// Opens the database of a path. Where nothing stands there its file is made.
+pub(crate) fn open_database(
+    rt: &HostRuntime,
+    path: &str,
+) -> Result<Connection<FileStore<DatabaseFile>>, DatabaseFault> {
+    let alone = ready_file(rt, path)?;
+    // A commit is synced once, as SQLite's WAL with synchronous FULL does, on the premise that a
+    // torn write leaves each byte old or new. To take no such premise would sync twice.
+    match Connection::open(rt, path) {
+        Ok(conn) => Ok(conn),
+        Err(error) => {
+            if let Some(real) = alone {
+                // What the database is refused for is told, whatever comes of its log.
+                let _ = remove_bare_log(rt, real.as_str());
+            }
+            Err(DatabaseFault::from(error))
+        }
+    }
+}
+
+/// Makes sure that a path leads to a file of records, or to an empty one: to which, where it
+/// has no log beside it.
+fn ready_file(rt: &HostRuntime, path: &str) -> Result<Option<PathBuf>, DatabaseFault> {
+    let real = match fs::canonicalize(rt, path) {
+        Ok(real) => real,
+        Err(error) if error.kind() == ErrorKind::NotFound => {
+            make_file(rt, path)?;
+            return Ok(None);
+        }
+        Err(error) => return Err(unusable(&error)),
+    };
+    see_file(rt, real.as_str())?;
+    let log = log_beside(rt, real.as_str())?;
+    if met(fs::exists(rt, log.as_str()))? {
+        Ok(None)
+    } else {
+        Ok(Some(real))
+    }
+}
+
+/// Where the log of a database stands.
+pub(crate) fn log_beside(rt: &HostRuntime, path: &str) -> Result<String, DatabaseFault> {
+    Ok(format!(in rt.alloc(); "{path}-wal")?)
+}
+
+/// Removes the log that SQLite began beside a file that it then refused.
+fn remove_bare_log(rt: &HostRuntime, path: &str) -> Result<(), DatabaseFault> {
+    // Nobody else opens the database in the meantime, since the file is locked until it is let go.
+    let file = met(fs::open(rt, path))?;
+    if is_in_use(&file) {
+        return Ok(());
+    }
+    let log = log_beside(rt, path)?;
+    match fs::symlink_metadata(rt, log.as_str()) {
+        Ok(found) if found.is_file() && found.len() <= BARE_LOG_LEN => {
+            met(fs::remove_file(rt, log.as_str()))
+        }
+        _ => Ok(()),
+    }
+}
+
+/// What is met where the system refuses a call on the file.
+pub(crate) fn unusable(error: &io::Error) -> DatabaseFault {
+    match error.kind() {
+        ErrorKind::OutOfMemory => DatabaseFault::Memory,
+        kind => DatabaseFault::File(kind),
+    }
+}
+
+/// Makes an empty file.
+fn make_file(rt: &HostRuntime, path: &str) -> Result<(), DatabaseFault> {
+    let made = OpenOptions::new()
+        .write(true)
+        .create_new(true)
+        .mode(OWNERS_MODE)
+        .open(rt, path);
+    match made {
+        Ok(_) => Ok(()),
+        // A link that leads nowhere.
+        Err(error) if error.kind() == ErrorKind::AlreadyExists => Err(DatabaseFault::NoFile),
+        Err(error) => Err(unusable(&error)),
+    }
+}
+
+/// Sees that a file has one name, isn't in use, and is empty or a file of records.
+fn see_file(rt: &HostRuntime, path: &str) -> Result<(), DatabaseFault> {
+    let found = met(fs::symlink_metadata(rt, path))?;
+    if !found.is_file() {
+        return Err(DatabaseFault::NoFile);
+    }
+    if found.nlink() != 1 {
+        return Err(DatabaseFault::Linked);
+    }
+    let file = met(fs::open(rt, path))?;
+    if is_in_use(&file) {
+        return Err(DatabaseFault::Sqlite(Error::SqliteFailure(ErrorCode::DatabaseBusy)));
+    }
+    if length_of(&file)? == 0 || is_of_records(rt, path, &file)? {
+        Ok(())
+    } else {
+        Err(DatabaseFault::Foreign)
+    }
+}
+
+/// The answer of the system, or what is met.
+pub(crate) fn met<T>(answer: io::Result<T>) -> Result<T, DatabaseFault> {
+    match answer {
+        Ok(value) => Ok(value),
+        Err(error) => Err(unusable(&error)),
+    }
+}
+
+/// The length of a file.
+pub(crate) fn length_of(file: &File) -> Result<u64, DatabaseFault> {
+    let found: Metadata = met(file.metadata())?;
+    Ok(found.len())
+}
+
+/// Whether another process has the database open.
+fn is_in_use(file: &File) -> bool {
+    let (start, length) = LOCK_BYTES;
+    if os::try_lock_range(file.as_raw_fd(), RangeLock::Shared, start, length) == 0 {
+        return false;
+    }
+    io::Error::from_raw_os_error(os::errno()).kind() == ErrorKind::WouldBlock
+}
+
+/// Whether a file that isn't empty has the tables of records, or was left by one who was
+/// about to make them.
+fn is_of_records(rt: &HostRuntime, path: &str, file: &File) -> Result<bool, DatabaseFault> {
+    let alloc = rt.alloc();
+    if let Some(page) = first_page(alloc, file)?
+        && has_tables(page.as_slice())
+    {
+        return Ok(true);
+    }
+    // What was committed last may stand in the log alone.
+    let Some(log) = Log::beside(rt, path)? else {
+        return Ok(false);
+    };
+    match log.first_page(alloc)? {
+        FirstPage::OfRecords => Ok(true),
+        FirstPage::OfOthers => Ok(false),
+        FirstPage::Missing => Ok(log.begins_a_file_of(length_of(file)?)),
+    }
+}
+
+/// The first page of a database, which lists its tables.
+fn first_page(alloc: Global, file: &File) -> Result<Option<Vec<u8>>, DatabaseFault> {
+    let Some(header) = bytes_from(alloc, file, 0, PAGE_SIZE_END)? else {
+        return Ok(None);
+    };
+    if !header.as_slice().starts_with(MAGIC) {
+        return Ok(None);
+    }
+    let size = match word_at(header.as_slice(), PAGE_SIZE) / 65536 {
+        1 => 65536,
+        size => size as usize,
+    };
+    bytes_from(alloc, file, 0, size)
+}
+
+/// The word at an offset, its highest byte first; 0 where there is none.
+pub(crate) fn word_at(bytes: &[u8], at: usize) -> u32 {
+    match bytes.get(at..) {
+        Some([a, b, c, d, ..]) => u32::from_be_bytes([*a, *b, *c, *d]),
+        _ => 0,
+    }
+}
+
+/// So many bytes of a file from an offset on, or none where it ends before them.
+pub(crate) fn bytes_from(
+    alloc: Global,
+    file: &File,
+    offset: u64,
+    count: usize,
+) -> Result<Option<Vec<u8>>, DatabaseFault> {
+    let mut bytes = Vec::new(alloc);
+    bytes.resize(count, 0)?;
+    match file.read_exact_at(bytes.as_mut_slice(), offset) {
+        Ok(()) => Ok(Some(bytes)),
+        Err(error) if error.kind() == ErrorKind::UnexpectedEof => Ok(None),
+        Err(error) => Err(unusable(&error)),
+    }
+}
+
+/// Whether a first page lists the tables of records, of either version.
+pub(crate) fn has_tables(page: &[u8]) -> bool {
+    has_each(page, &TABLES) || has_each(page, &EARLIER_TABLES)
+}
+
+/// Whether each of the texts stands in a page.
+fn has_each(page: &[u8], texts: &[&str]) -> bool {
+    texts
+        .iter()
+        .all(|text| memmem::find(page, text.as_bytes()).is_some())
+}

@@ -1,7 +1,0 @@
-use Rattle.std.proofs.Common.{◌≡◌, ◌+◌, ◌*◌, length, take}
-use Rattle.serve_command.specs.Sockets.{sockets_in}
-use Rattle.serve_command.proofs.sockets.sockets_of.Given as goal
-
-abbrev pub invariant-loop-app : goal.invariant-loop-app
-invariant-loop-app l = (l.sockets ≡ sockets_in l.folder (take l.app-index l.apps))
-    × (length l.sockets ≡ 2 + 2 * l.app-index)
