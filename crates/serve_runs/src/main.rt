@@ -11,7 +11,9 @@
 //!   its own; the first at its second request until the other has answered; and
 //!   the second so;
 //! - a bus of the host is served whose message comes only once the handshake is
-//!   answered.
+//!   answered;
+//! - ten services are started over openers in memory: one is served, eight are refused an
+//!   opening each, and the keeper of one can't load its records.
 //!
 //! A `serve` whose workers run one after another lets a hold run out; one that
 //! hands links back unread answers none; a session that reads its input to the end
@@ -26,16 +28,22 @@ mod hold;
 mod links;
 mod posts;
 mod served;
+mod starts;
 mod told;
 mod turns;
 mod two;
 
 use crate::hold::Hold;
 use crate::served::served;
+use crate::starts::started;
 use crate::turns::{TurnRun, turns};
+use serve_start::in_memory::Opening;
 use std::alloc::{AllocError, Global};
 use std::io;
 use vector_lines::error::VectorError;
+
+/// A script by which the keeper's first call fails, which loads the records.
+const NO_LOAD: &[u8] = b"fail keeper 1\n";
 
 fn main(rt: HostRuntime) -> io::Result<()> {
     for run in [TurnRun::Held, TurnRun::Crowd] {
@@ -52,7 +60,22 @@ fn main(rt: HostRuntime) -> io::Result<()> {
         let text = shown(rt.alloc(), served(&rt, rt.alloc(), hold))?;
         println!(rt; "{text}")?;
     }
-    Ok(())
+    for refused in [
+        None,
+        Some(Opening::Files),
+        Some(Opening::Threads),
+        Some(Opening::Root),
+        Some(Opening::Seed),
+        Some(Opening::Sockets),
+        Some(Opening::Store),
+        Some(Opening::Listener),
+        Some(Opening::Close),
+    ] {
+        let text = shown(rt.alloc(), started(&rt, rt.alloc(), b"", refused))?;
+        println!(rt; "{refused:?} refused: {text}")?;
+    }
+    let text = shown(rt.alloc(), started(&rt, rt.alloc(), NO_LOAD, None))?;
+    println!(rt; "no load: {text}")
 }
 
 /// What a run told, or why it didn't end.
