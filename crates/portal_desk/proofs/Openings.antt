@@ -1,40 +1,58 @@
 -- Opening states, over whatever files.
-use Rattle.std.specs.Prelude.{IfSome}
-use Rattle.std.proofs.Common.{◌≡◌, List, [], ◌∷◌, map, true, Option, Some, None, refl, sym, ap, ◌∙◌}
+use Rattle.std.specs.Prelude.{IfSome, ◌&&◌, is_some}
+use Rattle.std.proofs.Common.{◌≡◌, List, [], ◌∷◌, Bool, true, false, Option, Some, None, refl, subst}
 use Rattle.std.specs.List.{list_all}
 use Rattle.portal_base.specs.Content.{IsTree}
 use Rattle.portal_base.specs.declared.files.File.{File}
-use Rattle.portal_base.specs.declared.names.doc_id.DocId.{DocId}
-use Rattle.portal_model.specs.declared.opening.OpeningDocument.{OpeningDocument}
+use Rattle.portal_model.specs.declared.handle.OpenHandle.{OpenHandle}
 use Rattle.portal_model.specs.declared.opening.OpeningState.{OpeningState}
-use Rattle.portal_model.specs.declared.state.Document.{Document}
-use Rattle.portal_model.specs.Opening.{document_kept, each, files_of, first_named, id_of, is_told, names_kept, opened_over}
+use Rattle.portal_model.specs.declared.state.Connection.{Connection}
+use Rattle.portal_model.specs.declared.state.Triple.{Triple}
+use Rattle.portal_model.specs.Opening.{files_of, is_told, opened_over}
 use Rattle.portal_model.specs.Rows.{are_rows}
+use Rattle.portal_model.specs.State.{State, document_of}
+use Rattle.portal_model.specs.Valid.{Valid, is_numbered, is_placed, is_sound_handle}
 use Rattle.portal_desk.specs.Opening.{IsOpeningState}
 
--- the numbers of documents are those of their records
-pub ids_kept : (ds : List OpeningDocument) → map (λ (d : Document). d.id) (map document_kept ds) ≡ map (λ (d : OpeningDocument). id_of d.kept.number) ds
-ids_kept [] = refl
-ids_kept (d ∷ ds) = ap (λ (ids : List DocId). id_of d.kept.number ∷ ids) (ids_kept ds)
+-- no handle is open where no connection is
+no_handles : (s : State) → Valid s → s.connections ≡ [] → s.handles ≡ []
+no_handles s v none = by s.handles (subst (λ (cs : List Connection). list_all (is_sound_handle cs) s.handles ≡ true) none v.handles_sound)
+  where
+    by : (hs : List OpenHandle) → list_all (is_sound_handle []) hs ≡ true → hs ≡ []
+    by [] e = refl
+    by (h ∷ hs) e = absurd (cc)
+
+-- whoever has a right is numbered
+all_numbered : (s : State) (ts : List Triple) → list_all (is_placed s) ts ≡ true → list_all (λ (t : Triple). is_numbered s.applications t.app) ts ≡ true
+all_numbered s [] e = refl
+all_numbered s (t ∷ ts) e = both (is_some (document_of s.documents t.id.number)) (is_numbered s.applications t.app) e (all_numbered s ts)
+  where
+    both : (d n : Bool) → ((d && n) && list_all (is_placed s) ts) ≡ true → (list_all (is_placed s) ts ≡ true → list_all (λ (u : Triple). is_numbered s.applications u.app) ts ≡ true) →
+        (n && list_all (λ (u : Triple). is_numbered s.applications u.app) ts) ≡ true
+    both true true e rest = rest e
+    both true false e rest = absurd (cc)
+    both false n e rest = absurd (cc)
+
+-- a valid state in which no connection is open
+pub opens : (s : State) → Valid s → s.connections ≡ [] → list_all (λ e. are_rows e.rows) s.entries ≡ true → (s.told ≡ true → IsTree s.files) → IsOpeningState s
+opens s v none rows tree = record {
+  connections = none;
+  handles = no_handles s v none;
+  made = v.numbers_made;
+  names = v.names;
+  applications_differ = v.applications_differ;
+  numbered = all_numbered s s.rights v.rights_placed;
+  rows = rows;
+  files = tree;
+}
 
 told_tree : (files : Option (List File)) → IfSome files IsTree → is_told files ≡ true → IsTree (files_of files)
 told_tree None t e = absurd (cc)
 told_tree (Some fs) t e = t
 
--- the state that records stand for
-pub opens : (files : Option (List File)) (o : OpeningState) → o.made ≡ map (λ (d : OpeningDocument). id_of d.kept.number) o.documents → o.applications ≡ first_named (each names_kept o.documents) →
-    list_all (λ e. are_rows e.rows) o.entries ≡ true → IfSome files IsTree → IsOpeningState (opened_over files o)
-opens files o made named rows tree = record {
-  connections = refl;
-  handles = refl;
-  made = made ∙ sym (ids_kept o.documents);
-  records = o.documents;
-  documents = refl;
-  rights = refl;
-  applications = named;
-  rows = rows;
-  files = told_tree files tree;
-}
+-- the state that an opening stands for over these files
+pub opens-told : (files : Option (List File)) (o : OpeningState) → Valid (opened_over files o) → list_all (λ e. are_rows e.rows) o.entries ≡ true → IfSome files IsTree → IsOpeningState (opened_over files o)
+opens-told files o v rows tree = opens (opened_over files o) v refl rows (told_tree files tree)
 
 -- the same over other files
 pub opens-over : (files other : Option (List File)) (o : OpeningState) → IsOpeningState (opened_over files o) → IfSome other IsTree → IsOpeningState (opened_over other o)
@@ -42,13 +60,9 @@ opens-over files other o s tree = record {
   connections = refl;
   handles = refl;
   made = s.made;
-  records = s.records;
-  documents = s.documents;
-  rights = s.rights;
-  applications = s.applications;
+  names = s.names;
+  applications_differ = s.applications_differ;
+  numbered = s.numbered;
   rows = s.rows;
   files = told_tree other tree;
 }
-
-pub opens-made : (files : Option (List File)) (o : OpeningState) → IsOpeningState (opened_over files o) → o.made ≡ map (λ (d : OpeningDocument). id_of d.kept.number) o.documents
-opens-made files o s = s.made ∙ ids_kept o.documents

@@ -32,7 +32,7 @@ use Rattle.portal_start.proofs.Found.{Finds, all_found, any_found}
 
 -- ---- names that rise
 
-texts : Order bytes_less is_same
+pub texts : Order bytes_less is_same
 texts = record { eq = is_same-eq; itself = is_same-refl; irreflexive = bytes-irreflexive; total = bytes-total; through = bytes-through }
 
 less_bytes : (a b : List ℕ) → slice_cmp nat_cmp a b ≡ Less → bytes_less a b ≡ true
@@ -101,7 +101,7 @@ bits_held r some most =
 
 -- ---- lists that are mapped and filtered
 
-any-filtered : {X : Type 0} (p q : X → Bool) (xs : List X) → list_any p (filter q xs) ≡ list_any (λ x. q x && p x) xs
+pub any-filtered : {X : Type 0} (p q : X → Bool) (xs : List X) → list_any p (filter q xs) ≡ list_any (λ x. q x && p x) xs
 any-filtered p q [] = refl
 any-filtered p q (x ∷ xs) = one (q x) refl (any-filtered p q xs)
   where
@@ -111,7 +111,7 @@ any-filtered p q (x ∷ xs) = one (q x) refl (any-filtered p q xs)
 
 -- ---- what some right satisfies
 
-or-swap : (a b c : Bool) → (a || (b || c)) ≡ ((b || a) || c)
+pub or-swap : (a b c : Bool) → (a || (b || c)) ≡ ((b || a) || c)
 or-swap true true c = refl
 or-swap true false c = refl
 or-swap false true c = refl
@@ -129,7 +129,7 @@ module _ (p : Triple → Bool) where
   any-with_grant number rights g = any-put_all triple_less same_triple triples p (triples_of g.app (id_of number) (set_of_bits g.rights) ++ rights)
       ∙ list_any-append p (triples_of g.app (id_of number) (set_of_bits g.rights)) rights
 
-  any-grants : (number : ℕ) (gs : List GrantRecord) (rights : List Triple) → list_any p (fold (with_grant number) rights gs) ≡ (list_any (some_given number) gs || list_any p rights)
+  pub any-grants : (number : ℕ) (gs : List GrantRecord) (rights : List Triple) → list_any p (fold (with_grant number) rights gs) ≡ (list_any (some_given number) gs || list_any p rights)
   any-grants number [] rights = refl
   any-grants number (g ∷ gs) rights =
       any-grants number gs (with_grant number rights g) ∙ ap (λ (b : Bool). list_any (some_given number) gs || b) (any-with_grant number rights g)
@@ -176,7 +176,7 @@ pick GrantPermissions a b r w g d = grind arith
 pick Delete a b r w g d = grind arith
 
 -- whether the record gives the application this right, in the document of the number
-right_given : (app : List ℕ) (m : ℕ) (right : Right) (n : ℕ) (g : GrantRecord) → some_given (gives app m right) n g ≡ ((n == m) && (is_same g.app app && is_in (set_of_bits g.rights) right))
+pub right_given : (app : List ℕ) (m : ℕ) (right : Right) (n : ℕ) (g : GrantRecord) → some_given (gives app m right) n g ≡ ((n == m) && (is_same g.app app && is_in (set_of_bits g.rights) right))
 right_given app m right n g = any-of (gives app m right) g.app (id_of n) (set_of_bits g.rights)
     ∙ pick right (is_same g.app app) (n == m) (set_of_bits g.rights).read (set_of_bits g.rights).write (set_of_bits g.rights).grant_permissions (set_of_bits g.rights).delete
 
@@ -191,7 +191,7 @@ some_right : (app : List ℕ) (m n : ℕ) (g : GrantRecord) → some_given (is_h
 some_right app m n g = any-of (is_held_in app m) g.app (id_of n) (set_of_bits g.rights)
     ∙ all-picked (is_same g.app app) (n == m) (set_of_bits g.rights).read (set_of_bits g.rights).write (set_of_bits g.rights).grant_permissions (set_of_bits g.rights).delete
 
-any_both : {X : Type 0} (b : Bool) (q : X → Bool) (xs : List X) → list_any (λ x. b && q x) xs ≡ (b && list_any q xs)
+pub any_both : {X : Type 0} (b : Bool) (q : X → Bool) (xs : List X) → list_any (λ x. b && q x) xs ≡ (b && list_any q xs)
 any_both true q xs = refl
 any_both false q [] = refl
 any_both false q (x ∷ xs) = any_both false q xs

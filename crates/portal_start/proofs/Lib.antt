@@ -2,3 +2,4 @@ pub mod Found
 pub mod KeptRights
 pub mod GoodRecords
 pub mod LoadedRecords
+pub mod RenewedLists

@@ -2,7 +2,6 @@
 use Rattle.std.specs.Prelude.{IfOk}
 use Rattle.std.proofs.Common.{◌≡◌, ◌<◌, ◌^◌, ℕ, List, [], ◌∷◌, map, true, Option, None, Result, Ok, Err, refl, sym, ap, subst, ◌∙◌}
 use Rattle.std.specs.List.{list_all}
-use Rattle.document_records.specs.Documents.{DocumentList}
 use Rattle.portal_base.specs.declared.files.File.{File}
 use Rattle.portal_base.specs.declared.limits.Limits.{Limits}
 use Rattle.portal_model.specs.declared.opening.OpeningDocument.{OpeningDocument}
@@ -31,17 +30,6 @@ valid_loaded limits records o e good narrow made queued = valid_quiet o (sound_l
 pub numbers_kept : (ds : List OpeningDocument) → map (λ (d : Document). d.id.number) (map document_kept ds) ≡ map (λ (d : OpeningDocument). d.kept.number) ds
 numbers_kept [] = refl
 numbers_kept (d ∷ ds) = ap (λ (ns : List ℕ). d.kept.number ∷ ns) (numbers_kept ds)
-
--- documents that are listed with their own numbers as those that were made
-pub listed_documents : (o : OpeningState) (items : List OpeningDocument) (ds : DocumentList) →
-    ds ≡ record { most_live = o.limits.documents; most_made = o.limits.made; live = map document_kept items; made = map (λ (d : OpeningDocument). id_of d.kept.number) items } → items ≡ o.documents →
-    o.made ≡ map (λ (d : OpeningDocument). id_of d.kept.number) o.documents → ds ≡ record { most_live = o.limits.documents; most_made = o.limits.made; live = map document_kept o.documents; made = o.made }
-listed_documents o items ds e i m = e ∙ (λ j. record {
-  most_live = o.limits.documents;
-  most_made = o.limits.made;
-  live = map document_kept (i j);
-  made = (ap (map (λ (d : OpeningDocument). id_of d.kept.number)) i ∙ sym m) j;
-})
 
 -- the records that stand for the state that records open are those records, in this version
 pub back : (limits : Limits) (records : Records) (began : Option (List File)) (entries : Entries) → KeepEntries records.entries entries → AreGood limits records → records_of (opened_over began (opening_loaded entries limits records)) ≡ record records { version = records_version }

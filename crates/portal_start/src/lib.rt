@@ -3,12 +3,14 @@
 //! **It promises** that lists are made exactly where the records are good under the limits,
 //! and are then those of the opening state that the records stand for, which is valid; that
 //! else the first thing wrong is told, or that the keeper failed, whose count of faults then
-//! rose; and that a valid opening state gives its own lists.
+//! rose; that a valid opening state gives its own lists; and that these give the opening
+//! state of a history that goes on from them.
 //!
 //! | Room | Holds |
 //! |---|---|
 //! | `start` | [`start::load`], [`start::lists_of_opening`], and why a portal doesn't start |
 //! | `opening` | the opening state that records stand for |
+//! | `renewed` | [`renewed::opening_of`]: the opening state that lists stand for |
 //!
 //! ```text
 //! let lists = load(alloc, &mut keeper, &limits)?;
@@ -18,4 +20,5 @@
 #![tactic(auto)]
 
 mod opening;
+pub mod renewed;
 pub mod start;

@@ -1,9 +1,8 @@
 //! Starting a portal with the records that its keeper loads.
 
-ghost use Rattle.std.specs.Prelude.{◌≡◌, ◌<◌, ◌^◌, [], ◌∷◌, map, true, None, IfErr, IfOk, OnOk};
-ghost use Rattle.std.specs.List.{list_all};
-ghost use Rattle.portal_model.specs.Opening.{id_of, opened_over};
-ghost use Rattle.portal_model.specs.Rows.{are_rows};
+ghost use Rattle.std.specs.Prelude.{◌≡◌, ◌<◌, ◌^◌, [], ◌∷◌, None, IfErr, IfOk, OnOk};
+ghost use Rattle.portal_desk.specs.Opening.{IsOpeningState};
+ghost use Rattle.portal_model.specs.Opening.{opened_over};
 ghost use Rattle.portal_model.specs.Valid.{Valid};
 ghost use Rattle.portal_model.specs.declared.records.RecordChange.TheVariants.{Upgrade};
 ghost use Rattle.portal_start.specs.Loading.{AreLists, AreBad, IsOpening, LoadsBadly, LoadsGood, UpgradesBadly};
@@ -89,6 +88,7 @@ pub fn load<K: Keeper>(alloc: Global, keeper: &mut K, limits: &Limits) -> Result
         (K.is keeper.new)) }
     ensures lists { IfOk result AreLists }
     ensures valid { IfOk result (λ lists. Valid (opened_over None lists.opening)) }
+    ensures started { IfOk result (λ lists. IsOpeningState (opened_over None lists.opening)) }
     ensures bad { IfErr result (λ error. LoadsBadly limits.now (K.is keeper.old) error
         (K.is keeper.new)) }
 {
@@ -140,6 +140,7 @@ fn lists_of(alloc: Global, records: Records, limits: &Limits) -> Result<Lists, S
     ensures opening { IfOk result (λ lists. IsOpening limits.now records lists.opening) }
     ensures lists { IfOk result AreLists }
     ensures valid { IfOk result (λ lists. Valid (opened_over None lists.opening)) }
+    ensures started { IfOk result (λ lists. IsOpeningState (opened_over None lists.opening)) }
     ensures bad { IfErr result (AreBad limits.now records) }
 {
     // A document is bad with which a limit is passed, and what follows it isn't looked at: so one
@@ -163,23 +164,23 @@ fn lists_of_good(alloc: Global, records: Records, limits: &Limits) -> Result<Lis
     ensures opening { IfOk result (λ lists. IsOpening limits.now records lists.opening) }
     ensures lists { IfOk result AreLists }
     ensures valid { IfOk result (λ lists. Valid (opened_over None lists.opening)) }
+    ensures started { IfOk result (λ lists. IsOpeningState (opened_over None lists.opening)) }
 {
     let opening = opening::opening_loaded(alloc, records, limits)?;
     good_records_keep_good_entries();
     lists_of_opening(alloc, opening)
 }
 
-/// The lists of a valid opening state, in which no number was made but those
-/// of its documents, and whose entries have their rows in order.
+/// The lists of a valid opening state.
 pub fn lists_of_opening(alloc: Global, opening: OpeningState) -> Result<Lists, WantOfMemory>
     requires valid { Valid (opened_over None opening) }
-    requires made { opening.made ≡ map (λ d. id_of d.kept.number) opening.documents }
-    requires rows { list_all (λ e. are_rows e.rows) opening.entries ≡ true }
+    requires started { IsOpeningState (opened_over None opening) }
     ensures opening { IfOk result (λ lists. lists.opening ≡ opening) }
     ensures lists { IfOk result AreLists }
 {
     let items = opening.documents.as_slice();
-    let documents = document_records::opening::documents(alloc, items, &opening.limits)?;
+    let made = opening.made.as_slice();
+    let documents = document_records::opening::documents(alloc, items, made, &opening.limits)?;
     let rights = document_records::opening::rights(alloc, items)?;
     let applications = document_records::opening::applications(
         alloc,
