@@ -8,25 +8,19 @@ use Rattle.open_handles.specs.Opened.{HandleTable, Opened, opened_on}
 use Rattle.portal_base.specs.Content.{IsTree}
 use Rattle.portal_base.specs.declared.files.File.{File}
 use Rattle.portal_base.specs.declared.limits.Limits.{Limits}
-use Rattle.portal_base.specs.declared.names.doc_id.DocId.{DocId}
-use Rattle.portal_desk.specs.Opening.{IsOpeningState}
-use Rattle.portal_desk.proofs.Openings.{opens}
-use Rattle.portal_model.specs.declared.opening.OpeningDocument.{OpeningDocument}
 use Rattle.portal_model.specs.declared.opening.OpeningState.{OpeningState}
-use Rattle.portal_model.specs.declared.records.DocRecord.{DocRecord}
 use Rattle.portal_model.specs.declared.records.RecordChange.TheVariants.{Upgrade}
 use Rattle.portal_model.specs.declared.records.Records.{Records}
 use Rattle.portal_model.specs.declared.state.Triple.{Triple}
 use Rattle.portal_model.specs.Kept.{records_of}
-use Rattle.portal_model.specs.Opening.{document_kept, each, files_of, first_named, id_of, is_told, names_kept, opened_over, rights_kept}
+use Rattle.portal_model.specs.Opening.{document_kept, files_of, is_told, opened_over, rights_kept}
 use Rattle.portal_model.specs.RecordChanges.{changed_by, records_version}
 use Rattle.portal_model.specs.Valid.{Valid}
-use Rattle.record_keeper.specs.BadRecords.{IsVersion, names_granted}
+use Rattle.record_keeper.specs.BadRecords.{IsVersion}
 use Rattle.record_keeper.specs.Keepers.{KeeperIs}
-use Rattle.record_keeper.proofs.HeldEntries.{good_rows}
 use Rattle.portal_steps.specs.Answered.{KeepsState}
 use Rattle.portal_steps.specs.Held.{Stands}
-use Rattle.portal_start.specs.Loading.{LoadsGood, document_loaded}
+use Rattle.portal_start.specs.Loading.{LoadsGood}
 use Rattle.portal_start.proofs.GoodRecords.{over_any}
 use Rattle.portal_start.proofs.LoadedRecords.{back}
 
@@ -122,21 +116,3 @@ kept_first began o limits old new g = by_version g.good.version
         let told : new.told ≡ old.told = ap (λ (x : KeeperIs). x.told) (g.upgrades.stays (λ first. absurd (cc (sym this ∙ first)))) ∙ loaded in
         let whole : records_of (opened_over began o) ≡ g.records = same ∙ ap (λ (n : ℕ). record g.records { version = n }) (sym this) in
         subst (λ (t : Option Records). KeepsState t (opened_over began o)) (sym told) (same_told began o old.told g.records g.loads.gives whole)
-
--- ---- the state that records open with is an opening state
-
-numbers_loaded : (ds : List DocRecord) → map (λ (d : DocRecord). id_of d.number) ds ≡ map (λ (d : OpeningDocument). id_of d.kept.number) (map document_loaded ds)
-numbers_loaded [] = refl
-numbers_loaded (d ∷ ds) = ap (λ (ids : List DocId). id_of d.number ∷ ids) (numbers_loaded ds)
-
-names_loaded : (ds : List DocRecord) → each names_granted ds ≡ each names_kept (map document_loaded ds)
-names_loaded [] = refl
-names_loaded (d ∷ ds) = ap (λ (names : List (List ℕ)). names_granted d ++ names) (names_loaded ds)
-
-pub starts_open : (limits : Limits) (old : KeeperIs) (o : OpeningState) (new : KeeperIs) → LoadsGood limits old o new → IsOpeningState (opened_over None o)
-starts_open limits old o new g =
-    let ds = g.records.documents in
-    opens None o
-    (subst (λ (x : OpeningState). x.made ≡ map (λ (d : OpeningDocument). id_of d.kept.number) x.documents) (sym g.opening_is.whole) (numbers_loaded ds))
-    (subst (λ (x : OpeningState). x.applications ≡ first_named (each names_kept x.documents)) (sym g.opening_is.whole) (ap first_named (names_loaded ds)))
-    (good_rows g.records.entries o.entries g.good.entries g.opening_is.entries) tt

@@ -1,4 +1,5 @@
 pub mod Started
+pub mod Renewing
 pub mod Growth
 pub mod OpenFiles
 pub mod LookUps

@@ -13,12 +13,15 @@
 //! application does by a handle of a strict document is done only as far as it has the
 //! rights then. It starts exactly where the records are good, and else says what is wrong
 //! and hands the devices back; and it opens with any state for which its devices stand.
-//! What it lends is what the state after the history has.
+//! What it lends is what the state after the history has. Where no connection is open
+//! it begins a new history, in the state that the old one came to.
 //!
 //! | Room | Holds |
 //! |---|---|
 //! | `portal` | [`portal::Portal`]: the state as lists, and `ask` |
-//! | `storied` | [`storied::Storied`]: what anything that keeps a history promises |
+//! | `renewal` | [`renewal::RenewError`]: why no new history begins |
+//! | `room` | room that is taken ahead of a request |
+//! | `storied` | [`storied::Storied`]: what anything that keeps a history promises, and [`storied::Renews`]: what may begin a new one |
 //! | `local_desk` | [`local_desk::LocalDesk`]: the desk of one seat, on one thread |
 //!
 //! What it starts with is made in `portal_start`, and single requests are served in
@@ -32,6 +35,8 @@
 
 pub mod local_desk;
 pub mod portal;
+pub mod renewal;
+mod room;
 pub mod storied;
 
 pub use portal_start::start;

@@ -2,7 +2,6 @@
 
 ghost use Rattle.std.specs.Prelude.{◌≡◌, ◌+◌, ◌<◌, ◌≤◌, ◌^◌, [], length, map, false, true, IfErr, IfOk, IsOk, OnErr, OnOk, None, unwrap_or};
 ghost use Rattle.app_view.specs.Books.{Lends as LendsBook};
-ghost use Rattle.change_signals.specs.Unsent.{AtSeat, holding, unsent_on};
 ghost use Rattle.node_looks.specs.OpenHandles.{AreOpen};
 ghost use Rattle.portal_desk.specs.Opening.{IsOpeningState};
 ghost use Rattle.portal_model.specs.History.{Legal, cost};
@@ -15,12 +14,15 @@ ghost use Rattle.portal_steps.specs.Documents.{is_document_call};
 ghost use Rattle.portal_steps.specs.Held.{told_files};
 ghost use Rattle.portal_core.specs.OpenFiles.{GoesByHandles, OpensByRights, StrictFollows};
 ghost use Rattle.portal_start.specs.Loading.{AreLists};
+ghost use Rattle.portal_core.specs.Renewing.{CannotRenew, Renews};
 ghost use Rattle.portal_core.specs.Started.{HandsBack, Starts, reopened};
 ghost use Rattle.portal_steps.specs.Story.{HasCause, cost_with, limit_of, state_first, state_now};
 ghost use Rattle.store_serving.specs.Serving.{may_change_entries};
 ghost use Rattle.store_serving.specs.Waiting.{silent};
 
 use app_view::ViewBook;
+use crate::renewal::{RenewError, least_seat};
+use crate::room::{make_room, taken};
 use change_signals::Outboxes;
 use document_calls::ServedCall;
 use document_records::{Applications, Documents, Grants};
@@ -40,10 +42,11 @@ use portal_base::who::{Kind, Who};
 use portal_history::{History, cost_of};
 use portal_model::entry::Entry;
 use portal_model::opening::OpeningState;
-use portal_model::reply::{Answer, Change, Code, Refused, Reply};
+use portal_model::reply::{Answer, Code, Refused, Reply};
 use portal_model::request::{AddRequest, NodeRequest, Request};
 use portal_model::state::Connection;
 use portal_model::store::StoreCall;
+use portal_start::renewed::opening_of;
 use portal_start::start::{Lists, StartRefusal, lists_of_opening, load};
 use portal_steps::additions::serve_add;
 use portal_steps::entries::{
@@ -697,6 +700,37 @@ impl<T: HostTree, K: Keeper, C: Clock, W: Words> Portal<T, K, C, W> {
     }
 }
 
+impl<T: HostTree, K: Keeper, C: Clock, W: Words> Portal<T, K, C, W> {
+    /// Begins a new history, in the state that the old one came to. Its cost is 0
+    /// again; what was made stays made, and the applications keep their numbers.
+    ///
+    /// It is refused exactly where a connection is open, and for want of memory;
+    /// then nothing changes.
+    pub fn renew(&mut self, alloc: Global) -> Result<(), RenewError>
+        ensures ok { OnOk result (Renews T.is self.old self.new) }
+        ensures err { OnErr result (self.new ≡ self.old) }
+        ensures cause { IfErr result (CannotRenew (state_now self.old.story).connections) }
+    {
+        if let Some(seat) = least_seat(self.connections.as_slice()) {
+            return Err(RenewError::Open { seat });
+        }
+        let opening = opening_of(
+            alloc,
+            &self.opening.limits,
+            &self.documents,
+            &self.rights,
+            &self.applications,
+            &self.tables,
+        )?;
+        self.tree.settle()?;
+        self.history = History::new(alloc, &opening.limits);
+        self.counts = InodeTable::new(alloc);
+        self.opening = opening;
+        self.tree.known();
+        Ok(())
+    }
+}
+
 impl<T: HostTree + Drop, K: Keeper + Drop, C: Clock + Drop, W: Words + Drop> Portal<T, K, C, W> {
     /// A portal that opens with this state, over devices that have what stands
     /// for it, of which none is asked.
@@ -749,47 +783,4 @@ impl<T: HostTree, K: Keeper, C: Clock, W: Words> Portal<T, K, C, W> {
     {
         &mut self.words
     }
-}
-
-/// Takes room for `more` entries and for the Leaves of these connections behind them.
-fn make_room(
-    history: &mut History,
-    connections: &[Connection],
-    more: u32,
-) -> Result<(), WantOfMemory>
-    ensures room { OnOk result (length connections.now + more ≤ history.new.spare) }
-    ensures entries { history.new.entries ≡ history.old.entries }
-    ensures limit { history.new.limit ≡ history.old.limit }
-    ensures spare { history.old.spare ≤ history.new.spare }
-    ensures err { OnErr result (history.new ≡ history.old) }
-{
-    // More entries than a `u32` counts need more memory than there is.
-    let Ok(leaves) = u32::try_from(connections.len()) else {
-        return Err(WantOfMemory);
-    };
-    match leaves.checked_add(more) {
-        Some(count) => history.reserve(count),
-        None => Err(WantOfMemory),
-    }
-}
-
-/// Takes room for an entry and for the Leaves of these connections behind it, and
-/// what the connection of a seat waits for. Want of memory leaves that to wait.
-fn taken(
-    history: &mut History,
-    outboxes: &mut Outboxes,
-    connections: &[Connection],
-    seat: u32,
-) -> Result<List<Change>, WantOfMemory>
-    ensures room { OnOk result (length connections.now + 1 ≤ history.new.spare) }
-    ensures signals { IfOk result (λ signals. signals
-        ≡ unwrap_or (unsent_on outboxes.old seat) []) }
-    ensures rest { OnOk result (AtSeat (holding []) outboxes.old outboxes.new seat) }
-    ensures entries { history.new.entries ≡ history.old.entries }
-    ensures limit { history.new.limit ≡ history.old.limit }
-    ensures spare { history.old.spare ≤ history.new.spare }
-    ensures outboxes { OnErr result (outboxes.new ≡ outboxes.old) }
-{
-    make_room(history, connections, 1)?;
-    Ok(outboxes.take(seat)?)
 }

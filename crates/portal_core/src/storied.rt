@@ -1,12 +1,13 @@
 //! What keeps a history.
 
-ghost use Rattle.std.specs.Prelude.{◌≡◌, ◌<◌, ◌≤◌, ◌^◌, length, true, IfErr, IfOk, IsOk, OnErr};
+ghost use Rattle.std.specs.Prelude.{◌≡◌, ◌<◌, ◌≤◌, ◌^◌, [], length, true, IfErr, IfOk, IsOk, OnErr, OnOk};
 ghost use Rattle.portal_desk.specs.Opening.{IsOpeningState};
 ghost use Rattle.portal_core.specs.Growth.{GrowsBy, RefusedFor, cost_after};
 ghost use Rattle.portal_model.specs.History.{Legal, cost, run};
 ghost use Rattle.portal_model.specs.Seated.{is_open};
 
 use crate::portal::Portal;
+use crate::renewal::RenewError;
 use host_tree::HostTree;
 use portal_base::outside::{Clock, Words};
 use portal_model::reply::{Refused, Reply};
@@ -111,5 +112,24 @@ impl<T: HostTree, K: Keeper, C: Clock, W: Words> Storied for Portal<T, K, C, W> 
 
     fn known(&self) {
         Portal::known(self);
+    }
+}
+
+/// What keeps a history, and may begin a new one.
+pub trait Renews: Storied {
+    /// Begins a new history, in the state that the old one came to.
+    ///
+    /// It may be refused where a connection is open, and for want of memory;
+    /// then nothing changes.
+    fn renew(&mut self, alloc: Global) -> Result<(), RenewError>
+        ensures opening { OnOk result (Self.opening self.new
+            ≡ run (Self.opening self.old) (Self.entries self.old)) }
+        ensures entries { OnOk result (Self.entries self.new ≡ []) }
+        ensures refused { OnErr result (self.new ≡ self.old) };
+}
+
+impl<T: HostTree, K: Keeper, C: Clock, W: Words> Renews for Portal<T, K, C, W> {
+    fn renew(&mut self, alloc: Global) -> Result<(), RenewError> {
+        Portal::renew(self, alloc)
     }
 }

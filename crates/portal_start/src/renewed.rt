@@ -1,7 +1,8 @@
 //! The opening state that the lists of a portal stand for.
 
-ghost use Rattle.std.specs.Prelude.{◌≡◌, ◌++◌, ◌∷◌, [], map, IfOk, OnOk};
-ghost use Rattle.portal_model.specs.Kept.{document_record};
+ghost use Rattle.std.specs.Prelude.{◌≡◌, map, true, IfOk};
+ghost use Rattle.std.specs.List.{list_all};
+ghost use Rattle.portal_model.specs.Rows.{are_rows};
 ghost use Rattle.portal_start.specs.Renewed.{document_again, opening_of};
 
 use document_records::{Applications, Documents, Grants};
@@ -15,7 +16,7 @@ use portal_model::state::Document;
 use std::alloc::Global;
 
 /// The opening state of a history that goes on from these lists. Its list of
-/// files is empty.
+/// files is empty, and the rows of each of its entries stand in order.
 pub fn opening_of(
     alloc: Global,
     limits: &Limits,
@@ -24,8 +25,9 @@ pub fn opening_of(
     applications: &Applications,
     tables: &Tables,
 ) -> Result<OpeningState, WantOfMemory>
-    ensures { IfOk result (λ opening. opening
+    ensures value { IfOk result (λ opening. opening
         ≡ opening_of limits.now documents.now rights.now applications.now tables.now) }
+    ensures rows { list_all (λ e. are_rows e.rows) tables.now ≡ true }
 {
     Ok(OpeningState {
         limits: *limits,

@@ -4,7 +4,7 @@ use Rattle.std.proofs.lemmas.List.Folds.{list_all-map}
 use Rattle.portal_base.specs.Names.{is_host_path}
 use Rattle.portal_base.specs.declared.files.File.{File as HostFile}
 use Rattle.portal_desk.specs.Opening.{IsOpeningState}
-use Rattle.portal_desk.proofs.Openings.{opens}
+use Rattle.portal_desk.proofs.Openings.{opens-told}
 use Rattle.portal_model.specs.declared.entry.Entry.{Entry}
 use Rattle.portal_model.specs.declared.request.Request.{Request}
 use Rattle.portal_model.specs.History.{EachLawful, run}
@@ -90,7 +90,7 @@ plays_lawful (line ∷ front) a b es out (first, more, said, rest, mid, entries_
 -- the state that a script opens with is an opening state
 pub script_opens : (entries : Entries) (lines : List ScriptLine) → IsScript lines → KeepEntries (entries_of lines) entries → Valid (opening_state entries lines) → IsOpeningState (opening_state entries lines)
 script_opens entries lines good kept valid =
-    opens (Some (tree_files lines)) (opening_with entries run_limits lines) refl refl
+    opens-told (Some (tree_files lines)) (opening_with entries run_limits lines) valid
     (good_rows (entries_of lines) entries (never_bad run_limits lines good holds).entries kept)
     (record { placed = script_placed lines good; names = list_all-map is_host_path (λ (f : HostFile). f.path) (tree_files lines) ∙ valid.files_named })
 

@@ -1,10 +1,6 @@
-use Rattle.portal_core.proofs.Beginning.{kept_first, starts_open}
+use Rattle.portal_core.proofs.Beginning.{kept_first}
 use Rattle.portal_core.proofs.portal.Portal.start.Goals as goal
 
 pub over-requires-clause-kept : goal.over-requires-clause-kept
 over-requires-clause-kept g c =
     kept_first (g.T.HostTree.is c.args.tree).began c.in-Ok.lists.opening c.args.limits (g.K.Keeper.is c.args.keeper) (g.K.Keeper.is c.load.new.keeper) c.in-Ok.ensures.good
-
-pub over-requires-clause-started : goal.over-requires-clause-started
-over-requires-clause-started g c =
-    starts_open c.args.limits (g.K.Keeper.is c.args.keeper) c.in-Ok.lists.opening (g.K.Keeper.is c.load.new.keeper) c.in-Ok.ensures.good
