@@ -1,10 +1,10 @@
 -- The entries of a map by path, and the files that they are.
-use Rattle.std.proofs.Common.{◌≡◌, ℕ, ◌==◌, List, [], ◌∷◌, Bool, true, false, not, ◌&&◌, ◌||◌, cond, Option, Some, None, option_map, is_some, length, Result, Ok, Err, OnOk, OnErr, refl, sym, ap, subst, ◌∙◌, arith}
+use Rattle.std.proofs.Common.{◌≡◌, ℕ, ◌==◌, List, [], ◌∷◌, ◌++◌, Bool, true, false, not, ◌&&◌, cond, Option, Some, None, option_map, is_some, length, Result, Ok, Err, OnOk, OnErr, refl, sym, ap, subst, ◌∙◌, arith}
 use Rattle.std.proofs.lemmas.Bool.Decides.{nat_tests}
 use Rattle.std.proofs.lemmas.Map.Steps.{set_value_same}
 use Rattle.std.specs.BTreeMap.{is_at, insert_entry}
 use Rattle.std.specs.Cmp.Lexicographic.{nat_list_eq_equiv, bytes_decides}
-use Rattle.std.specs.List.{list_all, list_any, AllByRecursion}
+use Rattle.std.specs.List.{list_all, AllByRecursion}
 use Rattle.std.specs.List.Sorted.{IsStrictlySortedBy}
 use Rattle.std.specs.Map.{lookup, set_value, remove_entry, keys_of}
 use Rattle.std.specs.Ordering.{is_eq, is_lt, ordering_reverse, match_ordering}
@@ -156,6 +156,28 @@ removed-entry p (e ∷ es) s = step (is_at (path_order p) e.0) refl (removed-ent
     step false h more =
         ap (λ (fs : List File). file_of e ∷ fs) more
         ∙ ap (λ (b : Bool). cond (not b) (file_of e ∷ without p (files_of es)) (without p (files_of es))) (sym (same-key p e.0 ∙ h))
+
+-- ---- a map copied from its first entry on
+
+all-middle : (P : List ℕ → Type 0) (k : List ℕ) (v : Stored) (es fs : List (List ℕ × Stored)) → AllByRecursion P (keys_of (es ++ (k, v) ∷ fs)) → P k
+all-middle P k v [] fs h = h.0
+all-middle P k v (e ∷ es) fs h = all-middle P k v es fs h.1
+
+-- an entry behind all others
+put-last : (k : List ℕ) (v : Stored) (es fs : List (List ℕ × Stored)) → IsStrictlySortedBy path_order (keys_of (es ++ (k, v) ∷ fs)) → insert_entry path_order es k v ++ fs ≡ es ++ (k, v) ∷ fs
+unfolding IsStrictlySortedBy
+put-last k v [] fs s = refl
+put-last k v (e ∷ es) fs s =
+    let behind : path_order k e.0 ≡ Greater =
+    path_order_total.antisymm k e.0 ∙ ap ordering_reverse (all-middle (λ q. path_order e.0 q ≡ Less) k v es fs s.0) in
+    ap (λ (o : Ordering). match_ordering o ((k, v) ∷ e ∷ es) ((e.0, v) ∷ es) (e ∷ insert_entry path_order es k v) ++ fs) behind
+    ∙ ap (λ (xs : List (List ℕ × Stored)). e ∷ xs) (put-last k v es fs s.1)
+
+pub copied-on : (map copy next rest more : List (List ℕ × Stored)) (k : List ℕ) (v : Stored) → IsStrictlySortedBy path_order (keys_of map) → copy ++ rest ≡ map → rest ≡ (k, v) ∷ more → next ≡ insert_entry path_order copy k v → next ++ more ≡ map
+copied-on map copy next rest more k v s all e put =
+    let whole : copy ++ (k, v) ∷ more ≡ map = ap (λ (xs : List (List ℕ × Stored)). copy ++ xs) (sym e) ∙ all in
+    ap (λ (xs : List (List ℕ × Stored)). xs ++ more) put
+    ∙ (put-last k v copy more (subst (λ (xs : List (List ℕ × Stored)). IsStrictlySortedBy path_order (keys_of xs)) (sym whole) s) ∙ whole)
 
 -- ---- the paths
 

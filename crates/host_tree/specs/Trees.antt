@@ -1,5 +1,5 @@
 -- What a tree of files answers, and what each call leaves of it.
-use Rattle.std.specs.Prelude.{◌≡◌, ℕ, ◌+◌, ◌≤◌, min, nat_lt, List, [], ◌∷◌, ◌++◌, length, Bool, true, false, not, ◌&&◌, cond, Option, Some, None, is_some, option_map, IfSome}
+use Rattle.std.specs.Prelude.{◌≡◌, ℕ, ◌≤◌, min, nat_lt, List, [], ◌∷◌, ◌++◌, length, Bool, true, false, not, ◌&&◌, cond, Option, Some, None, is_some, option_map, IfSome}
 use Rattle.std.specs.List.{filter}
 use Rattle.portal_base.specs.Calls.{Calls, next_call, FailsAsTold}
 use Rattle.portal_base.specs.Devices.{count_after}
@@ -59,6 +59,12 @@ after_call tree kind failed told = record tree {
   calls = option_map next_call tree.calls;
   noted = note kind tree.noted;
 }
+
+-- ---- a new beginning
+
+-- the files as they are are those that it began with
+abbrev pub settled : TreeIs → TreeIs
+settled tree = record tree { began = tree.told }
 
 -- ---- answers
 

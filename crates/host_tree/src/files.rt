@@ -77,6 +77,15 @@ pub(crate) fn bytes_from(bytes: &[u8], offset: u64, size: u32) -> &[u8]
     rest.split_at(len).0
 }
 
+impl Replica for Stored {
+    fn replica(&self, alloc: Global) -> Result<Stored, WantOfMemory> {
+        Ok(Stored {
+            bytes: self.bytes.replica(alloc)?,
+            moment: self.moment,
+        })
+    }
+}
+
 // Paths are ordered part by part, as std's `Path` is: a slash comes ahead of every other byte. So
 // what lies below a path comes right behind it; in byte order `/a-b` would stand between `/a` and
 // `/a/c`.
@@ -262,8 +271,29 @@ impl Files {
     }
 }
 
+impl Replica for Files {
+    fn replica(&self, alloc: Global) -> Result<Files, WantOfMemory> {
+        let map = replica_of(alloc, &self.map)?;
+        Ok(Files { map })
+    }
+}
+
 ghost use Rattle.std.specs.BTreeMap.{keys};
 ghost use Rattle.host_tree.specs.Stored.{files_of};
+
+/// A map by path with the same entries.
+fn replica_of(
+    alloc: Global,
+    map: &BTreeMap<HostPath, Stored>,
+) -> Result<BTreeMap<HostPath, Stored>, WantOfMemory>
+    ensures { IfOk result (λ copy. copy.entries ≡ map.now.entries) }
+{
+    let mut copy = BTreeMap::new(alloc);
+    for (path, stored) in map.iter() {
+        copy.insert(path.replica(alloc)?, stored.replica(alloc)?)?;
+    }
+    Ok(copy)
+}
 
 /// Writes over the bytes of a file in a map by path.
 fn write_in(

@@ -151,6 +151,11 @@ impl HostTree for MemoryTree {
         rest(&self.files, file)
     }
 
+    fn settle(&mut self) -> Result<(), WantOfMemory> {
+        self.began = self.files.replica(self.alloc)?;
+        Ok(())
+    }
+
     fn known(&self) {
         self.began.known();
         self.files.known();
@@ -253,6 +258,11 @@ impl HostTree for QuietTree {
     fn sync(&mut self, name: &FileName) -> TreeDone {
         self.made = self.made.saturating_add(1);
         rest(&self.files, name)
+    }
+
+    fn settle(&mut self) -> Result<(), WantOfMemory> {
+        self.began = self.files.replica(self.alloc)?;
+        Ok(())
     }
 
     fn known(&self) {

@@ -5,7 +5,8 @@
 //! files are afterwards, equal in every other place. `Failed`, `NotFile` and
 //! `Memory` change nothing; a call of a tree that tells its calls fails exactly
 //! where its number is among those that are to. Which method was called is seen
-//! of the first calls, as many as a tree has room to note.
+//! of the first calls, as many as a tree has room to note. `settle`, which
+//! is no call, begins a tree anew with the files as they are.
 //!
 //! | Room | Holds |
 //! |---|---|

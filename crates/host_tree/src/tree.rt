@@ -4,17 +4,18 @@
 //! real one doesn't. Its count of faults rises at each `Failed` and at nothing
 //! else; it stops at the greatest `u64`. One that tells its calls has the
 //! number of those that came and the numbers of those that are to fail,
-//! counted from 1; each call but `known` is one. The kinds of the first calls
-//! are noted, as many as the tree has room for, which may be none.
+//! counted from 1; each call but `known` and `settle` is one. The kinds of the
+//! first calls are noted, as many as the tree has room for, which may be none.
 //!
 //! A tree has folders at `/` and at every path above a file. The generation of
 //! each file in memory is 0.
 
-ghost use Rattle.std.specs.Prelude.{IfSome};
+ghost use Rattle.std.specs.Prelude.{◌≡◌, IfSome, IsOk, None, OnErr, OnOk};
 ghost use Rattle.portal_base.specs.Content.{IsTree};
 
 use portal_base::files::{FileName, Look};
 use portal_base::list::ByteList;
+use portal_base::memory::WantOfMemory;
 use portal_base::names::HostPath;
 
 /// The answer of a look.
@@ -90,7 +91,7 @@ pub enum TreeCall {
 
 /// A tree of files.
 pub trait HostTree {
-    ghost use Rattle.host_tree.specs.Trees.{TreeIs, Asks, AreNoted, Changes, Looks, Attrs, Gets, is_look_fault, is_attr_fault, is_read_fault, has_file, change_named, written, resized, may_create, put_file, new_file, as_before};
+    ghost use Rattle.host_tree.specs.Trees.{TreeIs, Asks, AreNoted, Changes, Looks, Attrs, Gets, is_look_fault, is_attr_fault, is_read_fault, has_file, change_named, written, resized, may_create, put_file, new_file, as_before, settled};
 
     /// What the tree means.
     ghost is: { Self → TreeIs };
@@ -134,6 +135,13 @@ pub trait HostTree {
     fn sync(&mut self, file: &FileName) -> TreeDone
         ensures { Changes TreeCall.Sync (has_file file.now) as_before (is self.old) result
             (is self.new) };
+
+    /// Takes the files as they are for those that the tree began with; it is no
+    /// call of the tree. One that doesn't tell its files answers `Ok`.
+    fn settle(&mut self) -> Result<(), WantOfMemory>
+        ensures ok { OnOk result (is self.new ≡ settled (is self.old)) }
+        ensures err { OnErr result (is self.new ≡ is self.old) }
+        ensures untold { (is self.old).told ≡ None → IsOk result };
 
     // No law of a trait can say this of every value, so it is a method, which costs no call.
     /// What is true at each moment: the files that are told are those of a
