@@ -140,7 +140,7 @@ pub trait HostTree {
     /// call of the tree. One that doesn't tell its files answers `Ok`.
     fn settle(&mut self) -> Result<(), WantOfMemory>
         ensures ok { OnOk result (is self.new ≡ settled (is self.old)) }
-        ensures err { OnErr result (is self.new ≡ is self.old) }
+        ensures err { OnErr result (self.new ≡ self.old) }
         ensures untold { (is self.old).told ≡ None → IsOk result };
 
     // No law of a trait can say this of every value, so it is a method, which costs no call.
