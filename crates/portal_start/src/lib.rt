@@ -10,6 +10,7 @@
 //! |---|---|
 //! | `start` | [`start::load`], [`start::lists_of_opening`], and why a portal doesn't start |
 //! | `opening` | the opening state that records stand for |
+//! | `laws` | that records of both versions open alike |
 //! | `renewed` | [`renewed::opening_of`]: the opening state that lists stand for |
 //!
 //! ```text
@@ -19,6 +20,7 @@
 //! `docs/database.md` says what the records are.
 #![tactic(auto)]
 
+pub mod laws;
 mod opening;
 pub mod renewed;
 pub mod start;
