@@ -80,7 +80,7 @@ fn put_step<T: HostTree>(
     put
 }
 
-/// `look PATH`, `create PATH NOW`; and of the file of a path `attr PATH`,
+/// `look PATH`, `create PATH NOW`, `settle PATH`; and of the file of a path `attr PATH`,
 /// `read PATH OFFSET SIZE`, `write PATH OFFSET NOW BYTES`, `len PATH SIZE NOW`,
 /// `sync PATH`, `later PATH`, which asks for its generation 1.
 fn put_answer<T: HostTree>(
@@ -103,6 +103,10 @@ fn put_answer<T: HostTree>(
         }
         "attr" | "later" => {
             let answer = tree.attr(file);
+            Ok(write!(out, "{answer:?}")?)
+        }
+        "settle" => {
+            let answer = tree.settle();
             Ok(write!(out, "{answer:?}")?)
         }
         "read" => put_read(alloc, out, tree, file, first, rest),

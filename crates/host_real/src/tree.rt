@@ -9,6 +9,7 @@ use crate::system::{System, Waiter};
 use host_folders::error::{OpenError, TreeError};
 use host_tree::{AttrAnswer, HostTree, LookAnswer, TreeDone, TreeRead};
 use portal_base::files::FileName;
+use portal_base::memory::WantOfMemory;
 use portal_base::names::HostPath;
 use std::alloc::Global;
 use std::marker::Model;
@@ -144,6 +145,10 @@ impl<R: Waiter> HostTree for RealTree<R> {
     fn sync(&mut self, file: &FileName) -> TreeDone {
         let outcome = self.below.sync(file);
         self.done(outcome)
+    }
+
+    fn settle(&mut self) -> Result<(), WantOfMemory> {
+        Ok(())
     }
 
     fn known(&self) {}

@@ -3,6 +3,7 @@
 use crate::hold::Steps;
 use host_tree::{AttrAnswer, HostTree, LookAnswer, TreeDone, TreeRead};
 use portal_base::files::FileName;
+use portal_base::memory::WantOfMemory;
 use portal_base::names::HostPath;
 use std::time::Clock;
 
@@ -75,6 +76,10 @@ impl<'a, R: Clock, T: HostTree> HostTree for HeldTree<'a, R, T> {
 
     fn sync(&mut self, file: &FileName) -> TreeDone {
         self.tree.sync(file)
+    }
+
+    fn settle(&mut self) -> Result<(), WantOfMemory> {
+        self.tree.settle()
     }
 
     fn known(&self) {
