@@ -179,7 +179,7 @@ module _ (who : Who) (a : AddRequest) (plan : AddPlan) (item : PlanItem) (docume
                 });
           };
           undone = record { made = subst (λ (p : PlanUse). IsMade a item.path p id documents after) (sym e) f.added; gave = gave };
-          last = subst (λ (p : PlanUse). IsLastMade p id after) (sym e) (record { before = documents; last = d; number = refl; added = f.added });
+          last = subst (λ (p : PlanUse). IsLastMade p id after) (sym e) (record { before = documents; last = d; number = refl; added = f.added; new = f.unused.unused });
           uses = sym (ap has_document e);
         }
 
@@ -200,7 +200,7 @@ module _ (who : Who) (a : AddRequest) (plan : AddPlan) (item : PlanItem) (docume
   found-last LeftOut id f = tt
   found-last (Live live) id f = tt
   found-last (Earlier k) id f = tt
-  found-last New id f = record { before = documents; last = new_document a id item.path; number = refl; added = f.added }
+  found-last New id f = record { before = documents; last = new_document a id item.path; number = refl; added = f.added; new = f.unused.unused }
 
   pub found-drawn : (place : PlanUse) (id : Option DocId) → Found a item.path place id documents after told told_after drawn drawn_after → HasDrawn told told_after
   found-drawn LeftOut id f = ([], f.undrawn)

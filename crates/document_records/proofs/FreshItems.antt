@@ -1,13 +1,12 @@
 -- Items that differ, taken one after another: none stands among those before it.
 use Rattle.std.proofs.Common.{◌≡◌, ◌≢◌, ◌+◌, ◌-◌, ◌<◌, ◌≤◌, ◌==◌, ◌||◌, min, ℕ, zero, suc, List, [], ◌∷◌, ◌++◌, length, take, get_or, map, Bool, false, nat_eq, cond, refl, sym, ap, ◌∙◌, arith, length-take}
 use Rattle.std.specs.List.{list_any, IsDistinct, AllByRecursion}
-use Rattle.std.proofs.lemmas.List.{length-map, take_more}
-use Rattle.document_records.specs.Documents.{room}
+use Rattle.std.proofs.lemmas.Bool.Decides.{nat_tests}
+use Rattle.std.proofs.lemmas.List.{take_more}
 use Rattle.portal_base.specs.Names.{is_same}
-use Rattle.portal_model.specs.declared.opening.OpeningDocument.{OpeningDocument}
+use Rattle.portal_model.specs.declared.state.Document.{Document}
 use Rattle.portal_model.specs.Applications.{numbered}
-use Rattle.portal_model.specs.Opening.{document_kept, id_of}
-use Rattle.portal_model.specs.Valid.{is_made, is_numbered}
+use Rattle.portal_model.specs.Valid.{is_numbered}
 use Rattle.portal_model.proofs.TripleOrder.{is_same-sym}
 
 -- whether some item has a property is told by any test that gives the same
@@ -41,20 +40,15 @@ module _ {X K : Type 0} (f : X → K) (same : K → K → Bool) where
   differ_of_mapped [] h = tt
   differ_of_mapped (x ∷ xs) h = (all_of_mapped (f x) xs h.0, differ_of_mapped xs h.1)
 
-pub not_made : (ds : List OpeningDocument) (i : ℕ) (d : OpeningDocument) → i < length ds → d ≡ get_or ds i d → IsDistinct nat_eq (map (λ (x : OpeningDocument). x.kept.number) ds) →
-    is_made (map (λ (x : OpeningDocument). id_of x.kept.number) (take i ds)) d.kept.number ≡ false
-not_made ds i d l e h =
-    any-mapped (λ id. id.number == d.kept.number) (λ (x : OpeningDocument). id_of x.kept.number) (take i ds)
-    ∙ fresh_at (λ (a b : OpeningDocument). nat_eq a.kept.number b.kept.number) ds i d l e (differ_of_mapped (λ (x : OpeningDocument). x.kept.number) nat_eq ds h)
-
-some_left : (a b n : ℕ) → n < a → n < b → min (a - n) (b - n) ≢ 0
-some_left a b n h k = λ e. omega (arith, e)
-
-pub has_room : (ds : List OpeningDocument) (i live made : ℕ) → i < length ds → length ds ≤ live → length ds ≤ made →
-    room (record { most_live = live; most_made = made; live = map document_kept (take i ds); made = map (λ (x : OpeningDocument). id_of x.kept.number) (take i ds) }) ≢ 0
-has_room ds i live made l h k =
-    let few : length (take i ds) ≤ i = omega (arith, length-take i ds) in
-    rw (length-map (take i ds) document_kept, length-map (take i ds) (λ (x : OpeningDocument). id_of x.kept.number)) (some_left live made (length (take i ds)) (omega (arith, few)) (omega (arith, few)))
+pub not_before : (ds : List Document) (i : ℕ) (d : Document) → i < length ds → d ≡ get_or ds i d → IsDistinct nat_eq (map (λ (x : Document). x.id.number) ds) →
+    list_any (nat_eq d.id.number) (map (λ (x : Document). x.id.number) (take i ds)) ≡ false
+not_before ds i d l e h =
+    any-mapped (nat_eq d.id.number) (λ (x : Document). x.id.number) (take i ds)
+    ∙ (any_same (λ (x : Document). nat_eq d.id.number x.id.number) (λ (x : Document). nat_eq x.id.number d.id.number) (λ x. turned d.id.number x.id.number) (take i ds)
+    ∙ fresh_at (λ (a b : Document). nat_eq a.id.number b.id.number) ds i d l e (differ_of_mapped (λ (x : Document). x.id.number) nat_eq ds h))
+  where
+    turned : (a b : ℕ) → nat_eq a b ≡ nat_eq b a
+    turned a b = grind (arith, nat_tests)
 
 pub not_numbered : (names : List (List ℕ)) (i : ℕ) (name : List ℕ) → i < length names → name ≡ get_or names i name → IsDistinct is_same names → is_numbered (take i names) name ≡ false
 not_numbered names i name l e d = any_same (is_same name) (λ y. is_same y name) (λ y. is_same-sym name y) (take i names) ∙ fresh_at is_same names i name l e d

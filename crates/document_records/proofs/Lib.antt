@@ -11,3 +11,4 @@ pub mod Loops
 pub mod OpeningRights
 pub mod ValidNames
 pub mod FreshItems
+mod KeptNumbers

@@ -19,3 +19,8 @@ module _ {X Y : Type 0} (f : X → Y) where
   all_map p [] i x h e k = absurd (omega arith)
   all_map p (y ∷ ys) zero x h e k = grind arith
   all_map p (y ∷ ys) (suc i) x h e k = grind (arith, all_map p ys i x)
+
+pub all_item : {X : Type 0} (p : X → Bool) (xs : List X) (i : ℕ) (x : X) → i < length xs → x ≡ get_or xs i x → list_all p xs ≡ true → p x ≡ true
+all_item p [] i x h e k = absurd (omega arith)
+all_item p (y ∷ ys) zero x h e k = grind arith
+all_item p (y ∷ ys) (suc i) x h e k = grind (arith, all_item p ys i x)

@@ -5,6 +5,7 @@ use Rattle.std.specs.List.{filter}
 use Rattle.portal_base.specs.declared.names.doc_id.DocId.{DocId}
 use Rattle.portal_model.specs.declared.state.Document.{Document}
 use Rattle.portal_model.specs.State.{document_of}
+use Rattle.portal_model.specs.Valid.{is_made}
 
 pub record DocumentList : Type 0 where
   -- how many documents may be live, and how many may be made
@@ -42,12 +43,13 @@ front xs = take (length xs - 1) xs
 abbrev pub without_last : DocumentList → DocumentList
 without_last s = record s { live = front s.live; made = front s.made }
 
--- the document of this number is live, and nothing was added after it
+-- the document of this number is live, nothing was added after it, and its number wasn't made before
 pub record IsLast (s : DocumentList) (id : DocId) : Type 0 where
   pub before : DocumentList
   pub last : Document
   pub number : last.id ≡ id
   pub added : s ≡ with_document before last
+  pub new : is_made before.made id.number ≡ false
 
 abbrev pub is_persistent : Option Document → Bool
 is_persistent None = false

@@ -74,6 +74,13 @@ impl Applications {
         self.names.get(number as usize - 1)
     }
 
+    /// The applications that have a number, by it: the first has 1.
+    pub fn names(&self) -> &[AppId]
+        ensures { result.now ≡ self.now }
+    {
+        self.names.as_slice()
+    }
+
     /// How many applications have a number: at most 16777216, which differ.
     pub fn len(&self) -> u32
         ensures count { result ≡ length self.now }

@@ -1,13 +1,13 @@
 //! The live documents, and the numbers of all that were made.
 
-ghost use Rattle.std.specs.Prelude.{◌≡◌, ◌<◌, ◌^◌, IfOk, OnOk, OnErr, IfErr, false, [], map, option_copied, ◌≢◌, min, ◌-◌, length};
-ghost use Rattle.std.specs.List.{position};
+ghost use Rattle.std.specs.Prelude.{◌≡◌, ◌<◌, ◌≤◌, ◌^◌, IfOk, OnOk, OnErr, IfErr, false, true, nat_eq, [], map, option_copied, ◌≢◌, min, ◌-◌, length};
+ghost use Rattle.std.specs.List.{list_all, position, IsDistinct};
 ghost use Rattle.portal_model.specs.State.{document_of};
 ghost use Rattle.portal_model.specs.Valid.{is_made};
 ghost use Rattle.portal_model.specs.Documents.{reusable_of, first_of, IsUnused, id_of_document};
 ghost use Rattle.document_records.specs.Documents.{no_documents, room, with_document, without_document, without_last, IsLast, has_number};
 ghost use Rattle.document_records.specs.DocumentErrors.{RefusesDocument};
-ghost use Rattle.document_records.specs.DocumentIndex.{AreKept};
+ghost use Rattle.document_records.specs.DocumentIndex.{live_numbers, AreKept, ArePlaced, HasPlaces};
 
 use portal_base::limits::Limits;
 use portal_base::list::List;
@@ -45,10 +45,12 @@ pub struct Documents {
     live: List<Document>,
     made: List<DocId>,
     // The two lists have the order of addition, which contracts see; the two below find in them.
-    // A number's place in `made` rises with that order, so it's found beside `live` by halving.
-    /// The place of each made number in `made`.
+    // Each made number has a place, and those of live documents rise in their order, so a place
+    // is found beside `live` by halving. A number that isn't live may have the place of one that
+    // is.
+    /// The place of each made number.
     places: BTreeMap<u32, usize>,
-    /// The place in `made` of the number of each live document, in their order.
+    /// The place of the number of each live document, in their order.
     live_places: List<usize>,
 }
 
@@ -87,8 +89,41 @@ impl Documents {
         }
     }
 
-    /// How many more documents may be added. No limit is passed; the numbers
-    /// that were made differ, and those of live documents are among them.
+    /// Live documents whose numbers differ, and the numbers that were made,
+    /// which theirs are among.
+    pub(crate) fn of(
+        alloc: Global,
+        limits: &Limits,
+        live: List<Document>,
+        made: &[DocId],
+    ) -> Result<Documents, WantOfMemory>
+        requires differ { IsDistinct nat_eq (live_numbers live) }
+        requires among { list_all (λ d. is_made made.now d.id.number) live ≡ true }
+        requires live { length live ≤ limits.now.documents }
+        requires made { length made.now ≤ limits.now.made }
+        requires limit { limits.now.made < 2 ^ 32 }
+        ensures { IfOk result (λ documents. documents ≡ record {
+          most_live = limits.now.documents;
+          most_made = limits.now.made;
+          live = live;
+          made = made.now;
+        }) }
+    {
+        let mut places = made_places(alloc, made)?;
+        let live_places = place_live(alloc, &mut places, live.as_slice(), made)?;
+        Ok(Documents {
+            alloc,
+            most_live: limits.documents,
+            most_made: limits.made,
+            live,
+            made: List::copied(alloc, made)?,
+            places,
+            live_places,
+        })
+    }
+
+    /// How many more documents may be added. No limit is passed, and the
+    /// numbers of live documents differ and are among those that were made.
     pub fn room(&self) -> u64
         ensures room { result ≡ room self.now }
         ensures kept { AreKept self.now }
@@ -155,6 +190,13 @@ impl Documents {
         ensures kept { AreKept self.now }
     {
         self.live.as_slice()
+    }
+
+    /// The numbers that were made, in the order in which they were.
+    pub fn made(&self) -> &[DocId]
+        ensures { result.now ≡ self.now.made }
+    {
+        self.made.as_slice()
     }
 
     /// The live document of a number, which is found in about log n steps among n
@@ -232,8 +274,43 @@ impl Documents {
         ensures { result ≡ position (has_number id.number) self.now.live }
     {
         let place = self.places.get(&id.number)?;
-        self.live_places.as_slice().binary_search(place).ok()
+        let at = self.live_places.as_slice().binary_search(place).ok()?;
+        let found = self.live.get(at)?;
+        if found.id == id { Some(at) } else { None }
     }
+}
+
+/// A place for each number that was made.
+fn made_places(alloc: Global, made: &[DocId]) -> Result<BTreeMap<u32, usize>, WantOfMemory>
+    ensures { IfOk result (λ places. HasPlaces places made.now) }
+{
+    let mut places = BTreeMap::new(alloc);
+    for id in made {
+        places.insert(id.number, 0)?;
+    }
+    Ok(places)
+}
+
+/// Gives the numbers of live documents places that rise in their order.
+fn place_live(
+    alloc: Global,
+    places: &mut BTreeMap<u32, usize>,
+    live: &[Document],
+    made: &[DocId],
+) -> Result<List<usize>, WantOfMemory>
+    requires differ { IsDistinct nat_eq (live_numbers live.now) }
+    requires among { list_all (λ d. is_made made.now d.id.number) live.now ≡ true }
+    requires places { HasPlaces places.old made.now }
+    ensures { IfOk result (λ live_places.
+        ArePlaced live.now made.now places.new live_places) }
+{
+    let mut live_places = List::new(alloc);
+    for document in live {
+        let place = live_places.len();
+        places.insert(document.id.number, place)?;
+        live_places.push(place)?;
+    }
+    Ok(live_places)
 }
 
 /// How many more documents two limits leave room for.

@@ -29,7 +29,7 @@ pub remove-requires : goal.remove-requires
 remove-requires c =
     let some : position (has_number c.args.id.number) c.self.inside.live ≡ Some c.in_ok-at.at =
     ap (λ (s : DocumentList). position (has_number c.args.id.number) s.live) c.self.view_is ∙ (sym c.place_of.ensures ∙ c.in_ok-at.was) in
-    beside-at (has_number c.args.id.number) c.self.inside.made c.self.inside.live c.self.inside.live_places c.in_ok-at.at c.self.invariant.beside some
+    beside-at (has_number c.args.id.number) c.self.inside.places c.self.inside.live c.self.inside.live_places c.in_ok-at.at c.self.invariant.beside some
 
 pub invariant_of-self : goal.invariant_of-self
 invariant_of-self c =

@@ -1,4 +1,6 @@
 use Rattle.std.proofs.Common.{◌≡◌, ◌∙◌, ◌++◌, ◌∷◌, [], ap}
+use Rattle.portal_base.specs.declared.names.doc_id.DocId.{DocId}
+use Rattle.portal_model.specs.Valid.{is_made}
 use Rattle.document_records.specs.Documents.{DocumentList}
 use Rattle.document_records.proofs.DocumentLemmas.{indexed-back, popped}
 use Rattle.document_records.proofs.documents.Documents.take_back.Goals as goal
@@ -12,5 +14,6 @@ invariant_of-self c =
     rw (live_left, made_left)
     (indexed-back c.self.inside.most_live c.self.inside.most_made c.requires.before.live c.requires.before.made c.self.inside.places c.remove.new.self c.self.inside.live_places c.pop-2.new.self c.pop-2.result c.requires.last
     (rw live at (rw made at c.self.invariant))
+    (ap (λ (id : DocId). is_made c.requires.before.made id.number) c.requires.number ∙ c.requires.new)
     (rw c.requires.number c.remove.ensures.updates.0)
     c.pop-2.ensures)
