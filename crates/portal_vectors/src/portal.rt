@@ -12,7 +12,7 @@ use portal_base::limits::Limits;
 use portal_lines::{ScriptPortal, opened_by};
 use std::alloc::Global;
 use vector_lines::error::{VectorError, bad};
-use vector_lines::notation::{cut, number, small_number, text};
+use vector_lines::notation::{cut, debug, number, small_number, text};
 
 /// `portal LIMITS SCRIPT | STEP | STEP ..`: what each step is answered by a portal that the
 /// script opens within these limits; and then how many entries the history has, and their
@@ -21,7 +21,8 @@ use vector_lines::notation::{cut, number, small_number, text};
 ///
 /// A step is a request, behind the number of its seat; or `desk SEAT REQUEST, REQUEST ..`,
 /// which asks them of one desk of the seat; `now MOMENT`, which is what the clock shows from
-/// then on; or `book`, which tells the live documents and the numbered applications.
+/// then on; `book`, which tells the live documents and the numbered applications; or `renew`,
+/// which begins a new history.
 pub fn portal(alloc: Global, rest: &str, is_given: bool) -> Result<String, VectorError> {
     let (words, rest) = cut(rest);
     let mut portal = opened_in(alloc, rest, limits_of(words)?)?;
@@ -76,6 +77,7 @@ fn put_step(
         "desk" => out.push_str(asked_at_desk(alloc, portal, rest)?.as_str())?,
         "now" => put_moment(portal, number(rest)?, out)?,
         "book" => out.push_str(book(alloc, portal)?.as_str())?,
+        "renew" => put_renewed(alloc, portal, out)?,
         _ => {
             out.push_str(asked(alloc, portal, small_number(word)?, rest)?.as_str())?;
             if is_given {
@@ -90,6 +92,19 @@ fn put_step(
 fn put_moment(portal: &mut ScriptPortal, moment: u64, out: &mut String) -> Result<(), VectorError> {
     portal.clock_mut().set(moment);
     out.push_str("set")?;
+    Ok(())
+}
+
+/// Whether a new history begins.
+fn put_renewed(
+    alloc: Global,
+    portal: &mut ScriptPortal,
+    out: &mut String,
+) -> Result<(), VectorError> {
+    match portal.renew(alloc) {
+        Ok(()) => out.push_str("begun")?,
+        Err(error) => out.push_str(debug(alloc, &error)?.as_str())?,
+    }
     Ok(())
 }
 

@@ -188,7 +188,7 @@ impl<'a> Gate for Standing<'a> {
         if !self.told_full.swap(true, Ordering::SeqCst) {
             let _ = eprintln!(self.system;
                 "docportal: the history is full ({limit} bytes of --history): requests are refused \
-                until the service is started anew"
+                until a new one begins, or the service is started anew"
             );
         }
     }

@@ -1,3 +1,4 @@
 pub mod Places
 pub mod Shifts
+pub mod Rounds
 pub mod Sends

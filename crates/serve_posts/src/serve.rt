@@ -25,9 +25,15 @@ use worker_gate::worker::Post;
 /// that is started for it. Workers and seats are numbered from 1, in the order
 /// of the posts.
 ///
-/// `Ended` hands the posts back in their order, with the end of each worker,
-/// and the portal. `Refused` is what `Portal::start` answers, with the devices.
-/// At `Memory` no worker began. It returns only where all workers do.
+/// A worker that ends since the history has no room doesn't end its post. When
+/// all workers have ended, the portal is renewed, and a further turn serves the
+/// posts that are left, in the seats of their numbers. Where it can't be renewed
+/// that turn goes on with what there is.
+///
+/// `Ended` hands the posts back in their order, with the end of each one's last
+/// worker, and the portal. `Refused` is what `Portal::start` answers, with the
+/// devices. At `Memory` no worker of a turn began. It returns only where all
+/// workers do.
 pub fn serve<R, L, T, K, C, W, G>(
     alloc: Global,
     rt: &R,
@@ -58,10 +64,11 @@ where
 {
     match Portal::start(alloc, tree, keeper, clock, words, settings.limits) {
         Ok(portal) => match serve_over(alloc, rt, posts, portal, settings, gate) {
-            Ok(Shift { posts, ends, story }) => ServeStatus::Ended {
+            Ok((Shift { posts, ends, story }, rounds)) => ServeStatus::Ended {
                 posts,
                 ends,
                 portal: story,
+                rounds,
             },
             Err(WantOfMemory) => ServeStatus::Memory,
         },

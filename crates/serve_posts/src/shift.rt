@@ -1,16 +1,18 @@
 //! Serving posts over any value that keeps a history.
 
-ghost use Rattle.std.specs.Prelude.{◌≡◌, ◌≤◌, ℕ, IfOk, length, false};
+ghost use Rattle.std.specs.Prelude.{◌≡◌, ◌≤◌, ℕ, IfOk, length, map, replicate, false};
+ghost use Rattle.std.specs.List.{list_any};
 ghost use Rattle.portal_model.specs.History.{run};
 ghost use Rattle.portal_model.specs.Seated.{is_open};
 ghost use Rattle.worker_gate.specs.Working.{sides};
-ghost use Rattle.serve_posts.specs.Posts.{ServesPosts, halls};
+ghost use Rattle.serve_posts.specs.Posts.{halls, is_left, unserved};
+ghost use Rattle.serve_posts.specs.Rounds.{Renewal, ServesAll, Turn, stand};
 
-use crate::worker::{Crew, seat_workers, stand_up, work_all};
+use crate::worker::{Crew, is_left, seat_workers, stand_up, work_all};
 use portal_base::limits::Settings;
 use portal_base::list::List;
 use portal_base::memory::WantOfMemory;
-use portal_core::storied::Storied;
+use portal_core::storied::{Renews, Storied};
 use std::alloc::Global;
 use std::sync::Wait;
 use std::thread::Threads;
@@ -26,21 +28,94 @@ use worker_gate::worker::{Post, WorkEnd};
 pub(crate) struct Shift<L, S> {
     /// The posts, in their order.
     pub(crate) posts: List<Post<L>>,
-    /// How the worker of each ended.
+    /// How the last worker of each ended.
     pub(crate) ends: List<WorkEnd>,
     /// What kept the history.
     pub(crate) story: S,
 }
 
-/// Serves each post by a worker of its own, in a seat of its number, over one
-/// history. The posts come back in their order.
+/// Serves each post in turns, until none is left. It answers how many turns
+/// there were, too.
 ///
 /// No seat has an open connection in the history so far. Where there is no
-/// memory no worker begins.
+/// memory for a turn no worker of it begins.
 pub(crate) fn serve_over<R, L, S, G>(
     alloc: Global,
     rt: &R,
     posts: List<Post<L>>,
+    story: S,
+    settings: &Settings,
+    gate: &G,
+) -> Result<(Shift<L, S>, u64), WantOfMemory>
+where
+    R: Threads + Wait + Sync,
+    L: Listener + Send + Drop,
+    L::In: Send,
+    L::Out: Send,
+    S: Renews + Send + Drop,
+    G: Gate + Sync,
+    requires count { (1 ≤ length posts) × (length posts ≤ 65535) }
+    requires closed { (n : ℕ) → is_open (run (S.opening story) (S.entries story)) n ≡ false }
+    ensures { IfOk result (λ served. ServesAll
+        (sides L.In.left L.In.faults L.Out.told L.Out.faults) (halls L.links L.ends L.faults)
+        settings.now (S.opening story) (S.entries story) posts served.1
+        (stand (S.opening served.0.story) (S.entries served.0.story) served.0.posts
+        served.0.ends)) }
+{
+    story.known();
+    let ends = all_unserved(alloc, posts.len())?;
+    let mut shift = serve_turn(alloc, rt, posts, ends, story, settings, gate)?;
+    let mut rounds = 1u64;
+    'turns: for _ in rt.forever() {
+        if !any_left(shift.ends.as_slice()) {
+            return Ok((shift, rounds));
+        }
+        let Shift { posts, ends, story } = shift;
+        let story = renewed(alloc, story);
+        shift = match serve_turn(alloc, rt, posts, ends, story, settings, gate) {
+            Ok(after) => after,
+            Err(error) => return Err(error),
+        };
+        rounds = rounds.saturating_add(1);
+    }
+    unreachable!()
+}
+
+/// So many posts are left before their first turn.
+fn all_unserved(alloc: Global, count: usize) -> Result<List<WorkEnd>, WantOfMemory>
+    ensures { IfOk result (λ ends. ends ≡ replicate count unserved) }
+{
+    let ends = vec![in alloc; WorkEnd::Full { cost: 0, limit: 0 }; count]?;
+    Ok(List::from_vec(ends))
+}
+
+/// Whether a post is left.
+fn any_left(ends: &[WorkEnd]) -> bool
+    ensures { result ≡ list_any is_left ends.now }
+{
+    ends.iter().any(|end| is_left(*end))
+}
+
+/// Begins a new history, where that isn't refused.
+fn renewed<S: Renews + Drop>(alloc: Global, story: S) -> S
+    ensures { Renewal (S.opening story) (S.entries story) (S.opening result) (S.entries result) }
+{
+    let mut story = story;
+    // Where it is refused, the next turn goes on with what there is.
+    let _renewed = story.renew(alloc);
+    story
+}
+
+/// One turn: serves each post that is left by a worker of its own, in a seat of
+/// its number, over one history. The posts come back in their order.
+///
+/// No seat has an open connection in the history so far, nor behind the turn.
+/// Where there is no memory no worker begins.
+fn serve_turn<R, L, S, G>(
+    alloc: Global,
+    rt: &R,
+    posts: List<Post<L>>,
+    ends: List<WorkEnd>,
     story: S,
     settings: &Settings,
     gate: &G,
@@ -53,12 +128,12 @@ where
     S: Storied + Send + Drop,
     G: Gate + Sync,
     requires count { (1 ≤ length posts) × (length posts ≤ 65535) }
+    requires ends { length ends ≡ length posts }
     requires closed { (n : ℕ) → is_open (run (S.opening story) (S.entries story)) n ≡ false }
-    ensures opening { IfOk result (λ shift. S.opening shift.story ≡ S.opening story) }
-    ensures serves { IfOk result (λ shift. ServesPosts
+    ensures turn { IfOk result (λ shift. Turn
         (sides L.In.left L.In.faults L.Out.told L.Out.faults) (halls L.links L.ends L.faults)
-        settings.now (S.opening story) (S.entries story) (S.entries shift.story) posts shift.ends
-        shift.posts) }
+        settings.now (stand (S.opening story) (S.entries story) posts ends)
+        (stand (S.opening shift.story) (S.entries shift.story) shift.posts shift.ends)) }
 {
     let count = posts.len();
     let crew = Crew::with_room(alloc, count)?;
@@ -66,7 +141,7 @@ where
         Ok(started) => started,
         Err(TurnError::Memory { portal: _ }) => return Err(WantOfMemory),
     };
-    let mut workers = seat_workers(alloc, rt, &turn, posts, passes)?;
+    let mut workers = seat_workers(alloc, rt, &turn, posts, ends, passes)?;
     work_all(alloc, rt, settings, gate, workers.as_mut_slice());
     let Crew {
         passes,

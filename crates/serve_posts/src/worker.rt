@@ -4,7 +4,7 @@ ghost use Rattle.std.specs.Prelude.{◌≡◌, ◌∷◌, [], ◌+◌, ◌<◌, 
 ghost use Rattle.portal_model.specs.Seated.{is_open, state_seen};
 ghost use Rattle.turn_desk.specs.Sights.{seated_of};
 ghost use Rattle.worker_gate.specs.Working.{sides};
-ghost use Rattle.serve_posts.specs.Posts.{Attends, halls, sat_down};
+ghost use Rattle.serve_posts.specs.Posts.{AttendsLeft, halls, is_left, sat_down};
 
 use portal_base::limits::Settings;
 use portal_base::list::List;
@@ -29,7 +29,7 @@ pub(crate) struct Worker<'a, R, L, S: Storied> {
     pub(crate) desk: WaitingSeat<'a, R, S>,
     /// Its post.
     pub(crate) post: Post<L>,
-    /// How its work ended; before that, as if there had been no memory for it.
+    /// How its work ended; before that, how that of the last worker at its post did.
     pub(crate) end: WorkEnd,
 }
 
@@ -68,26 +68,33 @@ impl<L: Drop, S: Storied + Drop> Crew<L, S> {
     }
 }
 
-/// A worker for each post, in the seat of its pass.
+/// A worker for each post, whose last worker ended so, in the seat of its pass.
 pub(crate) fn seat_workers<'a, R, L: Drop, S: Storied + Drop>(
     alloc: Global,
     rt: &'a R,
     turn: &'a Turn<S>,
     posts: List<Post<L>>,
+    ends: List<WorkEnd>,
     passes: Vec<Pass<S>>,
 ) -> Result<Vec<Worker<'a, R, L, S>>, WantOfMemory>
     requires table { (k : ℕ) (p : _) → slice_get passes.items k ≡ Some p
         → p.table ≡ turn.now.table }
     requires as_many { vec_len passes ≡ length posts }
+    requires ends { length ends ≡ length posts }
     ensures posts { IfOk result (λ workers. map (λ w. w.post) workers.items ≡ posts) }
+    ensures ends { IfOk result (λ workers. map (λ w. w.end) workers.items ≡ ends) }
     ensures seats { IfOk result (λ workers. map (λ w. w.desk) workers.items
         ≡ map sat_down passes.items) }
 {
     let mut workers = Vec::new(alloc);
     workers.reserve(posts.len())?;
     let mut passes = passes.into_iter();
+    let mut ends = ends.into_vec().into_iter();
     for post in posts.into_vec() {
         let Some(pass) = passes.next() else {
+            unreachable!()
+        };
+        let Some(end) = ends.next() else {
             unreachable!()
         };
         let number = pass.number();
@@ -96,13 +103,23 @@ pub(crate) fn seat_workers<'a, R, L: Drop, S: Storied + Drop>(
             number,
             desk,
             post,
-            end: WorkEnd::Memory,
+            end,
         });
     }
     Ok(workers)
 }
 
-/// A worker serves its post.
+/// Whether a post is left whose last worker ended so.
+pub(crate) fn is_left(end: WorkEnd) -> bool
+    ensures { result ≡ is_left end }
+{
+    match end {
+        WorkEnd::Full { cost: _, limit: _ } => true,
+        WorkEnd::Closed | WorkEnd::Failed | WorkEnd::Memory => false,
+    }
+}
+
+/// A worker serves its post, where that is left.
 fn work_at<R: Wait, L: Listener, S: Storied, G: Gate>(
     alloc: Global,
     rt: &R,
@@ -112,10 +129,13 @@ fn work_at<R: Wait, L: Listener, S: Storied, G: Gate>(
 )
     requires { is_open (state_seen (seated_of worker.old.desk)) worker.old.desk.knows.number
         ≡ false }
-    ensures { Attends (sides L.In.left L.In.faults L.Out.told L.Out.faults)
-        (halls L.links L.ends L.faults) settings.now worker.old.post worker.old.desk worker.new.end
-        worker.new.post worker.new.desk }
+    ensures { AttendsLeft (sides L.In.left L.In.faults L.Out.told L.Out.faults)
+        (halls L.links L.ends L.faults) settings.now worker.old.post worker.old.end
+        worker.old.desk worker.new.end worker.new.post worker.new.desk }
 {
+    if !is_left(worker.end) {
+        return;
+    }
     worker.end = work(
         alloc,
         rt,
@@ -127,8 +147,8 @@ fn work_at<R: Wait, L: Listener, S: Storied, G: Gate>(
     );
 }
 
-/// All workers serve their posts, each in a thread of its own where one can be
-/// started.
+/// All workers serve their posts, where those are left, each in a thread of its
+/// own where one can be started.
 pub(crate) fn work_all<
     R: Threads + Wait + Sync,
     L: Listener + Send,
@@ -144,8 +164,8 @@ where
     ensures as_many { length workers.new ≡ length workers.old }
     ensures each { (k : ℕ) (a b : _) → slice_get workers.old k ≡ Some a
         → slice_get workers.new k ≡ Some b
-        → Attends (sides L.In.left L.In.faults L.Out.told L.Out.faults)
-        (halls L.links L.ends L.faults) settings.now a.post a.desk b.end b.post b.desk }
+        → AttendsLeft (sides L.In.left L.In.faults L.Out.told L.Out.faults)
+        (halls L.links L.ends L.faults) settings.now a.post a.end a.desk b.end b.post b.desk }
 {
     let count = workers.len();
     // This halves the list, so the stack grows as the logarithm of its length, and no memory is
@@ -157,9 +177,9 @@ where
         &|_, worker|
             requires { is_open (state_seen (seated_of worker.old.desk))
                 worker.old.desk.knows.number ≡ false }
-            ensures { Attends (sides L.In.left L.In.faults L.Out.told L.Out.faults)
+            ensures { AttendsLeft (sides L.In.left L.In.faults L.Out.told L.Out.faults)
                 (halls L.links L.ends L.faults) settings.entry.now worker.old.post
-                worker.old.desk worker.new.end worker.new.post worker.new.desk }
+                worker.old.end worker.old.desk worker.new.end worker.new.post worker.new.desk }
         { work_at(alloc, rt, settings, gate, worker) },
     );
 }

@@ -66,13 +66,13 @@ pub fn held_portal<'a, R: Clock>(
     }
 }
 
-/// The settings of every service.
-pub fn settings(alloc: Global) -> Result<Settings, VectorError>
+/// The settings of a service whose history may cost so much.
+pub fn settings(alloc: Global, history: u64) -> Result<Settings, VectorError>
     ensures made { IfOk result (λ s. s.limits.made < 2 ^ 32) }
     ensures queued { IfOk result (λ s. s.limits.queued < 2 ^ 32) }
 {
     Ok(Settings {
-        limits: limits(DOCUMENTS, PLENTY),
+        limits: limits(DOCUMENTS, history),
         mountpoint: given(alloc, HostPath::read(alloc, b"/run/doc"))?,
         guid: [
             0x01, 0x23, 0x45, 0x67, 0x89, 0xab, 0xcd, 0xef, 0x01, 0x23, 0x45, 0x67, 0x89, 0xab,

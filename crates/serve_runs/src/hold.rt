@@ -51,8 +51,10 @@ impl Steps {
 /// Which of two workers is held, and until what.
 #[derive(Clone, Copy)]
 pub enum Hold {
-    /// Nobody.
+    /// Nobody, while a message waits for an answer.
     Nobody,
+    /// Nobody, while the history is full again and again.
+    NobodyInRounds,
     /// Each at its first request, until the other is at its own first.
     AtFirst,
     /// One at its second request, until the other has written a piece.
@@ -66,6 +68,7 @@ impl Display for Hold {
     fn fmt<W: Write>(&self, f: &mut Formatter<W>) -> fmt::Result {
         match self {
             Hold::Nobody => f.write_str("a message that waits for the handshake's answer"),
+            Hold::NobodyInRounds => f.write_str("a history that has room for one connection"),
             Hold::AtFirst => f.write_str("each is held at its first request"),
             Hold::AtSecond { worker } => {
                 write!(f, "worker {worker} is held at its second request")

@@ -92,24 +92,45 @@ fn give(buffer: &mut [u8], bytes: &[u8]) -> ReadAnswer
     ReadAnswer::Got(len)
 }
 
-/// A listener of one link, on which these pieces come.
+/// A listener of so many links, on each of which these pieces come.
 pub fn links<'a>(
     alloc: Global,
     answered: &'a Steps,
+    count: u32,
     first: &str,
     second: &str,
 ) -> Result<Links<'a>, VectorError> {
-    let first = bytes(alloc, first)?;
-    let second = bytes(alloc, second)?;
     let mut coming = List::new(alloc);
-    let pushed = coming.push(link(alloc, answered, first, second));
+    let mut put = Ok(());
+    for _ in 0..count {
+        put = put_link(alloc, &mut coming, answered, first, second);
+        if put.is_err() {
+            break;
+        }
+    }
     let listener = MemoryListener::new(alloc, coming);
-    match pushed {
+    match put {
         Ok(()) => Ok(listener),
         Err(error) => {
             drop(listener);
-            Err(VectorError::from(error))
+            Err(error)
         }
+    }
+}
+
+/// Puts a link behind others.
+fn put_link<'a>(
+    alloc: Global,
+    coming: &mut List<Link<PieceSource<'a>, HeardSink<'a>>>,
+    answered: &'a Steps,
+    first: &str,
+    second: &str,
+) -> Result<(), VectorError> {
+    let first = bytes(alloc, first)?;
+    let second = bytes(alloc, second)?;
+    match coming.push(link(alloc, answered, first, second)) {
+        Ok(()) => Ok(()),
+        Err(error) => Err(VectorError::from(error)),
     }
 }
 

@@ -11,7 +11,11 @@
 //!   its own; the first at its second request until the other has answered; and
 //!   the second so;
 //! - a bus of the host is served whose message comes only once the handshake is
-//!   answered.
+//!   answered;
+//! - a mount of three links is served over a history that has room for one
+//!   connection, so that the second is refused and the third is answered in a
+//!   second round, in which the other mount, whose listener gave none, stays
+//!   closed.
 //!
 //! A `serve` whose workers run one after another lets a hold run out; one that
 //! hands links back unread answers none; a session that reads its input to the end
@@ -47,6 +51,7 @@ fn main(rt: HostRuntime) -> io::Result<()> {
         Hold::AtSecond { worker: 1 },
         Hold::AtSecond { worker: 2 },
         Hold::Nobody,
+        Hold::NobodyInRounds,
     ] {
         println!(rt; "{hold}")?;
         let text = shown(rt.alloc(), served(&rt, rt.alloc(), hold))?;

@@ -1,4 +1,4 @@
-//! The posts of the services: two mounts, or a bus.
+//! The posts of the services: two mounts, of which one may have no link, or a bus.
 
 use crate::hold::{Hold, Steps};
 use crate::links::{Links, links};
@@ -25,29 +25,34 @@ const PING: &str = "6c010001 00000000 01000000 45000000 01016f00 01000000 2f0000
     02017300 19000000 \"org.freedesktop.DBus.Peer\" 00 000000000000 03017300 04000000 \"Ping\" \
     00 000000";
 
-/// Puts the posts of a service behind others: where nobody is held a bus of the host, whose
-/// message comes only once the handshake is answered; else a mount of the host and one of an
-/// application, on each of which the attributes of the document's file are asked.
+/// Puts the posts of a service behind others: a bus of the host, whose message comes only once
+/// the handshake is answered; or a mount of the host and one of an application, on each link of
+/// which the attributes of the document's file are asked. Where workers are held each has one
+/// link; in rounds the host's has three, and the application's none.
 pub fn put_posts<'a>(
     alloc: Global,
     posts: &mut Posts<'a>,
     answered: &'a Steps,
     hold: Hold,
 ) -> Result<(), VectorError> {
-    if let Hold::Nobody = hold {
-        let bus = links(alloc, answered, HANDSHAKE, PING);
-        return put(posts, bus, Who::Host, Kind::Bus);
-    }
+    let (of_host, of_app) = match hold {
+        Hold::Nobody => {
+            let bus = links(alloc, answered, 1, HANDSHAKE, PING);
+            return put(posts, bus, Who::Host, Kind::Bus);
+        }
+        Hold::NobodyInRounds => (3, 0),
+        Hold::AtFirst | Hold::AtSecond { worker: _ } => (1, 1),
+    };
     let app = given(alloc, AppId::read(alloc, b"org.ed"))?;
     put(
         posts,
-        links(alloc, answered, GETATTR, ""),
+        links(alloc, answered, of_host, GETATTR, ""),
         Who::Host,
         Kind::Mount,
     )?;
     put(
         posts,
-        links(alloc, answered, GETATTR, ""),
+        links(alloc, answered, of_app, GETATTR, ""),
         Who::App(app),
         Kind::Mount,
     )

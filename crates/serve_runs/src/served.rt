@@ -10,6 +10,7 @@ use crate::told::tell;
 use portal_base::limits::Settings;
 use portal_base::list::List;
 use portal_base::outside::SetClock;
+use portal_lines::PLENTY;
 use script_form::devices::ScriptDevices;
 use serve_posts::serve::serve;
 use std::alloc::Global;
@@ -24,7 +25,7 @@ pub fn served<R: Threads + Wait + Clock + Sync>(
     alloc: Global,
     hold: Hold,
 ) -> Result<String, VectorError> {
-    let settings = settings(alloc)?;
+    let settings = settings(alloc, history_of(hold))?;
     let answered = Steps::new();
     let gate = HoldGate::new(rt, hold);
     let mut posts = List::new(alloc);
@@ -36,6 +37,15 @@ pub fn served<R: Threads + Wait + Clock + Sync>(
         }
     };
     with_end(alloc, told, gate.ran_out())
+}
+
+/// What the history of a service may cost: in rounds an Enter and a GETATTR of the host, and no
+/// second Enter, and else plenty.
+fn history_of(hold: Hold) -> u64 {
+    match hold {
+        Hold::NobodyInRounds => 383,
+        Hold::Nobody | Hold::AtFirst | Hold::AtSecond { worker: _ } => PLENTY,
+    }
 }
 
 /// The same of two posts, or of one.

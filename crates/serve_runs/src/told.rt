@@ -13,7 +13,8 @@ use vector_lines::error::{VectorError, bad};
 use vector_lines::notation::{debug, digits};
 use worker_gate::worker::{Post, WorkEnd};
 
-/// How each worker ended, what its links were answered, and what its seat asked.
+/// How each worker ended, what its links were answered, and what its seat asked in the last
+/// round.
 pub fn tell<T: HostTree, K: Keeper, C: Clock, W: Words>(
     alloc: Global,
     status: &ServeStatus<Links<'_>, T, K, C, W>,
@@ -23,11 +24,13 @@ pub fn tell<T: HostTree, K: Keeper, C: Clock, W: Words>(
             posts,
             ends,
             portal,
+            rounds,
         } => tell_all(
             alloc,
             posts.as_slice(),
             ends.as_slice(),
             portal.history().entries(),
+            *rounds,
         ),
         ServeStatus::Refused(refusal) => Ok(debug(alloc, &refusal.error)?),
         ServeStatus::Memory => bad(),
@@ -39,6 +42,7 @@ fn tell_all(
     posts: &[Post<Links<'_>>],
     ends: &[WorkEnd],
     entries: &[Entry],
+    rounds: u64,
 ) -> Result<String, VectorError> {
     let mut text = String::new(alloc);
     let mut worker = 0u32;
@@ -51,7 +55,7 @@ fn tell_all(
         tell_entries(&mut text, worker, entries)?;
     }
     let count = entries.len();
-    write!(text, "{count} entries")?;
+    write!(text, "{count} entries, round {rounds}")?;
     Ok(text)
 }
 

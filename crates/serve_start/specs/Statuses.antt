@@ -17,11 +17,13 @@ abbrev pub is_failed : WorkEnd → Bool
 is_failed work.Closed = false
 is_failed work.Failed = true
 is_failed work.Memory = false
+is_failed (work.Full cost limit) = false
 
 abbrev pub is_starved : WorkEnd → Bool
 is_starved work.Closed = false
 is_starved work.Failed = false
 is_starved work.Memory = true
+is_starved (work.Full cost limit) = false
 
 -- it ends by a fault where one of them did; else for want of memory where one did
 abbrev pub end_of : List WorkEnd → ServeEnd
@@ -41,6 +43,6 @@ EndsStart start.Memory end = end ≡ Memory
 -- ---- either, or no memory before a worker began
 
 abbrev pub EndsStatus : {L T K C W : Type 0} → ServeStatus L T K C W → ServeEnd → Type 0
-EndsStatus (status.Ended posts ends portal) end = end ≡ end_of ends
+EndsStatus (status.Ended posts ends portal rounds) end = end ≡ end_of ends
 EndsStatus (status.Refused refusal) end = EndsStart refusal.error end
 EndsStatus status.Memory end = end ≡ Memory

@@ -32,6 +32,7 @@ where
             posts: _,
             ends,
             portal: _,
+            rounds: _,
         } => end_of_work(ends.as_slice()),
         ServeStatus::Refused(refusal) => end_of_start(openers, refusal),
         ServeStatus::Memory => ServeEnd::Memory,

@@ -1,14 +1,17 @@
 -- The links that were served so far, and one more.
-use Rattle.std.proofs.Common.{◌≡◌, ℕ, List, [], ◌∷◌, ◌++◌, Option, Some, None, IfSome, false, refl, sym, ap, ◌∙◌, subst}
+use Rattle.std.proofs.Common.{◌≡◌, ℕ, ◌≤◌, List, [], ◌∷◌, ◌++◌, Bool, ◌||◌, Option, Some, None, IfSome, false, refl, sym, ap, ◌∙◌, subst, arith}
 use Rattle.std.proofs.lemmas.List.{append-nil, append_assoc}
+use Rattle.std.proofs.lemmas.List.Folds.{list_any-append}
 use Rattle.portal_base.specs.declared.limits.Settings.{Settings}
 use Rattle.portal_base.specs.declared.who.Kind.{Kind}
 use Rattle.portal_base.specs.declared.who.Who.{Who}
 use Rattle.portal_base.specs.Outside.{HasRisen}
 use Rattle.portal_desk.specs.Knowing.{Known}
-use Rattle.portal_model.specs.Seated.{Exchange, Moved, Seated, is_open, state_seen}
+use Rattle.portal_model.specs.declared.reply.Refused.TheVariants as refused
+use Rattle.portal_model.specs.Seated.{Exchange, Moved, Seated, is_open, rises_by, state_seen}
 use Rattle.session.specs.declared.act.Client.{Client}
 use Rattle.session.specs.declared.served.Served.{Served}
+use Rattle.session.specs.declared.served.Served.TheVariants as served
 use Rattle.session.specs.Connections.{Serves}
 use Rattle.session.specs.Hearing.{IsHeard}
 use Rattle.session.specs.Isolation.{IsIsolated}
@@ -18,16 +21,17 @@ use Rattle.worker_gate.specs.declared.listener.Link.{Link}
 use Rattle.worker_gate.specs.declared.worker.WorkEnd.{WorkEnd}
 use Rattle.worker_gate.specs.declared.worker.WorkEnd.TheVariants as end
 use Rattle.worker_gate.specs.Listening.{Accepts, Links, link, links, returned}
-use Rattle.worker_gate.specs.Working.{EndsWork, Hall, Passes, ServesLink, ServesLinks, Sides, Works, joined, spring_of, world_of}
+use Rattle.worker_gate.specs.Working.{EndsFull, EndsWork, Hall, Passes, ServesLink, ServesLinks, Sides, Visit, Works, any_full, is_full, joined, spring_of, visit, world_of}
 use Rattle.worker_gate.proofs.Parts.{moved_none, part_of}
 
--- these links were served, and the listener's counts stand still
+-- these links were served, the history had room for each, and the listener's counts stand still
 pub record SoFar {S K : Type 0} (s : Sides S K) (c : Client) (a : Hall S K) (v : Seated)
     (b : Hall S K) (w : Seated) : Type 0 where
   pub given : List (Link S K)
   pub back : List (Link S K)
-  pub parts : List (List Exchange)
-  pub serves : ServesLinks s c given v parts back w
+  pub visits : List Visit
+  pub serves : ServesLinks s c given v visits back w
+  pub none : any_full visits ≡ false
   pub passes : Passes a.links given back b.links
   pub ends : b.ends ≡ a.ends
   pub faults : b.faults ≡ a.faults
@@ -41,6 +45,26 @@ moved_on v m w h k = record {
     k.begins.1 ∙ (ap (λ z. z ++ k.begins.0) h.begins.1 ∙ append_assoc v.seen h.begins.0 k.begins.0),
   );
 }
+
+-- an ending that isn't this one
+pub not_full : (e : Served) → ((cost limit : ℕ) → e ≡ served.Full cost limit → ⊥) → is_full e ≡ false
+not_full (served.Full cost limit) no = absurd (no cost limit refl)
+not_full served.Ended no = refl
+not_full (served.Cut rest) no = refl
+not_full (served.Malformed at rule) no = refl
+not_full (served.LineTooLong at) no = refl
+not_full served.ReadFault no = refl
+not_full served.WriteFault no = refl
+not_full served.Spent no = refl
+not_full served.Memory no = refl
+
+-- none of more links than before was refused
+none_more : (xs : List Visit) (x : Visit) → any_full xs ≡ false → is_full x.ended ≡ false → any_full (xs ++ x ∷ []) ≡ false
+none_more xs x h k = list_any-append (λ (y : Visit). is_full y.ended) xs (x ∷ []) ∙ (ap (λ (b : Bool). b || (is_full x.ended || false)) h ∙ ap (λ (b : Bool). b || false) k)
+
+-- a count that rose behind another call rose over both
+rose : (n m k : ℕ) → n ≤ m → k ≡ rises_by m 1 → HasRisen n k
+rose n m k l e = omega (arith, l, e)
 
 module _ {S K : Type 0} where
   pub passes_none : (o : Option (Links S K)) → Passes o [] [] o
@@ -60,84 +84,141 @@ module _ {S K : Type 0} where
         r ∙ (ap (λ (z : Option (Links S K)). returned z x' y') q'.2 ∙ ap (λ (z : List (Link S K)). Some (links q'.0 z)) (append_assoc old.back back (link x' y' ∷ []))),
       )
 
-  pub serves_more : (s : Sides S K) (c : Client) (given : List (Link S K)) (parts : List (List Exchange)) (back : List (Link S K)) (x y : Link S K) (part : List Exchange) (v m w : Seated)
-      → ServesLinks s c given v parts back m → ServesLink s c x m part y w
-      → ServesLinks s c (given ++ x ∷ []) v (parts ++ part ∷ []) (back ++ y ∷ []) w
-  serves_more s c [] [] [] x y part v m w h k = (w, subst (λ (z : Seated). ServesLink s c x z part y w) h k, refl)
-  serves_more s c (g ∷ given) (p ∷ parts) (b ∷ back) x y part v m w h k =
-      (h.0, h.1, serves_more s c given parts back x y part h.0 m w h.2 k)
-  serves_more s c [] [] (b ∷ back) x y part v m w h k = elim h [ ]
-  serves_more s c [] (p ∷ parts) back x y part v m w h k = elim h [ ]
-  serves_more s c (g ∷ given) [] back x y part v m w h k = elim h [ ]
-  serves_more s c (g ∷ given) (p ∷ parts) [] x y part v m w h k = elim h [ ]
+  pub serves_more : (s : Sides S K) (c : Client) (given : List (Link S K)) (visits : List Visit) (back : List (Link S K)) (x y : Link S K) (z : Visit) (v m w : Seated)
+      → ServesLinks s c given v visits back m → ServesLink s c x m z y w
+      → ServesLinks s c (given ++ x ∷ []) v (visits ++ z ∷ []) (back ++ y ∷ []) w
+  serves_more s c [] [] [] x y z v m w h k = (w, subst (λ (u : Seated). ServesLink s c x u z y w) h k, refl)
+  serves_more s c (g ∷ given) (p ∷ visits) (b ∷ back) x y z v m w h k =
+      (h.0, h.1, serves_more s c given visits back x y z h.0 m w h.2 k)
+  serves_more s c [] [] (b ∷ back) x y z v m w h k = elim h [ ]
+  serves_more s c [] (p ∷ visits) back x y z v m w h k = elim h [ ]
+  serves_more s c (g ∷ given) [] back x y z v m w h k = elim h [ ]
+  serves_more s c (g ∷ given) (p ∷ visits) [] x y z v m w h k = elim h [ ]
 
   -- the history goes on
-  pub all_moved : (s : Sides S K) (c : Client) (given : List (Link S K)) (parts : List (List Exchange)) (back : List (Link S K)) (v w : Seated)
-      → ServesLinks s c given v parts back w → Moved v w
+  pub all_moved : (s : Sides S K) (c : Client) (given : List (Link S K)) (visits : List Visit) (back : List (Link S K)) (v w : Seated)
+      → ServesLinks s c given v visits back w → Moved v w
   all_moved s c [] [] [] v w h = subst (λ (z : Seated). Moved v z) (sym h) (moved_none v)
-  all_moved s c (g ∷ given) (p ∷ parts) (b ∷ back) v w h =
-      moved_on v h.0 w h.1.moved (all_moved s c given parts back h.0 w h.2)
+  all_moved s c (g ∷ given) (p ∷ visits) (b ∷ back) v w h =
+      moved_on v h.0 w h.1.moved (all_moved s c given visits back h.0 w h.2)
   all_moved s c [] [] (b ∷ back) v w h = elim h [ ]
-  all_moved s c [] (p ∷ parts) back v w h = elim h [ ]
+  all_moved s c [] (p ∷ visits) back v w h = elim h [ ]
   all_moved s c (g ∷ given) [] back v w h = elim h [ ]
-  all_moved s c (g ∷ given) (p ∷ parts) [] v w h = elim h [ ]
+  all_moved s c (g ∷ given) (p ∷ visits) [] v w h = elim h [ ]
 
-  -- what is new of the seat's own falls into the parts
-  pub all_mine : (s : Sides S K) (c : Client) (given : List (Link S K)) (parts : List (List Exchange)) (back : List (Link S K)) (v w : Seated)
-      → ServesLinks s c given v parts back w → w.mine ≡ v.mine ++ joined parts
+  -- no refusal is forgotten
+  pub all_refusals : (s : Sides S K) (c : Client) (given : List (Link S K)) (visits : List Visit) (back : List (Link S K)) (v w : Seated)
+      → ServesLinks s c given v visits back w → v.refusals ≤ w.refusals
+  all_refusals s c [] [] [] v w h = let e : w.refusals ≡ v.refusals = ap (λ (z : Seated). z.refusals) h in omega (arith, e)
+  all_refusals s c (g ∷ given) (p ∷ visits) (b ∷ back) v w h =
+      let first = h.1.refusals in let others = all_refusals s c given visits back h.0 w h.2 in omega (arith, first, others)
+  all_refusals s c [] [] (b ∷ back) v w h = elim h [ ]
+  all_refusals s c [] (p ∷ visits) back v w h = elim h [ ]
+  all_refusals s c (g ∷ given) [] back v w h = elim h [ ]
+  all_refusals s c (g ∷ given) (p ∷ visits) [] v w h = elim h [ ]
+
+  -- what is new of the seat's own falls into what was made at the links
+  pub all_mine : (s : Sides S K) (c : Client) (given : List (Link S K)) (visits : List Visit) (back : List (Link S K)) (v w : Seated)
+      → ServesLinks s c given v visits back w → w.mine ≡ v.mine ++ joined visits
   all_mine s c [] [] [] v w h = ap (λ (z : Seated). z.mine) h ∙ sym (append-nil v.mine)
-  all_mine s c (g ∷ given) (p ∷ parts) (b ∷ back) v w h =
-      all_mine s c given parts back h.0 w h.2 ∙ (ap (λ (z : List Exchange). z ++ joined parts) h.1.mine ∙ append_assoc v.mine p (joined parts))
+  all_mine s c (g ∷ given) (p ∷ visits) (b ∷ back) v w h =
+      all_mine s c given visits back h.0 w h.2 ∙ (ap (λ (z : List Exchange). z ++ joined visits) h.1.mine ∙ append_assoc v.mine p.made (joined visits))
   all_mine s c [] [] (b ∷ back) v w h = elim h [ ]
-  all_mine s c [] (p ∷ parts) back v w h = elim h [ ]
+  all_mine s c [] (p ∷ visits) back v w h = elim h [ ]
   all_mine s c (g ∷ given) [] back v w h = elim h [ ]
-  all_mine s c (g ∷ given) (p ∷ parts) [] v w h = elim h [ ]
+  all_mine s c (g ∷ given) (p ∷ visits) [] v w h = elim h [ ]
 
   -- a link of the same caller and kind
-  pub of_same : (s : Sides S K) (who post_who : Who) (kind post_kind : Kind) (settings : Settings) (x y : Link S K) (part : List Exchange) (v w : Seated)
-      → post_who ≡ who → post_kind ≡ kind → ServesLink s (client post_who post_kind settings) x v part y w
-      → ServesLink s (client who kind settings) x v part y w
-  of_same s who post_who kind post_kind settings x y part v w e f h =
-      subst (λ (z : Kind). ServesLink s (client who z settings) x v part y w) f
-      (subst (λ (z : Who). ServesLink s (client z post_kind settings) x v part y w) e h)
+  pub of_same : (s : Sides S K) (who post_who : Who) (kind post_kind : Kind) (settings : Settings) (x y : Link S K) (p : Visit) (v w : Seated)
+      → post_who ≡ who → post_kind ≡ kind → ServesLink s (client post_who post_kind settings) x v p y w
+      → ServesLink s (client who kind settings) x v p y w
+  of_same s who post_who kind post_kind settings x y p v w e f h =
+      subst (λ (z : Kind). ServesLink s (client who z settings) x v p y w) f
+      (subst (λ (z : Who). ServesLink s (client z post_kind settings) x v p y w) e h)
 
   pub none_yet : (s : Sides S K) (c : Client) (a : Hall S K) (v : Seated) → SoFar s c a v a v
   none_yet s c a v = record {
     given = [];
-    parts = [];
+    visits = [];
     back = [];
     serves = refl;
+    none = refl;
     passes = passes_none a.links;
     ends = refl;
     faults = refl;
   }
 
-  -- from before an accept, over it, to after the link is back
-  pub one_more : (s : Sides S K) (c : Client) (a b m n : Hall S K) (v d w : Seated) (x : S) (y : K) (part : List Exchange) (back : Link S K)
-      → SoFar s c a v b d → Accepts b.links (accepted.Link x y) m.links → m.ends ≡ b.ends → m.faults ≡ b.faults
-      → n.links ≡ returned m.links back.source back.sink → n.ends ≡ m.ends → n.faults ≡ m.faults
-      → ServesLink s c (link x y) d part back w → SoFar s c a v n w
-  one_more s c a b m n v d w x y part back h q me mf r e f k = record {
-    given = h.given ++ link x y ∷ [];
-    parts = h.parts ++ part ∷ [];
-    back = h.back ++ back ∷ [];
-    serves = serves_more s c h.given h.parts h.back (link x y) back part v d w h.serves k;
-    passes = passes_more a.links b.links m.links n.links h.given h.back x y back.source back.sink h.passes q r;
-    ends = e ∙ (me ∙ h.ends);
-    faults = f ∙ (mf ∙ h.faults);
-  }
+  -- one link more, from before an accept to after the link is back
+  pub record OneMore (s : Sides S K) (c : Client) (a b m n : Hall S K) (v d w : Seated) (x : S) (y : K) (z : Visit) (back : Link S K) : Type 0 where
+    pub far : SoFar s c a v b d
+    pub accepts : Accepts b.links (accepted.Link x y) m.links
+    pub ends : m.ends ≡ b.ends
+    pub faults : m.faults ≡ b.faults
+    pub back_is : n.links ≡ returned m.links back.source back.sink
+    pub ends_still : n.ends ≡ m.ends
+    pub faults_still : n.faults ≡ m.faults
+    pub serves : ServesLink s c (link x y) d z back w
+
+  module _ (s : Sides S K) (c : Client) (a b m n : Hall S K) (v d w : Seated) (x : S) (y : K) (z : Visit) (back : Link S K) (o : OneMore s c a b m n v d w x y z back) where
+    serves_all : ServesLinks s c (o.far.given ++ link x y ∷ []) v (o.far.visits ++ z ∷ []) (o.far.back ++ back ∷ []) w
+    serves_all = serves_more s c o.far.given o.far.visits o.far.back (link x y) back z v d w o.far.serves o.serves
+
+    passes_all : Passes a.links (o.far.given ++ link x y ∷ []) (o.far.back ++ back ∷ []) n.links
+    passes_all = passes_more a.links b.links m.links n.links o.far.given o.far.back x y back.source back.sink o.far.passes o.accepts o.back_is
+
+    -- the history had room for it
+    pub one_more : is_full z.ended ≡ false → SoFar s c a v n w
+    one_more room = record {
+      given = o.far.given ++ link x y ∷ [];
+      visits = o.far.visits ++ z ∷ [];
+      back = o.far.back ++ back ∷ [];
+      serves = serves_all;
+      none = none_more o.far.visits z o.far.none room;
+      passes = passes_all;
+      ends = o.ends_still ∙ (o.ends ∙ o.far.ends);
+      faults = o.faults_still ∙ (o.faults ∙ o.far.faults);
+    }
+
+    -- it had none
+    pub ends_full : (cost limit : ℕ) → z.ended ≡ served.Full cost limit → Works s c (end.Full cost limit) a v n w
+    ends_full cost limit e =
+        let h = o.serves in
+        let serves : Serves c (served.Full cost limit) (spring_of s (link x y)) (spring_of s back) (world_of s d (link x y)) (world_of s w back) = subst (λ (r : Served). Serves c r (spring_of s (link x y)) (spring_of s back) (world_of s d (link x y)) (world_of s w back)) e h.serves in
+        let refused_so = serves.3 in
+        let all = serves_all in
+        record {
+          given = o.far.given ++ link x y ∷ [];
+          visits = o.far.visits ++ z ∷ [];
+          back = o.far.back ++ back ∷ [];
+          serves = all;
+          passes = passes_all;
+          moved = all_moved s c (o.far.given ++ link x y ∷ []) (o.far.visits ++ z ∷ []) (o.far.back ++ back ∷ []) v w all;
+          mine = all_mine s c (o.far.given ++ link x y ∷ []) (o.far.visits ++ z ∷ []) (o.far.back ++ back ∷ []) v w all;
+          ends = (
+            record {
+              before = o.far.visits;
+              made = z.made;
+              last = ap (λ (r : Served). o.far.visits ++ visit r z.made ∷ []) e;
+              none = o.far.none;
+              refused_is = rose v.refusals d.refusals w.refusals (all_refusals s c o.far.given o.far.visits o.far.back v d o.far.serves) refused_so.1.desk.refusals;
+              cause = refused_so.2;
+            },
+            o.ends_still ∙ (o.ends ∙ o.far.ends),
+            o.faults_still ∙ (o.faults ∙ o.far.faults),
+          );
+        }
 
   -- the listener gave no link, and the lists are as they were
   ended : (s : Sides S K) (c : Client) (r : WorkEnd) (a b n : Hall S K) (v w : Seated)
-      → SoFar s c a v b w → n.links ≡ b.links → EndsWork r a n → Works s c r a v n w
+      → (h : SoFar s c a v b w) → n.links ≡ b.links → EndsWork c r h.visits a v n w → Works s c r a v n w
   ended s c r a b n v w h e k = record {
     given = h.given;
-    parts = h.parts;
+    visits = h.visits;
     back = h.back;
     serves = h.serves;
     passes = subst (λ (z : Option (Links S K)). Passes a.links h.given h.back z) (sym e) h.passes;
-    moved = all_moved s c h.given h.parts h.back v w h.serves;
-    mine = all_mine s c h.given h.parts h.back v w h.serves;
+    moved = all_moved s c h.given h.visits h.back v w h.serves;
+    mine = all_mine s c h.given h.visits h.back v w h.serves;
     ends = k;
   }
 
@@ -161,31 +242,31 @@ module _ {S K : Type 0} where
     pub ends_closed : Accepts b.links accepted.Closed n.links → HasRisen b.ends n.ends → n.faults ≡ b.faults
         → Works s c end.Closed a v n w
     ends_closed q e f = ended s c end.Closed a b n v w h (same_at_end b.links n.links q)
-        (subst (λ (z : ℕ). HasRisen z n.ends) h.ends e, f ∙ h.faults, none_comes b.links n.links q)
+        (h.none, subst (λ (z : ℕ). HasRisen z n.ends) h.ends e, f ∙ h.faults, none_comes b.links n.links q)
 
     pub ends_failed : Accepts b.links accepted.Failed n.links → n.ends ≡ b.ends → HasRisen b.faults n.faults
         → Works s c end.Failed a v n w
     ends_failed q e f = ended s c end.Failed a b n v w h (same_at_fault b.links n.links q)
-        (e ∙ h.ends, subst (λ (z : ℕ). HasRisen z n.faults) h.faults f)
+        (h.none, e ∙ h.ends, subst (λ (z : ℕ). HasRisen z n.faults) h.faults f)
 
     pub ends_wanting : Accepts b.links accepted.Memory n.links → n.ends ≡ b.ends → n.faults ≡ b.faults
         → Works s c end.Memory a v n w
     ends_wanting q e f = ended s c end.Memory a b n v w h (same_at_want b.links n.links q)
-        (e ∙ h.ends, f ∙ h.faults)
+        (h.none, e ∙ h.ends, f ∙ h.faults)
 
-  -- a link was served, with some part
+  -- a link was served, and something was made
   pub link_served : (s : Sides S K) (c : Client) (given : Link S K) (v : Seated) (back : Link S K) (w : Seated) (r : Served)
       → Serves c r (spring_of s given) (spring_of s back) (world_of s v given) (world_of s w back)
       → is_open (state_seen w) w.seat ≡ false → Known w → IsHeard v w → IsIsolated c.who v w
-      → (part : List Exchange) × ServesLink s c given v part back w
+      → (made : List Exchange) × ServesLink s c given v (visit r made) back w
   link_served s c given v back w r h closed known heard isolated =
       let p = part_of c r (spring_of s given) (spring_of s back) (world_of s v given) (world_of s w back) h in (
         p.made,
         record {
-          ended = r;
           serves = h;
           moved = p.moved;
           mine = p.mine;
+          refusals = p.refusals;
           closed = closed;
           known = known;
           heard = heard;

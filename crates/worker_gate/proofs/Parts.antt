@@ -1,6 +1,7 @@
 -- What a seat made while a connection was served.
-use Rattle.std.proofs.Common.{◌≡◌, ℕ, List, [], ◌++◌, inl, inr, refl, sym, ap, ◌∙◌, subst}
+use Rattle.std.proofs.Common.{◌≡◌, ℕ, ◌≤◌, List, [], ◌++◌, inl, inr, refl, sym, ap, ◌∙◌, subst}
 use Rattle.std.specs.Prelude.{◌⊎◌}
+use Rattle.std.proofs.Math.Nat.{le-max_left, le-refl}
 use Rattle.std.proofs.lemmas.List.{append-nil}
 use Rattle.portal_model.specs.Seated.{Exchange, Moved, Seated}
 use Rattle.session.specs.declared.act.Client.{Client}
@@ -11,11 +12,12 @@ use Rattle.session.specs.Connections.{EndsAs, Front, HalfUnsaid, Serves}
 use Rattle.session.specs.Ledger.{Grew, World}
 use Rattle.session.specs.Pumps.{Spring}
 
--- the history goes on, and this is new of the seat's own
+-- the history goes on, this is new of the seat's own, and no refusal is forgotten
 pub record Part (v w : Seated) : Type 0 where
   pub made : List Exchange
   pub moved : Moved v w
   pub mine : w.mine ≡ v.mine ++ made
+  pub refusals : v.refusals ≤ w.refusals
 
 pub moved_none : (v : Seated) → Moved v v
 moved_none v = record { opening = refl; seat = refl; begins = ([], sym (append-nil v.seen)) }
@@ -25,10 +27,16 @@ none v w h = record {
   made = [];
   moved = subst (λ (z : Seated). Moved v z) (sym h) (moved_none v);
   mine = ap (λ (z : Seated). z.mine) h ∙ sym (append-nil v.mine);
+  refusals = subst (λ (z : Seated). v.refusals ≤ z.refusals) (sym h) (le-refl v.refusals);
 }
 
 grown : (v w : Seated) (os : List Outcome) → Grew v os w → Part v w
-grown v w os g = record { made = g.steps; moved = g.moved; mine = g.mine }
+grown v w os g = record {
+  made = g.steps;
+  moved = g.moved;
+  mine = g.mine;
+  refusals = subst (λ (z : ℕ). v.refusals ≤ z) (sym g.refusals) (le-max_left v.refusals _);
+}
 
 half : (c : Client) (read : List ℕ) (v w : World) → Front c read v w ⊎ HalfUnsaid c read v w → Part v.seated w.seated
 half c read v w (inl f) = grown v.seated w.seated _ f.asked.grows.desk

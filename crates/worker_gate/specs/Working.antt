@@ -1,15 +1,19 @@
 -- What a worker does: it serves the links of a listener at a desk, one after another.
-use Rattle.std.specs.Prelude.{◌≡◌, ℕ, List, [], ◌∷◌, ◌++◌, false, Option, Some, None, IfSome}
+use Rattle.std.specs.Prelude.{◌≡◌, ℕ, ◌≤◌, List, [], ◌∷◌, ◌++◌, Bool, true, false, Option, Some, None, IfSome}
+use Rattle.std.specs.List.{list_any}
 use Rattle.portal_base.specs.Outside.{HasRisen}
 use Rattle.portal_desk.specs.Knowing.{Known}
-use Rattle.portal_model.specs.Seated.{Exchange, Moved, Seated, is_open, state_seen}
+use Rattle.portal_model.specs.declared.reply.Refused.TheVariants as refused
+use Rattle.portal_model.specs.Seated.{Exchange, HasCause, Moved, Seated, is_open, state_seen}
 use Rattle.session.specs.declared.act.Client.{Client}
 use Rattle.session.specs.declared.served.Served.{Served}
+use Rattle.session.specs.declared.served.Served.TheVariants as served
 use Rattle.session.specs.Connections.{Serves}
 use Rattle.session.specs.Hearing.{IsHeard}
 use Rattle.session.specs.Isolation.{IsIsolated}
 use Rattle.session.specs.Ledger.{World, world}
 use Rattle.session.specs.Pumps.{Spring, spring}
+use Rattle.session.specs.Sessions.{enter}
 use Rattle.worker_gate.specs.declared.listener.Link.{Link}
 use Rattle.worker_gate.specs.declared.worker.WorkEnd.{WorkEnd}
 use Rattle.worker_gate.specs.declared.worker.WorkEnd.TheVariants as end
@@ -40,37 +44,59 @@ spring_of s l = spring (s.left l.source) (s.read_faults l.source)
 abbrev pub world_of : {S K : Type 0} → Sides S K → Seated → Link S K → World
 world_of s d l = world d (s.told l.sink) (s.write_faults l.sink)
 
--- One link was served, as it was given and as it came back, by a desk before and after: a served
--- connection of this client, with an ending that means what it says of it. What the desk's seat
--- made meanwhile is this part.
-pub record ServesLink {S K : Type 0} (s : Sides S K) (c : Client) (given : Link S K) (v : Seated)
-    (part : List Exchange) (back : Link S K) (w : Seated) : Type 0 where
+-- what came of a link: how its connection ended, and what the desk's seat made meanwhile
+pub record Visit : Type 0 where
   pub ended : Served
-  pub serves : Serves c ended (spring_of s given) (spring_of s back) (world_of s v given)
+  pub made : List Exchange
+
+abbrev pub visit : Served → List Exchange → Visit
+visit ended made = record { ended = ended; made = made }
+
+-- One link was served, as it was given and as it came back, by a desk before and after: a served
+-- connection of this client, with an ending that means what it says of it.
+pub record ServesLink {S K : Type 0} (s : Sides S K) (c : Client) (given : Link S K) (v : Seated)
+    (x : Visit) (back : Link S K) (w : Seated) : Type 0 where
+  pub serves : Serves c x.ended (spring_of s given) (spring_of s back) (world_of s v given)
       (world_of s w back)
   pub moved : Moved v w
-  pub mine : w.mine ≡ v.mine ++ part
+  pub mine : w.mine ≡ v.mine ++ x.made
+  pub refusals : v.refusals ≤ w.refusals
   pub closed : is_open (state_seen w) w.seat ≡ false
   pub known : Known w
   pub heard : IsHeard v w
   pub isolated : IsIsolated c.who v w
 
--- Links were served, one after another, each once, with a part for each, and came back in that
+-- Links were served, one after another, each once, with what came of each, and came back in that
 -- order.
 abbrev pub ServesLinks : {S K : Type 0} → Sides S K → Client → List (Link S K) → Seated
-    → List (List Exchange) → List (Link S K) → Seated → Type 0
+    → List Visit → List (Link S K) → Seated → Type 0
 ServesLinks s c [] v [] [] w = w ≡ v
-ServesLinks s c (g ∷ given) v (part ∷ parts) (b ∷ back) w =
-    (m : Seated) × ServesLink s c g v part b m × ServesLinks s c given m parts back w
+ServesLinks s c (g ∷ given) v (x ∷ visits) (b ∷ back) w =
+    (m : Seated) × ServesLink s c g v x b m × ServesLinks s c given m visits back w
 ServesLinks s c [] v [] (b ∷ back) w = ⊥
-ServesLinks s c [] v (part ∷ parts) back w = ⊥
+ServesLinks s c [] v (x ∷ visits) back w = ⊥
 ServesLinks s c (g ∷ given) v [] back w = ⊥
-ServesLinks s c (g ∷ given) v (part ∷ parts) [] w = ⊥
+ServesLinks s c (g ∷ given) v (x ∷ visits) [] w = ⊥
 
--- the parts, one after another
-abbrev pub joined : List (List Exchange) → List Exchange
+-- what was made at all of them, in order
+abbrev pub joined : List Visit → List Exchange
 joined [] = []
-joined (part ∷ parts) = part ++ joined parts
+joined (x ∷ visits) = x.made ++ joined visits
+
+-- the history had no room for a link
+abbrev pub is_full : Served → Bool
+is_full (served.Full cost limit) = true
+is_full served.Ended = false
+is_full (served.Cut rest) = false
+is_full (served.Malformed at rule) = false
+is_full (served.LineTooLong at) = false
+is_full served.ReadFault = false
+is_full served.WriteFault = false
+is_full served.Spent = false
+is_full served.Memory = false
+
+abbrev pub any_full : List Visit → Bool
+any_full visits = list_any (λ x. is_full x.ended) visits
 
 -- what contracts see of a listener
 pub record Hall (S K : Type 0) : Type 0 where
@@ -89,22 +115,41 @@ Passes None given back new = new ≡ None
 Passes (Some old) given back new = (others : List _) × (old.coming ≡ given ++ others)
     × (new ≡ Some (links others (old.back ++ back)))
 
--- How a worker ends: no link is to come any more, accepting failed, or there was no memory.
-abbrev pub EndsWork : {S K : Type 0} → WorkEnd → Hall S K → Hall S K → Type 0
-EndsWork end.Closed a b = HasRisen a.ends b.ends × (b.faults ≡ a.faults)
-    × IfSome b.links (λ l. l.coming ≡ [])
-EndsWork end.Failed a b = (b.ends ≡ a.ends) × HasRisen a.faults b.faults
-EndsWork end.Memory a b = (b.ends ≡ a.ends) × (b.faults ≡ a.faults)
+-- The history had no room for the last of these links, which is the first that it had none for: a
+-- request was refused, and what the history costs, as the desk sees it then, and what the Enter of
+-- this client costs pass the limit together.
+pub record EndsFull (c : Client) (cost limit : ℕ) (visits : List Visit) (v w : Seated) : Type 0
+  where
+    pub before : List Visit
+    pub made : List Exchange
+    pub last : visits ≡ before ++ visit (served.Full cost limit) made ∷ []
+    pub none : any_full before ≡ false
+    pub refused_is : HasRisen v.refusals w.refusals
+    pub cause : HasCause w (enter c) (refused.Full cost limit)
+
+-- How a worker ends, after links of which this came: the history had no room for the last of them;
+-- or it had room for each, and no link is to come any more, accepting failed, or there was no
+-- memory.
+abbrev pub EndsWork : {S K : Type 0} → Client → WorkEnd → List Visit → Hall S K → Seated → Hall S K
+    → Seated → Type 0
+EndsWork c end.Closed visits a v b w = (any_full visits ≡ false) × HasRisen a.ends b.ends
+    × (b.faults ≡ a.faults) × IfSome b.links (λ l. l.coming ≡ [])
+EndsWork c end.Failed visits a v b w =
+    (any_full visits ≡ false) × (b.ends ≡ a.ends) × HasRisen a.faults b.faults
+EndsWork c end.Memory visits a v b w =
+    (any_full visits ≡ false) × (b.ends ≡ a.ends) × (b.faults ≡ a.faults)
+EndsWork c (end.Full cost limit) visits a v b w =
+    EndsFull c cost limit visits v w × (b.ends ≡ a.ends) × (b.faults ≡ a.faults)
 
 -- What a worker did, from a listener and a desk to what they are then: these links were served, and
 -- what the desk's seat made falls into their parts, and nothing else.
 pub record Works {S K : Type 0} (s : Sides S K) (c : Client) (ended : WorkEnd) (a : Hall S K)
     (v : Seated) (b : Hall S K) (w : Seated) : Type 0 where
   pub given : List (Link S K)
-  pub parts : List (List Exchange)
+  pub visits : List Visit
   pub back : List (Link S K)
-  pub serves : ServesLinks s c given v parts back w
+  pub serves : ServesLinks s c given v visits back w
   pub passes : Passes a.links given back b.links
   pub moved : Moved v w
-  pub mine : w.mine ≡ v.mine ++ joined parts
-  pub ends : EndsWork ended a b
+  pub mine : w.mine ≡ v.mine ++ joined visits
+  pub ends : EndsWork c ended visits a v b w

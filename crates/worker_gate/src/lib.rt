@@ -4,8 +4,9 @@
 //! **It promises** that a worker's link is one served connection, over a desk
 //! and a sink that pass every call on unchanged. The links that are taken back
 //! are those that were given, in order, each once; what the desk's seat asked
-//! meanwhile falls into one part per link. A worker ends as its listener ends,
-//! and then the seat has no open connection.
+//! meanwhile falls into one part per link. A worker ends as its listener ends, or
+//! by the first link for which the history has no room, and then the seat has no
+//! open connection.
 //!
 //! | Room | Holds |
 //! |---|---|

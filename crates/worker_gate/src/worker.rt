@@ -4,7 +4,7 @@ ghost use Rattle.std.specs.Prelude.{◌≡◌, List, false};
 ghost use Rattle.portal_desk.specs.Knowing.{Known};
 ghost use Rattle.portal_model.specs.Seated.{Exchange, is_open, state_seen};
 ghost use Rattle.session.specs.Standings.{client};
-ghost use Rattle.worker_gate.specs.Working.{ServesLink, Works, hall, sides};
+ghost use Rattle.worker_gate.specs.Working.{ServesLink, Works, hall, sides, visit};
 
 use crate::gate::{Gate, GateDesk, GateSink};
 use crate::listener::{Accepted, Link, Listener};
@@ -12,6 +12,7 @@ use portal_base::limits::Settings;
 use portal_base::who::{Kind, Who};
 use portal_desk::Desk;
 use session::connection::serve_connection;
+use session::served::Served;
 use std::alloc::Global;
 use std::sync::Wait;
 
@@ -36,10 +37,17 @@ pub enum WorkEnd {
     Failed,
     /// There was no memory to accept.
     Memory,
+    /// The history had no room for a connection.
+    Full {
+        /// The cost of the history, in bytes.
+        cost: u64,
+        /// The limit, in bytes.
+        limit: u64,
+    },
 }
 
 /// Serves the links of a post at a desk, one after another, until its listener
-/// gives none.
+/// gives none or the history has no room for one.
 ///
 /// Each link is one served connection, over a desk and a sink that tell the
 /// gate, and is handed back before the next is accepted. It returns only where
@@ -76,10 +84,13 @@ pub fn work<R: Wait, D: Desk, L: Listener, G: Gate>(
         match post.listener.accept(alloc) {
             Accepted::Link { source, sink } => {
                 let link = Link { source, sink };
-                let Link { source, sink } = serve_link(
+                let (Link { source, sink }, served) = serve_link(
                     alloc, worker, desk, post, settings, link, gate,
                 );
                 post.listener.done(source, sink);
+                if let Served::Full { cost, limit } = served {
+                    return WorkEnd::Full { cost, limit };
+                }
             }
             Accepted::Closed => return WorkEnd::Closed,
             Accepted::Failed => return WorkEnd::Failed,
@@ -89,7 +100,8 @@ pub fn work<R: Wait, D: Desk, L: Listener, G: Gate>(
     unreachable!()
 }
 
-/// Serves one link of a post, and gives it back.
+/// Serves one link of a post, and gives it back with the ending of its
+/// connection.
 fn serve_link<D: Desk, L: Listener, G: Gate>(
     alloc: Global,
     worker: u32,
@@ -98,18 +110,18 @@ fn serve_link<D: Desk, L: Listener, G: Gate>(
     settings: &Settings,
     link: Link<L::In, L::Out>,
     gate: &G,
-) -> Link<L::In, L::Out>
+) -> (Link<L::In, L::Out>, Served)
     requires { is_open (state_seen (D.seated desk.old)) (D.seated desk.old).seat ≡ false }
-    ensures serves { (part : List Exchange)
+    ensures serves { (made : List Exchange)
         × ServesLink (sides L.In.left L.In.faults L.Out.told L.Out.faults)
-        (client post.now.who post.now.kind settings.now) link (D.seated desk.old) part result
-        (D.seated desk.new) }
+        (client post.now.who post.now.kind settings.now) link (D.seated desk.old)
+        (visit result.1 made) result.0 (D.seated desk.new) }
     ensures goes { D.goes desk.old desk.new }
 {
     let Link { mut source, sink } = link;
     let mut sink = GateSink::new(worker, sink, gate);
     let mut desk = GateDesk::new(worker, desk, gate);
-    serve_connection(
+    let served = serve_connection(
         alloc,
         &mut desk,
         &post.who,
@@ -118,8 +130,9 @@ fn serve_link<D: Desk, L: Listener, G: Gate>(
         &mut source,
         &mut sink,
     );
-    Link {
+    let link = Link {
         source,
         sink: sink.into_sink(),
-    }
+    };
+    (link, served)
 }

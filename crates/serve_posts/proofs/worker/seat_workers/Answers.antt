@@ -19,8 +19,10 @@ loop-post-preserved g c =
     ap (λ (l : List Sight). map sat_down l) c.in-Some-next.ensures.items ∙ ap (λ (d : Sight). d ∷ map sat_down (into_iter_items c.next-in-loop-post.new.self)) (sym desk) in
     record {
       posts = let inv = c.loop-post.invariant.posts in let steps = c.in-Some.ensures.steps.0 in search (rules, one_more);
+      ends = let inv = c.loop-post.invariant.ends in let items = c.in-Some-next-2.ensures.items in search (rules, one_more);
       seats = let inv = c.loop-post.invariant.seats in search (rules, one_more);
       table = λ k p at. c.loop-post.invariant.table (suc k) p (ap (λ (l : List Sight). slice_get l (suc k)) c.in-Some-next.ensures.items ∙ at);
       as_many = search rules;
+      ends_as_many = search rules;
       room = search rules;
     }

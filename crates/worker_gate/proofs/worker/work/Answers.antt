@@ -1,9 +1,10 @@
 use Rattle.std.proofs.Common.{refl}
 use Rattle.session.specs.Standings.{client}
 use Rattle.worker_gate.specs.Listening.{link}
-use Rattle.worker_gate.specs.Working.{hall, sides}
-use Rattle.worker_gate.proofs.Links.{ends_closed, ends_failed, ends_wanting, none_yet, of_same, one_more}
+use Rattle.worker_gate.specs.Working.{hall, sides, visit}
+use Rattle.worker_gate.proofs.Links.{OneMore, ends_closed, ends_failed, ends_full, ends_wanting, none_yet, not_full, of_same, one_more}
 use Rattle.worker_gate.proofs.worker.work.Goals as goal
+use Rattle.worker_gate.proofs.worker.work.Goals.{After-done}
 
 pub links-init : goal.links-init
 links-init g c =
@@ -23,51 +24,68 @@ links-init g c =
       g.met.D.Desk.stands c.args.desk.now,
     )
 
+-- the link that was served
+served_one : (g : _) (c : After-done g) → OneMore {S = g.row.L-In.Denot} {K = g.row.L-Out.Denot}
+    (sides g.L.In.Source.left g.L.In.Source.faults g.L.Out.Sink.told g.L.Out.Sink.faults)
+    (client c.args.post.now.who c.args.post.now.kind c.args.settings.now)
+    (hall (g.L.Listener.links c.args.post.now.listener) (g.L.Listener.ends c.args.post.now.listener) (g.L.Listener.faults c.args.post.now.listener))
+    (hall (g.L.Listener.links c.links.post.listener) (g.L.Listener.ends c.links.post.listener) (g.L.Listener.faults c.links.post.listener))
+    (hall (g.L.Listener.links c.accept.new.self) (g.L.Listener.ends c.accept.new.self) (g.L.Listener.faults c.accept.new.self))
+    (hall (g.L.Listener.links c.done.new.self) (g.L.Listener.ends c.done.new.self) (g.L.Listener.faults c.done.new.self))
+    (g.D.Desk.seated c.args.desk.now)
+    (g.D.Desk.seated c.links.desk)
+    (g.D.Desk.seated c.serve_link-source.new.desk)
+    c.in-Link.source
+    c.in-Link.sink
+    (visit c.serve_link-source.result.1 c.serve_link-source.ensures.serves.0)
+    c.serve_link-source.result.0
+served_one g c =
+    let p = c.args.post.now in
+    let i = c.links.invariant in
+    let served = c.serve_link-source.ensures.serves in
+    record {
+      far = i.2;
+      accepts = c.in-Link.ensures.accepts;
+      ends = c.in-Link.ensures.counts.0;
+      faults = c.in-Link.ensures.counts.1;
+      back_is = c.done.ensures.links;
+      ends_still = c.done.ensures.ends;
+      faults_still = c.done.ensures.faults;
+      serves = of_same
+          (sides g.L.In.Source.left g.L.In.Source.faults g.L.Out.Sink.told g.L.Out.Sink.faults)
+          p.who
+          c.links.post.who
+          p.kind
+          c.links.post.kind
+          c.args.settings.now
+          (link c.in-Link.source c.in-Link.sink)
+          c.serve_link-source.result.0
+          (visit c.serve_link-source.result.1 served.0)
+          (g.D.Desk.seated c.links.desk)
+          (g.D.Desk.seated c.serve_link-source.new.desk)
+          i.5
+          i.6
+          served.1;
+    }
+
 pub links-preserved : goal.links-preserved
 links-preserved g c =
-    let t = g.L.Listener in
-    let p = c.args.post.now in
-    let before = c.links.post.listener in
-    let between = c.accept.new.self in
-    let after = c.done.new.self in
     let i = c.links.invariant in
-    let s = sides g.L.In.Source.left g.L.In.Source.faults g.L.Out.Sink.told g.L.Out.Sink.faults in
-    let d = g.D.Desk.seated c.links.desk in
-    let e = g.D.Desk.seated c.serve_link-source.new.desk in
-    let served = c.serve_link-source.ensures.serves in
-    let k = of_same s p.who c.links.post.who p.kind c.links.post.kind c.args.settings.now
-    (link c.in-Link.source c.in-Link.sink) c.serve_link-source.result served.0 d e i.5 i.6
-    served.1 in (
+    let o = served_one g (goal.at.links-preserved g c).After-done in (
       tt,
       tt,
-      one_more
-          s
-          (client p.who p.kind c.args.settings.now)
-          (hall (t.links p.listener) (t.ends p.listener) (t.faults p.listener))
-          (hall (t.links before) (t.ends before) (t.faults before))
-          (hall (t.links between) (t.ends between) (t.faults between))
-          (hall (t.links after) (t.ends after) (t.faults after))
-          (g.D.Desk.seated c.args.desk.now)
-          d
-          e
-          c.in-Link.source
-          c.in-Link.sink
-          served.0
-          c.serve_link-source.result
-          i.2
-          c.in-Link.ensures.accepts
-          c.in-Link.ensures.counts.0
-          c.in-Link.ensures.counts.1
-          c.done.ensures.links
-          c.done.ensures.ends
-          c.done.ensures.faults
-          k,
-      k.closed,
-      k.known,
+      one_more _ _ _ _ _ _ _ _ _ _ _ _ _ o (not_full c.serve_link-source.result.1 c.in_default.not-Full),
+      o.serves.closed,
+      o.serves.known,
       i.5,
       i.6,
       g.met.D.Desk.follows c.args.desk.now c.links.desk c.serve_link-source.new.desk i.7 c.serve_link-source.ensures.goes,
     )
+
+pub returns-in-Full-clause-works : goal.returns-in-Full-clause-works
+returns-in-Full-clause-works g c =
+    let o = served_one g (goal.at.returns-in-Full-clause-works g c).After-done in
+    ends_full _ _ _ _ _ _ _ _ _ _ _ _ _ o c.in-Full.cost c.in-Full.limit c.in-Full.is
 
 pub returns-in-Closed-clause-works : goal.returns-in-Closed-clause-works
 returns-in-Closed-clause-works g c =
