@@ -71,7 +71,7 @@ where
             return Ok((shift, rounds));
         }
         let Shift { posts, ends, story } = shift;
-        let story = renewed(alloc, story);
+        let story = renewed(alloc, story, gate, rounds);
         shift = match serve_turn(alloc, rt, posts, ends, story, settings, gate) {
             Ok(after) => after,
             Err(error) => return Err(error),
@@ -96,13 +96,15 @@ fn any_left(ends: &[WorkEnd]) -> bool
     ends.iter().any(|end| is_left(*end))
 }
 
-/// Begins a new history, where that isn't refused.
-fn renewed<S: Renews + Drop>(alloc: Global, story: S) -> S
+/// Begins a new history behind so many turns, where that isn't refused, and tells the gate.
+fn renewed<S: Renews + Drop, G: Gate>(alloc: Global, story: S, gate: &G, turns: u64) -> S
     ensures { Renewal (S.opening story) (S.entries story) (S.opening result) (S.entries result) }
 {
     let mut story = story;
     // Where it is refused, the next turn goes on with what there is.
-    let _renewed = story.renew(alloc);
+    if story.renew(alloc).is_ok() {
+        gate.renewed(turns);
+    }
     story
 }
 

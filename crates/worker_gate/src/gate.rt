@@ -5,6 +5,7 @@ ghost use Rattle.worker_gate.specs.Gates.{desk_of, name_of_desk, sink_of};
 
 use portal_base::outside::{Sink, WriteAnswer};
 use portal_desk::Desk;
+use portal_history::cost_of;
 use portal_model::reply::{Refused, Reply};
 use portal_model::request::Request;
 use std::alloc::Global;
@@ -23,8 +24,15 @@ pub trait Gate {
     /// The worker of this number is at this step.
     fn at(&self, worker: u32, point: Point);
 
+    /// The desk answered a request of the worker of this number, which costs the history so
+    /// many bytes.
+    fn answered(&self, _worker: u32, _cost: u64) {}
+
     /// The desk refused a request of the worker of this number.
     fn refused(&self, _worker: u32, _why: &Refused) {}
+
+    /// The history was renewed, behind so many turns.
+    fn renewed(&self, _turns: u64) {}
 }
 
 /// A gate that holds nobody.
@@ -35,8 +43,8 @@ impl Gate for OpenGate {
     fn at(&self, _worker: u32, _point: Point) {}
 }
 
-/// A desk that tells a gate `Read` ahead of each request and each refusal behind
-/// it, and passes every call on.
+/// A desk that tells a gate `Read` ahead of each request, and behind it what it cost or why
+/// it was refused, and passes every call on.
 ///
 /// Contracts see the desk that it borrows.
 #[derive(Drop)]
@@ -68,9 +76,11 @@ impl<'a, D: Desk, G: Gate> Desk for GateDesk<'a, D, G> {
 
     fn ask(&mut self, alloc: Global, request: Request) -> Result<Reply, Refused> {
         self.gate.at(self.worker, Point::Read);
+        let cost = cost_of(&request);
         let answer = self.desk.ask(alloc, request);
-        if let Err(why) = &answer {
-            self.gate.refused(self.worker, why);
+        match &answer {
+            Ok(_) => self.gate.answered(self.worker, cost),
+            Err(why) => self.gate.refused(self.worker, why),
         }
         answer
     }
