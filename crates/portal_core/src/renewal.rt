@@ -22,7 +22,12 @@ pub enum RenewError {
 }
 
 impl From<WantOfMemory> for RenewError {
-    fn from(_: WantOfMemory) -> RenewError {
+    ghost use Rattle.std.specs.Prelude.{◌≡◌};
+    ghost use Rattle.portal_core.specs.declared.renewal.RenewError.TheVariants.{Memory};
+
+    ghost from_gives = { λ _ e. e ≡ Memory };
+
+    fn from(_error: WantOfMemory) -> RenewError {
         RenewError::Memory
     }
 }
