@@ -8,4 +8,5 @@ pub mod ChangedHeader
 pub mod SoundEntries
 pub mod TakenBack
 pub mod RowLaws
+pub mod StableRows
 pub mod HeldRecords

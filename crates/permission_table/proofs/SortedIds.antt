@@ -21,7 +21,7 @@ use Rattle.permission_table.proofs.InOrder.{ahead, bytes, same-way}
 
 -- ---- a sorted list rises
 
-compared : (a b : List ℕ) → key_less a b ≡ bytes_less a b
+pub compared : (a b : List ℕ) → key_less a b ≡ bytes_less a b
 compared a b = same_from_slice_cmp nat_cmp is_lt bytes_less refl (λ _ _. refl) (λ _ _. refl) (λ x y xs ys o h. grind (arith, nat_tests)) a b (slice_cmp nat_cmp a b) refl
 
 comes-first : (a b : List ℕ) → key_less b a ≡ false → is_same a b ≡ false → bytes_less a b ≡ true

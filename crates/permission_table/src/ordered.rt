@@ -3,7 +3,7 @@
 ghost use Rattle.std.specs.Prelude.{◌≡◌, ◌&&◌, ℕ, ◌<◌, length, true, OnOk, OnErr, slice_get};
 ghost use Rattle.std.specs.Cmp.Lexicographic.{slice_cmp};
 ghost use Rattle.std.specs.List.{prefix_len};
-ghost use Rattle.std.specs.List.Sorted.{IsPermutation, IsSortedBy};
+ghost use Rattle.std.specs.List.Sorted.{IsPermutation, IsSortedBy, IsStableBy};
 ghost use Rattle.std.specs.Ordering.{nat_cmp};
 ghost use Rattle.portal_base.specs.Names.{is_same};
 ghost use Rattle.portal_model.specs.Ordered.{bytes_less, put, is_rising};
@@ -48,6 +48,17 @@ pub(crate) fn sort<T: Keyed>(items: &mut Vec<T>)
     ensures order { IsSortedBy (λ a b. key_less (T.key_of a) (T.key_of b)) items.new.items }
 {
     items.sort_unstable_by(|first, second| place_order(first, second));
+}
+
+/// Puts all items in their places, where those of one key keep their order.
+pub(crate) fn sort_stably<T: Keyed>(items: &mut Vec<T>) -> Result<(), WantOfMemory>
+    ensures stable { IsStableBy (λ a b. key_less (T.key_of a) (T.key_of b)) items.old.items
+        items.new.items }
+    ensures order { OnOk result
+        (IsSortedBy (λ a b. key_less (T.key_of a) (T.key_of b)) items.new.items) }
+{
+    items.sort_by(|first, second| place_order(first, second))?;
+    Ok(())
 }
 
 /// Which of two items has its place first.

@@ -5,25 +5,40 @@ ghost use Rattle.std.specs.List.{filter};
 ghost use Rattle.portal_model.specs.Ordered.{is_rising};
 ghost use Rattle.portal_model.specs.Rows.{is_row_of, row_less, row_of, has_names, stored_rows, with_row, without_row, permissions_of};
 
-use crate::ordered::put_in_order;
+use crate::ordered::{put_in_order, sort_stably};
 use portal_base::list::List;
 use portal_base::memory::{Replica, WantOfMemory};
 use portal_base::text::Text;
 use portal_model::records::Row;
 use std::alloc::Global;
 
-/// The rows that are stored of those that a call brings.
+/// The rows that are stored of those that a call brings: of n rows in about n log n steps.
 pub(crate) fn stored_rows(alloc: Global, rows: &[Row]) -> Result<List<Row>, WantOfMemory>
     ensures { IfOk result (λ stored. stored ≡ stored_rows rows.now) }
 {
+    let mut sorted = copies_of(alloc, rows)?;
+    // Rows that stand in order are each put behind the others, so that none has to move up. Those
+    // of one application keep their order, of which the last stands.
+    sort_stably(&mut sorted)?;
     let mut stored = Vec::new(alloc);
-    for row in rows {
-        put_in_order(&mut stored, row.replica(alloc)?)?;
+    for row in sorted {
+        put_in_order(&mut stored, row)?;
     }
     // Of two rows for one application the last stands, and then it isn't stored where it is empty:
     // so the empty ones go last.
     leave_named(&mut stored);
     Ok(List::from_vec(stored))
+}
+
+/// Copies of rows.
+fn copies_of(alloc: Global, rows: &[Row]) -> Result<Vec<Row>, WantOfMemory>
+    ensures { IfOk result (λ copies. copies.items ≡ rows.now) }
+{
+    let mut copies = Vec::new(alloc);
+    for row in rows {
+        copies.push(row.replica(alloc)?)?;
+    }
+    Ok(copies)
 }
 
 /// Rows in which one row stands instead of that of its application; an empty
