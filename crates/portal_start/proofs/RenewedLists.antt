@@ -1,9 +1,11 @@
 -- The opening state of a history that goes on from the lists of a state is that state.
 use Rattle.std.specs.Prelude.{is_some}
 use Rattle.std.proofs.Common.{◌≡◌, ℕ, ◌==◌, List, [], ◌∷◌, ◌++◌, map, fold, Bool, true, false, ◌&&◌, ◌||◌, cond, Option, Some, None, refl, sym, ap, subst, ◌∙◌, arith}
-use Rattle.std.specs.List.{list_any, list_all, filter, find}
+use Rattle.std.specs.List.{All, list_any, list_all, filter, find}
+use Rattle.std.proofs.lemmas.List.Elements.{All-head, All-tail}
 use Rattle.document_records.specs.Documents.{DocumentList}
 use Rattle.document_records.proofs.FreshItems.{any-mapped, any_same}
+use Rattle.permission_table.specs.Tables.{IsHeld}
 use Rattle.portal_base.specs.Names.{is_same}
 use Rattle.portal_base.specs.declared.files.File.{File}
 use Rattle.portal_model.specs.declared.handle.OpenHandle.{OpenHandle}
@@ -19,7 +21,9 @@ use Rattle.portal_model.specs.Kept.{bits_of, grant_record}
 use Rattle.portal_model.specs.Opening.{document_kept, files_of, id_of, is_told, opened_over, rights_kept, set_of_bits, with_grant, with_grants}
 use Rattle.portal_model.specs.Ordered.{bytes_less, is_rising}
 use Rattle.portal_model.specs.Rights.{are_in_order, is_in, same_triple, triple_less, triples_of}
+use Rattle.portal_model.specs.Rows.{are_rows}
 use Rattle.portal_model.specs.State.{State, app_has, document_of, gives, held_of}
+use Rattle.portal_model.specs.Store.{Entries}
 use Rattle.portal_model.specs.Valid.{Valid, is_placed}
 use Rattle.portal_model.proofs.RisingLists.{any-put_all, rising-put_all, same_items}
 use Rattle.portal_model.proofs.TripleOrder.{is_same-eq, nat_is, triples}
@@ -217,3 +221,11 @@ opened_again s most_live most_made v none closed = λ i. record {
   files = files_again s.told s.files v.files_told i;
   entries = s.entries;
 }
+
+-- the rows of entries that tables hold stand in order
+pub held_rows : (es : Entries) → All IsHeld es → list_all (λ e. are_rows e.rows) es ≡ true
+held_rows [] all = refl
+held_rows (e ∷ es) all =
+    let one : are_rows e.rows ≡ true = (All-head IsHeld e es all).sound.rows in
+    let rest : list_all (λ x. are_rows x.rows) es ≡ true = held_rows es (All-tail IsHeld e es all) in
+    grind arith

@@ -1,6 +1,6 @@
 //! The opening state that the lists of a portal stand for.
 
-ghost use Rattle.std.specs.Prelude.{◌≡◌, map, true, IfOk};
+ghost use Rattle.std.specs.Prelude.{◌≡◌, map, true, IfOk, OnOk};
 ghost use Rattle.std.specs.List.{list_all};
 ghost use Rattle.portal_model.specs.Rows.{are_rows};
 ghost use Rattle.portal_start.specs.Renewed.{document_again, opening_of};
@@ -27,7 +27,7 @@ pub fn opening_of(
 ) -> Result<OpeningState, WantOfMemory>
     ensures value { IfOk result (λ opening. opening
         ≡ opening_of limits.now documents.now rights.now applications.now tables.now) }
-    ensures rows { list_all (λ e. are_rows e.rows) tables.now ≡ true }
+    ensures rows { OnOk result (list_all (λ e. are_rows e.rows) tables.now ≡ true) }
 {
     Ok(OpeningState {
         limits: *limits,
