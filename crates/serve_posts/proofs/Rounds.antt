@@ -1,5 +1,5 @@
 -- Turns, one after another.
-use Rattle.std.proofs.Common.{◌≡◌, ℕ, zero, suc, ◌+◌, ◌≤◌, ◌<◌, ◌⊎◌, List, [], ◌∷◌, ◌++◌, Some, inl, inr, true, false, length, map, refl, sym, ap, ◌∙◌, subst, arith}
+use Rattle.std.proofs.Common.{◌≡◌, ℕ, zero, suc, ◌+◌, ◌-◌, ◌^◌, ◌≤◌, ◌<◌, ◌⊎◌, min, List, [], ◌∷◌, ◌++◌, Some, inl, inr, true, false, length, replicate, refl, sym, ap, ◌∙◌, subst, arith}
 use Rattle.std.specs.Prelude.{slice_get, is_some, Result, Ok, Err, OnErr, OnOk}
 use Rattle.std.specs.List.{list_any}
 use Rattle.std.proofs.lemmas.List.{append-nil, append_assoc}
@@ -17,7 +17,7 @@ use Rattle.worker_gate.specs.declared.worker.WorkEnd.TheVariants as end
 use Rattle.worker_gate.specs.Working.{Hall, Sides}
 use Rattle.serve_posts.specs.Posts.{ServesLeft, ServesPost, ServesPosts, ServesTurn, all_unserved, is_left, unserved}
 use Rattle.serve_posts.specs.Rounds.{Renewal, ServesAll, Stand, Turn, Turns, stand}
-use Rattle.serve_posts.proofs.Places.{is_there, is_within, map_at}
+use Rattle.serve_posts.proofs.Places.{is_there, is_within}
 
 -- no seat has an open connection behind a history
 abbrev pub AllClosed : State → List Entry → Type 0
@@ -40,6 +40,10 @@ pub renews : {S E : Type 0} (opening : S → State) (entries : S → List Entry)
 renews opening entries a b (Ok x) o e n = inr (o, e)
 renews opening entries a b (Err x) o e n = inl (ap opening n, ap entries n)
 
+-- one round more
+pub one_round_more : (rounds more next : ℕ) → rounds ≡ rises_by 1 more → next ≡ min (rounds + 1) (2 ^ 64 - 1) → next ≡ rises_by 1 (suc more)
+one_round_more rounds more next e f = omega (arith, e, f)
+
 -- what stands at a place of a list, or the list is no longer than that
 there_or_past : {X : Type 0} (xs : List X) (k : ℕ) → ((x : X) × (slice_get xs k ≡ Some x)) ⊎ (length xs ≤ k)
 there_or_past [] k = inr (omega arith)
@@ -49,6 +53,12 @@ there_or_past (x ∷ xs) (suc k) = further (there_or_past xs k)
     further : ((y : _) × (slice_get xs k ≡ Some y)) ⊎ (length xs ≤ k) → ((y : _) × (slice_get (x ∷ xs) (suc k) ≡ Some y)) ⊎ (length (x ∷ xs) ≤ suc k)
     further (inl h) = inl h
     further (inr h) = inr (omega (arith, h))
+
+-- what stands at each place of a list of equal items
+replicate_at : {X Y : Type 0} (y : Y) (xs : List X) (k : ℕ) (x : X) → slice_get xs k ≡ Some x → slice_get (replicate (length xs) y) k ≡ Some y
+replicate_at y [] k x e = absurd (cc)
+replicate_at y (z ∷ zs) zero x e = refl
+replicate_at y (z ∷ zs) (suc k) x e = replicate_at y zs k x e
 
 module _ {L S K : Type 0} (s : Sides S K) (hall_of : L → Hall S K) (settings : Settings) where
   -- a post's seat is closed behind a turn
@@ -101,6 +111,10 @@ module _ {L S K : Type 0} (s : Sides S K) (hall_of : L → Hall S K) (settings :
       let front = renewed_front a.opening t.0.opening t.1 t.0.entries t.2 was.0 t.5 was.2 was.3 was.1 in
       (front.0, front.1, legal_before a.opening t.1 front.0 b.entries front.1 front.2 t.6.1.legal, t.6.0 ∙ front.2)
 
+  -- one turn more
+  pub one_turn_more : (more : ℕ) (a c b : Stand L) (o : State) (base : List Entry) → Turns s hall_of settings more a c → list_any is_left c.ends ≡ true → Renewal c.opening c.entries o base → Turn s hall_of settings (stand o base c.posts c.ends) b → Turns s hall_of settings (suc more) a b
+  one_turn_more more a c b o base t left renewal turn = (c, o, base, t, left, renewal, turn)
+
   -- before their first turn all posts are left
   pub first_turn : (o : State) (base log : List Entry) (posts : List (Post L)) (ends : List WorkEnd) (back : List (Post L)) → ServesTurn s hall_of settings o base log posts (all_unserved posts) ends back → ServesPosts s hall_of settings o base log posts ends back
   first_turn o base log posts ends back t = record {
@@ -109,7 +123,7 @@ module _ {L S K : Type 0} (s : Sides S K) (hall_of : L → Hall S K) (settings :
     begins = t.begins;
     all_ended = t.all_ended;
     all_back = t.all_back;
-    each = λ k p q e at_p at_e at_q. t.each k p q unserved e at_p (map_at (λ (x : Post L). unserved) posts k p at_p) at_e at_q;
+    each = λ k p q e at_p at_e at_q. t.each k p q unserved e at_p (replicate_at unserved posts k p at_p) at_e at_q;
     others = t.others;
   }
 

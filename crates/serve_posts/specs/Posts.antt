@@ -1,5 +1,5 @@
 -- What workers do at their posts, each in a seat of its own, over one history.
-use Rattle.std.specs.Prelude.{◌≡◌, ◌⊎◌, ℕ, ◌+◌, ◌<◌, List, length, map, slice_get, Some, Option, Bool, true, false}
+use Rattle.std.specs.Prelude.{◌≡◌, ◌⊎◌, ℕ, ◌+◌, ◌<◌, List, length, replicate, slice_get, Some, Option, Bool, true, false}
 use Rattle.portal_base.specs.declared.limits.Settings.{Settings}
 use Rattle.portal_model.specs.declared.entry.Entry.{Entry}
 use Rattle.portal_desk.specs.Knowing.{Known}
@@ -31,7 +31,7 @@ abbrev pub unserved : WorkEnd
 unserved = end.Full 0 0
 
 abbrev pub all_unserved : {L : Type 0} → List (Post L) → List WorkEnd
-all_unserved posts = map (λ _. unserved) posts
+all_unserved posts = replicate (length posts) unserved
 
 -- a seat that sits down: none of its requests was refused so far
 abbrev pub sat_down : Sight → Sight

@@ -1,7 +1,7 @@
 -- What a seat made while a connection was served.
-use Rattle.std.proofs.Common.{◌≡◌, ℕ, ◌≤◌, List, [], ◌++◌, inl, inr, refl, sym, ap, ◌∙◌, subst}
+use Rattle.std.proofs.Common.{◌≡◌, ℕ, ◌≤◌, List, [], ◌++◌, inl, inr, refl, sym, ap, ◌∙◌, subst, arith}
 use Rattle.std.specs.Prelude.{◌⊎◌}
-use Rattle.std.proofs.Math.Nat.{le-max_left, le-refl}
+use Rattle.std.proofs.Math.Nat.{le-max_left}
 use Rattle.std.proofs.lemmas.List.{append-nil}
 use Rattle.portal_model.specs.Seated.{Exchange, Moved, Seated}
 use Rattle.session.specs.declared.act.Client.{Client}
@@ -27,7 +27,7 @@ none v w h = record {
   made = [];
   moved = subst (λ (z : Seated). Moved v z) (sym h) (moved_none v);
   mine = ap (λ (z : Seated). z.mine) h ∙ sym (append-nil v.mine);
-  refusals = subst (λ (z : Seated). v.refusals ≤ z.refusals) (sym h) (le-refl v.refusals);
+  refusals = let e : w.refusals ≡ v.refusals = ap (λ (z : Seated). z.refusals) h in omega (arith, e);
 }
 
 grown : (v w : Seated) (os : List Outcome) → Grew v os w → Part v w
