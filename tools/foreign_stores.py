@@ -18,8 +18,6 @@ except ImportError:
     sqlite3 = None
 
 KEPT = os.path.join(TOP, "examples", "stores", "version_1.db")
-# How long a log is, in bytes, in which nothing is committed.
-BARE_LOG = 41
 
 FAULT = "docportal: store fault: "
 OTHER = FAULT + "the file of the records holds something else, and is left as it is\n"
@@ -179,22 +177,15 @@ def see_refused(see, what, words, path, line):
 
 
 def see_cut_refused(see, what, words, path):
-    """A start with a store of ours that was cut is refused with a line, and leaves its bytes. A log
-    in which nothing is committed may stand beside it then."""
-    with open(path, "rb") as file:
-        before = file.read()
+    """A start with a store of ours that was cut is refused with a line, and leaves all in its folder
+    as it is."""
+    place = os.path.dirname(path)
+    before = all_bytes(place)
     words = list(words)
     words[words.index("--store") + 1] = path
     status, out, said = run(*words)
     see(what, (status, out, said.startswith(FAULT), said.count("\n")), (3, "", True, 1))
-    with open(path, "rb") as file:
-        see(what + " stays", file.read() == before)
-    beside = os.listdir(os.path.dirname(path))
-    log = os.path.basename(path) + "-wal"
-    see(what + " and its log", all(name in (os.path.basename(path), log) for name in beside))
-    if log in beside:
-        see(what + " has a log without changes", os.path.getsize(path + "-wal") <= BARE_LOG)
-        os.remove(path + "-wal")
+    see(what + " stays", all_bytes(place) == before)
 
 
 def check_others(see, folder, words):

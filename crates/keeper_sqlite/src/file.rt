@@ -3,7 +3,8 @@
 //! SQLite makes a log beside a file that it opens, and takes a file of one byte for one that
 //! it may write over. So a file that holds no records is found out first, and only read.
 
-use crate::log::{FirstPage, Log};
+use crate::loading::ready_tables;
+use crate::log::{FirstPage, LEAST_LEN, Log};
 use memchr::memmem;
 use os::RangeLock;
 use sqlite::{Connection, Error, ErrorCode, File as DatabaseFile, FileStore};
@@ -28,35 +29,38 @@ const PAGE_SIZE: usize = 16;
 
 const PAGE_SIZE_END: usize = 20;
 
-/// How long a log is, in bytes, in which nothing is committed.
-const BARE_LOG_LEN: u64 = 32;
-
 /// The bytes that a process locks that has a database open (Database File Format, "The
 /// Lock-Byte Page").
 const LOCK_BYTES: (u64, u64) = (1 << 30, 512);
 
-/// Opens the database of a path. Where nothing stands there its file is made.
+/// Opens the database of a path, with its tables. Where nothing stands there its file is made.
 pub(crate) fn open_database(
     rt: &HostRuntime,
     path: &str,
 ) -> Result<Connection<FileStore<DatabaseFile>>, DatabaseFault> {
     let alone = ready_file(rt, path)?;
-    // A commit is synced once, as SQLite's WAL with synchronous FULL does, on the premise that a
-    // torn write leaves each byte old or new. To take no such premise would sync twice.
-    match Connection::open(rt, path) {
-        Ok(conn) => Ok(conn),
-        Err(error) => {
-            if let Some(real) = alone {
-                // What the database is refused for is told, whatever comes of its log.
-                let _ = remove_bare_log(rt, real.as_str());
-            }
-            Err(DatabaseFault::from(error))
-        }
+    let opened = connect(rt, path);
+    if let (Err(_), Some(real)) = (&opened, &alone) {
+        // What the database is refused for is told, whatever comes of its log.
+        let _ = remove_bare_log(rt, real.as_str());
     }
+    opened
 }
 
-/// Makes sure that a path leads to a file of records, or to an empty one: to which, where it
-/// has no log beside it.
+/// Lets SQLite open the database of a path, and makes its tables where there are none.
+fn connect(
+    rt: &HostRuntime,
+    path: &str,
+) -> Result<Connection<FileStore<DatabaseFile>>, DatabaseFault> {
+    // A commit is synced once, as SQLite's WAL with synchronous FULL does, on the premise that a
+    // torn write leaves each byte old or new. To take no such premise would sync twice.
+    let mut conn = Connection::open(rt, path)?;
+    ready_tables(&mut conn)?;
+    Ok(conn)
+}
+
+/// Makes sure that a path leads to a file of records, or to an empty one: to which, where it has
+/// records and no log beside it.
 fn ready_file(rt: &HostRuntime, path: &str) -> Result<Option<PathBuf>, DatabaseFault> {
     let real = match fs::canonicalize(rt, path) {
         Ok(real) => real,
@@ -66,12 +70,13 @@ fn ready_file(rt: &HostRuntime, path: &str) -> Result<Option<PathBuf>, DatabaseF
         }
         Err(error) => return Err(unusable(&error)),
     };
-    see_file(rt, real.as_str())?;
+    // What SQLite begins of a new file it finds again by the log, which stays then.
+    let has_records = see_file(rt, real.as_str())?;
     let log = log_beside(rt, real.as_str())?;
-    if met(fs::exists(rt, log.as_str()))? {
-        Ok(None)
-    } else {
+    if has_records && !met(fs::exists(rt, log.as_str()))? {
         Ok(Some(real))
+    } else {
+        Ok(None)
     }
 }
 
@@ -89,7 +94,7 @@ fn remove_bare_log(rt: &HostRuntime, path: &str) -> Result<(), DatabaseFault> {
     }
     let log = log_beside(rt, path)?;
     match fs::symlink_metadata(rt, log.as_str()) {
-        Ok(found) if found.is_file() && found.len() <= BARE_LOG_LEN => {
+        Ok(found) if found.is_file() && found.len() < LEAST_LEN => {
             met(fs::remove_file(rt, log.as_str()))
         }
         _ => Ok(()),
@@ -119,8 +124,9 @@ fn make_file(rt: &HostRuntime, path: &str) -> Result<(), DatabaseFault> {
     }
 }
 
-/// Sees that a file has one name, isn't in use, and is empty or a file of records.
-fn see_file(rt: &HostRuntime, path: &str) -> Result<(), DatabaseFault> {
+/// Sees that a file has one name, isn't in use, and is empty or a file of records: whether it has
+/// any.
+fn see_file(rt: &HostRuntime, path: &str) -> Result<bool, DatabaseFault> {
     let found = met(fs::symlink_metadata(rt, path))?;
     if !found.is_file() {
         return Err(DatabaseFault::NoFile);
@@ -132,8 +138,10 @@ fn see_file(rt: &HostRuntime, path: &str) -> Result<(), DatabaseFault> {
     if is_in_use(&file) {
         return Err(DatabaseFault::Sqlite(Error::SqliteFailure(ErrorCode::DatabaseBusy)));
     }
-    if length_of(&file)? == 0 || is_of_records(rt, path, &file)? {
-        Ok(())
+    if length_of(&file)? == 0 {
+        Ok(false)
+    } else if is_of_records(rt, path, &file)? {
+        Ok(true)
     } else {
         Err(DatabaseFault::Foreign)
     }

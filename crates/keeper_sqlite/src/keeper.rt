@@ -10,7 +10,7 @@ ghost use Rattle.sqlite_tables.specs.declared.fault.KeeperFault.TheVariants.{Unk
 use crate::changes::make_all;
 use crate::file::open_database;
 use crate::kept::can_keep_all;
-use crate::loading::{read_records, ready_tables};
+use crate::loading::read_records;
 use portal_base::list::List;
 use portal_model::records::RecordChange;
 use record_keeper::{Keeper, KeeperDone, KeeperLoad};
@@ -45,11 +45,9 @@ impl SqliteKeeper {
     pub fn open(rt: &HostRuntime, path: &str) -> Result<SqliteKeeper, DatabaseFault>
         ensures { IfOk result (λ keeper. keeper ≡ record { faults = 0; last = None }) }
     {
-        let mut conn = open_database(rt, path)?;
-        ready_tables(&mut conn)?;
         Ok(SqliteKeeper {
             alloc: rt.alloc(),
-            conn,
+            conn: open_database(rt, path)?,
             faults: 0,
             last_fault: None,
         })

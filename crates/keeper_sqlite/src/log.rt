@@ -14,6 +14,9 @@ const HEADER_LEN: u64 = 32;
 /// The length of a frame's header. A page stands behind it.
 const FRAME_HEADER_LEN: u64 = 24;
 
+/// A log that is shorter has no frame, so that nothing is committed in it.
+pub(crate) const LEAST_LEN: u64 = HEADER_LEN + FRAME_HEADER_LEN;
+
 /// A log's first word; its lowest bit tells how the sums are made.
 const MAGIC: u32 = 0x377f_0682;
 
