@@ -48,15 +48,15 @@ moved_on v m w h k = record {
 
 -- an ending that isn't this one
 pub not_full : (e : Served) → ((cost limit : ℕ) → e ≡ served.Full cost limit → ⊥) → is_full e ≡ false
-not_full (served.Full cost limit) no = absurd (no cost limit refl)
-not_full served.Ended no = refl
-not_full (served.Cut rest) no = refl
-not_full (served.Malformed at rule) no = refl
-not_full (served.LineTooLong at) no = refl
-not_full served.ReadFault no = refl
-not_full served.WriteFault no = refl
-not_full served.Spent no = refl
-not_full served.Memory no = refl
+not_full (served.Full cost limit) other = absurd (other cost limit refl)
+not_full served.Ended other = refl
+not_full (served.Cut rest) other = refl
+not_full (served.Malformed at rule) other = refl
+not_full (served.LineTooLong at) other = refl
+not_full served.ReadFault other = refl
+not_full served.WriteFault other = refl
+not_full served.Spent other = refl
+not_full served.Memory other = refl
 
 -- none of more links than before was refused
 none_more : (xs : List Visit) (x : Visit) → any_full xs ≡ false → is_full x.ended ≡ false → any_full (xs ++ x ∷ []) ≡ false

@@ -13,7 +13,7 @@ returns-clause-serves g c =
     (g.D.Desk.seated c.args.desk.now)
     _
     _
-    c.serve_connection.result
+    c.serve_connection-served.result
     (search rules)
     (search rules)
     (search rules)
