@@ -20,9 +20,9 @@ ghost use Rattle.portal_steps.specs.Story.{HasCause, cost_with, limit_of, state_
 ghost use Rattle.store_serving.specs.Serving.{may_change_entries};
 ghost use Rattle.store_serving.specs.Waiting.{silent};
 
-use app_view::ViewBook;
 use crate::renewal::{RenewError, least_seat};
 use crate::room::{make_room, taken};
+use app_view::ViewBook;
 use change_signals::Outboxes;
 use document_calls::ServedCall;
 use document_records::{Applications, Documents, Grants};
