@@ -131,10 +131,10 @@ module _ (began : Option (List File)) (o : OpeningState) (h : List Entry) (limit
       }) (stands.holds.lists.book.held i) (stands.holds.lists.book.numbered i) (stored.stored i)))
       ∙ opened_again now ds.most_live ds.most_made valid none_now open_state.handles
 
-  pub stands_again : Stands told next [] limit ds rs apps cs table told
+  pub stands_again : Stands told next [] o.limits.history ds rs apps cs table told
   stands_again = record {
     legal = record { opening = subst Valid (sym same_state) valid; lawful = tt };
-    limit_is = stands.limit_is;
+    limit_is = refl;
     within = omega arith;
     holds = subst (λ (s : State). Holds s o.limits ds rs apps cs table told) (sym same_state) stands.holds;
   }
