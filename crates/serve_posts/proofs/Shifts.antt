@@ -62,16 +62,16 @@ closed_there n o log v number opening known mine closed =
 module _ {L S K : Type 0} (s : Sides S K) (hall_of : L → Hall S K) (settings : Settings) where
   -- at a post that isn't left nothing is done
   pub rests : (p : Post L) (was : WorkEnd) (a : Sight) → is_left was ≡ false → AttendsLeft s hall_of settings p was a was p a
-  rests p (end.Full cost limit) a no = absurd (cc)
-  rests p end.Closed a no = (refl, refl, refl)
-  rests p end.Failed a no = (refl, refl, refl)
-  rests p end.Memory a no = (refl, refl, refl)
+  rests p (end.Full cost limit) a other = absurd (cc)
+  rests p end.Closed a other = (refl, refl, refl)
+  rests p end.Failed a other = (refl, refl, refl)
+  rests p end.Memory a other = (refl, refl, refl)
 
   pub attends : (p q : Post L) (was e : WorkEnd) (a b : Sight) → is_left was ≡ true → Attends s hall_of settings p a e q b → AttendsLeft s hall_of settings p was a e q b
-  attends p q (end.Full cost limit) e a b yes h = h
-  attends p q end.Closed e a b yes h = absurd (cc)
-  attends p q end.Failed e a b yes h = absurd (cc)
-  attends p q end.Memory e a b yes h = absurd (cc)
+  attends p q (end.Full cost limit) e a b left h = h
+  attends p q end.Closed e a b left h = absurd (cc)
+  attends p q end.Failed e a b left h = absurd (cc)
+  attends p q end.Memory e a b left h = absurd (cc)
 
   -- whether it did anything or not, it is in the same seat of the same turn
   pub stays_so : (p q : Post L) (was e : WorkEnd) (a b : Sight) → AttendsLeft s hall_of settings p was a e q b → Stays a b
@@ -145,9 +145,9 @@ module _ {L S K X : Type 0} (s : Sides S K) (hall_of : L → Hall S K) (settings
       let first = at_map post_of ws k p (ap (λ (xs : List (Post L)). slice_get xs k) w.posts_are ∙ at_p) in
       let was = at_map end_of ws k d (ap (λ (xs : List WorkEnd). slice_get xs k) w.ends_are ∙ at_d) in
       let last = at_map post_of vs k q (ap (λ (xs : List (Post L)). slice_get xs k) (sym backs) ∙ at_q) in
-      let end = at_map end_of vs k e (ap (λ (xs : List WorkEnd). slice_get xs k) (sym ended) ∙ at_e) in
-      let same : end.0 ≡ last.0 = one_there vs k end.0 last.0 end.1 last.1 in
-      let ends_so : end_of last.0 ≡ e = ap end_of (sym same) ∙ end.2 in
+      let how = at_map end_of vs k e (ap (λ (xs : List WorkEnd). slice_get xs k) (sym ended) ∙ at_e) in
+      let same : how.0 ≡ last.0 = one_there vs k how.0 last.0 how.1 last.1 in
+      let ends_so : end_of last.0 ≡ e = ap end_of (sym same) ∙ how.2 in
       let first_same : was.0 ≡ first.0 = one_there ws k was.0 first.0 was.1 first.1 in
       let was_so : end_of first.0 ≡ d = ap end_of (sym first_same) ∙ was.2 in
       let pass = its_pass z o base seats posts were passes ws vs returned w k first.0 first.1 in
