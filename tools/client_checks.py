@@ -400,21 +400,22 @@ def gone(see, service, folder):
 
 
 def full_history(see, folder):
-    """What is said of a history that is full: the fifth command's call is refused, and then
-    each connection is closed."""
+    """What is said where the history is full: a call is refused that it has no room for, and a
+    connection closed that took the last of it. The next command is served."""
     service = Service(folder, [], "--history", "1152")
     service.start()
     try:
         checks = Checks(see, service, folder)
-        for _ in range(4):
-            checks.types("documents")
-        checks.types("documents", status=1,
-                     said="org.freedesktop.DBus.Error.LimitsExceeded: a limit is reached; where it "
-                          "is that of the history, " + MODULE.RESTART)
-        for line in ("documents", "ls"):
-            checks.types(line, status=3,
-                         said="the service closed the connection at once: its history is full, or "
-                              "it ended just then; " + MODULE.RESTART)
+        for _ in range(2):
+            checks.types("permissions " + "t" * 1000, status=1,
+                         said="org.freedesktop.DBus.Error.LimitsExceeded: a limit is reached; "
+                              "where it is that of the history, " + MODULE.AGAIN)
+            # Each of these costs 256 bytes.
+            for _ in range(4):
+                checks.types("documents")
+            checks.types("documents", status=3,
+                         said="the service closed the connection at once: it ended just then, or "
+                              + MODULE.AGAIN)
     finally:
         service.kill()
 

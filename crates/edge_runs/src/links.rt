@@ -8,7 +8,7 @@ use std::io::{ErrorKind, Read, Write};
 use std::os::unix::fs::PermissionsExt;
 use std::os::unix::net::{UnixListener, UnixStream};
 use std::{fs, io};
-use unix_links::{BindError, Patient, SocketFolder, SocketListener, Watch};
+use unix_links::{Bell, BindError, Patient, SocketFolder, SocketListener, Watch};
 use vector_lines::error::{VectorError, bad, given};
 use vector_lines::notation::{cut, debug};
 use worker_gate::listener::{Accepted, Listener};
@@ -149,8 +149,9 @@ fn talk_over(
     text: &str,
     answer: &str,
 ) -> Result<String, VectorError> {
-    let first = given(alloc, SocketListener::new(socket, &Quiet))?;
-    let told = match given(alloc, SocketListener::new(socket, &Quiet)) {
+    let bell = given(alloc, Bell::new(system))?;
+    let first = given(alloc, SocketListener::new(socket, &bell, &Quiet, false))?;
+    let told = match given(alloc, SocketListener::new(socket, &bell, &Quiet, false)) {
         Ok(mut second) => talk_at(system, alloc, &mut second, path, text, answer),
         Err(error) => Err(error),
     };
@@ -224,7 +225,8 @@ fn leave_over(
     path: &str,
     text: &str,
 ) -> Result<String, VectorError> {
-    let mut listener = given(alloc, SocketListener::new(socket, &Quiet))?;
+    let bell = given(alloc, Bell::new(system))?;
+    let mut listener = given(alloc, SocketListener::new(socket, &bell, &Quiet, false))?;
     let told = match send(system, alloc, path, text) {
         Ok(()) => left(alloc, &mut listener),
         Err(error) => Err(error),

@@ -9,6 +9,8 @@
 //! | `answer` | what the program does for its words, and the number that it ends with |
 //! | `system` | what the system gives a service: its files, threads, sockets and devices |
 //! | `standing` | what its posts share: when the sockets stand, and what is told |
+//! | `rounds` | what the history has cost, and how a round ends |
+//! | `spend` | a request that spends what the history has left |
 //! | `root` | the folder of its files, opened ahead of all else |
 //! | `descriptors`, `threads` | how many files may be open, and whether there are threads enough |
 //! | `store` | [`store::ToldKeeper`]: a keeper whose failures are told |
@@ -25,6 +27,8 @@ pub mod answer;
 mod descriptors;
 mod line;
 mod root;
+mod rounds;
+mod spend;
 pub mod standing;
 pub mod store;
 mod system;

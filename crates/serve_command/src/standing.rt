@@ -1,6 +1,7 @@
 //! What the posts of a service share: when its sockets stand, and what is told.
 
 use crate::line::on_one_line;
+use crate::rounds::Rounds;
 use portal_base::list::List;
 use portal_base::outside::{Sink, StdSink};
 use portal_base::text::Text;
@@ -58,7 +59,7 @@ pub struct Standing<'a> {
     to_begin: AtomicU64,
     fault: OnceLock<PlaceFault>,
     told_wait: AtomicBool,
-    told_full: AtomicBool,
+    rounds: Rounds<'a>,
 }
 
 impl<'a> Standing<'a> {
@@ -70,8 +71,13 @@ impl<'a> Standing<'a> {
             to_begin: AtomicU64::new(0),
             fault: OnceLock::new(),
             told_wait: AtomicBool::new(false),
-            told_full: AtomicBool::new(false),
+            rounds: Rounds::new(system),
         }
+    }
+
+    /// The rounds of the service.
+    pub(crate) fn rounds(&self) -> &Rounds<'a> {
+        &self.rounds
     }
 
     /// Takes the sockets that were made. They are handed back where there are some already.
@@ -93,6 +99,7 @@ impl<'a> Standing<'a> {
     /// So many posts are to begin before the sockets are put in their places.
     pub fn expect(&self, posts: u64) {
         self.to_begin.store(posts, Ordering::SeqCst);
+        self.rounds.expect(posts);
     }
 
     /// The socket that couldn't be put in its place, where there was one, and why.
@@ -176,20 +183,30 @@ impl<'a> Watch for Standing<'a> {
             let _ = eprintln!(self.system; "docportal: a post ends, it can't accept: {error}");
         }
     }
+
+    fn give(&self, spends: bool) {
+        self.rounds.give(spends);
+    }
+
+    fn spend(&self, buffer: &mut [u8]) -> usize {
+        self.rounds.fill(buffer)
+    }
 }
 
 impl<'a> Gate for Standing<'a> {
     fn at(&self, _worker: u32, _point: Point) {}
 
+    fn answered(&self, _worker: u32, cost: u64) {
+        self.rounds.spend(cost);
+    }
+
     fn refused(&self, _worker: u32, why: &Refused) {
-        let Refused::Full { cost: _, limit } = why else {
-            return;
-        };
-        if !self.told_full.swap(true, Ordering::SeqCst) {
-            let _ = eprintln!(self.system;
-                "docportal: the history is full ({limit} bytes of --history): requests are refused \
-                until a new one begins, or the service is started anew"
-            );
+        if let Refused::Full { cost: _, limit: _ } = why {
+            self.rounds.end();
         }
+    }
+
+    fn renewed(&self, turns: u64) {
+        self.rounds.begin(turns);
     }
 }

@@ -15,6 +15,7 @@ use keeper_sqlite::{DatabaseFault, SqliteKeeper};
 use portal_base::list::List;
 use portal_base::memory::WantOfMemory;
 use portal_base::text::Text;
+use portal_base::who::{Kind, Who};
 use portal_start::start::StartError;
 use serve_start::end::ServeEnd;
 use serve_start::openers::Openers;
@@ -160,6 +161,15 @@ impl<'v, 'a, R: Waiter> SystemOpeners<'v, 'a, R> {
     }
 }
 
+/// Whether the service's own links at a socket spend what a history has left: those at the host's
+/// mount do.
+fn spends(socket: &Socket) -> bool {
+    match (&socket.who, socket.kind) {
+        (Who::Host, Kind::Mount) => true,
+        _ => false,
+    }
+}
+
 /// What an error says of itself.
 fn reason<E: fmt::Display>(system: &HostRuntime, error: &E) -> Result<String, WantOfMemory> {
     Ok(format!(in system.alloc(); "{error}")?)
@@ -238,6 +248,7 @@ impl<'v, 'a, R: System> Openers<
 
     fn tell(&self, words: &ServeWords) {
         let history = words.history;
+        self.standing.rounds().limit(history);
         if history < COST_OF_CONNECTION {
             let _ = eprintln!(self.system;
                 "docportal: a history of {history} bytes is too small for a connection, which \
@@ -263,7 +274,11 @@ impl<'v, 'a, R: System> Openers<
         let Some(made) = standing.socket_at(&socket.path) else {
             return Err(self.no_socket(&socket.path, &io::Error::from(ErrorKind::NotFound)));
         };
-        match SocketListener::new(made, standing) {
+        let bell = match standing.rounds().bell() {
+            Ok(bell) => bell,
+            Err(error) => return Err(self.no_socket(&socket.path, error)),
+        };
+        match SocketListener::new(made, bell, standing, spends(socket)) {
             Ok(listener) => Ok(listener),
             Err(error) => Err(self.no_socket(&socket.path, &error)),
         }

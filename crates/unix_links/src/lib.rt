@@ -9,27 +9,34 @@
 //! |---|---|
 //! | `folder` | [`SocketFolder`], in which sockets are made out of sight and then put in their places |
 //! | `listener` | [`SocketListener`], whose links are connections to a socket, and [`Watch`], who is told what it meets |
-//! | `half` | [`Half`], by which both ends of a link share one descriptor |
+//! | `bell` | [`Bell`], at which links end, and listeners give links of the program's own |
+//! | `link` | [`LinkReader`] and [`LinkWriter`], the ends of a link |
+//! | `half` | [`Half`], by which both ends of a client's link share one descriptor |
 //! | `patient` | [`Patient`], a reader that is called again where it is interrupted |
 //! | `error` | why a socket can't stand somewhere |
 //!
 //! ```text
 //! let folder = SocketFolder::take(system, "/run/user/1000/docportal")?;
 //! let socket = folder.bind(system, 0, "/run/user/1000/docportal/host.bus")?;
-//! let first = SocketListener::new(&socket, &watch)?;
-//! let second = SocketListener::new(&socket, &watch)?;     // for a second worker
+//! let bell = Bell::new(system)?;
+//! let first = SocketListener::new(&socket, &bell, &watch, false)?;
+//! let second = SocketListener::new(&socket, &bell, &watch, false)?;     // for a second worker
 //! folder.show(system, 0, "/run/user/1000/docportal/host.bus")?;
 //! ```
 #![tactic(auto)]
 
+mod bell;
 mod error;
 mod folder;
 mod half;
+mod link;
 mod listener;
 mod patient;
 
+pub use bell::Bell;
 pub use error::BindError;
 pub use folder::SocketFolder;
 pub use half::Half;
+pub use link::{LinkReader, LinkWriter};
 pub use listener::{SocketListener, Watch};
 pub use patient::Patient;

@@ -2,24 +2,28 @@
 
 ghost use Rattle.std.specs.Prelude.{◌≡◌, IfOk};
 
+use crate::bell::Bell;
 use crate::half::Half;
+use crate::link::{LinkReader, LinkWriter};
 use crate::patient::Patient;
+use libc::net::POLLIN;
 use portal_base::outside::{StdSink, StdSource};
 use std::alloc::Global;
 use std::io;
 use std::io::ErrorKind;
 use std::marker::Model;
+use std::os::fd::AsRawFd;
 use std::os::unix::net::UnixListener;
 use worker_gate::listener::{Accepted, Listener};
 
 /// The process, and the system, may open no further file (accept(2)).
 const NO_DESCRIPTOR: [i32; 2] = [libc::EMFILE, ENFILE];
 
-/// The client went before it was accepted.
-const CLIENT_GONE: [i32; 2] = [libc::ECONNABORTED, EPROTO];
+/// The client went before it was accepted, or another listener at the socket has it.
+const CLIENT_GONE: [i32; 3] = [libc::ECONNABORTED, EPROTO, libc::EAGAIN];
 
 /// The system is short of something that others give back.
-const SHORT_OF_MEMORY: [i32; 3] = [libc::ENOMEM, ENOBUFS, libc::EAGAIN];
+const SHORT_OF_MEMORY: [i32; 2] = [libc::ENOMEM, ENOBUFS];
 
 // Numbers of Linux that the kit has no names for.
 const ENFILE: i32 = 23;
@@ -38,6 +42,16 @@ pub trait Watch {
 
     /// A listener gives no connection any more.
     fn end(&self, error: &io::Error);
+
+    /// The bell rings, and a listener is about to give a link of the program's own, which may
+    /// be one that spends. It may wait ahead of that.
+    fn give(&self, _spends: bool) {}
+
+    /// The next bytes of a link of the program's own that spends: how many were put at the
+    /// front of the buffer. With none it ends.
+    fn spend(&self, _buffer: &mut [u8]) -> usize {
+        0
+    }
 }
 
 /// A listener at a Unix socket, which contracts see as its count of faults.
@@ -47,11 +61,16 @@ pub trait Watch {
 /// memory are wanting it waits and goes on. It keeps one descriptor in spare, so that a
 /// client is taken also where nobody may open a file. Each other error is a fault, and so
 /// is it where the watch lets it not begin. It never closes.
+///
+/// While the bell rings it takes no client, and each of its links is one of the program's own:
+/// one that ends at once, or one whose bytes come from the watch.
 #[derive(Drop)]
 pub struct SocketListener<'a, W> {
     socket: &'a UnixListener,
     spare: Option<UnixListener>,
+    bell: &'a Bell,
     watch: &'a W,
+    spends: bool,
     begun: bool,
     faults: u64,
 }
@@ -65,16 +84,25 @@ impl<'a, W> Model for SocketListener<'a, W> {
 }
 
 impl<'a, W: Watch> SocketListener<'a, W> {
-    /// A listener at a socket, without faults so far. Of several at one socket a
-    /// connection comes to one.
-    pub fn new(socket: &'a UnixListener, watch: &'a W) -> io::Result<SocketListener<'a, W>>
+    /// A listener at a socket, without faults so far, whose links of the program's own may be
+    /// those that spend. Of several at one socket a connection comes to one.
+    pub fn new(
+        socket: &'a UnixListener,
+        bell: &'a Bell,
+        watch: &'a W,
+        spends: bool,
+    ) -> io::Result<SocketListener<'a, W>>
         ensures { IfOk result (λ listener. listener ≡ 0) }
     {
+        // It waits at the bell too.
+        socket.set_nonblocking(true)?;
         let spare = socket.try_clone()?;
         Ok(SocketListener {
             socket,
             spare: Some(spare),
+            bell,
             watch,
+            spends,
             begun: false,
             faults: 0,
         })
@@ -91,24 +119,45 @@ impl<'a, W: Watch> SocketListener<'a, W> {
         self.watch.begin()
     }
 
-    /// Both ends of the next connection.
-    fn next_ends(&mut self, alloc: Global) -> io::Result<(Half, Half)>
+    /// Both ends of the next connection, or none where the bell rings.
+    fn next_ends(&mut self, alloc: Global) -> io::Result<Option<(Half<'a>, Half<'a>)>>
         ensures { self.new ≡ self.old }
     {
         if self.spare.is_none() {
             self.spare = self.socket.try_clone().ok();
         }
         for _ in 0..u64::MAX {
+            if self.bell.wait(self.socket.as_raw_fd(), POLLIN).is_rung {
+                return Ok(None);
+            }
             let ends = match self.socket.accept() {
-                Ok((stream, _)) => Half::both(alloc, stream).map_err(io::Error::from),
+                Ok((stream, _)) => Half::both(alloc, stream, self.bell),
                 Err(error) => Err(error),
             };
             match ends {
-                Ok(ends) => return Ok(ends),
+                Ok(ends) => return Ok(Some(ends)),
                 Err(error) => self.meet(error)?,
             }
         }
         Err(io::Error::from(ErrorKind::Other))
+    }
+
+    /// Both ends of a link of this client, or of the program's own.
+    fn ends_of(&self, client: Option<(Half<'a>, Half<'a>)>) -> (LinkReader<'a, W>, LinkWriter<'a>) {
+        match client {
+            Some((reader, writer)) => (
+                LinkReader::Client(Patient::new(reader)),
+                LinkWriter::Client(writer),
+            ),
+            None => {
+                self.watch.give(self.spends);
+                let reader = match self.spends {
+                    true => LinkReader::Watch(self.watch),
+                    false => LinkReader::Nobody,
+                };
+                (reader, LinkWriter::Nobody)
+            }
+        }
     }
 
     /// Goes on from an error of accepting where it mends itself.
@@ -137,9 +186,9 @@ impl<'a, W: Watch> SocketListener<'a, W> {
 impl<'a, W: Watch> Listener for SocketListener<'a, W> {
     ghost use Rattle.std.specs.Prelude.{None};
 
-    type In = StdSource<Patient<Half>>;
+    type In = StdSource<LinkReader<'a, W>>;
 
-    type Out = StdSink<Half>;
+    type Out = StdSink<LinkWriter<'a>>;
 
     ghost links = { λ _. None };
 
@@ -155,10 +204,13 @@ impl<'a, W: Watch> Listener for SocketListener<'a, W> {
             return Accepted::Failed;
         }
         match self.next_ends(alloc) {
-            Ok((reader, writer)) => Accepted::Link {
-                source: StdSource::new(Patient::new(reader)),
-                sink: StdSink::new(writer),
-            },
+            Ok(client) => {
+                let (reader, writer) = self.ends_of(client);
+                Accepted::Link {
+                    source: StdSource::new(reader),
+                    sink: StdSink::new(writer),
+                }
+            }
             Err(error) => {
                 self.watch.end(&error);
                 self.faults = self.faults.saturating_add(1);

@@ -1,0 +1,73 @@
+//! A bell, which ends what threads wait for at sockets.
+
+use libc::net::{POLLIN, poll};
+use libc::types::pollfd;
+use std::io;
+use std::io::{PipeReader, PipeWriter, Read, Write};
+use std::os::fd::{AsRawFd, RawFd};
+
+/// A bell that is heard by any number of threads while they wait for a client. It rings until
+/// it is stilled.
+///
+/// While it rings, links end, and listeners give links of the program's own.
+#[derive(Drop)]
+pub struct Bell {
+    // There is a byte in the pipe while it rings, which ends each poll(2).
+    ears: PipeReader,
+    rope: PipeWriter,
+}
+
+/// What ended a wait: one of both, or both, or neither where a signal came.
+#[derive(Clone, Copy)]
+pub(crate) struct Waited {
+    /// The bell rings.
+    pub(crate) is_rung: bool,
+    /// The descriptor is ready.
+    pub(crate) is_ready: bool,
+}
+
+impl Bell {
+    /// A bell that is still.
+    pub fn new(system: &HostRuntime) -> io::Result<Bell> {
+        let (ears, rope) = io::pipe(system)?;
+        Ok(Bell { ears, rope })
+    }
+
+    /// Begins to ring. It has to be still.
+    pub fn ring(&self) {
+        // A pipe that is empty takes a byte at once.
+        let _ = (&self.rope).write(&[0]);
+    }
+
+    /// Stops ringing. It has to ring, or this waits until it does.
+    pub fn still(&self) {
+        let _ = (&self.ears).read(&mut [0]);
+    }
+
+    /// Waits until a descriptor is ready for such events or the bell rings.
+    pub(crate) fn wait(&self, descriptor: RawFd, events: i16) -> Waited {
+        let mut asked = [ask(descriptor, events), ask(self.ears.as_raw_fd(), POLLIN)];
+        poll(&mut asked, -1);
+        let [first, second] = asked;
+        Waited {
+            is_rung: second.revents != 0,
+            is_ready: first.revents != 0,
+        }
+    }
+}
+
+/// Whether a descriptor is ready for such events within so many milliseconds.
+pub(crate) fn is_ready(descriptor: RawFd, events: i16, milliseconds: i32) -> bool {
+    let mut asked = [ask(descriptor, events)];
+    poll(&mut asked, milliseconds);
+    let [first] = asked;
+    first.revents != 0
+}
+
+fn ask(fd: RawFd, events: i16) -> pollfd {
+    pollfd {
+        fd,
+        events,
+        revents: 0,
+    }
+}
