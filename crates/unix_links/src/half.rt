@@ -1,5 +1,7 @@
 //! One of the two ends that share a connection.
 
+ghost use Rattle.std.specs.Io.{ReadsAtMost, WritesAtMost};
+
 use crate::bell::{Bell, is_ready};
 use libc::net::{POLLIN, POLLOUT};
 use std::alloc::Global;
@@ -46,12 +48,16 @@ impl<'a> Half<'a> {
         }
     }
 
-    fn read_now(&self, buffer: &mut [u8]) -> io::Result<usize> {
+    fn read_now(&self, buffer: &mut [u8]) -> io::Result<usize>
+        ensures { ReadsAtMost result buffer.new }
+    {
         let mut stream: &UnixStream = &*self.stream;
         stream.read(buffer)
     }
 
-    fn write_now(&self, buffer: &[u8]) -> io::Result<usize> {
+    fn write_now(&self, buffer: &[u8]) -> io::Result<usize>
+        ensures { WritesAtMost result buffer.now }
+    {
         let mut stream: &UnixStream = &*self.stream;
         stream.write(buffer)
     }
