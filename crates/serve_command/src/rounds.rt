@@ -12,9 +12,12 @@ const STEPS_OF_POST: u64 = 256;
 /// How long a step then takes, in milliseconds.
 const PAUSE: u64 = 100;
 
-/// How often a link that doesn't spend waits for one that does, each time twice as long as before,
-/// from a millisecond on.
-const WAITS: u32 = 9;
+/// How often a link that doesn't spend waits for one that does, at first for a millisecond, and each
+/// time twice as long as before.
+const WAITS: u32 = 36;
+
+/// How long it waits at most each time, in milliseconds.
+const LONGEST_WAIT: u64 = 16;
 
 /// The rounds of a service.
 ///
@@ -69,6 +72,16 @@ impl<'a> Rounds<'a> {
         let limit = self.limit.load(Ordering::SeqCst);
         let before = self.spent.fetch_add(cost, Ordering::SeqCst);
         let after = before.saturating_add(cost);
+        if !self.is_over.load(Ordering::SeqCst) {
+            self.tell_use(limit, before, after);
+        }
+        if limit.saturating_sub(after) < REQUEST_COST {
+            self.end();
+        }
+    }
+
+    /// Tells where a request was the one by which half of the history is used, or nine tenths.
+    fn tell_use(&self, limit: u64, before: u64, after: u64) {
         let half = limit / 2;
         let most = limit.saturating_sub(limit / 10);
         if before < half && half <= after {
@@ -76,9 +89,6 @@ impl<'a> Rounds<'a> {
         }
         if before < most && most <= after {
             self.tell("nine tenths of the history are used");
-        }
-        if limit.saturating_sub(after) < REQUEST_COST {
-            self.end();
         }
     }
 
@@ -122,7 +132,7 @@ impl<'a> Rounds<'a> {
                 return;
             }
             thread::sleep(self.system, Duration::from_millis(pause));
-            pause = pause.saturating_mul(2);
+            pause = pause.saturating_mul(2).min(LONGEST_WAIT);
         }
     }
 
