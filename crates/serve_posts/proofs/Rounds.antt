@@ -16,7 +16,7 @@ use Rattle.worker_gate.specs.declared.worker.WorkEnd.{WorkEnd}
 use Rattle.worker_gate.specs.declared.worker.WorkEnd.TheVariants as end
 use Rattle.worker_gate.specs.Working.{Hall, Sides}
 use Rattle.serve_posts.specs.Posts.{ServesLeft, ServesPost, ServesPosts, ServesTurn, all_unserved, is_left, unserved}
-use Rattle.serve_posts.specs.Rounds.{Renewal, ServesAll, Stand, TakesTurn, Turns, stand}
+use Rattle.serve_posts.specs.Rounds.{OneTurn, Renewal, ServesAll, Stand, Turns, stand}
 use Rattle.serve_posts.proofs.Places.{is_there, is_within}
 
 -- no seat has an open connection behind a history
@@ -85,7 +85,7 @@ module _ {L S K : Type 0} (s : Sides S K) (hall_of : L → Hall S K) (settings :
           post_closed o base log (suc k) p.0 q.0 d.0 e.0 served (closed (suc k))
 
   -- no post is lost
-  pub turn_lengths : (a b : Stand L) → TakesTurn s hall_of settings a b → (length b.posts ≡ length a.posts) × (length b.ends ≡ length a.posts)
+  pub turn_lengths : (a b : Stand L) → OneTurn s hall_of settings a b → (length b.posts ≡ length a.posts) × (length b.ends ≡ length a.posts)
   turn_lengths a b t = (t.1.all_back, t.1.all_ended)
 
   pub turns_lengths : (more : ℕ) (a b : Stand L) → Turns s hall_of settings more a b → (length b.posts ≡ length a.posts) × (length b.ends ≡ length a.posts)
@@ -112,7 +112,7 @@ module _ {L S K : Type 0} (s : Sides S K) (hall_of : L → Hall S K) (settings :
       (front.0, front.1, legal_before a.opening t.1 front.0 b.entries front.1 front.2 t.6.1.legal, t.6.0 ∙ front.2)
 
   -- one turn more
-  pub one_turn_more : (more : ℕ) (a c b : Stand L) (o : State) (base : List Entry) → Turns s hall_of settings more a c → list_any is_left c.ends ≡ true → Renewal c.opening c.entries o base → TakesTurn s hall_of settings (stand o base c.posts c.ends) b → Turns s hall_of settings (suc more) a b
+  pub one_turn_more : (more : ℕ) (a c b : Stand L) (o : State) (base : List Entry) → Turns s hall_of settings more a c → list_any is_left c.ends ≡ true → Renewal c.opening c.entries o base → OneTurn s hall_of settings (stand o base c.posts c.ends) b → Turns s hall_of settings (suc more) a b
   one_turn_more more a c b o base t left renewal turn = (c, o, base, t, left, renewal, turn)
 
   -- before their first turn all posts are left

@@ -33,17 +33,17 @@ Renewal o log p base = ((p ≡ o) × (base ≡ log)) ⊎ ((p ≡ run o log) × (
 
 module _ {L S K : Type 0} (s : Sides S K) (hall_of : L → Hall S K) (settings : Settings) where
   -- one turn, from how things stood to how they stand
-  abbrev pub TakesTurn : Stand L → Stand L → Type 0
-  TakesTurn a b = (b.opening ≡ a.opening)
+  abbrev pub OneTurn : Stand L → Stand L → Type 0
+  OneTurn a b = (b.opening ≡ a.opening)
       × ServesTurn s hall_of settings a.opening a.entries b.entries a.posts a.ends b.ends b.posts
 
   -- One turn and so many more. Ahead of each of these a post was left, and the history was as the
   -- turn before left it, or began anew.
   abbrev pub Turns : ℕ → Stand L → Stand L → Type 0
-  Turns zero a b = TakesTurn a b
+  Turns zero a b = OneTurn a b
   Turns (suc more) a b = (c : Stand L) × (o : State) × (base : List Entry) × Turns more a c
       × (list_any is_left c.ends ≡ true) × Renewal c.opening c.entries o base
-      × TakesTurn (stand o base c.posts c.ends) b
+      × OneTurn (stand o base c.posts c.ends) b
 
   -- Posts were served, in so many turns, until none was left. All turns together made one legal
   -- history, of which the last part is the last history. Where one turn was enough, that served

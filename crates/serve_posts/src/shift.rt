@@ -6,7 +6,7 @@ ghost use Rattle.portal_model.specs.History.{run};
 ghost use Rattle.portal_model.specs.Seated.{is_open};
 ghost use Rattle.worker_gate.specs.Working.{sides};
 ghost use Rattle.serve_posts.specs.Posts.{halls, is_left, unserved};
-ghost use Rattle.serve_posts.specs.Rounds.{Renewal, ServesAll, TakesTurn, stand};
+ghost use Rattle.serve_posts.specs.Rounds.{OneTurn, Renewal, ServesAll, stand};
 
 use crate::worker::{Crew, is_left, seat_workers, stand_up, work_all};
 use portal_base::limits::Settings;
@@ -132,7 +132,7 @@ where
     requires count { (1 ≤ length posts) × (length posts ≤ 65535) }
     requires ends { length ends ≡ length posts }
     requires closed { (n : ℕ) → is_open (run (S.opening story) (S.entries story)) n ≡ false }
-    ensures turn { IfOk result (λ shift. TakesTurn
+    ensures turn { IfOk result (λ shift. OneTurn
         (sides L.In.left L.In.faults L.Out.told L.Out.faults) (halls L.links L.ends L.faults)
         settings.now (stand (S.opening story) (S.entries story) posts ends)
         (stand (S.opening shift.story) (S.entries shift.story) shift.posts shift.ends)) }

@@ -54,9 +54,9 @@ pub close-story-requires : goal.close-story-requires
 close-story-requires g c =
     rw c.in-Ok.ensures.value.1 (all_back (sides g.L.In.Source.left g.L.In.Source.faults g.L.Out.Sink.told g.L.Out.Sink.faults) (halls g.L.Listener.links g.L.Listener.ends g.L.Listener.faults) c.args.settings.now (λ (v : Worker g.row.R.Denot g.row.L.Denot g.row.S.Denot). v.post) (λ v. v.desk) (λ v. v.end) c.in-Ok.started.turn.table (g.S.Storied.opening c.args.story) (g.S.Storied.entries c.args.story) c.len-count.result c.args.posts c.args.ends c.in-Ok.started.passes.items c.as_mut_slice.result.now c.work_all.new.workers c.stand_up-passes.result.passes.items (worked g c))
 
-pub returns-clause-turn : goal.returns-clause-turn
-returns-clause-turn g c =
-    let before = (goal.at.returns-clause-turn g c).After-stand_up-passes in
+pub returns : goal.returns
+returns g c =
+    let before = (goal.at.returns g c).After-stand_up-passes in
     let start : c.in-Ok.started.turn.start ≡ c.args.story = c.in-Ok.ensures.value.0 in
     let backs : c.from_vec.result ≡ map (λ v. v.post) c.work_all.new.workers =
     c.from_vec.ensures ∙ (c.stand_up-passes.ensures.posts ∙ ap (λ (l : List (Worker g.row.R.Denot g.row.L.Denot g.row.S.Denot)). map (λ v. v.post) l) (returned g before)) in
