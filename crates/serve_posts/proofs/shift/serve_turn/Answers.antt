@@ -64,15 +64,18 @@ returns g c =
     c.from_vec-2.ensures ∙ (c.stand_up-passes.ensures.ends ∙ ap (λ (l : List (Worker g.row.R.Denot g.row.L.Denot g.row.S.Denot)). map (λ v. v.end) l) (returned g before)) in
     let did = worked g before in
     let stands : (k : ℕ) (p : Sight) → slice_get c.stand_up-passes.result.passes.items k ≡ Some p → Stands (g.S.Storied.opening c.args.story) (g.S.Storied.entries c.close-story.result) p.knows =
-    λ k p at. subst (λ x. Stands (g.S.Storied.opening x) (g.S.Storied.entries c.close-story.result) p.knows) start (c.close-story.ensures.seats k p at) in (
-      c.close-story.ensures.opening ∙ ap g.S.Storied.opening start,
-      record {
-        started = subst IsOpeningState (c.close-story.ensures.opening ∙ ap g.S.Storied.opening start) c.known.ensures.started;
-        legal = subst (λ (o : State). Legal o (g.S.Storied.entries c.close-story.result)) (c.close-story.ensures.opening ∙ ap g.S.Storied.opening start) c.known.ensures.legal;
-        begins = subst (λ x. BeginsWith (g.S.Storied.entries c.close-story.result) (g.S.Storied.entries x)) start c.close-story.ensures.begins;
-        all_ended = as_long (λ (v : Worker g.row.R.Denot g.row.L.Denot g.row.S.Denot). v.end) c.from_vec-2.result c.work_all.new.workers c.as_mut_slice.result.now c.args.posts c.len-count.result ended did.count did.number c.len-count.ensures;
-        all_back = as_long (λ (v : Worker g.row.R.Denot g.row.L.Denot g.row.S.Denot). v.post) c.from_vec.result c.work_all.new.workers c.as_mut_slice.result.now c.args.posts c.len-count.result backs did.count did.number c.len-count.ensures;
-        each = all_served (sides g.L.In.Source.left g.L.In.Source.faults g.L.Out.Sink.told g.L.Out.Sink.faults) (halls g.L.Listener.links g.L.Listener.ends g.L.Listener.faults) c.args.settings.now (λ (v : Worker g.row.R.Denot g.row.L.Denot g.row.S.Denot). v.post) (λ v. v.desk) (λ v. v.end) c.in-Ok.started.turn.table (g.S.Storied.opening c.args.story) (g.S.Storied.entries c.args.story) (g.S.Storied.entries c.close-story.result) c.len-count.result c.args.posts c.args.ends c.in-Ok.started.passes.items c.as_mut_slice.result.now c.work_all.new.workers c.stand_up-passes.result.passes.items c.from_vec-2.result c.from_vec.result did backs ended stands;
-        others = λ n out. subst (λ x. of_seat n (g.S.Storied.entries c.close-story.result) ≡ of_seat n (g.S.Storied.entries x)) start (c.close-story.ensures.others n (subst (λ (m : ℕ). (n ≡ 0) ⊎ (m < n)) (sym (c.in-Ok.ensures.value.1 ∙ c.len-count.ensures)) out));
-      },
-    )
+    λ k p at. subst (λ x. Stands (g.S.Storied.opening x) (g.S.Storied.entries c.close-story.result) p.knows) start (c.close-story.ensures.seats k p at) in
+    record {
+      turn = (
+        c.close-story.ensures.opening ∙ ap g.S.Storied.opening start,
+        record {
+          started = subst IsOpeningState (c.close-story.ensures.opening ∙ ap g.S.Storied.opening start) c.known.ensures.started;
+          legal = subst (λ (o : State). Legal o (g.S.Storied.entries c.close-story.result)) (c.close-story.ensures.opening ∙ ap g.S.Storied.opening start) c.known.ensures.legal;
+          begins = subst (λ x. BeginsWith (g.S.Storied.entries c.close-story.result) (g.S.Storied.entries x)) start c.close-story.ensures.begins;
+          all_ended = as_long (λ (v : Worker g.row.R.Denot g.row.L.Denot g.row.S.Denot). v.end) c.from_vec-2.result c.work_all.new.workers c.as_mut_slice.result.now c.args.posts c.len-count.result ended did.count did.number c.len-count.ensures;
+          all_back = as_long (λ (v : Worker g.row.R.Denot g.row.L.Denot g.row.S.Denot). v.post) c.from_vec.result c.work_all.new.workers c.as_mut_slice.result.now c.args.posts c.len-count.result backs did.count did.number c.len-count.ensures;
+          each = all_served (sides g.L.In.Source.left g.L.In.Source.faults g.L.Out.Sink.told g.L.Out.Sink.faults) (halls g.L.Listener.links g.L.Listener.ends g.L.Listener.faults) c.args.settings.now (λ (v : Worker g.row.R.Denot g.row.L.Denot g.row.S.Denot). v.post) (λ v. v.desk) (λ v. v.end) c.in-Ok.started.turn.table (g.S.Storied.opening c.args.story) (g.S.Storied.entries c.args.story) (g.S.Storied.entries c.close-story.result) c.len-count.result c.args.posts c.args.ends c.in-Ok.started.passes.items c.as_mut_slice.result.now c.work_all.new.workers c.stand_up-passes.result.passes.items c.from_vec-2.result c.from_vec.result did backs ended stands;
+          others = λ n out. subst (λ x. of_seat n (g.S.Storied.entries c.close-story.result) ≡ of_seat n (g.S.Storied.entries x)) start (c.close-story.ensures.others n (subst (λ (m : ℕ). (n ≡ 0) ⊎ (m < n)) (sym (c.in-Ok.ensures.value.1 ∙ c.len-count.ensures)) out));
+        },
+      );
+    }
