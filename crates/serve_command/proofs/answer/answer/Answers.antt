@@ -1,3 +1,4 @@
+use contract.BorrowLft.{⊑_static}
 use denote.Param.Send.{sendable}
 use Rattle.std.proofs.Crossing.{crosses}
 use Rattle.serve_command.proofs.Sends.{keeper_send}
@@ -8,4 +9,4 @@ obey-requires-send-K g c κs within = search (keeper_send, crosses, sendable) de
 
 -- the runtime holds no borrow
 pub obey-requires-lives-O-Openers-2 : goal.obey-requires-lives-O-Openers-2
-obey-requires-lives-O-Openers-2 g c κs within = λ a m. absurd (c.type_bounds.static-R a m)
+obey-requires-lives-O-Openers-2 g c κs within = λ a m. ⊑_static _ a (c.type_bounds.static-R a m)
