@@ -3,7 +3,9 @@
 
 ghost use Rattle.std.specs.Prelude.{◌<◌, IfOk, vec_len};
 
-use crate::calls::{TakesLines, bytes_at, hand_lines, lines_of, place_at, run, slice_at, text_at};
+use crate::calls::{
+    TakesLines, bytes_at, flag_at, hand_lines, lines_of, place_at, run, slice_at, text_at,
+};
 use crate::fault::DatabaseFault;
 use crate::names::names_of_text;
 use crate::rows::{add_rows, renew_rows};
@@ -18,11 +20,12 @@ pub const LOAD: &str = "SELECT place, store_table, id, datum FROM entry ORDER BY
 
 const LOAD_ROWS: &str = "SELECT entry, application, names FROM permission ORDER BY place";
 
-const FIND: &str = "SELECT place FROM entry WHERE store_table = ?1 AND id = ?2";
+/// Finds an entry, and tells whether it has such data.
+const FIND: &str = "SELECT place, datum = ?3 FROM entry WHERE store_table = ?1 AND id = ?2";
 
 const ADD: &str = "INSERT INTO entry (store_table, id, datum) VALUES (?1, ?2, ?3)";
 
-const SET_DATUM: &str = "UPDATE entry SET datum = ?2 WHERE place = ?1 AND datum <> ?2";
+const SET_DATUM: &str = "UPDATE entry SET datum = ?2 WHERE place = ?1";
 
 const REMOVE: &str = "DELETE FROM entry WHERE store_table = ?1 AND id = ?2";
 
@@ -45,6 +48,13 @@ struct PlacedEntry {
 #[derive(Drop)]
 struct ReadRows<'a> {
     entries: &'a mut ReadEntries,
+}
+
+/// An entry that is kept: where it stands, and whether it has the data of a record.
+#[derive(Clone, Copy)]
+struct KeptEntry {
+    place: i64,
+    has_datum: bool,
 }
 
 /// The entries, in their order.
@@ -164,11 +174,12 @@ impl TakesLines for ReadEntries {
 
 impl<'a> TakesLines for ReadRows<'a> {
     fn take(&mut self, alloc: Global, line: &Line) -> Result<(), DatabaseFault> {
-        let row = Row {
-            app: text_at(line, 1)?,
-            names: names_of_text(alloc, slice_at(line, 2)?)?,
+        let app = text_at(line, 1)?;
+        let Some(names) = names_of_text(alloc, slice_at(line, 2)?)? else {
+            return Err(DatabaseFault::NoRecord);
         };
-        self.entries.push_row(place_at(line, 0)?, row)
+        self.entries
+            .push_row(place_at(line, 0)?, Row { app, names })
     }
 }
 
@@ -179,27 +190,33 @@ pub fn set_entry<S: Alter>(
     transaction: &mut Transaction<'_, S>,
     entry: &EntryRecord,
 ) -> Result<(), DatabaseFault> {
-    let rows = entry.rows.as_slice();
-    match place_of_entry(transaction, &entry.table, &entry.id)? {
-        Some(place) => {
-            set_datum(transaction, place, &entry.datum)?;
-            renew_rows(alloc, transaction, place, rows)
-        }
-        None => add_entry(alloc, transaction, entry),
+    let Some(kept) = kept_entry(transaction, entry)? else {
+        return add_entry(alloc, transaction, entry);
+    };
+    if !kept.has_datum {
+        set_datum(transaction, kept.place, &entry.datum)?;
     }
+    renew_rows(alloc, transaction, kept.place, entry.rows.as_slice())
 }
 
-/// The place of the entry of a table and an identifier.
-fn place_of_entry<S: Alter>(
+/// The entry with the table and the identifier of a record.
+fn kept_entry<S: Alter>(
     transaction: &mut Transaction<'_, S>,
-    table: &Text,
-    id: &Text,
-) -> Result<Option<i64>, DatabaseFault> {
-    let lines = lines_of(transaction, FIND, params![table.as_str(), id.as_str()])?;
-    match lines.as_slice().first() {
-        Some(line) => Ok(Some(place_at(line, 0)?)),
-        None => Ok(None),
-    }
+    entry: &EntryRecord,
+) -> Result<Option<KeptEntry>, DatabaseFault> {
+    let (table, id) = (entry.table.as_str(), entry.id.as_str());
+    let lines = lines_of(
+        transaction,
+        FIND,
+        params![table, id, entry.datum.as_slice()],
+    )?;
+    let Some(line) = lines.as_slice().first() else {
+        return Ok(None);
+    };
+    Ok(Some(KeptEntry {
+        place: place_at(line, 0)?,
+        has_datum: flag_at(line, 1)?,
+    }))
 }
 
 fn set_datum<S: Alter>(

@@ -1,7 +1,8 @@
 //! The tables of a database that hold the portal's records, and their rows.
 //!
-//! **It promises** safety, and that every call returns. What a database holds is told by no
-//! contract, since a real file is outside.
+//! **It promises** that the names of a row are written as the one text that is kept of them, and
+//! are read exactly where a text is that of names. What a database holds is told by no contract,
+//! since a real file is outside.
 //!
 //! | Room | Holds |
 //! |---|---|

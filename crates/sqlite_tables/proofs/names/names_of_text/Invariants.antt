@@ -1,10 +1,9 @@
-use Rattle.std.proofs.Common.{◌≡◌, ◌++◌, length}
-use Rattle.sqlite_tables.specs.Names.{names_text}
+use Rattle.std.proofs.Common.{length}
+use Rattle.sqlite_tables.proofs.NameFacts.{StandAhead}
 use Rattle.sqlite_tables.proofs.names.names_of_text.Given as goal
 
--- the text is that of the names so far, with the rest behind it
-abbrev pub invariant-loop-name : goal.invariant-loop-name
-invariant-loop-name l = names_text l.names.items ++ l.rest ≡ l.text
+abbrev pub invariant-loop-written : goal.invariant-loop-written
+invariant-loop-written l = StandAhead l.text l.names.items l.rest
 
-abbrev pub decreases-loop-name : goal.decreases-loop-name
-decreases-loop-name l = length l.rest
+abbrev pub decreases-loop-written : goal.decreases-loop-written
+decreases-loop-written l = length l.rest
