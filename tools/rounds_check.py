@@ -379,36 +379,40 @@ def see_case(see, name, calls=None, patience=1.0, history=HISTORY, apps=APPS):
 
 
 def see_backlogs(see, times, patience=1.0):
-    """Every socket has as many connections as it takes; clients that were in end the round."""
+    """Every socket has as many connections as it takes; a client that was in ends the round.
+
+    Each time it is another service: connections that wait cost an Enter each once they are closed, and
+    end rounds of their own.
+    """
     soft, hard = resource.getrlimit(resource.RLIMIT_NOFILE)
     resource.setrlimit(resource.RLIMIT_NOFILE, (hard, hard))
     try:
-        with tempfile.TemporaryDirectory(prefix="docportal-", dir=PLACE) as folder:
-            return see_backlogs_in(see, folder, times, patience)
+        said = []
+        for _ in range(times):
+            with tempfile.TemporaryDirectory(prefix="docportal-", dir=PLACE) as folder:
+                said.append(see_backlogs_in(see, folder, patience))
+        return "\n".join(said)
     finally:
         resource.setrlimit(resource.RLIMIT_NOFILE, (soft, hard))
 
 
-def see_backlogs_in(see, folder, times, patience):
+def see_backlogs_in(see, folder, patience):
     service = Service(folder, [], "--history", str(HISTORY), "--workers", "1")
     service.start()
     reports = Reports(service)
-    most = 0
     try:
-        for number in range(times):
-            with service.bus() as bus:
-                bus.ping()
-                crowd = Crowd(service, {(None, "bus"): 10 ** 6, (None, "mount"): 10 ** 6})
-                most = max(most, crowd.size())
-                before = len(reports.new)
-                with contextlib.suppress(ConnectionError, DBusError):
-                    while True:
-                        bus.ping()
-            end = time.monotonic() + 10
-            while len(reports.new) == before and time.monotonic() < end:
-                time.sleep(0.001)
-            crowd.stop()
-            see("a renewal with every backlog full", len(reports.new) > before)
+        with service.bus() as bus:
+            bus.ping()
+            crowd = Crowd(service, {(None, "bus"): 10 ** 6, (None, "mount"): 10 ** 6})
+            most = crowd.size()
+            with contextlib.suppress(ConnectionError, DBusError):
+                while True:
+                    bus.ping()
+        end = time.monotonic() + 10
+        while not reports.new and time.monotonic() < end:
+            time.sleep(0.001)
+        see("a renewal with every backlog full", len(reports.new) > 0)
+        crowd.stop()
         see("every backlog full: a renewal within %g s" % patience, reports.longest() < patience)
         with service.bus(None, 60) as bus:
             bus.ping()
