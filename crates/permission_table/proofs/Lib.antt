@@ -3,8 +3,6 @@ pub mod SortedIds
 pub mod FirstPassing
 pub mod KeptEntries
 pub mod RowLemmas
-pub mod EndLemmas
-pub mod ChangedHeader
 pub mod SoundEntries
 pub mod TakenBack
 pub mod RowLaws

@@ -13,7 +13,6 @@
 //! | `entries` | which entry is looked up, put in its place or taken out |
 //! | `rows` | the rows of one entry |
 //! | `ordered` | lists in byte order of their keys |
-//! | `lengths`, `ends` | how long the signal is that tells of an entry |
 //! | `laws` | what is true of rows, of what can be told, of records, and of calls that are taken back |
 //!
 //! ```text
@@ -27,10 +26,8 @@
 //! limit are this project's own.
 #![tactic(auto)]
 
-mod ends;
 mod entries;
 pub mod laws;
-mod lengths;
 mod ordered;
 mod rows;
 mod tables;

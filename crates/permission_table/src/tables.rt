@@ -11,7 +11,6 @@ use crate::entries::{
     answer_of, change_of, content_of, entry_of, entry_to_set, has_row, ids_of, put_entry, restore,
     take_entry, with_content, with_datum, with_permissions, without_permissions,
 };
-use crate::lengths::can_be_told;
 use crate::rows::{permissions_of, stored_rows};
 use portal_base::list::List;
 use portal_base::memory::{Replica, WantOfMemory};
@@ -21,6 +20,7 @@ use portal_model::records::Row;
 use portal_model::store::{StoreAnswer, StoreError, StoredEntry, TableEntry};
 use std::alloc::Global;
 use std::marker::Model;
+use store_data::can_be_told;
 
 /// The entries of all tables, in order of creation.
 ///
