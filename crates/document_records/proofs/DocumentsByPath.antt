@@ -1,5 +1,5 @@
 -- The numbers of the documents of each path.
-use Rattle.std.proofs.Common.{◌≡◌, ℕ, ◌+◌, ◌==◌, nat_eq, List, [], ◌∷◌, ◌++◌, map, Bool, true, false, not, ◌||◌, ◌&&◌, cond, Option, Some, None, refl, sym, ap, subst, ◌∙◌, arith, suc, nat_lt, length, Result, Ok, Err, OnOk, OnErr}
+use Rattle.std.proofs.Common.{◌≡◌, ℕ, ◌+◌, ◌==◌, nat_eq, List, [], ◌∷◌, ◌++◌, map, Bool, true, false, not, ◌&&◌, cond, Option, Some, None, refl, sym, ap, subst, ◌∙◌, arith, suc, nat_lt, length, Result, Ok, Err, OnOk, OnErr}
 use Rattle.std.specs.BTreeMap.{BTreeMap, UpdatesBy, get}
 use Rattle.std.specs.Ordering.{is_eq}
 use Rattle.std.specs.List.{filter, find, remove, prefix_len, position, position_or_len, slice_get, IsDistinct, AllByRecursion}

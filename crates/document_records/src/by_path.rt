@@ -17,10 +17,7 @@ use std::collections::BTreeMap;
 pub(crate) type IdsByPath = BTreeMap<HostPath, List<DocId>>;
 
 /// The numbers of documents, by their paths.
-pub(crate) fn ids_by_path(
-    alloc: Global,
-    live: &[Document],
-) -> Result<IdsByPath, WantOfMemory>
+pub(crate) fn ids_by_path(alloc: Global, live: &[Document]) -> Result<IdsByPath, WantOfMemory>
     ensures { IfOk result (AreByPath live.now) }
 {
     let mut by_path = BTreeMap::new(alloc);
@@ -40,7 +37,7 @@ pub(crate) fn add_id(
 ) -> Result<(), WantOfMemory>
     ensures ok { OnOk result ((other : List ℕ) → ids_found by_path.new other
         ≡ cond (is_same path other) (ids_found by_path.old other ++ id ∷ [])
-            (ids_found by_path.old other)) }
+        (ids_found by_path.old other)) }
     ensures err { OnErr result ((other : List ℕ) →
         ids_found by_path.new other ≡ ids_found by_path.old other) }
 {
@@ -58,7 +55,7 @@ pub(crate) fn remove_id(by_path: &mut IdsByPath, path: &HostPath, id: DocId)
     requires { IsDistinct nat_eq (map (λ x. x.number) (ids_found by_path.old path.now)) }
     ensures { (other : List ℕ) → ids_found by_path.new other
         ≡ cond (is_same path.now other) (other_ids id.number (ids_found by_path.old other))
-            (ids_found by_path.old other) }
+        (ids_found by_path.old other) }
 {
     if leaves_none(by_path, path, id) {
         by_path.remove(path);
@@ -70,7 +67,7 @@ fn leaves_none(by_path: &mut IdsByPath, path: &HostPath, id: DocId) -> bool
     requires { IsDistinct nat_eq (map (λ x. x.number) (ids_found by_path.old path.now)) }
     ensures others { (other : List ℕ) → ids_found by_path.new other
         ≡ cond (is_same path.now other) (other_ids id.number (ids_found by_path.old other))
-            (ids_found by_path.old other) }
+        (ids_found by_path.old other) }
     ensures none { IsTrue result → ids_found by_path.new path.now ≡ [] }
 {
     match by_path.get_mut(path) {

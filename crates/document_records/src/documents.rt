@@ -179,7 +179,8 @@ impl Documents {
     {
         self.placed.known();
         let ids = self.by_path.get(path)?;
-        self.placed.first_with_flags(ids.as_slice(), persistent, strict)
+        self.placed
+            .first_with_flags(ids.as_slice(), persistent, strict)
     }
 
     /// The first live document of a path, which is found in about log n steps among
