@@ -110,26 +110,35 @@ by_items key = by_text key.items
 found-key : (text : List ℕ) (key : Vec ℕ) → is_at (by_text text) key ≡ true → text ≡ key.items
 found-key text key h = is_same-eq text key.items (sym (is_eq-slice_cmp text key.items) ∙ h)
 
-key-test : (text : List ℕ) (x y : Vec ℕ) → is_at (by_text text) x ≡ true → is_at (by_text text) y ≡ eq_by_cmp by_items x y
+key-test : (text : List ℕ) (x y : Vec ℕ) → is_at (by_text text) x ≡ true →
+    is_at (by_text text) y ≡ eq_by_cmp by_items x y
 key-test text x y h = ap (λ (t : List ℕ). is_eq (slice_cmp nat_cmp t y.items)) (found-key text x h)
 
 apart : (a b : List ℕ) → is_same a b ≡ false → AreApart (is_at (by_text a)) (is_at (by_text b))
-apart a b e = λ (key : Vec ℕ) h. is_eq-slice_cmp b key.items ∙ (ap (is_same b) (sym (found-key a key h)) ∙ (is_same-sym b a ∙ e))
+apart a b e = λ (key : Vec ℕ) h. is_eq-slice_cmp b key.items
+    ∙ (ap (is_same b) (sym (found-key a key h)) ∙ (is_same-sym b a ∙ e))
 
 -- what is found once one name has got a number, or has lost its own
-found-after : (name : List ℕ) (old new : BTreeMap (Vec ℕ) ℕ) (w : Option ℕ) → UpdatesBy by_items (by_text name) old new w → (app : List ℕ) → number_found new app ≡ cond (is_same name app) w (number_found old app)
+found-after : (name : List ℕ) (old new : BTreeMap (Vec ℕ) ℕ) (w : Option ℕ) →
+    UpdatesBy by_items (by_text name) old new w → (app : List ℕ) →
+    number_found new app ≡ cond (is_same name app) w (number_found old app)
 unfolding KeepsOthers
 found-after name old new w u app = step (is_same name app) refl
   where
-    step : (b : Bool) → is_same name app ≡ b → number_found new app ≡ cond b w (number_found old app)
+    step : (b : Bool) → is_same name app ≡ b →
+        number_found new app ≡ cond b w (number_found old app)
     step true e = ap (number_found new) (sym (is_same-eq name app e)) ∙ u.1
     step false e = u.3 (is_at (by_text app)) (key-test app) (apart name app e)
 
-still-ahead : (apps : List (List ℕ)) (app other : List ℕ) → nat_lt (ahead apps other) (length apps) ≡ true → ahead (apps ++ app ∷ []) other ≡ ahead apps other
+still-ahead : (apps : List (List ℕ)) (app other : List ℕ) →
+    nat_lt (ahead apps other) (length apps) ≡ true →
+    ahead (apps ++ app ∷ []) other ≡ ahead apps other
 still-ahead [] app other h = cc
 still-ahead (x ∷ xs) app other h = grind (arith, nat_tests, still-ahead xs app other)
 
-not-ahead : (apps : List (List ℕ)) (app other : List ℕ) → is_same app other ≡ false → nat_lt (ahead apps other) (length apps) ≡ false → ahead (apps ++ app ∷ []) other ≡ length apps + 1
+not-ahead : (apps : List (List ℕ)) (app other : List ℕ) → is_same app other ≡ false →
+    nat_lt (ahead apps other) (length apps) ≡ false →
+    ahead (apps ++ app ∷ []) other ≡ length apps + 1
 not-ahead [] app other e h = grind (arith, nat_tests)
 not-ahead (x ∷ xs) app other e h = grind (arith, nat_tests, not-ahead xs app other)
 
@@ -137,7 +146,8 @@ not-ahead (x ∷ xs) app other e h = grind (arith, nat_tests, not-ahead xs app o
 abbrev number-by : ℕ → ℕ → Option ℕ
 number-by at many = option_map (λ n. n + 1) (cond (nat_lt at many) (Some at) None)
 
-not-last : (apps : List (List ℕ)) (app other : List ℕ) → is_same app other ≡ false → number_of (apps ++ app ∷ []) other ≡ number_of apps other
+not-last : (apps : List (List ℕ)) (app other : List ℕ) → is_same app other ≡ false →
+    number_of (apps ++ app ∷ []) other ≡ number_of apps other
 not-last apps app other e = step (nat_lt (ahead apps other) (length apps)) refl
   where
     long : length (apps ++ app ∷ []) ≡ length apps + 1
@@ -146,17 +156,25 @@ not-last apps app other e = step (nat_lt (ahead apps other) (length apps)) refl
     inside : (at many : ℕ) → nat_lt at many ≡ true → number-by at (many + 1) ≡ number-by at many
     inside at many h = grind (arith, nat_tests)
 
-    outside : (at many : ℕ) → nat_lt at many ≡ false → number-by (many + 1) (many + 1) ≡ number-by at many
+    outside : (at many : ℕ) → nat_lt at many ≡ false →
+        number-by (many + 1) (many + 1) ≡ number-by at many
     outside at many h = grind (arith, nat_tests)
 
-    step : (b : Bool) → nat_lt (ahead apps other) (length apps) ≡ b → number_of (apps ++ app ∷ []) other ≡ number_of apps other
-    step true h = (λ i. number-by (still-ahead apps app other h i) (long i)) ∙ inside (ahead apps other) (length apps) h
-    step false h = (λ i. number-by (not-ahead apps app other e h i) (long i)) ∙ outside (ahead apps other) (length apps) h
+    step : (b : Bool) → nat_lt (ahead apps other) (length apps) ≡ b →
+        number_of (apps ++ app ∷ []) other ≡ number_of apps other
+    step true h = (λ i. number-by (still-ahead apps app other h i) (long i))
+        ∙ inside (ahead apps other) (length apps) h
+    step false h = (λ i. number-by (not-ahead apps app other e h i) (long i))
+        ∙ outside (ahead apps other) (length apps) h
 
-unnumbered : (apps : List (List ℕ)) (app : List ℕ) → is_numbered apps app ≡ false → number_of apps app ≡ None
-unnumbered apps app h = ap (λ (b : Bool). option_map (λ at. at + 1) (cond b (Some (ahead apps app)) None)) (sym (inside-is apps app) ∙ h)
+unnumbered : (apps : List (List ℕ)) (app : List ℕ) → is_numbered apps app ≡ false →
+    number_of apps app ≡ None
+unnumbered apps app h = ap
+    (λ (b : Bool). option_map (λ at. at + 1) (cond b (Some (ahead apps app)) None))
+    (sym (inside-is apps app) ∙ h)
 
-differ-last : (xs : List (List ℕ)) (y : List ℕ) → IsDistinct is_same (xs ++ y ∷ []) → is_numbered xs y ≡ false
+differ-last : (xs : List (List ℕ)) (y : List ℕ) → IsDistinct is_same (xs ++ y ∷ []) →
+    is_numbered xs y ≡ false
 unfolding IsDistinct
 differ-last [] y h = refl
 differ-last (x ∷ xs) y h =
@@ -164,7 +182,8 @@ differ-last (x ∷ xs) y h =
     let rest : is_numbered xs y ≡ false = differ-last xs y h.1 in
     grind (arith, is_same-sym x y)
   where
-    behind : (x : List ℕ) (xs : List (List ℕ)) → AllByRecursion (λ name. is_same x name ≡ false) (xs ++ y ∷ []) → is_same x y ≡ false
+    behind : (x : List ℕ) (xs : List (List ℕ)) →
+        AllByRecursion (λ name. is_same x name ≡ false) (xs ++ y ∷ []) → is_same x y ≡ false
     behind x [] h = h.0
     behind x (z ∷ zs) h = behind x zs h.1
 
@@ -174,33 +193,51 @@ found-none numbers e = record {
   found = λ app. ap (λ (es : List (Vec ℕ × ℕ)). lookup (is_at (by_text app)) es) e;
 }
 
-pub found-more : (apps : List (List ℕ)) (app : List ℕ) (key : Vec ℕ) (numbers more : BTreeMap (Vec ℕ) ℕ) → IsFoundByName apps numbers → number_of apps app ≡ None → (is_numbered apps app ≡ true) ⊎ (length apps < applications_limit) →
-    key.items ≡ app → UpdatesBy by_items (by_items key) numbers more (Some (length (apps ++ app ∷ []))) → IsFoundByName (apps ++ app ∷ []) more
+pub found-more : (apps : List (List ℕ)) (app : List ℕ) (key : Vec ℕ)
+    (numbers more : BTreeMap (Vec ℕ) ℕ) → IsFoundByName apps numbers → number_of apps app ≡ None →
+    (is_numbered apps app ≡ true) ⊎ (length apps < applications_limit) →
+    key.items ≡ app → UpdatesBy by_items (by_items key) numbers more
+    (Some (length (apps ++ app ∷ []))) → IsFoundByName (apps ++ app ∷ []) more
 found-more apps app key numbers more old none room is u = record {
   numbered = record {
     few = room-for-next apps app none room;
     differ = differ-more apps app (no-number apps app none) old.numbered.differ;
   };
-  found = λ other. found-after app numbers more (Some (length (apps ++ app ∷ []))) (rw is at u) other ∙ step other (is_same app other) refl;
+  found = λ other. found-after app numbers more (Some (length (apps ++ app ∷ []))) (rw is at u)
+      other ∙ step other (is_same app other) refl;
 }
   where
-    step : (other : List ℕ) (b : Bool) → is_same app other ≡ b → cond (is_same app other) (Some (length (apps ++ app ∷ []))) (number_found numbers other) ≡ number_of (apps ++ app ∷ []) other
-    step other true e = ap (λ (b : Bool). cond b (Some (length (apps ++ app ∷ []))) (number_found numbers other)) e
-        ∙ (sym (next-number apps app none) ∙ ap (number_of (apps ++ app ∷ [])) (is_same-eq app other e))
-    step other false e = ap (λ (b : Bool). cond b (Some (length (apps ++ app ∷ []))) (number_found numbers other)) e
+    step : (other : List ℕ) (b : Bool) → is_same app other ≡ b →
+        cond (is_same app other) (Some (length (apps ++ app ∷ []))) (number_found numbers other)
+        ≡ number_of (apps ++ app ∷ []) other
+    step other true e = ap (λ (b : Bool). cond b (Some (length (apps ++ app ∷ [])))
+        (number_found numbers other)) e
+        ∙ (sym (next-number apps app none)
+        ∙ ap (number_of (apps ++ app ∷ [])) (is_same-eq app other e))
+    step other false e = ap (λ (b : Bool). cond b (Some (length (apps ++ app ∷ [])))
+        (number_found numbers other)) e
         ∙ (old.found other ∙ sym (not-last apps app other e))
 
-pub found-fewer : (apps left : List (List ℕ)) (last : List ℕ) (numbers less : BTreeMap (Vec ℕ) ℕ) → IsFoundByName apps numbers → apps ≡ left ++ last ∷ [] → UpdatesBy by_items (by_text last) numbers less None → IsFoundByName left less
+pub found-fewer : (apps left : List (List ℕ)) (last : List ℕ)
+    (numbers less : BTreeMap (Vec ℕ) ℕ) → IsFoundByName apps numbers → apps ≡ left ++ last ∷ [] →
+    UpdatesBy by_items (by_text last) numbers less None → IsFoundByName left less
 found-fewer apps left last numbers less was e u = record {
-  numbered = record { few = fewer left last old.numbered.few; differ = differ-front left last old.numbered.differ };
-  found = λ other. found-after last numbers less None u other ∙ step other (is_same last other) refl;
+  numbered = record {
+    few = fewer left last old.numbered.few;
+    differ =
+        differ-front left last old.numbered.differ;
+  };
+  found = λ other. found-after last numbers less None u other
+      ∙ step other (is_same last other) refl;
 }
   where
     old : IsFoundByName (left ++ last ∷ []) numbers
     old = subst (λ (names : List (List ℕ)). IsFoundByName names numbers) e was
 
-    step : (other : List ℕ) (b : Bool) → is_same last other ≡ b → cond (is_same last other) None (number_found numbers other) ≡ number_of left other
+    step : (other : List ℕ) (b : Bool) → is_same last other ≡ b →
+        cond (is_same last other) None (number_found numbers other) ≡ number_of left other
     step other true e = ap (λ (b : Bool). cond b None (number_found numbers other)) e
-        ∙ (sym (unnumbered left last (differ-last left last old.numbered.differ)) ∙ ap (number_of left) (is_same-eq last other e))
+        ∙ (sym (unnumbered left last (differ-last left last old.numbered.differ))
+        ∙ ap (number_of left) (is_same-eq last other e))
     step other false e = ap (λ (b : Bool). cond b None (number_found numbers other)) e
         ∙ (old.found other ∙ not-last left last other e)

@@ -264,7 +264,9 @@ module _ (few most : ℕ) (live : List Document) (made : List DocId) (places : B
 
 -- ---- the document of a number taken out
 
-pub none-same : (n : ℕ) (ds : List Document) → AllByRecursion (λ m. nat_eq n m ≡ false) (live_numbers ds) → filter (λ d. not (has_number n d)) ds ≡ ds
+pub none-same : (n : ℕ) (ds : List Document) →
+    AllByRecursion (λ m. nat_eq n m ≡ false) (live_numbers ds) →
+    filter (λ d. not (has_number n d)) ds ≡ ds
 none-same n [] h = refl
 none-same n (d ∷ ds) h =
     let e : has_number n d ≡ false = grind (arith, nat_tests, h.0) in
@@ -291,7 +293,8 @@ differ-behind p n (d ∷ ds) h = elim (p d) as (λ b. AllByRecursion (λ m. nat_
   | false ↦ differ-behind p n ds h.1
 ]
 
-pub differ-filter : (p : Document → Bool) (ds : List Document) → IsDistinct nat_eq (live_numbers ds) → IsDistinct nat_eq (live_numbers (filter p ds))
+pub differ-filter : (p : Document → Bool) (ds : List Document) →
+    IsDistinct nat_eq (live_numbers ds) → IsDistinct nat_eq (live_numbers (filter p ds))
 unfolding IsDistinct
 differ-filter p [] h = tt
 differ-filter p (d ∷ ds) h = elim (p d) as (λ b. IsDistinct nat_eq (live_numbers (cond b (d ∷ filter p ds) (filter p ds)))) [
@@ -341,7 +344,8 @@ none-found : (p : Document → Bool) (ds : List Document) → nat_lt (position_o
 none-found p [] h = refl
 none-found p (d ∷ ds) h = grind (arith, nat_tests, none-found p ds)
 
-pub none-left-out : (p : Document → Bool) (ds : List Document) → find p ds ≡ None → filter (λ d. not (p d)) ds ≡ ds
+pub none-left-out : (p : Document → Bool) (ds : List Document) → find p ds ≡ None →
+    filter (λ d. not (p d)) ds ≡ ds
 none-left-out p [] h = refl
 none-left-out p (d ∷ ds) h = grind (arith, none-left-out p ds)
 
@@ -550,21 +554,31 @@ last-more [] x = refl
 last-more (y ∷ []) x = refl
 last-more (y ∷ z ∷ zs) x = last-more (z ∷ zs) x
 
-pub popped-last : {X : Type 0} (r : Option X) (old new before : List X) (x : X) → MatchOption r ((old ≡ []) × (new ≡ [])) (λ l. old ≡ new ++ l ∷ []) → old ≡ before ++ x ∷ [] → r ≡ Some x
+pub popped-last : {X : Type 0} (r : Option X) (old new before : List X) (x : X) →
+    MatchOption r ((old ≡ []) × (new ≡ [])) (λ l. old ≡ new ++ l ∷ []) → old ≡ before ++ x ∷ [] →
+    r ≡ Some x
 popped-last None old new before x m e = sym (ap last_of m.0) ∙ (ap last_of e ∙ last-more before x)
-popped-last (Some l) old new before x m e = sym (last-more new l) ∙ (sym (ap last_of m) ∙ (ap last_of e ∙ last-more before x))
+popped-last (Some l) old new before x m e = sym (last-more new l)
+    ∙ (sym (ap last_of m) ∙ (ap last_of e ∙ last-more before x))
 
-find-last : (n : ℕ) (ds : List Document) (d : Document) → d.id.number ≡ n → list_any (nat_eq n) (live_numbers ds) ≡ false → find (has_number n) (ds ++ d ∷ []) ≡ Some d
-find-last n [] d e h = ap (λ (b : Bool). cond b (Some d) None) (ap (λ (m : ℕ). m == n) e ∙ nat-itself n)
+find-last : (n : ℕ) (ds : List Document) (d : Document) → d.id.number ≡ n →
+    list_any (nat_eq n) (live_numbers ds) ≡ false → find (has_number n) (ds ++ d ∷ []) ≡ Some d
+find-last n [] d e h = ap (λ (b : Bool). cond b (Some d) None)
+    (ap (λ (m : ℕ). m == n) e ∙ nat-itself n)
 find-last n (x ∷ xs) d e h = grind (arith, nat_tests, find-last n xs d)
 
-leave-last : (n : ℕ) (ds : List Document) (d : Document) → d.id.number ≡ n → list_any (nat_eq n) (live_numbers ds) ≡ false → filter (λ x. not (has_number n x)) (ds ++ d ∷ []) ≡ ds
-leave-last n [] d e h = ap (λ (b : Bool). cond (not b) (d ∷ []) []) (ap (λ (m : ℕ). m == n) e ∙ nat-itself n)
+leave-last : (n : ℕ) (ds : List Document) (d : Document) → d.id.number ≡ n →
+    list_any (nat_eq n) (live_numbers ds) ≡ false →
+    filter (λ x. not (has_number n x)) (ds ++ d ∷ []) ≡ ds
+leave-last n [] d e h = ap (λ (b : Bool). cond (not b) (d ∷ []) [])
+    (ap (λ (m : ℕ). m == n) e ∙ nat-itself n)
 leave-last n (x ∷ xs) d e h = grind (arith, nat_tests, leave-last n xs d)
 
-module _ (live : List Document) (d : Document) (differ : IsDistinct nat_eq (live_numbers (live ++ d ∷ []))) where
+module _ (live : List Document) (d : Document)
+    (differ : IsDistinct nat_eq (live_numbers (live ++ d ∷ []))) where
   unlike : list_any (nat_eq d.id.number) (live_numbers live) ≡ false
-  unlike = differ-last (live_numbers live) d.id.number (subst (IsDistinct nat_eq) (numbers-more live d) differ)
+  unlike = differ-last (live_numbers live) d.id.number
+      (subst (IsDistinct nat_eq) (numbers-more live d) differ)
 
   pub last-found : find (has_number d.id.number) (live ++ d ∷ []) ≡ Some d
   last-found = find-last d.id.number live d refl unlike

@@ -18,7 +18,8 @@ pub record AreNumbered (applications : List (List ℕ)) : Type 0 where
 abbrev pub number_found : BTreeMap (Vec ℕ) ℕ → List ℕ → Option ℕ
 number_found numbers app = get_by (λ k. slice_cmp nat_cmp app k.items) numbers
 
-pub record IsFoundByName (applications : List (List ℕ)) (numbers : BTreeMap (Vec ℕ) ℕ) : Type 0 where
-  pub numbered : AreNumbered applications
-  -- each name is found with its number, and no other name is found
-  pub found : (app : List ℕ) → number_found numbers app ≡ number_of applications app
+pub record IsFoundByName (applications : List (List ℕ)) (numbers : BTreeMap (Vec ℕ) ℕ) : Type 0
+  where
+    pub numbered : AreNumbered applications
+    -- each name is found with its number, and no other name is found
+    pub found : (app : List ℕ) → number_found numbers app ≡ number_of applications app

@@ -1,4 +1,4 @@
--- What the numbers and paths that documents are looked up by have to do with the lists of documents.
+-- What the look-ups of documents by number and by path have to do with the lists of documents.
 use Rattle.std.specs.Prelude.{◌≡◌, ℕ, ◌<◌, ◌≤◌, ◌^◌, ◌==◌, ◌&&◌, nat_eq, nat_lt, List, [], length, map, Bool, true, false, not, Option, Some, None, is_some}
 use Rattle.std.specs.BTreeMap.{BTreeMap, get}
 use Rattle.std.specs.List.{filter, list_all, IsDistinct}

@@ -5,16 +5,24 @@ use Rattle.document_records.proofs.DocumentLemmas.{on-ok}
 use Rattle.document_records.proofs.applications.Applications.number.Goals as goal
 
 pub returns-in-Some-clause-ok : goal.returns-in-Some-clause-ok
-returns-in-Some-clause-ok c = has-number c.args.self.now c.args.app.now c.in-Some.number (sym c.of.ensures ∙ c.in-Some.is)
+returns-in-Some-clause-ok c =
+    has-number c.args.self.now c.args.app.now c.in-Some.number (sym c.of.ensures ∙ c.in-Some.is)
 
 pub invariant_of-self-else-is_err : goal.invariant_of-self-else-is_err
 invariant_of-self-else-is_err c =
-    let none : number_of c.args.self.now c.args.app.now ≡ None = sym c.of.ensures ∙ c.in_default.is in
-    let names : c.push.new.self ≡ c.self.inside.names ++ c.args.app.now ∷ [] = c.in_ok-push.ensures.ok ∙ ap (λ (name : List ℕ). c.self.inside.names ++ name ∷ []) c.in_ok-replica.ensures in
+    let none : number_of c.args.self.now c.args.app.now ≡ None = sym c.of.ensures
+    ∙ c.in_default.is in
+    let names : c.push.new.self ≡ c.self.inside.names ++ c.args.app.now ∷ [] =
+    c.in_ok-push.ensures.ok ∙ ap (λ (name : List ℕ). c.self.inside.names ++ name ∷ [])
+    c.in_ok-replica.ensures in
     rw names
-    (found-more c.self.inside.names c.args.app.now c.in_ok-key.key c.self.inside.numbers c.insert.new.self c.self.invariant (ap (λ (l : List (List ℕ)). number_of l c.args.app.now) c.self.view_is ∙ none) (rw (← c.self.view_is) at c.requires)
+    (found-more c.self.inside.names c.args.app.now c.in_ok-key.key c.self.inside.numbers
+    c.insert.new.self c.self.invariant
+    (ap (λ (l : List (List ℕ)). number_of l c.args.app.now) c.self.view_is ∙ none)
+    (rw (← c.self.view_is) at c.requires)
     (c.in_ok-key.ensures.items ∙ c.as_bytes.ensures.bytes)
-    (rw (c.len-number.ensures, names) at (on-ok c.insert.result _ c.insert.ensures.updates c.if-is_err.ensures.value)))
+    (rw (c.len-number.ensures, names) at
+    (on-ok c.insert.result _ c.insert.ensures.updates c.if-is_err.ensures.value)))
 
 pub returns-clause-ok : goal.returns-clause-ok
 returns-clause-ok c =

@@ -4,4 +4,5 @@ use Rattle.document_records.proofs.DocumentLemmas.{kept-seen}
 use Rattle.document_records.proofs.placed.PlacedDocuments.known.Goals as goal
 
 pub returns : goal.returns
-returns c = subst AreKept c.self.view_is (kept-seen _ c.self.inside.places c.self.inside.live_places c.self.invariant)
+returns c = subst AreKept c.self.view_is
+    (kept-seen _ c.self.inside.places c.self.inside.live_places c.self.invariant)
