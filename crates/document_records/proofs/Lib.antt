@@ -1,5 +1,6 @@
 mod ApplicationLemmas
 mod DocumentLemmas
+mod DocumentsByPath
 mod GrantLemmas
 mod UnusedNumbers
 pub mod GrantsTogether
