@@ -56,3 +56,11 @@ pub record AreKept (grants : List Grant) : Type 0 where
 
 abbrev pub is_elsewhere : ℕ → Grant → Bool
 is_elsewhere number g = not (g.id.number == number)
+
+-- in a document of a lesser number
+abbrev pub is_ahead : ℕ → Grant → Bool
+is_ahead number g = nat_lt g.id.number number
+
+-- in a document of this number or a lesser one
+abbrev pub is_up_to : ℕ → Grant → Bool
+is_up_to number g = not (nat_lt number g.id.number)

@@ -1,6 +1,6 @@
 //! Which application has which right in which document.
 
-ghost use Rattle.std.specs.Prelude.{◌≡◌, [], OnOk, OnErr, IfOk, map, fold, None, true, false, option_copied};
+ghost use Rattle.std.specs.Prelude.{◌≡◌, ◌≤◌, [], length, OnOk, OnErr, IfOk, map, fold, None, true, false, option_copied};
 ghost use Rattle.std.specs.List.{prefix_len, find, filter};
 ghost use Rattle.portal_model.specs.State.{held_of};
 ghost use Rattle.portal_model.specs.Ordered.{put};
@@ -117,7 +117,6 @@ impl Grants {
         ensures { self.new ≡ take_rights app.now id.number rights self.old }
     {
         take(&mut self.grants, app, id, rights);
-        leave_held(&mut self.grants);
     }
 
     /// The applications that have a right in a document, in byte order of their
@@ -126,7 +125,7 @@ impl Grants {
         ensures { IfOk result (λ rows. rows
             ≡ map (row_of self.now id.number) (holders self.now id.number)) }
     {
-        rows(self.alloc, &self.grants, id)
+        rows(self.alloc, in_document(&self.grants, id), id)
     }
 
     /// The rights in a document as they are kept, in byte order of the
@@ -135,7 +134,13 @@ impl Grants {
         ensures { IfOk result (λ records. records
             ≡ map (grant_record self.now id.number) (holders self.now id.number)) }
     {
-        records_left(self.alloc, &self.grants, id, &[], Rights::NONE)
+        records_left(
+            self.alloc,
+            in_document(&self.grants, id),
+            id,
+            &[],
+            Rights::NONE,
+        )
     }
 
     /// The same, as they will be kept once these rights of an application are
@@ -149,7 +154,13 @@ impl Grants {
         ensures { IfOk result (λ records. let left = take_rights app.now id.number rights self.now
             in records ≡ map (grant_record left id.number) (holders left id.number)) }
     {
-        records_left(self.alloc, &self.grants, id, app.as_bytes(), rights)
+        records_left(
+            self.alloc,
+            in_document(&self.grants, id),
+            id,
+            app.as_bytes(),
+            rights,
+        )
     }
 
     /// Takes all rights in a document away.
@@ -160,7 +171,8 @@ impl Grants {
     }
 }
 
-ghost use Rattle.document_records.specs.Grants.{is_of, is_before, given, taken, has_a_right, is_elsewhere, grant_less, grant_order, are_grants_in_order, with_given};
+ghost use Rattle.document_records.specs.Grants.{AreKept, is_of, is_before, given, taken, has_a_right, is_elsewhere, grant_less, grant_order, are_grants_in_order, with_given, is_ahead, is_up_to};
+ghost use Rattle.document_records.specs.Holdings.{is_in_document};
 
 /// Which of two grants has its place first.
 fn place_order(first: &Grant, second: &Grant) -> Ordering
@@ -237,9 +249,11 @@ fn place_of(grants: &[Grant], app: &AppId, id: DocId) -> usize
 
 /// Adds rights to the grant of an application in a document.
 fn give(grants: &mut Vec<Grant>, app: &AppId, id: DocId, rights: Rights)
+    requires { are_grants_in_order grants.old.items ≡ true }
     ensures { grants.new.items ≡ map (given app.now id.number rights) grants.old.items }
 {
-    for grant in grants.iter_mut() {
+    let at = place_of(grants, app, id);
+    if let Some(grant) = grants.get_mut(at) {
         give_if(grant, app, id, rights);
     }
 }
@@ -253,12 +267,20 @@ fn give_if(grant: &mut Grant, app: &AppId, id: DocId, rights: Rights)
     }
 }
 
-/// Takes rights away from the grant of an application in a document.
+/// Takes rights away from the grant of an application in a document, and the
+/// grant where nothing is left of it.
 fn take(grants: &mut Vec<Grant>, app: &AppId, id: DocId, rights: Rights)
-    ensures { grants.new.items ≡ map (taken app.now id.number rights) grants.old.items }
+    requires { AreKept grants.old.items }
+    ensures { grants.new.items
+        ≡ filter has_a_right (map (taken app.now id.number rights) grants.old.items) }
 {
-    for grant in grants.iter_mut() {
-        take_if(grant, app, id, rights);
+    let at = place_of(grants, app, id);
+    let Some(grant) = grants.get_mut(at) else {
+        return;
+    };
+    take_if(grant, app, id, rights);
+    if grant.rights.is_empty() {
+        grants.remove(at);
     }
 }
 
@@ -272,16 +294,34 @@ fn take_if(grant: &mut Grant, app: &AppId, id: DocId, rights: Rights)
     }
 }
 
-/// Leaves the grants that have a right.
-fn leave_held(grants: &mut Vec<Grant>)
-    ensures { grants.new.items ≡ filter has_a_right grants.old.items }
+/// The places of the grants in a document: the first of them, and the one
+/// behind the last.
+fn places_in(grants: &[Grant], id: DocId) -> (usize, usize)
+    requires { are_grants_in_order grants.now ≡ true }
+    ensures first { result.0 ≡ prefix_len (is_ahead id.number) grants.now }
+    ensures behind { result.1 ≡ prefix_len (is_up_to id.number) grants.now }
+    ensures rise { result.0 ≤ result.1 }
+    ensures within { result.1 ≤ length grants.now }
 {
-    grants.retain(|grant| !grant.rights.is_empty());
+    let first = grants.partition_point(|grant| grant.id.number < id.number);
+    let behind = grants.partition_point(|grant| grant.id.number <= id.number);
+    (first, behind)
+}
+
+/// The grants in a document.
+fn in_document(grants: &[Grant], id: DocId) -> &[Grant]
+    requires { are_grants_in_order grants.now ≡ true }
+    ensures { result.now ≡ filter (is_in_document id.number) grants.now }
+{
+    let (first, behind) = places_in(grants, id);
+    &grants[first..behind]
 }
 
 /// Leaves the grants in other documents.
 fn leave_others(grants: &mut Vec<Grant>, id: DocId)
+    requires { are_grants_in_order grants.old.items ≡ true }
     ensures { grants.new.items ≡ filter (is_elsewhere id.number) grants.old.items }
 {
-    grants.retain(|grant| grant.id.number != id.number);
+    let (first, behind) = places_in(grants, id);
+    drop(grants.drain(first..behind));
 }
