@@ -1,7 +1,7 @@
 -- Rights kept together are the triples that they stand for.
-use Rattle.std.proofs.Common.{◌≡◌, ℕ, ◌==◌, ltb, List, [], ◌∷◌, ◌++◌, map, Bool, true, false, not, ◌||◌, ◌&&◌, cond, Option, Some, None, is_some, refl, sym, ap, subst, ◌∙◌, arith, zero, suc, ◌+◌, ◌-◌, ◌<◌, ◌≤◌, length, get_or, Bor, MutBor}
-use Rattle.std.specs.List.{filter, find, list_any, list_all, insert, prefix_len, remove, remove_range, slice_get, slice_range, IsItemAtMut}
-use Rattle.std.proofs.Math.ListN.{drop, set, take}
+use Rattle.std.proofs.Common.{◌≡◌, ℕ, ◌==◌, ltb, List, [], ◌∷◌, ◌++◌, map, Bool, true, false, not, ◌||◌, ◌&&◌, cond, Option, Some, None, is_some, refl, sym, ap, subst, ◌∙◌, arith, zero, suc, ◌+◌, ◌<◌, ◌≤◌, length, get_or, Bor, MutBor}
+use Rattle.std.specs.List.{filter, find, list_any, list_all, insert, prefix_len, remove, slice_get, IsItemAtMut}
+use Rattle.std.proofs.Math.ListN.{set}
 use Rattle.std.specs.List.Sorted.{IsPartitionedBy, IsPartitionPoint}
 use Rattle.std.proofs.lemmas.Bool.Decides.{nat_tests}
 use Rattle.std.proofs.lemmas.List.Folds.{list_any-append}
@@ -17,8 +17,7 @@ use Rattle.portal_model.specs.declared.rights.Right.TheVariants.{Read, Write, Gr
 use Rattle.portal_model.specs.declared.state.Triple.{Triple}
 use Rattle.portal_model.specs.State.{app_has, held_of}
 use Rattle.document_records.specs.declared.grants.Grant.{Grant}
-use Rattle.document_records.specs.Grants.{triples_of_grant, triples_of_grants, is_of, is_before, grant_less, are_grants_in_order, given, taken, has_a_right, is_elsewhere, is_ahead, is_up_to, AreKept}
-use Rattle.document_records.specs.Holdings.{is_in_document}
+use Rattle.document_records.specs.Grants.{triples_of_grant, triples_of_grants, is_of, is_before, grant_less, are_grants_in_order, given, taken, has_a_right, is_elsewhere, AreKept}
 use Rattle.portal_model.specs.Ordered.{put, bytes_less, is_rising}
 use Rattle.portal_model.specs.Rights.{same_triple, triple_less, triple, triples_of, is_in, add_rights, is_listed, take_rights, forget_document}
 use Rattle.portal_model.proofs.RisingLists.{rising-put, rising-put_all, rising-filter, rising-map, rising-append, any-put_all, same_items}
@@ -86,7 +85,7 @@ pub none-behind : (app : List ℕ) (number : ℕ) (g : Grant) (gs : List Grant) 
 none-behind app number g [] k l = refl
 none-behind app number g (h ∷ hs) k l = grind (arith, none-behind app number g hs, not-of app number g h)
 
-or-false : (x : Bool) → (x || false) ≡ x
+pub or-false : (x : Bool) → (x || false) ≡ x
 or-false true = refl
 or-false false = refl
 
@@ -170,7 +169,7 @@ any-given p app id set (g ∷ gs) =
     ∙ (gather (is_of app id.number g) (list_any (is_of app id.number) gs) (list_any p (triples_of app id set)) (list_any p (triples_of_grant g)) (passes p gs)
     ∙ ap (λ (x : Bool). ((is_of app id.number g || list_any (is_of app id.number) gs) && list_any p (triples_of app id set)) || x) (sym (list_any-append p (triples_of_grant g) (triples_of_grants gs)))))
 
-given-key : (app : List ℕ) (number : ℕ) (set : RightSet) (g : Grant) → key_of (given app number set g) ≡ key_of g
+pub given-key : (app : List ℕ) (number : ℕ) (set : RightSet) (g : Grant) → key_of (given app number set g) ≡ key_of g
 given-key app number set g = at (is_of app number g)
   where
     at : (b : Bool) → key_of (cond b (record g { rights = union g.rights set }) g) ≡ key_of g
@@ -253,7 +252,7 @@ any-put-grant p g (h ∷ hs) e =
         ∙ ap (λ (x : Bool). list_any p (triples_of_grant g) || x) (sym (list_any-append p (triples_of_grant h) (triples_of_grants hs)))))
     step false false l m k more = let t : grant_less g h ≡ true = ahead g h k m in cc
 
-none-is : (p : Grant → Bool) (gs : List Grant) → find p gs ≡ None → list_any p gs ≡ false
+pub none-is : (p : Grant → Bool) (gs : List Grant) → find p gs ≡ None → list_any p gs ≡ false
 none-is p [] e = refl
 none-is p (g ∷ gs) e = grind (arith, none-is p gs)
 
@@ -343,11 +342,11 @@ all-given : (app : List ℕ) (number : ℕ) (set : RightSet) (gs : List Grant) �
 all-given app number set [] h = refl
 all-given app number set (g ∷ gs) h = grind (arith, given-held app number set g, all-given app number set gs)
 
-all-put : (p : Grant → Bool) (g : Grant) (gs : List Grant) → p g ≡ true → list_all p gs ≡ true → list_all p (put grant_less g gs) ≡ true
+pub all-put : (p : Grant → Bool) (g : Grant) (gs : List Grant) → p g ≡ true → list_all p gs ≡ true → list_all p (put grant_less g gs) ≡ true
 all-put p g [] h l = grind arith
 all-put p g (x ∷ xs) h l = grind (arith, all-put p g xs)
 
-all-some : (q p : Grant → Bool) (gs : List Grant) → list_all q gs ≡ true → list_all q (filter p gs) ≡ true
+pub all-some : (q p : Grant → Bool) (gs : List Grant) → list_all q gs ≡ true → list_all q (filter p gs) ≡ true
 all-some q p [] h = refl
 all-some q p (g ∷ gs) h = grind (arith, all-some q p gs)
 
@@ -411,20 +410,17 @@ each-of p [] i d h a = absurd (omega arith)
 each-of p (g ∷ gs) zero d h a = grind arith
 each-of p (g ∷ gs) (suc i) d h a = each-of p gs i d (omega arith) (grind arith)
 
--- those that pass come first, where none passes behind one that doesn't
-pub parted : (p : Grant → Bool) → ((g h : Grant) → grant_less g h ≡ true → p h ≡ true → p g ≡ true) → (gs : List Grant) → are_grants_in_order gs ≡ true → IsPartitionedBy p gs
-parted p too [] s i j d le lt k = absurd (omega arith)
-parted p too (g ∷ gs) s zero zero d le lt k = k
-parted p too (g ∷ gs) s zero (suc j) d le lt k =
-    let a : list_all (grant_less g) gs ≡ true = grind arith in
-    too g (get_or gs j d) (each-of (grant_less g) gs j d (omega arith) a) k
-parted p too (g ∷ gs) s (suc i) zero d le lt k = absurd (omega arith)
-parted p too (g ∷ gs) s (suc i) (suc j) d le lt k =
-    let b : are_grants_in_order gs ≡ true = grind arith in
-    parted p too gs b i j d (omega arith) (omega arith) k
-
+-- those that stand ahead come first
 pub in-two-parts : (app : List ℕ) (number : ℕ) (gs : List Grant) → are_grants_in_order gs ≡ true → IsPartitionedBy (is_before app number) gs
-in-two-parts app number gs s = parted (is_before app number) (ahead-too app number) gs s
+in-two-parts app number [] s i j d le lt k = absurd (omega arith)
+in-two-parts app number (g ∷ gs) s zero zero d le lt k = k
+in-two-parts app number (g ∷ gs) s zero (suc j) d le lt k =
+    let a : list_all (grant_less g) gs ≡ true = grind arith in
+    ahead-too app number g (get_or gs j d) (each-of (grant_less g) gs j d (omega arith) a) k
+in-two-parts app number (g ∷ gs) s (suc i) zero d le lt k = absurd (omega arith)
+in-two-parts app number (g ∷ gs) s (suc i) (suc j) d le lt k =
+    let b : are_grants_in_order gs ≡ true = grind arith in
+    in-two-parts app number gs b i j d (omega arith) (omega arith) k
 
 pub parts-end : (p : Grant → Bool) (gs : List Grant) (i : ℕ) → i ≤ length gs → IsPartitionPoint (λ y. p y ≡ true) (λ y. p y ≡ false) gs i → i ≡ prefix_len p gs
 parts-end p [] i b h = omega arith
@@ -553,121 +549,3 @@ one-gone (g ∷ gs) (suc i) x l h k =
     let b : list_all has_a_right gs ≡ true = grind arith in
     ap (λ (c : Bool). cond c (g ∷ filter has_a_right (set gs i x)) (filter has_a_right (set gs i x))) a
     ∙ ap (λ (xs : List Grant). g ∷ xs) (one-gone gs i x (omega arith) b k)
-
--- ---- the grants in a document stand together
-
-lesser-too : (number : ℕ) (g h : Grant) → grant_less g h ≡ true → is_ahead number h ≡ true → is_ahead number g ≡ true
-lesser-too number g h l k = grind (arith, nat_tests)
-
-up-to-too : (number : ℕ) (g h : Grant) → grant_less g h ≡ true → is_up_to number h ≡ true → is_up_to number g ≡ true
-up-to-too number g h l k = grind (arith, nat_tests)
-
-pub lesser-first : (number : ℕ) (gs : List Grant) → are_grants_in_order gs ≡ true → IsPartitionedBy (is_ahead number) gs
-lesser-first number gs s = parted (is_ahead number) (lesser-too number) gs s
-
-pub up-to-first : (number : ℕ) (gs : List Grant) → are_grants_in_order gs ≡ true → IsPartitionedBy (is_up_to number) gs
-up-to-first number gs s = parted (is_up_to number) (up-to-too number) gs s
-
-range-next : (g : Grant) (gs : List Grant) (m n : ℕ) → slice_range (g ∷ gs) (1 + m) (1 + n) ≡ slice_range gs m n
-range-next g gs m n =
-    let e : 1 + m ≡ suc m = omega arith in
-    let f : (1 + n) - (1 + m) ≡ n - m = omega arith in
-    λ i. take (f i) (drop (e i) (g ∷ gs))
-
-range-first : (g : Grant) (gs : List Grant) (n : ℕ) → slice_range (g ∷ gs) 0 (1 + n) ≡ g ∷ slice_range gs 0 n
-range-first g gs n =
-    let e : (1 + n) - 0 ≡ suc (n - 0) = omega arith in
-    ap (λ (k : ℕ). take k (g ∷ gs)) e
-
-others-next : (g : Grant) (gs : List Grant) (m n : ℕ) → remove_range (g ∷ gs) (1 + m) (1 + n) ≡ g ∷ remove_range gs m n
-others-next g gs m n =
-    let e : 1 + m ≡ suc m = omega arith in
-    let f : 1 + n ≡ suc n = omega arith in
-    λ i. take (e i) (g ∷ gs) ++ drop (f i) (g ∷ gs)
-
-others-first : (g : Grant) (gs : List Grant) (n : ℕ) → remove_range (g ∷ gs) 0 (1 + n) ≡ remove_range gs 0 n
-others-first g gs n = let f : 1 + n ≡ suc n = omega arith in ap (λ (k : ℕ). drop k (g ∷ gs)) f
-
-module _ (number : ℕ) where
-  abbrev first_of : List Grant → ℕ
-  first_of gs = prefix_len (is_ahead number) gs
-
-  abbrev behind_of : List Grant → ℕ
-  behind_of gs = prefix_len (is_up_to number) gs
-
-  -- behind a grant that isn't of a lesser document none is
-  none-lesser : (g : Grant) (gs : List Grant) → is_ahead number g ≡ false → list_all (grant_less g) gs ≡ true → first_of gs ≡ 0
-  none-lesser g [] k l = refl
-  none-lesser g (h ∷ hs) k l =
-      let a : is_ahead number h ≡ false = grind (arith, nat_tests) in
-      ap (λ (b : Bool). cond b (1 + first_of hs) 0) a
-
-  none-in : (g : Grant) (gs : List Grant) → is_up_to number g ≡ false → list_all (grant_less g) gs ≡ true → filter (is_in_document number) gs ≡ []
-  none-in g [] k l = refl
-  none-in g (h ∷ hs) k l =
-      let a : is_in_document number h ≡ false = grind (arith, nat_tests) in
-      let b : list_all (grant_less g) hs ≡ true = grind arith in
-      ap (λ (c : Bool). cond c (h ∷ filter (is_in_document number) hs) (filter (is_in_document number) hs)) a ∙ none-in g hs k b
-
-  all-others : (g : Grant) (gs : List Grant) → is_up_to number g ≡ false → list_all (grant_less g) gs ≡ true → filter (is_elsewhere number) gs ≡ gs
-  all-others g [] k l = refl
-  all-others g (h ∷ hs) k l =
-      let a : is_elsewhere number h ≡ true = grind (arith, nat_tests) in
-      let b : list_all (grant_less g) hs ≡ true = grind arith in
-      ap (λ (c : Bool). cond c (h ∷ filter (is_elsewhere number) hs) (filter (is_elsewhere number) hs)) a ∙ ap (λ (xs : List Grant). h ∷ xs) (all-others g hs k b)
-
-  pub they-rise : (gs : List Grant) → first_of gs ≤ behind_of gs
-  they-rise [] = omega arith
-  they-rise (g ∷ gs) = step (is_ahead number g) (is_up_to number g) refl refl (they-rise gs)
-    where
-      step : (f t : Bool) → is_ahead number g ≡ f → is_up_to number g ≡ t → first_of gs ≤ behind_of gs → cond f (1 + first_of gs) 0 ≤ cond t (1 + behind_of gs) 0
-      step true true k l more = omega arith
-      step true false k l more = absurd (grind (arith, nat_tests))
-      step false t k l more = omega arith
-
-  pub range-is : (gs : List Grant) → are_grants_in_order gs ≡ true → slice_range gs (first_of gs) (behind_of gs) ≡ filter (is_in_document number) gs
-  range-is [] s = refl
-  range-is (g ∷ gs) s =
-      let a : list_all (grant_less g) gs ≡ true = grind arith in
-      let b : are_grants_in_order gs ≡ true = grind arith in
-      step (is_ahead number g) (is_up_to number g) refl refl a (range-is gs b)
-    where
-      step : (f t : Bool) → is_ahead number g ≡ f → is_up_to number g ≡ t → list_all (grant_less g) gs ≡ true →
-          slice_range gs (first_of gs) (behind_of gs) ≡ filter (is_in_document number) gs →
-          slice_range (g ∷ gs) (cond f (1 + first_of gs) 0) (cond t (1 + behind_of gs) 0) ≡ filter (is_in_document number) (g ∷ gs)
-      step true true k l a more =
-          let c : is_in_document number g ≡ false = grind (arith, nat_tests) in
-          range-next g gs (first_of gs) (behind_of gs) ∙ (more ∙ sym (ap (λ (x : Bool). cond x (g ∷ filter (is_in_document number) gs) (filter (is_in_document number) gs)) c))
-      step true false k l a more = absurd (grind (arith, nat_tests))
-      step false true k l a more =
-          let c : is_in_document number g ≡ true = grind (arith, nat_tests) in
-          range-first g gs (behind_of gs)
-          ∙ (ap (λ (xs : List Grant). g ∷ xs) (ap (λ (n : ℕ). slice_range gs n (behind_of gs)) (sym (none-lesser g gs k a)) ∙ more)
-          ∙ sym (ap (λ (x : Bool). cond x (g ∷ filter (is_in_document number) gs) (filter (is_in_document number) gs)) c))
-      step false false k l a more =
-          let c : is_in_document number g ≡ false = grind (arith, nat_tests) in
-          sym (none-in g gs l a) ∙ sym (ap (λ (x : Bool). cond x (g ∷ filter (is_in_document number) gs) (filter (is_in_document number) gs)) c)
-
-  pub others-are : (gs : List Grant) → are_grants_in_order gs ≡ true → remove_range gs (first_of gs) (behind_of gs) ≡ filter (is_elsewhere number) gs
-  others-are [] s = refl
-  others-are (g ∷ gs) s =
-      let a : list_all (grant_less g) gs ≡ true = grind arith in
-      let b : are_grants_in_order gs ≡ true = grind arith in
-      step (is_ahead number g) (is_up_to number g) refl refl a (others-are gs b)
-    where
-      step : (f t : Bool) → is_ahead number g ≡ f → is_up_to number g ≡ t → list_all (grant_less g) gs ≡ true →
-          remove_range gs (first_of gs) (behind_of gs) ≡ filter (is_elsewhere number) gs →
-          remove_range (g ∷ gs) (cond f (1 + first_of gs) 0) (cond t (1 + behind_of gs) 0) ≡ filter (is_elsewhere number) (g ∷ gs)
-      step true true k l a more =
-          let c : is_elsewhere number g ≡ true = grind (arith, nat_tests) in
-          others-next g gs (first_of gs) (behind_of gs)
-          ∙ (ap (λ (xs : List Grant). g ∷ xs) more ∙ sym (ap (λ (x : Bool). cond x (g ∷ filter (is_elsewhere number) gs) (filter (is_elsewhere number) gs)) c))
-      step true false k l a more = absurd (grind (arith, nat_tests))
-      step false true k l a more =
-          let c : is_elsewhere number g ≡ false = grind (arith, nat_tests) in
-          others-first g gs (behind_of gs)
-          ∙ (ap (λ (n : ℕ). remove_range gs n (behind_of gs)) (sym (none-lesser g gs k a)) ∙ more
-          ∙ sym (ap (λ (x : Bool). cond x (g ∷ filter (is_elsewhere number) gs) (filter (is_elsewhere number) gs)) c))
-      step false false k l a more =
-          let c : is_elsewhere number g ≡ true = grind (arith, nat_tests) in
-          sym (ap (λ (x : Bool). cond x (g ∷ filter (is_elsewhere number) gs) (filter (is_elsewhere number) gs)) c ∙ ap (λ (xs : List Grant). g ∷ xs) (all-others g gs l a))

@@ -21,8 +21,8 @@ use Rattle.portal_model.specs.Valid.{is_none}
 use Rattle.portal_model.proofs.FourTriples.{all-of}
 use Rattle.portal_model.proofs.TripleOrder.{Key, bytes-irreflexive, is_same-eq, is_same-refl}
 use Rattle.document_records.specs.declared.grants.Grant.{Grant}
-use Rattle.document_records.specs.Grants.{AreKept, are_grants_in_order, grant_less, has_a_right, is_of, taken, triples_of_grant, triples_of_grants}
-use Rattle.document_records.specs.Holdings.{is_in_document, record_held, record_left, record_of_grant, row_held, row_of_grant}
+use Rattle.document_records.specs.Grants.{AreKept, are_grants_in_order, grant_less, has_a_right, is_in_document, is_of, taken, triples_of_grant, triples_of_grants}
+use Rattle.document_records.specs.Holdings.{record_held, record_left, record_of_grant, row_held, row_of_grant}
 use Rattle.document_records.proofs.GrantLemmas.{has-more, held-ones-are, held-some, kept-taken, taken-is, taken-key}
 
 -- ---- a list made of the items so far

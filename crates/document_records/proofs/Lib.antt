@@ -1,6 +1,7 @@
 mod ApplicationLemmas
 mod DocumentLemmas
 mod GrantLemmas
+mod GrantsByNumber
 mod UnusedNumbers
 pub mod GrantsTogether
 mod AsciiTexts
