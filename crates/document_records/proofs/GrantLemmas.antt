@@ -259,11 +259,6 @@ none-is p (g ∷ gs) e = grind (arith, none-is p gs)
 pub placed : (g : Grant) (gs : List Grant) → find (is_of g.app g.id.number) gs ≡ None → insert gs (place g gs) g ≡ put grant_less g gs
 placed g gs e = insert-put g gs (none-is (is_of g.app g.id.number) gs e)
 
-pub new-is : (g : Grant) (gs : List Grant) → are_grants_in_order gs ≡ true → find (is_of g.app g.id.number) gs ≡ None →
-    triples_of_grants (put grant_less g gs) ≡ add_rights g.app g.id g.rights (triples_of_grants gs)
-new-is g gs s h =
-    added-is g.app g.id g.rights gs (put grant_less g gs) (rising-put key_less same_key key_of keys g gs s) (λ p. any-put-grant p g gs (none-is (is_of g.app g.id.number) gs h))
-
 pub rising-new : (g : Grant) (gs : List Grant) → are_grants_in_order gs ≡ true → are_grants_in_order (put grant_less g gs) ≡ true
 rising-new g gs s = rising-put key_less same_key key_of keys g gs s
 
@@ -365,9 +360,6 @@ kept-taken app number set gs k = record {
   order = rising-some has_a_right (map (taken app number set) gs) (rising-taken app number set gs k.order);
   held = all-left has_a_right (map (taken app number set) gs);
 }
-
-pub kept-some : (p : Grant → Bool) (gs : List Grant) → AreKept gs → AreKept (filter p gs)
-kept-some p gs k = record { order = rising-some p gs k.order; held = all-some has_a_right p gs k.held }
 
 -- ---- a document forgotten
 

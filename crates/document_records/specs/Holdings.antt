@@ -1,5 +1,5 @@
 -- The rights in one document, as grants tell them.
-use Rattle.std.specs.Prelude.{ℕ, ◌==◌, List, [], ◌∷◌, Bool, cond}
+use Rattle.std.specs.Prelude.{ℕ, List, [], ◌∷◌, cond}
 use Rattle.rights_rule.specs.Rights.{RightSet, names_of}
 use Rattle.portal_model.specs.declared.records.GrantRecord.{GrantRecord}
 use Rattle.portal_model.specs.declared.records.Row.{Row}

@@ -1,9 +1,5 @@
-use Rattle.std.proofs.Common.{◌≡◌, ◌∙◌, List, Bool, ◌||◌, ap, sym, true, None}
+use Rattle.std.proofs.Common.{◌≡◌, ◌∙◌, List, ap, sym, true, None}
 use Rattle.std.specs.List.{find, list_all, list_any}
-use Rattle.std.specs.Map.{set_value}
-use Rattle.std.specs.BTreeMap.{is_at}
-use Rattle.std.specs.Ordering.{nat_cmp}
-use Rattle.document_records.specs.declared.grants.Grant.{Grant}
 use Rattle.document_records.specs.Grants.{all_grants, is_kept, is_of, triples_of_all, triples_of_grant, triples_of_grants}
 use Rattle.document_records.proofs.GrantLemmas.{added-is, any-put-grant, none-is, passes}
 use Rattle.document_records.proofs.GrantsByNumber.{Entry, all-in-order, entry-put, find-within, found-kept, here-some, kept-order, on-err, on-ok, passes-set, same-all, set-kept}

@@ -1,6 +1,6 @@
 use Rattle.std.proofs.Common.{◌≡◌, ◌∙◌, ◌<◌, ap, sym, not, true, false, length, Some, None, ℕ}
 use Rattle.std.proofs.Math.ListN.{set}
-use Rattle.std.specs.List.{filter, prefix_len, remove, slice_get}
+use Rattle.std.specs.List.{filter, prefix_len, slice_get}
 use Rattle.document_records.specs.declared.grants.Grant.{Grant}
 use Rattle.document_records.specs.Grants.{has_a_right, is_before, taken}
 use Rattle.document_records.proofs.GrantLemmas.{all-held, changed-none, changed-one, item-lent, nothing-lent, one-gone, one-held, taken-stays}

@@ -1,11 +1,10 @@
-use Rattle.std.proofs.Common.{◌≡◌, ◌∙◌, ℕ, List, [], ◌==◌, length, ap, sym, true, false, None}
+use Rattle.std.proofs.Common.{◌≡◌, ◌∙◌, ℕ, List, ◌==◌, length, ap, sym, true, false, None}
 use Rattle.std.specs.BTreeMap.{BTreeMap, is_at}
 use Rattle.std.specs.List.{list_all}
 use Rattle.std.specs.Map.{lookup, remove_entry}
 use Rattle.std.specs.Ordering.{nat_cmp}
 use Rattle.std.specs.declared.alloc.Global.{Global}
 use Rattle.std.specs.declared.vec.Vec.{Vec}
-use Rattle.portal_model.specs.Valid.{is_none}
 use Rattle.document_records.specs.declared.grants.Grant.{Grant}
 use Rattle.document_records.specs.Grants.{all_grants, is_kept}
 use Rattle.document_records.proofs.GrantsByNumber.{empty-is, entry-left, filled-is, found-kept, gone-after-set, gone-kept, kept-of, left-all, left-gone, left-none, none-lent, set-kept}
