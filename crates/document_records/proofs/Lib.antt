@@ -2,6 +2,7 @@ mod ApplicationLemmas
 mod DocumentLemmas
 mod DocumentsByPath
 mod GrantLemmas
+mod GrantsByNumber
 mod UnusedNumbers
 pub mod GrantsTogether
 mod AsciiTexts
