@@ -153,9 +153,9 @@ front-more : {X : Type 0} (xs : List X) (x : X) → front (xs ++ x ∷ []) ≡ x
 front-more xs x = ap (λ (n : ℕ). take n (xs ++ x ∷ [])) (one-more xs x) ∙ take-front xs (x ∷ [])
 
 -- as `pop` leaves a vector, of which the length is known
-pub vec-popped : {X A : Type 0} {B : X → Type 0} (r : Option X) (old new before : List X) (x : X) (n m : ℕ) → old ≡ new ++ option_to_list r → MatchOption r ((n ≡ 0) × A) B → n ≡ m + 1 → old ≡ before ++ x ∷ [] → new ≡ before
-vec-popped None old new before x n m h c l e = let none = c.0 in absurd (omega arith)
-vec-popped (Some y) old new before x n m h c l e = sym (front-more new y) ∙ (sym (ap front h) ∙ (ap front e ∙ front-more before x))
+pub vec-popped : {X : Type 0} (A : Type 0) (B : X → Type 0) (r : Option X) (old new before : List X) (x : X) (n m : ℕ) → old ≡ new ++ option_to_list r → MatchOption r ((n ≡ 0) × A) B → n ≡ m + 1 → old ≡ before ++ x ∷ [] → new ≡ before
+vec-popped A B None old new before x n m h c l e = let none = c.0 in absurd (omega arith)
+vec-popped A B (Some y) old new before x n m h c l e = sym (front-more new y) ∙ (sym (ap front h) ∙ (ap front e ∙ front-more before x))
 
 -- as `pop` leaves a list
 pub list-popped : {X : Type 0} (r : Option X) (old new before : List X) (x : X) → MatchOption r ((old ≡ []) × (new ≡ [])) (λ l. old ≡ new ++ l ∷ []) → old ≡ before ++ x ∷ [] → new ≡ before

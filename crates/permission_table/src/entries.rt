@@ -76,7 +76,7 @@ pub(crate) fn entry_to_set(
     id: &Text,
 ) -> Result<Option<StoredEntry>, WantOfMemory>
     ensures { IfOk result (λ entry. entry
-        ≡ or_new create (new_entry table.now id.now) (option_copied found)) }
+        ≡ or_new create (new_entry table.now id.now) (option_copied found.entry)) }
 {
     match found {
         Some(entry) => Ok(Some(entry.replica(alloc)?)),

@@ -13,7 +13,7 @@ invariant_of-self-then-is_err-2 c =
     let pushed : c.push.new.self.items ≡ es ++ c.args.entry ∷ [] = c.in_ok-push.ensures.items in
     let beside : c.push-2.new.self ≡ places ++ c.in_ok-place.place ∷ [] = on-ok c.push-2.result _ c.push-2.ensures.ok c.if-is_err.ensures.value in
     let kept : KeepPlaces c.self.inside.index.tables c.insert.new.self.tables = on-err c.insert.result _ c.insert.ensures.err c.if-is_err-2.ensures.value in
-    let entries_left : c.pop-then-is_err-2-2.new.self.items ≡ es = vec-popped c.pop-then-is_err-2-2.result c.push.new.self.items c.pop-then-is_err-2-2.new.self.items es c.args.entry _ _ c.pop-then-is_err-2-2.ensures.items c.pop-then-is_err-2-2.ensures.cases c.in_ok-push.ensures.len pushed in
+    let entries_left : c.pop-then-is_err-2-2.new.self.items ≡ es = vec-popped _ _ c.pop-then-is_err-2-2.result c.push.new.self.items c.pop-then-is_err-2-2.new.self.items es c.args.entry _ _ c.pop-then-is_err-2-2.ensures.items c.pop-then-is_err-2-2.ensures.cases c.in_ok-push.ensures.len pushed in
     let places_left : c.pop-then-is_err-2.new.self ≡ places = list-popped c.pop-then-is_err-2.result c.push-2.new.self c.pop-then-is_err-2.new.self places c.in_ok-place.place c.pop-then-is_err-2.ensures beside in
     rw (entries_left, places_left)
     (indexed-kept es places c.self.inside.index.tables c.insert.new.self.tables kept c.self.invariant)
