@@ -61,10 +61,7 @@ impl Tables {
     }
 
     /// The tables of these entries, in order of creation.
-    pub fn with_entries(
-        alloc: Global,
-        entries: List<StoredEntry>,
-    ) -> Result<Tables, WantOfMemory>
+    pub fn with_entries(alloc: Global, entries: List<StoredEntry>) -> Result<Tables, WantOfMemory>
         requires { AreEntries entries }
         ensures { IfOk result (λ tables. tables ≡ entries) }
     {
