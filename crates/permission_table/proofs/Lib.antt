@@ -8,3 +8,6 @@ pub mod TakenBack
 pub mod RowLaws
 pub mod StableRows
 pub mod HeldRecords
+pub mod IndexPlaces
+pub mod PlacesRise
+pub mod IndexedLists

@@ -10,7 +10,9 @@
 //! | Room | Holds |
 //! |---|---|
 //! | `tables` | [`Tables`] with a method for each call |
-//! | `entries` | which entry is looked up, put in its place or taken out |
+//! | `indexed` | which entry is looked up, put in its place or taken out |
+//! | `index` | the places by which entries are found |
+//! | `entries` | what becomes of one entry, and which identifiers a table has |
 //! | `rows` | the rows of one entry |
 //! | `ordered` | lists in byte order of their keys |
 //! | `laws` | what is true of rows, of what can be told, of records, and of calls that are taken back |
@@ -27,6 +29,8 @@
 #![tactic(auto)]
 
 mod entries;
+mod index;
+mod indexed;
 pub mod laws;
 mod ordered;
 mod rows;

@@ -188,7 +188,7 @@ pub fn lists_of_opening(alloc: Global, opening: OpeningState) -> Result<Lists, W
     )?;
     let entries = opening.entries.replica(alloc)?;
     valid_entries_are_held();
-    let tables = Tables::with_entries(alloc, entries);
+    let tables = Tables::with_entries(alloc, entries)?;
     Ok(Lists {
         opening,
         documents,
