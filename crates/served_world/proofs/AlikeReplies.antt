@@ -26,7 +26,7 @@ answers-through : (request : Request) (m r g : Answer) → AnswersAlike request 
 answers-through (Request.Node r) m a g h k = node-through r.op m a g h k
 answers-through request m r g h k = k ∙ h
 
-reply-through : (told : Bool) (request : Request) (m r g : Reply) → Alike false request m r → Alike told request r g → Alike false request m g
+pub reply-through : (told : Bool) (request : Request) (m r g : Reply) → Alike false request m r → Alike told request r g → Alike false request m g
 reply-through true request m r g h k = subst (λ (x : Reply). Alike false request m x) (sym k) h
 reply-through false request m r g h k = (k.0 ∙ h.0, answers-through request m.answer r.answer g.answer h.1 k.1)
 

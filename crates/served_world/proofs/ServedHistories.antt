@@ -22,7 +22,7 @@ use Rattle.served_world.specs.ServedItem as item
 use Rattle.served_world.specs.ServedItem.{ServedItem, bare, items_of_effect}
 use Rattle.served_world.specs.ServedOwn.{served_own}
 use Rattle.served_world.specs.ServedWorld.{ServedTrace, request_of, requests_in, served_items, served_replies, served_run, served_step, served_trace, view_after, views_after}
-use Rattle.served_world.proofs.AlikeReplies.{all-but, all-through}
+use Rattle.served_world.proofs.AlikeReplies.{all-but, all-through, reply-through}
 use Rattle.served_world.proofs.ServedSteps.{served_steps}
 
 -- ---- what others change asks nothing
@@ -125,5 +125,7 @@ isolated = record {
   one_trace = λ app s t h k given other l n g o e. given-but app s h given l g ∙ (ap (λ (x : ServedTrace). map but_content (served_run x)) e ∙ sym (given-but app t k other n o));
   stepped = λ app s h l. all-alike h app s l.opening l.lawful;
   untold = λ app s h t l. all-untold h app s t l.opening l.lawful;
-  place = λ app s front rest e l m. at-place app e rest front s l.opening l.lawful m;
+  place = λ app s front rest e l m.
+      let p = at-place app e rest front s l.opening l.lawful m in
+      (p.0, p.1, λ given k. reply-through s.told e.request p.0 (reply_at (run s front) e) given p.2 k);
 }

@@ -172,7 +172,8 @@ pub record IsolatedOverAnyTree : Type 0 where
   pub untold :
       (app : List ℕ) (s : State) (h : List Entry) → s.told ≡ false → Legal s h →
       replies app s h ≡ served_run (served_trace app s h)
-  -- the machine replies to each own entry at the entry's place among all own ones
+  -- The machine replies to each own entry at the entry's place among all own ones. To that is alike
+  -- what is given where the step replies so.
   pub place :
       (app : List ℕ) (s : State) (front rest : List Entry) (e : Entry) →
       Legal s (front ++ e ∷ rest) → makes app (run s front) e ≡ true →
@@ -180,4 +181,5 @@ pub record IsolatedOverAnyTree : Type 0 where
       × (slice_get (served_run (served_trace app s (front ++ e ∷ rest)))
       (length (replies app s front))
       ≡ Some own)
-      × Alike false e.request own (reply_at (run s front) e)
+      × ((given : Reply) → Alike s.told e.request (reply_at (run s front) e) given →
+      Alike false e.request own given)
