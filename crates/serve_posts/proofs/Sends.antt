@@ -9,6 +9,7 @@ use Rattle.document_records.proofs.documents.Documents.TheSendSync as documents
 use Rattle.document_records.proofs.grants.Grants.TheSendSync as grants
 use Rattle.inode_table.proofs.inodes.InodeTable.TheSendSync as counts
 use Rattle.open_handles.proofs.handles.Handles.TheSendSync as handles
+use Rattle.permission_table.proofs.index.EntryIndex.TheSendSync as places
 use Rattle.portal_base.proofs.list.List.TheSendSync as list
 use Rattle.portal_base.proofs.text.Text.TheSendSync as text
 use Rattle.portal_base.proofs.who.Kind.TheSendSync as kind
@@ -22,6 +23,7 @@ use Rattle.portal_model.proofs.request.NodeRequest.TheSendSync as node
 use Rattle.portal_model.proofs.request.RightsCall.TheSendSync as rights
 use Rattle.change_signals.specs.contracts.outboxes.Outboxes as Outboxes
 use Rattle.dbus_types.specs.contracts.shared.Shared as Shared
+use Rattle.permission_table.specs.contracts.indexed.IndexedEntries as IndexedEntries
 use Rattle.permission_table.specs.contracts.tables.Tables as Tables
 use Rattle.portal_base.specs.contracts.list.List as List
 use Rattle.portal_history.specs.contracts.history.History as History
@@ -71,8 +73,11 @@ history = search (entry, crosses, sendable) depth 60 fits 20000
 pub outboxes : IsSend Outboxes.the_row
 outboxes = search (change, one_change, list.the_send, crosses, sendable) depth 60 fits 20000
 
+indexed : IsSend IndexedEntries.the_row
+indexed = search (stored, list.the_send, places.the_field_send, crosses, sendable) depth 60 fits 20000
+
 pub tables : IsSend Tables.the_row
-tables = search (stored, crosses, sendable) depth 60 fits 20000
+tables = search (indexed, crosses, sendable) depth 60 fits 20000
 
 pub opening : IsSend (OpeningState.the_field).row
 opening = search (stored, document.the_send, file.the_send, list.the_send, crosses, sendable) depth 60 fits 20000
