@@ -3,3 +3,4 @@ pub mod KeptRights
 pub mod GoodRecords
 pub mod LoadedRecords
 pub mod RenewedLists
+pub mod Upgrading

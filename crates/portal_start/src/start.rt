@@ -1,12 +1,12 @@
 //! Starting a portal with the records that its keeper loads.
 
-ghost use Rattle.std.specs.Prelude.{◌≡◌, ◌<◌, ◌^◌, [], ◌∷◌, None, IfErr, IfOk, OnOk};
+ghost use Rattle.std.specs.Prelude.{◌≡◌, ◌<◌, ◌^◌, [], ◌∷◌, None, IfErr, IfOk, OnErr, OnOk};
 ghost use Rattle.portal_desk.specs.Opening.{IsOpeningState};
 ghost use Rattle.portal_model.specs.Opening.{opened_over};
 ghost use Rattle.portal_model.specs.Valid.{Valid};
 ghost use Rattle.portal_model.specs.declared.records.RecordChange.TheVariants.{Upgrade};
-ghost use Rattle.portal_start.specs.Loading.{AreLists, AreBad, IsOpening, LoadsBadly, LoadsGood, UpgradesBadly};
-ghost use Rattle.record_keeper.specs.BadRecords.{AreGood};
+ghost use Rattle.portal_start.specs.Loading.{AreLists, AreBad, IsOpening, LoadsBadly, LoadsGood, Upgrades, UpgradesBadly};
+ghost use Rattle.record_keeper.specs.BadRecords.{AreGood, first_version};
 ghost use Rattle.record_keeper.specs.Keepers.{Applies};
 ghost use Rattle.record_keeper.specs.declared.keeper.KeeperDone.TheVariants.{Done};
 
@@ -82,6 +82,7 @@ pub struct Lists {
 
 /// Loads the records of a keeper, which are to be good under the limits. Those of
 /// version 1 become those of version 2, by one change alone.
+#[tactic(auto, using(crate::proofs::Upgrading::not_upgraded))]
 pub fn load<K: Keeper>(alloc: Global, keeper: &mut K, limits: &Limits) -> Result<Lists, StartError>
     requires made { limits.now.made < 2 ^ 32 }
     requires queued { limits.now.queued < 2 ^ 32 }
@@ -101,11 +102,24 @@ pub fn load<K: Keeper>(alloc: Global, keeper: &mut K, limits: &Limits) -> Result
     let version = records.version;
     // Records that are bad stay as they are, of whichever version.
     let lists = lists_of(alloc, records, limits)?;
-    if version != FIRST_VERSION {
-        return Ok(lists);
+    match upgrade_first(alloc, keeper, version) {
+        Ok(()) => Ok(lists),
+        Err(error) => Err(error),
     }
-    upgrade(alloc, keeper)?;
-    Ok(lists)
+}
+
+/// Makes the records of a keeper those of this version, where they are of the
+/// first.
+fn upgrade_first<K: Keeper>(alloc: Global, keeper: &mut K, version: u32) -> Result<(), StartError>
+    ensures ok { OnOk result (Upgrades version (K.is keeper.old) (K.is keeper.new)) }
+    ensures first { OnErr result (version ≡ first_version) }
+    ensures bad { IfErr result (λ error. UpgradesBadly (K.is keeper.old) error
+        (K.is keeper.new)) }
+{
+    if version != FIRST_VERSION {
+        return Ok(());
+    }
+    upgrade(alloc, keeper)
 }
 
 /// Makes the records of a keeper those of this version, by one change alone.
