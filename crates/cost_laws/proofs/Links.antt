@@ -1,5 +1,5 @@
 -- What a worker made costs no more than what the links ask.
-use Rattle.std.proofs.Common.{◌≡◌, ℕ, ◌+◌, ◌≤◌, List, [], ◌∷◌, ◌++◌, map, length, Option, Some, None, refl, sym, ap, ◌∙◌, subst, arith}
+use Rattle.std.proofs.Common.{◌≡◌, ℕ, ◌+◌, ◌≤◌, List, [], ◌∷◌, ◌++◌, map, Option, Some, refl, sym, ap, ◌∙◌, subst, arith}
 use Rattle.std.proofs.lemmas.List.Sums.{sum_by-append}
 use Rattle.std.proofs.lemmas.List.{map-append}
 use Rattle.portal_model.specs.declared.entry.Entry.{Entry}
@@ -13,7 +13,7 @@ use Rattle.worker_gate.specs.declared.worker.WorkEnd.{WorkEnd}
 use Rattle.worker_gate.specs.declared.worker.WorkEnd.TheVariants as end
 use Rattle.worker_gate.specs.Listening.{Links}
 use Rattle.worker_gate.specs.Working.{EndsFull, Hall, Passes, ServesLink, ServesLinks, Sides, Visit, Works, joined, spring_of, visit, world_of}
-use Rattle.cost_laws.specs.Links.{HallAsks, LinkAsks, WorkersCostAsAsked, end_cost}
+use Rattle.cost_laws.specs.Links.{LinkAsks, WorkersCostAsAsked, end_cost}
 use Rattle.cost_laws.specs.Streams.{made_cost, refused_cost}
 use Rattle.cost_laws.specs.Totals.{AllAsk}
 use Rattle.cost_laws.proofs.Streams.{same_back, streams-cost-as-asked}

@@ -1,5 +1,5 @@
 -- What a connection made costs no more than what its stream asks.
-use Rattle.std.proofs.Common.{◌≡◌, ◌⊎◌, inl, inr, ℕ, ◌+◌, ◌≤◌, List, [], ◌∷◌, ◌++◌, map, drop, length, Bool, Some, refl, sym, ap, ◌∙◌, subst, arith}
+use Rattle.std.proofs.Common.{◌≡◌, inl, inr, ℕ, ◌+◌, ◌≤◌, List, [], ◌∷◌, ◌++◌, map, drop, length, refl, sym, ap, ◌∙◌, subst, arith}
 use Rattle.std.proofs.Math.Seq.{drop-append_seam}
 use Rattle.std.proofs.lemmas.List.{append_assoc, append-nil}
 use Rattle.std.proofs.lemmas.List.Sums.{sum_by-append, sum_by-cons}
@@ -163,7 +163,7 @@ module _ (c : Client) (v w : World) (stream : List ℕ) (total : ℕ) (made : Li
     ends_within (served.LineTooLong at) h = no_more (whole_within read rest parts _ _ h.2)
     ends_within served.ReadFault h = no_more (whole_within read rest parts _ _ h.1.1)
     ends_within served.WriteFault h = no_more (half_within read rest parts h.1)
-    ends_within served.Spent (long, before, piece, left, is, short, k) =
+    ends_within served.Spent (long, (before, piece, left, is, short, k)) =
         no_more (whole_within before (piece ++ rest) (parts ∙ (ap (λ (z : List ℕ). z ++ rest) is ∙ append_assoc before piece rest)) _ _ k)
     ends_within (served.Full now limit) h = refused_within read a b _ h
     ends_within served.Memory (inl (inl h)) = no_more (untouched_within h.1)
