@@ -16,7 +16,8 @@ own_first n e h is =
     ap (λ (b : Bool). cond b (e ∷ of_seat n h) (of_seat n h)) own
 
 -- one of another seat is none of them
-other_first : (n : ℕ) (e : Entry) (h : List Entry) → (e.seat ≡ n → ⊥) → of_seat n (e ∷ h) ≡ of_seat n h
+other_first : (n : ℕ) (e : Entry) (h : List Entry) → (e.seat ≡ n → ⊥)
+    → of_seat n (e ∷ h) ≡ of_seat n h
 other_first n e h not =
     let other : (e.seat == n) ≡ false = grind (arith, nat_tests) in
     ap (λ (b : Bool). cond b (e ∷ of_seat n h) (of_seat n h)) other
@@ -26,29 +27,43 @@ abbrev Within : ℕ → ℕ → Entry → Type 0
 Within before more e = (before < e.seat) × (e.seat ≤ before + more)
 
 -- an entry of none of the seats doesn't count
-outside : (more before : ℕ) (e : Entry) (h : List Entry) → e.seat ≤ before → seats_cost before more (e ∷ h) ≡ seats_cost before more h
+outside : (more before : ℕ) (e : Entry) (h : List Entry) → e.seat ≤ before
+    → seats_cost before more (e ∷ h) ≡ seats_cost before more h
 outside zero before e h l = refl
 outside (suc more) before e h l =
-    let here : cost (of_seat (suc before) (e ∷ h)) ≡ cost (of_seat (suc before) h) = ap cost (other_first (suc before) e h (λ is. omega (arith, is, l))) in
-    let rest : seats_cost (suc before) more (e ∷ h) ≡ seats_cost (suc before) more h = outside more (suc before) e h (omega (arith, l)) in
+    let here : cost (of_seat (suc before) (e ∷ h)) ≡ cost (of_seat (suc before) h) =
+    ap cost (other_first (suc before) e h (λ is. omega (arith, is, l))) in
+    let rest : seats_cost (suc before) more (e ∷ h) ≡ seats_cost (suc before) more h =
+    outside more (suc before) e h (omega (arith, l)) in
     omega (arith, here, rest)
 
 -- an entry of one of the seats counts once
-inside : (more before : ℕ) (e : Entry) (h : List Entry) → Within before more e → seats_cost before more (e ∷ h) ≡ cost_of e.request + seats_cost before more h
+inside : (more before : ℕ) (e : Entry) (h : List Entry) → Within before more e
+    → seats_cost before more (e ∷ h) ≡ cost_of e.request + seats_cost before more h
 inside zero before e h l = absurd (omega (arith, l.0, l.1))
-inside (suc more) before e h l = by_seat (e.seat == suc before) (λ (k : Within (suc before) more e). inside more (suc before) e h k) refl
+inside (suc more) before e h l =
+    by_seat (e.seat == suc before)
+    (λ (k : Within (suc before) more e). inside more (suc before) e h k) refl
   where
-    by_seat : (b : Bool) → (Within (suc before) more e → seats_cost (suc before) more (e ∷ h) ≡ cost_of e.request + seats_cost (suc before) more h) → (e.seat == suc before) ≡ b → seats_cost before (suc more) (e ∷ h) ≡ cost_of e.request + seats_cost before (suc more) h
+    by_seat : (b : Bool)
+        → (Within (suc before) more e
+        → seats_cost (suc before) more (e ∷ h) ≡ cost_of e.request + seats_cost (suc before) more h)
+        → (e.seat == suc before) ≡ b
+        → seats_cost before (suc more) (e ∷ h) ≡ cost_of e.request + seats_cost before (suc more) h
     by_seat true deeper own =
         let is : e.seat ≡ suc before = grind (arith, nat_tests) in
-        let here : cost (of_seat (suc before) (e ∷ h)) ≡ cost_of e.request + cost (of_seat (suc before) h) = ap cost (own_first (suc before) e h is) ∙ cost-cons e (of_seat (suc before) h) in
-        let rest : seats_cost (suc before) more (e ∷ h) ≡ seats_cost (suc before) more h = outside more (suc before) e h (omega (arith, is)) in
-        omega (arith, here, rest)
+        let here : cost (of_seat (suc before) (e ∷ h)) ≡ cost (e ∷ of_seat (suc before) h) =
+        ap cost (own_first (suc before) e h is) in
+        let counts = cost-cons e (of_seat (suc before) h) in
+        let rest : seats_cost (suc before) more (e ∷ h) ≡ seats_cost (suc before) more h =
+        outside more (suc before) e h (omega (arith, is)) in
+        omega (arith, here, counts, rest)
     by_seat false deeper other =
         let not : e.seat ≡ suc before → ⊥ = λ is. grind (arith, nat_tests) in
-        let here : cost (of_seat (suc before) (e ∷ h)) ≡ cost (of_seat (suc before) h) = ap cost (other_first (suc before) e h not) in
+        let here : cost (of_seat (suc before) (e ∷ h)) ≡ cost (of_seat (suc before) h) =
+        ap cost (other_first (suc before) e h not) in
         let beyond : suc before < e.seat = omega (arith, l.0, not) in
-        let rest : seats_cost (suc before) more (e ∷ h) ≡ cost_of e.request + seats_cost (suc before) more h = deeper (beyond, omega (arith, l.1)) in
+        let rest = deeper (beyond, omega (arith, l.1)) in
         omega (arith, here, rest)
 
 no_cost : (more before : ℕ) → seats_cost before more [] ≡ 0
@@ -58,7 +73,9 @@ no_cost (suc more) before = let rest = no_cost more (suc before) in omega (arith
 pub seats-cost-all : SeatsCostAll
 seats-cost-all count [] of = sym (no_cost count 0)
 seats-cost-all count (e ∷ h) of =
-    cost-cons e h ∙ (ap (λ (n : ℕ). cost_of e.request + n) (seats-cost-all count h fewer) ∙ sym (inside count 0 e h within))
+    cost-cons e h ∙
+    (ap (λ (n : ℕ). cost_of e.request + n) (seats-cost-all count h fewer)
+    ∙ sym (inside count 0 e h within))
   where
     never : {X : Type 0} (x : X) (xs : List X) → x ∷ xs ≡ [] → ⊥
     never x xs is = cc
@@ -75,7 +92,10 @@ seats-cost-all count (e ∷ h) of =
     not_past past = never e (of_seat e.seat h) (sym (own_first e.seat e h refl) ∙ of e.seat past)
 
     within : (0 < e.seat) × (e.seat ≤ 0 + count)
-    within = (at_least e.seat (λ is. not_past (inl is)), at_most e.seat (λ past. not_past (inr past)))
+    within = (
+      at_least e.seat (λ is. not_past (inl is)),
+      at_most e.seat (λ past. not_past (inr past)),
+    )
       where
         at_least : (n : ℕ) → (n ≡ 0 → ⊥) → 0 < n
         at_least zero not = absurd (not refl)
