@@ -1,13 +1,20 @@
 -- The numbers of applications.
 use Rattle.std.proofs.Common.{Option, ◌≡◌, ◌⊎◌, ℕ, ◌+◌, ◌<◌, ◌≤◌, nat_lt, List, [], ◌∷◌, ◌++◌, length, Bool, true, false, cond, Some, None, inl, inr, refl, sym, ap, ◌∙◌, arith, length-append, subst}
+use Rattle.std.specs.BTreeMap.{BTreeMap, UpdatesBy, is_at}
+use Rattle.std.specs.Cmp.Lexicographic.{slice_cmp}
+use Rattle.std.specs.Global.{Vec}
 use Rattle.std.specs.List.{position_or_len, IsDistinct, AllByRecursion}
-use Rattle.std.specs.Option.{option_map, MatchOption}
+use Rattle.std.specs.Map.{lookup, KeepsOthers, AreApart}
+use Rattle.std.specs.Ordering.{nat_cmp, eq_by_cmp, is_eq}
+use Rattle.std.specs.declared.cmp.Ordering.{Ordering}
+use Rattle.std.specs.Option.{option_map}
 use Rattle.std.proofs.lemmas.Bool.Decides.{nat_tests}
+use Rattle.std.proofs.lemmas.Map.Text.{is_eq-slice_cmp}
 use Rattle.portal_base.specs.Names.{is_same}
 use Rattle.portal_model.specs.Valid.{is_numbered, applications_limit}
 use Rattle.portal_model.specs.Applications.{number_of, numbered}
-use Rattle.document_records.specs.Applications.{AreNumbered}
-use Rattle.portal_model.proofs.TripleOrder.{is_same-refl, is_same-sym}
+use Rattle.document_records.specs.Applications.{AreNumbered, IsFoundByName, number_found}
+use Rattle.portal_model.proofs.TripleOrder.{is_same-eq, is_same-refl, is_same-sym}
 
 -- how many names stand ahead of the application's
 abbrev pub ahead : List (List ℕ) → List ℕ → ℕ
@@ -57,10 +64,6 @@ room-for-next apps app e (inl h) = let f : is_numbered apps app ≡ false = no-n
     differ false h k = cc
 room-for-next apps app e (inr h) = let long : length (apps ++ app ∷ []) ≡ length apps + 1 = length-append apps (app ∷ []) in omega arith
 
--- what a look-up in the names of the code says of those that callers see
-pub number-seen : (items names apps : List (List ℕ)) (app : List ℕ) (r o : Option ℕ) → items ≡ names → names ≡ apps → r ≡ number_of items app → r ≡ o → number_of apps app ≡ o
-number-seen items names apps app r o e f g h = ap (λ (l : List (List ℕ)). number_of l app) (sym (e ∙ f)) ∙ (sym g ∙ h)
-
 -- what was put behind the names
 pub added-seen : (new names apps : List (List ℕ)) (name app : List ℕ) → new ≡ names ++ name ∷ [] → names ≡ apps → name ≡ app → new ≡ apps ++ app ∷ []
 added-seen new names apps name app e f g = e ∙ (λ i. f i ++ g i ∷ [])
@@ -95,9 +98,146 @@ differ-front (x ∷ xs) y h = (others-front x y xs h.0, differ-front xs y h.1)
 fewer : (xs : List (List ℕ)) (y : List ℕ) → length (xs ++ y ∷ []) ≤ applications_limit → length xs ≤ applications_limit
 fewer xs y h = let long : length (xs ++ y ∷ []) ≡ length xs + 1 = length-append xs (y ∷ []) in omega arith
 
--- the last one goes
-pub numbered-front : (r : Option (List ℕ)) (old new : List (List ℕ)) → MatchOption r ((old ≡ []) × (new ≡ [])) (λ l. old ≡ new ++ l ∷ []) → AreNumbered old → AreNumbered new
-numbered-front None old new m k = subst AreNumbered (sym m.1) numbered-none
-numbered-front (Some l) old new m k =
-    let was : AreNumbered (new ++ l ∷ []) = subst AreNumbered m k in
-    record { few = fewer new l was.few; differ = differ-front new l was.differ }
+-- ---- the numbers that names are found with
+
+abbrev by_text : List ℕ → Vec ℕ → Ordering
+by_text text key = slice_cmp nat_cmp text key.items
+
+abbrev by_items : Vec ℕ → Vec ℕ → Ordering
+by_items key = by_text key.items
+
+-- a key that a text finds has the bytes of the text
+found-key : (text : List ℕ) (key : Vec ℕ) → is_at (by_text text) key ≡ true → text ≡ key.items
+found-key text key h = is_same-eq text key.items (sym (is_eq-slice_cmp text key.items) ∙ h)
+
+key-test : (text : List ℕ) (x y : Vec ℕ) → is_at (by_text text) x ≡ true →
+    is_at (by_text text) y ≡ eq_by_cmp by_items x y
+key-test text x y h = ap (λ (t : List ℕ). is_eq (slice_cmp nat_cmp t y.items)) (found-key text x h)
+
+apart : (a b : List ℕ) → is_same a b ≡ false → AreApart (is_at (by_text a)) (is_at (by_text b))
+apart a b e = λ (key : Vec ℕ) h. is_eq-slice_cmp b key.items
+    ∙ (ap (is_same b) (sym (found-key a key h)) ∙ (is_same-sym b a ∙ e))
+
+-- what is found once one name has got a number, or has lost its own
+found-after : (name : List ℕ) (old new : BTreeMap (Vec ℕ) ℕ) (w : Option ℕ) →
+    UpdatesBy by_items (by_text name) old new w → (app : List ℕ) →
+    number_found new app ≡ cond (is_same name app) w (number_found old app)
+unfolding KeepsOthers
+found-after name old new w u app = step (is_same name app) refl
+  where
+    step : (b : Bool) → is_same name app ≡ b →
+        number_found new app ≡ cond b w (number_found old app)
+    step true e = ap (number_found new) (sym (is_same-eq name app e)) ∙ u.1
+    step false e = u.3 (is_at (by_text app)) (key-test app) (apart name app e)
+
+still-ahead : (apps : List (List ℕ)) (app other : List ℕ) →
+    nat_lt (ahead apps other) (length apps) ≡ true →
+    ahead (apps ++ app ∷ []) other ≡ ahead apps other
+still-ahead [] app other h = cc
+still-ahead (x ∷ xs) app other h = grind (arith, nat_tests, still-ahead xs app other)
+
+not-ahead : (apps : List (List ℕ)) (app other : List ℕ) → is_same app other ≡ false →
+    nat_lt (ahead apps other) (length apps) ≡ false →
+    ahead (apps ++ app ∷ []) other ≡ length apps + 1
+not-ahead [] app other e h = grind (arith, nat_tests)
+not-ahead (x ∷ xs) app other e h = grind (arith, nat_tests, not-ahead xs app other)
+
+-- the number of a name, by how many stand ahead of its own
+abbrev number-by : ℕ → ℕ → Option ℕ
+number-by at many = option_map (λ n. n + 1) (cond (nat_lt at many) (Some at) None)
+
+not-last : (apps : List (List ℕ)) (app other : List ℕ) → is_same app other ≡ false →
+    number_of (apps ++ app ∷ []) other ≡ number_of apps other
+not-last apps app other e = step (nat_lt (ahead apps other) (length apps)) refl
+  where
+    long : length (apps ++ app ∷ []) ≡ length apps + 1
+    long = length-append apps (app ∷ [])
+
+    inside : (at many : ℕ) → nat_lt at many ≡ true → number-by at (many + 1) ≡ number-by at many
+    inside at many h = grind (arith, nat_tests)
+
+    outside : (at many : ℕ) → nat_lt at many ≡ false →
+        number-by (many + 1) (many + 1) ≡ number-by at many
+    outside at many h = grind (arith, nat_tests)
+
+    step : (b : Bool) → nat_lt (ahead apps other) (length apps) ≡ b →
+        number_of (apps ++ app ∷ []) other ≡ number_of apps other
+    step true h = (λ i. number-by (still-ahead apps app other h i) (long i))
+        ∙ inside (ahead apps other) (length apps) h
+    step false h = (λ i. number-by (not-ahead apps app other e h i) (long i))
+        ∙ outside (ahead apps other) (length apps) h
+
+unnumbered : (apps : List (List ℕ)) (app : List ℕ) → is_numbered apps app ≡ false →
+    number_of apps app ≡ None
+unnumbered apps app h = ap
+    (λ (b : Bool). option_map (λ at. at + 1) (cond b (Some (ahead apps app)) None))
+    (sym (inside-is apps app) ∙ h)
+
+differ-last : (xs : List (List ℕ)) (y : List ℕ) → IsDistinct is_same (xs ++ y ∷ []) →
+    is_numbered xs y ≡ false
+unfolding IsDistinct
+differ-last [] y h = refl
+differ-last (x ∷ xs) y h =
+    let apart : is_same x y ≡ false = behind x xs h.0 in
+    let rest : is_numbered xs y ≡ false = differ-last xs y h.1 in
+    grind (arith, is_same-sym x y)
+  where
+    behind : (x : List ℕ) (xs : List (List ℕ)) →
+        AllByRecursion (λ name. is_same x name ≡ false) (xs ++ y ∷ []) → is_same x y ≡ false
+    behind x [] h = h.0
+    behind x (z ∷ zs) h = behind x zs h.1
+
+pub found-none : (numbers : BTreeMap (Vec ℕ) ℕ) → numbers.entries ≡ [] → IsFoundByName [] numbers
+found-none numbers e = record {
+  numbered = numbered-none;
+  found = λ app. ap (λ (es : List (Vec ℕ × ℕ)). lookup (is_at (by_text app)) es) e;
+}
+
+pub found-more : (apps : List (List ℕ)) (app : List ℕ) (key : Vec ℕ)
+    (numbers more : BTreeMap (Vec ℕ) ℕ) → IsFoundByName apps numbers → number_of apps app ≡ None →
+    (is_numbered apps app ≡ true) ⊎ (length apps < applications_limit) →
+    key.items ≡ app → UpdatesBy by_items (by_items key) numbers more
+    (Some (length (apps ++ app ∷ []))) → IsFoundByName (apps ++ app ∷ []) more
+found-more apps app key numbers more old none room is u = record {
+  numbered = record {
+    few = room-for-next apps app none room;
+    differ = differ-more apps app (no-number apps app none) old.numbered.differ;
+  };
+  found = λ other. found-after app numbers more (Some (length (apps ++ app ∷ []))) (rw is at u)
+      other ∙ step other (is_same app other) refl;
+}
+  where
+    step : (other : List ℕ) (b : Bool) → is_same app other ≡ b →
+        cond (is_same app other) (Some (length (apps ++ app ∷ []))) (number_found numbers other)
+        ≡ number_of (apps ++ app ∷ []) other
+    step other true e = ap (λ (b : Bool). cond b (Some (length (apps ++ app ∷ [])))
+        (number_found numbers other)) e
+        ∙ (sym (next-number apps app none)
+        ∙ ap (number_of (apps ++ app ∷ [])) (is_same-eq app other e))
+    step other false e = ap (λ (b : Bool). cond b (Some (length (apps ++ app ∷ [])))
+        (number_found numbers other)) e
+        ∙ (old.found other ∙ sym (not-last apps app other e))
+
+pub found-fewer : (apps left : List (List ℕ)) (last : List ℕ)
+    (numbers less : BTreeMap (Vec ℕ) ℕ) → IsFoundByName apps numbers → apps ≡ left ++ last ∷ [] →
+    UpdatesBy by_items (by_text last) numbers less None → IsFoundByName left less
+found-fewer apps left last numbers less was e u = record {
+  numbered = record {
+    few = fewer left last old.numbered.few;
+    differ =
+        differ-front left last old.numbered.differ;
+  };
+  found = λ other. found-after last numbers less None u other
+      ∙ step other (is_same last other) refl;
+}
+  where
+    old : IsFoundByName (left ++ last ∷ []) numbers
+    old = subst (λ (names : List (List ℕ)). IsFoundByName names numbers) e was
+
+    step : (other : List ℕ) (b : Bool) → is_same last other ≡ b →
+        cond (is_same last other) None (number_found numbers other) ≡ number_of left other
+    step other true e = ap (λ (b : Bool). cond b None (number_found numbers other)) e
+        ∙ (sym (unnumbered left last (differ-last left last old.numbered.differ))
+        ∙ ap (number_of left) (is_same-eq last other e))
+    step other false e = ap (λ (b : Bool). cond b None (number_found numbers other)) e
+        ∙ (old.found other ∙ not-last left last other e)

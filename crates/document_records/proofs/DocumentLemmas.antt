@@ -17,7 +17,7 @@ use Rattle.portal_base.specs.declared.names.doc_id.DocId.{DocId}
 use Rattle.portal_model.specs.declared.state.Document.{Document}
 use Rattle.portal_model.specs.Valid.{is_made}
 use Rattle.portal_model.specs.Ordered.{is_rising}
-use Rattle.document_records.specs.DocumentIndex.{IsIndexed, AreKept, ArePlaced, HasPlaces, live_numbers, place_in, place_or_none, places_in}
+use Rattle.document_records.specs.DocumentIndex.{IsIndexed, AreKept, ArePlaced, HasPlaces, live_numbers, other_ids, place_in, place_or_none, places_in}
 use Rattle.document_records.specs.Documents.{DocumentList, has_number, front}
 use Rattle.portal_model.proofs.TripleOrder.{nat_is, nat-itself}
 
@@ -264,7 +264,9 @@ module _ (few most : ℕ) (live : List Document) (made : List DocId) (places : B
 
 -- ---- the document of a number taken out
 
-none-same : (n : ℕ) (ds : List Document) → AllByRecursion (λ m. nat_eq n m ≡ false) (live_numbers ds) → filter (λ d. not (has_number n d)) ds ≡ ds
+pub none-same : (n : ℕ) (ds : List Document) →
+    AllByRecursion (λ m. nat_eq n m ≡ false) (live_numbers ds) →
+    filter (λ d. not (has_number n d)) ds ≡ ds
 none-same n [] h = refl
 none-same n (d ∷ ds) h =
     let e : has_number n d ≡ false = grind (arith, nat_tests, h.0) in
@@ -291,7 +293,8 @@ differ-behind p n (d ∷ ds) h = elim (p d) as (λ b. AllByRecursion (λ m. nat_
   | false ↦ differ-behind p n ds h.1
 ]
 
-differ-filter : (p : Document → Bool) (ds : List Document) → IsDistinct nat_eq (live_numbers ds) → IsDistinct nat_eq (live_numbers (filter p ds))
+pub differ-filter : (p : Document → Bool) (ds : List Document) →
+    IsDistinct nat_eq (live_numbers ds) → IsDistinct nat_eq (live_numbers (filter p ds))
 unfolding IsDistinct
 differ-filter p [] h = tt
 differ-filter p (d ∷ ds) h = elim (p d) as (λ b. IsDistinct nat_eq (live_numbers (cond b (d ∷ filter p ds) (filter p ds)))) [
@@ -327,7 +330,7 @@ pub place-is : (b : Bool) (n i : ℕ) → cond b (Some n) None ≡ Some i → i 
 place-is true n i e = cc
 place-is false n i e = cc
 
-no-place : (b : Bool) (n : ℕ) → cond b (Some n) None ≡ None → b ≡ false
+pub no-place : (b : Bool) (n : ℕ) → cond b (Some n) None ≡ None → b ≡ false
 no-place true n e = cc
 no-place false n e = refl
 
@@ -341,7 +344,8 @@ none-found : (p : Document → Bool) (ds : List Document) → nat_lt (position_o
 none-found p [] h = refl
 none-found p (d ∷ ds) h = grind (arith, nat_tests, none-found p ds)
 
-none-left-out : (p : Document → Bool) (ds : List Document) → find p ds ≡ None → filter (λ d. not (p d)) ds ≡ ds
+pub none-left-out : (p : Document → Bool) (ds : List Document) → find p ds ≡ None →
+    filter (λ d. not (p d)) ds ≡ ds
 none-left-out p [] h = refl
 none-left-out p (d ∷ ds) h = grind (arith, none-left-out p ds)
 
@@ -464,7 +468,7 @@ module _ (places : BTreeMap ℕ ℕ) (n : ℕ) (ds : List Document) (place : ℕ
 
 -- ---- the last one taken back
 
-front-more : {X : Type 0} (xs : List X) (x : X) → front (xs ++ x ∷ []) ≡ xs
+pub front-more : {X : Type 0} (xs : List X) (x : X) → front (xs ++ x ∷ []) ≡ xs
 front-more xs x =
     let e : length (xs ++ x ∷ []) - 1 ≡ length xs = simp length-append (omega arith) in
     ap (λ (n : ℕ). take n (xs ++ x ∷ [])) e ∙ take-append_seam xs (x ∷ [])
@@ -539,6 +543,49 @@ indexed-none few most places e h = record {
   limit = h;
 }
 
+-- the last one is the document of its number
+abbrev last_of : {X : Type 0} → List X → Option X
+last_of [] = None
+last_of (x ∷ []) = Some x
+last_of (x ∷ y ∷ ys) = last_of (y ∷ ys)
+
+last-more : {X : Type 0} (xs : List X) (x : X) → last_of (xs ++ x ∷ []) ≡ Some x
+last-more [] x = refl
+last-more (y ∷ []) x = refl
+last-more (y ∷ z ∷ zs) x = last-more (z ∷ zs) x
+
+pub popped-last : {X : Type 0} (r : Option X) (old new before : List X) (x : X) →
+    MatchOption r ((old ≡ []) × (new ≡ [])) (λ l. old ≡ new ++ l ∷ []) → old ≡ before ++ x ∷ [] →
+    r ≡ Some x
+popped-last None old new before x m e = sym (ap last_of m.0) ∙ (ap last_of e ∙ last-more before x)
+popped-last (Some l) old new before x m e = sym (last-more new l)
+    ∙ (sym (ap last_of m) ∙ (ap last_of e ∙ last-more before x))
+
+find-last : (n : ℕ) (ds : List Document) (d : Document) → d.id.number ≡ n →
+    list_any (nat_eq n) (live_numbers ds) ≡ false → find (has_number n) (ds ++ d ∷ []) ≡ Some d
+find-last n [] d e h = ap (λ (b : Bool). cond b (Some d) None)
+    (ap (λ (m : ℕ). m == n) e ∙ nat-itself n)
+find-last n (x ∷ xs) d e h = grind (arith, nat_tests, find-last n xs d)
+
+leave-last : (n : ℕ) (ds : List Document) (d : Document) → d.id.number ≡ n →
+    list_any (nat_eq n) (live_numbers ds) ≡ false →
+    filter (λ x. not (has_number n x)) (ds ++ d ∷ []) ≡ ds
+leave-last n [] d e h = ap (λ (b : Bool). cond (not b) (d ∷ []) [])
+    (ap (λ (m : ℕ). m == n) e ∙ nat-itself n)
+leave-last n (x ∷ xs) d e h = grind (arith, nat_tests, leave-last n xs d)
+
+module _ (live : List Document) (d : Document)
+    (differ : IsDistinct nat_eq (live_numbers (live ++ d ∷ []))) where
+  unlike : list_any (nat_eq d.id.number) (live_numbers live) ≡ false
+  unlike = differ-last (live_numbers live) d.id.number
+      (subst (IsDistinct nat_eq) (numbers-more live d) differ)
+
+  pub last-found : find (has_number d.id.number) (live ++ d ∷ []) ≡ Some d
+  last-found = find-last d.id.number live d refl unlike
+
+  pub last-left : filter (λ x. not (has_number d.id.number x)) (live ++ d ∷ []) ≡ live
+  last-left = leave-last d.id.number live d refl unlike
+
 -- ---- documents that are there from the start
 
 pub placed-none : (made : List DocId) (places : BTreeMap ℕ ℕ) → HasPlaces places made → ArePlaced [] made places []
@@ -557,9 +604,6 @@ placed-more ds d made places more ps old fresh is u =
       rises = rising-more ps (length ps) old.rises all;
       below = below-more ps (length ps) (length (ds ++ d ∷ [])) (omega arith) all;
     }
-
-abbrev other_ids : ℕ → List DocId → List DocId
-other_ids n ids = filter (λ id. not (id.number == n)) ids
 
 others-as-many : (n : ℕ) (ids : List DocId) → length (other_ids n ids) ≤ length ids
 others-as-many n [] = omega arith

@@ -1,6 +1,7 @@
 -- Rights kept together are the triples that they stand for.
-use Rattle.std.proofs.Common.{◌≡◌, ℕ, ◌==◌, ltb, List, [], ◌∷◌, ◌++◌, map, Bool, true, false, not, ◌||◌, ◌&&◌, cond, Option, Some, None, is_some, refl, sym, ap, subst, ◌∙◌, arith, zero, suc, ◌+◌, ◌<◌, ◌≤◌, length, get_or, Bor}
-use Rattle.std.specs.List.{filter, find, list_any, list_all, insert, prefix_len, slice_get}
+use Rattle.std.proofs.Common.{◌≡◌, ℕ, ◌==◌, ltb, List, [], ◌∷◌, ◌++◌, map, Bool, true, false, not, ◌||◌, ◌&&◌, cond, Option, Some, None, is_some, refl, sym, ap, subst, ◌∙◌, arith, zero, suc, ◌+◌, ◌<◌, ◌≤◌, length, get_or, Bor, MutBor}
+use Rattle.std.specs.List.{filter, find, list_any, list_all, insert, prefix_len, remove, slice_get, IsItemAtMut}
+use Rattle.std.proofs.Math.ListN.{set}
 use Rattle.std.specs.List.Sorted.{IsPartitionedBy, IsPartitionPoint}
 use Rattle.std.proofs.lemmas.Bool.Decides.{nat_tests}
 use Rattle.std.proofs.lemmas.List.Folds.{list_any-append}
@@ -84,7 +85,7 @@ pub none-behind : (app : List ℕ) (number : ℕ) (g : Grant) (gs : List Grant) 
 none-behind app number g [] k l = refl
 none-behind app number g (h ∷ hs) k l = grind (arith, none-behind app number g hs, not-of app number g h)
 
-or-false : (x : Bool) → (x || false) ≡ x
+pub or-false : (x : Bool) → (x || false) ≡ x
 or-false true = refl
 or-false false = refl
 
@@ -168,7 +169,7 @@ any-given p app id set (g ∷ gs) =
     ∙ (gather (is_of app id.number g) (list_any (is_of app id.number) gs) (list_any p (triples_of app id set)) (list_any p (triples_of_grant g)) (passes p gs)
     ∙ ap (λ (x : Bool). ((is_of app id.number g || list_any (is_of app id.number) gs) && list_any p (triples_of app id set)) || x) (sym (list_any-append p (triples_of_grant g) (triples_of_grants gs)))))
 
-given-key : (app : List ℕ) (number : ℕ) (set : RightSet) (g : Grant) → key_of (given app number set g) ≡ key_of g
+pub given-key : (app : List ℕ) (number : ℕ) (set : RightSet) (g : Grant) → key_of (given app number set g) ≡ key_of g
 given-key app number set g = at (is_of app number g)
   where
     at : (b : Bool) → key_of (cond b (record g { rights = union g.rights set }) g) ≡ key_of g
@@ -251,17 +252,12 @@ any-put-grant p g (h ∷ hs) e =
         ∙ ap (λ (x : Bool). list_any p (triples_of_grant g) || x) (sym (list_any-append p (triples_of_grant h) (triples_of_grants hs)))))
     step false false l m k more = let t : grant_less g h ≡ true = ahead g h k m in cc
 
-none-is : (p : Grant → Bool) (gs : List Grant) → find p gs ≡ None → list_any p gs ≡ false
+pub none-is : (p : Grant → Bool) (gs : List Grant) → find p gs ≡ None → list_any p gs ≡ false
 none-is p [] e = refl
 none-is p (g ∷ gs) e = grind (arith, none-is p gs)
 
 pub placed : (g : Grant) (gs : List Grant) → find (is_of g.app g.id.number) gs ≡ None → insert gs (place g gs) g ≡ put grant_less g gs
 placed g gs e = insert-put g gs (none-is (is_of g.app g.id.number) gs e)
-
-pub new-is : (g : Grant) (gs : List Grant) → are_grants_in_order gs ≡ true → find (is_of g.app g.id.number) gs ≡ None →
-    triples_of_grants (put grant_less g gs) ≡ add_rights g.app g.id g.rights (triples_of_grants gs)
-new-is g gs s h =
-    added-is g.app g.id g.rights gs (put grant_less g gs) (rising-put key_less same_key key_of keys g gs s) (λ p. any-put-grant p g gs (none-is (is_of g.app g.id.number) gs h))
 
 pub rising-new : (g : Grant) (gs : List Grant) → are_grants_in_order gs ≡ true → are_grants_in_order (put grant_less g gs) ≡ true
 rising-new g gs s = rising-put key_less same_key key_of keys g gs s
@@ -341,11 +337,11 @@ all-given : (app : List ℕ) (number : ℕ) (set : RightSet) (gs : List Grant) �
 all-given app number set [] h = refl
 all-given app number set (g ∷ gs) h = grind (arith, given-held app number set g, all-given app number set gs)
 
-all-put : (p : Grant → Bool) (g : Grant) (gs : List Grant) → p g ≡ true → list_all p gs ≡ true → list_all p (put grant_less g gs) ≡ true
+pub all-put : (p : Grant → Bool) (g : Grant) (gs : List Grant) → p g ≡ true → list_all p gs ≡ true → list_all p (put grant_less g gs) ≡ true
 all-put p g [] h l = grind arith
 all-put p g (x ∷ xs) h l = grind (arith, all-put p g xs)
 
-all-some : (q p : Grant → Bool) (gs : List Grant) → list_all q gs ≡ true → list_all q (filter p gs) ≡ true
+pub all-some : (q p : Grant → Bool) (gs : List Grant) → list_all q gs ≡ true → list_all q (filter p gs) ≡ true
 all-some q p [] h = refl
 all-some q p (g ∷ gs) h = grind (arith, all-some q p gs)
 
@@ -364,9 +360,6 @@ kept-taken app number set gs k = record {
   order = rising-some has_a_right (map (taken app number set) gs) (rising-taken app number set gs k.order);
   held = all-left has_a_right (map (taken app number set) gs);
 }
-
-pub kept-some : (p : Grant → Bool) (gs : List Grant) → AreKept gs → AreKept (filter p gs)
-kept-some p gs k = record { order = rising-some p gs k.order; held = all-some has_a_right p gs k.held }
 
 -- ---- a document forgotten
 
@@ -463,3 +456,88 @@ found-in-place app number (g ∷ gs) s =
 pub item-at : (xs : List Grant) (i : ℕ) (r : Option (Bor Grant)) → IsItemAt xs i r → option_copied r ≡ slice_get xs i
 item-at xs i None h = sym (slice_get_past xs i h.3)
 item-at xs i (Some x) h = ap (λ (y : Grant). Some y) h.1 ∙ sym (slice_get-get_or xs i x.now h.3.0)
+
+-- ---- what is changed in one place
+
+pub item-lent : (xs : List Grant) (i : ℕ) (x : MutBor Grant) → IsItemAtMut xs i (Some x) → slice_get xs i ≡ Some x.now
+item-lent xs i x h = slice_get-get_or xs i x.now h.3.0 ∙ ap (λ (y : Grant). Some y) (sym h.1)
+
+pub nothing-lent : (xs : List Grant) (i : ℕ) (r : Option (MutBor Grant)) → IsItemAtMut xs i r → r ≡ None → slice_get xs i ≡ None
+nothing-lent xs i None h e = slice_get_past xs i h.3
+nothing-lent xs i (Some x) h e = cc
+
+set-next : (g x : Grant) (gs : List Grant) (n : ℕ) → set (g ∷ gs) (1 + n) x ≡ g ∷ set gs n x
+set-next g x gs n = let e : 1 + n ≡ suc n = omega arith in ap (λ (k : ℕ). set (g ∷ gs) k x) e
+
+module _ (app : List ℕ) (number : ℕ) (f : Grant → Grant) (stays : (g : Grant) → is_of app number g ≡ false → f g ≡ g) where
+  all-stay : (gs : List Grant) → find (is_of app number) gs ≡ None → map f gs ≡ gs
+  all-stay [] e = refl
+  all-stay (g ∷ gs) e = step (is_of app number g) refl (all-stay gs)
+    where
+      step : (b : Bool) → is_of app number g ≡ b → (find (is_of app number) gs ≡ None → map f gs ≡ gs) → f g ∷ map f gs ≡ g ∷ gs
+      step true k more = let x : Some g ≡ None = looked app number Read g gs true None k e in cc
+      step false k more = λ i. stays g k i ∷ more (looked app number Read g gs false None k e) i
+
+  -- nothing is there to change
+  pub changed-none : (gs : List Grant) → are_grants_in_order gs ≡ true → slice_get gs (prefix_len (is_before app number) gs) ≡ None → map f gs ≡ gs
+  changed-none gs s e = all-stay gs (found-in-place app number gs s ∙ ap (if_of app number) e)
+
+  -- only what stands in the place is changed
+  pub changed-one : (gs : List Grant) (g : Grant) → are_grants_in_order gs ≡ true → slice_get gs (prefix_len (is_before app number) gs) ≡ Some g →
+      map f gs ≡ set gs (prefix_len (is_before app number) gs) (f g)
+  changed-one [] g s e = cc
+  changed-one (h ∷ hs) g s e =
+      let a : list_all (grant_less h) hs ≡ true = grind arith in
+      let b : are_grants_in_order hs ≡ true = grind arith in
+      step (is_before app number h) refl a (changed-one hs g b)
+    where
+      step : (b : Bool) → is_before app number h ≡ b → list_all (grant_less h) hs ≡ true →
+          (slice_get hs (prefix_len (is_before app number) hs) ≡ Some g → map f hs ≡ set hs (prefix_len (is_before app number) hs) (f g)) →
+          f h ∷ map f hs ≡ set (h ∷ hs) (prefix_len (is_before app number) (h ∷ hs)) (f g)
+      step true k a more =
+          let n = prefix_len (is_before app number) hs in
+          let at : prefix_len (is_before app number) (h ∷ hs) ≡ 1 + n = ap (λ (c : Bool). cond c (1 + n) 0) k in
+          let there : slice_get hs n ≡ Some g = sym (next-item h hs n) ∙ (ap (slice_get (h ∷ hs)) (sym at) ∙ e) in
+          (λ i. stays h (not-both app number h k) i ∷ more there i)
+          ∙ (sym (set-next h (f g) hs n) ∙ ap (λ (m : ℕ). set (h ∷ hs) m (f g)) (sym at))
+      step false k a more =
+          let at : prefix_len (is_before app number) (h ∷ hs) ≡ 0 = ap (λ (c : Bool). cond c (1 + prefix_len (is_before app number) hs) 0) k in
+          let first : Some h ≡ Some g = ap (slice_get (h ∷ hs)) (sym at) ∙ e in
+          let same : h ≡ g = cc in
+          (λ i. f (same i) ∷ all-stay hs (none-at-or-behind app number h hs k a) i)
+          ∙ ap (λ (m : ℕ). set (h ∷ hs) m (f g)) (sym at)
+
+pub given-stays : (app : List ℕ) (number : ℕ) (set : RightSet) (g : Grant) → is_of app number g ≡ false → given app number set g ≡ g
+given-stays app number set g k = ap (λ (b : Bool). cond b (record g { rights = union g.rights set }) g) k
+
+pub taken-stays : (app : List ℕ) (number : ℕ) (set : RightSet) (g : Grant) → is_of app number g ≡ false → taken app number set g ≡ g
+taken-stays app number set g k = ap (λ (b : Bool). cond b (record g { rights = minus g.rights set }) g) k
+
+pub all-held : (gs : List Grant) → list_all has_a_right gs ≡ true → filter has_a_right gs ≡ gs
+all-held [] h = refl
+all-held (g ∷ gs) h =
+    let a : has_a_right g ≡ true = grind arith in
+    let b : list_all has_a_right gs ≡ true = grind arith in
+    ap (λ (c : Bool). cond c (g ∷ filter has_a_right gs) (filter has_a_right gs)) a ∙ ap (λ (xs : List Grant). g ∷ xs) (all-held gs b)
+
+pub one-held : (gs : List Grant) (i : ℕ) (x : Grant) → list_all has_a_right gs ≡ true → has_a_right x ≡ true → filter has_a_right (set gs i x) ≡ set gs i x
+one-held [] i x h k = refl
+one-held (g ∷ gs) zero x h k =
+    let b : list_all has_a_right gs ≡ true = grind arith in
+    ap (λ (c : Bool). cond c (x ∷ filter has_a_right gs) (filter has_a_right gs)) k ∙ ap (λ (xs : List Grant). x ∷ xs) (all-held gs b)
+one-held (g ∷ gs) (suc i) x h k =
+    let a : has_a_right g ≡ true = grind arith in
+    let b : list_all has_a_right gs ≡ true = grind arith in
+    ap (λ (c : Bool). cond c (g ∷ filter has_a_right (set gs i x)) (filter has_a_right (set gs i x))) a ∙ ap (λ (xs : List Grant). g ∷ xs) (one-held gs i x b k)
+
+-- the one that has no right left goes
+pub one-gone : (gs : List Grant) (i : ℕ) (x : Grant) → i < length gs → list_all has_a_right gs ≡ true → has_a_right x ≡ false → filter has_a_right (set gs i x) ≡ remove (set gs i x) i
+one-gone [] i x l h k = absurd (omega arith)
+one-gone (g ∷ gs) zero x l h k =
+    let b : list_all has_a_right gs ≡ true = grind arith in
+    ap (λ (c : Bool). cond c (x ∷ filter has_a_right gs) (filter has_a_right gs)) k ∙ all-held gs b
+one-gone (g ∷ gs) (suc i) x l h k =
+    let a : has_a_right g ≡ true = grind arith in
+    let b : list_all has_a_right gs ≡ true = grind arith in
+    ap (λ (c : Bool). cond c (g ∷ filter has_a_right (set gs i x)) (filter has_a_right (set gs i x))) a
+    ∙ ap (λ (xs : List Grant). g ∷ xs) (one-gone gs i x (omega arith) b k)

@@ -21,8 +21,8 @@ use Rattle.portal_model.specs.Valid.{is_none}
 use Rattle.portal_model.proofs.FourTriples.{all-of}
 use Rattle.portal_model.proofs.TripleOrder.{Key, bytes-irreflexive, is_same-eq, is_same-refl}
 use Rattle.document_records.specs.declared.grants.Grant.{Grant}
-use Rattle.document_records.specs.Grants.{AreKept, are_grants_in_order, grant_less, has_a_right, is_of, taken, triples_of_grant, triples_of_grants}
-use Rattle.document_records.specs.Holdings.{is_in_document, record_left, record_of_grant, row_held, row_of_grant}
+use Rattle.document_records.specs.Grants.{AreKept, are_grants_in_order, grant_less, has_a_right, is_in_document, is_of, taken, triples_of_grant, triples_of_grants}
+use Rattle.document_records.specs.Holdings.{record_held, record_left, record_of_grant, row_held, row_of_grant}
 use Rattle.document_records.proofs.GrantLemmas.{has-more, held-ones-are, held-some, kept-taken, taken-is, taken-key}
 
 -- ---- a list made of the items so far
@@ -251,6 +251,24 @@ nothing-taken app number (t ∷ ts) =
 
 pub records-are : (app : List ℕ) (number : ℕ) (gs : List Grant) → AreKept gs → flat_map (record_left app number no_rights) gs ≡ records_in (triples_of_grants gs) number
 records-are app number gs k = left-are app number no_rights gs k ∙ ap (λ (ts : List Triple). records_in ts number) (nothing-taken app number (triples_of_grants gs))
+
+-- ---- of the grants in the document alone
+
+module _ {X : Type 0} (number : ℕ) (f : Grant → List X) (none : (g : Grant) → is_in_document number g ≡ false → f g ≡ []) where
+  pub told-within : (gs : List Grant) → flat_map f (filter (is_in_document number) gs) ≡ flat_map f gs
+  told-within [] = refl
+  told-within (g ∷ gs) = step (is_in_document number g) refl (told-within gs)
+    where
+      step : (b : Bool) → is_in_document number g ≡ b → flat_map f (filter (is_in_document number) gs) ≡ flat_map f gs →
+          flat_map f (cond b (g ∷ filter (is_in_document number) gs) (filter (is_in_document number) gs)) ≡ f g ++ flat_map f gs
+      step true k more = ap (λ (xs : List X). f g ++ xs) more
+      step false k more = more ∙ sym (ap (λ (xs : List X). xs ++ flat_map f gs) (none g k))
+
+pub rows-within : (number : ℕ) (gs : List Grant) → flat_map (row_held number) (filter (is_in_document number) gs) ≡ flat_map (row_held number) gs
+rows-within number gs = told-within number (row_held number) (λ g k. ap (λ (b : Bool). cond b (row_of_grant g ∷ []) []) k) gs
+
+pub left-within : (app : List ℕ) (number : ℕ) (set : RightSet) (gs : List Grant) → flat_map (record_left app number set) (filter (is_in_document number) gs) ≡ flat_map (record_left app number set) gs
+left-within app number set gs = told-within number (record_left app number set) (λ g k. ap (λ (b : Bool). cond b (record_held (taken app number set g)) []) k) gs
 
 -- ---- of what a call answers
 

@@ -1,6 +1,8 @@
 mod ApplicationLemmas
 mod DocumentLemmas
+mod DocumentsByPath
 mod GrantLemmas
+mod GrantsByNumber
 mod UnusedNumbers
 pub mod GrantsTogether
 mod AsciiTexts

@@ -1,11 +1,15 @@
--- What the numbers that documents are looked up by have to do with the lists of documents.
-use Rattle.std.specs.Prelude.{◌≡◌, ℕ, ◌<◌, ◌≤◌, ◌^◌, nat_eq, nat_lt, List, length, map, true, Option, Some, None, is_some}
+-- What the look-ups of documents by number and by path have to do with the lists of documents.
+use Rattle.std.specs.Prelude.{◌≡◌, ℕ, ◌<◌, ◌≤◌, ◌^◌, ◌==◌, ◌&&◌, nat_eq, nat_lt, List, [], length, map, Bool, true, false, not, Option, Some, None, is_some}
 use Rattle.std.specs.BTreeMap.{BTreeMap, get}
-use Rattle.std.specs.List.{list_all, IsDistinct}
+use Rattle.std.specs.List.{filter, list_all, IsDistinct}
 use Rattle.std.specs.Ordering.{nat_cmp}
+use Rattle.portal_base.specs.Names.{is_same}
+use Rattle.portal_base.specs.PathOrder.{path_order}
 use Rattle.portal_base.specs.declared.names.doc_id.DocId.{DocId}
 use Rattle.portal_model.specs.declared.state.Document.{Document}
+use Rattle.portal_model.specs.Documents.{same_flag, id_of_document}
 use Rattle.portal_model.specs.Ordered.{is_rising}
+use Rattle.portal_model.specs.State.{document_of}
 use Rattle.portal_model.specs.Valid.{is_made}
 use Rattle.document_records.specs.Documents.{DocumentList}
 
@@ -59,3 +63,38 @@ pub record ArePlaced (live : List Document) (made : List DocId) (places : BTreeM
   pub beside : live_places ≡ places_in places live
   pub rises : is_rising nat_lt live_places ≡ true
   pub below : list_all (λ place. nat_lt place (length live)) live_places ≡ true
+
+-- ---- documents by their paths
+
+abbrev pub ids_or_none : Option (List DocId) → List DocId
+ids_or_none None = []
+ids_or_none (Some ids) = ids
+
+-- the numbers that a path is found with
+abbrev pub ids_found : BTreeMap (List ℕ) (List DocId) → List ℕ → List DocId
+ids_found by_path path = ids_or_none (get path_order by_path path)
+
+abbrev pub has_path : List ℕ → Document → Bool
+has_path path d = is_same d.path path
+
+-- the numbers of the documents of a path, in their order
+abbrev pub ids_of_path : List Document → List ℕ → List DocId
+ids_of_path live path = map id_of_document (filter (has_path path) live)
+
+-- each path is found with the numbers of its documents
+abbrev pub AreByPath : List Document → BTreeMap (List ℕ) (List DocId) → Type 0
+AreByPath live by_path = (path : List ℕ) → ids_found by_path path ≡ ids_of_path live path
+
+-- all but one number
+abbrev pub other_ids : ℕ → List DocId → List DocId
+other_ids number ids = filter (λ id. not (id.number == number)) ids
+
+-- there is a document, and it may stand for a new one that is persistent and strict or isn't
+abbrev pub has_flags : Bool → Bool → Option Document → Bool
+has_flags persistent strict None = false
+has_flags persistent strict (Some d) =
+    same_flag d.persistent persistent && (same_flag d.strict strict && d.reusable)
+
+-- the same of the live document of a number
+abbrev pub number_serves : List Document → Bool → Bool → ℕ → Bool
+number_serves live persistent strict number = has_flags persistent strict (document_of live number)

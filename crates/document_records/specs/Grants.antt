@@ -2,7 +2,10 @@
 use Rattle.std.specs.Prelude.{◌≡◌, ℕ, ◌==◌, nat_lt, List, Bool, true, not, ◌&&◌, cond, if◌then◌else◌}
 use Rattle.std.specs.Cmp.Lexicographic.{slice_cmp}
 use Rattle.std.specs.List.{flat_map, list_all}
+use Rattle.std.specs.BTreeMap.{BTreeMap, IsOrdered}
 use Rattle.std.specs.Ordering.{nat_cmp}
+use Rattle.std.specs.declared.alloc.Global.{Global}
+use Rattle.std.specs.declared.vec.Vec.{Vec}
 use Rattle.std.specs.declared.cmp.Ordering.{Ordering}
 use Rattle.portal_base.specs.Names.{is_same}
 use Rattle.rights_rule.specs.Rights.{RightSet, union, minus, is_no_right}
@@ -10,6 +13,7 @@ use Rattle.portal_model.specs.declared.state.Triple.{Triple}
 use Rattle.document_records.specs.declared.grants.Grant.{Grant}
 use Rattle.portal_model.specs.Ordered.{bytes_less, is_rising}
 use Rattle.portal_model.specs.Rights.{triples_of, add_rights}
+use Rattle.portal_model.specs.Valid.{is_none}
 
 abbrev pub triples_of_grant : Grant → List Triple
 triples_of_grant g = triples_of g.app g.id g.rights
@@ -54,5 +58,24 @@ pub record AreKept (grants : List Grant) : Type 0 where
   pub order : are_grants_in_order grants ≡ true
   pub held : list_all has_a_right grants ≡ true
 
+abbrev pub is_in_document : ℕ → Grant → Bool
+is_in_document number g = g.id.number == number
+
 abbrev pub is_elsewhere : ℕ → Grant → Bool
-is_elsewhere number g = not (g.id.number == number)
+is_elsewhere number g = not (is_in_document number g)
+
+-- the grants of all documents, each under its number
+abbrev pub all_grants : List (ℕ × Vec Grant Global) → List Grant
+all_grants documents = flat_map (λ d. d.1.items) documents
+
+abbrev pub triples_of_all : List (ℕ × Vec Grant Global) → List Triple
+triples_of_all documents = triples_of_grants (all_grants documents)
+
+-- those of a document are in it, in order, and each has a right; there are some
+abbrev pub is_kept : ℕ × Vec Grant Global → Bool
+is_kept d = are_grants_in_order d.1.items && list_all has_a_right d.1.items
+    && list_all (is_in_document d.0) d.1.items && not (is_none d.1.items)
+
+pub record AreKeptByNumber (documents : BTreeMap ℕ (Vec Grant Global)) : Type 0 where
+  pub order : IsOrdered nat_cmp documents
+  pub each : list_all is_kept documents.entries ≡ true

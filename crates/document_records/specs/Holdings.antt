@@ -1,14 +1,11 @@
 -- The rights in one document, as grants tell them.
-use Rattle.std.specs.Prelude.{ℕ, ◌==◌, List, [], ◌∷◌, Bool, cond}
+use Rattle.std.specs.Prelude.{ℕ, List, [], ◌∷◌, cond}
 use Rattle.rights_rule.specs.Rights.{RightSet, names_of}
 use Rattle.portal_model.specs.declared.records.GrantRecord.{GrantRecord}
 use Rattle.portal_model.specs.declared.records.Row.{Row}
 use Rattle.portal_model.specs.Kept.{bits_of}
 use Rattle.document_records.specs.declared.grants.Grant.{Grant}
-use Rattle.document_records.specs.Grants.{has_a_right, taken}
-
-abbrev pub is_in_document : ℕ → Grant → Bool
-is_in_document number g = g.id.number == number
+use Rattle.document_records.specs.Grants.{has_a_right, is_in_document, taken}
 
 -- how a grant is told
 abbrev pub row_of_grant : Grant → Row

@@ -11,6 +11,7 @@ use portal_base::list::List;
 use portal_base::memory::{Replica, WantOfMemory};
 use portal_base::names::AppId;
 use std::alloc::Global;
+use std::collections::BTreeMap;
 use std::marker::Model;
 
 /// The numbered applications; application k is the k-th, from 1.
@@ -18,17 +19,21 @@ use std::marker::Model;
 pub struct Applications {
     alloc: Global,
     names: List<AppId>,
+    // The list has the order of the numbers, which contracts see; the map finds in it, in about
+    // log n steps among n names.
+    /// The number of each name, by the bytes of the name.
+    numbers: BTreeMap<Vec<u8>, u32>,
 }
 
 impl Model for Applications {
     ghost use Rattle.std.specs.Prelude.{List, ℕ};
-    ghost use Rattle.document_records.specs.Applications.{AreNumbered};
+    ghost use Rattle.document_records.specs.Applications.{IsFoundByName};
 
     ghost Value = { List (List ℕ) };
 
     ghost view = { λ a. a.names };
 
-    ghost invariant = { λ a. AreNumbered a.names };
+    ghost invariant = { λ a. IsFoundByName a.names a.numbers };
 }
 
 impl Applications {
@@ -39,6 +44,7 @@ impl Applications {
         Applications {
             alloc,
             names: List::new(alloc),
+            numbers: BTreeMap::new(alloc),
         }
     }
 
@@ -50,18 +56,24 @@ impl Applications {
         ensures number { IfOk result (λ number. number_of self.new app.now ≡ Some number) }
         ensures err { OnErr result (self.new ≡ self.old) }
     {
-        if let Some(number) = number_of(self.names.as_slice(), app) {
+        if let Some(number) = self.of(app) {
             return Ok(number);
         }
+        let key = Vec::from_slice(self.alloc, app.as_bytes())?;
         self.names.push(app.replica(self.alloc)?)?;
-        Ok(self.names.len() as u32)
+        let number = self.names.len() as u32;
+        if self.numbers.insert(key, number).is_err() {
+            self.names.pop();
+            return Err(WantOfMemory);
+        }
+        Ok(number)
     }
 
     /// The number of an application that has one.
     pub fn of(&self, app: &AppId) -> Option<u32>
         ensures { result ≡ number_of self.now app.now }
     {
-        number_of(self.names.as_slice(), app)
+        self.numbers.get(app.as_bytes()).copied()
     }
 
     /// The application of a number.
@@ -95,22 +107,8 @@ impl Applications {
         requires { 0 < length self.old }
         ensures { self.new ≡ front self.old }
     {
-        self.names.pop();
+        if let Some(last) = self.names.pop() {
+            self.numbers.remove(last.as_bytes());
+        }
     }
-}
-
-/// The number of an application in a list of few enough names.
-fn number_of(names: &[AppId], app: &AppId) -> Option<u32>
-    requires { length names.now ≤ 16777216 }
-    ensures { result ≡ number_of names.now app.now }
-{
-    let at = place_of(names, app)?;
-    Some(at as u32 + 1)
-}
-
-/// The place of an application in a list.
-fn place_of(names: &[AppId], app: &AppId) -> Option<usize>
-    ensures { result ≡ position (λ name. is_same name app.now) names.now }
-{
-    names.iter().position(|name| name == app)
 }

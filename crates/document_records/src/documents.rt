@@ -1,17 +1,20 @@
 //! The live documents, and the numbers of all that were made.
 
-ghost use Rattle.std.specs.Prelude.{◌≡◌, ◌<◌, ◌≤◌, ◌^◌, IfOk, OnOk, OnErr, IfErr, false, true, nat_eq, [], map, option_copied, ◌≢◌, min, ◌-◌, length};
-ghost use Rattle.std.specs.List.{list_all, position, IsDistinct};
+ghost use Rattle.std.specs.Prelude.{◌≡◌, ◌<◌, ◌≤◌, ◌^◌, IfOk, OnOk, OnErr, IfErr, false, true, nat_eq, map, option_copied, ◌≢◌, length};
+ghost use Rattle.std.specs.List.{list_all, IsDistinct};
 ghost use Rattle.portal_model.specs.State.{document_of};
 ghost use Rattle.portal_model.specs.Valid.{is_made};
 ghost use Rattle.portal_model.specs.Documents.{reusable_of, first_of, IsUnused, id_of_document};
-ghost use Rattle.document_records.specs.Documents.{no_documents, room, with_document, without_document, without_last, IsLast, has_number};
+ghost use Rattle.document_records.specs.Documents.{no_documents, room, with_document, without_document, without_last, IsLast};
 ghost use Rattle.document_records.specs.DocumentErrors.{RefusesDocument};
-ghost use Rattle.document_records.specs.DocumentIndex.{live_numbers, AreKept, ArePlaced, HasPlaces};
+ghost use Rattle.document_records.specs.DocumentIndex.{live_numbers, AreKept};
 
+use crate::by_path;
+use crate::by_path::IdsByPath;
+use crate::placed::PlacedDocuments;
 use portal_base::limits::Limits;
 use portal_base::list::List;
-use portal_base::memory::WantOfMemory;
+use portal_base::memory::{Replica, WantOfMemory};
 use portal_base::names::{DocId, HostPath};
 use portal_model::state::Document;
 use std::alloc::Global;
@@ -40,35 +43,21 @@ pub enum DocError {
 #[derive(Drop)]
 pub struct Documents {
     alloc: Global,
-    most_live: u64,
-    most_made: u64,
-    live: List<Document>,
-    made: List<DocId>,
-    // The two lists have the order of addition, which contracts see; the two below find in them.
-    // Each made number has a place, and those of live documents rise in their order, so a place
-    // is found beside `live` by halving. A number that isn't live may have the place of one that
-    // is.
-    /// The place of each made number.
-    places: BTreeMap<u32, usize>,
-    /// The place of the number of each live document, in their order.
-    live_places: List<usize>,
+    /// The documents, which are found by their numbers.
+    placed: PlacedDocuments,
+    /// The numbers of the live documents of each path.
+    by_path: IdsByPath,
 }
 
 impl Model for Documents {
     ghost use Rattle.document_records.specs.Documents.{DocumentList};
-    ghost use Rattle.document_records.specs.DocumentIndex.{IsIndexed};
+    ghost use Rattle.document_records.specs.DocumentIndex.{AreByPath};
 
     ghost Value = { DocumentList };
 
-    ghost view = { λ a. record {
-      most_live = a.most_live;
-      most_made = a.most_made;
-      live = a.live;
-      made = a.made;
-    } };
+    ghost view = { λ a. a.placed };
 
-    ghost invariant = { λ a. IsIndexed a.most_live a.most_made a.live a.made a.places
-        a.live_places };
+    ghost invariant = { λ a. AreByPath a.placed.live a.by_path };
 }
 
 impl Documents {
@@ -80,12 +69,8 @@ impl Documents {
     {
         Documents {
             alloc,
-            most_live: limits.documents,
-            most_made: limits.made,
-            live: List::new(alloc),
-            made: List::new(alloc),
-            places: BTreeMap::new(alloc),
-            live_places: List::new(alloc),
+            placed: PlacedDocuments::new(alloc, limits),
+            by_path: BTreeMap::new(alloc),
         }
     }
 
@@ -109,16 +94,11 @@ impl Documents {
           made = made.now;
         }) }
     {
-        let mut places = made_places(alloc, made)?;
-        let live_places = place_live(alloc, &mut places, live.as_slice(), made)?;
+        let by_path = by_path::ids_by_path(alloc, live.as_slice())?;
         Ok(Documents {
             alloc,
-            most_live: limits.documents,
-            most_made: limits.made,
-            live,
-            made: List::copied(alloc, made)?,
-            places,
-            live_places,
+            placed: PlacedDocuments::of(alloc, limits, live, made)?,
+            by_path,
         })
     }
 
@@ -130,7 +110,7 @@ impl Documents {
     {
         // A caller can look at the limit before it draws a word: an addition is refused exactly
         // where there is no room.
-        room(self.most_live, self.most_made, &self.live, &self.made)
+        self.placed.room()
     }
 
     /// Adds a document, whose number was never made.
@@ -141,30 +121,21 @@ impl Documents {
         ensures refused { IfErr result (RefusesDocument self.old) }
         ensures err { OnErr result (self.new ≡ self.old) }
     {
-        if room(self.most_live, self.most_made, &self.live, &self.made) == 0 {
+        if self.placed.room() == 0 {
             return Err(DocError::Full {
-                live: self.live.len() as u64,
-                made: self.made.len() as u64,
+                live: self.placed.live().len() as u64,
+                made: self.placed.made().len() as u64,
             });
         }
         let id = document.id;
-        let place = self.made.len();
-        if self.places.insert(id.number, place).is_err() {
+        let Ok(path) = document.path.replica(self.alloc) else {
+            return Err(DocError::Memory);
+        };
+        if self.placed.add(document).is_err() {
             return Err(DocError::Memory);
         }
-        if self.made.push(id).is_err() {
-            self.places.remove(&id.number);
-            return Err(DocError::Memory);
-        }
-        if self.live_places.push(place).is_err() {
-            self.made.pop();
-            self.places.remove(&id.number);
-            return Err(DocError::Memory);
-        }
-        if self.live.push(document).is_err() {
-            self.live_places.pop();
-            self.made.pop();
-            self.places.remove(&id.number);
+        if by_path::add_id(self.alloc, &mut self.by_path, path, id).is_err() {
+            self.placed.take_back(id);
             return Err(DocError::Memory);
         }
         Ok(())
@@ -175,13 +146,7 @@ impl Documents {
     pub fn unused_from(&self, word: u32) -> DocId
         ensures { IsUnused self.now.made word result.number }
     {
-        // As many look-ups as made numbers are in the way, and one more. There is a free one,
-        // since fewer than 2^32 may be made.
-        let mut number = word;
-        while self.places.contains_key(&number) {
-            number = number.wrapping_add(1);
-        }
-        DocId { number }
+        self.placed.unused_from(word)
     }
 
     /// The live documents, in order of addition. Their numbers differ.
@@ -189,14 +154,14 @@ impl Documents {
         ensures value { result.now ≡ self.now.live }
         ensures kept { AreKept self.now }
     {
-        self.live.as_slice()
+        self.placed.live()
     }
 
     /// The numbers that were made, in the order in which they were.
     pub fn made(&self) -> &[DocId]
         ensures { result.now ≡ self.now.made }
     {
-        self.made.as_slice()
+        self.placed.made()
     }
 
     /// The live document of a number, which is found in about log n steps among n
@@ -204,36 +169,26 @@ impl Documents {
     pub fn find(&self, id: DocId) -> Option<&Document>
         ensures { option_copied result ≡ document_of self.now.live id.number }
     {
-        let at = self.place_of(id)?;
-        self.live.get(at)
+        self.placed.find(id)
     }
 
     /// The first live document that may stand for a new one of this path and
-    /// these flags.
+    /// these flags. Only the documents of the path are looked at.
     pub fn reusable(&self, path: &HostPath, persistent: bool, strict: bool) -> Option<DocId>
         ensures { result ≡ reusable_of self.now.live path.now persistent strict }
     {
-        self.live
-            .as_slice()
-            .iter()
-            .find(|document| {
-                document.path == *path
-                    && document.persistent == persistent
-                    && document.strict == strict
-                    && document.reusable
-            })
-            .map(|document| document.id)
+        self.placed.known();
+        let ids = self.by_path.get(path)?;
+        self.placed
+            .first_with_flags(ids.as_slice(), persistent, strict)
     }
 
-    /// The first live document of a path.
+    /// The first live document of a path, which is found in about log n steps among
+    /// the paths of n documents.
     pub fn first_of(&self, path: &HostPath) -> Option<DocId>
         ensures { result ≡ first_of self.now.live path.now }
     {
-        self.live
-            .as_slice()
-            .iter()
-            .find(|document| document.path == *path)
-            .map(|document| document.id)
+        self.by_path.get(path)?.first().copied()
     }
 
     /// Takes the document of a number out, which stays made.
@@ -241,9 +196,9 @@ impl Documents {
         ensures document { result ≡ document_of self.old.live id.number }
         ensures rest { self.new ≡ without_document self.old id.number }
     {
-        let at = self.place_of(id)?;
-        self.live_places.remove(at);
-        Some(self.live.remove(at))
+        let document = self.placed.remove(id)?;
+        by_path::remove_id(&mut self.by_path, &document.path, id);
+        Some(document)
     }
 
     /// The numbers of the live documents, in order of addition.
@@ -251,7 +206,7 @@ impl Documents {
         ensures { IfOk result (λ ids. ids ≡ map id_of_document self.now.live) }
     {
         let mut ids = List::new(self.alloc);
-        for document in self.live.as_slice() {
+        for document in self.placed.live() {
             ids.push(document.id)?;
         }
         Ok(ids)
@@ -263,61 +218,8 @@ impl Documents {
         requires { IsLast self.old id }
         ensures { self.new ≡ without_last self.old }
     {
-        self.live.pop();
-        self.live_places.pop();
-        self.made.pop();
-        self.places.remove(&id.number);
+        if let Some(last) = self.placed.take_back(id) {
+            by_path::remove_id(&mut self.by_path, &last.path, id);
+        }
     }
-
-    /// The place of the document of a number among the live ones.
-    fn place_of(&self, id: DocId) -> Option<usize>
-        ensures { result ≡ position (has_number id.number) self.now.live }
-    {
-        let place = self.places.get(&id.number)?;
-        let at = self.live_places.as_slice().binary_search(place).ok()?;
-        let found = self.live.get(at)?;
-        if found.id == id { Some(at) } else { None }
-    }
-}
-
-/// A place for each number that was made.
-fn made_places(alloc: Global, made: &[DocId]) -> Result<BTreeMap<u32, usize>, WantOfMemory>
-    ensures { IfOk result (λ places. HasPlaces places made.now) }
-{
-    let mut places = BTreeMap::new(alloc);
-    for id in made {
-        places.insert(id.number, 0)?;
-    }
-    Ok(places)
-}
-
-/// Gives the numbers of live documents places that rise in their order.
-fn place_live(
-    alloc: Global,
-    places: &mut BTreeMap<u32, usize>,
-    live: &[Document],
-    made: &[DocId],
-) -> Result<List<usize>, WantOfMemory>
-    requires differ { IsDistinct nat_eq (live_numbers live.now) }
-    requires among { list_all (λ d. is_made made.now d.id.number) live.now ≡ true }
-    requires places { HasPlaces places.old made.now }
-    ensures { IfOk result (λ live_places.
-        ArePlaced live.now made.now places.new live_places) }
-{
-    let mut live_places = List::new(alloc);
-    for document in live {
-        let place = live_places.len();
-        places.insert(document.id.number, place)?;
-        live_places.push(place)?;
-    }
-    Ok(live_places)
-}
-
-/// How many more documents two limits leave room for.
-fn room(most_live: u64, most_made: u64, live: &List<Document>, made: &List<DocId>) -> u64
-    ensures { result ≡ min (most_live - length live.now) (most_made - length made.now) }
-{
-    let live = most_live.saturating_sub(live.len() as u64);
-    let made = most_made.saturating_sub(made.len() as u64);
-    live.min(made)
 }

@@ -1,7 +1,9 @@
 //! Which application has which right in which document.
 
 ghost use Rattle.std.specs.Prelude.{◌≡◌, [], OnOk, OnErr, IfOk, map, fold, None, true, false, option_copied};
+ghost use Rattle.std.specs.BTreeMap.{get};
 ghost use Rattle.std.specs.List.{prefix_len, find, filter};
+ghost use Rattle.std.specs.Ordering.{nat_cmp};
 ghost use Rattle.portal_model.specs.State.{held_of};
 ghost use Rattle.portal_model.specs.Ordered.{put};
 ghost use Rattle.rights_rule.specs.Rights.{is_no_right};
@@ -17,6 +19,7 @@ use portal_model::records::{GrantRecord, Row};
 use rights_rule::Rights;
 use std::alloc::Global;
 use std::cmp::Ordering;
+use std::collections::BTreeMap;
 use std::marker::Model;
 
 /// The rights of one application in one document.
@@ -36,9 +39,9 @@ pub struct Grant {
 #[derive(Drop)]
 pub struct Grants {
     alloc: Global,
-    // In order of the number and then of the name, whatever way they came: so they are found by
-    // halving.
-    grants: Vec<Grant>,
+    // Those of a document stand together, in order of the name, whatever way they came: so they are
+    // found by halving, and no call goes over those of other documents.
+    documents: BTreeMap<u32, Vec<Grant>>,
 }
 
 impl Model for Grants {
@@ -47,11 +50,11 @@ impl Model for Grants {
 
     ghost Value = { List Triple };
 
-    ghost use Rattle.document_records.specs.Grants.{triples_of_grants, AreKept};
+    ghost use Rattle.document_records.specs.Grants.{triples_of_all, AreKeptByNumber};
 
-    ghost view = { λ a. triples_of_grants a.grants.items };
+    ghost view = { λ a. triples_of_all a.documents.entries };
 
-    ghost invariant = { λ a. AreKept a.grants.items };
+    ghost invariant = { λ a. AreKeptByNumber a.documents };
 }
 
 impl Grants {
@@ -61,7 +64,7 @@ impl Grants {
     {
         Grants {
             alloc,
-            grants: Vec::new(alloc),
+            documents: BTreeMap::new(alloc),
         }
     }
 
@@ -83,7 +86,7 @@ impl Grants {
         ensures held { result ≡ held_of self.now app.now id.number }
         ensures order { are_in_order self.now ≡ true }
     {
-        match find(&self.grants, app, id) {
+        match find(in_document(&self.documents, id), app, id) {
             Some(grant) => grant.rights,
             None => Rights::NONE,
         }
@@ -96,8 +99,8 @@ impl Grants {
         ensures some { OnErr result (is_no_right rights ≡ false) }
         ensures err { OnErr result (self.new ≡ self.old) }
     {
-        if find(&self.grants, app, id).is_some() {
-            give(&mut self.grants, app, id, rights);
+        if find(in_document(&self.documents, id), app, id).is_some() {
+            give_in(&mut self.documents, app, id, rights);
             return Ok(());
         }
         if rights.is_empty() {
@@ -108,16 +111,14 @@ impl Grants {
             app: app.replica(self.alloc)?,
             rights,
         };
-        insert(&mut self.grants, grant)?;
-        Ok(())
+        insert_in(self.alloc, &mut self.documents, grant)
     }
 
     /// Takes rights of an application in a document away, and no others.
     pub fn remove(&mut self, app: &AppId, id: DocId, rights: Rights)
         ensures { self.new ≡ take_rights app.now id.number rights self.old }
     {
-        take(&mut self.grants, app, id, rights);
-        leave_held(&mut self.grants);
+        take_in(&mut self.documents, app, id, rights);
     }
 
     /// The applications that have a right in a document, in byte order of their
@@ -126,7 +127,7 @@ impl Grants {
         ensures { IfOk result (λ rows. rows
             ≡ map (row_of self.now id.number) (holders self.now id.number)) }
     {
-        rows(self.alloc, &self.grants, id)
+        rows(self.alloc, in_document(&self.documents, id), id)
     }
 
     /// The rights in a document as they are kept, in byte order of the
@@ -135,7 +136,13 @@ impl Grants {
         ensures { IfOk result (λ records. records
             ≡ map (grant_record self.now id.number) (holders self.now id.number)) }
     {
-        records_left(self.alloc, &self.grants, id, &[], Rights::NONE)
+        records_left(
+            self.alloc,
+            in_document(&self.documents, id),
+            id,
+            &[],
+            Rights::NONE,
+        )
     }
 
     /// The same, as they will be kept once these rights of an application are
@@ -149,18 +156,24 @@ impl Grants {
         ensures { IfOk result (λ records. let left = take_rights app.now id.number rights self.now
             in records ≡ map (grant_record left id.number) (holders left id.number)) }
     {
-        records_left(self.alloc, &self.grants, id, app.as_bytes(), rights)
+        records_left(
+            self.alloc,
+            in_document(&self.documents, id),
+            id,
+            app.as_bytes(),
+            rights,
+        )
     }
 
     /// Takes all rights in a document away.
     pub fn forget(&mut self, id: DocId)
         ensures { self.new ≡ forget_document id.number self.old }
     {
-        leave_others(&mut self.grants, id);
+        self.documents.remove(&id.number);
     }
 }
 
-ghost use Rattle.document_records.specs.Grants.{is_of, is_before, given, taken, has_a_right, is_elsewhere, grant_less, grant_order, are_grants_in_order, with_given};
+ghost use Rattle.document_records.specs.Grants.{AreKept, is_of, is_before, given, taken, has_a_right, grant_less, grant_order, are_grants_in_order, with_given, all_grants, triples_of_all, is_in_document, AreKeptByNumber};
 
 /// Which of two grants has its place first.
 fn place_order(first: &Grant, second: &Grant) -> Ordering
@@ -237,9 +250,11 @@ fn place_of(grants: &[Grant], app: &AppId, id: DocId) -> usize
 
 /// Adds rights to the grant of an application in a document.
 fn give(grants: &mut Vec<Grant>, app: &AppId, id: DocId, rights: Rights)
+    requires { are_grants_in_order grants.old.items ≡ true }
     ensures { grants.new.items ≡ map (given app.now id.number rights) grants.old.items }
 {
-    for grant in grants.iter_mut() {
+    let at = place_of(grants, app, id);
+    if let Some(grant) = grants.get_mut(at) {
         give_if(grant, app, id, rights);
     }
 }
@@ -253,12 +268,20 @@ fn give_if(grant: &mut Grant, app: &AppId, id: DocId, rights: Rights)
     }
 }
 
-/// Takes rights away from the grant of an application in a document.
+/// Takes rights away from the grant of an application in a document, and the
+/// grant where nothing is left of it.
 fn take(grants: &mut Vec<Grant>, app: &AppId, id: DocId, rights: Rights)
-    ensures { grants.new.items ≡ map (taken app.now id.number rights) grants.old.items }
+    requires { AreKept grants.old.items }
+    ensures { grants.new.items
+        ≡ filter has_a_right (map (taken app.now id.number rights) grants.old.items) }
 {
-    for grant in grants.iter_mut() {
-        take_if(grant, app, id, rights);
+    let at = place_of(grants, app, id);
+    let Some(grant) = grants.get_mut(at) else {
+        return;
+    };
+    take_if(grant, app, id, rights);
+    if grant.rights.is_empty() {
+        grants.remove(at);
     }
 }
 
@@ -272,16 +295,87 @@ fn take_if(grant: &mut Grant, app: &AppId, id: DocId, rights: Rights)
     }
 }
 
-/// Leaves the grants that have a right.
-fn leave_held(grants: &mut Vec<Grant>)
-    ensures { grants.new.items ≡ filter has_a_right grants.old.items }
+/// The grants in a document.
+fn in_document(documents: &BTreeMap<u32, Vec<Grant>>, id: DocId) -> &[Grant]
+    requires { AreKeptByNumber documents.now }
+    ensures { result.now ≡ filter (is_in_document id.number) (all_grants documents.now.entries) }
 {
-    grants.retain(|grant| !grant.rights.is_empty());
+    match documents.get(&id.number) {
+        Some(grants) => grants.as_slice(),
+        None => &[],
+    }
 }
 
-/// Leaves the grants in other documents.
-fn leave_others(grants: &mut Vec<Grant>, id: DocId)
-    ensures { grants.new.items ≡ filter (is_elsewhere id.number) grants.old.items }
+/// Adds rights to the grant of an application in a document, among those of all.
+fn give_in(documents: &mut BTreeMap<u32, Vec<Grant>>, app: &AppId, id: DocId, rights: Rights)
+    requires { AreKeptByNumber documents.old }
+    ensures kept { AreKeptByNumber documents.new }
+    ensures given { all_grants documents.new.entries
+        ≡ map (given app.now id.number rights) (all_grants documents.old.entries) }
 {
-    grants.retain(|grant| grant.id.number != id.number);
+    if let Some(grants) = documents.get_mut(&id.number) {
+        give(grants, app, id, rights);
+    }
+}
+
+/// Takes rights away from the grant of an application in a document, among
+/// those of all. A document in which nothing is held any more goes.
+fn take_in(documents: &mut BTreeMap<u32, Vec<Grant>>, app: &AppId, id: DocId, rights: Rights)
+    requires { AreKeptByNumber documents.old }
+    ensures kept { AreKeptByNumber documents.new }
+    ensures left { all_grants documents.new.entries ≡ filter has_a_right
+        (map (taken app.now id.number rights) (all_grants documents.old.entries)) }
+{
+    let Some(grants) = documents.get_mut(&id.number) else {
+        return;
+    };
+    take(grants, app, id, rights);
+    if grants.as_slice().is_empty() {
+        documents.remove(&id.number);
+    }
+}
+
+/// Puts a grant in its place among those of its document.
+fn insert_in(
+    alloc: Global,
+    documents: &mut BTreeMap<u32, Vec<Grant>>,
+    grant: Grant,
+) -> Result<(), WantOfMemory>
+    requires kept { AreKeptByNumber documents.old }
+    requires held { has_a_right grant ≡ true }
+    requires new { find (is_of grant.app grant.id.number) (all_grants documents.old.entries)
+        ≡ None }
+    ensures kept { AreKeptByNumber documents.new }
+    ensures ok { OnOk result (triples_of_all documents.new.entries
+        ≡ add_rights grant.app grant.id grant.rights (triples_of_all documents.old.entries)) }
+    ensures err { OnErr result (triples_of_all documents.new.entries
+        ≡ triples_of_all documents.old.entries) }
+{
+    let number = grant.id.number;
+    match documents.get_mut(&number) {
+        Some(grants) => insert(grants, grant),
+        None => insert_first(alloc, documents, grant),
+    }
+}
+
+/// Adds the first grant of a document.
+fn insert_first(
+    alloc: Global,
+    documents: &mut BTreeMap<u32, Vec<Grant>>,
+    grant: Grant,
+) -> Result<(), WantOfMemory>
+    requires kept { AreKeptByNumber documents.old }
+    requires held { has_a_right grant ≡ true }
+    requires none { get nat_cmp documents.old grant.id.number ≡ None }
+    ensures kept { AreKeptByNumber documents.new }
+    ensures ok { OnOk result (triples_of_all documents.new.entries
+        ≡ add_rights grant.app grant.id grant.rights (triples_of_all documents.old.entries)) }
+    ensures err { OnErr result (triples_of_all documents.new.entries
+        ≡ triples_of_all documents.old.entries) }
+{
+    let number = grant.id.number;
+    let mut grants = Vec::new(alloc);
+    grants.push(grant)?;
+    documents.insert(number, grants)?;
+    Ok(())
 }

@@ -9,7 +9,9 @@
 //!
 //! | Room | Holds |
 //! |---|---|
-//! | `documents` | [`Documents`]: the live ones by number, and the made numbers |
+//! | `documents` | [`Documents`]: the live ones by number and by path, and the made numbers |
+//! | `placed` | the live ones by number alone |
+//! | `by_path` | the numbers of those of each path |
 //! | `grants` | [`Grants`]: who holds which rights in which document, and [`Grant`], the rights of one in one |
 //! | `holdings` | the rights in a document, as they are told and as they are kept |
 //! | `texts` | identifiers and names as texts |
@@ -31,6 +33,7 @@
 #![tactic(auto)]
 
 pub mod applications;
+mod by_path;
 pub mod documents;
 mod granted;
 pub mod grants;
@@ -39,6 +42,7 @@ mod known;
 mod live;
 mod numbered;
 pub mod opening;
+mod placed;
 mod texts;
 
 pub use applications::Applications;

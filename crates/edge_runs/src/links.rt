@@ -15,7 +15,7 @@ use worker_gate::listener::{Accepted, Listener};
 
 /// A watch that lets listeners begin, and is told nothing.
 #[derive(Drop)]
-struct Quiet;
+pub(crate) struct Quiet;
 
 impl Watch for Quiet {
     fn begin(&self) -> bool {
@@ -37,7 +37,7 @@ pub fn bind(system: &HostRuntime, alloc: Global, path: &str) -> Result<String, V
 }
 
 /// A socket that is made in this folder, and stands at a path.
-fn placed(system: &HostRuntime, path: &str) -> Result<UnixListener, BindError> {
+pub(crate) fn placed(system: &HostRuntime, path: &str) -> Result<UnixListener, BindError> {
     let folder = SocketFolder::take(system, ".")?;
     let socket = placed_in(system, &folder, path);
     folder.clear(system);
@@ -209,7 +209,7 @@ fn both_heard(
 }
 
 /// `leave PATH TEXT`: what the service hears of a client that leaves behind a text,
-/// and what becomes of an answer to it.
+/// what becomes of an answer to it, and what the next read gives.
 pub fn leave(system: &HostRuntime, alloc: Global, rest: &str) -> Result<String, VectorError> {
     let (path, text) = cut(rest);
     let socket = given(alloc, placed(system, path))?;
@@ -252,8 +252,9 @@ fn left<L: Listener>(alloc: Global, listener: &mut L) -> Result<String, VectorEr
             let first = heard(alloc, &mut source);
             let second = heard(alloc, &mut source);
             let written = sink.write(b"late");
+            let third = heard(alloc, &mut source);
             listener.done(source, sink);
-            left_told(alloc, first, second, written)
+            left_told(alloc, first, second, written, third)
         }
         Accepted::Closed | Accepted::Failed | Accepted::Memory => bad(),
     }
@@ -264,14 +265,16 @@ fn left_told(
     first: Result<String, VectorError>,
     second: Result<String, VectorError>,
     written: WriteAnswer,
+    third: Result<String, VectorError>,
 ) -> Result<String, VectorError> {
     let first = first?;
     let second = second?;
-    Ok(format!(in alloc; "heard {first}, {second}, {written:?}")?)
+    let third = third?;
+    Ok(format!(in alloc; "heard {first}, {second}, {written:?}, {third}")?)
 }
 
 /// The text that the next read gives, or why it gives none.
-fn heard<S: Source>(alloc: Global, source: &mut S) -> Result<String, VectorError> {
+pub(crate) fn heard<S: Source>(alloc: Global, source: &mut S) -> Result<String, VectorError> {
     let mut buffer = [0; 64];
     match source.read(&mut buffer) {
         ReadAnswer::Got(len) => {

@@ -6,6 +6,7 @@
 //! The modules say which lines there are.
 #![tactic(auto)]
 
+mod answers;
 mod devices;
 mod folder;
 mod links;
@@ -47,6 +48,8 @@ fn answer<R: System>(
         "open" => links::open(system, alloc, rest),
         "talk" => links::talk(system, alloc, rest),
         "leave" => links::leave(system, alloc, rest),
+        "keep" => answers::keep(system, alloc, rest),
+        "ring" => answers::ring(system, alloc, rest),
         "patient" => links::patient(alloc),
         "clock" => devices::clock(alloc, rest),
         "now" => devices::now(system, alloc),

@@ -15,7 +15,7 @@ use Rattle.portal_model.proofs.TripleOrder.{is_same-eq, is_same-refl}
 use Rattle.portal_model.specs.Valid.{same_entry}
 use Rattle.permission_table.specs.Tables.{AreEntries, IsFormer, IsHeld, restored}
 
-place-is : (b : Bool) (n i : ℕ) → cond b (Some n) None ≡ Some i → i ≡ n
+pub place-is : (b : Bool) (n i : ℕ) → cond b (Some n) None ≡ Some i → i ≡ n
 place-is true n i e = cc
 place-is false n i e = cc
 
@@ -52,6 +52,9 @@ module _ {X : Type 0} (test : X → Bool) where
   found-at xs i x e g =
       sym g ∙ (ap (slice_get xs) (place-is (nat_lt (position_or_len test xs) (length xs)) (position_or_len test xs) i e) ∙ sym (find_at test xs))
 
+  pub found-by-place : (xs : List X) (i : ℕ) → position test xs ≡ Some i → slice_get xs i ≡ find test xs
+  found-by-place xs i e = ap (slice_get xs) (place-is (nat_lt (position_or_len test xs) (length xs)) (position_or_len test xs) i e) ∙ sym (find_at test xs)
+
   pub place-within : (xs : List X) (i : ℕ) → position test xs ≡ Some i → i < length xs
   place-within xs i e = within (nat_lt (position_or_len test xs) (length xs)) (position_or_len test xs) (length xs) i refl e
 
@@ -82,7 +85,7 @@ module _ {X : Type 0} (test : X → Bool) where
 
 -- ---- entries of a table and an identifier
 
-is-of : (table id : List ℕ) (e : StoredEntry) → is_entry_of table id e ≡ true → (e.table ≡ table) × (e.id ≡ id)
+pub is-of : (table id : List ℕ) (e : StoredEntry) → is_entry_of table id e ≡ true → (e.table ≡ table) × (e.id ≡ id)
 is-of table id e h = let t : is_same e.table table ≡ true = grind arith in let i : is_same e.id id ≡ true = grind arith in (is_same-eq e.table table t, is_same-eq e.id id i)
 
 of-itself : (e : StoredEntry) → is_entry_of e.table e.id e ≡ true

@@ -3,10 +3,11 @@ pub mod SortedIds
 pub mod FirstPassing
 pub mod KeptEntries
 pub mod RowLemmas
-pub mod EndLemmas
-pub mod ChangedHeader
 pub mod SoundEntries
 pub mod TakenBack
 pub mod RowLaws
 pub mod StableRows
 pub mod HeldRecords
+pub mod IndexPlaces
+pub mod PlacesRise
+pub mod IndexedLists

@@ -120,6 +120,6 @@ put-next stored rows rest x e = ap (put_each stored) (sym e)
 pub rising-next : (stored : List Row) (x : Row) → is_rising row_less stored ≡ true → is_rising row_less (put row_less x stored) ≡ true
 rising-next stored x h = rising-put bytes_less is_same (λ (r : Row). r.app) bytes x stored h
 
-pub nothing_left : (rows : List Row) → length rows ≡ 0 → rows ≡ []
+pub nothing_left : {X : Type 0} (rows : List X) → length rows ≡ 0 → rows ≡ []
 nothing_left [] e = refl
 nothing_left (x ∷ xs) e = absurd (omega arith)

@@ -1,3 +1,3 @@
 pub mod Keys
 pub mod Tables
-pub mod Ends
+pub mod EntryIndex

@@ -1,12 +1,11 @@
-//! The entries of all tables, in order of creation.
+//! What becomes of one entry, and which identifiers a table has.
 
-ghost use Rattle.std.specs.Prelude.{◌≡◌, true, IfOk, OnOk, OnErr, MatchOption, option_copied};
-ghost use Rattle.std.specs.List.{position};
-ghost use Rattle.portal_model.specs.Store.{is_entry_of, entry_of, is_in_table, ids_of, put_entry, without_entry, change_of, has_row, entry_to_set, new_entry, with_permissions, without_permissions};
+ghost use Rattle.std.specs.Prelude.{◌≡◌, true, IfOk, option_copied};
+ghost use Rattle.portal_model.specs.Store.{is_in_table, ids_of, change_of, has_row, or_new, new_entry, with_permissions, without_permissions};
 ghost use Rattle.portal_model.specs.Ordered.{is_rising};
 ghost use Rattle.portal_model.specs.Rows.{row_less};
 ghost use Rattle.portal_model.specs.declared.store.StoreAnswer.TheVariants.{Entry};
-ghost use Rattle.permission_table.specs.Tables.{AreEntries, content_of, ids_in_table, restored};
+ghost use Rattle.permission_table.specs.Tables.{AreEntries, content_of, ids_in_table};
 
 use crate::ordered::sort;
 use crate::rows::{row_of, with_row, without_row};
@@ -18,33 +17,6 @@ use portal_model::records::Row;
 use portal_model::reply::Change;
 use portal_model::store::{StoreAnswer, StoredEntry, TableEntry};
 use std::alloc::Global;
-
-/// The entry of a table and an identifier.
-pub(crate) fn entry_of<'a>(
-    entries: &'a [StoredEntry],
-    table: &Text,
-    id: &Text,
-) -> Option<&'a StoredEntry>
-    ensures { option_copied result ≡ entry_of entries.now table.now id.now }
-{
-    entries.iter().find(|entry| is_entry_of(entry, table, id))
-}
-
-/// The place of the entry of a table and an identifier.
-pub(crate) fn place_of(entries: &[StoredEntry], table: &Text, id: &Text) -> Option<usize>
-    ensures { result ≡ position (is_entry_of table.now id.now) entries.now }
-{
-    entries
-        .iter()
-        .position(|entry| is_entry_of(entry, table, id))
-}
-
-/// Says whether an entry is of a table and an identifier.
-fn is_entry_of(entry: &StoredEntry, table: &Text, id: &Text) -> bool
-    ensures { result ≡ is_entry_of table.now id.now entry.now }
-{
-    entry.table == *table && entry.id == *id
-}
 
 /// The identifiers of a table, in byte order: of n entries in about n log n steps.
 pub(crate) fn ids_of(
@@ -94,18 +66,19 @@ pub(crate) fn answer_of(alloc: Global, entry: &StoredEntry) -> Result<StoreAnswe
     })
 }
 
-/// A copy of the entry of a call that sets something: with `create` a new one
-/// where there is none.
+/// A copy of the entry that was found for a call that sets something: with
+/// `create` a new one where there is none.
 pub(crate) fn entry_to_set(
     alloc: Global,
-    entries: &[StoredEntry],
+    found: Option<&StoredEntry>,
     create: bool,
     table: &Text,
     id: &Text,
 ) -> Result<Option<StoredEntry>, WantOfMemory>
-    ensures { IfOk result (λ found. found ≡ entry_to_set entries.now create table.now id.now) }
+    ensures { IfOk result (λ entry. entry
+        ≡ or_new create (new_entry table.now id.now) (option_copied found.entry)) }
 {
-    match entry_of(entries, table, id) {
+    match found {
         Some(entry) => Ok(Some(entry.replica(alloc)?)),
         None => {
             if !create {
@@ -218,52 +191,4 @@ pub(crate) fn change_of(deleted: bool, entry: StoredEntry) -> Change
         datum: entry.datum,
         rows: entry.rows,
     }
-}
-
-/// Puts an entry in place of that of its table and identifier, or else behind
-/// the others.
-pub(crate) fn put_entry(
-    entries: &mut Vec<StoredEntry>,
-    entry: StoredEntry,
-) -> Result<(), WantOfMemory>
-    ensures ok { OnOk result (entries.new.items ≡ put_entry entry entries.old.items) }
-    ensures err { OnErr result (entries.new.items ≡ entries.old.items) }
-{
-    match place_of(entries, &entry.table, &entry.id) {
-        Some(at) => entries[at] = entry,
-        None => entries.push(entry)?,
-    }
-    Ok(())
-}
-
-/// Takes the entry of a table and an identifier out.
-pub(crate) fn take_entry(
-    entries: &mut Vec<StoredEntry>,
-    table: &Text,
-    id: &Text,
-) -> Option<StoredEntry>
-    requires { AreEntries entries.old.items }
-    ensures entry { result ≡ entry_of entries.old.items table.now id.now }
-    ensures rest { entries.new.items ≡ without_entry table.now id.now entries.old.items }
-{
-    let at = place_of(entries, table, id)?;
-    Some(entries.remove(at))
-}
-
-/// Gives the entry of a table and an identifier the rows and data that it had,
-/// in its place.
-pub(crate) fn restore(entries: &mut Vec<StoredEntry>, table: &Text, id: &Text, former: TableEntry)
-    ensures { entries.new.items ≡ restored table.now id.now former entries.old.items }
-{
-    if let Some(at) = place_of(entries, table, id) {
-        restore_at(&mut entries[at], former);
-    }
-}
-
-/// Gives an entry the rows and data that it had.
-fn restore_at(entry: &mut StoredEntry, former: TableEntry)
-    ensures { entry.new ≡ record entry.old { rows = former.rows; datum = former.datum } }
-{
-    entry.rows = former.rows;
-    entry.datum = former.datum;
 }

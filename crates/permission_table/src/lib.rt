@@ -10,10 +10,11 @@
 //! | Room | Holds |
 //! |---|---|
 //! | `tables` | [`Tables`] with a method for each call |
-//! | `entries` | which entry is looked up, put in its place or taken out |
+//! | `indexed` | which entry is looked up, put in its place or taken out |
+//! | `index` | the places by which entries are found |
+//! | `entries` | what becomes of one entry, and which identifiers a table has |
 //! | `rows` | the rows of one entry |
 //! | `ordered` | lists in byte order of their keys |
-//! | `lengths`, `ends` | how long the signal is that tells of an entry |
 //! | `laws` | what is true of rows, of what can be told, of records, and of calls that are taken back |
 //!
 //! ```text
@@ -27,10 +28,10 @@
 //! limit are this project's own.
 #![tactic(auto)]
 
-mod ends;
 mod entries;
+mod index;
+mod indexed;
 pub mod laws;
-mod lengths;
 mod ordered;
 mod rows;
 mod tables;

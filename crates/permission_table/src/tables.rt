@@ -8,10 +8,10 @@ ghost use Rattle.portal_model.specs.Valid.{is_text};
 ghost use Rattle.permission_table.specs.Tables.{AreEntries, Gives, IsFormer, IsHeld, IsSound, IsSoundDatum, former_of, have_texts, put_back};
 
 use crate::entries::{
-    answer_of, change_of, content_of, entry_of, entry_to_set, has_row, ids_of, put_entry, restore,
-    take_entry, with_content, with_datum, with_permissions, without_permissions,
+    answer_of, change_of, content_of, entry_to_set, has_row, ids_of, with_content, with_datum,
+    with_permissions, without_permissions,
 };
-use crate::lengths::can_be_told;
+use crate::indexed::IndexedEntries;
 use crate::rows::{permissions_of, stored_rows};
 use portal_base::list::List;
 use portal_base::memory::{Replica, WantOfMemory};
@@ -21,6 +21,7 @@ use portal_model::records::Row;
 use portal_model::store::{StoreAnswer, StoreError, StoredEntry, TableEntry};
 use std::alloc::Global;
 use std::marker::Model;
+use store_data::can_be_told;
 
 /// The entries of all tables, in order of creation.
 ///
@@ -30,7 +31,7 @@ use std::marker::Model;
 #[derive(Drop)]
 pub struct Tables {
     alloc: Global,
-    entries: Vec<StoredEntry>,
+    entries: IndexedEntries,
 }
 
 impl Model for Tables {
@@ -43,9 +44,9 @@ impl Model for Tables {
 
     ghost coded = { Prim.hlevel (codes, e.the_row.coded) };
 
-    ghost view = { λ a. a.entries.items };
+    ghost view = { λ a. a.entries };
 
-    ghost invariant = { λ a. AreEntries a.entries.items };
+    ghost invariant = { λ a. AreEntries a.entries };
 }
 
 impl Tables {
@@ -55,19 +56,19 @@ impl Tables {
     {
         Tables {
             alloc,
-            entries: Vec::new(alloc),
+            entries: IndexedEntries::new(alloc),
         }
     }
 
     /// The tables of these entries, in order of creation.
-    pub fn with_entries(alloc: Global, entries: List<StoredEntry>) -> Tables
+    pub fn with_entries(alloc: Global, entries: List<StoredEntry>) -> Result<Tables, WantOfMemory>
         requires { AreEntries entries }
-        ensures { result ≡ entries }
+        ensures { IfOk result (λ tables. tables ≡ entries) }
     {
-        Tables {
+        Ok(Tables {
             alloc,
-            entries: entries.into_vec(),
-        }
+            entries: IndexedEntries::of(alloc, entries)?,
+        })
     }
 
     /// All entries, in order of creation. They differ in table or identifier, and
@@ -84,7 +85,7 @@ impl Tables {
     pub fn lookup(&self, table: &Text, id: &Text) -> Result<StoreAnswer, StoreError>
         ensures { Gives (lookup self.now table.now id.now) self.now self.now result }
     {
-        match entry_of(&self.entries, table, id) {
+        match self.entries.find(table, id) {
             Some(entry) => Ok(answer_of(self.alloc, entry)?),
             None => Err(StoreError::NotFound),
         }
@@ -110,7 +111,8 @@ impl Tables {
         ensures { Gives (set self.old table.now create id.now rows.now datum.now) self.old self.new
             result }
     {
-        let Some(entry) = entry_to_set(self.alloc, &self.entries, create, table, id)? else {
+        let found = self.entries.find(table, id);
+        let Some(entry) = entry_to_set(self.alloc, found, create, table, id)? else {
             return Err(StoreError::NotFound);
         };
         let rows = stored_rows(self.alloc, rows.as_slice())?;
@@ -124,7 +126,7 @@ impl Tables {
         ensures done { Gives (delete self.old table.now id.now) self.old self.new result }
         ensures refused { IfErr result (λ error. error ≡ NotFound) }
     {
-        let Some(entry) = take_entry(&mut self.entries, table, id) else {
+        let Some(entry) = self.entries.take(table, id) else {
             return Err(StoreError::NotFound);
         };
         Ok(StoreAnswer::Done(change_of(true, entry)))
@@ -145,7 +147,8 @@ impl Tables {
         ensures { Gives (set_value self.old table.now create id.now datum.now) self.old self.new
             result }
     {
-        let Some(entry) = entry_to_set(self.alloc, &self.entries, create, table, id)? else {
+        let found = self.entries.find(table, id);
+        let Some(entry) = entry_to_set(self.alloc, found, create, table, id)? else {
             return Err(StoreError::NotFound);
         };
         let datum = datum.replica(self.alloc)?;
@@ -170,7 +173,8 @@ impl Tables {
         ensures { Gives (set_permission self.old table.now create id.now app.now names.now)
             self.old self.new result }
     {
-        let Some(entry) = entry_to_set(self.alloc, &self.entries, create, table, id)? else {
+        let found = self.entries.find(table, id);
+        let Some(entry) = entry_to_set(self.alloc, found, create, table, id)? else {
             return Err(StoreError::NotFound);
         };
         let entry = with_permissions(self.alloc, entry, app, names)?;
@@ -188,7 +192,7 @@ impl Tables {
         ensures { Gives (delete_permission self.old table.now id.now app.now) self.old self.new
             result }
     {
-        let Some(entry) = entry_of(&self.entries, table, id) else {
+        let Some(entry) = self.entries.find(table, id) else {
             return Err(StoreError::NotFound);
         };
         if !has_row(entry, app) {
@@ -211,7 +215,7 @@ impl Tables {
         ensures { Gives (get_permission self.now table.now id.now app.now) self.now self.now
             result }
     {
-        match entry_of(&self.entries, table, id) {
+        match self.entries.find(table, id) {
             Some(entry) => {
                 let names = permissions_of(self.alloc, entry.rows.as_slice(), app)?;
                 Ok(StoreAnswer::Names(names))
@@ -225,7 +229,7 @@ impl Tables {
     pub fn list(&self, table: &Text) -> Result<StoreAnswer, StoreError>
         ensures { Gives (list self.now table.now) self.now self.now result }
     {
-        let ids = ids_of(self.alloc, &self.entries, table)?;
+        let ids = ids_of(self.alloc, self.entries.as_slice(), table)?;
         Ok(StoreAnswer::Names(ids))
     }
 
@@ -235,7 +239,7 @@ impl Tables {
         ensures former { IfOk result (λ former. former ≡ former_of self.now table.now id.now) }
         ensures held { IfOk result (λ former. IfSome former (IsFormer table.now id.now)) }
     {
-        match entry_of(&self.entries, table, id) {
+        match self.entries.find(table, id) {
             Some(entry) => Ok(Some(content_of(self.alloc, entry)?)),
             None => Ok(None),
         }
@@ -251,9 +255,9 @@ impl Tables {
         // It isn't asked that the entry is there, or was made last: what is there gets its former
         // content in its place, or goes.
         match former {
-            Some(former) => restore(&mut self.entries, table, id, former),
+            Some(former) => self.entries.restore(table, id, former),
             None => {
-                take_entry(&mut self.entries, table, id);
+                self.entries.take(table, id);
             }
         }
     }
@@ -277,7 +281,7 @@ impl Tables {
         ensures { Gives (becomes entry self.old) self.old self.new result }
     {
         let change = change_of(false, entry.replica(self.alloc)?);
-        put_entry(&mut self.entries, entry)?;
+        self.entries.put(entry)?;
         Ok(StoreAnswer::Done(change))
     }
 }

@@ -9,6 +9,7 @@
 //! | Room | Holds |
 //! |---|---|
 //! | `start` | [`start::load`], [`start::lists_of_opening`], and why a portal doesn't start |
+//! | `copies` | copies of lists, for each of which room is taken once |
 //! | `opening` | the opening state that records stand for |
 //! | `laws` | that records of both versions open alike |
 //! | `renewed` | [`renewed::opening_of`]: the opening state that lists stand for |
@@ -20,6 +21,7 @@
 //! `docs/database.md` says what the records are.
 #![tactic(auto)]
 
+mod copies;
 pub mod laws;
 mod opening;
 pub mod renewed;

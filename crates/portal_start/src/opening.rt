@@ -91,12 +91,13 @@ fn names_of(alloc: Global, items: &[DocRecord]) -> Result<List<AppId>, WantOfMem
 fn persistent(alloc: Global, items: List<DocRecord>) -> Result<List<OpeningDocument>, WantOfMemory>
     ensures { IfOk result (λ documents. documents ≡ map document_loaded items) }
 {
-    let mut documents = List::new(alloc);
-    for kept in items.into_vec() {
+    let items = items.into_vec();
+    let mut documents = Vec::with_capacity(alloc, items.len())?;
+    for kept in items {
         documents.push(OpeningDocument {
             kept,
             persistent: true,
         })?;
     }
-    Ok(documents)
+    Ok(List::from_vec(documents))
 }

@@ -5,11 +5,12 @@ ghost use Rattle.std.specs.List.{list_all};
 ghost use Rattle.portal_model.specs.Rows.{are_rows};
 ghost use Rattle.portal_start.specs.Renewed.{document_again, opening_of};
 
+use crate::copies::{copies, copies_of_entries};
 use document_records::{Applications, Documents, Grants};
 use permission_table::Tables;
 use portal_base::limits::Limits;
 use portal_base::list::List;
-use portal_base::memory::{Replica, WantOfMemory};
+use portal_base::memory::WantOfMemory;
 use portal_model::opening::{OpeningDocument, OpeningState};
 use portal_model::records::DocRecord;
 use portal_model::state::Document;
@@ -34,7 +35,7 @@ pub fn opening_of(
         documents: documents_again(alloc, documents.live(), rights)?,
         made: copies(alloc, documents.made())?,
         applications: copies(alloc, applications.names())?,
-        entries: copies(alloc, tables.entries())?,
+        entries: copies_of_entries(alloc, tables.entries())?,
         files: List::new(alloc),
     })
 }
@@ -73,15 +74,4 @@ fn document_again(
         kept,
         persistent: document.persistent,
     })
-}
-
-/// A list of copies of these items.
-fn copies<T: Replica>(alloc: Global, items: &[T]) -> Result<List<T>, WantOfMemory>
-    ensures { IfOk result (λ copies. copies ≡ items.now) }
-{
-    let mut copies = List::new(alloc);
-    for item in items {
-        copies.push(item.replica(alloc)?)?;
-    }
-    Ok(copies)
 }

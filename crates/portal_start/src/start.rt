@@ -10,13 +10,14 @@ ghost use Rattle.record_keeper.specs.BadRecords.{AreGood};
 ghost use Rattle.record_keeper.specs.Keepers.{Applies};
 ghost use Rattle.record_keeper.specs.declared.keeper.KeeperDone.TheVariants.{Done};
 
+use crate::copies::copies_of_entries;
 use crate::opening;
 use document_records::{Applications, Documents, Grants};
 use permission_table::Tables;
 use permission_table::laws::valid_entries_are_held;
 use portal_base::limits::Limits;
 use portal_base::list::List;
-use portal_base::memory::{Replica, WantOfMemory};
+use portal_base::memory::WantOfMemory;
 use portal_model::opening::OpeningState;
 use portal_model::records::{RecordChange, Records};
 use record_keeper::laws::good_records_keep_good_entries;
@@ -186,9 +187,9 @@ pub fn lists_of_opening(alloc: Global, opening: OpeningState) -> Result<Lists, W
         alloc,
         opening.applications.as_slice(),
     )?;
-    let entries = opening.entries.replica(alloc)?;
+    let entries = copies_of_entries(alloc, opening.entries.as_slice())?;
     valid_entries_are_held();
-    let tables = Tables::with_entries(alloc, entries);
+    let tables = Tables::with_entries(alloc, entries)?;
     Ok(Lists {
         opening,
         documents,

@@ -16,7 +16,7 @@ use Rattle.portal_model.specs.declared.records.Row.{Row}
 use Rattle.portal_model.specs.declared.store.StoredEntry.{StoredEntry}
 use Rattle.record_keeper.specs.BadRecords.{AllGood, EachBehind, IsGoodEntry}
 use Rattle.record_keeper.specs.KeptEntries.{KeepEntries}
-use Rattle.record_keeper.specs.SoundRecords.{IsRising, IsSoundEntry, is_empty_row}
+use Rattle.record_keeper.specs.SoundRecords.{IsRising, is_empty_row}
 
 -- ---- items that are good behind those before them
 

@@ -1,5 +1,5 @@
 -- Which of kept records is bad: what a portal doesn't open with.
-use Rattle.std.specs.Prelude.{◌≡◌, ◌≢◌, ◌⊎◌, ℕ, ◌+◌, ◌<◌, ◌≤◌, false, List, [], ◌∷◌, ◌++◌, length, map, Option, None, Some}
+use Rattle.std.specs.Prelude.{◌≡◌, ◌⊎◌, ℕ, ◌+◌, ◌<◌, ◌≤◌, false, List, [], ◌∷◌, ◌++◌, length, map, Option, None, Some}
 use Rattle.std.specs.List.{list_any}
 use Rattle.portal_base.specs.declared.limits.Limits.{Limits}
 use Rattle.portal_model.specs.Opening.{each, first_named}

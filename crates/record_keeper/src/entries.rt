@@ -24,11 +24,13 @@ pub fn kept_entries(
     requires { All IsValidEntry records }
     ensures { IfOk result (KeepEntries records) }
 {
-    let mut entries = List::new(alloc);
-    for kept in records.into_vec() {
+    let records = records.into_vec();
+    // Room is taken once: a list that grows has up to twice as much.
+    let mut entries = Vec::with_capacity(alloc, records.len())?;
+    for kept in records {
         entries.push(kept_entry(alloc, kept)?)?;
     }
-    Ok(entries)
+    Ok(List::from_vec(entries))
 }
 
 /// The entry that a record keeps.

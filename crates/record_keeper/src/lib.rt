@@ -16,7 +16,6 @@
 //! | `changes` | what each change does to records |
 //! | `sound`, `datum` | which entries may be kept, and the value of one |
 //! | `entries` | the entries that records keep: [`kept_entries`] |
-//! | `changed_signal` | how long the message is that tells of an entry |
 //! | `sound_document` | which documents may be kept |
 //! | `fault` | what is wrong with kept records: [`records_fault`] |
 //! | `earlier` | what that check keeps of the records that it has passed |
@@ -31,7 +30,6 @@
 //! ```
 #![tactic(auto)]
 
-mod changed_signal;
 mod changes;
 mod datum;
 mod earlier;

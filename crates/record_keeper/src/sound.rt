@@ -7,7 +7,6 @@ ghost use Rattle.portal_model.specs.Changed.{HasDatum};
 ghost use Rattle.portal_model.specs.Valid.{has_texts as row_has_texts, is_text};
 ghost use Rattle.record_keeper.specs.SoundRecords.{IsSoundEntry, has_entry_texts as has_texts, is_empty_row as is_empty};
 
-use crate::changed_signal::message_length;
 use crate::datum::read_datum;
 use crate::keys::keys_rise;
 use dbus_marshal::write::one_spelling;
@@ -15,9 +14,7 @@ use portal_base::memory::WantOfMemory;
 use portal_base::text::{Text, has_no_zero};
 use portal_model::records::{EntryRecord, Row};
 use std::alloc::Global;
-
-/// The longest message of a connection, in bytes.
-const LONGEST_MESSAGE: usize = 16_777_216;
+use store_data::record_can_be_told;
 
 /// Whether an entry may be kept, as far as that depends on it alone: its texts
 /// have no zero byte, its table isn't `documents`, its rows stand in rising
@@ -94,5 +91,5 @@ fn has_datum(alloc: Global, entry: &EntryRecord) -> Result<bool, WantOfMemory>
         return Ok(false);
     };
     one_spelling();
-    Ok(message_length(alloc, entry, datum)? <= LONGEST_MESSAGE)
+    Ok(record_can_be_told(entry, &datum))
 }

@@ -3,15 +3,20 @@ use Rattle.std.proofs.Common.{◌≡◌, inl, inr, ℕ, ◌≤◌, List, [], ◌
 use Rattle.std.specs.Prelude.{slice_get}
 use Rattle.std.proofs.lemmas.Bool.Decides.{nat_tests}
 use Rattle.std.proofs.lemmas.List.{append_assoc, append_cancel_left, map-append}
+use Rattle.portal_base.specs.declared.who.Who.{Who}
 use Rattle.portal_model.specs.declared.entry.Entry.{Entry}
 use Rattle.portal_model.specs.declared.reply.Refused.{Refused}
+use Rattle.portal_model.specs.declared.reply.Reply.{Reply}
 use Rattle.portal_model.specs.declared.reply.Refused.TheVariants as refused
 use Rattle.portal_model.specs.History.{Legal, makes, of_seat, replies, run}
 use Rattle.portal_desk.specs.Knowing.{Known}
 use Rattle.portal_model.specs.Seated.{BeginsWith, Binding, Exchange, Seated, bound, bound_by, is_open, state_seen}
 use Rattle.portal_model.specs.State.{State, connection_of}
 use Rattle.portal_model.specs.Step.{reply_at}
+use Rattle.portal_model.specs.Alike.{Alike}
 use Rattle.app_world.specs.World.{app_run, trace}
+use Rattle.served_world.specs.ServedWorld.{served_run, served_trace}
+use Rattle.served_world.proofs.ServedHistories.{isolated as by_looks}
 use Rattle.portal_model.proofs.Histories.{of_seat-append, run-append}
 use Rattle.portal_model.proofs.SeatLaws.{begins-between, exchanges-entries, run-bound}
 use Rattle.session.specs.declared.act.Act.{Act}
@@ -24,7 +29,7 @@ use Rattle.session.specs.Asked.{asked_by, requests_of}
 use Rattle.session.specs.Connections.{Answered, Enclosed, Encloses, EndsAs, Front, Half, IsRefused, Serves, Whole, between}
 use Rattle.session.specs.Cuts.{first_phase}
 use Rattle.session.specs.Hearing.{IsHeard}
-use Rattle.session.specs.Isolation.{IsIsolated}
+use Rattle.session.specs.Isolation.{IsIsolated, IsServed, IsServedByLooks}
 use Rattle.session.specs.Items.{AreItems, phase_after}
 use Rattle.session.specs.Ledger.{Grew, World}
 use Rattle.session.specs.Pumps.{Spring}
@@ -157,13 +162,26 @@ own_one c v w front after e a b (os, g, enclosed) closed seen long own =
     let parts : BeginsWith front v.seen = front_after v w front after e os g seen long in
     own_at c v w os front parts.0 after e a b g enclosed closed parts.1 seen own
 
-pub isolated : (c : Client) (v w : Seated) → Known v → Known w → Connects c v w → is_open (state_seen v) v.seat ≡ false → IsIsolated c.who v w
-isolated c v w a b connects closed app who told front after e seen long own =
+-- an entry of the connection is made by the client that is an application
+made_own : (c : Client) (v w : Seated) (app : List ℕ) (front after : List Entry) (e : Entry) → Known v → Known w → Connects c v w → is_open (state_seen v) v.seat ≡ false → c.who ≡ Who.App app
+    → w.seen ≡ front ++ e ∷ after → length v.seen ≤ length front → e.seat ≡ w.seat → makes app (run w.opening front) e ≡ true
+made_own c v w app front after e a b connects closed who seen long own =
     let o = own_one c v w front after e a b connects closed seen long own in
-    let maker : makes app (run w.opening front) e ≡ true =
-    made_by_bound app (connection_of (run w.opening front).connections e.seat) e.request (subst (λ (z : Option Binding). IsMakers app z e.request) (sym o.bound_is) (makers app c o.here e.request who o.asked)) in
+    made_by_bound app (connection_of (run w.opening front).connections e.seat) e.request (subst (λ (z : Option Binding). IsMakers app z e.request) (sym o.bound_is) (makers app c o.here e.request who o.asked))
+
+served_told : (c : Client) (v w : Seated) → Known v → Known w → Connects c v w → is_open (state_seen v) v.seat ≡ false → (app : List ℕ) → c.who ≡ Who.App app → w.opening.told ≡ true → IsServed app v w
+served_told c v w a b connects closed app who told front after e seen long own =
     subst (λ (h : List Entry). slice_get (app_run (trace app w.opening h)) (length (replies app w.opening front)) ≡ Some (reply_at (run w.opening front) e)) (sym seen)
-    (served_at app w.opening front after e told (subst (Legal w.opening) seen b.legal) maker)
+    (served_at app w.opening front after e told (subst (Legal w.opening) seen b.legal) (made_own c v w app front after e a b connects closed who seen long own))
+
+served_by_looks : (c : Client) (v w : Seated) → Known v → Known w → Connects c v w → is_open (state_seen v) v.seat ≡ false → (app : List ℕ) → c.who ≡ Who.App app → IsServedByLooks app v w
+served_by_looks c v w a b connects closed app who front after e seen long own =
+    subst (λ (h : List Entry). (mine : Reply) × (slice_get (served_run (served_trace app w.opening h)) (length (replies app w.opening front)) ≡ Some mine)
+    × ((given : Reply) → Alike w.opening.told e.request (reply_at (run w.opening front) e) given → Alike false e.request mine given)) (sym seen)
+    (by_looks.place app w.opening front after e (subst (Legal w.opening) seen b.legal) (made_own c v w app front after e a b connects closed who seen long own))
+
+pub isolated : (c : Client) (v w : Seated) → Known v → Known w → Connects c v w → is_open (state_seen v) v.seat ≡ false → IsIsolated c.who v w
+isolated c v w a b connects closed app who = (served_told c v w a b connects closed app who, served_by_looks c v w a b connects closed app who)
 
 pub heard : (c : Client) (v w : Seated) → Known v → Known w → Connects c v w → is_open (state_seen v) v.seat ≡ false → IsHeard v w
 heard c v w a b connects closed front after e seen long own =

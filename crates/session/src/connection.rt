@@ -99,8 +99,8 @@ pub fn serve_connection<D: Desk, S: Source, K: Sink>(
     // node has an answer that a frame tells, one on documents isn't answered
     // `NotHere`, and any other is done.
     ensures heard { IsHeard (D.seated desk.old) (D.seated desk.new) }
-    // What an application is replied is a function of its trace, over a tree
-    // that tells its files.
+    // What an application is replied is a function of its trace: over a tree that
+    // tells its files of what these have, and over any but for what a READ shows.
     ensures isolated { IsIsolated who.now (D.seated desk.old) (D.seated desk.new) }
     ensures goes { D.goes desk.old desk.new }
 {

@@ -1,5 +1,5 @@
 -- Data that a walk has passed is spelled, and data that breaks a rule is not.
-use Rattle.std.proofs.Common.{◌≡◌, ℕ, ◌+◌, ◌-◌, ◌<◌, ◌≤◌, ◌^◌, min, nat_le, List, length, Bool, true, false, not, ◌&&◌, cond, Option, None, Some, refl, sym, ap, subst, ◌∙◌, arith}
+use Rattle.std.proofs.Common.{◌≡◌, ℕ, ◌+◌, ◌-◌, ◌<◌, ◌≤◌, ◌^◌, min, nat_le, length, Bool, true, false, ◌&&◌, cond, Option, None, Some, refl, sym, ap, subst, ◌∙◌, arith}
 use Rattle.std.specs.Prelude.{MatchOption, is_some, unwrap_or}
 use Rattle.std.proofs.lemmas.Bool.Decides.{nat_tests}
 use Rattle.dbus_types.specs.declared.types.Endian.TheVariants.{Little}
@@ -10,12 +10,11 @@ use Rattle.dbus_values.specs.Spelling.{spelled_length, spelling}
 use Rattle.dbus_types.specs.Types.{IsVariantType}
 use Rattle.dbus_values.specs.Values.{KeepsRules, nesting, type_of}
 use Rattle.dbus_marshal.proofs.SpelledKeepsRules.{spelled_keeps}
-use Rattle.portal_model.specs.Changed.{holds_handle}
-use Rattle.portal_model.specs.Data.{data_bytes, is_data, is_spelled, is_variant_type, judged}
+use Rattle.portal_model.specs.Data.{data_bytes, is_spelled, is_variant_type, judged}
 use Rattle.portal_model.proofs.DataLaws.{at_most, kept-spells, no_more, variant_is}
 use Rattle.portal_model.proofs.DocumentChanges.{both, first_of_both, second_of_both}
 use Rattle.store_data.specs.declared.walk.Walk.{Walk}
-use Rattle.store_data.specs.Walks.{Passes, Stands}
+use Rattle.store_data.specs.Walks.{Passes}
 use Rattle.store_data.proofs.WalkedParts.{first_fails, second_fails, signature_bytes, variant-test}
 
 nesting_variant : (x : Value) → nesting (V.Variant x) ≡ nesting x + 1

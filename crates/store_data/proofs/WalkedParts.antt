@@ -1,5 +1,5 @@
 -- Walks past values that hold others.
-use Rattle.std.proofs.Common.{◌≡◌, ℕ, zero, suc, ◌+◌, ◌-◌, ◌%◌, ◌<◌, ◌≤◌, ◌^◌, ◌↔◌, nat_le, nat_lt, List, [], ◌∷◌, ◌++◌, length, map, drop, get_or, Bool, true, false, not, ◌&&◌, Option, None, Some, refl, sym, ap, subst, ◌∙◌, arith}
+use Rattle.std.proofs.Common.{◌≡◌, ℕ, zero, suc, ◌+◌, ◌%◌, ◌<◌, ◌≤◌, ◌^◌, ◌↔◌, nat_le, nat_lt, List, [], ◌∷◌, ◌++◌, length, map, drop, get_or, Bool, true, false, not, ◌&&◌, Option, Some, refl, sym, ap, subst, ◌∙◌, arith}
 use Rattle.std.specs.Prelude.{All, IsTrue}
 use Rattle.std.specs.Int.{w8, w32, to_le_bytes}
 use Rattle.std.specs.List.{list_all}

@@ -5,6 +5,7 @@ use libc::types::pollfd;
 use std::io;
 use std::io::{PipeReader, PipeWriter, Read, Write};
 use std::os::fd::{AsRawFd, RawFd};
+use std::sync::atomic::{AtomicBool, Ordering};
 
 /// A bell that is heard by any number of threads while they wait for a client. It rings until
 /// it is stilled.
@@ -15,6 +16,8 @@ pub struct Bell {
     // There is a byte in the pipe while it rings, which ends each poll(2).
     ears: PipeReader,
     rope: PipeWriter,
+    // So that whoever needn't wait hears it without a system call.
+    rings: AtomicBool,
 }
 
 /// What ended a wait: one of both, or both, or neither where a signal came.
@@ -30,11 +33,17 @@ impl Bell {
     /// A bell that is still.
     pub fn new(system: &HostRuntime) -> io::Result<Bell> {
         let (ears, rope) = io::pipe(system)?;
-        Ok(Bell { ears, rope })
+        Ok(Bell {
+            ears,
+            rope,
+            rings: AtomicBool::new(false),
+        })
     }
 
     /// Begins to ring. It has to be still.
     pub fn ring(&self) {
+        // Ahead of the byte: whoever that wakes finds that it rings.
+        self.rings.store(true, Ordering::SeqCst);
         // A pipe that is empty takes a byte at once.
         let _ = (&self.rope).write(&[0]);
     }
@@ -42,6 +51,12 @@ impl Bell {
     /// Stops ringing. It has to ring, or this waits until it does.
     pub fn still(&self) {
         let _ = (&self.ears).read(&mut [0]);
+        self.rings.store(false, Ordering::SeqCst);
+    }
+
+    /// Whether it rings.
+    pub(crate) fn rings(&self) -> bool {
+        self.rings.load(Ordering::SeqCst)
     }
 
     /// Waits until a descriptor is ready for such events or the bell rings.

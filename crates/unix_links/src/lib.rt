@@ -11,7 +11,7 @@
 //! | `listener` | [`SocketListener`], whose links are connections to a socket, and [`Watch`], who is told what it meets |
 //! | `bell` | [`Bell`], at which links end, and listeners give links of the program's own |
 //! | `link` | [`LinkReader`] and [`LinkWriter`], the ends of a link |
-//! | `half` | [`Half`], by which both ends of a client's link share one descriptor |
+//! | `client` | [`ClientReader`] and [`ClientWriter`], the ends of a client's link, which share its connection and the answers that weren't sent yet |
 //! | `patient` | [`Patient`], a reader that is called again where it is interrupted |
 //! | `error` | why a socket can't stand somewhere |
 //!
@@ -26,17 +26,17 @@
 #![tactic(auto)]
 
 mod bell;
+mod client;
 mod error;
 mod folder;
-mod half;
 mod link;
 mod listener;
 mod patient;
 
 pub use bell::Bell;
+pub use client::{ClientReader, ClientWriter};
 pub use error::BindError;
 pub use folder::SocketFolder;
-pub use half::Half;
 pub use link::{LinkReader, LinkWriter};
 pub use listener::{SocketListener, Watch};
 pub use patient::Patient;

@@ -1,6 +1,6 @@
 //! The two ends of a link: a client's, or one of the program's own.
 
-use crate::half::Half;
+use crate::client::{ClientReader, ClientWriter};
 use crate::listener::Watch;
 use crate::patient::Patient;
 use std::io;
@@ -10,7 +10,7 @@ use std::io::{Read, Write};
 #[derive(Drop)]
 pub enum LinkReader<'a, W> {
     /// From a client.
-    Client(Patient<Half<'a>>),
+    Client(Patient<ClientReader<'a>>),
     /// From the watch.
     Watch(&'a W),
     /// From nowhere: it ends at once.
@@ -31,7 +31,7 @@ impl<'a, W: Watch> Read for LinkReader<'a, W> {
 #[derive(Drop)]
 pub enum LinkWriter<'a> {
     /// To a client.
-    Client(Half<'a>),
+    Client(ClientWriter<'a>),
     /// To nobody.
     Nobody,
 }

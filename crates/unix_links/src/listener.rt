@@ -3,7 +3,7 @@
 ghost use Rattle.std.specs.Prelude.{◌≡◌, IfOk};
 
 use crate::bell::Bell;
-use crate::half::Half;
+use crate::client::{Ends, ends};
 use crate::link::{LinkReader, LinkWriter};
 use crate::patient::Patient;
 use libc::net::POLLIN;
@@ -120,7 +120,7 @@ impl<'a, W: Watch> SocketListener<'a, W> {
     }
 
     /// Both ends of the next connection, or none where the bell rings.
-    fn next_ends(&mut self, alloc: Global) -> io::Result<Option<(Half<'a>, Half<'a>)>>
+    fn next_ends(&mut self, alloc: Global) -> io::Result<Option<Ends<'a>>>
         ensures { self.new ≡ self.old }
     {
         if self.spare.is_none() {
@@ -130,11 +130,11 @@ impl<'a, W: Watch> SocketListener<'a, W> {
             if self.bell.wait(self.socket.as_raw_fd(), POLLIN).is_rung {
                 return Ok(None);
             }
-            let ends = match self.socket.accept() {
-                Ok((stream, _)) => Half::both(alloc, stream, self.bell),
+            let accepted = match self.socket.accept() {
+                Ok((stream, _)) => ends(alloc, stream, self.bell),
                 Err(error) => Err(error),
             };
-            match ends {
+            match accepted {
                 Ok(ends) => return Ok(Some(ends)),
                 Err(error) => self.meet(error)?,
             }
@@ -143,7 +143,7 @@ impl<'a, W: Watch> SocketListener<'a, W> {
     }
 
     /// Both ends of a link of this client, or of the program's own.
-    fn ends_of(&self, client: Option<(Half<'a>, Half<'a>)>) -> (LinkReader<'a, W>, LinkWriter<'a>) {
+    fn ends_of(&self, client: Option<Ends<'a>>) -> (LinkReader<'a, W>, LinkWriter<'a>) {
         match client {
             Some((reader, writer)) => (
                 LinkReader::Client(Patient::new(reader)),

@@ -1,7 +1,7 @@
 use Rattle.std.proofs.Common.{◌≡◌, ◌∷◌, [], ◌∙◌, ap, sym, List, length, reverse, arith}
 use Rattle.std.specs.List.{filter}
 use Rattle.std.specs.Vec.Iter.{into_iter_items}
-use Rattle.portal_model.specs.Ordered.{is_rising, put, put_all}
+use Rattle.portal_model.specs.Ordered.{is_rising, put_all}
 use Rattle.portal_model.specs.Rows.{has_names, row_less}
 use Rattle.portal_model.specs.declared.records.Row.{Row}
 use Rattle.permission_table.proofs.StableRows.{all-put, nothing_left, put-next, put-sorted, put_each, rising-next}

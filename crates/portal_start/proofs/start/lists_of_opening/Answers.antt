@@ -34,8 +34,8 @@ applications-requires-clause-differ c = rw c.as_slice.ensures (c.requires.valid.
 pub applications-requires-clause-few : goal.applications-requires-clause-few
 applications-requires-clause-few c = rw c.as_slice.ensures (c.requires.valid.applications_within)
 
-pub with_entries-tables-requires : goal.with_entries-tables-requires
-with_entries-tables-requires c = rw (c.in_ok-entries.ensures) (c.valid_entries_are_held.ensures c.args.opening.entries c.requires.valid.entries_differ c.requires.valid.entries_sound c.requires.started.rows)
+pub with_entries-requires : goal.with_entries-requires
+with_entries-requires c = rw (c.in_ok-entries.ensures, c.as_slice-2.ensures) (c.valid_entries_are_held.ensures c.args.opening.entries c.requires.valid.entries_differ c.requires.valid.entries_sound c.requires.started.rows)
 
 pub returns-clause-lists : goal.returns-clause-lists
 returns-clause-lists c = record {
@@ -47,5 +47,5 @@ returns-clause-lists c = record {
   });
   rights = c.in_ok-rights.ensures ∙ ap rights_kept c.as_slice-items.ensures;
   applications = c.in_ok-applications.ensures ∙ c.as_slice.ensures;
-  tables = c.with_entries-tables.ensures ∙ c.in_ok-entries.ensures;
+  tables = c.in_ok-tables.ensures ∙ (c.in_ok-entries.ensures ∙ c.as_slice-2.ensures);
 }

@@ -11,7 +11,7 @@ use Rattle.record_keeper.proofs.entries.kept_entries.Goals as goal
 
 pub loop-kept-init : goal.loop-kept-init
 loop-kept-init c =
-    let gives : into_iter_items c.into_iter-kept-iterator.result ≡ c.args.records = c.into_iter-kept-iterator.ensures.into_iter_gives.0 ∙ c.into_vec-kept-items.ensures in
+    let gives : into_iter_items c.into_iter-kept-iterator.result ≡ c.args.records = c.into_iter-kept-iterator.ensures.into_iter_gives.0 ∙ c.into_vec-records.ensures in
     record {
       kept = search rules;
       valid = search rules;
@@ -30,11 +30,11 @@ loop-kept-preserved c =
     let entry = c.in_ok-kept_entry.field-0 in
     let rest = into_iter_items c.next.new.self in
     let steps : into_iter_items at.kept-iterator ≡ c.in-Some.kept ∷ rest = c.in-Some.ensures.steps.0 in
-    let so_far = ap (λ (rs : List EntryRecord). map record_of at.entries ++ rs) (sym steps) ∙ at.invariant.kept in
+    let so_far = ap (λ (rs : List EntryRecord). map record_of at.entries.items ++ rs) (sym steps) ∙ at.invariant.kept in
     record {
-      kept = ap (λ (es : Entries). map record_of es ++ rest) c.in_ok-push.ensures.ok
-          ∙ kept_more at.entries entry c.in-Some.kept rest _ so_far c.in_ok-kept_entry.ensures.kept;
-      valid = ap (list_all is_valid_entry) c.in_ok-push.ensures.ok ∙ valid_more at.entries entry at.invariant.valid c.in_ok-kept_entry.ensures.valid;
+      kept = ap (λ (es : Entries). map record_of es ++ rest) c.in_ok-push.ensures.items
+          ∙ kept_more at.entries.items entry c.in-Some.kept rest _ so_far c.in_ok-kept_entry.ensures.kept;
+      valid = ap (list_all is_valid_entry) c.in_ok-push.ensures.items ∙ valid_more at.entries.items entry at.invariant.valid c.in_ok-kept_entry.ensures.valid;
       sound = All-tail IsValidEntry c.in-Some.kept rest (subst (All IsValidEntry) steps at.invariant.sound);
       count =
           let was = at.invariant.count in
@@ -47,8 +47,11 @@ pub returns : goal.returns
 returns c =
     let at = c.loop-kept in
     let empty : into_iter_items at.kept-iterator ≡ [] = nothing_left _ (sym at.invariant.count ∙ c.in-None.ensures.steps.0) in
-    let all : into_iter_items at.kept-iterator ≡ [] → map record_of at.entries ≡ c.args.records =
-    λ e. sym (append-nil (map record_of at.entries))
-    ∙ (ap (λ (rs : List EntryRecord). map record_of at.entries ++ rs) (sym e)
-    ∙ (at.invariant.kept ∙ (c.into_iter-kept-iterator.ensures.into_iter_gives.0 ∙ c.into_vec-kept-items.ensures))) in
-    record { kept = all empty; valid = at.invariant.valid }
+    let all : into_iter_items at.kept-iterator ≡ [] → map record_of at.entries.items ≡ c.args.records =
+    λ e. sym (append-nil (map record_of at.entries.items))
+    ∙ (ap (λ (rs : List EntryRecord). map record_of at.entries.items ++ rs) (sym e)
+    ∙ (at.invariant.kept ∙ (c.into_iter-kept-iterator.ensures.into_iter_gives.0 ∙ c.into_vec-records.ensures))) in
+    record {
+      kept = ap (map record_of) c.from_vec.ensures ∙ all empty;
+      valid = ap (list_all is_valid_entry) c.from_vec.ensures ∙ at.invariant.valid;
+    }

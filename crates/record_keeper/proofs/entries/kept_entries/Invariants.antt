@@ -9,8 +9,8 @@ use Rattle.record_keeper.proofs.entries.kept_entries.Given as goal
 -- the entries so far are those of the first records, and the records to come have data
 abbrev pub invariant-loop-kept : goal.invariant-loop-kept
 invariant-loop-kept l = record {
-  kept : map record_of l.entries ++ into_iter_items l.kept-iterator ≡ into_iter_items l.initial.kept-iterator;
-  valid : list_all is_valid_entry l.entries ≡ true;
+  kept : map record_of l.entries.items ++ into_iter_items l.kept-iterator ≡ into_iter_items l.initial.kept-iterator;
+  valid : list_all is_valid_entry l.entries.items ≡ true;
   sound : All IsValidEntry (into_iter_items l.kept-iterator);
   count : into_iter_len l.kept-iterator ≡ length (into_iter_items l.kept-iterator);
 }

@@ -1,9 +1,7 @@
-use Rattle.std.proofs.Common.{◌≡◌, ◌+◌, None, Some, refl, arith, rules}
+use Rattle.std.proofs.Common.{◌+◌, None, Some, refl, arith, rules}
 use Rattle.dbus_types.specs.declared.types.Value.TheVariants as V
-use Rattle.dbus_values.specs.Spelling.{spelled_length}
 use Rattle.dbus_values.specs.Values.{KeepsRules}
-use Rattle.portal_model.specs.Data.{judged}
-use Rattle.store_data.proofs.SpelledData.{deep-breaks, none-counted, rules-break, walk-counts, walk-stops}
+use Rattle.store_data.proofs.SpelledData.{deep-breaks, rules-break, walk-counts, walk-stops}
 use Rattle.store_data.proofs.WalkedParts.{signature_bytes, variant-passes, variant-stops}
 use Rattle.store_data.proofs.data.spelled_bytes.Goals as goal
 

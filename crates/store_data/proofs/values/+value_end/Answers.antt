@@ -1,16 +1,12 @@
-use Rattle.std.proofs.Common.{◌≡◌, ◌+◌, ◌∙◌, ℕ, List, [], ◌∷◌, Bool, false, true, drop, get_or, map, nat_le, sym, ap, subst, arith, rules, refl}
-use Rattle.std.specs.Prelude.{All}
+use Rattle.std.proofs.Common.{◌≡◌, ◌+◌, ◌∙◌, List, drop, map, sym, ap, arith, rules, refl}
 use Rattle.dbus_types.specs.declared.types.Value.{Value}
 use Rattle.dbus_types.specs.declared.types.Value.TheVariants as V
-use Rattle.dbus_types.specs.declared.types.WireType.{WireType}
 use Rattle.dbus_values.specs.Spells.{gap}
 use Rattle.dbus_values.specs.Spelling.{spelled_length, spelled_lengths}
-use Rattle.dbus_types.specs.Types.{IsValidType}
-use Rattle.dbus_values.specs.Values.{type_of}
 use Rattle.portal_model.specs.Data.{all_keep, judged}
-use Rattle.store_data.specs.Walks.{Keeps, Passes, Stands, ahead_of_elements}
+use Rattle.store_data.specs.Walks.{Stands, ahead_of_elements}
 use Rattle.store_data.proofs.WalkedLeaves.{stands-at, stops}
-use Rattle.store_data.proofs.WalkedParts.{OnWay, array-parts, array-passes, array-stops, at-first, at-last, bytes-passes, bytes-so, entry-parts, entry-passes, entry-stops, item-keeps, items-keep, leaf-keeps, next-left, none-left, not-empty, one-on, one-stops, signature_bytes, struct-parts, struct-passes, struct-stops, variant-parts, variant-passes, variant-stops}
+use Rattle.store_data.proofs.WalkedParts.{array-parts, array-passes, array-stops, at-first, at-last, bytes-passes, bytes-so, entry-parts, entry-passes, entry-stops, item-keeps, items-keep, leaf-keeps, next-left, none-left, not-empty, one-on, one-stops, signature_bytes, struct-parts, struct-passes, struct-stops, variant-parts, variant-passes, variant-stops}
 use Rattle.store_data.proofs.values.+value_end.Goals as goal
 
 -- ---- a variant

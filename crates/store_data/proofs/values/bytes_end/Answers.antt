@@ -1,4 +1,4 @@
-use Rattle.std.proofs.Common.{◌≡◌, ◌+◌, arith}
+use Rattle.std.proofs.Common.{◌+◌, arith}
 use Rattle.dbus_values.specs.Spells.{gap}
 use Rattle.store_data.proofs.WalkedLeaves.{assoc, stands-at}
 use Rattle.store_data.proofs.WalkedParts.{long-body, short-body}

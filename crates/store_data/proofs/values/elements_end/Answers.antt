@@ -1,4 +1,4 @@
-use Rattle.std.proofs.Common.{◌≡◌, ◌+◌, ◌≤◌, ℕ, arith, ap}
+use Rattle.std.proofs.Common.{◌≡◌, ◌+◌, ℕ, arith, ap}
 use Rattle.store_data.proofs.WalkedLeaves.{stands-at}
 use Rattle.store_data.proofs.WalkedParts.{long-body, short-body}
 use Rattle.store_data.proofs.values.elements_end.Goals as goal

@@ -1,7 +1,4 @@
-use Rattle.std.proofs.Common.{◌+◌, ◌^◌, ◌∙◌, ap, length, nat_lt, subst, ℕ}
-use Rattle.dbus_types.specs.declared.types.Value.TheVariants as V
-use Rattle.dbus_values.specs.Spells.{gap}
-use Rattle.store_data.specs.Walks.{Passes}
+use Rattle.std.proofs.Common.{◌+◌}
 use Rattle.store_data.proofs.WalkedLeaves.{bool-passes, byte-passes, double-passes, handle-passes, i16-passes, i32-passes, i64-passes, path-passes, signature-is, str-passes, text-so, u16-passes, u32-passes, u64-passes}
 use Rattle.store_data.proofs.values.leaf_end.Goals as goal
 

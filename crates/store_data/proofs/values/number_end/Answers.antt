@@ -1,4 +1,4 @@
-use Rattle.std.proofs.Common.{◌≡◌, ◌+◌, arith}
+use Rattle.std.proofs.Common.{◌+◌}
 use Rattle.dbus_values.specs.Spells.{gap}
 use Rattle.store_data.proofs.WalkedLeaves.{assoc, stands-at}
 use Rattle.store_data.proofs.values.number_end.Goals as goal

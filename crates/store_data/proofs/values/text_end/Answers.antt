@@ -1,5 +1,4 @@
-use Rattle.std.proofs.Common.{◌≡◌, ◌+◌, arith}
-use Rattle.std.proofs.lemmas.Bool.Decides.{nat_tests}
+use Rattle.std.proofs.Common.{◌+◌, arith}
 use Rattle.dbus_values.specs.Spells.{gap}
 use Rattle.store_data.proofs.WalkedLeaves.{assoc, long, short, stands-at}
 use Rattle.store_data.proofs.values.text_end.Goals as goal

@@ -7,6 +7,7 @@ use Rattle.document_records.proofs.documents.Documents.ids.Goals as goal
 
 pub returns : goal.returns
 returns c =
-    let same : c.as_slice-document-items.result.now ≡ c.args.self.now.live = c.as_slice-document-items.ensures ∙ ap (λ (s : DocumentList). s.live) c.self.view_is in
+    let same : c.live-document-items.result.now ≡ c.args.self.now.live =
+    c.live-document-items.ensures.value ∙ ap (λ (s : DocumentList). s.live) c.self.view_is in
     let past : length c.args.self.now.live ≤ c.loop-document.document-index = subst (λ (ds : List Document). length ds ≤ c.loop-document.document-index) same c.loop-document-test.false in
     c.loop-document.invariant ∙ ap (λ (ds : List Document). map id_of_document ds) (take_all c.loop-document.document-index c.args.self.now.live past)

@@ -1,59 +1,24 @@
-use Rattle.std.proofs.Common.{◌≡◌, ◌∙◌, ap, sym, Some, None}
-use Rattle.std.specs.List.{position, find}
-use Rattle.document_records.specs.Documents.{DocumentList, has_number, without_document}
-use Rattle.document_records.proofs.DocumentLemmas.{not-found, not-there, found-at, removed-at, indexed-fewer, beside-at}
+use Rattle.std.proofs.Common.{◌∙◌, sym, subst}
+use Rattle.document_records.specs.DocumentIndex.{AreByPath}
+use Rattle.document_records.specs.Documents.{DocumentList}
+use Rattle.document_records.proofs.DocumentsByPath.{ids-differ, by-path-fewer, by-path-same}
 use Rattle.document_records.proofs.documents.Documents.remove.Goals as goal
-
-pub returns-in_err-at-clause-document : goal.returns-in_err-at-clause-document
-returns-in_err-at-clause-document c =
-    let none : position (has_number c.args.id.number) c.self.inside.live ≡ None =
-    ap (λ (s : DocumentList). position (has_number c.args.id.number) s.live) c.self.view_is ∙ (sym c.place_of.ensures ∙ c.in_err-at.was) in
-    c.from_residual.ensures
-    ∙ (sym (not-found (has_number c.args.id.number) c.self.inside.live none)
-    ∙ ap (λ (s : DocumentList). find (has_number c.args.id.number) s.live) c.self.view_is)
-
-pub returns-in_err-at-clause-rest : goal.returns-in_err-at-clause-rest
-returns-in_err-at-clause-rest c =
-    let none : position (has_number c.args.id.number) c.self.inside.live ≡ None =
-    ap (λ (s : DocumentList). position (has_number c.args.id.number) s.live) c.self.view_is ∙ (sym c.place_of.ensures ∙ c.in_err-at.was) in
-    sym c.self.view_is
-    ∙ ((λ i. record {
-      most_live = c.self.inside.most_live;
-      most_made = c.self.inside.most_made;
-      live = not-there (has_number c.args.id.number) c.self.inside.live none i;
-      made = c.self.inside.made;
-    })
-    ∙ ap (λ (s : DocumentList). without_document s c.args.id.number) c.self.view_is)
-
-pub remove-requires : goal.remove-requires
-remove-requires c =
-    let some : position (has_number c.args.id.number) c.self.inside.live ≡ Some c.in_ok-at.at =
-    ap (λ (s : DocumentList). position (has_number c.args.id.number) s.live) c.self.view_is ∙ (sym c.place_of.ensures ∙ c.in_ok-at.was) in
-    beside-at (has_number c.args.id.number) c.self.inside.places c.self.inside.live c.self.inside.live_places c.in_ok-at.at c.self.invariant.beside some
 
 pub invariant_of-self : goal.invariant_of-self
 invariant_of-self c =
-    let some : position (has_number c.args.id.number) c.self.inside.live ≡ Some c.in_ok-at.at =
-    ap (λ (s : DocumentList). position (has_number c.args.id.number) s.live) c.self.view_is ∙ (sym c.place_of.ensures ∙ c.in_ok-at.was) in
-    let left = removed-at c.args.id.number c.self.inside.live c.in_ok-at.at c.self.invariant.live_differ some in
-    rw (c.remove-2.ensures.rest, c.remove.ensures.rest, left)
-    (indexed-fewer c.self.inside.most_live c.self.inside.most_made c.self.inside.live c.self.inside.made c.self.inside.places c.self.inside.live_places c.args.id.number c.in_ok-at.at c.self.invariant left)
+    subst (λ (s : DocumentList). AreByPath s.live c.self.inside.by_path) (sym c.remove.ensures.rest)
+    (by-path-same c.self.inside.placed.live c.args.id.number c.self.inside.by_path
+    (sym c.remove.ensures.document ∙ c.in_err-document.was) c.self.invariant)
 
-pub returns-clause-document : goal.returns-clause-document
-returns-clause-document c =
-    let some : position (has_number c.args.id.number) c.self.inside.live ≡ Some c.in_ok-at.at =
-    ap (λ (s : DocumentList). position (has_number c.args.id.number) s.live) c.self.view_is ∙ (sym c.place_of.ensures ∙ c.in_ok-at.was) in
-    found-at (has_number c.args.id.number) c.self.inside.live c.in_ok-at.at c.remove-2.result some c.remove-2.ensures.item
-    ∙ ap (λ (s : DocumentList). find (has_number c.args.id.number) s.live) c.self.view_is
+pub remove_id-requires : goal.remove_id-requires
+remove_id-requires c = ids-differ c.self.inside.placed.live c.self.inside.by_path
+    c.remove.ensures.kept.live_differ c.self.invariant c.in_ok-document.document.path
 
-pub returns-clause-rest : goal.returns-clause-rest
-returns-clause-rest c =
-    let some : position (has_number c.args.id.number) c.self.inside.live ≡ Some c.in_ok-at.at =
-    ap (λ (s : DocumentList). position (has_number c.args.id.number) s.live) c.self.view_is ∙ (sym c.place_of.ensures ∙ c.in_ok-at.was) in
-    (λ i. record {
-      most_live = c.self.inside.most_live;
-      most_made = c.self.inside.most_made;
-      live = (c.remove-2.ensures.rest ∙ removed-at c.args.id.number c.self.inside.live c.in_ok-at.at c.self.invariant.live_differ some) i;
-      made = c.self.inside.made;
-    })
-    ∙ ap (λ (s : DocumentList). without_document s c.args.id.number) c.self.view_is
+pub invariant_of-self-2 : goal.invariant_of-self-2
+invariant_of-self-2 c =
+    subst (λ (s : DocumentList). AreByPath s.live c.remove_id.new.by_path)
+    (sym c.remove.ensures.rest)
+    (by-path-fewer c.self.inside.placed.live c.args.id.number c.in_ok-document.document
+    c.self.inside.by_path c.remove_id.new.by_path c.remove.ensures.kept.live_differ
+    (sym c.remove.ensures.document ∙ c.in_ok-document.was) c.self.invariant
+    c.remove_id.ensures)

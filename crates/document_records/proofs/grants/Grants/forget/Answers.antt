@@ -1,11 +1,20 @@
 use Rattle.std.proofs.Common.{ap, ◌∙◌}
-use Rattle.document_records.specs.Grants.{is_elsewhere, triples_of_grants}
+use Rattle.std.specs.List.{list_all}
+use Rattle.document_records.specs.Grants.{all_grants, is_kept, triples_of_all, triples_of_grants}
 use Rattle.portal_model.specs.Rights.{forget_document}
-use Rattle.document_records.proofs.GrantLemmas.{kept-some, forgotten-is}
+use Rattle.document_records.proofs.GrantLemmas.{forgotten-is}
+use Rattle.document_records.proofs.GrantsByNumber.{forgotten-all, gone-kept}
 use Rattle.document_records.proofs.grants.Grants.forget.Goals as goal
 
 pub invariant_of-self : goal.invariant_of-self
-invariant_of-self c = rw c.leave_others.ensures (kept-some (is_elsewhere c.args.id.number) c.self.inside.grants.items c.self.invariant)
+invariant_of-self c = record {
+  order = c.remove.ensures.ordered;
+  each = ap (list_all is_kept) c.remove.ensures.entries ∙ gone-kept c.args.id.number c.self.inside.documents.entries c.self.invariant.each;
+}
 
 pub returns : goal.returns
-returns c = ap triples_of_grants c.leave_others.ensures ∙ (forgotten-is c.args.id.number c.self.inside.grants.items ∙ ap (forget_document c.args.id.number) c.self.view_is)
+returns c =
+    let es = c.self.inside.documents.entries in
+    ap triples_of_all c.remove.ensures.entries
+    ∙ (ap triples_of_grants (forgotten-all c.args.id.number es c.self.invariant.order c.self.invariant.each)
+    ∙ (forgotten-is c.args.id.number (all_grants es) ∙ ap (forget_document c.args.id.number) c.self.view_is))

@@ -1,18 +1,13 @@
-use Rattle.std.proofs.Common.{ap, ◌∙◌}
-use Rattle.document_records.specs.Grants.{triples_of_grants}
+use Rattle.std.proofs.Common.{ap, map, ◌∙◌}
+use Rattle.document_records.specs.Grants.{all_grants, taken, triples_of_grants}
 use Rattle.portal_model.specs.Rights.{take_rights}
-use Rattle.document_records.proofs.GrantLemmas.{kept-taken, held-ones-are, taken-is}
+use Rattle.document_records.proofs.GrantLemmas.{held-ones-are, taken-is}
 use Rattle.document_records.proofs.grants.Grants.remove.Goals as goal
-
-pub invariant_of-self : goal.invariant_of-self
-invariant_of-self c =
-    rw (c.leave_held.ensures, c.take.ensures)
-    (kept-taken c.args.app.now c.args.id.number c.args.rights c.self.inside.grants.items c.self.invariant)
 
 pub returns : goal.returns
 returns c =
-    ap triples_of_grants c.leave_held.ensures
-    ∙ (held-ones-are c.take.new.grants.items
-    ∙ (ap triples_of_grants c.take.ensures
-    ∙ (taken-is c.args.app.now c.args.id.number c.args.rights c.self.inside.grants.items
-    ∙ ap (take_rights c.args.app.now c.args.id.number c.args.rights) c.self.view_is)))
+    let gs = all_grants c.self.inside.documents.entries in
+    ap triples_of_grants c.take_in.ensures.left
+    ∙ (held-ones-are (map (taken c.args.app.now c.args.id.number c.args.rights) gs)
+    ∙ (taken-is c.args.app.now c.args.id.number c.args.rights gs
+    ∙ ap (take_rights c.args.app.now c.args.id.number c.args.rights) c.self.view_is))

@@ -2,15 +2,18 @@ use Rattle.std.proofs.Common.{◌∙◌, ap, List, map}
 use Rattle.std.specs.List.{flat_map}
 use Rattle.portal_model.specs.Info.{holders, row_of}
 use Rattle.portal_model.specs.declared.state.Triple.{Triple}
+use Rattle.document_records.specs.Grants.{all_grants}
 use Rattle.document_records.specs.Holdings.{row_held}
-use Rattle.document_records.proofs.HeldInDocument.{rows-are, then-ok}
+use Rattle.document_records.proofs.GrantsByNumber.{kept-all}
+use Rattle.document_records.proofs.HeldInDocument.{rows-are, rows-within, then-ok}
 use Rattle.document_records.proofs.grants.Grants.rows.Goals as goal
 
 pub returns : goal.returns
 returns c =
     let number = c.args.id.number in
     then-ok c.rows.result _ _
-    (λ rows e. e ∙ (ap (flat_map (row_held number)) c.deref.ensures.value
-    ∙ (rows-are number c.self.inside.grants.items c.self.invariant
-    ∙ ap (λ (ts : List Triple). map (row_of ts number) (holders ts number)) c.self.view_is)))
+    (λ rows e. e ∙ (ap (flat_map (row_held number)) c.in_document.ensures
+    ∙ (rows-within number (all_grants c.self.inside.documents.entries)
+    ∙ (rows-are number (all_grants c.self.inside.documents.entries) (kept-all c.self.inside.documents.entries c.self.invariant.order c.self.invariant.each)
+    ∙ ap (λ (ts : List Triple). map (row_of ts number) (holders ts number)) c.self.view_is))))
     c.rows.ensures

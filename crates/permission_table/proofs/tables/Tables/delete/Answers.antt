@@ -8,7 +8,7 @@ use Rattle.permission_table.proofs.tables.Tables.delete.Goals as goal
 
 pub invariant_of-self : goal.invariant_of-self
 invariant_of-self c =
-    subst AreEntries (sym c.take_entry.ensures.rest) (kept-without c.args.table.now c.args.id.now c.self.inside.entries.items c.self.invariant)
+    subst AreEntries (sym c.take.ensures.rest) (kept-without c.args.table.now c.args.id.now c.self.inside.entries c.self.invariant)
 
 pub returns-in_default-clause-done : goal.returns-in_default-clause-done
 returns-in_default-clause-done c =
@@ -16,9 +16,12 @@ returns-in_default-clause-done c =
     let id = c.args.id.now in
     let none : entry_of c.args.self.now table id ≡ None = ap (λ (es : Entries). entry_of es table id) (sym c.self.view_is) ∙ sym c.in_default.ensures.entry in (
       ap (λ (o : Option StoredEntry). with_entry o (λ e. Ok (without_entry table id c.args.self.now, Done (change_of true e)))) none,
-      c.take_entry.ensures.rest ∙ (none-left-out (is_entry_of table id) c.self.inside.entries.items (sym c.in_default.ensures.entry) ∙ c.self.view_is),
+      c.take.ensures.rest ∙ (none-left-out (is_entry_of table id) c.self.inside.entries (sym c.in_default.ensures.entry) ∙ c.self.view_is),
     )
 
 pub invariant_of-self-2 : goal.invariant_of-self-2
 invariant_of-self-2 c =
-    subst AreEntries (sym c.take_entry.ensures.rest) (kept-without c.args.table.now c.args.id.now c.self.inside.entries.items c.self.invariant)
+    subst AreEntries (sym c.take.ensures.rest) (kept-without c.args.table.now c.args.id.now c.self.inside.entries c.self.invariant)
+
+pub take-requires : goal.take-requires
+take-requires c = c.self.invariant.differ

@@ -1,5 +1,5 @@
-use Rattle.std.proofs.Common.{◌≡◌, ◌∙◌, ap, sym, subst, Some}
-use Rattle.portal_model.specs.Store.{Entries, entry_of}
+use Rattle.std.proofs.Common.{◌≡◌, sym, subst, Some}
+use Rattle.portal_model.specs.Store.{entry_of}
 use Rattle.permission_table.specs.Tables.{IsHeld}
 use Rattle.permission_table.proofs.KeptEntries.{held-found}
 use Rattle.permission_table.proofs.SoundEntries.{fewer-held}
@@ -10,7 +10,7 @@ put-requires c =
     let table = c.args.table.now in
     let id = c.args.id.now in
     let entry = c.in-Some.entry.now in
-    let found : entry_of c.self.inside.entries.items table id ≡ Some entry =
-    ap (λ (es : Entries). entry_of es table id) (sym c.deref.ensures.value) ∙ sym c.in-Some.ensures in
-    let held : IsHeld entry = held-found table id c.self.inside.entries.items entry c.self.invariant found in
+    let found : entry_of c.self.inside.entries table id ≡ Some entry =
+    sym c.in-Some.ensures in
+    let held : IsHeld entry = held-found table id c.self.inside.entries entry c.self.invariant found in
     subst IsHeld (sym c.in_ok-left.ensures) (fewer-held c.args.app.now entry held)

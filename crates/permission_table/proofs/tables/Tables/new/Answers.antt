@@ -4,4 +4,4 @@ use Rattle.permission_table.proofs.KeptEntries.{kept-none}
 use Rattle.permission_table.proofs.tables.Tables.new.Goals as goal
 
 pub invariant_of-result : goal.invariant_of-result
-invariant_of-result c = subst AreEntries (sym c.new.ensures.items) kept-none
+invariant_of-result c = subst AreEntries (sym c.new.ensures) kept-none

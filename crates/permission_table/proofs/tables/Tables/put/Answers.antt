@@ -5,4 +5,4 @@ use Rattle.permission_table.proofs.tables.Tables.put.Goals as goal
 
 pub invariant_of-self-2 : goal.invariant_of-self-2
 invariant_of-self-2 c =
-    subst AreEntries (sym c.in_ok-put_entry.ensures.ok) (kept-put c.args.entry c.self.inside.entries.items c.requires c.self.invariant)
+    subst AreEntries (sym c.in_ok-put.ensures.ok) (kept-put c.args.entry c.self.inside.entries c.requires c.self.invariant)

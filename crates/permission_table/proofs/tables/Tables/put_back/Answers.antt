@@ -11,12 +11,15 @@ invariant_of-self c =
     let id = c.args.id.now in
     let former = c.in-Some.former in
     let held : IsFormer table id former = subst (λ (o : Option TableEntry). IfSome o (IsFormer table id)) c.in-Some.is c.requires in
-    subst AreEntries (sym c.restore.ensures) (kept-restored table id former c.self.inside.entries.items held c.self.invariant)
+    subst AreEntries (sym c.restore.ensures) (kept-restored table id former c.self.inside.entries held c.self.invariant)
 
 pub invariant_of-self-in-None : goal.invariant_of-self-in-None
 invariant_of-self-in-None c =
-    subst AreEntries (sym c.take_entry.ensures.rest) (kept-without c.args.table.now c.args.id.now c.self.inside.entries.items c.self.invariant)
+    subst AreEntries (sym c.take.ensures.rest) (kept-without c.args.table.now c.args.id.now c.self.inside.entries c.self.invariant)
 
 pub invariant_of-self-in-None-2 : goal.invariant_of-self-in-None-2
 invariant_of-self-in-None-2 c =
-    subst AreEntries (sym c.take_entry.ensures.rest) (kept-without c.args.table.now c.args.id.now c.self.inside.entries.items c.self.invariant)
+    subst AreEntries (sym c.take.ensures.rest) (kept-without c.args.table.now c.args.id.now c.self.inside.entries c.self.invariant)
+
+pub take-requires : goal.take-requires
+take-requires c = c.self.invariant.differ

@@ -1,0 +1,8 @@
+use Rattle.std.proofs.Common.{subst}
+use Rattle.document_records.specs.DocumentIndex.{AreKept}
+use Rattle.document_records.proofs.DocumentLemmas.{kept-seen}
+use Rattle.document_records.proofs.placed.PlacedDocuments.known.Goals as goal
+
+pub returns : goal.returns
+returns c = subst AreKept c.self.view_is
+    (kept-seen _ c.self.inside.places c.self.inside.live_places c.self.invariant)

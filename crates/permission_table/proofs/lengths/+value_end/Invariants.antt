@@ -1,7 +1,0 @@
-use Rattle.std.proofs.Common.{◌≡◌, ◌+◌, drop}
-use Rattle.dbus_values.specs.Spelling.{spelled_lengths}
-use Rattle.permission_table.proofs.lengths.+value_end.Given as goal
-
--- what is passed and what is left come to the whole
-abbrev pub invariant-values_end-loop-value : goal.invariant-values_end-loop-value
-invariant-values_end-loop-value l = l.end + spelled_lengths l.end (drop l.value-index l.values) ≡ l.at + spelled_lengths l.at l.values

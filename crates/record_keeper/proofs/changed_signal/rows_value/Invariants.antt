@@ -1,6 +1,0 @@
-use Rattle.std.proofs.Common.{◌≡◌, map, take}
-use Rattle.portal_model.specs.Changed.{row_value}
-use Rattle.record_keeper.proofs.changed_signal.rows_value.Given as goal
-
-abbrev pub invariant-loop-row : goal.invariant-loop-row
-invariant-loop-row l = l.items ≡ map row_value (take l.row-index l.rows)

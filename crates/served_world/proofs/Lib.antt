@@ -1,0 +1,10 @@
+pub mod BareViews
+pub mod BareBuses
+pub mod ServedAdds
+pub mod ServedBuses
+pub mod ServedNodes
+pub mod ServedSteps
+pub mod AlikeReplies
+pub mod ServedHistories
+pub mod OwnLooks
+pub mod ExampleProofs

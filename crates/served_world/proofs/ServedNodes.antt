@@ -1,0 +1,203 @@
+-- A request of the application itself on a node, over any tree: its own machine gives the view after, and a reply to
+-- which the portal's is alike. What the tree has is of no account but for the bytes that a READ shows.
+use Rattle.std.proofs.Common.{◌≡◌, ◌≤◌, ℕ, nat_lt, List, [], ◌∷◌, drop, length, Bool, true, false, not, cond, Option, Some, None, refl, sym, ap, subst, ◌∙◌, arith}
+use Rattle.std.specs.List.{flat_map}
+use Rattle.std.proofs.lemmas.List.{length-map, length-take}
+use Rattle.portal_base.specs.FileChanges.{bytes_from, cut_to, overlaid}
+use Rattle.portal_base.specs.declared.files.FileName.{FileName}
+use Rattle.portal_base.specs.declared.files.Look.{Look}
+use Rattle.portal_base.specs.declared.who.Who.{Who}
+use Rattle.portal_model.specs.declared.entry.Given.{Given}
+use Rattle.portal_model.specs.declared.handle.Handle.{Handle}
+use Rattle.portal_model.specs.declared.reply.Answer.{Answer}
+use Rattle.portal_model.specs.declared.reply.Code.TheVariants as Code
+use Rattle.portal_model.specs.declared.reply.NodeAnswer.TheVariants as NodeAnswer
+use Rattle.portal_model.specs.declared.reply.Reply.{Reply}
+use Rattle.portal_model.specs.declared.request.NodeOp.{NodeOp}
+use Rattle.portal_model.specs.declared.request.NodeRequest.{NodeRequest}
+use Rattle.portal_model.specs.declared.request.Request.{Request}
+use Rattle.portal_model.specs.declared.state.Connection.{Connection}
+use Rattle.portal_model.specs.Alike.{Alike, NodeAlike, ReadsAlike}
+use Rattle.portal_model.specs.Bus.{is_tree, moment_given}
+use Rattle.portal_model.specs.Content.{OfFile}
+use Rattle.portal_model.specs.Errno.{eacces, ebadf, einval, enoent}
+use Rattle.portal_model.specs.History.{made_by}
+use Rattle.portal_model.specs.Node.{NodeFacts, bytes_named, facts_of, node_answer, node_done, node_walk, settled_on_node, walk_on_node}
+use Rattle.portal_model.specs.NodeVerdict.{FileChange, FilesStay, Writes, Resizes, Creates, HandlesStay, NodeDoing, NodeVerdict, Errs, Yields, errs, errs_if, tells}
+use Rattle.portal_model.specs.Place.{place_of, reach_at}
+use Rattle.portal_model.specs.Reach.{Reaching, may_read_now, open_file_of}
+use Rattle.portal_model.specs.Read.{read, read_limit}
+use Rattle.portal_model.specs.State.{State, connection_of, handles_of, held_of, is_app}
+use Rattle.portal_model.specs.Step.{all_told, is_mount, mount_of, node_step, with_signals}
+use Rattle.portal_model.specs.Valid.{Valid}
+use Rattle.portal_model.specs.Walk.{Walk, Ends, Uses, walked}
+use Rattle.app_world.specs.Effect.{Bytes}
+use Rattle.app_world.specs.Laws.{asks}
+use Rattle.app_world.specs.Node.{bytes_at, bytes_effects, own_connections_after, own_facts, own_node_done, own_settled_on_node, own_walk}
+use Rattle.app_world.specs.Shown.{own_bytes}
+use Rattle.app_world.specs.View.{AppView, HeldDocument, OwnConnection, found_connection, held_documents, names, own_connection, own_connections, own_handle, prune, view}
+use Rattle.app_world.specs.World.{own_mount_of}
+use Rattle.app_world.proofs.HandleChangeLaws.{connections-changed, handle-found}
+use Rattle.app_world.proofs.PlaceLaws.{own_place-is, own_reach-is}
+use Rattle.app_world.proofs.ViewLaws.{is_app-named, own-some, own_unsent, still_held, view-told}
+use Rattle.served_world.specs.ServedItem.{bare, items_of_effect}
+use Rattle.served_world.specs.ServedOwn.{ServedOwn, served_own}
+use Rattle.served_world.specs.ServedWorld.{served_node_answer, served_node_step}
+use Rattle.served_world.proofs.BareBuses.{bare_answer}
+use Rattle.served_world.proofs.BareViews.{all-bare, held-twice}
+
+-- ---- a change of a file is told by nothing
+
+at-told : (v : AppView) (name : FileName) (bytes : List ℕ) (now : ℕ) → flat_map items_of_effect (bytes_at v name bytes now) ≡ []
+at-told v name bytes now = elim (names v name.path) as (λ b. flat_map items_of_effect (cond b (Bytes name.path name.generation (OfFile name.generation bytes now) ∷ []) []) ≡ []) [ true ↦ refl | false ↦ refl ]
+
+pub bytes-told : (v : AppView) (bytes : FileName → List ℕ) (change : FileChange) → flat_map items_of_effect (bytes_effects v bytes change) ≡ []
+bytes-told v bytes FilesStay = refl
+bytes-told v bytes (Writes name offset [] now) = refl
+bytes-told v bytes (Writes name offset (b ∷ bs) now) = at-told v name (overlaid (bytes name) offset (b ∷ bs)) now
+bytes-told v bytes (Resizes name size now) = at-told v name (cut_to size (bytes name)) now
+bytes-told v bytes (Creates path now) = at-told v (record { path = path; generation = 0 }) [] now
+
+shown-within : (bytes : List ℕ) (offset size : ℕ) → length (bytes_from bytes offset size) ≤ size
+shown-within bytes offset size = let h = length-take size (drop offset bytes) in omega arith
+
+-- ---- a READ, by what it finds
+
+abbrev reading : Bool → Bool → Bool → FileName → List ℕ → Walk NodeVerdict
+reading long closed barred name found =
+    errs_if long einval (errs_if closed ebadf (errs_if barred eacces (Ends (Uses name) (λ now. tells (NodeAnswer.Content found)) (Errs enoent))))
+
+module _ (app : List ℕ) (t : State) (c : Connection) where
+  abbrev v : AppView
+  v = view t app
+
+  abbrev mine : OwnConnection
+  mine = own_connection app t.handles c
+
+  abbrev docs : List HeldDocument
+  docs = held_documents (held_of t.rights app) t.documents
+
+  -- ---- the view after
+
+  done-bare : (d : NodeDoing) → bare (own_node_done (bare v) mine d) ≡ bare (view (node_done t c d) app)
+  done-bare d =
+      all-bare (bytes_effects (bare v) (own_bytes (bare v)) d.file) (prune (record (bare v) { connections = own_connections_after mine d.handle v.connections })) (held-twice docs) (bytes-told (bare v) (own_bytes (bare v)) d.file)
+      ∙ (λ i. record (bare v) {
+        documents = still_held (held_of t.rights app) t.documents i;
+        connections = sym (connections-changed app c t.handles d.handle t.connections) i;
+      })
+
+  pub settled-bare : (o : Option NodeVerdict) → bare_answer (own_settled_on_node (bare v) mine o) ≡ (bare (view (settled_on_node t c o).0 app), (settled_on_node t c o).1)
+  settled-bare None = refl
+  settled-bare (Some (Errs errno)) = refl
+  settled-bare (Some (Yields d)) = λ i. (done-bare d i, Answer.Node d.answer)
+
+  -- ---- the answer
+
+  abbrev SeenBy : (Answer → Answer → Type 0) → AppView × Answer → State × Answer → Type 0
+  SeenBy alike own done = (bare own.0 ≡ bare (view done.0 app)) × alike own.1 done.1
+
+  read-found : (size : ℕ) (long closed barred : Bool) (name : FileName) (mine_found found : List ℕ) → length found ≤ size → (now : ℕ) (looks : List Look) (failed : Bool) →
+      SeenBy (ReadsAlike size) (own_settled_on_node (bare v) mine (walked (reading long closed barred name mine_found) now looks failed)) (settled_on_node t c (walked (reading long closed barred name found) now looks failed))
+  read-found size true closed barred name mine_found found h now looks failed = (refl, refl)
+  read-found size false true barred name mine_found found h now looks failed = (refl, refl)
+  read-found size false false true name mine_found found h now looks failed = (refl, refl)
+  read-found size false false false name mine_found found h now [] true = (refl, refl)
+  read-found size false false false name mine_found found h now [] false =
+      (done-bare (record { answer = NodeAnswer.Content found; file = FilesStay; handle = HandlesStay }), (found, refl, h))
+  read-found size false false false name mine_found found h now (look ∷ looks) failed = (refl, refl)
+
+  read-refused : (size errno : ℕ) (long : Bool) (now : ℕ) (looks : List Look) (failed : Bool) →
+      SeenBy (ReadsAlike size) (own_settled_on_node (bare v) mine (walked (errs_if long einval (errs errno)) now looks failed)) (settled_on_node t c (walked (errs_if long einval (errs errno)) now looks failed))
+  read-refused size errno true now looks failed = (refl, refl)
+  read-refused size errno false now looks failed = (refl, refl)
+
+  read-seen : (reach : Reaching) (bytes more : FileName → List ℕ) (offset size : ℕ) (handle : Option Handle) (now : ℕ) (looks : List Look) (failed : Bool) →
+      SeenBy (ReadsAlike size) (own_settled_on_node (bare v) mine (walked (read reach bytes offset size handle) now looks failed)) (settled_on_node t c (walked (read reach more offset size handle) now looks failed))
+  read-seen reach bytes more offset size None now looks failed = read-refused size ebadf (nat_lt read_limit size) now looks failed
+  read-seen reach bytes more offset size (Some (Handle.File name node document strict reads writes)) now looks failed =
+      read-found size (nat_lt read_limit size) (not reads) (not (may_read_now reach (open_file_of name node document strict reads writes))) name (bytes_from (bytes name) offset size) (bytes_from (more name) offset size) (shown-within (more name) offset size) now looks failed
+  read-seen reach bytes more offset size (Some (Handle.Folder node names)) now looks failed = read-refused size ebadf (nat_lt read_limit size) now looks failed
+
+  same-seen : (o : Option NodeVerdict) → SeenBy (λ stepped given. given ≡ stepped) (own_settled_on_node (bare v) mine o) (settled_on_node t c o)
+  same-seen o = (ap (λ (x : AppView × Answer). x.0) (settled-bare o), sym (ap (λ (x : AppView × Answer). x.1) (settled-bare o)))
+
+  walk-seen : (f : NodeFacts) (bytes : FileName → List ℕ) (r : NodeRequest) (op : NodeOp) (now : ℕ) (looks : List Look) (failed : Bool) →
+      SeenBy (NodeAlike op) (own_settled_on_node (bare v) mine (walked (node_walk (record f { bytes = bytes }) r op) now looks failed)) (settled_on_node t c (walked (node_walk f r op) now looks failed))
+  walk-seen f bytes r (NodeOp.Read fh offset size) now looks failed = read-seen f.reach bytes f.bytes offset size (f.handle fh) now looks failed
+  walk-seen f bytes r op now looks failed = same-seen (walked (node_walk f r op) now looks failed)
+
+  -- ---- what it depends on
+
+  module _ (r : NodeRequest) (named : c.who ≡ Who.App app) where
+    pub facts-bare : own_facts (bare v) mine r.node ≡ record (facts_of t c r.node) { bytes = own_bytes (bare v) }
+    facts-bare = λ i. record {
+      sight = (own_place-is app t r.node ∙ ap (λ (who : Who). place_of t who r.node) (sym named)) i;
+      handle = λ fh. handle-found t.handles c.seat fh i;
+      reach = λ node number. (own_reach-is app t node number ∙ ap (λ (who : Who). reach_at t who node number) (sym named)) i;
+      bytes = own_bytes (bare v);
+      room = record { opens = c.opens; full = not (nat_lt (length-map (handles_of t.handles c.seat) own_handle i) t.limits.handles) };
+      file_limit = t.limits.file_bytes;
+    }
+
+    -- it comes to the same but for the bytes that a READ shows
+    pub node-seen : (now : ℕ) (looks : List Look) (failed : Bool) →
+        SeenBy (NodeAlike r.op) (own_settled_on_node (bare v) mine (walked (own_walk (bare v) mine r) now looks failed)) (settled_on_node t c (walked (walk_on_node t c r) now looks failed))
+    node-seen now looks failed =
+        subst (λ (f : NodeFacts). SeenBy (NodeAlike r.op) (own_settled_on_node (bare v) mine (walked (node_walk f r r.op) now looks failed)) (settled_on_node t c (walked (walk_on_node t c r) now looks failed))) (sym facts-bare)
+        (walk-seen (facts_of t c r.node) (own_bytes (bare v)) r r.op now looks failed)
+
+    -- and to the very same where no file is told
+    pub walk-untold : t.files ≡ [] → own_walk (bare v) mine r ≡ walk_on_node t c r
+    walk-untold e = ap (λ (f : NodeFacts). node_walk f r r.op) (facts-bare ∙ (λ i. record (facts_of t c r.node) { bytes = bytes_named (sym e i) }))
+
+-- ---- the step
+
+nothing-here : (op : NodeOp) → NodeAlike op (Answer.Refused Code.NotHere) (Answer.Refused Code.NotHere)
+nothing-here (NodeOp.Read fh offset size) = refl
+nothing-here op = refl
+
+-- a step that the application makes, as it sees it
+abbrev pub IsSeen : List ℕ → Request → AppView × Reply → State × Reply → Type 0
+IsSeen app request own done = (bare own.0 ≡ bare (view done.0 app)) × Alike false request own.1 done.1
+
+module _ (app : List ℕ) (s : State) (seat : ℕ) (r : NodeRequest) (given : Given) (valid : Valid s) where
+  abbrev own : ServedOwn
+  own = served_own s (asks seat (Request.Node r) given)
+
+  module _ (c : Connection) (e : connection_of s.connections seat ≡ Some c) (h : is_app app c.who ≡ true) where
+    abbrev told : State
+    told = all_told c.seat s
+
+    abbrev o : OwnConnection
+    o = own_connection app s.handles c
+
+    mount_seen : (m : Bool) → IsSeen app (Request.Node r) (served_node_step (bare (view s app)) r own (cond m (Some o) None)) (node_step s r given (cond m (Some c) None))
+    mount_seen false = (refl, (refl, nothing-here r.op))
+    mount_seen true =
+        let p = subst (λ (x : AppView). (bare (served_node_answer (bare x) o r own).0 ≡ bare (view (node_answer told c r given).0 app)) × NodeAlike r.op (served_node_answer (bare x) o r own).1 (node_answer told c r given).1) (view-told app s c.seat)
+        (node-seen app told c r (is_app-named app c.who h) (moment_given given.now) given.looks (is_tree given.fault)) in
+        (p.0, (own_unsent app s seat c valid e h, p.1))
+
+    mount_untold : s.files ≡ [] → (m : Bool) → (served_node_step (bare (view s app)) r own (cond m (Some o) None)).1 ≡ (node_step s r given (cond m (Some c) None)).1
+    mount_untold f false = refl
+    mount_untold f true =
+        let w : Walk NodeVerdict = walk_on_node told c r in
+        (λ i. (with_signals [] (served_node_answer (bare (sym (view-told app s c.seat) i)) o r own)).1)
+        ∙ (ap (λ (x : Walk NodeVerdict). (with_signals [] (own_settled_on_node (bare (view told app)) o (walked x (moment_given given.now) given.looks (is_tree given.fault)))).1) (walk-untold app told c r (is_app-named app c.who h) f)
+        ∙ (ap (λ (x : AppView × Answer). (with_signals [] x).1) (settled-bare app told c (walked w (moment_given given.now) given.looks (is_tree given.fault)))
+        ∙ (λ i. (with_signals (sym (own_unsent app s seat c valid e h) i) (node_answer told c r given)).1)))
+
+  pub node-own-seen : (found : Option Connection) → connection_of s.connections seat ≡ found → made_by app found (Request.Node r) ≡ true →
+      IsSeen app (Request.Node r) (served_node_step (bare (view s app)) r own (own_mount_of (found_connection (own_connections app s.handles s.connections) seat))) (node_step s r given (mount_of found))
+  node-own-seen None e h = let x : false ≡ true = h in cc
+  node-own-seen (Some c) e h =
+      subst (λ (x : Option OwnConnection). IsSeen app (Request.Node r) (served_node_step (bare (view s app)) r own (own_mount_of x)) (node_step s r given (mount_of (Some c)))) (sym (own-some app s.handles seat s.connections c e h))
+      (mount_seen c e h (is_mount c.kind))
+
+  pub node-own-untold : (found : Option Connection) → connection_of s.connections seat ≡ found → made_by app found (Request.Node r) ≡ true → s.files ≡ [] →
+      (served_node_step (bare (view s app)) r own (own_mount_of (found_connection (own_connections app s.handles s.connections) seat))).1 ≡ (node_step s r given (mount_of found)).1
+  node-own-untold None e h f = let x : false ≡ true = h in cc
+  node-own-untold (Some c) e h f =
+      ap (λ (x : Option OwnConnection). (served_node_step (bare (view s app)) r own (own_mount_of x)).1) (own-some app s.handles seat s.connections c e h)
+      ∙ mount_untold c e h f (is_mount c.kind)

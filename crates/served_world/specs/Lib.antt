@@ -1,0 +1,5 @@
+pub mod ServedOwn
+pub mod ServedItem
+pub mod ServedWorld
+pub mod Laws
+pub mod Examples
