@@ -1,4 +1,5 @@
 pub mod Places
 pub mod Shifts
+pub mod Enough
 pub mod Rounds
 pub mod Sends

@@ -1,13 +1,12 @@
 -- Turns, one after another.
-use Rattle.std.proofs.Common.{◌≡◌, ℕ, zero, suc, ◌+◌, ◌-◌, ◌^◌, ◌≤◌, ◌<◌, ◌⊎◌, min, List, [], ◌∷◌, ◌++◌, Some, inl, inr, true, false, length, replicate, refl, sym, ap, ◌∙◌, subst, arith}
+use Rattle.std.proofs.Common.{◌≡◌, ℕ, zero, suc, ◌+◌, ◌-◌, ◌^◌, ◌≤◌, ◌⊎◌, min, List, [], ◌∷◌, ◌++◌, Some, inl, inr, true, false, length, replicate, refl, sym, ap, ◌∙◌, subst, arith}
 use Rattle.std.specs.Prelude.{slice_get, is_some, Result, Ok, Err, OnErr, OnOk}
 use Rattle.std.specs.List.{list_any}
-use Rattle.std.proofs.lemmas.List.{append-nil, append_assoc}
 use Rattle.portal_base.specs.declared.limits.Settings.{Settings}
 use Rattle.portal_base.specs.Outside.{rises_by}
 use Rattle.portal_model.specs.declared.entry.Entry.{Entry}
-use Rattle.portal_model.specs.History.{Legal, of_seat, run}
-use Rattle.portal_model.specs.Seated.{BeginsWith, bound, bound_by, is_open}
+use Rattle.portal_model.specs.History.{Legal, cost, of_seat, run}
+use Rattle.portal_model.specs.Seated.{bound, bound_by, is_open}
 use Rattle.portal_model.specs.State.{State}
 use Rattle.portal_model.proofs.Histories.{Legal-append, run-append}
 use Rattle.portal_model.proofs.SeatLaws.{run-open}
@@ -15,8 +14,10 @@ use Rattle.worker_gate.specs.declared.worker.Post.{Post}
 use Rattle.worker_gate.specs.declared.worker.WorkEnd.{WorkEnd}
 use Rattle.worker_gate.specs.declared.worker.WorkEnd.TheVariants as end
 use Rattle.worker_gate.specs.Working.{Hall, Sides}
-use Rattle.serve_posts.specs.Posts.{ServesLeft, ServesPost, ServesPosts, ServesTurn, all_unserved, is_left, unserved}
-use Rattle.serve_posts.specs.Rounds.{OneTurn, Renewal, ServesAll, Stand, Turns, stand}
+use Rattle.cost_laws.specs.Totals.{AllAsk}
+use Rattle.serve_posts.specs.Posts.{ServesLeft, ServesPosts, ServesTurn, all_unserved, is_left, unserved}
+use Rattle.serve_posts.specs.Rounds.{OneTurn, PostAsks, Renewal, ServesAll, Stand, Turns, stand}
+use Rattle.serve_posts.proofs.Enough.{none_is_left}
 use Rattle.serve_posts.proofs.Places.{is_there, is_within}
 
 -- no seat has an open connection behind a history
@@ -131,6 +132,26 @@ module _ {L S K : Type 0} (s : Sides S K) (hall_of : L → Hall S K) (settings :
   once zero rounds o base posts b are t one = (t.0, first_turn o base b.entries posts b.ends b.posts t.1)
   once (suc more) rounds o base posts b are t one = absurd (omega (arith, are, one))
 
+  -- where one turn has room for all, there is no second
+  no_second : (more : ℕ) (o : State) (base : List Entry) (posts : List (Post L)) (b : Stand L)
+      (total : ℕ) → AllAsk (PostAsks s hall_of settings) posts total
+      → cost base + total ≤ o.limits.history
+      → Turns s hall_of settings (suc more) (stand o base posts (all_unserved posts)) b → ⊥
+  no_second zero o base posts b total asks room t =
+      none_is_left s hall_of settings o base t.0.entries posts t.0.ends t.0.posts
+      (first_turn o base t.0.entries posts t.0.ends t.0.posts t.3.1) total asks room t.4
+  no_second (suc more) o base posts b total asks room t =
+      no_second more o base posts t.0 total asks room t.3
+
+  enough : (more rounds : ℕ) (o : State) (base : List Entry) (posts : List (Post L)) (b : Stand L)
+      → rounds ≡ rises_by 1 more
+      → Turns s hall_of settings more (stand o base posts (all_unserved posts)) b
+      → (total : ℕ) → AllAsk (PostAsks s hall_of settings) posts total
+      → cost base + total ≤ o.limits.history → rounds ≡ 1
+  enough zero rounds o base posts b are t total asks room = omega (arith, are)
+  enough (suc more) rounds o base posts b are t total asks room =
+      absurd (no_second more o base posts b total asks room t)
+
   pub served_all : (more rounds : ℕ) (o : State) (base : List Entry) (posts : List (Post L)) (b : Stand L) → rounds ≡ rises_by 1 more → Turns s hall_of settings more (stand o base posts (all_unserved posts)) b → list_any is_left b.ends ≡ false → ServesAll s hall_of settings o base posts rounds b
   served_all more rounds o base posts b are t none =
       let whole = turns_whole more (stand o base posts (all_unserved posts)) b t in
@@ -143,4 +164,5 @@ module _ {L S K : Type 0} (s : Sides S K) (hall_of : L → Hall S K) (settings :
         legal = whole.2;
         comes = whole.3;
         once = once more rounds o base posts b are t;
+        enough = enough more rounds o base posts b are t;
       }

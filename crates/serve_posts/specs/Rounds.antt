@@ -1,11 +1,14 @@
 -- Turns over one history after another.
-use Rattle.std.specs.Prelude.{◌≡◌, ◌⊎◌, ℕ, zero, suc, List, [], ◌++◌, true, false}
+use Rattle.std.specs.Prelude.{◌≡◌, ◌⊎◌, ℕ, zero, suc, ◌+◌, ◌≤◌, List, [], ◌++◌, true, false}
 use Rattle.std.specs.List.{list_any}
 use Rattle.portal_base.specs.declared.limits.Settings.{Settings}
 use Rattle.portal_base.specs.Outside.{rises_by}
 use Rattle.portal_model.specs.declared.entry.Entry.{Entry}
-use Rattle.portal_model.specs.History.{Legal, run}
+use Rattle.portal_model.specs.History.{Legal, cost, run}
 use Rattle.portal_model.specs.State.{State}
+use Rattle.session.specs.Standings.{client}
+use Rattle.cost_laws.specs.Links.{HallAsks}
+use Rattle.cost_laws.specs.Totals.{AllAsk}
 use Rattle.serve_posts.specs.Posts.{ServesPosts, ServesTurn, all_unserved, is_left}
 use Rattle.worker_gate.specs.declared.worker.Post.{Post}
 use Rattle.worker_gate.specs.declared.worker.WorkEnd.{WorkEnd}
@@ -45,9 +48,14 @@ module _ {L S K : Type 0} (s : Sides S K) (hall_of : L → Hall S K) (settings :
       × (list_any is_left c.ends ≡ true) × Renewal c.opening c.entries o base
       × OneTurn (stand o base c.posts c.ends) b
 
+  -- The listener of a post tells its links to come, their sources tell their bytes, and what all of
+  -- them ask costs so much together.
+  abbrev pub PostAsks : Post L → ℕ → Type 0
+  PostAsks p total = HallAsks s (client p.who p.kind settings) (hall_of p.listener) total
+
   -- Posts were served, in so many turns, until none was left. All turns together made one legal
   -- history, of which the last part is the last history. Where one turn was enough, that served
-  -- each post.
+  -- each post; and one is enough where the history has room for all that is asked at all posts.
   pub record ServesAll (o : State) (base : List Entry) (posts : List (Post L)) (rounds : ℕ)
       (b : Stand L) : Type 0 where
     pub more : ℕ
@@ -59,3 +67,5 @@ module _ {L S K : Type 0} (s : Sides S K) (hall_of : L → Hall S K) (settings :
     pub comes : b.opening ≡ run o front
     pub once : rounds ≡ 1 → (b.opening ≡ o)
         × ServesPosts s hall_of settings o base b.entries posts b.ends b.posts
+    pub enough : (total : ℕ) → AllAsk PostAsks posts total
+        → cost base + total ≤ o.limits.history → rounds ≡ 1

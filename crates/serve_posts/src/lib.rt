@@ -11,7 +11,9 @@
 //! A post whose worker ended since the history had no room is served on in a
 //! further turn, once all workers have ended and the portal is renewed. All that
 //! is promised is true of each turn. All turns together made one legal history,
-//! of which the portal that comes back has the last part.
+//! of which the portal that comes back has the last part. One turn is enough where
+//! listeners and sources tell what is to come, and the requests of all that cost at
+//! most the history's limit together.
 //!
 //! | Room | Holds |
 //! |---|---|

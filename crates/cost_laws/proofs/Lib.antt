@@ -1,0 +1,5 @@
+pub mod Seats
+pub mod Streams
+pub mod Totals
+pub mod Links
+mod StreamExampleProofs
