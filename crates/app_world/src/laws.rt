@@ -27,9 +27,9 @@ pub fn each_kind_is_seen()
     ensures { KindsSeen }
 {}
 
-/// The replies to an application are a function of its trace: its own requests
-/// with what the outside gave them, and what others change of the documents,
-/// rights and bytes that it holds.
+/// Over a tree that tells its files the replies to an application are a function of
+/// its trace: its own requests with what the outside gave them, and what others
+/// change of the documents, rights and bytes that it holds.
 pub fn applications_are_isolated()
     ensures { Isolated }
 {}

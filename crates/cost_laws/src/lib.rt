@@ -6,7 +6,8 @@
 //! whole items, and Leave. So it is however the connection ended, also where a read
 //! or a write failed or there was no memory; and where the history had no room for
 //! its Enter, this is within the same sum. What a worker made at all the links of
-//! its listener costs at most what these links ask together. And a history whose
+//! its listener costs at most what these links ask together, where the listener tells
+//! them. And a history whose
 //! entries are of so many seats costs what those of each seat cost, together.
 //!
 //! | Room | Holds |

@@ -100,7 +100,8 @@ pub fn serve_connection<D: Desk, S: Source, K: Sink>(
     // `NotHere`, and any other is done.
     ensures heard { IsHeard (D.seated desk.old) (D.seated desk.new) }
     // What an application is replied is a function of its trace: over a tree that
-    // tells its files of what these have, and over any but for what a READ shows.
+    // tells its files with all bytes, and over any other but for the bytes that a READ
+    // shows, and their number.
     ensures isolated { IsIsolated who.now (D.seated desk.old) (D.seated desk.new) }
     ensures goes { D.goes desk.old desk.new }
 {
