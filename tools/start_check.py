@@ -85,7 +85,7 @@ def few_threads(see, folder):
     # A program that is checked while it runs takes more address space than that.
     if run("--version", limits=limits)[0] == 0:
         words = [*service.words[:6], "--workers", "8", *APPS]
-        see("1,048 threads in 1 GiB", refusal(run(*words, limits=limits), "docportal: no socket: "))
+        see("1,049 threads in 1 GiB", refusal(run(*words, limits=limits), "docportal: no socket: "))
     see("no folder is made", os.path.exists(service.sockets), False)
     service.start()
     with service.bus() as bus:

@@ -6,6 +6,7 @@ use crate::kept::KeptFiles;
 use crate::made::MadeFiles;
 use crate::opener::{Opener, Purpose};
 use crate::system::{System, Waiter};
+use crate::writing::LastWritten;
 use host_folders::content;
 use host_folders::error::{OpenError, TreeError, is_missing, is_refused};
 use host_folders::numbers::Numbers;
@@ -48,6 +49,7 @@ pub struct FilesBelow<R: Waiter> {
     numbers: Numbers,
     kept: KeptFiles,
     made: MadeFiles,
+    written: LastWritten<R>,
 }
 
 impl<R: Waiter> FilesBelow<R> {
@@ -74,6 +76,7 @@ impl<R: Waiter> FilesBelow<R> {
             numbers,
             kept: KeptFiles::new(alloc, kept)?,
             made: MadeFiles::new(alloc)?,
+            written: LastWritten::new(rt, alloc)?,
         })
     }
 
@@ -140,14 +143,18 @@ impl<R: Waiter> FilesBelow<R> {
             return Ok(());
         }
         let file = self.opened_to_write(name, named)?;
-        content::write(&file, offset, bytes, now)
+        let outcome = content::write(&file, offset, bytes, now);
+        self.leave_open(named, file);
+        outcome
     }
 
     /// Cuts a file to a length, or fills it with zero bytes up to it.
     pub fn set_len(&mut self, name: &FileName, size: u64, now: u64) -> Result<(), TreeError> {
         let named = self.named(name)?;
         let file = self.opened_to_write(name, named)?;
-        content::set_len(&file, size, now)
+        let outcome = content::set_len(&file, size, now);
+        self.leave_open(named, file);
+        outcome
     }
 
     /// Brings a file's bytes to rest, and of one that was made here its name too.
@@ -303,6 +310,9 @@ impl<R: Waiter> FilesBelow<R> {
                     Some(file) => file.as_raw_fd(),
                     None => return Err(TreeError::System),
                 };
+                if let Some(file) = self.written.take(generation) {
+                    return Ok(file);
+                }
                 let owner = self.numbers.owner(&name.path);
                 let link = self.way.link_to(number, "")?;
                 match self.opener.open(link, Purpose::Write, owner) {
@@ -320,6 +330,13 @@ impl<R: Waiter> FilesBelow<R> {
                 }
                 Err(TreeError::NotFile)
             }
+        }
+    }
+
+    /// Leaves a file open that was written, where it can be found again by its generation.
+    fn leave_open(&self, named: Named, file: File) {
+        if let Named::Kept(generation) = named {
+            self.written.put(generation, file);
         }
     }
 

@@ -1,13 +1,12 @@
 //! The files that are kept open.
 
-use portal_base::list::List;
+use indexmap::IndexMap;
 use std::alloc::{AllocError, Global};
 use std::fs::File;
 
 /// A file that is kept open.
 #[derive(Drop)]
 struct Kept {
-    generation: u64,
     /// Whether it was read or written by, and not only looked at.
     was_used: bool,
     /// The turn in which it was asked for last.
@@ -18,7 +17,9 @@ struct Kept {
 /// The files that are kept open, by their generations, for reading.
 #[derive(Drop)]
 pub struct KeptFiles {
-    files: Vec<Kept>,
+    // The map's hasher has known keys; but nobody can choose generations, which are hashed by keys
+    // of the tree's own.
+    files: IndexMap<u64, Kept>,
     /// How many there may be. There is room for them from the start.
     most: usize,
     turn: u64,
@@ -29,7 +30,7 @@ impl KeptFiles {
     pub fn new(alloc: Global, most: usize) -> Result<KeptFiles, AllocError> {
         let most = most.max(1);
         Ok(KeptFiles {
-            files: Vec::with_capacity(alloc, most)?,
+            files: IndexMap::with_capacity(alloc, most)?,
             most,
             turn: 0,
         })
@@ -38,14 +39,9 @@ impl KeptFiles {
     /// Says whether the file of a generation is kept, which is looked at now.
     pub fn looks_at(&mut self, generation: u64) -> bool {
         self.turn = self.turn.saturating_add(1);
-        let turn = self.turn;
-        match self
-            .files
-            .iter_mut()
-            .find(|kept| kept.generation == generation)
-        {
+        match self.files.get_mut(&generation) {
             Some(kept) => {
-                kept.turn = turn;
+                kept.turn = self.turn;
                 true
             }
             None => false,
@@ -55,19 +51,15 @@ impl KeptFiles {
     /// The file of a generation, to read or write by.
     pub fn used(&mut self, generation: u64) -> Option<&File> {
         self.turn = self.turn.saturating_add(1);
-        let turn = self.turn;
-        let kept = self
-            .files
-            .iter_mut()
-            .find(|kept| kept.generation == generation)?;
-        kept.turn = turn;
+        let kept = self.files.get_mut(&generation)?;
+        kept.turn = self.turn;
         kept.was_used = true;
         Some(&kept.file)
     }
 
     /// The file of a generation.
     pub fn get(&self, generation: u64) -> Option<&File> {
-        match self.files.iter().find(|kept| kept.generation == generation) {
+        match self.files.get(&generation) {
             Some(kept) => Some(&kept.file),
             None => None,
         }
@@ -78,23 +70,27 @@ impl KeptFiles {
     /// the longest time.
     pub fn keep(&mut self, generation: u64, file: File) -> Result<(), AllocError> {
         self.turn = self.turn.saturating_add(1);
+        if self.files.len() >= self.most {
+            self.let_go();
+        }
         let kept = Kept {
-            generation,
             was_used: false,
             turn: self.turn,
             file,
         };
-        if self.files.len() < self.most {
-            self.files.push(kept)?;
-            return Ok(());
-        }
-        let oldest = self
-            .files
-            .iter_mut()
-            .min_by_key(|kept| (kept.was_used, kept.turn));
-        if let Some(oldest) = oldest {
-            *oldest = kept;
-        }
+        self.files.insert(generation, kept)?;
         Ok(())
+    }
+
+    /// Closes the file that is missed least.
+    fn let_go(&mut self) {
+        let least = self
+            .files
+            .values()
+            .enumerate()
+            .min_by_key(|(_, kept)| (kept.was_used, kept.turn));
+        if let Some((at, _)) = least {
+            self.files.swap_remove_index(at);
+        }
     }
 }

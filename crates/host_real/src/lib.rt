@@ -11,6 +11,7 @@
 //! | `below` | the calls on files below the root |
 //! | `opener` | opens that don't hold up the one who asks |
 //! | `kept`, `made` | the files that are kept open, and those that were made here |
+//! | `writing` | the file of the last write, which stays open to write until it rests |
 //! | `system` | what the tree takes of the system |
 //! | `descriptors` | how many files may be kept open |
 //!
@@ -27,6 +28,7 @@ mod made;
 mod opener;
 mod system;
 mod tree;
+mod writing;
 
 pub use descriptors::files_beside;
 pub use host_folders::error::OpenError;

@@ -1,5 +1,6 @@
 //! Which files were made here.
 
+use indexmap::IndexMap;
 use std::alloc::{AllocError, Global};
 
 /// The most of them that are known.
@@ -8,18 +9,16 @@ const MOST: usize = 1_024;
 /// A file that was made.
 #[derive(Clone, Copy)]
 struct Made {
-    /// The number of its path.
-    path: u64,
     generation: u64,
     /// The turn in which it was made or asked for last.
     turn: u64,
 }
 
-/// The files that were made here, by their paths: the last at each.
+/// The files that were made here, by the numbers of their paths: the last at each.
 #[derive(Drop)]
 pub struct MadeFiles {
     /// There is room for all from the start.
-    files: Vec<Made>,
+    files: IndexMap<u64, Made>,
     turn: u64,
 }
 
@@ -27,7 +26,7 @@ impl MadeFiles {
     /// None yet.
     pub fn new(alloc: Global) -> Result<MadeFiles, AllocError> {
         Ok(MadeFiles {
-            files: Vec::with_capacity(alloc, MOST)?,
+            files: IndexMap::with_capacity(alloc, MOST)?,
             turn: 0,
         })
     }
@@ -35,9 +34,8 @@ impl MadeFiles {
     /// The generation of the file that was made at the path of a number.
     pub fn at(&mut self, path: u64) -> Option<u64> {
         self.turn = self.turn.saturating_add(1);
-        let turn = self.turn;
-        let made = self.files.iter_mut().find(|made| made.path == path)?;
-        made.turn = turn;
+        let made = self.files.get_mut(&path)?;
+        made.turn = self.turn;
         Some(made.generation)
     }
 
@@ -45,18 +43,26 @@ impl MadeFiles {
     /// wasn't asked for the longest time isn't known any more.
     pub fn add(&mut self, path: u64, generation: u64) -> Result<(), AllocError> {
         self.turn = self.turn.saturating_add(1);
+        if self.files.len() >= MOST && self.files.get(&path).is_none() {
+            self.forget_one();
+        }
         let made = Made {
-            path,
             generation,
             turn: self.turn,
         };
-        if let Some(former) = self.files.iter_mut().find(|made| made.path == path) {
-            *former = made;
-        } else if self.files.len() < MOST {
-            self.files.push(made)?;
-        } else if let Some(oldest) = self.files.iter_mut().min_by_key(|made| made.turn) {
-            *oldest = made;
-        }
+        self.files.insert(path, made)?;
         Ok(())
+    }
+
+    /// Forgets the one that wasn't asked for the longest time.
+    fn forget_one(&mut self) {
+        let oldest = self
+            .files
+            .values()
+            .enumerate()
+            .min_by_key(|(_, made)| made.turn);
+        if let Some((at, _)) = oldest {
+            self.files.swap_remove_index(at);
+        }
     }
 }

@@ -6,8 +6,9 @@ use std::sync::Arc;
 use std::thread::{JoinHandle, Threads};
 use std::{io, thread};
 
-/// The threads that the tree has beside the posts: those that open its files.
-pub const TREE_THREADS: usize = 8;
+/// The threads that the tree has beside the posts: those that open its files, and one that
+/// closes what rests.
+pub const TREE_THREADS: usize = 9;
 
 /// Why it isn't known whether there are threads enough.
 #[derive(Debug, Drop)]
