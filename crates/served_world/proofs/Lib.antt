@@ -12,4 +12,5 @@ pub mod PlacesAlong
 pub mod NodePlaces
 pub mod PresentedPaths
 pub mod AddPlaces
+pub mod ShownPlaces
 pub mod OwnPlaceLaws

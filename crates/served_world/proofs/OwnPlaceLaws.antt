@@ -1,5 +1,5 @@
 -- Where the looks lie that stand in the item of a request that an application makes.
-use Rattle.std.proofs.Common.{◌≡◌, ◌≤◌, ℕ, ◌==◌, List, [], length, Bool, true, false, Option, Some, None, cond, refl, sym, subst, arith}
+use Rattle.std.proofs.Common.{◌≡◌, ◌≤◌, ℕ, ◌==◌, List, [], ◌∷◌, ◌++◌, length, map, take, Bool, true, false, Option, Some, None, cond, refl, sym, subst, arith}
 use Rattle.std.specs.List.{All, AllByRecursion}
 use Rattle.std.proofs.lemmas.List.Elements.{All-from_recursion}
 use Rattle.portal_base.specs.declared.files.Look.{Look}
@@ -9,23 +9,27 @@ use Rattle.portal_model.specs.declared.request.AddRequest.{AddRequest}
 use Rattle.portal_model.specs.declared.request.NodeRequest.{NodeRequest}
 use Rattle.portal_model.specs.declared.request.Request.{Request}
 use Rattle.portal_model.specs.declared.state.Connection.{Connection}
+use Rattle.portal_model.specs.Add.{add}
 use Rattle.portal_model.specs.Bus.{is_tree}
-use Rattle.portal_model.specs.History.{made_by, makes}
+use Rattle.portal_model.specs.History.{EachLawful, made_by, makes, run}
 use Rattle.portal_model.specs.Lawful.{Lawful, LawfulGiven, LawfulOnBus, LawfulOnNode, nothing_given}
+use Rattle.portal_model.specs.Node.{facts_of, walk_on_node}
 use Rattle.portal_model.specs.Outside.{files_told, walk_of}
 use Rattle.portal_model.specs.State.{State, connection_of, is_app}
-use Rattle.portal_model.specs.Step.{all_told, bus_of, is_mount, mount_of}
+use Rattle.portal_model.specs.Step.{after, all_told, bus_of, is_mount, mount_of}
 use Rattle.portal_model.specs.Valid.{Valid, is_sound_connection}
-use Rattle.portal_model.specs.Walk.{Gives, Target}
+use Rattle.portal_model.specs.Walk.{Gives, Target, Walk, shown_at}
 use Rattle.portal_model.proofs.ListLookups.{found_in_all, found_passes, nat_is}
 use Rattle.portal_model.proofs.Queues.{queue_sound}
+use Rattle.portal_model.proofs.ValidLaws.{after-Valid}
 use Rattle.app_world.specs.View.{OwnConnection, own_connection, view}
 use Rattle.app_world.proofs.ViewLaws.{is_app-named, own-some}
 use Rattle.served_world.specs.OwnPlaces.{MayAsk, OwnLooksAreOfItsFiles, PresentsItsOwn, add_places, node_places, places_asked, places_of, waits_at_home}
 use Rattle.served_world.proofs.AddPlaces.{add-places}
 use Rattle.served_world.proofs.NodePlaces.{node-places}
 use Rattle.served_world.proofs.PlacesAlong.{looks-placed}
-use Rattle.served_world.proofs.PresentedPaths.{all-presented}
+use Rattle.served_world.proofs.PresentedPaths.{after-home}
+use Rattle.served_world.proofs.ShownPlaces.{add-made, node-made, shown-along}
 
 -- ---- a place for each look
 
@@ -65,6 +69,53 @@ module _ (s : State) (given : Given) where
   placed seat (Request.ListDocuments name) l = bus-placed (Request.ListDocuments name) (λ t c g. g.0) (bus_of (connection_of s.connections seat)) l
   placed seat (Request.Store call) l = bus-placed (Request.Store call) (λ t c g. g.0) (bus_of (connection_of s.connections seat)) l
 
+-- ---- what the files have there
+
+module _ (s : State) (given : Given) (t : s.told ≡ true) where
+  abbrev Shown : List Target → Type 0
+  Shown places = given.looks ≡ take (length given.looks) (map (shown_at s.files) places)
+
+  nothing-is : given ≡ nothing_given → Shown []
+  nothing-is e = subst (λ (g : Given). g.looks ≡ take (length g.looks) []) (sym e) refl
+
+  none-is : given.looks ≡ [] → Shown []
+  none-is e = subst (λ (l : List Look). l ≡ take (length l) []) (sym e) refl
+
+  by_files : {X : Type 0} (w : Walk X) → Gives (cond s.told (Some s.files) None) w given.looks (is_tree given.fault) → Gives (Some s.files) w given.looks (is_tree given.fault)
+  by_files w g = subst (λ (b : Bool). Gives (cond b (Some s.files) None) w given.looks (is_tree given.fault)) t g
+
+  node-shown : (r : NodeRequest) (o : Option Connection) → LawfulOnNode s r given o → Shown (node_places s r given o)
+  node-shown r None l = nothing-is l
+  node-shown r (Some c) l =
+      let told : State = all_told c.seat s in
+      shown-along s.files (walk_on_node told c r) (node-made s.files (facts_of told c r.node) r r.op) given.looks (is_tree given.fault) (by_files (walk_on_node told c r) l.looks)
+
+  add-shown : (a : AddRequest) (o : Option Connection) → LawfulOnBus s (Request.Add a) given o → Shown (add_places s a given o)
+  add-shown a None l = nothing-is l
+  add-shown a (Some c) l =
+      let told : State = all_told c.seat s in
+      shown-along s.files (add told c a given.numbers) (add-made s.files told c a given.numbers) given.looks (is_tree given.fault) (by_files (add told c a given.numbers) l.looks)
+
+  bus-shown : (request : Request) →
+      ((u : State) (c : Connection) → Gives (files_told u) (walk_of u c request given) given.looks (is_tree given.fault) → given.looks ≡ []) → (o : Option Connection) → LawfulOnBus s request given o → Shown []
+  bus-shown request f None l = nothing-is l
+  bus-shown request f (Some c) l = none-is (f (all_told c.seat s) c l.looks)
+
+  shown : (seat : ℕ) (request : Request) → LawfulGiven s seat request given → Shown (places_of s seat given request)
+  shown seat (Request.Node r) l = node-shown r (mount_of (connection_of s.connections seat)) l
+  shown seat (Request.Add a) l = add-shown a (bus_of (connection_of s.connections seat)) l
+  shown seat (Request.Enter who kind) l = nothing-is l.1
+  shown seat Request.Leave l = nothing-is l
+  shown seat Request.Collect l = nothing-is l
+  shown seat (Request.Present path) l = bus-shown (Request.Present path) (λ u c g. g.0) (bus_of (connection_of s.connections seat)) l
+  shown seat (Request.Grant call) l = bus-shown (Request.Grant call) (λ u c g. g.0) (bus_of (connection_of s.connections seat)) l
+  shown seat (Request.Revoke call) l = bus-shown (Request.Revoke call) (λ u c g. g.0) (bus_of (connection_of s.connections seat)) l
+  shown seat (Request.DeleteDocument doc) l = bus-shown (Request.DeleteDocument doc) (λ u c g. g.0) (bus_of (connection_of s.connections seat)) l
+  shown seat (Request.LookupDocument path) l = bus-shown (Request.LookupDocument path) (λ u c g. g.0) (bus_of (connection_of s.connections seat)) l
+  shown seat (Request.Info doc) l = bus-shown (Request.Info doc) (λ u c g. g.0) (bus_of (connection_of s.connections seat)) l
+  shown seat (Request.ListDocuments name) l = bus-shown (Request.ListDocuments name) (λ u c g. g.0) (bus_of (connection_of s.connections seat)) l
+  shown seat (Request.Store call) l = bus-shown (Request.Store call) (λ u c g. g.0) (bus_of (connection_of s.connections seat)) l
+
 -- ---- each place
 
 module _ (app : List ℕ) (s : State) (v : Valid s) (p : PresentsItsOwn app s) (seat : ℕ) (given : Given) where
@@ -100,10 +151,17 @@ module _ (app : List ℕ) (s : State) (v : Valid s) (p : PresentsItsOwn app s) (
   all-may (Request.Add a) m = add-may a (connection_of s.connections seat) refl m
   all-may request m = tt
 
+-- ---- in a history
+
+places-in : (front rest : List Entry) (e : Entry) (app : List ℕ) (s : State) → Valid s → EachLawful s (front ++ e ∷ rest) → PresentsItsOwn app s → makes app (run s front) e ≡ true →
+    All (MayAsk app (run s front) e.seat e.request) (places_asked (run s front) e)
+places-in [] rest e app s v l p m = All-from_recursion (MayAsk app s e.seat e.request) (places_asked s e) (all-may app s v p e.seat e.given e.request m)
+places-in (f ∷ front) rest e app s v l p m = places-in front rest e app (after s f) (after-Valid s f v l.0) l.1 (after-home app s f v l.0 p) m
+
 pub own_looks_placed : OwnLooksAreOfItsFiles
 own_looks_placed = record {
   looks = λ app s e l m. placed s e.given e.seat e.request l.given;
-  places = λ app s e v p m. All-from_recursion (MayAsk app s e.seat e.request) (places_asked s e) (all-may app s v p e.seat e.given e.request m);
+  shows = λ app s e t l m. shown s e.given t e.seat e.request l.given;
+  places = λ app s front rest e l p m. places-in front rest e app s l.opening l.lawful p m;
   opened = λ app files o. refl;
-  presented = λ app s h l p. all-presented h app s l.opening l.lawful p;
 }

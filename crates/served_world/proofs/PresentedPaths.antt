@@ -23,7 +23,7 @@ use Rattle.portal_model.specs.Arguments.{ahead_of_end, is_ended_path}
 use Rattle.portal_model.specs.Bus.{is_tree, moment_given}
 use Rattle.portal_model.specs.Content.{Content}
 use Rattle.portal_model.specs.Grant.{are_rights_arguments, may_grant}
-use Rattle.portal_model.specs.History.{EachLawful, makes, run}
+use Rattle.portal_model.specs.History.{makes}
 use Rattle.portal_model.specs.Lawful.{Lawful}
 use Rattle.portal_model.specs.NodeVerdict.{HandleChange, HandlesStay, Opens, Closes, NodeDoing, NodeVerdict, Errs, Yields}
 use Rattle.portal_model.specs.Revoke.{may_revoke}
@@ -32,7 +32,6 @@ use Rattle.portal_model.specs.Step.{after, is_mount}
 use Rattle.portal_model.specs.Valid.{Valid}
 use Rattle.portal_model.specs.Walk.{Walk, Answers, looks_at_all, walked}
 use Rattle.portal_model.proofs.DocumentChanges.{both, first_of_both, second_of_both}
-use Rattle.portal_model.proofs.ValidLaws.{after-Valid}
 use Rattle.rights_rule.specs.Rights.{rights_named}
 use Rattle.app_world.specs.Add.{OwnAdded, OwnFile, content_shown, own_add, own_add_file, own_add_shown, own_added_files, own_again, own_call_files, own_looks, own_may_list_all, own_taken_from_queue, own_use_document, own_walk_unless}
 use Rattle.app_world.specs.Bus.{own_bus_step, own_bus_verdict, own_kept, own_refused_view, own_settled}
@@ -341,11 +340,9 @@ module _ (app : List ℕ) where
         ap (λ (x : AppView). all_home x.connections) (sym (steps.other app s e v l m))
         ∙ (ap all_home (all-applied (touch app s e) (view s app)) ∙ h)
 
-    after-home : (b : Bool) → makes app s e ≡ b → PresentsItsOwn app (after s e)
-    after-home true m = own-home m
-    after-home false m = other-home m
+    by_maker : (b : Bool) → makes app s e ≡ b → PresentsItsOwn app (after s e)
+    by_maker true m = own-home m
+    by_maker false m = other-home m
 
-pub all-presented : (h : List Entry) (app : List ℕ) (s : State) → Valid s → EachLawful s h → PresentsItsOwn app s → PresentsItsOwn app (run s h)
-all-presented [] app s v l p = p
-all-presented (e ∷ es) app s v l p =
-    all-presented es app (after s e) (after-Valid s e v l.0) l.1 (after-home app s e v l.0 p (makes app s e) refl)
+    pub after-home : PresentsItsOwn app (after s e)
+    after-home = by_maker (makes app s e) refl

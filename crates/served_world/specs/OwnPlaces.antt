@@ -1,6 +1,6 @@
 -- Where the tree is asked for a request of an application, and where it may be: so what the looks
 -- can tell that stand in the item of such a request.
-use Rattle.std.specs.Prelude.{◌≡◌, ◌≤◌, ◌⊎◌, ℕ, List, [], ◌∷◌, length, Bool, true, false, Option, Some, None}
+use Rattle.std.specs.Prelude.{◌≡◌, ◌≤◌, ◌⊎◌, ℕ, List, [], ◌∷◌, ◌++◌, length, map, take, Bool, true, false, Option, Some, None}
 use Rattle.std.specs.List.{All, list_all}
 use Rattle.portal_base.specs.Names.{is_host_path, is_in_own_folder}
 use Rattle.portal_base.specs.declared.files.File.{File}
@@ -27,8 +27,7 @@ use Rattle.portal_model.specs.Opening.{opened_over}
 use Rattle.portal_model.specs.Reach.{OpenFile}
 use Rattle.portal_model.specs.State.{State, connection_of, document_of, handle_of, has}
 use Rattle.portal_model.specs.Step.{all_told, bus_of, mount_of}
-use Rattle.portal_model.specs.Valid.{Valid}
-use Rattle.portal_model.specs.Walk.{Walk, Answers, Looks, Ends, Target, AtPath, Named, LastCall, Uses, Changes, Makes}
+use Rattle.portal_model.specs.Walk.{Walk, Answers, Looks, Ends, Target, AtPath, Named, LastCall, Uses, Changes, Makes, shown_at}
 use Rattle.app_world.specs.View.{OwnConnection, is_among, view}
 use Rattle.served_world.specs.ServedOwn.{served_own}
 
@@ -144,15 +143,19 @@ pub record OwnLooksAreOfItsFiles : Type 0 where
   pub looks :
       (app : List ℕ) (s : State) (e : Entry) → Lawful s e → makes app s e ≡ true →
       length (served_own s e).looks ≤ length (places_asked s e)
-  -- and each place where the tree is asked is one where the application may look
+  -- where the tree tells its files, the looks are what these have at the places
+  pub shows :
+      (app : List ℕ) (s : State) (e : Entry) → s.told ≡ true → Lawful s e →
+      makes app s e ≡ true →
+      (served_own s e).looks
+      ≡ take (length (served_own s e).looks) (map (shown_at s.files) (places_asked s e))
+  -- In each legal history each of the places is one where the application may look, be the tree
+  -- told or not, if at the start there waits nothing of it that it may not present.
   pub places :
-      (app : List ℕ) (s : State) (e : Entry) → Valid s → PresentsItsOwn app s →
-      makes app s e ≡ true → All (MayAsk app s e.seat e.request) (places_asked s e)
-  -- A portal begins with no connection, so nothing waits there; and in each history an application
-  -- presents what lies in its own folder, and nothing else.
+      (app : List ℕ) (s : State) (front rest : List Entry) (e : Entry) →
+      Legal s (front ++ e ∷ rest) → PresentsItsOwn app s → makes app (run s front) e ≡ true →
+      All (MayAsk app (run s front) e.seat e.request) (places_asked (run s front) e)
+  -- which is so in each state that a portal is opened in, since no connection is open there
   pub opened :
       (app : List ℕ) (files : Option (List File)) (o : OpeningState) →
       PresentsItsOwn app (opened_over files o)
-  pub presented :
-      (app : List ℕ) (s : State) (h : List Entry) → Legal s h → PresentsItsOwn app s →
-      PresentsItsOwn app (run s h)
