@@ -1,5 +1,5 @@
 -- Where the tree is asked for an Add of an application: at files in its own folder, which it presented.
-use Rattle.std.proofs.Common.{◌≡◌, ℕ, ◌<◌, ◌≤◌, ◌==◌, nat_le, nat_lt, List, [], ◌∷◌, ◌++◌, get_or, length, map, take, Bool, true, false, not, ◌&&◌, ◌||◌, cond, refl, sym, ap, subst, ◌∙◌, arith, append_assoc, Some}
+use Rattle.std.proofs.Common.{◌≡◌, ℕ, ◌<◌, ◌≤◌, nat_le, nat_lt, List, [], ◌∷◌, ◌++◌, get_or, length, map, take, Bool, true, false, not, ◌&&◌, ◌||◌, cond, refl, ap, ◌∙◌, arith, append_assoc, Some}
 use Rattle.std.specs.List.{AllByRecursion, flat_map, list_all}
 use Rattle.std.proofs.lemmas.Bool.Decides.{nat_tests}
 use Rattle.portal_base.specs.Names.{child_of, is_app_name, is_host_path, is_in_own_folder, is_same}
@@ -23,7 +23,7 @@ use Rattle.portal_model.proofs.DocumentChanges.{both, first_of_both, second_of_b
 use Rattle.portal_model.proofs.ListLookups.{is_same-refl}
 use Rattle.portal_model.proofs.Queues.{picked}
 use Rattle.app_world.specs.View.{is_among}
-use Rattle.served_world.specs.OwnPlaces.{IsPresented, MayAsk, places_along}
+use Rattle.served_world.specs.OwnPlaces.{MayAsk, places_along}
 use Rattle.served_world.proofs.NodePlaces.{all-weaker}
 
 holds : (b : Bool) → not b ≡ false → b ≡ true
@@ -167,14 +167,16 @@ module _ (app : List ℕ) (s : State) (c : Connection) (a : AddRequest) (here : 
   each-presented : (paths : List (List ℕ)) → AllByRecursion (λ path. is_among (paths_shown c.queue a) path ≡ true) paths → list_all (is_in_own_folder app) paths ≡ true → list_all is_host_path paths ≡ true →
       AllByRecursion (λ path. May (AtPath path)) paths
   each-presented [] m h k = tt
-  each-presented (path ∷ paths) m h k =
-      (record {
-        connection = c;
-        here = here;
-        presented = m.0;
-        own = first_of_both (is_in_own_folder app path) (list_all (is_in_own_folder app) paths) h;
-        on_host = first_of_both (is_host_path path) (list_all is_host_path paths) k;
-      }, each-presented paths m.1 (second_of_both (is_in_own_folder app path) (list_all (is_in_own_folder app) paths) h) (second_of_both (is_host_path path) (list_all is_host_path paths) k))
+  each-presented (path ∷ paths) m h k = (
+    record {
+      connection = c;
+      here = here;
+      presented = m.0;
+      own = first_of_both (is_in_own_folder app path) (list_all (is_in_own_folder app) paths) h;
+      on_host = first_of_both (is_host_path path) (list_all is_host_path paths) k;
+    },
+    each-presented paths m.1 (second_of_both (is_in_own_folder app path) (list_all (is_in_own_folder app) paths) h) (second_of_both (is_host_path path) (list_all is_host_path paths) k),
+  )
 
   module _ (own : list_all (is_in_own_folder app) c.queue ≡ true) (host : list_all is_host_path c.queue ≡ true) (given : Given) where
     abbrev told : State

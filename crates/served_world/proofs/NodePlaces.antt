@@ -5,7 +5,6 @@ use Rattle.std.specs.List.{AllByRecursion}
 use Rattle.portal_base.specs.declared.files.FileName.{FileName}
 use Rattle.portal_base.specs.declared.files.Look.{Look}
 use Rattle.portal_base.specs.declared.who.Who.{Who}
-use Rattle.portal_model.specs.declared.handle.Handle.{Handle}
 use Rattle.portal_model.specs.declared.place.Place.{Place}
 use Rattle.portal_model.specs.declared.request.NodeOp.{NodeOp}
 use Rattle.portal_model.specs.declared.request.NodeRequest.{NodeRequest}
@@ -13,16 +12,16 @@ use Rattle.portal_model.specs.declared.request.Request.{Request}
 use Rattle.portal_model.specs.declared.rights.Right.TheVariants.{Read, Write}
 use Rattle.portal_model.specs.declared.state.Connection.{Connection}
 use Rattle.portal_model.specs.declared.state.Document.{Document}
-use Rattle.portal_model.specs.Node.{NodeFacts, facts_of, node_walk, walk_on_node}
+use Rattle.portal_model.specs.Node.{facts_of, node_walk, walk_on_node}
 use Rattle.portal_model.specs.Place.{FolderOf, Sight, SightOfFile, SightOfFolder, place_named, place_of, reach_at, reach_of_subject, seen_by, sight_at, sight_of_document, sight_of_folder, sight_of_place, sight_of_root, subject_of, view_of_node}
-use Rattle.portal_model.specs.Reach.{OpenFile, may_read_now, may_write_now, reach_of, reaches}
+use Rattle.portal_model.specs.Reach.{OpenFile, reach_of, reaches}
 use Rattle.portal_model.specs.State.{State, app_has, document_of, handle_of, has, who_has}
 use Rattle.portal_model.specs.Step.{all_told}
 use Rattle.portal_model.specs.Walk.{Target, AtPath, Named}
 use Rattle.portal_model.proofs.DocumentChanges.{first_of_both, second_of_both}
 use Rattle.portal_model.proofs.ListLookups.{found_passes, nat_is}
 use Rattle.app_world.proofs.NamedPaths.{SightOn}
-use Rattle.served_world.specs.OwnPlaces.{IsOpen, IsReadable, MayAsk, follows_rights, is_opened_for, places_along}
+use Rattle.served_world.specs.OwnPlaces.{IsOpen, IsReadable, MayAsk, MayAskFor, places_along}
 use Rattle.served_world.proofs.PlacesAlong.{Along, May, access-along, along-places, create-along, flush-along, fsync-along, get_attr-along, lookup-along, open-along, open_dir-along, read-along, read_dir-along, release-along, release_dir-along, set_attr-along, write-along}
 
 -- ---- what the application sees at a node is of a document that it may read
@@ -86,6 +85,13 @@ module _ (app : List ℕ) (t : State) where
 
 -- ---- the walk of each request
 
+-- whether it may ask for the file of a document
+abbrev ByDocument : List ℕ → State → NodeOp → List ℕ → Type 0
+ByDocument app t (NodeOp.Read fh offset size) path = ⊥
+ByDocument app t (NodeOp.Write fh offset content) path = ⊥
+ByDocument app t (NodeOp.Fsync fh) path = ⊥
+ByDocument app t op path = IsReadable app t path
+
 module _ (app : List ℕ) (t : State) (c : Connection) (named : c.who ≡ Who.App app) where
   sight-of : (node : ℕ) → SightOn (IsReadable app t) (place_of t c.who node)
   sight-of node = subst (λ (who : Who). SightOn (IsReadable app t) (place_of t who node)) (sym named) (node-seen app t node)
@@ -94,22 +100,28 @@ module _ (app : List ℕ) (t : State) (c : Connection) (named : c.who ≡ Who.Ap
   reads-of file h e = reads-now app t file (subst (λ (who : Who). reaches (reach_at t who) file ≡ true) named h) e
 
   abbrev Walks : NodeRequest → NodeOp → Type 0
-  Walks r op = Along (IsReadable app t) (IsOpen app t c.seat op) (node_walk (facts_of t c r.node) r op)
+  Walks r op = Along (ByDocument app t op) (IsOpen app t c.seat op) (node_walk (facts_of t c r.node) r op)
+
+  abbrev Reads : List ℕ → Type 0
+  Reads = IsReadable app t
+
+  abbrev OpenFor : NodeOp → FileName → Type 0
+  OpenFor op = IsOpen app t c.seat op
 
   walk-places : (r : NodeRequest) (op : NodeOp) → Walks r op
-  walk-places r (NodeOp.Lookup name) = lookup-along _ _ r name (place_of t c.who r.node) (sight-of r.node)
+  walk-places r (NodeOp.Lookup name) = lookup-along Reads (OpenFor (NodeOp.Lookup name)) r name (place_of t c.who r.node) (sight-of r.node)
   walk-places r (NodeOp.Forget count) = tt
   walk-places r (NodeOp.BatchForget nodes) = tt
   walk-places r (NodeOp.GetAttr flags fh) =
-      get_attr-along _ _ (reach_at t c.who) r flags (place_of t c.who r.node) (handle_of t.handles c.seat fh) (sight-of r.node)
+      get_attr-along Reads (OpenFor (NodeOp.GetAttr flags fh)) (reach_at t c.who) r flags (place_of t c.who r.node) (handle_of t.handles c.seat fh) (sight-of r.node)
       (λ file is ok. record { fh = fh; file = file; handle = is; name_is = refl; opened_for = refl; strict = λ e f. reads-of file ok e })
   walk-places r (NodeOp.SetAttr valid fh size) =
-      set_attr-along _ _ (reach_at t c.who) r (record { valid = valid; size = size; limit = t.limits.file_bytes }) (place_of t c.who r.node) (handle_of t.handles c.seat fh) (sight-of r.node)
+      set_attr-along Reads (OpenFor (NodeOp.SetAttr valid fh size)) (reach_at t c.who) r (record { valid = valid; size = size; limit = t.limits.file_bytes }) (place_of t c.who r.node) (handle_of t.handles c.seat fh) (sight-of r.node)
       (λ file is ok. record { fh = fh; file = file; handle = is; name_is = refl; opened_for = refl; strict = λ e f. reads-of file ok e })
-  walk-places r (NodeOp.Open flags) = open-along _ _ r flags (place_of t c.who r.node) _ (sight-of r.node)
-  walk-places r (NodeOp.Create name flags) = create-along _ _ r name flags (place_of t c.who r.node) _ (sight-of r.node)
+  walk-places r (NodeOp.Open flags) = open-along Reads (OpenFor (NodeOp.Open flags)) r flags (place_of t c.who r.node) _ (sight-of r.node)
+  walk-places r (NodeOp.Create name flags) = create-along Reads (OpenFor (NodeOp.Create name flags)) r name flags (place_of t c.who r.node) _ (sight-of r.node)
   walk-places r (NodeOp.Read fh offset size) =
-      read-along _ _ (reach_at t c.who) _ offset size (handle_of t.handles c.seat fh)
+      read-along (λ path. ⊥) (OpenFor (NodeOp.Read fh offset size)) (reach_at t c.who) _ offset size (handle_of t.handles c.seat fh)
       (λ file is ok. record {
         fh = fh;
         file = file;
@@ -119,7 +131,7 @@ module _ (app : List ℕ) (t : State) (c : Connection) (named : c.who ≡ Who.Ap
         strict = λ e f. reads-of file (second_of_both file.read (reaches (reach_at t c.who) file) ok) e;
       })
   walk-places r (NodeOp.Write fh offset content) =
-      write-along _ _ (reach_at t c.who) t.limits.file_bytes offset content (handle_of t.handles c.seat fh)
+      write-along (λ path. ⊥) (OpenFor (NodeOp.Write fh offset content)) (reach_at t c.who) t.limits.file_bytes offset content (handle_of t.handles c.seat fh)
       (λ file is ok.
       let writes : Bool = not file.strict || (reach_of (reach_at t c.who) file).write in
       record {
@@ -130,15 +142,15 @@ module _ (app : List ℕ) (t : State) (c : Connection) (named : c.who ≡ Who.Ap
         opened_for = first_of_both file.write (reaches (reach_at t c.who) file && writes) ok;
         strict = λ e f. reads-of file (first_of_both (reaches (reach_at t c.who) file) writes (second_of_both file.write (reaches (reach_at t c.who) file && writes) ok)) e;
       })
-  walk-places r (NodeOp.Flush fh) = flush-along _ _ (handle_of t.handles c.seat fh)
+  walk-places r (NodeOp.Flush fh) = flush-along Reads (OpenFor (NodeOp.Flush fh)) (handle_of t.handles c.seat fh)
   walk-places r (NodeOp.Fsync fh) =
-      fsync-along _ _ (handle_of t.handles c.seat fh)
+      fsync-along (λ path. ⊥) (OpenFor (NodeOp.Fsync fh)) (handle_of t.handles c.seat fh)
       (λ file is ok. record { fh = fh; file = file; handle = is; name_is = refl; opened_for = refl; strict = λ e f. let no : false ≡ true = f in cc })
-  walk-places r (NodeOp.Release fh) = release-along _ _ fh (handle_of t.handles c.seat fh)
-  walk-places r NodeOp.OpenDir = open_dir-along _ _ r (place_of t c.who r.node) _ (sight-of r.node)
-  walk-places r (NodeOp.ReadDir fh offset size) = read_dir-along _ _ offset size (handle_of t.handles c.seat fh)
-  walk-places r (NodeOp.ReleaseDir fh) = release_dir-along _ _ fh (handle_of t.handles c.seat fh)
-  walk-places r (NodeOp.Access mask) = access-along _ _ mask (place_of t c.who r.node) (sight-of r.node)
+  walk-places r (NodeOp.Release fh) = release-along Reads (OpenFor (NodeOp.Release fh)) fh (handle_of t.handles c.seat fh)
+  walk-places r NodeOp.OpenDir = open_dir-along Reads (OpenFor NodeOp.OpenDir) r (place_of t c.who r.node) _ (sight-of r.node)
+  walk-places r (NodeOp.ReadDir fh offset size) = read_dir-along Reads (OpenFor (NodeOp.ReadDir fh offset size)) offset size (handle_of t.handles c.seat fh)
+  walk-places r (NodeOp.ReleaseDir fh) = release_dir-along Reads (OpenFor (NodeOp.ReleaseDir fh)) fh (handle_of t.handles c.seat fh)
+  walk-places r (NodeOp.Access mask) = access-along Reads (OpenFor (NodeOp.Access mask)) mask (place_of t c.who r.node) (sight-of r.node)
 
 -- ---- in the state in which it is asked
 
@@ -153,15 +165,30 @@ module _ (app : List ℕ) (s : State) (c : Connection) (r : NodeRequest) where
   readable-asked : (path : List ℕ) → IsReadable app told path → IsReadable app s path
   readable-asked path x = record { document = x.document; live = x.live; path_is = x.path_is; read = x.read }
 
-  open-asked : (name : FileName) → IsOpen app told c.seat r.op name → IsOpen app s c.seat r.op name
-  open-asked name x = record { fh = x.fh; file = x.file; handle = x.handle; name_is = x.name_is; opened_for = x.opened_for; strict = x.strict }
+  open-asked : (op : NodeOp) (name : FileName) → IsOpen app told c.seat op name → IsOpen app s c.seat op name
+  open-asked op name x = record { fh = x.fh; file = x.file; handle = x.handle; name_is = x.name_is; opened_for = x.opened_for; strict = x.strict }
 
-  may-ask : (place : Target) → May (IsReadable app told) (IsOpen app told c.seat r.op) place → MayAsk app s c.seat (Request.Node r) place
-  may-ask (AtPath path) h = readable-asked path h
-  may-ask (Named name) (inl h) = inl (readable-asked name.path h)
-  may-ask (Named name) (inr h) = inr (open-asked name h)
+  path-asked : (op : NodeOp) (path : List ℕ) → ByDocument app told op path → IsReadable app s path
+  path-asked (NodeOp.Read fh offset size) path h = absurd h
+  path-asked (NodeOp.Write fh offset content) path h = absurd h
+  path-asked (NodeOp.Fsync fh) path h = absurd h
+  path-asked op path h = readable-asked path h
+
+  name-asked : (op : NodeOp) (name : FileName) → ByDocument app told op name.path ⊎ IsOpen app told c.seat op name → MayAskFor app s c.seat op name
+  name-asked (NodeOp.Read fh offset size) name (inl h) = absurd h
+  name-asked (NodeOp.Read fh offset size) name (inr h) = open-asked (NodeOp.Read fh offset size) name h
+  name-asked (NodeOp.Write fh offset content) name (inl h) = absurd h
+  name-asked (NodeOp.Write fh offset content) name (inr h) = open-asked (NodeOp.Write fh offset content) name h
+  name-asked (NodeOp.Fsync fh) name (inl h) = absurd h
+  name-asked (NodeOp.Fsync fh) name (inr h) = open-asked (NodeOp.Fsync fh) name h
+  name-asked op name (inl h) = inl (readable-asked name.path h)
+  name-asked op name (inr h) = inr (open-asked op name h)
+
+  may-ask : (place : Target) → May (ByDocument app told r.op) (IsOpen app told c.seat r.op) place → MayAsk app s c.seat (Request.Node r) place
+  may-ask (AtPath path) h = path-asked r.op path h
+  may-ask (Named name) h = name-asked r.op name h
 
   pub node-places : c.who ≡ Who.App app → (looks : List Look) → AllByRecursion (MayAsk app s c.seat (Request.Node r)) (places_along (walk_on_node told c r) looks)
   node-places named looks =
-      all-weaker (May (IsReadable app told) (IsOpen app told c.seat r.op)) (MayAsk app s c.seat (Request.Node r)) may-ask (places_along (walk_on_node told c r) looks)
-      (along-places (IsReadable app told) (IsOpen app told c.seat r.op) (walk_on_node told c r) (walk-places app told c named r r.op) looks)
+      all-weaker (May (ByDocument app told r.op) (IsOpen app told c.seat r.op)) (MayAsk app s c.seat (Request.Node r)) may-ask (places_along (walk_on_node told c r) looks)
+      (along-places (ByDocument app told r.op) (IsOpen app told c.seat r.op) (walk_on_node told c r) (walk-places app told c named r r.op) looks)

@@ -12,7 +12,7 @@ use Rattle.portal_model.specs.declared.state.Connection.{Connection}
 use Rattle.portal_model.specs.Add.{add}
 use Rattle.portal_model.specs.Bus.{is_tree}
 use Rattle.portal_model.specs.History.{EachLawful, made_by, makes, run}
-use Rattle.portal_model.specs.Lawful.{Lawful, LawfulGiven, LawfulOnBus, LawfulOnNode, nothing_given}
+use Rattle.portal_model.specs.Lawful.{LawfulGiven, LawfulOnBus, LawfulOnNode, nothing_given}
 use Rattle.portal_model.specs.Node.{facts_of, walk_on_node}
 use Rattle.portal_model.specs.Outside.{files_told, walk_of}
 use Rattle.portal_model.specs.State.{State, connection_of, is_app}
@@ -160,8 +160,8 @@ places-in (f ∷ front) rest e app s v l p m = places-in front rest e app (after
 
 pub own_looks_placed : OwnLooksAreOfItsFiles
 own_looks_placed = record {
-  looks = λ app s e l m. placed s e.given e.seat e.request l.given;
-  shows = λ app s e t l m. shown s e.given t e.seat e.request l.given;
+  looks = λ s e l. placed s e.given e.seat e.request l.given;
+  shows = λ s e t l. shown s e.given t e.seat e.request l.given;
   places = λ app s front rest e l p m. places-in front rest e app s l.opening l.lawful p m;
   opened = λ app files o. refl;
 }

@@ -1,6 +1,6 @@
 -- What waits on the connections of an application lies in its own folder, and stays so: it presents nothing else.
 use Rattle.std.proofs.Common.{◌≡◌, ℕ, zero, suc, ◌+◌, ◌==◌, nat_lt, List, [], ◌∷◌, ◌++◌, length, drop, fold, map, Bool, true, false, not, ◌&&◌, cond, Option, Some, None, refl, sym, ap, subst, ◌∙◌}
-use Rattle.std.specs.List.{filter, find, list_all}
+use Rattle.std.specs.List.{filter, list_all}
 use Rattle.std.proofs.lemmas.List.Folds.{list_all-append}
 use Rattle.portal_base.specs.Names.{is_in_own_folder, is_same}
 use Rattle.portal_base.specs.declared.files.Look.{Look}
@@ -18,7 +18,7 @@ use Rattle.portal_model.specs.declared.request.Request.{Request}
 use Rattle.portal_model.specs.declared.request.RightsCall.{RightsCall}
 use Rattle.portal_model.specs.declared.state.Connection.{Connection}
 use Rattle.portal_model.specs.Add.{adding_rights, are_of_kind, first_number, new_document, used_again}
-use Rattle.portal_model.specs.AddArguments.{are_add_arguments, are_presented, document_paths, is_left_out, paths_shown}
+use Rattle.portal_model.specs.AddArguments.{are_add_arguments, are_presented, is_left_out, paths_shown}
 use Rattle.portal_model.specs.Arguments.{ahead_of_end, is_ended_path}
 use Rattle.portal_model.specs.Bus.{is_tree, moment_given}
 use Rattle.portal_model.specs.Content.{Content}
@@ -33,7 +33,7 @@ use Rattle.portal_model.specs.Valid.{Valid}
 use Rattle.portal_model.specs.Walk.{Walk, Answers, looks_at_all, walked}
 use Rattle.portal_model.proofs.DocumentChanges.{both, first_of_both, second_of_both}
 use Rattle.rights_rule.specs.Rights.{rights_named}
-use Rattle.app_world.specs.Add.{OwnAdded, OwnFile, content_shown, own_add, own_add_file, own_add_shown, own_added_files, own_again, own_call_files, own_looks, own_may_list_all, own_taken_from_queue, own_use_document, own_walk_unless}
+use Rattle.app_world.specs.Add.{OwnAdded, OwnFile, content_shown, own_add, own_add_file, own_added_files, own_again, own_call_files, own_looks, own_may_list_all, own_taken_from_queue, own_use_document, own_walk_unless}
 use Rattle.app_world.specs.Bus.{own_bus_step, own_bus_verdict, own_kept, own_refused_view, own_settled}
 use Rattle.app_world.specs.DeleteDocument.{own_delete_reached}
 use Rattle.app_world.specs.Effect.{Effect, Bytes, Gained, Gone, Lost, apply, apply_all}

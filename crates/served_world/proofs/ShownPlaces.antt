@@ -1,5 +1,5 @@
 -- Over a tree that tells its files the looks that are given to a request are what the files have at its places.
-use Rattle.std.proofs.Common.{◌≡◌, ℕ, List, [], ◌∷◌, length, map, take, Bool, true, false, not, Option, Some, None, is_some, refl, sym, ap, subst, ◌∙◌}
+use Rattle.std.proofs.Common.{◌≡◌, ℕ, List, [], ◌∷◌, length, map, take, Bool, true, false, not, Option, Some, None, is_some, refl, sym, subst, ◌∙◌}
 use Rattle.portal_base.specs.Content.{file_named}
 use Rattle.portal_base.specs.declared.files.File.{File}
 use Rattle.portal_base.specs.declared.files.Look.{Look}
@@ -19,7 +19,7 @@ use Rattle.portal_model.specs.NodeVerdict.{NodeVerdict}
 use Rattle.portal_model.specs.Place.{Folder, FolderOf, RootOf, Views, Sight, SightOfFile, SightOfFolder}
 use Rattle.portal_model.specs.State.{State}
 use Rattle.portal_model.specs.Verdict.{Verdict, unless, walk_unless}
-use Rattle.portal_model.specs.Walk.{Walk, Answers, Looks, Ends, Target, AtPath, Named, LastCall, Uses, Changes, Makes, Gives, is_found, look_of_file, looks_at_all, shown_at}
+use Rattle.portal_model.specs.Walk.{Walk, Answers, Looks, Ends, AtPath, LastCall, Uses, Changes, Makes, Gives, is_found, look_of_file, looks_at_all, shown_at}
 use Rattle.app_world.proofs.NamedPaths.{HandleOn, SightOn}
 use Rattle.app_world.proofs.WalksAlong.{Along, walk-along}
 use Rattle.served_world.specs.OwnPlaces.{place_of_call, places_along}

@@ -98,7 +98,8 @@ own_entries app s [] = []
 own_entries app s (e ∷ es) =
     cond (makes app s e) (e ∷ []) [] ++ own_entries app (after s e) es
 
--- No entry of another touches what the application holds, and none of its own uses a document again.
+-- No entry of another touches what the application holds, and none of its own uses a document
+-- again.
 abbrev pub IsApart : List ℕ → State → Entry → Bool → Type 0
 IsApart app s e true = UsesNoneAgain e.request
 IsApart app s e false = TouchesNothing app s e.request

@@ -104,6 +104,16 @@ pub record IsOpen (app : List ℕ) (s : State) (seat : ℕ) (op : NodeOp) (name 
       file.strict ≡ true → follows_rights op ≡ true →
       has s (Who.App app) file.document.number Read ≡ true
 
+-- A READ, a WRITE and an FSYNC go by a handle alone. Any other request may ask for the file of a
+-- document by its path, or by the handle.
+abbrev pub MayAskFor : List ℕ → State → ℕ → NodeOp → FileName → Type 0
+MayAskFor app s seat (NodeOp.Read fh offset size) name =
+    IsOpen app s seat (NodeOp.Read fh offset size) name
+MayAskFor app s seat (NodeOp.Write fh offset content) name =
+    IsOpen app s seat (NodeOp.Write fh offset content) name
+MayAskFor app s seat (NodeOp.Fsync fh) name = IsOpen app s seat (NodeOp.Fsync fh) name
+MayAskFor app s seat op name = IsReadable app s name.path ⊎ IsOpen app s seat op name
+
 -- ---- where it may be, for an Add
 
 -- The path waits on the connection of the seat as one that was presented there, or it is that of
@@ -122,8 +132,7 @@ pub record IsPresented (app : List ℕ) (s : State) (seat : ℕ) (a : AddRequest
 -- where the tree may be asked for this request of the application, on the connection of a seat
 abbrev pub MayAsk : List ℕ → State → ℕ → Request → Target → Type 0
 MayAsk app s seat (Request.Node r) (AtPath path) = IsReadable app s path
-MayAsk app s seat (Request.Node r) (Named name) =
-    IsReadable app s name.path ⊎ IsOpen app s seat r.op name
+MayAsk app s seat (Request.Node r) (Named name) = MayAskFor app s seat r.op name
 MayAsk app s seat (Request.Add a) (AtPath path) = IsPresented app s seat a path
 MayAsk app s seat request place = ⊥
 
@@ -141,12 +150,11 @@ PresentsItsOwn app s = list_all (waits_at_home app) (view s app).connections ≡
 pub record OwnLooksAreOfItsFiles : Type 0 where
   -- there is a place for each look of the item
   pub looks :
-      (app : List ℕ) (s : State) (e : Entry) → Lawful s e → makes app s e ≡ true →
+      (s : State) (e : Entry) → Lawful s e →
       length (served_own s e).looks ≤ length (places_asked s e)
   -- where the tree tells its files, the looks are what these have at the places
   pub shows :
-      (app : List ℕ) (s : State) (e : Entry) → s.told ≡ true → Lawful s e →
-      makes app s e ≡ true →
+      (s : State) (e : Entry) → s.told ≡ true → Lawful s e →
       (served_own s e).looks
       ≡ take (length (served_own s e).looks) (map (shown_at s.files) (places_asked s e))
   -- In each legal history each of the places is one where the application may look, be the tree
