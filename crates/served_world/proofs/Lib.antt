@@ -8,3 +8,9 @@ pub mod AlikeReplies
 pub mod ServedHistories
 pub mod OwnLooks
 pub mod ExampleProofs
+pub mod PlacesAlong
+pub mod NodePlaces
+pub mod PresentedPaths
+pub mod AddPlaces
+pub mod ShownPlaces
+pub mod OwnPlaceLaws

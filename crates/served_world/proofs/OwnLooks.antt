@@ -1,6 +1,6 @@
 -- What a trace holds of what the tree shows.
 use Rattle.std.proofs.Common.{◌≡◌, ℕ, List, [], ◌∷◌, ◌++◌, Bool, true, false, ◌&&◌, cond, Option, Some, None, refl, sym, ap, ◌∙◌, map}
-use Rattle.std.specs.List.{flat_map}
+use Rattle.std.specs.List.{AllZip, flat_map}
 use Rattle.std.specs.Option.{option_map}
 use Rattle.portal_base.specs.declared.names.doc_id.DocId.{DocId}
 use Rattle.portal_base.specs.declared.who.Who.{Who}
@@ -19,9 +19,10 @@ use Rattle.portal_model.specs.History.{makes}
 use Rattle.portal_model.specs.Lawful.{Lawful}
 use Rattle.portal_model.specs.Node.{bytes_named, node_given, walk_on_node}
 use Rattle.portal_model.specs.NodeVerdict.{NodeVerdict, Errs, Yields}
-use Rattle.portal_model.specs.State.{State, connection_of, held_of}
+use Rattle.portal_model.specs.State.{State, connection_of, held_of, is_none}
 use Rattle.portal_model.specs.Step.{after, bus_of, mount_of, reply_at}
 use Rattle.portal_model.specs.Valid.{Valid}
+use Rattle.portal_model.proofs.WhoWaits.{none-nil}
 use Rattle.app_world.specs.Add.{add_touch, document_used, files_touch, names_app, reused_of}
 use Rattle.app_world.specs.Bus.{add_touch_by}
 use Rattle.app_world.specs.DeleteDocument.{deleted_from}
@@ -35,7 +36,7 @@ use Rattle.app_world.specs.View.{held_document, view}
 use Rattle.app_world.specs.World.{request_touch, reused_on, touch}
 use Rattle.app_world.proofs.ReachedLaws.{own_reached-is}
 use Rattle.app_world.proofs.ViewLaws.{documents-same}
-use Rattle.served_world.specs.Laws.{AreApart, IsApart, TakesBareAlike, TouchesNothing, TracesHoldOwnLooks, UsesNoneAgain, own_entries}
+use Rattle.served_world.specs.Laws.{AreApart, IsApart, TakesBareAlike, TellAlike, Telling, TellTheSame, TouchesNothing, TracesHoldOwnLooks, UsesNoneAgain, entries_telling, own_entries}
 use Rattle.served_world.specs.ServedItem as item
 use Rattle.served_world.specs.ServedItem.{ServedItem, bare, items_of_effect}
 use Rattle.served_world.specs.ServedOwn.{ServedOwn, served_own}
@@ -195,10 +196,46 @@ same-trace : (app : List ℕ) (s t : State) (h k : List Entry) → TakesBareAlik
 same-trace app s t h k a x y e =
     λ i. record { opening = bare-alike app s t a i; items = (items-apart h app s x ∙ (ap (map plain_item) e ∙ sym (items-apart k app t y))) i }
 
+-- ---- histories that tell the same
+
+told-one : (app : List ℕ) (s : State) (e : Entry) (b : Bool) → makes app s e ≡ b → served_items_of app s e ≡ cond b (item.Own (served_own s e) ∷ []) (flat_map items_of_effect (touch app s e))
+told-one app s e b m = ap (λ (x : Bool). cond x (item.Own (served_own s e) ∷ []) (flat_map items_of_effect (touch app s e))) m
+
+module _ (app : List ℕ) where
+  abbrev items_told : Telling → List ServedItem
+  items_told x = served_items_of app x.state x.entry
+
+  one-telling : (items rest : List ServedItem) (x : Telling) (xs : List Telling) (b : Bool) → is_none items ≡ b → items_told x ≡ items → rest ≡ flat_map items_told xs →
+      items ++ rest ≡ flat_map items_told (cond b [] (x ∷ []) ++ xs)
+  one-telling items rest x xs true n e h = ap (λ (i : List ServedItem). i ++ rest) (none-nil items n) ∙ h
+  one-telling items rest x xs false n e h = λ i. sym e i ++ h i
+
+  items-telling : (h : List Entry) (s : State) → served_items app s h ≡ flat_map items_told (entries_telling app s h)
+  items-telling [] s = refl
+  items-telling (e ∷ es) s =
+      one-telling (served_items_of app s e) (served_items app (after s e) es) (record { state = s; entry = e }) (entries_telling app (after s e) es) (is_none (served_items_of app s e)) refl refl (items-telling es (after s e))
+
+  told-same : (x y : Telling) (b c : Bool) → makes app x.state x.entry ≡ b → makes app y.state y.entry ≡ c → TellTheSame app x y b c → items_told x ≡ items_told y
+  told-same x y true true m n h = told-one app x.state x.entry true m ∙ ((λ i. item.Own (h i) ∷ []) ∙ sym (told-one app y.state y.entry true n))
+  told-same x y true false m n h = absurd h
+  told-same x y false true m n h = absurd h
+  told-same x y false false m n h = told-one app x.state x.entry false m ∙ (h ∙ sym (told-one app y.state y.entry false n))
+
+  all-same : (xs ys : List Telling) → AllZip (TellAlike app) xs ys → flat_map items_told xs ≡ flat_map items_told ys
+  all-same [] [] h = refl
+  all-same [] (y ∷ ys) h = absurd h
+  all-same (x ∷ xs) [] h = absurd h
+  all-same (x ∷ xs) (y ∷ ys) h = λ i. told-same x y (makes app x.state x.entry) (makes app y.state y.entry) refl refl h.0 i ++ all-same xs ys h.1 i
+
+  alike-trace : (s t : State) (h k : List Entry) → TakesBareAlike app s t → AllZip (TellAlike app) (entries_telling app s h) (entries_telling app t k) → served_trace app s h ≡ served_trace app t k
+  alike-trace s t h k a z =
+      λ i. record { opening = bare-alike app s t a i; items = (items-telling h s ∙ (all-same (entries_telling app s h) (entries_telling app t k) z ∙ sym (items-telling k t))) i }
+
 pub own_looks_alone : TracesHoldOwnLooks
 own_looks_alone = record {
   opening = bare-alike;
-  same = same-trace;
+  same = alike-trace;
+  apart = same-trace;
   own = λ s t e n. own-same s t e.seat e.request e.given n;
   reusing = λ s e told files. refl;
   quiet = quiet-trace;

@@ -12,6 +12,7 @@ use Rattle.portal_model.specs.declared.opening.OpeningDocument.{OpeningDocument}
 use Rattle.portal_model.specs.declared.reply.Answer.{Answer}
 use Rattle.portal_model.specs.declared.reply.Code.TheVariants as Code
 use Rattle.portal_model.specs.declared.reply.NodeAnswer.{NodeAnswer}
+use Rattle.portal_model.specs.declared.reply.Reply.{Reply}
 use Rattle.portal_model.specs.declared.request.NodeOp.{NodeOp}
 use Rattle.portal_model.specs.declared.request.Request.{Request}
 use Rattle.portal_model.specs.DocumentExamples.{adds, asked, asked_alone, buses, ids, n_text, presents, rights_call, viewer}
@@ -21,11 +22,14 @@ use Rattle.portal_model.specs.History.{EachLawful, Legal, replies, run}
 use Rattle.portal_model.specs.Opening.{opened_over}
 use Rattle.portal_model.specs.State.{State}
 use Rattle.portal_model.specs.Step.{after}
+use Rattle.portal_model.specs.Walk.{AtPath, Named}
 use Rattle.app_world.specs.Examples.{b_text, both, id}
 use Rattle.app_world.specs.FileExamples.{both_open, editor_reads, host_writes, opened_by_both}
+use Rattle.served_world.specs.Laws.{AreAlike, but_content}
+use Rattle.served_world.specs.OwnPlaces.{places_asked}
 use Rattle.served_world.specs.ServedItem as item
 use Rattle.served_world.specs.ServedItem.{ServedItem}
-use Rattle.served_world.specs.ServedWorld.{served_items_of, served_run, served_trace}
+use Rattle.served_world.specs.ServedWorld.{requests_in, served_items_of, served_run, served_trace}
 
 -- ---- two worlds
 
@@ -141,6 +145,78 @@ pub record OneTraceOfTwoWorlds : Type 0 where
       ∷ replied (told length_told)
       ∷ []
 
+-- ---- where the editor looks
+
+-- a bus of the editor at seat 1 and one of the host at seat 2
+abbrev pub over_nothing : List OpeningDocument → State
+over_nothing documents = run (opened_over None (opening documents [])) buses
+
+-- The tree is asked at the path of the editor's document, then by the name of the file that it
+-- opened, and for its Add at the file that it presented.
+pub record AskedAtItsFiles : Type 0 where
+  pub by_path :
+      places_asked (run alone (enters 1 (Who.App editor) ∷ [])) opens ≡ AtPath a_text ∷ []
+  pub by_name :
+      places_asked (run alone (enters 1 (Who.App editor) ∷ opens ∷ [])) reads_it
+      ≡ Named (record { path = a_text; generation = 0 }) ∷ []
+  pub presented :
+      places_asked (run (over_nothing []) (presents 1 n_text ∷ []))
+      (asked 1 (Request.Add (adds 0)) (Look.Folder ∷ []) [])
+      ≡ AtPath n_text ∷ []
+
+-- ---- contents that differ
+
+-- the editor's document over a file of these bytes, since the moment 7, which the tree tells
+abbrev pub over_bytes : List ℕ → State
+over_bytes bytes =
+    opened_over
+    (Some (record { path = a_text; generation = 0; bytes = bytes; moment = 7 } ∷ []))
+    (opening (document 10 a_text (grant editor 1 ∷ []) ∷ []) [])
+
+abbrev pub reads_whole : List Entry
+reads_whole = enters 1 (Who.App editor) ∷ opens ∷ reads_it ∷ []
+
+-- the host cuts the file to two bytes, between the editor's OPEN and its READ
+abbrev pub cuts : Entry
+cuts = record {
+  seat = 2;
+  request = Request.Node (request_on a_node (NodeOp.SetAttr 8 0 2));
+  given = shown five_bytes (Some 8);
+}
+
+abbrev pub reads_cut : List Entry
+reads_cut =
+    enters 2 Who.Host ∷ enters 1 (Who.App editor) ∷ opens ∷ cuts ∷ reads_it ∷ []
+
+-- the editor is replied that its file is open, and then this content
+abbrev pub read_as : List ℕ → List Reply
+read_as content =
+    replied Answer.Done
+    ∷ replied (told (NodeAnswer.Opened 1))
+    ∷ replied (told (NodeAnswer.Content content))
+    ∷ []
+
+-- Two worlds whose files have other bytes, and in one of which another cuts the file before it is
+-- read, give the editor one trace. Its replies there are alike: they are the same but for the
+-- content of the READ, of which the length differs, too.
+pub record ContentsDifferAlone : Type 0 where
+  pub legal_whole : Legal (over_bytes (codes "hello")) reads_whole
+  pub legal_cut : Legal (over_bytes (codes "world")) reads_cut
+  pub same :
+      served_trace editor (over_bytes (codes "world")) reads_cut
+      ≡ served_trace editor (over_bytes (codes "hello")) reads_whole
+  pub whole :
+      replies editor (over_bytes (codes "hello")) reads_whole ≡ read_as (codes "hello")
+  pub cut : replies editor (over_bytes (codes "world")) reads_cut ≡ read_as (codes "wo")
+  pub alike :
+      AreAlike false
+      (requests_in (served_trace editor (over_bytes (codes "hello")) reads_whole))
+      (replies editor (over_bytes (codes "hello")) reads_whole)
+      (replies editor (over_bytes (codes "world")) reads_cut)
+  pub but_contents :
+      map but_content (replies editor (over_bytes (codes "world")) reads_cut)
+      ≡ map but_content (replies editor (over_bytes (codes "hello")) reads_whole)
+
 -- ---- over a tree that tells
 
 abbrev pub read_after_a_write : List Entry
@@ -163,10 +239,6 @@ pub record OthersAreTold : Type 0 where
       ≡ replied (told (NodeAnswer.Opened 1)) ∷ replied (told (NodeAnswer.Content [])) ∷ []
 
 -- ---- documents
-
--- a bus of the editor at seat 1 and one of the host at seat 2
-abbrev pub over_nothing : List OpeningDocument → State
-over_nothing documents = run (opened_over None (opening documents [])) buses
 
 abbrev pub answers_in : State → List Entry → List Answer
 answers_in s h = map (λ r. r.answer) (served_run (served_trace editor s h))

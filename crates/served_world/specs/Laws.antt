@@ -1,6 +1,7 @@
 -- Laws of the world of one application over any tree of files, which the public functions of
 -- src/laws.rt state.
 use Rattle.std.specs.Prelude.{◌≡◌, ℕ, List, [], ◌∷◌, ◌++◌, length, map, slice_get, Bool, true, false, cond, Some, None}
+use Rattle.std.specs.List.{AllZip, flat_map}
 use Rattle.portal_base.specs.Names.{is_same}
 use Rattle.portal_base.specs.declared.files.File.{File}
 use Rattle.portal_model.specs.declared.entry.Entry.{Entry}
@@ -13,7 +14,7 @@ use Rattle.portal_model.specs.AddArguments.{reuses}
 use Rattle.portal_model.specs.Alike.{Alike}
 use Rattle.portal_model.specs.History.{Legal, makes, replies, run}
 use Rattle.portal_model.specs.Lawful.{Lawful}
-use Rattle.portal_model.specs.State.{State}
+use Rattle.portal_model.specs.State.{State, is_none}
 use Rattle.portal_model.specs.Step.{after, reply_at}
 use Rattle.portal_model.specs.Valid.{Valid}
 use Rattle.app_world.specs.Add.{names_app}
@@ -21,7 +22,8 @@ use Rattle.app_world.specs.Laws.{asks}
 use Rattle.app_world.specs.OwnVerdict.{own_reached}
 use Rattle.app_world.specs.Touched.{is_done}
 use Rattle.app_world.specs.View.{own_connections, seen_at, view}
-use Rattle.served_world.specs.ServedItem.{bare}
+use Rattle.app_world.specs.World.{touch}
+use Rattle.served_world.specs.ServedItem.{bare, items_of_effect}
 use Rattle.served_world.specs.ServedOwn.{served_own}
 use Rattle.served_world.specs.ServedWorld.{requests_in, served_items_of, served_run, served_step, served_trace, views_after}
 
@@ -65,13 +67,39 @@ TouchesNothing app s (Request.Revoke call) = is_same call.app app ≡ false
 TouchesNothing app s (Request.DeleteDocument doc) = own_reached (view s app) doc ≡ None
 TouchesNothing app s request = Unit {0}
 
+-- an entry that tells the application something, and the state in which it is made
+pub record Telling : Type 0 where
+  pub state : State
+  pub entry : Entry
+
+-- those of a history: its own, and those of others that change its documents or its rights
+abbrev pub entries_telling : List ℕ → State → List Entry → List Telling
+entries_telling app s [] = []
+entries_telling app s (e ∷ es) =
+    cond (is_none (served_items_of app s e)) [] (record { state = s; entry = e } ∷ [])
+    ++ entries_telling app (after s e) es
+
+-- by whether the application makes each of two: the same was given to both, where it does, and else
+-- both change the same
+abbrev pub TellTheSame : List ℕ → Telling → Telling → Bool → Bool → Type 0
+TellTheSame app x y true true = served_own x.state x.entry ≡ served_own y.state y.entry
+TellTheSame app x y false false =
+    flat_map items_of_effect (touch app x.state x.entry)
+    ≡ flat_map items_of_effect (touch app y.state y.entry)
+TellTheSame app x y first second = ⊥
+
+abbrev pub TellAlike : List ℕ → Telling → Telling → Type 0
+TellAlike app x y =
+    TellTheSame app x y (makes app x.state x.entry) (makes app y.state y.entry)
+
 -- the entries that the application makes, each with what the outside gave to it
 abbrev pub own_entries : List ℕ → State → List Entry → List Entry
 own_entries app s [] = []
 own_entries app s (e ∷ es) =
     cond (makes app s e) (e ∷ []) [] ++ own_entries app (after s e) es
 
--- No entry of another touches what the application holds, and none of its own uses a document again.
+-- No entry of another touches what the application holds, and none of its own uses a document
+-- again.
 abbrev pub IsApart : List ℕ → State → Entry → Bool → Type 0
 IsApart app s e true = UsesNoneAgain e.request
 IsApart app s e false = TouchesNothing app s e.request
@@ -96,9 +124,16 @@ pub record TracesHoldOwnLooks : Type 0 where
   -- it begins with what the application holds, whatever others hold and whatever files there are
   pub opening :
       (app : List ℕ) (s t : State) → TakesBareAlike app s t → bare (view s app) ≡ bare (view t app)
-  -- Two histories have one trace that have the same own entries, to which the same was given,
-  -- whatever others hold, ask and are shown beside, and whatever files there are.
+  -- Two histories have one trace in which the same is given to the application's own entries, and
+  -- others change the same of its documents and rights between these, whatever others hold, ask and
+  -- are shown beside, and whatever files there are.
   pub same :
+      (app : List ℕ) (s t : State) (h k : List Entry) → TakesBareAlike app s t →
+      AllZip (TellAlike app) (entries_telling app s h) (entries_telling app t k) →
+      served_trace app s h ≡ served_trace app t k
+  -- so have two with the same own entries, to which the same was given, where no request of another
+  -- so much as names what could change it, and none of its own uses a document again
+  pub apart :
       (app : List ℕ) (s t : State) (h k : List Entry) → TakesBareAlike app s t →
       AreApart app s h → AreApart app t k → own_entries app s h ≡ own_entries app t k →
       served_trace app s h ≡ served_trace app t k

@@ -8,6 +8,8 @@
 
 ghost use Rattle.served_world.specs.Examples.{
   AddedByLooks,
+  AskedAtItsFiles,
+  ContentsDifferAlone,
   IsLengthTold,
   IsMomentInTrace,
   OneTraceOfTwoWorlds,
@@ -18,6 +20,18 @@ ghost use Rattle.served_world.specs.Examples.{
 /// requests, and in what the tree showed to them, give an application one trace.
 pub fn one_trace_of_two_worlds()
     ensures { OneTraceOfTwoWorlds }
+{}
+
+/// The tree is asked for an application's requests at its document, at its open file and
+/// at the file that it presented.
+pub fn asked_at_its_files()
+    ensures { AskedAtItsFiles }
+{}
+
+/// Two worlds in which a READ shows an application other bytes, and fewer: one trace,
+/// and replies that are alike.
+pub fn contents_differ_alone()
+    ensures { ContentsDifferAlone }
 {}
 
 /// What stands in a trace of the entries of others: rights that are lost and

@@ -3,6 +3,7 @@
 //!
 //! Each function does nothing; its contract is the law.
 
+ghost use Rattle.served_world.specs.OwnPlaces.{OwnLooksAreOfItsFiles};
 ghost use Rattle.served_world.specs.Laws.{
   IsolatedOverAnyTree,
   ServedStepsSeen,
@@ -22,6 +23,14 @@ pub fn served_steps_are_seen()
 /// entries have one trace, whatever others hold, ask and are shown beside.
 pub fn traces_hold_own_looks()
     ensures { TracesHoldOwnLooks }
+{}
+
+/// Where the looks lie that a trace has of an application's own requests: at the files
+/// of documents in which it has `read`, at files that it has open, and for an Add in its
+/// own folder, of which alone it presents files. No other request of it looks at the
+/// tree.
+pub fn own_looks_are_of_its_files()
+    ensures { OwnLooksAreOfItsFiles }
 {}
 
 /// Over any tree the replies to an application are a function of its trace, but for

@@ -6,16 +6,18 @@
 //! but for the bytes that a READ shows, and their number: in every legal history they
 //! are alike to what the application's own machine replies to the trace. That machine
 //! knows the application's documents, rights and connections, and of the tree what it
-//! showed to the very request that is answered. What it showed to another's request
-//! stands in no trace.
+//! showed to the very request that is answered: at files of documents in which the
+//! application has `read`, at files that it has open, and for an Add in its own folder.
+//! What the tree showed to another's request stands in no trace.
 //!
 //! | Room | Holds |
 //! |---|---|
-//! | `laws` | the laws, a function each: one step, what a trace holds, and a whole history |
+//! | `laws` | the laws, a function each: one step, what a trace holds, where its looks lie, and a whole history |
 //! | `examples` | worked cases, computed over the definitions; the last ones give a part by code |
 //! | `specs/ServedOwn`, `specs/ServedItem` | an own request with its looks, and what others change |
 //! | `specs/ServedWorld` | the application's own machine, its trace, and what the machine replies to it |
-//! | `specs/Laws` | the statements |
+//! | `specs/OwnPlaces` | where the tree is asked for an own request, and where it may be |
+//! | `specs/Laws` | the other statements |
 //!
 //! ```text
 //! // where h is legal from s, over any tree, and t is served_trace app s h

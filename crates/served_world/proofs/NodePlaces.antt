@@ -1,0 +1,194 @@
+-- Where the tree is asked for a request of an application on a node: the file of a document in which it has `read`, or one
+-- that it has open.
+use Rattle.std.proofs.Common.{◌≡◌, ◌⊎◌, inl, inr, ℕ, zero, suc, ◌==◌, List, [], ◌∷◌, Bool, true, false, not, ◌&&◌, ◌||◌, cond, Option, Some, None, is_some, refl, sym, ap, subst, ◌∙◌}
+use Rattle.std.specs.List.{AllByRecursion}
+use Rattle.portal_base.specs.declared.files.FileName.{FileName}
+use Rattle.portal_base.specs.declared.files.Look.{Look}
+use Rattle.portal_base.specs.declared.who.Who.{Who}
+use Rattle.portal_model.specs.declared.place.Place.{Place}
+use Rattle.portal_model.specs.declared.request.NodeOp.{NodeOp}
+use Rattle.portal_model.specs.declared.request.NodeRequest.{NodeRequest}
+use Rattle.portal_model.specs.declared.request.Request.{Request}
+use Rattle.portal_model.specs.declared.rights.Right.TheVariants.{Read, Write}
+use Rattle.portal_model.specs.declared.state.Connection.{Connection}
+use Rattle.portal_model.specs.declared.state.Document.{Document}
+use Rattle.portal_model.specs.Node.{facts_of, node_walk, walk_on_node}
+use Rattle.portal_model.specs.Place.{FolderOf, Sight, SightOfFile, SightOfFolder, place_named, place_of, reach_at, reach_of_subject, seen_by, sight_at, sight_of_document, sight_of_folder, sight_of_place, sight_of_root, subject_of, view_of_node}
+use Rattle.portal_model.specs.Reach.{OpenFile, reach_of, reaches}
+use Rattle.portal_model.specs.State.{State, app_has, document_of, handle_of, has, who_has}
+use Rattle.portal_model.specs.Step.{all_told}
+use Rattle.portal_model.specs.Walk.{Target, AtPath, Named}
+use Rattle.portal_model.proofs.DocumentChanges.{first_of_both, second_of_both}
+use Rattle.portal_model.proofs.ListLookups.{found_passes, nat_is}
+use Rattle.app_world.proofs.NamedPaths.{SightOn}
+use Rattle.served_world.specs.OwnPlaces.{IsOpen, IsReadable, MayAsk, MayAskFor, places_along}
+use Rattle.served_world.proofs.PlacesAlong.{Along, May, access-along, along-places, create-along, flush-along, fsync-along, get_attr-along, lookup-along, open-along, open_dir-along, read-along, read_dir-along, release-along, release_dir-along, set_attr-along, write-along}
+
+-- ---- what the application sees at a node is of a document that it may read
+
+module _ (app : List ℕ) (t : State) where
+  abbrev Seen : Option Sight → Type 0
+  Seen = SightOn (IsReadable app t)
+
+  readable : (d : Document) (number : ℕ) → document_of t.documents number ≡ Some d → app_has t.rights app d.id.number Read ≡ true → IsReadable app t d.path
+  readable d number e h =
+      let n : d.id.number ≡ number = nat_is d.id.number number (found_passes (λ (x : Document). x.id.number == number) t.documents d e) in
+      let live : document_of t.documents d.id.number ≡ Some d = ap (document_of t.documents) n ∙ e in
+      record { document = d; live = live; path_is = refl; read = λ i. is_some (live i) && h i }
+
+  by_right : (d : Document) (sight : Sight) (b : Bool) → app_has t.rights app d.id.number Read ≡ b → (app_has t.rights app d.id.number Read ≡ true → Seen (Some sight)) → Seen (cond b (Some sight) None)
+  by_right d sight true e h = h e
+  by_right d sight false e h = tt
+
+  file-seen : (number : ℕ) (o : Option Document) → document_of t.documents number ≡ o → Seen (sight_of_document t.rights (Who.App app) o)
+  file-seen number None e = tt
+  file-seen number (Some d) e =
+      by_right d (SightOfFile d (who_has t.rights (Who.App app) d.id.number Write)) (app_has t.rights app d.id.number Read) refl (readable d number e)
+
+  folder-seen : (view number : ℕ) (o : Option Document) → document_of t.documents number ≡ o → Seen (sight_of_folder view t.rights (Who.App app) o)
+  folder-seen view number None e = tt
+  folder-seen view number (Some d) e =
+      by_right d (SightOfFolder (FolderOf view d (who_has t.rights (Who.App app) d.id.number Write))) (app_has t.rights app d.id.number Read) refl (readable d number e)
+
+  -- the application has its own view alone
+  in-view : (k : ℕ) (sight : Who → Option Sight) → Seen (sight (Who.App app)) → Seen (seen_by (subject_of t.applications (Who.App app) k) sight)
+  in-view zero sight h = h
+  in-view (suc k) sight h = tt
+
+  there-seen : (p : Place) → Seen (sight_of_place t (Who.App app) p)
+  there-seen (Place.Root k) = in-view k (sight_of_root t (Who.App app) k) tt
+  there-seen Place.ByApp = tt
+  there-seen (Place.Folder k id) =
+      in-view k (λ who. sight_of_folder k t.rights who (document_of t.documents id.number)) (folder-seen k id.number (document_of t.documents id.number) refl)
+  there-seen (Place.File k id) =
+      in-view k (λ who. sight_of_document t.rights who (document_of t.documents id.number)) (file-seen id.number (document_of t.documents id.number) refl)
+
+  at-seen : (p : Option Place) → Seen (sight_at t (Who.App app) p)
+  at-seen None = tt
+  at-seen (Some p) = there-seen p
+
+  node-seen : (node : ℕ) → Seen (place_of t (Who.App app) node)
+  node-seen node = at-seen (place_named node)
+
+  -- ---- what an open file of a strict document needs
+
+  subject-reads : (number k : ℕ) → (reach_of_subject t number (subject_of t.applications (Who.App app) k)).read ≡ true → has t (Who.App app) number Read ≡ true
+  subject-reads number zero e = e
+  subject-reads number (suc k) e = let no : false ≡ true = e in cc
+
+  strict-reads : (strict reads : Bool) → (not strict || reads) ≡ true → strict ≡ true → reads ≡ true
+  strict-reads true reads h e = h
+  strict-reads false reads h e = cc
+
+  reads-now : (file : OpenFile) → reaches (reach_at t (Who.App app)) file ≡ true → file.strict ≡ true → has t (Who.App app) file.document.number Read ≡ true
+  reads-now file h e = subject-reads file.document.number (view_of_node file.node) (strict-reads file.strict (reach_of (reach_at t (Who.App app)) file).read h e)
+
+-- ---- the walk of each request
+
+-- whether it may ask for the file of a document
+abbrev ByDocument : List ℕ → State → NodeOp → List ℕ → Type 0
+ByDocument app t (NodeOp.Read fh offset size) path = ⊥
+ByDocument app t (NodeOp.Write fh offset content) path = ⊥
+ByDocument app t (NodeOp.Fsync fh) path = ⊥
+ByDocument app t op path = IsReadable app t path
+
+module _ (app : List ℕ) (t : State) (c : Connection) (named : c.who ≡ Who.App app) where
+  sight-of : (node : ℕ) → SightOn (IsReadable app t) (place_of t c.who node)
+  sight-of node = subst (λ (who : Who). SightOn (IsReadable app t) (place_of t who node)) (sym named) (node-seen app t node)
+
+  reads-of : (file : OpenFile) → reaches (reach_at t c.who) file ≡ true → file.strict ≡ true → has t (Who.App app) file.document.number Read ≡ true
+  reads-of file h e = reads-now app t file (subst (λ (who : Who). reaches (reach_at t who) file ≡ true) named h) e
+
+  abbrev Walks : NodeRequest → NodeOp → Type 0
+  Walks r op = Along (ByDocument app t op) (IsOpen app t c.seat op) (node_walk (facts_of t c r.node) r op)
+
+  abbrev Reads : List ℕ → Type 0
+  Reads = IsReadable app t
+
+  abbrev OpenFor : NodeOp → FileName → Type 0
+  OpenFor op = IsOpen app t c.seat op
+
+  walk-places : (r : NodeRequest) (op : NodeOp) → Walks r op
+  walk-places r (NodeOp.Lookup name) = lookup-along Reads (OpenFor (NodeOp.Lookup name)) r name (place_of t c.who r.node) (sight-of r.node)
+  walk-places r (NodeOp.Forget count) = tt
+  walk-places r (NodeOp.BatchForget nodes) = tt
+  walk-places r (NodeOp.GetAttr flags fh) =
+      get_attr-along Reads (OpenFor (NodeOp.GetAttr flags fh)) (reach_at t c.who) r flags (place_of t c.who r.node) (handle_of t.handles c.seat fh) (sight-of r.node)
+      (λ file is ok. record { fh = fh; file = file; handle = is; name_is = refl; opened_for = refl; strict = λ e f. reads-of file ok e })
+  walk-places r (NodeOp.SetAttr valid fh size) =
+      set_attr-along Reads (OpenFor (NodeOp.SetAttr valid fh size)) (reach_at t c.who) r (record { valid = valid; size = size; limit = t.limits.file_bytes }) (place_of t c.who r.node) (handle_of t.handles c.seat fh) (sight-of r.node)
+      (λ file is ok. record { fh = fh; file = file; handle = is; name_is = refl; opened_for = refl; strict = λ e f. reads-of file ok e })
+  walk-places r (NodeOp.Open flags) = open-along Reads (OpenFor (NodeOp.Open flags)) r flags (place_of t c.who r.node) _ (sight-of r.node)
+  walk-places r (NodeOp.Create name flags) = create-along Reads (OpenFor (NodeOp.Create name flags)) r name flags (place_of t c.who r.node) _ (sight-of r.node)
+  walk-places r (NodeOp.Read fh offset size) =
+      read-along (λ path. ⊥) (OpenFor (NodeOp.Read fh offset size)) (reach_at t c.who) _ offset size (handle_of t.handles c.seat fh)
+      (λ file is ok. record {
+        fh = fh;
+        file = file;
+        handle = is;
+        name_is = refl;
+        opened_for = first_of_both file.read (reaches (reach_at t c.who) file) ok;
+        strict = λ e f. reads-of file (second_of_both file.read (reaches (reach_at t c.who) file) ok) e;
+      })
+  walk-places r (NodeOp.Write fh offset content) =
+      write-along (λ path. ⊥) (OpenFor (NodeOp.Write fh offset content)) (reach_at t c.who) t.limits.file_bytes offset content (handle_of t.handles c.seat fh)
+      (λ file is ok.
+      let writes : Bool = not file.strict || (reach_of (reach_at t c.who) file).write in
+      record {
+        fh = fh;
+        file = file;
+        handle = is;
+        name_is = refl;
+        opened_for = first_of_both file.write (reaches (reach_at t c.who) file && writes) ok;
+        strict = λ e f. reads-of file (first_of_both (reaches (reach_at t c.who) file) writes (second_of_both file.write (reaches (reach_at t c.who) file && writes) ok)) e;
+      })
+  walk-places r (NodeOp.Flush fh) = flush-along Reads (OpenFor (NodeOp.Flush fh)) (handle_of t.handles c.seat fh)
+  walk-places r (NodeOp.Fsync fh) =
+      fsync-along (λ path. ⊥) (OpenFor (NodeOp.Fsync fh)) (handle_of t.handles c.seat fh)
+      (λ file is ok. record { fh = fh; file = file; handle = is; name_is = refl; opened_for = refl; strict = λ e f. let no : false ≡ true = f in cc })
+  walk-places r (NodeOp.Release fh) = release-along Reads (OpenFor (NodeOp.Release fh)) fh (handle_of t.handles c.seat fh)
+  walk-places r NodeOp.OpenDir = open_dir-along Reads (OpenFor NodeOp.OpenDir) r (place_of t c.who r.node) _ (sight-of r.node)
+  walk-places r (NodeOp.ReadDir fh offset size) = read_dir-along Reads (OpenFor (NodeOp.ReadDir fh offset size)) offset size (handle_of t.handles c.seat fh)
+  walk-places r (NodeOp.ReleaseDir fh) = release_dir-along Reads (OpenFor (NodeOp.ReleaseDir fh)) fh (handle_of t.handles c.seat fh)
+  walk-places r (NodeOp.Access mask) = access-along Reads (OpenFor (NodeOp.Access mask)) mask (place_of t c.who r.node) (sight-of r.node)
+
+-- ---- in the state in which it is asked
+
+pub all-weaker : {X : Type 0} (P Q : X → Type 0) → ((x : X) → P x → Q x) → (xs : List X) → AllByRecursion P xs → AllByRecursion Q xs
+all-weaker P Q f [] h = tt
+all-weaker P Q f (x ∷ xs) h = (f x h.0, all-weaker P Q f xs h.1)
+
+module _ (app : List ℕ) (s : State) (c : Connection) (r : NodeRequest) where
+  abbrev told : State
+  told = all_told c.seat s
+
+  readable-asked : (path : List ℕ) → IsReadable app told path → IsReadable app s path
+  readable-asked path x = record { document = x.document; live = x.live; path_is = x.path_is; read = x.read }
+
+  open-asked : (op : NodeOp) (name : FileName) → IsOpen app told c.seat op name → IsOpen app s c.seat op name
+  open-asked op name x = record { fh = x.fh; file = x.file; handle = x.handle; name_is = x.name_is; opened_for = x.opened_for; strict = x.strict }
+
+  path-asked : (op : NodeOp) (path : List ℕ) → ByDocument app told op path → IsReadable app s path
+  path-asked (NodeOp.Read fh offset size) path h = absurd h
+  path-asked (NodeOp.Write fh offset content) path h = absurd h
+  path-asked (NodeOp.Fsync fh) path h = absurd h
+  path-asked op path h = readable-asked path h
+
+  name-asked : (op : NodeOp) (name : FileName) → ByDocument app told op name.path ⊎ IsOpen app told c.seat op name → MayAskFor app s c.seat op name
+  name-asked (NodeOp.Read fh offset size) name (inl h) = absurd h
+  name-asked (NodeOp.Read fh offset size) name (inr h) = open-asked (NodeOp.Read fh offset size) name h
+  name-asked (NodeOp.Write fh offset content) name (inl h) = absurd h
+  name-asked (NodeOp.Write fh offset content) name (inr h) = open-asked (NodeOp.Write fh offset content) name h
+  name-asked (NodeOp.Fsync fh) name (inl h) = absurd h
+  name-asked (NodeOp.Fsync fh) name (inr h) = open-asked (NodeOp.Fsync fh) name h
+  name-asked op name (inl h) = inl (readable-asked name.path h)
+  name-asked op name (inr h) = inr (open-asked op name h)
+
+  may-ask : (place : Target) → May (ByDocument app told r.op) (IsOpen app told c.seat r.op) place → MayAsk app s c.seat (Request.Node r) place
+  may-ask (AtPath path) h = path-asked r.op path h
+  may-ask (Named name) h = name-asked r.op name h
+
+  pub node-places : c.who ≡ Who.App app → (looks : List Look) → AllByRecursion (MayAsk app s c.seat (Request.Node r)) (places_along (walk_on_node told c r) looks)
+  node-places named looks =
+      all-weaker (May (ByDocument app told r.op) (IsOpen app told c.seat r.op)) (MayAsk app s c.seat (Request.Node r)) may-ask (places_along (walk_on_node told c r) looks)
+      (along-places (ByDocument app told r.op) (IsOpen app told c.seat r.op) (walk_on_node told c r) (walk-places app told c named r r.op) looks)

@@ -1,0 +1,240 @@
+-- Where a walk of a request on a node asks the tree: at paths of documents that are seen, and by names of open files.
+use Rattle.std.proofs.Common.{◌≡◌, ◌≤◌, ◌⊎◌, inl, inr, ℕ, ◌+◌, nat_lt, List, [], ◌∷◌, length, Bool, true, false, not, ◌&&◌, ◌||◌, cond, Option, Some, None, refl, sym, subst, arith}
+use Rattle.std.specs.List.{AllByRecursion}
+use Rattle.portal_base.specs.Names.{is_same, name_of}
+use Rattle.portal_base.specs.declared.files.File.{File}
+use Rattle.portal_base.specs.declared.files.FileName.{FileName}
+use Rattle.portal_base.specs.declared.files.Look.{Look}
+use Rattle.portal_model.specs.declared.handle.Handle.{Handle}
+use Rattle.portal_model.specs.declared.reply.NodeAnswer.TheVariants as NodeAnswers
+use Rattle.portal_model.specs.declared.request.NodeRequest.{NodeRequest}
+use Rattle.portal_model.specs.declared.state.Document.{Document}
+use Rattle.portal_model.specs.Access.{access, access_file, access_folder, executes, writes_to}
+use Rattle.portal_model.specs.Attributes.{on_node}
+use Rattle.portal_model.specs.Create.{create, create_in, create_there}
+use Rattle.portal_model.specs.Errno.{eacces, ebadf, efbig, eisdir, einval, emfile, enametoolong, enoent, enotdir, eperm}
+use Rattle.portal_model.specs.Flush.{flush}
+use Rattle.portal_model.specs.Fsync.{fsync, fsync_open}
+use Rattle.portal_model.specs.GetAttr.{get_attr, get_attr_by_handle, get_attr_by_place, get_attr_open, names_handle, tells_file, tells_folder}
+use Rattle.portal_model.specs.Lookup.{entry_of_file, found_folder, lookup, lookup_in, named_in_root, named_in_views}
+use Rattle.portal_model.specs.NodeVerdict.{NodeVerdict, Errs, OnFile, OnHandle, Room, Writes, at_file, at_name, by_file_handle, by_place, changes, errs, errs_if, if_file, is_too_long, no_file, told}
+use Rattle.portal_model.specs.Open.{has_no_mode, open_file, open_folder, open_name, open_node, opens_to_write, truncates}
+use Rattle.portal_model.specs.OpenDir.{open_dir, open_dir_in, open_found}
+use Rattle.portal_model.specs.Place.{Folder, FolderOf, RootOf, Views, Sight, SightOfFile, SightOfFolder, file_node}
+use Rattle.portal_model.specs.Reach.{OpenFile, Reaching, may_read_now, may_write_now, open_file_of, reaches}
+use Rattle.portal_model.specs.Read.{read, read_limit, read_open}
+use Rattle.portal_model.specs.ReadDir.{read_dir, read_names}
+use Rattle.portal_model.specs.Release.{release}
+use Rattle.portal_model.specs.ReleaseDir.{release_dir}
+use Rattle.portal_model.specs.SetAttr.{SetsAttr, resize, set_attr, set_attr_at, set_attr_of, set_attr_of_folder, set_attr_of_open, set_attr_open, sets_by_handle, sets_owner_or_mode, sets_size}
+use Rattle.portal_model.specs.Walk.{Walk, Answers, Looks, Ends, Target, AtPath, Named, Changes, Gives}
+use Rattle.portal_model.specs.Write.{write, write_content, write_limit, write_open}
+use Rattle.app_world.proofs.NamedPaths.{FolderOn, SightOn}
+use Rattle.served_world.specs.OwnPlaces.{place_of_call, places_along}
+
+-- ---- a place for each look
+
+pub looks-placed : {X : Type 0} (w : Walk X) (tree : Option (List File)) (looks : List Look) (failed : Bool) → Gives tree w looks failed → length looks ≤ length (places_along w looks)
+looks-placed (Answers x) tree looks failed g = subst (λ (l : List Look). length l ≤ 0) (sym g.0) (omega arith)
+looks-placed (Looks place next) tree [] failed g = omega arith
+looks-placed (Looks place next) tree (look ∷ looks) failed g =
+    let more : length looks ≤ length (places_along (next look) looks) = looks-placed (next look) tree looks failed g.1 in
+    omega arith
+looks-placed (Ends call done missing) tree [] failed g = omega arith
+looks-placed (Ends call done missing) tree (look ∷ looks) failed g = subst (λ (l : List Look). length (look ∷ l) ≤ 1) (sym g.1) (omega arith)
+
+-- ---- places of one kind along a walk, whatever is shown
+
+module _ (At : List ℕ → Type 0) (Open : FileName → Type 0) where
+  abbrev pub May : Target → Type 0
+  May (AtPath path) = At path
+  May (Named name) = At name.path ⊎ Open name
+
+  abbrev pub Along : Walk NodeVerdict → Type 0
+  Along (Answers v) = Unit {0}
+  Along (Looks place next) = May place × ((look : Look) → Along (next look))
+  Along (Ends call done missing) = May (place_of_call call)
+
+  pub along-places : (w : Walk NodeVerdict) → Along w → (looks : List Look) → AllByRecursion May (places_along w looks)
+  along-places (Answers v) h looks = tt
+  along-places (Looks place next) h [] = (h.0, tt)
+  along-places (Looks place next) h (look ∷ looks) = (h.0, along-places (next look) (h.1 look) looks)
+  along-places (Ends call done missing) h looks = (h, tt)
+
+  -- an open file that passes the test of a request may be asked for
+  abbrev pub Opening : Option Handle → (OpenFile → Bool) → Type 0
+  Opening handle may =
+      (file : OpenFile) → handle ≡ Some (Handle.File file.name file.node file.document file.strict file.read file.write) → may file ≡ true → Open file.name
+
+  -- ---- parts of walks
+
+  holds : (b : Bool) → not b ≡ false → b ≡ true
+  holds true e = refl
+  holds false e = cc
+
+  if-wrong : (wrong : Bool) (errno : ℕ) (w : Walk NodeVerdict) → (wrong ≡ false → Along w) → Along (errs_if wrong errno w)
+  if-wrong true errno w h = tt
+  if-wrong false errno w h = h refl
+
+  unless-wrong : (right : Bool) (errno : ℕ) (w : Walk NodeVerdict) → (right ≡ true → Along w) → Along (errs_if (not right) errno w)
+  unless-wrong right errno w h = if-wrong (not right) errno w (λ e. h (holds right e))
+
+  either : (b : Bool) (w u : Walk NodeVerdict) → Along w → Along u → Along (cond b w u)
+  either true w u h k = h
+  either false w u h k = k
+
+  on-file : (next : OnFile) → ((generation size moment : ℕ) → Along (next generation size moment)) → (look : Look) → Along (if_file next look)
+  on-file next h (Look.File generation size moment) = h generation size moment
+  on-file next h Look.Folder = tt
+  on-file next h Look.Missing = tt
+
+  file-at : (path : List ℕ) (next : OnFile) → At path → ((generation size moment : ℕ) → Along (next generation size moment)) → Along (at_file path next)
+  file-at path next n h = (n, on-file next h)
+
+  file-of : (name : FileName) (next : OnFile) → Open name → ((generation size moment : ℕ) → Along (next generation size moment)) → Along (at_name name next)
+  file-of name next n h = (inr n, on-file next h)
+
+  on-place : (sight : Option Sight) (file : Document → Bool → OnFile) (folder : Folder → Walk NodeVerdict) → SightOn At sight →
+      ((d : Document) → At d.path → (may_write : Bool) (generation size moment : ℕ) → Along (file d may_write generation size moment)) →
+      ((f : Folder) → FolderOn At f → Along (folder f)) → Along (by_place sight file folder)
+  on-place None file folder n h k = tt
+  on-place (Some (SightOfFile d may_write)) file folder n h k = file-at d.path (file d may_write) n (h d n may_write)
+  on-place (Some (SightOfFolder f)) file folder n h k = k f n
+
+  on-handle : (handle : Option Handle) (next : OnHandle) →
+      ((file : OpenFile) → handle ≡ Some (Handle.File file.name file.node file.document file.strict file.read file.write) → Along (next file)) → Along (by_file_handle handle next)
+  on-handle None next h = tt
+  on-handle (Some (Handle.File name node document strict reads writes)) next h = h (open_file_of name node document strict reads writes) refl
+  on-handle (Some (Handle.Folder node names)) next h = tt
+
+  -- ---- each request
+
+  folder-found : (r : NodeRequest) (o : Option ℕ) → Along (found_folder r o)
+  folder-found r None = tt
+  folder-found r (Some node) = tt
+
+  lookup-folder : (r : NodeRequest) (name : List ℕ) (f : Folder) → FolderOn At f → Along (lookup_in r name f)
+  lookup-folder r name (RootOf view numbers has_views) n = folder-found r (named_in_root view numbers has_views name)
+  lookup-folder r name (Views applications) n = folder-found r (named_in_views applications name)
+  lookup-folder r name (FolderOf view d may_write) n =
+      either (is_same name (name_of d.path)) (at_file d.path (entry_of_file r (file_node view d.id.number) may_write)) (errs enoent)
+      (file-at d.path (entry_of_file r (file_node view d.id.number) may_write) n (λ generation size moment. tt)) tt
+
+  pub lookup-along : (r : NodeRequest) (name : List ℕ) (sight : Option Sight) → SightOn At sight → Along (lookup r name sight)
+  lookup-along r name sight n =
+      if-wrong (is_too_long name) enametoolong _ (λ e. on-place sight (no_file enotdir) (lookup_in r name) n (λ d m may_write generation size moment. tt) (lookup-folder r name))
+
+  get_attr-place : (r : NodeRequest) (sight : Option Sight) → SightOn At sight → Along (get_attr_by_place r sight)
+  get_attr-place r sight n = on-place sight (λ d may_write. tells_file r may_write) (tells_folder r) n (λ d m may_write generation size moment. tt) (λ f m. tt)
+
+  get_attr-file : (reach : Reaching) (r : NodeRequest) (file : OpenFile) → (reaches reach file ≡ true → Open file.name) → Along (get_attr_open reach r file)
+  get_attr-file reach r file n =
+      unless-wrong (reaches reach file) eacces _ (λ e. file-of file.name (tells_file (on_node r file.node) (may_write_now reach file)) (n e) (λ generation size moment. tt))
+
+  get_attr-handle : (reach : Reaching) (r : NodeRequest) (sight : Option Sight) (handle : Option Handle) → SightOn At sight → Opening handle (reaches reach) → Along (get_attr_by_handle reach r sight handle)
+  get_attr-handle reach r sight None n h = tt
+  get_attr-handle reach r sight (Some (Handle.File name node document strict reads writes)) n h =
+      let file : OpenFile = open_file_of name node document strict reads writes in
+      get_attr-file reach r file (h file refl)
+  get_attr-handle reach r sight (Some (Handle.Folder node names)) n h = get_attr-place r sight n
+
+  pub get_attr-along : (reach : Reaching) (r : NodeRequest) (flags : ℕ) (sight : Option Sight) (handle : Option Handle) → SightOn At sight → Opening handle (reaches reach) → Along (get_attr reach r flags sight handle)
+  get_attr-along reach r flags sight handle n h = either (names_handle flags) (get_attr_by_handle reach r sight handle) (get_attr_by_place r sight) (get_attr-handle reach r sight handle n h) (get_attr-place r sight n)
+
+  set_attr-file : (r : NodeRequest) (a : SetsAttr) (name : FileName) (may_write : Bool) (size moment : ℕ) → May (Named name) → Along (set_attr_of r a name may_write size moment)
+  set_attr-file r a name may_write size moment n =
+      either (sets_size a.valid) _ _ (if-wrong (not may_write) eacces _ (λ e. if-wrong _ efbig (resize r a name may_write) (λ f. n))) tt
+
+  set_attr-opened : (reach : Reaching) (r : NodeRequest) (a : SetsAttr) (file : OpenFile) → (reaches reach file ≡ true → Open file.name) → Along (set_attr_open reach r a file)
+  set_attr-opened reach r a file n =
+      unless-wrong (reaches reach file) eacces _ (λ e. file-of file.name (set_attr_of_open reach r a file) (n e) (λ generation size moment.
+      if-wrong (sets_size a.valid && not file.write) ebadf _ (λ f. set_attr-file (on_node r file.node) a file.name (may_write_now reach file) size moment (inr (n e)))))
+
+  pub set_attr-along : (reach : Reaching) (r : NodeRequest) (a : SetsAttr) (sight : Option Sight) (handle : Option Handle) → SightOn At sight → Opening handle (reaches reach) → Along (set_attr reach r a sight handle)
+  set_attr-along reach r a sight handle n h =
+      if-wrong (sets_owner_or_mode a.valid) eperm _ (λ e.
+      either (sets_by_handle a.valid) (by_file_handle handle (set_attr_open reach r a)) (by_place sight (set_attr_at r a) (set_attr_of_folder r a))
+      (on-handle handle (set_attr_open reach r a) (λ file is. set_attr-opened reach r a file (h file is)))
+      (on-place sight (set_attr_at r a) (set_attr_of_folder r a) n
+      (λ d m may_write generation size moment. set_attr-file r a (record { path = d.path; generation = generation }) may_write size moment (inl m))
+      (λ f m. if-wrong (sets_size a.valid) eisdir _ (λ e. tt))))
+
+  open-name : (r : NodeRequest) (flags : ℕ) (room : Room) (d : Document) (name : FileName) → May (Named name) → Along (open_name r flags room d name)
+  open-name r flags room d name n = either (truncates flags) _ _ n tt
+
+  pub open-along : (r : NodeRequest) (flags : ℕ) (sight : Option Sight) (room : Room) → SightOn At sight → Along (open_node r flags sight room)
+  open-along r flags sight room n =
+      if-wrong (has_no_mode flags) einval _ (λ e. on-place sight (open_file r flags room) open_folder n
+      (λ d m may_write generation size moment.
+      if-wrong (opens_to_write flags && not may_write) eacces _ (λ e. if-wrong room.full emfile _ (λ f. open-name r flags room d (record { path = d.path; generation = generation }) (inl m))))
+      (λ f m. tt))
+
+  create-there : (r : NodeRequest) (flags : ℕ) (room : Room) (d : Document) (node : ℕ) → At d.path → (look : Look) → Along (create_there r flags room d node look)
+  create-there r flags room d node n (Look.File generation size moment) = tt
+  create-there r flags room d node n Look.Folder = tt
+  create-there r flags room d node n Look.Missing = n
+
+  create-folder : (r : NodeRequest) (name : List ℕ) (flags : ℕ) (room : Room) (f : Folder) → FolderOn At f → Along (create_in r name flags room f)
+  create-folder r name flags room (RootOf view numbers has_views) n = tt
+  create-folder r name flags room (Views applications) n = tt
+  create-folder r name flags room (FolderOf view d may_write) n =
+      if-wrong (not (is_same name (name_of d.path))) eacces _ (λ e. if-wrong (not may_write) eacces _ (λ f. if-wrong room.full emfile _ (λ g.
+      (n, create-there r flags room d (file_node view d.id.number) n))))
+
+  pub create-along : (r : NodeRequest) (name : List ℕ) (flags : ℕ) (sight : Option Sight) (room : Room) → SightOn At sight → Along (create r name flags sight room)
+  create-along r name flags sight room n =
+      if-wrong (has_no_mode flags) einval _ (λ e. if-wrong (is_too_long name) enametoolong _ (λ f.
+      on-place sight (no_file enotdir) (create_in r name flags room) n (λ d m may_write generation size moment. tt) (create-folder r name flags room)))
+
+  pub read-along : (reach : Reaching) (bytes : FileName → List ℕ) (offset size : ℕ) (handle : Option Handle) → Opening handle (may_read_now reach) → Along (read reach bytes offset size handle)
+  read-along reach bytes offset size handle h =
+      if-wrong (nat_lt read_limit size) einval _ (λ e. on-handle handle (read_open reach bytes offset size) (λ file is.
+      if-wrong (not file.read) ebadf _ (λ f. unless-wrong (may_read_now reach file) eacces _ (λ g. inr (h file is g)))))
+
+  write-some : (limit offset : ℕ) (content : List ℕ) (name : FileName) → Open name → Along (write_content limit name offset content)
+  write-some limit offset [] name n = tt
+  write-some limit offset (b ∷ bs) name n =
+      let done : ℕ → NodeVerdict = λ now. changes (Writes name offset (b ∷ bs) now) (NodeAnswers.Written (length (b ∷ bs))) in
+      if-wrong (nat_lt limit (offset + length (b ∷ bs))) efbig (Ends (Changes name) done (Errs enoent)) (λ e. inr n)
+
+  pub write-along : (reach : Reaching) (limit offset : ℕ) (content : List ℕ) (handle : Option Handle) → Opening handle (may_write_now reach) → Along (write reach limit offset content handle)
+  write-along reach limit offset content handle h =
+      if-wrong (nat_lt write_limit (length content)) einval _ (λ e. on-handle handle (write_open reach limit offset content) (λ file is.
+      if-wrong (not file.write) ebadf _ (λ f. unless-wrong (may_write_now reach file) eacces _ (λ g. write-some limit offset content file.name (h file is g)))))
+
+  pub flush-along : (handle : Option Handle) → Along (flush handle)
+  flush-along handle = on-handle handle _ (λ file is. tt)
+
+  pub fsync-along : (handle : Option Handle) → Opening handle (λ file. true) → Along (fsync handle)
+  fsync-along handle h = on-handle handle fsync_open (λ file is. inr (h file is refl))
+
+  pub release-along : (fh : ℕ) (handle : Option Handle) → Along (release fh handle)
+  release-along fh handle = on-handle handle _ (λ file is. tt)
+
+  open_dir-folder : (r : NodeRequest) (room : Room) (f : Folder) → FolderOn At f → Along (open_found r room f)
+  open_dir-folder r room (RootOf view numbers has_views) n = tt
+  open_dir-folder r room (Views applications) n = tt
+  open_dir-folder r room (FolderOf view d may_write) n = (n, λ look. tt)
+
+  pub open_dir-along : (r : NodeRequest) (sight : Option Sight) (room : Room) → SightOn At sight → Along (open_dir r sight room)
+  open_dir-along r sight room n =
+      on-place sight (no_file enotdir) (open_dir_in r room) n (λ d m may_write generation size moment. tt) (λ f m. if-wrong room.full emfile _ (λ e. open_dir-folder r room f m))
+
+  read_dir-names : (offset size : ℕ) (handle : Option Handle) → Along (read_names offset size handle)
+  read_dir-names offset size None = tt
+  read_dir-names offset size (Some (Handle.File name node document strict reads writes)) = tt
+  read_dir-names offset size (Some (Handle.Folder node names)) = tt
+
+  pub read_dir-along : (offset size : ℕ) (handle : Option Handle) → Along (read_dir offset size handle)
+  read_dir-along offset size handle = if-wrong (nat_lt read_limit size) einval _ (λ e. read_dir-names offset size handle)
+
+  pub release_dir-along : (fh : ℕ) (handle : Option Handle) → Along (release_dir fh handle)
+  release_dir-along fh None = tt
+  release_dir-along fh (Some (Handle.File name node document strict reads writes)) = tt
+  release_dir-along fh (Some (Handle.Folder node names)) = tt
+
+  pub access-along : (mask : ℕ) (sight : Option Sight) → SightOn At sight → Along (access mask sight)
+  access-along mask sight n =
+      if-wrong (nat_lt 7 mask) einval _ (λ e. on-place sight (access_file mask) (access_folder mask) n
+      (λ d m may_write generation size moment. if-wrong (executes mask || writes_to mask && not may_write) eacces (told NodeAnswers.Empty) (λ f. tt))
+      (λ f m. if-wrong (writes_to mask) eacces (told NodeAnswers.Empty) (λ g. tt)))
