@@ -1,5 +1,5 @@
 -- Two connections of one application that have one trace and read the same are answered by the same bytes.
-use Rattle.std.proofs.Common.{◌≡◌, ℕ, List, [], ◌∷◌, ◌++◌, map, length, length-append, sym, ap, ◌∙◌, subst, arith}
+use Rattle.std.proofs.Common.{◌≡◌, ℕ, List, [], ◌∷◌, ◌++◌, map, length, length-append, refl, sym, ap, ◌∙◌, subst, arith}
 use Rattle.session.specs.declared.act.Act.{Act}
 use Rattle.session.specs.declared.act.Client.{Client}
 use Rattle.session.specs.declared.served.Stop.{Stop}
@@ -23,8 +23,19 @@ backs (a ∷ fs) (b ∷ bs) xs ys n e =
     let tails : fs ++ xs ≡ bs ++ ys = cc in
     backs fs bs xs ys shorter tails
 
+-- the fronts of these
+pub fronts-many : {X : Type 0} (fs bs xs ys : List X) → length fs ≡ length bs → fs ++ xs ≡ bs ++ ys → fs ≡ bs
+fronts-many [] [] xs ys n e = refl
+fronts-many [] (b ∷ bs) xs ys n e = absurd (cc)
+fronts-many (a ∷ fs) [] xs ys n e = absurd (cc)
+fronts-many (a ∷ fs) (b ∷ bs) xs ys n e =
+    let one : a ≡ b = cc in
+    let shorter : length fs ≡ length bs = cc in
+    let tails : fs ++ xs ≡ bs ++ ys = cc in
+    λ i. one i ∷ fronts-many fs bs xs ys shorter tails i
+
 -- or whose backs are as long
-backs-many : {X : Type 0} (fs bs xs ys : List X) → length xs ≡ length ys → fs ++ xs ≡ bs ++ ys → xs ≡ ys
+pub backs-many : {X : Type 0} (fs bs xs ys : List X) → length xs ≡ length ys → fs ++ xs ≡ bs ++ ys → xs ≡ ys
 backs-many fs bs xs ys n e =
     let all = ap length e in
     backs fs bs xs ys (omega (arith, all, n, length-append fs xs, length-append bs ys)) e

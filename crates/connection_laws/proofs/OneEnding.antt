@@ -5,13 +5,14 @@ use Rattle.session.specs.declared.served.Served.{Served}
 use Rattle.session.specs.declared.served.Served.TheVariants as served
 use Rattle.session.specs.declared.served.Stop.{Stop}
 use Rattle.session.specs.declared.served.Stop.TheVariants as stop
-use Rattle.session.specs.Connections.{Serves, Whole}
+use Rattle.session.specs.Connections.{EndsAs, Serves, Whole}
 use Rattle.session.specs.Laws.{OfStream}
 use Rattle.session.specs.Ledger.{World}
 use Rattle.session.specs.Pumps.{Spring}
 use Rattle.session.specs.Sessions.{ending_at}
 use Rattle.session.proofs.EndingsAreTheStreams.{endings_are}
 use Rattle.connection_laws.specs.Served.{IsByStream, IsServedWhole, Service}
+use Rattle.connection_laws.specs.ServedBytes.{HasRead}
 
 -- by the rest of a stream, and what it is
 abbrev pub ending_of : List ℕ → List ℕ → Stop → Served
@@ -51,3 +52,20 @@ pub ends-as-stream : (c : Client) (x : Service c) (stream : List ℕ) → IsServ
 ends-as-stream c x stream k =
     ends_so c x.source x.source_after x.before x.after stream x.ended k.by_stream x.serves
     (endings_are c x.ended x.source x.source_after x.before x.after stream x.serves k.told k.short)
+
+-- what was read, as a stream of its own
+of_read : (c : Client) (r : Served) (read : List ℕ) (a b : Spring) (v w : World) → EndsAs c r read a b v w → OfStream c r read v w
+of_read c served.Ended read a b v w h = h.1
+of_read c (served.Cut n) read a b v w h = h.2
+of_read c (served.Malformed at rule) read a b v w h = (h.0, h.1, h.2)
+of_read c (served.LineTooLong at) read a b v w h = (h.0, h.1, h.2)
+of_read c served.ReadFault read a b v w h = tt
+of_read c served.WriteFault read a b v w h = tt
+of_read c served.Spent read a b v w h = tt
+of_read c (served.Full cost limit) read a b v w h = tt
+of_read c served.Memory read a b v w h = tt
+
+pub ends-as-read : (c : Client) (x : Service c) (read : List ℕ) → HasRead c x read → Ends c x.ended read x.before x.after
+ends-as-read c x read k =
+    ends_so c x.source x.source_after x.before x.after read x.ended k.by_stream x.serves
+    (of_read c x.ended read x.source x.source_after x.before x.after k.ends)

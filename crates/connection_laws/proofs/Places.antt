@@ -19,7 +19,7 @@ use Rattle.connection_laws.specs.Served.{replied}
 
 -- ---- the seats of what an application makes
 
-abbrev seats_made : List ℕ → State → List Entry → List ℕ
+abbrev pub seats_made : List ℕ → State → List Entry → List ℕ
 seats_made app s [] = []
 seats_made app s (e ∷ es) = cond (makes app s e) (e.seat ∷ []) [] ++ seats_made app (after s e) es
 
@@ -106,6 +106,13 @@ made_are app seat (e ∷ es) s k = by_both (makes app s e) (e.seat == seat) (mad
     by_both false true more own h = let x : false ≡ true = h refl in cc
     by_both false false more own h = more
 
+-- what the steps reply to a seat grows by the replies to its own entries
+pub steps-grow : (app : List ℕ) (seat : ℕ) (h more : List Entry) (s : State) → AllMade app seat (run s h) more → at_seat seat (seats_made app s (h ++ more)) (replies app s (h ++ more)) ≡ at_seat seat (seats_made app s h) (replies app s h) ++ replied (exchanges seat (run s h) more)
+steps-grow app seat h more s made =
+    (λ i. at_seat seat (seats-append app h more s i) (replies-append app h more s i))
+    ∙ (at_seat-append seat (seats_made app s h) (replies app s h) (seats_made app (run s h) more) (replies app (run s h) more) (as_many app h s)
+    ∙ ap (λ (rs : List Reply). at_seat seat (seats_made app s h) (replies app s h) ++ rs) (made_are app seat more (run s h) made))
+
 -- ---- what the own machine replies to a seat
 
 module _ (app : List ℕ) (seat : ℕ) (s : State) (told : s.told ≡ true) where
@@ -116,6 +123,5 @@ module _ (app : List ℕ) (seat : ℕ) (s : State) (told : s.told ≡ true) wher
   pub replies-grow : (h more : List Entry) → Legal s h → Legal s (h ++ more) → AllMade app seat (run s h) more → replies_to seat (trace app s (h ++ more)) ≡ replies_to seat (trace app s h) ++ replied (exchanges seat (run s h) more)
   replies-grow h more l whole made =
       replies_are (h ++ more) whole
-      ∙ ((λ i. at_seat seat (seats-append app h more s i) (replies-append app h more s i))
-      ∙ (at_seat-append seat (seats_made app s h) (replies app s h) (seats_made app (run s h) more) (replies app (run s h) more) (as_many app h s)
-      ∙ (λ i. sym (replies_are h l) i ++ made_are app seat more (run s h) made i)))
+      ∙ (steps-grow app seat h more s made
+      ∙ ap (λ (rs : List Reply). rs ++ replied (exchanges seat (run s h) more)) (sym (replies_are h l)))

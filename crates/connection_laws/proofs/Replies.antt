@@ -1,78 +1,26 @@
 -- The replies given on a connection of an application are those of its own machine to the connection's seat.
-use Rattle.std.proofs.Common.{◌≡◌, ℕ, List, [], ◌∷◌, ◌++◌, Option, None, refl, sym, ap, ◌∙◌, subst}
-use Rattle.std.proofs.lemmas.List.{append_cancel_left}
-use Rattle.portal_model.specs.declared.entry.Entry.{Entry}
-use Rattle.portal_model.specs.History.{Legal, of_seat, run}
-use Rattle.portal_model.specs.Seated.{Binding, Exchange, bound_after, bound_by, exchanges, state_seen}
-use Rattle.portal_model.specs.State.{State}
+use Rattle.std.proofs.Common.{◌≡◌, ℕ, List, ◌++◌, ap, ◌∙◌}
+use Rattle.portal_model.specs.Seated.{Exchange}
 use Rattle.app_world.specs.World.{trace}
 use Rattle.session.specs.declared.act.Client.{Client}
 use Rattle.session.specs.Answers.{Outcome, kept}
 use Rattle.session.specs.Ledger.{Grew}
-use Rattle.portal_model.proofs.SeatLaws.{exchanges-append, exchanges-entries}
-use Rattle.session.proofs.ConnectionEntries.{Connects, serves_connect}
-use Rattle.session.proofs.ConnectionStaysOpen.{entries_of, not_open}
 use Rattle.session.proofs.Grew.{told_alike}
-use Rattle.session.proofs.ServedTraces.{AreEnclosed, IsMakers, asked_at, makers}
 use Rattle.connection_laws.specs.OwnPlaces.{replies_to}
 use Rattle.connection_laws.specs.Served.{IsOf, RepliesAreOfTheTrace, Service, replied, replies_seen}
-use Rattle.connection_laws.proofs.MadeByIt.{EachOurs, all-made}
-use Rattle.connection_laws.proofs.Places.{AllMade, replies-grow}
-
--- each of the entries one after another, by what is ahead of it
-each_ours : (app : List ℕ) (es : List Entry) (b : Option Binding) → ((xs : List Entry) (e : Entry) (ys : List Entry) → es ≡ xs ++ e ∷ ys → IsMakers app (bound_by b xs) e.request) → EachOurs app b es
-each_ours app [] b h = tt
-each_ours app (e ∷ es) b h = (h [] e es refl, each_ours app es (bound_after b e.request) (λ xs x ys k. h (e ∷ xs) x ys (ap (λ (z : List Entry). e ∷ z) k)))
+use Rattle.connection_laws.proofs.OwnExchanges.{Behind, behind}
+use Rattle.connection_laws.proofs.Places.{replies-grow}
 
 module _ (app : List ℕ) (c : Client) (x : Service c) (of : IsOf app c x) where
-  connects : Connects c x.before.seated x.after.seated
-  connects = serves_connect c x.ended x.source x.source_after x.before x.after x.serves
-
-  grew : Grew x.before.seated connects.0 x.after.seated
-  grew = connects.1
-
-  enclosed : AreEnclosed c (entries_of (kept connects.0))
-  enclosed = connects.2
-
-  -- the state in which the connection was begun
-  abbrev began : State
-  began = run x.before.seated.opening x.before.seated.seen
-
-  seen_is : x.after.seated.seen ≡ x.before.seated.seen ++ grew.moved.begins.0
-  seen_is = grew.moved.begins.1
-
-  legal : Legal x.before.seated.opening (x.before.seated.seen ++ grew.moved.begins.0)
-  legal = subst (λ (s : State). Legal s (x.before.seated.seen ++ grew.moved.begins.0)) grew.moved.opening (subst (Legal x.after.seated.opening) seen_is x.known.legal)
-
   pub same-seat : x.after.seated.seat ≡ x.before.seated.seat
-  same-seat = grew.moved.seat
-
-  -- the new exchanges of the seat
-  new_are : (made : List Exchange) → x.after.seated.mine ≡ x.before.seated.mine ++ made → exchanges x.before.seated.seat began grew.moved.begins.0 ≡ made
-  new_are made e =
-      let whole : exchanges x.before.seated.seat x.before.seated.opening (x.before.seated.seen ++ grew.moved.begins.0) ≡ x.after.seated.mine =
-      (λ i. exchanges (sym grew.moved.seat i) (sym grew.moved.opening i) (sym seen_is i)) ∙ x.known.mine in
-      append_cancel_left (exchanges x.before.seated.seat x.before.seated.opening x.before.seated.seen) _ _
-      (sym (exchanges-append x.before.seated.seat x.before.seated.seen grew.moved.begins.0 x.before.seated.opening)
-      ∙ (whole ∙ (e ∙ ap (λ (xs : List Exchange). xs ++ made) (sym x.known_before.mine))))
-
-  own_entries : of_seat x.before.seated.seat grew.moved.begins.0 ≡ entries_of (kept connects.0)
-  own_entries =
-      sym (exchanges-entries x.before.seated.seat grew.moved.begins.0 began)
-      ∙ ap entries_of (new_are (kept connects.0) (told_alike x.before.seated x.after.seated connects.0 grew of.1))
-
-  all_ours : AllMade app x.before.seated.seat began grew.moved.begins.0
-  all_ours =
-      all-made app x.before.seated.seat grew.moved.begins.0 began None (not_open (state_seen x.before.seated) x.before.seated.seat x.closed)
-      (subst (EachOurs app None) (sym own_entries)
-      (each_ours app (entries_of (kept connects.0)) None
-      (λ xs e ys k. makers app c (bound_by None xs) e.request of.0 (asked_at c (entries_of (kept connects.0)) xs ys e enclosed k))))
+  same-seat = (behind app c x of.0).seat
 
   pub new-replies : (made : List Exchange) → x.after.seated.mine ≡ x.before.seated.mine ++ made → replies_seen app x.after.seated ≡ replies_seen app x.before.seated ++ replied made
   new-replies made e =
-      (λ i. replies_to (grew.moved.seat i) (trace app (grew.moved.opening i) (seen_is i)))
-      ∙ (replies-grow app x.before.seated.seat x.before.seated.opening of.1 x.before.seated.seen grew.moved.begins.0 x.known_before.legal legal all_ours
-      ∙ ap (λ (xs : List Exchange). replies_seen app x.before.seated ++ replied xs) (new_are made e))
+      let b : Behind app c x = behind app c x of.0 in
+      (λ i. replies_to (b.seat i) (trace app (b.opening i) (b.seen i)))
+      ∙ (replies-grow app x.before.seated.seat x.before.seated.opening of.1 x.before.seated.seen b.more x.known_before.legal b.legal b.ours
+      ∙ ap (λ (xs : List Exchange). replies_seen app x.before.seated ++ replied xs) (b.new made e))
 
 pub given-replies : (app : List ℕ) (c : Client) (x : Service c) (os : List Outcome) → IsOf app c x → Grew x.before.seated os x.after.seated → replies_seen app x.after.seated ≡ replies_seen app x.before.seated ++ replied (kept os)
 given-replies app c x os of g = new-replies app c x of (kept os) (told_alike x.before.seated x.after.seated os g of.1)

@@ -31,16 +31,20 @@ outcomes_many : (c : Client) (read left : List ℕ) (what : Stop) (v w : World) 
 outcomes_many c read left what v w i =
     as-many (requests_of i.all.acts) i.all.outcomes (answer_asked.items c 0 i.all.last i.all.acts i.all.outcomes i.all.pieces i.all.answers)
 
+-- where of both no request is refused, the same are
+pub unrefused-alike : (c : Client) (read left rest : List ℕ) (what why : Stop) (v w v' w' : World) (i : Whole c read left what v w) (j : Whole c read rest why v' w') → j.all.acts ≡ i.all.acts
+    → StandsStill v.seated.refusals w.seated.refusals → StandsStill v'.seated.refusals w'.seated.refusals → refusals_in j.all.outcomes ≡ refusals_in i.all.outcomes
+unrefused-alike c read left rest what why v w v' w' i j acts k l =
+    none-refused j.all.outcomes i.all.outcomes (none_denied c read rest why v' w' j l) (none_denied c read left what v w i k)
+    (outcomes_many c read rest why v' w' j ∙ (ap (λ (acts : List Act). length (requests_of acts)) acts ∙ sym (outcomes_many c read left what v w i)))
+
 pub connections-are : ConnectionsAreIsolated
 connections-are app c x y stream one k l =
     let i = ends-as-stream c x stream k in
     let j = ends-as-stream c y stream l in
     let cuts = are_one c (first_phase c.kind) stream j.whole.all.items i.whole.all.items j.whole.all.acts i.whole.all.acts j.left i.left j.what i.what j.whole.cut i.whole.cut in
     let same_end : ending_of stream j.left j.what ≡ ending_of stream i.left i.what = λ n. ending_of stream (cuts.2 n) (cuts.3 n) in
-    let many : length j.whole.all.outcomes ≡ length i.whole.all.outcomes =
-    outcomes_many c stream j.left j.what y.before y.after j.whole
-    ∙ (ap (λ (acts : List Act). length (requests_of acts)) cuts.1 ∙ sym (outcomes_many c stream i.left i.what x.before x.after i.whole)) in
     let refused : refusals_in j.whole.all.outcomes ≡ refusals_in i.whole.all.outcomes =
-    none-refused j.whole.all.outcomes i.whole.all.outcomes (none_denied c stream j.left j.what y.before y.after j.whole l.unrefused) (none_denied c stream i.left i.what x.before x.after i.whole k.unrefused) many in
+    unrefused-alike c stream i.left j.left i.what j.what x.before x.after y.before y.after i.whole j.whole cuts.1 k.unrefused l.unrefused in
     let pieces : j.whole.all.pieces ≡ i.whole.all.pieces = bytes-are app c x y stream i.left j.left i.what j.what i.whole j.whole one refused in
     (j.ending ∙ (same_end ∙ sym i.ending), (i.whole.all.pieces, i.whole.asked.grows.told, j.whole.asked.grows.told ∙ ap (onto y.before.told) pieces))

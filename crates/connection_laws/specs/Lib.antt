@@ -1,7 +1,9 @@
 pub mod OwnPlaces
 pub mod Served
+pub mod ServedBytes
 pub mod SoFar
 pub mod Blinded
 pub mod BlindedTrace
 pub mod Unread
 pub mod SightExamples
+pub mod ReadExamples

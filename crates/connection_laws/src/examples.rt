@@ -1,10 +1,11 @@
-//! Worked examples of what is in sight of an application, computed by the checker
-//! over the definitions alone.
+//! Worked examples of what is in sight of an application, and of what its client is
+//! written of a READ, computed by the checker over the definitions alone.
 //!
 //! The first functions do nothing; their contract is the example. What is expected
 //! is worked out by hand, so that a wrong definition does not meet it. The last ones
 //! give a part of an example by code: a byte, or a length.
 
+ghost use Rattle.connection_laws.specs.ReadExamples.{IsSameFront, ReadsShowContents};
 ghost use Rattle.connection_laws.specs.SightExamples.{
   BytesComeWithTheRight,
   IsFirstOfOpen,
@@ -46,4 +47,18 @@ pub fn length_to_a_writer() -> u64
     ensures { IsLengthToWriter result }
 {
     5
+}
+
+/// Two connections whose READs show other contents are given the same replies but for
+/// these, and answered by the same frames but for the READ's.
+pub fn reads_show_contents()
+    ensures { ReadsShowContents }
+{}
+
+/// How many bytes at the front of the two frames that answer the READ are the same: of
+/// 21 those of the header.
+pub fn same_front_of_reads() -> u64
+    ensures { IsSameFront result }
+{
+    16
 }

@@ -5,6 +5,11 @@ ghost use Rattle.connection_laws.specs.Served.{
   ConnectionsAreIsolated,
   RepliesAreOfTheTrace,
 };
+ghost use Rattle.connection_laws.specs.ServedBytes.{
+  BytesAreOfTheServedTrace,
+  RepliesAreOfTheServedTrace,
+  ServedConnectionsAreIsolated,
+};
 ghost use Rattle.connection_laws.specs.SoFar.{BytesSoFar, ItemsAreAskedFirst, RepliesSoFar};
 ghost use Rattle.connection_laws.specs.Unread.{
   BlindedStepsAreSeen,
@@ -32,6 +37,28 @@ pub fn bytes_are_of_the_trace()
 /// bytes.
 pub fn connections_are_isolated()
     ensures { ConnectionsAreIsolated }
+{}
+
+/// The same over any tree, but for the contents of READs: what the own machine of an
+/// application replies to a seat over its trace grows, while a connection of that seat
+/// is served, by just the replies that its client was given.
+pub fn replies_are_of_the_served_trace()
+    ensures { RepliesAreOfTheServedTrace }
+{}
+
+/// Over any tree, what answers the items of a connection of an application is a
+/// function of its settings, of what was read, of the application's trace, of which
+/// requests were refused, and how, and of the contents that READs show. A content has
+/// a part in no bytes but those of the frame that shows it, and in none of a bus.
+pub fn bytes_are_of_the_served_trace()
+    ensures { BytesAreOfTheServedTrace }
+{}
+
+/// Over any tree, two connections of an application with one trace that read the same
+/// up to its end, and of which no request is refused, end alike and are answered
+/// alike: on a bus by the same bytes, and on a mount where READs showed the same.
+pub fn served_connections_are_isolated()
+    ensures { ServedConnectionsAreIsolated }
 {}
 
 /// Two connections of an application whose traces begin alike are given the same
