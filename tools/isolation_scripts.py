@@ -13,7 +13,9 @@ SIDE is the service, `a`, `b`, or `ab` for both. A link is WHO.KIND.NAME: `host.
     send LINK BYTES         sends them, and goes on while they are under way
     gives LINK BYTES        as ask; the documents that it tells are OWN's
     close LINK
-    disk WHAT PATH WORDS..  changes the files below the root, beside the service
+    disk WHAT PATH WORDS..  changes the files below the root, beside the service: `save` by rename,
+                            with a moment; `patch` or `cut` in place; `remove`; or make a `folder`,
+                            a `pipe` or a symbolic `link`
 
 A document's number is drawn by the service. So in its place stand 5eGGGGGN, of OWN's documents, and
 0dGGGGGN, of all others: the N-th one that group G tells of, in hexadecimal digits. Where OWN names
@@ -390,7 +392,7 @@ class Own:
             ("save", path, self.lines.content().hex() or "-", moment),
             ("save", path, self.lines.content().hex() or "-", moment),
             ("patch", path, "2", self.lines.content().hex() or "-"),
-            ("remove", path), ("folder", path))))
+            ("remove", path), ("folder", path), ("pipe", path), ("link", path, STEADY[0]))))
 
 
 class Alike:
@@ -653,7 +655,7 @@ class Beside:
         content = self.lines.content().hex() or "-"
         self.lines.line(self.side, "disk", *self.maker.one((
             ("save", path, content, self.lines.moment()), ("patch", path, "0", content),
-            ("remove", path))))
+            ("remove", path), ("pipe", path), ("link", path, self.maker.one(STEADY)))))
 
     def ends(self):
         self.lines.close(self.side, self.link(self.maker.one(("bus", "mount"))))
