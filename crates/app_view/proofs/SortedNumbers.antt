@@ -143,78 +143,63 @@ module _ (rights : List Triple) (app : List ℕ) (documents : List Document) whe
       step (Some d) e = some (can_read d.id.number) d ∙ ap (λ (n : ℕ). can_read n && true)
           (nat_is d.id.number k (found_passes (λ (x : Document). x.id.number == k) documents d e))
 
-  readable-there : (k : ℕ) (xs : List DocId) →
-      list_any (λ n. nat_eq n k) (numbers_of (filter reads xs))
+  abbrev has_read : ℕ → List DocId → Bool
+  has_read k xs = list_any (λ n. nat_eq n k) (numbers_of (filter reads xs))
+
+  abbrev has_seen : ℕ → List Document → Bool
+  has_seen k ds =
+      list_any (λ n. nat_eq n k) (live_numbers (filter (may_read rights (Who.App app)) ds))
+
+  and-true : (b : Bool) → b ≡ (b && true)
+  and-true true = refl
+  and-true false = refl
+
+  and-false : (b : Bool) → false ≡ (b && false)
+  and-false true = refl
+  and-false false = refl
+
+  readable-there : (k : ℕ) (xs : List DocId) → has_read k xs
       ≡ ((can_read k && is_live documents k) && list_any (λ x. x.number == k) xs)
-  readable-there k [] = none (can_read k && is_live documents k)
-    where
-      none : (b : Bool) → false ≡ (b && false)
-      none true = refl
-      none false = refl
+  readable-there k [] = and-false (can_read k && is_live documents k)
   readable-there k (x ∷ xs) = step (x.number == k) (reads x) refl refl (readable-there k xs)
     where
-      abbrev rest : Bool
-      rest = list_any (λ n. nat_eq n k) (numbers_of (filter reads xs))
-
       here : (x.number == k) ≡ true → reads x ≡ (can_read k && is_live documents k)
       here e = ap (λ (n : ℕ). is_some (readable rights (Who.App app) (document_of documents n)))
           (nat_is x.number k e) ∙ reads-is k
 
-      same : (b : Bool) → (x.number == k) ≡ b → nat_eq x.number k ≡ b
-      same b e = e
-
-      and-true : (b : Bool) → b ≡ (b && true)
-      and-true true = refl
-      and-true false = refl
-
       step : (b c : Bool) → (x.number == k) ≡ b → reads x ≡ c →
-          rest ≡ ((can_read k && is_live documents k) && list_any (λ y. y.number == k) xs) →
+          has_read k xs
+          ≡ ((can_read k && is_live documents k) && list_any (λ y. y.number == k) xs) →
           list_any (λ n. nat_eq n k) (numbers_of (cond c (x ∷ filter reads xs) (filter reads xs)))
           ≡ ((can_read k && is_live documents k) && (b || list_any (λ y. y.number == k) xs))
-      step true true e f more = ap (λ (b : Bool). b || rest) (same true e)
+      step true true e f more = ap (λ (b : Bool). b || has_read k xs) e
           ∙ (sym f ∙ (here e ∙ and-true (can_read k && is_live documents k)))
       step true false e f more = more
           ∙ (ap (λ (b : Bool). b && list_any (λ y. y.number == k) xs) (sym (here e) ∙ f)
           ∙ ap (λ (b : Bool). b && true) (sym f ∙ here e))
-      step false true e f more = ap (λ (b : Bool). b || rest) (same false e) ∙ more
+      step false true e f more = ap (λ (b : Bool). b || has_read k xs) e ∙ more
       step false false e f more = more
 
-  seen-there : (k : ℕ) (ds : List Document) →
-      list_any (λ n. nat_eq n k) (live_numbers (filter (may_read rights (Who.App app)) ds))
-      ≡ (can_read k && is_live ds k)
-  seen-there k [] = none (can_read k)
-    where
-      none : (b : Bool) → false ≡ (b && false)
-      none true = refl
-      none false = refl
+  seen-there : (k : ℕ) (ds : List Document) → has_seen k ds ≡ (can_read k && is_live ds k)
+  seen-there k [] = and-false (can_read k)
   seen-there k (d ∷ ds) =
       step (d.id.number == k) (can_read d.id.number) refl refl (seen-there k ds)
     where
-      abbrev rest : Bool
-      rest = list_any (λ n. nat_eq n k) (live_numbers (filter (may_read rights (Who.App app)) ds))
-
       here : (d.id.number == k) ≡ true → can_read d.id.number ≡ can_read k
       here e = ap can_read (nat_is d.id.number k e)
 
-      same : (b : Bool) → (d.id.number == k) ≡ b → nat_eq d.id.number k ≡ b
-      same b e = e
-
-      and-true : (b : Bool) → b ≡ (b && true)
-      and-true true = refl
-      and-true false = refl
-
       step : (b c : Bool) → (d.id.number == k) ≡ b → can_read d.id.number ≡ c →
-          rest ≡ (can_read k && is_live ds k) →
+          has_seen k ds ≡ (can_read k && is_live ds k) →
           list_any (λ n. nat_eq n k) (live_numbers
           (cond c (d ∷ filter (may_read rights (Who.App app)) ds)
           (filter (may_read rights (Who.App app)) ds)))
           ≡ (can_read k && is_some (cond b (Some d) (document_of ds k)))
-      step true true e f more = ap (λ (b : Bool). b || rest) (same true e)
+      step true true e f more = ap (λ (b : Bool). b || has_seen k ds) e
           ∙ (sym f ∙ (here e ∙ and-true (can_read k)))
       step true false e f more = more
           ∙ (ap (λ (b : Bool). b && is_live ds k) (sym (here e) ∙ f)
           ∙ ap (λ (b : Bool). b && true) (sym f ∙ here e))
-      step false true e f more = ap (λ (b : Bool). b || rest) (same false e) ∙ more
+      step false true e f more = ap (λ (b : Bool). b || has_seen k ds) e ∙ more
       step false false e f more = more
 
   -- it has a right in what it may read

@@ -1,5 +1,6 @@
--- Documents that are sorted by their numbers, which differ, are in order of their identifiers.
-use Rattle.std.proofs.Common.{◌≡◌, ◌≤◌, ◌<◌, ◌==◌, ℕ, length, get_or, List, [], ◌∷◌, ◌++◌, map, Bool, true, false, ◌||◌, cond, Option, Some, None, nat_eq, suc, refl, sym, ap, subst, ◌∙◌, arith}
+-- Documents that are sorted by their numbers, or found by numbers that rise, are in order of their
+-- identifiers.
+use Rattle.std.proofs.Common.{◌≡◌, ◌≤◌, ◌<◌, ◌==◌, ℕ, length, get_or, List, [], ◌∷◌, ◌++◌, map, Bool, true, false, ◌||◌, ◌&&◌, cond, Option, Some, None, nat_eq, suc, refl, sym, ap, subst, ◌∙◌, arith}
 use Rattle.std.specs.List.{filter, flat_map, list_all, list_any, IsDistinct, AllByRecursion}
 use Rattle.std.specs.List.Sorted.{IsNonDecreasingBy, IsPermutation}
 use Rattle.std.proofs.lemmas.Bool.Decides.{nat_tests}
@@ -24,6 +25,7 @@ use Rattle.portal_model.proofs.TripleOrder.{Key, key_less, keys, nat_is, same_ke
 use Rattle.document_records.specs.DocumentIndex.{live_numbers}
 use Rattle.document_records.specs.GrantIndex.{documents_of, id_less}
 use Rattle.document_records.proofs.DocumentsHeld.{any-documents, holds-any, rising-documents}
+use Rattle.document_records.proofs.FreshItems.{differ-filter}
 use Rattle.document_calls.specs.Answers.{all_listed, held_listed, listed_for, listed_found, listed_if, listing, lower_listed, number_listed}
 
 -- ---- the order by number and path, in which no two differing documents stand at one place

@@ -123,10 +123,7 @@ fn all(alloc: Global, documents: &Documents) -> Result<List<ListedDocument>, Wan
 }
 
 /// Documents as they are listed, in the order in which they are given.
-fn listed_each(
-    alloc: Global,
-    documents: &[Document],
-) -> Result<List<ListedDocument>, WantOfMemory>
+fn listed_each(alloc: Global, documents: &[Document]) -> Result<List<ListedDocument>, WantOfMemory>
     ensures { IfOk result (λ list. list ≡ map listed documents.now) }
 {
     let mut list = List::new(alloc);
