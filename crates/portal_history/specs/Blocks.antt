@@ -34,7 +34,8 @@ module _ {X Z : Type 0} where
 
   -- The blocks that are full, the one that is filled, and those that were taken ahead. There is a
   -- place among the full ones for each that was taken.
-  pub record AreBlocks (full : Vec (List X) Z) (last : Vec X Z) (ahead : Vec (Vec X Z) Z) : Type 0 where
+  pub record AreBlocks (full : Vec (List X) Z) (last : Vec X Z)
+      (ahead : Vec (Vec X Z) Z) : Type 0 where
     pub whole : AreFull full.items
     pub one : (vec_capacity last ≡ 0) ⊎ (vec_capacity last ≡ 1024)
     pub free : AreFree ahead.items
