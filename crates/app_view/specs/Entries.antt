@@ -1,9 +1,9 @@
 -- The entries of a folder, as FUSE_OPENDIR opens it (include/uapi/linux/fuse.h).
-use Rattle.std.specs.Prelude.{◌≡◌, ℕ, List, [], ◌∷◌, map, Bool, false, Option, Some, None}
+use Rattle.std.specs.Prelude.{◌≡◌, ℕ, List, [], ◌∷◌, Bool, false, Option, Some, None, is_some}
 use Rattle.std.specs.Cmp.Lexicographic.{slice_cmp}
-use Rattle.std.specs.List.{filter}
 use Rattle.std.specs.Ordering.{is_lt, nat_cmp}
 use Rattle.portal_base.specs.declared.files.Look.{Look}
+use Rattle.portal_base.specs.declared.names.doc_id.DocId.{DocId}
 use Rattle.portal_base.specs.declared.who.Who.{Who}
 use Rattle.portal_model.specs.declared.handle.Handle.{Handle}
 use Rattle.portal_model.specs.declared.reply.DirName.{DirName}
@@ -13,8 +13,10 @@ use Rattle.portal_model.specs.declared.state.Document.{Document}
 use Rattle.portal_model.specs.declared.state.Triple.{Triple}
 use Rattle.portal_model.specs.NodeVerdict.{NodeVerdict, FilesStay, Opens, Room, Yields, next_handle}
 use Rattle.portal_model.specs.OpenDir.{folder_entry, open_dir}
-use Rattle.portal_model.specs.Place.{Sight, may_read, root_node}
+use Rattle.portal_model.specs.Place.{Sight, root_node}
+use Rattle.portal_model.specs.State.{document_of}
 use Rattle.portal_model.specs.Walk.{Walk, Answers, Looks, Ends}
+use Rattle.app_view.specs.Books.{readable}
 
 -- ---- what is opened
 
@@ -41,10 +43,10 @@ AreOpened sight node look entries = (r : NodeRequest) (room : Room) → r.node �
 
 -- ---- parts of it
 
--- the numbers of the documents that a subject sees, in order of addition
-abbrev pub numbers_readable : List Triple → Who → List Document → List ℕ
-numbers_readable rights who documents =
-    map (λ d. d.id.number) (filter (may_read rights who) documents)
+-- the document of an identifier is live, and this subject may read it
+abbrev pub is_readable : List Triple → Who → List Document → DocId → Bool
+is_readable rights who documents id =
+    is_some (readable rights who (document_of documents id.number))
 
 -- the order of names, as texts are compared
 abbrev pub entry_less : DirName → DirName → Bool

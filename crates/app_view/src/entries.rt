@@ -31,9 +31,9 @@ const BY_APP: &[u8] = b"by-app";
 /// A root has the documents that the view's subject sees, by identifier, and
 /// the host's own root the folder of all views behind them. That one has the
 /// views of all numbered applications, in byte order of their names. The folder
-/// of a document has the document's file where the tree has one. Of n documents
-/// or applications it takes about n log n steps, and for each document a look for
-/// the subject's rights.
+/// of a document has the document's file where the tree has one. No document is
+/// looked at in which the subject has no right: n documents or applications take
+/// about n log m steps, of m that there are.
 pub fn listing(
     alloc: Global,
     book: &ViewBook,

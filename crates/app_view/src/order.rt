@@ -5,18 +5,20 @@ ghost use Rattle.std.specs.Prelude.{◌≡◌, ◌<◌, ◌^◌, ◌++◌, IfOk,
 ghost use Rattle.std.specs.Cmp.Lexicographic.{slice_cmp};
 ghost use Rattle.std.specs.List.Sorted.{IsPermutation, IsSortedBy};
 ghost use Rattle.std.specs.Ordering.{nat_cmp};
+ghost use Rattle.portal_base.specs.declared.who.Who.TheVariants as Who;
 ghost use Rattle.portal_model.specs.Applications.{name_of_number};
 ghost use Rattle.portal_model.specs.OpenDir.{folder_entry, names_of_views, views_from};
 ghost use Rattle.portal_model.specs.Place.{numbers_seen};
 ghost use Rattle.app_view.specs.Books.{who_is};
-ghost use Rattle.app_view.specs.Entries.{entry_less, numbers_readable, view_of};
+ghost use Rattle.app_view.specs.Entries.{entry_less, is_readable, view_of};
 ghost use Rattle.document_records.specs.Applications.{AreNumbered};
 
-use crate::book::{Subject, ViewBook, may_read};
+use crate::book::{Subject, ViewBook, readable};
 use crate::nodes::root_node;
-use document_records::{Applications, Document, Grants};
+use document_records::Applications;
 use portal_base::list::List;
 use portal_base::memory::WantOfMemory;
+use portal_base::names::{AppId, DocId};
 use portal_model::reply::DirName;
 use std::alloc::Global;
 use std::cmp::Ordering;
@@ -30,29 +32,48 @@ pub(crate) fn numbers_seen(
     ensures { IfOk result (λ numbers. numbers.items ≡ numbers_seen
         book.now.grants.now (who_is subject.entry) book.now.documents.now.live) }
 {
-    let mut numbers = numbers_readable(alloc, book.documents.live(), book.grants, subject)?;
+    match subject {
+        Subject::Host => numbers_live(alloc, book),
+        Subject::App(app) => numbers_readable(alloc, book, app),
+    }
+}
+
+/// The numbers of all documents, in rising order.
+fn numbers_live(alloc: Global, book: &ViewBook) -> Result<Vec<u32>, WantOfMemory>
+    ensures { IfOk result (λ numbers. numbers.items
+        ≡ numbers_seen book.now.grants.now Who.Host book.now.documents.now.live) }
+{
+    let mut numbers = Vec::new(alloc);
+    for document in book.documents.live() {
+        numbers.push(document.id.number)?;
+    }
     // By number, which is the byte order of identifiers.
     numbers.sort_unstable();
     Ok(numbers)
 }
 
-/// The numbers of the documents that a subject sees, in order of addition.
-fn numbers_readable(
-    alloc: Global,
-    documents: &[Document],
-    grants: &Grants,
-    subject: Subject,
-) -> Result<Vec<u32>, WantOfMemory>
+/// The numbers of the documents that an application may read, in rising order.
+fn numbers_readable(alloc: Global, book: &ViewBook, app: &AppId) -> Result<Vec<u32>, WantOfMemory>
     ensures { IfOk result (λ numbers. numbers.items
-        ≡ numbers_readable grants.now (who_is subject.entry) documents.now) }
+        ≡ numbers_seen book.now.grants.now (Who.App app.now) book.now.documents.now.live) }
 {
+    let ids = book.grants.documents_of(app)?;
     let mut numbers = Vec::new(alloc);
-    for document in documents {
-        if may_read(grants, subject, document.id) {
-            numbers.push(document.id.number)?;
+    for id in ids.as_slice() {
+        if is_readable(book, app, *id) {
+            numbers.push(id.number)?;
         }
     }
     Ok(numbers)
+}
+
+/// Says whether the document of an identifier is live, and an application may
+/// read it.
+fn is_readable(book: &ViewBook, app: &AppId, id: DocId) -> bool
+    ensures { result ≡ is_readable book.now.grants.now (Who.App app.now)
+        book.now.documents.now.live id }
+{
+    readable(book, Subject::App(app), id).is_some()
 }
 
 /// The views of all applications, in byte order of their names.

@@ -22,7 +22,7 @@ pub struct Reach {
 
 /// The rights that the subject of a node's view has now in a document: none
 /// where the view isn't there, or the document isn't live. Of n documents it
-/// takes about n steps.
+/// takes about log n steps.
 pub fn reach_at(book: &ViewBook, who: &Who, node: u64, document: DocId) -> Reach
     ensures { (s : State) → Lends book.now s
         → reach_told result ≡ reach_at s who.now node document.number }

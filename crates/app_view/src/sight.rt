@@ -16,7 +16,7 @@ use portal_base::who::Who;
 use portal_model::place::Place;
 
 /// The place that a node's number names; `None` exactly where the caller
-/// doesn't see it. Of n documents it takes about n steps.
+/// doesn't see it. Of n documents it takes about log n steps.
 ///
 /// The caller sees the root of its own view, and the folder and the file of each
 /// document in which the view's subject has the right to read; the host sees the

@@ -1,7 +1,8 @@
 -- What the calls that change nothing are answered, over the lists that they are answered from.
-use Rattle.std.specs.Prelude.{ℕ, nat_lt, List, [], ◌∷◌, map, Bool, true, ◌||◌, cond, Option, Some, None}
-use Rattle.std.specs.List.{filter, flat_map}
+use Rattle.std.specs.Prelude.{ℕ, nat_lt, List, [], ◌∷◌, map, Bool, ◌||◌, cond, Option, Some, None}
+use Rattle.std.specs.List.{filter}
 use Rattle.portal_base.specs.Names.{is_app_name, is_same}
+use Rattle.portal_base.specs.declared.names.doc_id.DocId.{DocId}
 use Rattle.portal_base.specs.declared.who.Who.{Who}
 use Rattle.portal_model.specs.declared.reply.Answer.{Answer}
 use Rattle.portal_model.specs.declared.reply.Code.TheVariants as Code
@@ -14,7 +15,7 @@ use Rattle.portal_model.specs.Info.{holders, row_of}
 use Rattle.portal_model.specs.ListDocuments.{is_listed_for, listed, lower}
 use Rattle.portal_model.specs.LookupDocument.{text_of}
 use Rattle.portal_model.specs.Ordered.{put_all}
-use Rattle.portal_model.specs.State.{held_of}
+use Rattle.portal_model.specs.State.{document_of, held_of}
 use Rattle.rights_rule.specs.Rights.{holds_any}
 use Rattle.document_calls.specs.Arguments.{path_if_ended}
 
@@ -44,9 +45,12 @@ informed documents rights Who.Host doc = told_of rights (document_named document
 abbrev pub may_be_listed : List ℕ → Bool
 may_be_listed app = is_same app [] || is_app_name app
 
+-- these documents, by identifier
+abbrev pub all_listed : List Document → List ListedDocument
+all_listed documents = map listed (put_all lower documents)
+
 abbrev pub listed_for : List Document → List Triple → List ℕ → List ListedDocument
-listed_for documents rights app =
-    map listed (put_all lower (filter (is_listed_for rights app) documents))
+listed_for documents rights app = all_listed (filter (is_listed_for rights app) documents)
 
 abbrev pub listing : List Document → List Triple → Who → List ℕ → Answer
 listing documents rights (Who.App caller) app = Answer.Refused Code.NotAllowed
@@ -54,21 +58,23 @@ listing documents rights Who.Host app =
     cond (may_be_listed app) (Answer.Listed (listed_for documents rights app))
     (Answer.Refused Code.InvalidArgument)
 
--- no name asks for all documents, a name for those in which its application has a right
-abbrev pub is_asked_for : List Triple → Option (List ℕ) → Document → Bool
-is_asked_for rights None d = true
-is_asked_for rights (Some app) d = holds_any (held_of rights app d.id.number)
+-- those in which an application has a right, by identifier
+abbrev pub held_listed : List Document → List Triple → List ℕ → List ListedDocument
+held_listed documents rights app =
+    all_listed (filter (λ d. holds_any (held_of rights app d.id.number)) documents)
 
-abbrev pub listed_if : List Triple → Option (List ℕ) → Document → List ListedDocument
-listed_if rights app d = cond (is_asked_for rights app d) (listed d ∷ []) []
+-- the document of a number, where it is live
+abbrev pub listed_if : Option Document → List ListedDocument
+listed_if None = []
+listed_if (Some d) = listed d ∷ []
+
+abbrev pub listed_found : List Document → DocId → List ListedDocument
+listed_found documents id = listed_if (document_of documents id.number)
+
+-- ---- their order
 
 abbrev pub number_listed : ListedDocument → ℕ
 number_listed d = d.id.number
 
 abbrev pub lower_listed : ListedDocument → ListedDocument → Bool
 lower_listed d e = nat_lt (number_listed d) (number_listed e)
-
--- what is asked for, by identifier
-abbrev pub asked_for : List Document → List Triple → Option (List ℕ) → List ListedDocument
-asked_for documents rights app =
-    put_all lower_listed (flat_map (listed_if rights app) documents)

@@ -1,29 +1,29 @@
 //! List: the documents of an application, or all.
 
-ghost use Rattle.std.specs.Prelude.{◌≡◌, ◌++◌, IfOk, OnOk, option_copied};
-ghost use Rattle.std.specs.List.{flat_map};
+ghost use Rattle.std.specs.Prelude.{◌≡◌, ◌++◌, map, IfOk, OnOk};
 ghost use Rattle.std.specs.List.Sorted.{IsNonDecreasingBy, IsPermutation};
 ghost use Rattle.portal_base.specs.declared.who.Who.TheVariants as Who;
 ghost use Rattle.portal_model.specs.declared.reply.Answer.TheVariants as Answer;
 ghost use Rattle.portal_model.specs.declared.request.Request.TheVariants as Request;
 ghost use Rattle.portal_model.specs.declared.state.Connection.{Connection};
+ghost use Rattle.portal_model.specs.ListDocuments.{listed};
 ghost use Rattle.portal_model.specs.State.{State};
-ghost use Rattle.document_calls.specs.Answers.{asked_for, is_asked_for, listed_if, listing, number_listed};
+ghost use Rattle.document_calls.specs.Answers.{all_listed, held_listed, listed_found, listing, number_listed};
 ghost use Rattle.document_calls.specs.Serves.{Serves};
 
 use crate::served::{ServedCall, answered};
 use document_records::{Document, Documents, Grants};
 use portal_base::list::List;
 use portal_base::memory::WantOfMemory;
-use portal_base::names::{AppId, NameError};
+use portal_base::names::{AppId, DocId, NameError};
 use portal_base::who::Who;
 use portal_model::reply::{Answer, Code, ListedDocument};
 use std::alloc::Global;
 
 /// Answers the live documents in which an application has a right, or all
 /// where the text that names it is empty, each with its path, in order of
-/// their identifiers. Of n documents it takes about n log n steps, and for
-/// each a look for the application's rights.
+/// their identifiers. No other is looked at: n that are answered take about
+/// n log m steps, of m that are live.
 ///
 /// A caller that is an application is `NotAllowed`; a text that is neither
 /// empty nor the name of an application is `InvalidArgument`.
@@ -69,77 +69,78 @@ fn listing_for_host(
         ≡ listing documents.now.live grants.now Who.Host app.now) }
 {
     if app.is_empty() {
-        return asked_for(alloc, documents, grants, None);
+        return Ok(Answer::Listed(all(alloc, documents)?));
     }
     match AppId::read(alloc, app) {
-        Ok(app) => asked_for(alloc, documents, grants, Some(&app)),
+        Ok(app) => Ok(Answer::Listed(held(alloc, documents, grants, &app)?)),
         Err(NameError::BadName { .. }) => Ok(Answer::Refused(Code::InvalidArgument)),
         Err(NameError::Memory) => Err(WantOfMemory),
     }
 }
 
-/// All documents, or those in which an application has a right.
-fn asked_for(
+/// The documents in which an application has a right, in order of their
+/// numbers.
+fn held(
     alloc: Global,
     documents: &Documents,
     grants: &Grants,
-    app: Option<&AppId>,
-) -> Result<Answer, WantOfMemory>
-    ensures { IfOk result (λ answer. answer
-        ≡ Answer.Listed (asked_for documents.now.live grants.now (option_copied app.entry))) }
-{
-    match chosen(alloc, documents.live(), grants, app) {
-        Ok(list) => Ok(Answer::Listed(by_number(list))),
-        Err(error) => Err(error),
-    }
-}
-
-/// The documents that are asked for, in the order in which they are given.
-fn chosen(
-    alloc: Global,
-    documents: &[Document],
-    grants: &Grants,
-    app: Option<&AppId>,
+    app: &AppId,
 ) -> Result<List<ListedDocument>, WantOfMemory>
-    ensures { IfOk result (λ list. list
-        ≡ flat_map (listed_if grants.now (option_copied app.entry)) documents.now) }
+    ensures { IfOk result (λ list. list ≡ held_listed documents.now.live grants.now app.now) }
 {
+    // The list isn't needed: with it comes that live numbers differ.
+    let _ = documents.live();
+    let ids = grants.documents_of(app)?;
     let mut list = List::new(alloc);
-    for document in documents {
-        push_if_asked_for(alloc, &mut list, document, grants, app)?;
+    for id in ids.as_slice() {
+        push_found(alloc, &mut list, documents, *id)?;
     }
     Ok(list)
 }
 
-/// Adds a document, where it is asked for.
-fn push_if_asked_for(
+/// Adds the document of a number, where it is live.
+fn push_found(
     alloc: Global,
     list: &mut List<ListedDocument>,
-    document: &Document,
-    grants: &Grants,
-    app: Option<&AppId>,
+    documents: &Documents,
+    id: DocId,
 ) -> Result<(), WantOfMemory>
-    ensures { OnOk result (list.new
-        ≡ list.old ++ listed_if grants.now (option_copied app.entry) document.now) }
+    ensures { OnOk result (list.new ≡ list.old ++ listed_found documents.now.live id) }
 {
-    if !is_asked_for(document, grants, app) {
-        return Ok(());
+    match documents.find(id) {
+        Some(document) => list.push(listed(alloc, document)?),
+        None => Ok(()),
     }
-    list.push(ListedDocument {
+}
+
+/// All documents, in order of their numbers.
+fn all(alloc: Global, documents: &Documents) -> Result<List<ListedDocument>, WantOfMemory>
+    ensures { IfOk result (λ list. list ≡ all_listed documents.now.live) }
+{
+    // A listing goes by number, whatever the order in which documents were added.
+    let list = listed_each(alloc, documents.live())?;
+    Ok(by_number(list))
+}
+
+/// Documents as they are listed, in the order in which they are given.
+fn listed_each(alloc: Global, documents: &[Document]) -> Result<List<ListedDocument>, WantOfMemory>
+    ensures { IfOk result (λ list. list ≡ map listed documents.now) }
+{
+    let mut list = List::new(alloc);
+    for document in documents {
+        list.push(listed(alloc, document)?)?;
+    }
+    Ok(list)
+}
+
+/// A document as it is listed.
+fn listed(alloc: Global, document: &Document) -> Result<ListedDocument, WantOfMemory>
+    ensures { IfOk result (λ shown. shown ≡ listed document.now) }
+{
+    Ok(ListedDocument {
         id: document.id,
         path: List::copied(alloc, document.path.as_bytes())?,
     })
-}
-
-/// Says whether a document is asked for: any is, or those in which an
-/// application has a right.
-fn is_asked_for(document: &Document, grants: &Grants, app: Option<&AppId>) -> bool
-    ensures { result ≡ is_asked_for grants.now (option_copied app.entry) document.now }
-{
-    match app {
-        None => true,
-        Some(app) => !grants.rights(app, document.id).is_empty(),
-    }
 }
 
 /// The documents in order of their numbers.
@@ -147,7 +148,6 @@ fn by_number(list: List<ListedDocument>) -> List<ListedDocument>
     ensures same { IsPermutation list result }
     ensures order { IsNonDecreasingBy number_listed result }
 {
-    // A listing goes by number, whatever the order in which documents were added.
     let mut items = list.into_vec();
     items.sort_unstable_by_key(|document| document.id.number);
     List::from_vec(items)

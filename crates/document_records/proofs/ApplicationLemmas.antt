@@ -1,19 +1,16 @@
 -- The numbers of applications.
 use Rattle.std.proofs.Common.{Option, ◌≡◌, ◌⊎◌, ℕ, ◌+◌, ◌<◌, ◌≤◌, nat_lt, List, [], ◌∷◌, ◌++◌, length, Bool, true, false, cond, Some, None, inl, inr, refl, sym, ap, ◌∙◌, arith, length-append, subst}
 use Rattle.std.specs.BTreeMap.{BTreeMap, UpdatesBy, is_at}
-use Rattle.std.specs.Cmp.Lexicographic.{slice_cmp}
 use Rattle.std.specs.Global.{Vec}
 use Rattle.std.specs.List.{position_or_len, IsDistinct, AllByRecursion}
-use Rattle.std.specs.Map.{lookup, KeepsOthers, AreApart}
-use Rattle.std.specs.Ordering.{nat_cmp, eq_by_cmp, is_eq}
-use Rattle.std.specs.declared.cmp.Ordering.{Ordering}
+use Rattle.std.specs.Map.{lookup}
 use Rattle.std.specs.Option.{option_map}
 use Rattle.std.proofs.lemmas.Bool.Decides.{nat_tests}
-use Rattle.std.proofs.lemmas.Map.Text.{is_eq-slice_cmp}
 use Rattle.portal_base.specs.Names.{is_same}
 use Rattle.portal_model.specs.Valid.{is_numbered, applications_limit}
 use Rattle.portal_model.specs.Applications.{number_of, numbered}
 use Rattle.document_records.specs.Applications.{AreNumbered, IsFoundByName, number_found}
+use Rattle.document_records.proofs.FoundByName.{by_items, by_text, found-after}
 use Rattle.portal_model.proofs.TripleOrder.{is_same-eq, is_same-refl, is_same-sym}
 
 -- how many names stand ahead of the application's
@@ -99,36 +96,6 @@ fewer : (xs : List (List ℕ)) (y : List ℕ) → length (xs ++ y ∷ []) ≤ ap
 fewer xs y h = let long : length (xs ++ y ∷ []) ≡ length xs + 1 = length-append xs (y ∷ []) in omega arith
 
 -- ---- the numbers that names are found with
-
-abbrev by_text : List ℕ → Vec ℕ → Ordering
-by_text text key = slice_cmp nat_cmp text key.items
-
-abbrev by_items : Vec ℕ → Vec ℕ → Ordering
-by_items key = by_text key.items
-
--- a key that a text finds has the bytes of the text
-found-key : (text : List ℕ) (key : Vec ℕ) → is_at (by_text text) key ≡ true → text ≡ key.items
-found-key text key h = is_same-eq text key.items (sym (is_eq-slice_cmp text key.items) ∙ h)
-
-key-test : (text : List ℕ) (x y : Vec ℕ) → is_at (by_text text) x ≡ true →
-    is_at (by_text text) y ≡ eq_by_cmp by_items x y
-key-test text x y h = ap (λ (t : List ℕ). is_eq (slice_cmp nat_cmp t y.items)) (found-key text x h)
-
-apart : (a b : List ℕ) → is_same a b ≡ false → AreApart (is_at (by_text a)) (is_at (by_text b))
-apart a b e = λ (key : Vec ℕ) h. is_eq-slice_cmp b key.items
-    ∙ (ap (is_same b) (sym (found-key a key h)) ∙ (is_same-sym b a ∙ e))
-
--- what is found once one name has got a number, or has lost its own
-found-after : (name : List ℕ) (old new : BTreeMap (Vec ℕ) ℕ) (w : Option ℕ) →
-    UpdatesBy by_items (by_text name) old new w → (app : List ℕ) →
-    number_found new app ≡ cond (is_same name app) w (number_found old app)
-unfolding KeepsOthers
-found-after name old new w u app = step (is_same name app) refl
-  where
-    step : (b : Bool) → is_same name app ≡ b →
-        number_found new app ≡ cond b w (number_found old app)
-    step true e = ap (number_found new) (sym (is_same-eq name app e)) ∙ u.1
-    step false e = u.3 (is_at (by_text app)) (key-test app) (apart name app e)
 
 still-ahead : (apps : List (List ℕ)) (app other : List ℕ) →
     nat_lt (ahead apps other) (length apps) ≡ true →

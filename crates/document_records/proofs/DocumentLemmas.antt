@@ -19,6 +19,7 @@ use Rattle.portal_model.specs.Valid.{is_made}
 use Rattle.portal_model.specs.Ordered.{is_rising}
 use Rattle.document_records.specs.DocumentIndex.{IsIndexed, AreKept, ArePlaced, HasPlaces, live_numbers, other_ids, place_in, place_or_none, places_in}
 use Rattle.document_records.specs.Documents.{DocumentList, has_number, front}
+use Rattle.document_records.proofs.FreshItems.{differ-filter}
 use Rattle.portal_model.proofs.TripleOrder.{nat_is, nat-itself}
 
 pub is_at-nat : (a b : ℕ) → is_at (nat_cmp a) b ≡ (a == b)
@@ -285,22 +286,6 @@ removed-is n (d ∷ ds) h = step (has_number n d) refl (removed-is n ds h.1)
         remove (d ∷ ds) (cond (not b) (1 + prefix_len (λ d. not (has_number n d)) ds) 0) ≡ cond (not b) (d ∷ filter (λ d. not (has_number n d)) ds) (filter (λ d. not (has_number n d)) ds)
     step true e more = sym (none-same n ds (subst (λ (m : ℕ). AllByRecursion (λ k. nat_eq m k ≡ false) (live_numbers ds)) (nat_is d.id.number n e) h.0))
     step false e more = remove-more d ds (prefix_len (λ d. not (has_number n d)) ds) ∙ ap (λ (xs : List Document). d ∷ xs) more
-
-differ-behind : (p : Document → Bool) (n : ℕ) (ds : List Document) → AllByRecursion (λ m. nat_eq n m ≡ false) (live_numbers ds) → AllByRecursion (λ m. nat_eq n m ≡ false) (live_numbers (filter p ds))
-differ-behind p n [] h = tt
-differ-behind p n (d ∷ ds) h = elim (p d) as (λ b. AllByRecursion (λ m. nat_eq n m ≡ false) (live_numbers (cond b (d ∷ filter p ds) (filter p ds)))) [
-  | true ↦ (h.0, differ-behind p n ds h.1)
-  | false ↦ differ-behind p n ds h.1
-]
-
-pub differ-filter : (p : Document → Bool) (ds : List Document) →
-    IsDistinct nat_eq (live_numbers ds) → IsDistinct nat_eq (live_numbers (filter p ds))
-unfolding IsDistinct
-differ-filter p [] h = tt
-differ-filter p (d ∷ ds) h = elim (p d) as (λ b. IsDistinct nat_eq (live_numbers (cond b (d ∷ filter p ds) (filter p ds)))) [
-  | true ↦ (differ-behind p d.id.number ds h.0, differ-filter p ds h.1)
-  | false ↦ differ-filter p ds h.1
-]
 
 all-filter : (q p : Document → Bool) (ds : List Document) → list_all q ds ≡ true → list_all q (filter p ds) ≡ true
 all-filter q p [] h = refl

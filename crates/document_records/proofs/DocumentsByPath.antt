@@ -15,7 +15,8 @@ use Rattle.portal_model.specs.Documents.{serves, reusable_of, first_of, id_of_do
 use Rattle.portal_model.specs.State.{document_of}
 use Rattle.document_records.specs.DocumentIndex.{AreByPath, ids_found, ids_or_none, ids_of_path, has_path, has_flags, number_serves, other_ids, live_numbers}
 use Rattle.document_records.specs.Documents.{has_number}
-use Rattle.document_records.proofs.DocumentLemmas.{differ-filter, none-same, none-left-out, place-is, no-place}
+use Rattle.document_records.proofs.DocumentLemmas.{none-same, none-left-out, place-is, no-place}
+use Rattle.document_records.proofs.FreshItems.{differ-filter}
 use Rattle.portal_model.proofs.TripleOrder.{nat_is, nat-itself, is_same-eq}
 
 -- ---- what is found once the numbers of one path have changed

@@ -1,12 +1,13 @@
 -- Items that differ, taken one after another: none stands among those before it.
-use Rattle.std.proofs.Common.{◌≡◌, ◌+◌, ◌<◌, ◌||◌, ℕ, zero, suc, List, [], ◌∷◌, ◌++◌, length, take, get_or, map, Bool, false, nat_eq, cond, refl, sym, ap, ◌∙◌, arith}
-use Rattle.std.specs.List.{list_any, IsDistinct, AllByRecursion}
+use Rattle.std.proofs.Common.{◌≡◌, ◌+◌, ◌<◌, ◌||◌, ℕ, zero, suc, List, [], ◌∷◌, ◌++◌, length, take, get_or, map, Bool, true, false, nat_eq, cond, refl, sym, ap, ◌∙◌, arith}
+use Rattle.std.specs.List.{filter, list_any, IsDistinct, AllByRecursion}
 use Rattle.std.proofs.lemmas.Bool.Decides.{nat_tests}
 use Rattle.std.proofs.lemmas.List.{take_more}
 use Rattle.portal_base.specs.Names.{is_same}
 use Rattle.portal_model.specs.declared.state.Document.{Document}
 use Rattle.portal_model.specs.Applications.{numbered}
 use Rattle.portal_model.specs.Valid.{is_numbered}
+use Rattle.document_records.specs.DocumentIndex.{live_numbers}
 use Rattle.portal_model.proofs.TripleOrder.{is_same-sym}
 
 -- whether some item has a property is told by any test that gives the same
@@ -57,3 +58,20 @@ pub numbered_more : (names : List (List ℕ)) (i : ℕ) (name : List ℕ) → i 
 numbered_more names i name l e d =
     ap (λ (b : Bool). cond b (take i names) (take i names ++ name ∷ [])) (not_numbered names i name l e d)
     ∙ (ap (λ (x : List ℕ). take i names ++ x ∷ []) e ∙ sym (take_more names i name l))
+
+-- those that a filter leaves differ too
+differ-behind : (p : Document → Bool) (n : ℕ) (ds : List Document) → AllByRecursion (λ m. nat_eq n m ≡ false) (live_numbers ds) → AllByRecursion (λ m. nat_eq n m ≡ false) (live_numbers (filter p ds))
+differ-behind p n [] h = tt
+differ-behind p n (d ∷ ds) h = elim (p d) as (λ b. AllByRecursion (λ m. nat_eq n m ≡ false) (live_numbers (cond b (d ∷ filter p ds) (filter p ds)))) [
+  | true ↦ (h.0, differ-behind p n ds h.1)
+  | false ↦ differ-behind p n ds h.1
+]
+
+pub differ-filter : (p : Document → Bool) (ds : List Document) →
+    IsDistinct nat_eq (live_numbers ds) → IsDistinct nat_eq (live_numbers (filter p ds))
+unfolding IsDistinct
+differ-filter p [] h = tt
+differ-filter p (d ∷ ds) h = elim (p d) as (λ b. IsDistinct nat_eq (live_numbers (cond b (d ∷ filter p ds) (filter p ds)))) [
+  | true ↦ (differ-behind p d.id.number ds h.0, differ-filter p ds h.1)
+  | false ↦ differ-filter p ds h.1
+]

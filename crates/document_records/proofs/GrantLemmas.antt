@@ -188,7 +188,7 @@ added-is app id set old new s e =
     (λ k. e (λ t. same_triple t k) ∙ (sym (list_any-append (λ t. same_triple t k) (triples_of app id set) (triples_of_grants old))
     ∙ sym (any-put_all triple_less same_triple triples (λ t. same_triple t k) (triples_of app id set ++ triples_of_grants old))))
 
-some-is : (p : Grant → Bool) (gs : List Grant) → is_some (find p gs) ≡ true → list_any p gs ≡ true
+pub some-is : (p : Grant → Bool) (gs : List Grant) → is_some (find p gs) ≡ true → list_any p gs ≡ true
 some-is p [] e = cc
 some-is p (g ∷ gs) e = grind (arith, some-is p gs)
 

@@ -20,10 +20,11 @@ use Rattle.portal_model.proofs.TripleOrder.{Key, nat-itself, nat_is}
 use Rattle.portal_base.specs.Names.{is_same}
 use Rattle.rights_rule.specs.Rights.{RightSet}
 use Rattle.portal_model.specs.Ordered.{put}
+use Rattle.portal_model.specs.Rights.{forget_document}
 use Rattle.portal_model.specs.Valid.{is_none}
 use Rattle.document_records.specs.declared.grants.Grant.{Grant}
-use Rattle.document_records.specs.Grants.{all_grants, are_grants_in_order, given, grant_less, has_a_right, is_elsewhere, is_in_document, is_kept, is_of, taken, triples_of_grant, AreKept}
-use Rattle.document_records.proofs.GrantLemmas.{all-put, all-some, given-key, given-stays, kept-given, kept-new, kept-taken, key_of, passes, taken-key, taken-stays}
+use Rattle.document_records.specs.Grants.{all_grants, are_grants_in_order, given, grant_less, has_a_right, is_elsewhere, is_in_document, is_kept, is_of, taken, triples_of_all, triples_of_grant, triples_of_grants, AreKept}
+use Rattle.document_records.proofs.GrantLemmas.{all-put, all-some, forgotten-is, given-key, given-stays, kept-given, kept-new, kept-taken, key_of, passes, taken-key, taken-stays}
 
 abbrev pub Entry : Type 0
 Entry = ℕ × Vec Grant Global
@@ -342,7 +343,7 @@ all-in-order (d ∷ es) s k =
     rising-append grant_less d.1.items (all_grants es) (kept-order d kept) (all-in-order es s.1 rest)
     (each-less d.0 d.1.items (all_grants es) (kept-inside d kept) (past-all d.0 es s.0 rest))
 
-all-have : (es : List Entry) → list_all is_kept es ≡ true → list_all has_a_right (all_grants es) ≡ true
+pub all-have : (es : List Entry) → list_all is_kept es ≡ true → list_all has_a_right (all_grants es) ≡ true
 all-have [] k = refl
 all-have (d ∷ es) k = joined has_a_right d.1.items (all_grants es) (kept-held d (and-first _ _ k)) (all-have es (and-rest (is_kept d) _ k))
 
@@ -414,7 +415,7 @@ gone-none n (d ∷ es) e = step (is_at (nat_cmp n) d.0) (gone-none n es) e
     step false more e = ap (λ (xs : List Entry). d ∷ xs) (more e)
 
 -- a document without its entry is forgotten
-pub forgotten-all : (n : ℕ) (es : List Entry) → IsStrictlySortedBy nat_cmp (keys_of es) → list_all is_kept es ≡ true → all_grants (remove_entry (is_at (nat_cmp n)) es) ≡ filter (is_elsewhere n) (all_grants es)
+forgotten-all : (n : ℕ) (es : List Entry) → IsStrictlySortedBy nat_cmp (keys_of es) → list_all is_kept es ≡ true → all_grants (remove_entry (is_at (nat_cmp n)) es) ≡ filter (is_elsewhere n) (all_grants es)
 forgotten-all n es s k = step (lookup (is_at (nat_cmp n)) es) refl
   where
     others : (xs : List Grant) → list_all (is_elsewhere n) xs ≡ true → list_all has_a_right xs ≡ true → filter (is_elsewhere n) xs ≡ xs
@@ -425,6 +426,12 @@ forgotten-all n es s k = step (lookup (is_at (nat_cmp n)) es) refl
         ap all_grants (gone-none n es e) ∙ sym (unchanged-all n (filter (is_elsewhere n)) refl (filter-append (is_elsewhere n)) others es k e)
     step (Some v) e =
         gone-all n (filter (is_elsewhere n)) refl (filter-append (is_elsewhere n)) others es v s k e (not-here n v.items (kept-inside (n, v) (found-kept n es v k e)))
+
+pub all-without : (n : ℕ) (es : List Entry) → IsStrictlySortedBy nat_cmp (keys_of es) →
+    list_all is_kept es ≡ true →
+    triples_of_all (remove_entry (is_at (nat_cmp n)) es) ≡ forget_document n (triples_of_all es)
+all-without n es s k = ap triples_of_grants (forgotten-all n es s k)
+    ∙ forgotten-is n (all_grants es)
 
 -- ---- an entry after a change
 

@@ -1,11 +1,15 @@
 mod ApplicationLemmas
 mod DocumentLemmas
 mod DocumentsByPath
+mod FoundByName
 mod GrantLemmas
+mod GrantsByApp
 mod GrantsByNumber
+mod NumbersByApp
 mod UnusedNumbers
 pub mod GrantsTogether
 mod AsciiTexts
+pub mod DocumentsHeld
 pub mod HeldInDocument
 pub mod KeptDocuments
 pub mod NameLemmas

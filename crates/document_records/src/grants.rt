@@ -10,7 +10,10 @@ ghost use Rattle.rights_rule.specs.Rights.{is_no_right};
 ghost use Rattle.portal_model.specs.Info.{holders, row_of};
 ghost use Rattle.portal_model.specs.Kept.{grant_record};
 ghost use Rattle.portal_model.specs.Rights.{add_rights, take_rights, forget_document, are_in_order};
+ghost use Rattle.document_records.specs.GrantIndex.{documents_of};
 
+use crate::by_app;
+use crate::by_app::NumbersByApp;
 use crate::holdings::{records_left, rows};
 use portal_base::list::List;
 use portal_base::memory::{Replica, WantOfMemory};
@@ -42,6 +45,8 @@ pub struct Grants {
     // Those of a document stand together, in order of the name, whatever way they came: so they are
     // found by halving, and no call goes over those of other documents.
     documents: BTreeMap<u32, Vec<Grant>>,
+    // So no call on one application goes over documents in which it has no right.
+    by_app: NumbersByApp,
 }
 
 impl Model for Grants {
@@ -50,11 +55,12 @@ impl Model for Grants {
 
     ghost Value = { List Triple };
 
-    ghost use Rattle.document_records.specs.Grants.{triples_of_all, AreKeptByNumber};
+    ghost use Rattle.document_records.specs.Grants.{triples_of_all};
+    ghost use Rattle.document_records.specs.GrantIndex.{AreIndexed};
 
     ghost view = { λ a. triples_of_all a.documents.entries };
 
-    ghost invariant = { λ a. AreKeptByNumber a.documents };
+    ghost invariant = { λ a. AreIndexed a.documents a.by_app };
 }
 
 impl Grants {
@@ -65,6 +71,7 @@ impl Grants {
         Grants {
             alloc,
             documents: BTreeMap::new(alloc),
+            by_app: BTreeMap::new(alloc),
         }
     }
 
@@ -111,7 +118,12 @@ impl Grants {
             app: app.replica(self.alloc)?,
             rights,
         };
-        insert_in(self.alloc, &mut self.documents, grant)
+        by_app::add_number(self.alloc, &mut self.by_app, app, id)?;
+        if insert_in(self.alloc, &mut self.documents, grant).is_err() {
+            by_app::remove_number(&mut self.by_app, app, id);
+            return Err(WantOfMemory);
+        }
+        Ok(())
     }
 
     /// Takes rights of an application in a document away, and no others.
@@ -119,6 +131,17 @@ impl Grants {
         ensures { self.new ≡ take_rights app.now id.number rights self.old }
     {
         take_in(&mut self.documents, app, id, rights);
+        if find(in_document(&self.documents, id), app, id).is_none() {
+            by_app::remove_number(&mut self.by_app, app, id);
+        }
+    }
+
+    /// The documents in which an application has a right, by identifier. Of n
+    /// documents it takes about n steps, however many others there are.
+    pub fn documents_of(&self, app: &AppId) -> Result<List<DocId>, WantOfMemory>
+        ensures { IfOk result (λ ids. ids ≡ documents_of self.now app.now) }
+    {
+        by_app::documents_of(self.alloc, &self.by_app, app)
     }
 
     /// The applications that have a right in a document, in byte order of their
@@ -169,7 +192,9 @@ impl Grants {
     pub fn forget(&mut self, id: DocId)
         ensures { self.new ≡ forget_document id.number self.old }
     {
-        self.documents.remove(&id.number);
+        if let Some(grants) = self.documents.remove(&id.number) {
+            by_app::remove_numbers(&mut self.by_app, grants.as_slice(), id);
+        }
     }
 }
 

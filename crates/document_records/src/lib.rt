@@ -13,6 +13,7 @@
 //! | `placed` | the live ones by number alone |
 //! | `by_path` | the numbers of those of each path |
 //! | `grants` | [`Grants`]: who holds which rights in which document, and [`Grant`], the rights of one in one |
+//! | `by_app` | the numbers of the documents in which each application has a right |
 //! | `holdings` | the rights in a document, as they are told and as they are kept |
 //! | `texts` | identifiers and names as texts |
 //! | `applications` | [`Applications`]: the numbers of applications, from 1 |
@@ -33,6 +34,7 @@
 #![tactic(auto)]
 
 pub mod applications;
+mod by_app;
 mod by_path;
 pub mod documents;
 mod granted;

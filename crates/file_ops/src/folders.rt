@@ -37,8 +37,8 @@ use std::alloc::Global;
 /// was entered, keeps the entries that the folder has now.
 ///
 /// Room for the handle is taken first; a document's folder then takes one look at
-/// the tree. Of n documents or applications it takes about n log n steps, and for
-/// each document a look for the subject's rights.
+/// the tree. No document is looked at in which the view's subject has no right: n
+/// documents or applications take about n log m steps, of m that there are.
 pub fn open_dir<T: HostTree>(
     alloc: Global,
     book: &FileBook,

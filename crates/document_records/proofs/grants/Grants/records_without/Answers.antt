@@ -17,6 +17,6 @@ returns c =
     (λ records e. e ∙ (ap (λ (name : List ℕ). flat_map (record_left name number rights) c.in_document.result.now) c.as_bytes.ensures.bytes
     ∙ (ap (flat_map (record_left app number rights)) c.in_document.ensures
     ∙ (left-within app number rights (all_grants c.self.inside.documents.entries)
-    ∙ (left-are app number rights (all_grants c.self.inside.documents.entries) (kept-all c.self.inside.documents.entries c.self.invariant.order c.self.invariant.each)
+    ∙ (left-are app number rights (all_grants c.self.inside.documents.entries) (kept-all c.self.inside.documents.entries c.self.invariant.kept.order c.self.invariant.kept.each)
     ∙ ap (λ (ts : List Triple). records_in (take_rights app number rights ts) number) c.self.view_is)))))
     c.records_left.ensures

@@ -13,7 +13,7 @@ pub returns-in-Some-clause-held : goal.returns-in-Some-clause-held
 returns-in-Some-clause-held c =
     let found : find (is_of c.args.app.now c.args.id.number) (all_grants c.self.inside.documents.entries) ≡ Some c.in-Some.grant.now =
     sym (find-within c.args.app.now c.args.id.number (all_grants c.self.inside.documents.entries)) ∙ (ap (find (is_of c.args.app.now c.args.id.number)) (sym c.in_document.ensures) ∙ (sym c.find.ensures ∙ ap option_copied c.in-Some.is)) in
-    held-some c.args.app.now c.args.id.number (all_grants c.self.inside.documents.entries) c.in-Some.grant.now (kept-all c.self.inside.documents.entries c.self.invariant.order c.self.invariant.each).order found
+    held-some c.args.app.now c.args.id.number (all_grants c.self.inside.documents.entries) c.in-Some.grant.now (kept-all c.self.inside.documents.entries c.self.invariant.kept.order c.self.invariant.kept.each).order found
     ∙ ap (λ (ts : List Triple). held_of ts c.args.app.now c.args.id.number) c.self.view_is
 
 pub returns-in-None-clause-held : goal.returns-in-None-clause-held
@@ -24,12 +24,12 @@ returns-in-None-clause-held c =
     ∙ ap (λ (ts : List Triple). held_of ts c.args.app.now c.args.id.number) c.self.view_is
 
 pub returns-in-Some-clause-order : goal.returns-in-Some-clause-order
-returns-in-Some-clause-order c = sym (ap are_in_order c.self.view_is) ∙ rising-triples (all_grants c.self.inside.documents.entries) (kept-all c.self.inside.documents.entries c.self.invariant.order c.self.invariant.each).order
+returns-in-Some-clause-order c = sym (ap are_in_order c.self.view_is) ∙ rising-triples (all_grants c.self.inside.documents.entries) (kept-all c.self.inside.documents.entries c.self.invariant.kept.order c.self.invariant.kept.each).order
 
 pub returns-in-None-clause-order : goal.returns-in-None-clause-order
-returns-in-None-clause-order c = sym (ap are_in_order c.self.view_is) ∙ rising-triples (all_grants c.self.inside.documents.entries) (kept-all c.self.inside.documents.entries c.self.invariant.order c.self.invariant.each).order
+returns-in-None-clause-order c = sym (ap are_in_order c.self.view_is) ∙ rising-triples (all_grants c.self.inside.documents.entries) (kept-all c.self.inside.documents.entries c.self.invariant.kept.order c.self.invariant.kept.each).order
 
 pub find-requires : goal.find-requires
 find-requires c =
     ap are_grants_in_order c.in_document.ensures
-    ∙ rising-some (is_in_document c.args.id.number) (all_grants c.self.inside.documents.entries) (kept-all c.self.inside.documents.entries c.self.invariant.order c.self.invariant.each).order
+    ∙ rising-some (is_in_document c.args.id.number) (all_grants c.self.inside.documents.entries) (kept-all c.self.inside.documents.entries c.self.invariant.kept.order c.self.invariant.kept.each).order
