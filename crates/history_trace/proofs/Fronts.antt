@@ -1,6 +1,7 @@
 -- A front of a history, and the entry behind it.
-use Rattle.std.proofs.Common.{◌≡◌, ◌+◌, ◌<◌, ◌≤◌, ℕ, List, [], ◌∷◌, ◌++◌, length, take, drop, get_or, refl, sym, ap, subst, ◌∙◌, arith}
+use Rattle.std.proofs.Common.{◌≡◌, ◌+◌, ◌<◌, ◌≤◌, ℕ, zero, suc, List, [], ◌∷◌, ◌++◌, length, take, drop, get_or, slice_get, Some, None, refl, sym, ap, subst, ◌∙◌, arith}
 use Rattle.std.proofs.lemmas.List.{append-nil, append_assoc, take-append-drop}
+use Rattle.std.proofs.lemmas.Option.{get_or_from_slice_get, slice_get_within}
 use Rattle.app_world.specs.TraceItem.{TraceItem}
 use Rattle.app_world.specs.World.{items, items_of}
 use Rattle.document_records.proofs.Loops.{one_more}
@@ -20,7 +21,19 @@ items-append app [] more s = refl
 items-append app (e ∷ es) more s =
     ap (λ (xs : List TraceItem). items_of app s e ++ xs) (items-append app es more (after s e)) ∙ sym (append_assoc (items_of app s e) (items app (after s e) es) (items app (run (after s e) es) more))
 
-module _ (h : List Entry) (i : ℕ) (e : Entry) (inside : i < length h) (is : e ≡ get_or h i e) where
+-- there is an entry at each place
+pub some-there : (h : List Entry) (i : ℕ) → i < length h → None ≡ slice_get h i → ⊥
+some-there [] i l e = omega arith
+some-there (x ∷ h) zero l e = cc
+some-there (x ∷ h) (suc i) l e = some-there h i (omega arith) e
+
+module _ (h : List Entry) (i : ℕ) (e : Entry) (there : Some e ≡ slice_get h i) where
+  inside : i < length h
+  inside = slice_get_within h i e (sym there)
+
+  is : e ≡ get_or h i e
+  is = sym (get_or_from_slice_get h i e e (sym there))
+
   whole : h ≡ take i h ++ e ∷ drop (i + 1) h
   whole =
       sym (take-append-drop (i + 1) h)

@@ -20,7 +20,7 @@
 //! | `specs/Replayed` | what a replay keeps |
 //!
 //! ```text
-//! let trace = trace_of(alloc, &opening, &app, portal.history().entries())?;
+//! let trace = trace_of(alloc, &opening, &app, portal.history())?;
 //! ```
 #![tactic(auto)]
 

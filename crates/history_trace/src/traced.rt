@@ -14,7 +14,7 @@ use app_trace::{Trace, TraceItem, files_of, view_of};
 use portal_base::list::List;
 use portal_base::memory::WantOfMemory;
 use portal_base::names::AppId;
-use portal_model::entry::Entry;
+use portal_history::History;
 use portal_model::opening::OpeningState;
 use std::alloc::Global;
 
@@ -25,18 +25,18 @@ pub fn trace_of(
     alloc: Global,
     opening: &OpeningState,
     app: &AppId,
-    history: &[Entry],
+    history: &History,
 ) -> Result<Trace, WantOfMemory>
-    requires legal { Legal (opened opening.now) history.now }
-    requires within { cost history.now ≤ opening.now.limits.history }
+    requires legal { Legal (opened opening.now) history.now.entries }
+    requires within { cost history.now.entries ≤ opening.now.limits.history }
     requires started { IsOpeningState (opened opening.now) }
     ensures { IfOk result (λ t. trace_told t
-        ≡ trace app.now (opened opening.now) history.now) }
+        ≡ trace app.now (opened opening.now) history.now.entries) }
 {
     // The requests are asked again on a portal, so that what `Portal::ask` promises is all that
     // the loop needs.
-    // A slice of entries stands here and no `History`, so that any list of them will do. For the
-    // same reason their cost is asked for.
+    // The limit of the history is asked of the opening state, with which the other portal opens,
+    // so that the history's own may be any.
     let items = items_told(alloc, opening, app, history)?;
     match view_of(alloc, opening, app) {
         Ok(opening) => Ok(Trace { opening, items }),
@@ -49,13 +49,13 @@ fn items_told(
     alloc: Global,
     opening: &OpeningState,
     app: &AppId,
-    history: &[Entry],
+    history: &History,
 ) -> Result<List<TraceItem>, WantOfMemory>
-    requires legal { Legal (opened opening.now) history.now }
-    requires within { cost history.now ≤ opening.now.limits.history }
+    requires legal { Legal (opened opening.now) history.now.entries }
+    requires within { cost history.now.entries ≤ opening.now.limits.history }
     requires started { IsOpeningState (opened opening.now) }
     ensures { IfOk result (λ told. map item_told told
-        ≡ items app.now (opened opening.now) history.now) }
+        ≡ items app.now (opened opening.now) history.now.entries) }
 {
     let mut portal = opened_portal(alloc, opening)?;
     let told = replay_all(alloc, &mut portal, opening, app, history);
@@ -70,17 +70,20 @@ fn replay_all(
     portal: &mut QuietPortal,
     opening: &OpeningState,
     app: &AppId,
-    history: &[Entry],
+    history: &History,
 ) -> Result<List<TraceItem>, WantOfMemory>
-    requires legal { Legal (opened opening.now) history.now }
-    requires within { cost history.now ≤ opening.now.limits.history }
+    requires legal { Legal (opened opening.now) history.now.entries }
+    requires within { cost history.now.entries ≤ opening.now.limits.history }
     requires begins { Begins opening.now portal.old.story }
     ensures { IfOk result (λ told. map item_told told
-        ≡ items app.now (opened opening.now) history.now) }
+        ≡ items app.now (opened opening.now) history.now.entries) }
 {
     let mut files = files_of(alloc, opening)?;
     let mut told = List::new(alloc);
-    for entry in history {
+    for place in 0..history.len() {
+        let Some(entry) = history.entry(place) else {
+            unreachable!();
+        };
         replay(alloc, portal, app, entry, &mut files, &mut told)?;
     }
     Ok(told)

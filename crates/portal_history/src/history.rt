@@ -2,12 +2,13 @@
 //!
 //! Every request of a run is kept with what the outside gave it. The cost of
 //! the whole has a limit, and memory for further entries can be taken ahead,
-//! so that an entry is stored by a call that can't fail.
+//! so that an entry is stored by a call that can't fail, and moves no other.
 
 ghost use Rattle.std.specs.Prelude.{◌≡◌, ◌+◌, ◌-◌, ◌<◌, ◌≤◌, [], ◌∷◌, ◌++◌, length, option_copied, slice_get, OnOk, OnErr};
 ghost use Rattle.portal_history.specs.Stored.{Stored};
 ghost use Rattle.portal_model.specs.History.{cost, cost_of as request_cost};
 
+use crate::blocks::Blocks;
 use crate::cost::cost_of;
 use portal_base::limits::Limits;
 use portal_base::memory::WantOfMemory;
@@ -21,13 +22,13 @@ use std::marker::Model;
 /// limit of the cost.
 #[derive(Drop)]
 pub struct History {
-    entries: Vec<Entry>,
+    kept: Blocks,
     cost: u64,
     limit: u64,
 }
 
 impl Model for History {
-    ghost use Rattle.std.specs.Prelude.{◌≡◌, ◌-◌, ◌≤◌, vec_len, vec_capacity};
+    ghost use Rattle.std.specs.Prelude.{◌≡◌, ◌≤◌};
     ghost use Rattle.dbus_types.specs.contracts.types.Value as e;
     ghost use Rattle.std.specs.Coded.{codes};
     ghost use Rattle.portal_history.specs.Stored.{Stored};
@@ -38,12 +39,12 @@ impl Model for History {
     ghost coded = { Prim.hlevel (codes, e.the_row.coded) };
 
     ghost view = { λ h. record {
-      entries = h.entries.items;
-      spare = vec_capacity h.entries - vec_len h.entries;
+      entries = h.kept.entries;
+      spare = h.kept.spare;
       limit = h.limit;
     } };
 
-    ghost invariant = { λ h. (h.cost ≡ total_cost h.entries.items) × (h.cost ≤ h.limit) };
+    ghost invariant = { λ h. (h.cost ≡ total_cost h.kept.entries) × (h.cost ≤ h.limit) };
 }
 
 impl History {
@@ -53,38 +54,31 @@ impl History {
         ensures limit { result.limit ≡ limits.now.history }
     {
         History {
-            entries: Vec::new(alloc),
+            kept: Blocks::new(alloc),
             cost: 0,
             limit: limits.history,
         }
-    }
-
-    /// The entries, in order.
-    pub fn entries(&self) -> &[Entry]
-        ensures { result.now ≡ self.now.entries }
-    {
-        self.entries.as_slice()
     }
 
     /// The number of entries.
     pub fn len(&self) -> u64
         ensures { result ≡ length self.now.entries }
     {
-        self.entries.len() as u64
+        self.kept.len()
     }
 
     /// The entry at a place, from 0, in the order of the run.
     pub fn entry(&self, place: u64) -> Option<&Entry>
         ensures { option_copied result ≡ slice_get self.now.entries place }
     {
-        self.entries.as_slice().get(place as usize)
+        self.kept.entry(place)
     }
 
     /// For how many more entries room was taken ahead.
     pub fn spare(&self) -> u64
         ensures { result ≡ self.now.spare }
     {
-        (self.entries.capacity() - self.entries.len()) as u64
+        self.kept.spare()
     }
 
     /// What the entries cost together, in bytes.
@@ -110,8 +104,7 @@ impl History {
         ensures limit { self.new.limit ≡ self.old.limit }
         ensures spare { self.old.spare ≤ self.new.spare }
     {
-        self.entries.reserve(count as usize)?;
-        Ok(())
+        self.kept.reserve(count)
     }
 
     /// Puts an entry at the end, into room that was taken ahead.
@@ -126,6 +119,6 @@ impl History {
     {
         // Who pushes has taken the room ahead, so that nothing is left that may fail.
         self.cost += cost_of(&entry.request);
-        self.entries.push_reserved(entry);
+        self.kept.push(entry);
     }
 }

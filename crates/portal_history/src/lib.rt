@@ -4,9 +4,14 @@
 //! in order, never above the limit of its cost; and that an entry for which room
 //! was taken ahead is pushed without asking for memory.
 //!
+//! The entries stand in blocks of 1,024, and none is moved when the history
+//! grows. Room is taken by whole blocks, so at most one block's is left over
+//! beside what was asked for.
+//!
 //! | Room | Holds |
 //! |---|---|
 //! | `history` | [`History`]: the entries, their cost and its limit |
+//! | `blocks` | the entries in blocks, and the room that was taken ahead |
 //! | `cost` | [`cost_of`]: what a request costs, in bytes |
 //!
 //! ```text
@@ -18,6 +23,7 @@
 //! ```
 #![tactic(auto)]
 
+mod blocks;
 mod cost;
 mod history;
 

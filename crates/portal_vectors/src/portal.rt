@@ -131,7 +131,8 @@ fn put_last_given(
     portal: &ScriptPortal,
     out: &mut String,
 ) -> Result<(), VectorError> {
-    match portal.history().entries().last() {
+    let history = portal.history();
+    match history.entry(history.len().saturating_sub(1)) {
         Some(entry) => put_given(alloc, &entry.given, out),
         None => Ok(()),
     }

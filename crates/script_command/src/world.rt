@@ -97,7 +97,7 @@ fn trace_at(
     ensures { IfOk result (λ trace. IsTraceIn app.now script.now.lines (trace_told trace)) }
 {
     let opening = opening_over_tree(alloc, script)?;
-    let trace = trace_of(alloc, &opening, app, portal.entries());
+    let trace = trace_of(alloc, &opening, app, portal.history());
     drop(opening);
     trace
 }

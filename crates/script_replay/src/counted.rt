@@ -9,7 +9,7 @@ use host_tree::MemoryTree;
 use portal_base::outside::{ListWords, SetClock};
 use portal_core::portal::Portal;
 use portal_core::storied::Storied;
-use portal_model::entry::Entry;
+use portal_history::History;
 use portal_model::reply::{Answer, Refused, Reply};
 use portal_model::request::Request;
 use record_keeper::MemoryKeeper;
@@ -83,11 +83,11 @@ impl CountedPortal {
         self.portal.history().cost()
     }
 
-    /// The entries of the history, in order.
-    pub fn entries(&self) -> &[Entry]
-        ensures { result.now ≡ self.now.story.history }
+    /// The history: every request that was answered, in order.
+    pub fn history(&self) -> &History
+        ensures { result.now.entries ≡ self.now.story.history }
     {
-        self.portal.history().entries()
+        self.portal.history()
     }
 
     /// Sets the clock, and nothing else.

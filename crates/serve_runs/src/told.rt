@@ -4,7 +4,7 @@ use crate::links::Links;
 use host_tree::HostTree;
 use portal_base::list::ByteList;
 use portal_base::outside::{Clock, Words};
-use portal_model::entry::Entry;
+use portal_history::History;
 use record_keeper::Keeper;
 use serve_posts::status::ServeStatus;
 use std::alloc::Global;
@@ -29,7 +29,7 @@ pub fn tell<T: HostTree, K: Keeper, C: Clock, W: Words>(
             alloc,
             posts.as_slice(),
             ends.as_slice(),
-            portal.history().entries(),
+            portal.history(),
             *rounds,
         ),
         ServeStatus::Refused(refusal) => Ok(debug(alloc, &refusal.error)?),
@@ -41,7 +41,7 @@ fn tell_all(
     alloc: Global,
     posts: &[Post<Links<'_>>],
     ends: &[WorkEnd],
-    entries: &[Entry],
+    history: &History,
     rounds: u64,
 ) -> Result<String, VectorError> {
     let mut text = String::new(alloc);
@@ -52,9 +52,9 @@ fn tell_all(
         for link in post.listener.back() {
             tell_pieces(alloc, &mut text, link.sink.pieces())?;
         }
-        tell_entries(&mut text, worker, entries)?;
+        tell_entries(&mut text, worker, history)?;
     }
-    let count = entries.len();
+    let count = history.len();
     write!(text, "{count} entries, round {rounds}")?;
     Ok(text)
 }
@@ -69,9 +69,11 @@ fn tell_pieces(alloc: Global, text: &mut String, pieces: &[ByteList]) -> Result<
 }
 
 /// A line for each request of a seat in the history.
-fn tell_entries(text: &mut String, seat: u32, entries: &[Entry]) -> Result<(), VectorError> {
-    for entry in entries {
-        if entry.seat == seat {
+fn tell_entries(text: &mut String, seat: u32, history: &History) -> Result<(), VectorError> {
+    for place in 0..history.len() {
+        if let Some(entry) = history.entry(place)
+            && entry.seat == seat
+        {
             let request = &entry.request;
             writeln!(text, "asked {request:?}")?;
         }
