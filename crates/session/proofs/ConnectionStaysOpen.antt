@@ -1,5 +1,6 @@
 -- What items ask neither opens nor ends a connection.
 use Rattle.std.proofs.Common.{◌≡◌, inl, inr, ℕ, List, [], ◌∷◌, ◌++◌, map, Bool, true, false, Option, Some, None, is_some, refl, sym, ap, ◌∙◌, subst}
+use Rattle.std.specs.List.{AllByRecursion}
 use Rattle.std.specs.Option.{option_map}
 use Rattle.std.proofs.lemmas.List.{map-append}
 use Rattle.portal_base.specs.declared.who.Kind.{Kind}
@@ -48,8 +49,7 @@ IsPlain Request.Leave = ⊥
 IsPlain request = Unit {0}
 
 abbrev pub ArePlain : List Request → Type 0
-ArePlain [] = Unit {0}
-ArePlain (r ∷ rs) = IsPlain r × ArePlain rs
+ArePlain rs = AllByRecursion IsPlain rs
 
 collects_plain : (b : Bool) → ArePlain (collect_requests b)
 collects_plain true = (tt, tt)
@@ -82,16 +82,44 @@ act_plain c (Local unique told) h = tt
 pub item_plain : (c : Client) (p : Phase) (item : List ℕ) (act : Act) → IsItem c p item act → ArePlain (asked_by act)
 item_plain c p item act h = act_plain c act (read_asks c p item act h.1)
 
-plain-append : (rs qs : List Request) → ArePlain rs → ArePlain qs → ArePlain (rs ++ qs)
-plain-append [] qs a b = b
-plain-append (r ∷ rs) qs a b = (a.0, plain-append rs qs a.1 b)
+pub all-append : {X : Type 0} (P : X → Type 0) (xs ys : List X) → AllByRecursion P xs → AllByRecursion P ys → AllByRecursion P (xs ++ ys)
+all-append P [] ys a b = b
+all-append P (x ∷ xs) ys a b = (a.0, all-append P xs ys a.1 b)
+
+pub all-front : {X : Type 0} (P : X → Type 0) (xs ys : List X) → AllByRecursion P (xs ++ ys) → AllByRecursion P xs
+all-front P [] ys h = tt
+all-front P (x ∷ xs) ys h = (h.0, all-front P xs ys h.1)
 
 pub items_plain : (is : List (List ℕ)) (c : Client) (p : Phase) (acts : List Act) → AreItems c p is acts → ArePlain (requests_of acts)
 items_plain [] c p acts h = subst (λ (z : List Act). ArePlain (requests_of z)) (sym h) tt
 items_plain (i ∷ is) c p acts (act, later, e, item, more) =
-    subst (λ (z : List Act). ArePlain (requests_of z)) (sym e) (plain-append (asked_by act) (requests_of later) (item_plain c p i act item) (items_plain is c (next_phase c p i) later more))
+    subst (λ (z : List Act). ArePlain (requests_of z)) (sym e) (all-append IsPlain (asked_by act) (requests_of later) (item_plain c p i act item) (items_plain is c (next_phase c p i) later more))
 
--- ---- outcomes that leave the connection
+-- ---- what was made of requests
+
+-- each entry asks such a request
+abbrev pub AskOnly : (Request → Type 0) → List Entry → Type 0
+AskOnly P es = AllByRecursion (λ (e : Entry). P e.request) es
+
+-- so does each that was made
+abbrev pub MakesOnly : (Request → Type 0) → List Outcome → Type 0
+MakesOnly P os = AskOnly P (entries_of (kept os))
+
+module _ (P : Request → Type 0) where
+  pub makes_on : (os us : List Outcome) → MakesOnly P os → MakesOnly P us → MakesOnly P (os ++ us)
+  makes_on os us a b =
+      subst (λ (z : List Exchange). AskOnly P (entries_of z)) (sym (kept-append os us))
+      (subst (AskOnly P) (sym (map-append (λ (x : Exchange). x.entry) (kept os) (kept us))) (all-append (λ (e : Entry). P e.request) (entries_of (kept os)) (entries_of (kept us)) a b))
+
+  makes_one : (r : Request) (x : Outcome) → P r → IsOf r x → MakesOnly P (x ∷ [])
+  makes_one r (Made x) such h = (subst P (sym h) such, tt)
+  makes_one r (Denied asked why) such h = tt
+
+  pub makes_of : (rs : List Request) (os : List Outcome) → AllByRecursion P rs → AreOf rs os → MakesOnly P os
+  makes_of [] os such h = subst (MakesOnly P) (sym h) tt
+  makes_of (r ∷ rs) os such (x, us, e, is, more) = subst (MakesOnly P) (sym e) (makes_on (x ∷ []) us (makes_one r x such.0 is) (makes_of rs us such.1 more))
+
+-- ---- entries that leave the connection
 
 pub bound_stays : (r : Request) (o : Option Binding) → IsPlain r → bound_after o r ≡ o
 bound_stays (Request.Enter who kind) o h = absurd h
@@ -102,35 +130,19 @@ pub bound-append : (xs ys : List Entry) (o : Option Binding) → bound_by o (xs 
 bound-append [] ys o = refl
 bound-append (x ∷ xs) ys o = bound-append xs ys (bound_after o x.request)
 
--- each is made of requests that leave the connection
-abbrev pub Leaves : List Outcome → Type 0
-Leaves os = (o : Option Binding) → bound_by o (entries_of (kept os)) ≡ o
-
-leaves_none : Leaves []
-leaves_none o = refl
-
-leaves_on : (os us : List Outcome) → Leaves os → Leaves us → Leaves (os ++ us)
-leaves_on os us a b o =
-    ap (λ (z : List Exchange). bound_by o (entries_of z)) (kept-append os us) ∙ (ap (bound_by o) (map-append (λ (x : Exchange). x.entry) (kept os) (kept us))
-    ∙ (bound-append (entries_of (kept os)) (entries_of (kept us)) o ∙ (ap (λ (z : Option Binding). bound_by z (entries_of (kept us))) (a o) ∙ b o)))
-
-leaves_one : (r : Request) (x : Outcome) → IsPlain r → IsOf r x → Leaves (x ∷ [])
-leaves_one r (Made x) plain h o = bound_stays x.entry.request o (subst IsPlain (sym h) plain)
-leaves_one r (Denied asked why) plain h o = refl
-
-are_leave : (rs : List Request) (os : List Outcome) → ArePlain rs → AreOf rs os → Leaves os
-are_leave [] os plain h = subst Leaves (sym h) leaves_none
-are_leave (r ∷ rs) os plain (x, us, e, is, more) = subst Leaves (sym e) (leaves_on (x ∷ []) us (leaves_one r x plain.0 is) (are_leave rs us plain.1 more))
+pub entries_stay : (es : List Entry) (o : Option Binding) → AskOnly IsPlain es → bound_by o es ≡ o
+entries_stay [] o h = refl
+entries_stay (e ∷ es) o h = ap (λ (z : Option Binding). bound_by z es) (bound_stays e.request o h.0) ∙ entries_stay es o h.1
 
 -- ---- the desk after the pieces
 
 -- from one desk to another there came outcomes that leave the connection
 abbrev pub Lets : Seated → Seated → Type 0
-Lets v w = (os : List Outcome) × Grew v os w × Leaves os
+Lets v w = (os : List Outcome) × Grew v os w × MakesOnly IsPlain os
 
-did_leaves : (c : Client) (s t : Stage) (v w : World) (b : List ℕ) → (d : Did c s v b t w) → Leaves d.outcomes
+did_leaves : (c : Client) (s t : Stage) (v w : World) (b : List ℕ) → (d : Did c s v b t w) → MakesOnly IsPlain d.outcomes
 did_leaves c s t v w b d =
-    are_leave (requests_of d.acts) d.outcomes (items_plain d.items c s.phase d.acts d.each) (asked_go d.acts c s.serial t.serial d.outcomes d.pieces d.answers)
+    makes_of IsPlain (requests_of d.acts) d.outcomes (items_plain d.items c s.phase d.acts d.each) (asked_go d.acts c s.serial t.serial d.outcomes d.pieces d.answers)
 
 did_lets : (c : Client) (s t : Stage) (v w : World) (b : List ℕ) → Did c s v b t w → Lets v.seated w.seated
 did_lets c s t v w b d = (d.outcomes, d.grows.desk, did_leaves c s t v w b d)
@@ -140,14 +152,14 @@ broke_lets c s v w b k =
     let h = k.halted in (
       k.did.outcomes ++ h.outcomes,
       grew_on v.seated k.then.seated w.seated k.did.outcomes h.outcomes k.did.grows.desk h.grows.desk,
-      leaves_on k.did.outcomes h.outcomes (did_leaves c s k.mid v k.then k.front k.did) (are_leave (asked_by k.act) h.outcomes (item_plain c k.mid.phase k.item k.act k.is_item) h.gives.asked),
+      makes_on IsPlain k.did.outcomes h.outcomes (did_leaves c s k.mid v k.then k.front k.did) (makes_of IsPlain (asked_by k.act) h.outcomes (item_plain c k.mid.phase k.item k.act k.is_item) h.gives.asked),
     )
 
 began_lets : (c : Client) (s : Stage) (v w : World) (b : List ℕ) → Began c s v b w → Lets v.seated w.seated
 began_lets c s v w b k = did_lets c s k.mid v w k.front k.did
 
 none_lets : (v w : World) → w ≡ v → Lets v.seated w.seated
-none_lets v w e = ([], subst (λ (z : World). Grew v.seated [] z.seated) (sym e) (grew_none v.seated), leaves_none)
+none_lets v w e = ([], subst (λ (z : World). Grew v.seated [] z.seated) (sym e) (grew_none v.seated), tt)
 
 takes_let : (what : Stop) (s : Standing) (v : World) (piece : List ℕ) (t : Standing) (w : World) → TakesUpTo what s v piece t w → Lets v.seated w.seated
 takes_let what s v piece t w h = did_lets s.client s.stage t.stage v w h.taken h.did
@@ -204,7 +216,8 @@ open_of c d h = some_open (connection_of (state_seen d).connections d.seat) _ h
 
 -- requests that leave the connection leave it open
 pub stays_open : (c : Client) (v w : Seated) → Known v → Known w → Lets v w → IsOpen c v → IsOpen c w
-stays_open c v w a b (os, grew, leaves) is = grew_bound v w os a b grew ∙ (ap (λ (o : Option Binding). bound_by o (entries_of (kept os))) is ∙ leaves _)
+stays_open c v w a b (os, grew, plain) is =
+    grew_bound v w os a b grew ∙ (ap (λ (o : Option Binding). bound_by o (entries_of (kept os))) is ∙ entries_stay (entries_of (kept os)) _ plain)
 
 -- where none was open, Enter opens one
 pub enter_opens : (who : Who) (kind : Kind) (v w : Seated) (x : Exchange) → Known v → Known w → is_open (state_seen v) v.seat ≡ false → x.entry.request ≡ Request.Enter who kind → Grew v (Made x ∷ []) w → IsBound who kind w

@@ -1,10 +1,9 @@
 -- A connection asks what its kind may ask.
-use Rattle.std.proofs.Common.{◌≡◌, ℕ, List, [], ◌∷◌, ◌++◌, Bool, true, false, Ok, refl, sym, subst}
-use Rattle.std.proofs.lemmas.List.{map-append}
+use Rattle.std.proofs.Common.{◌≡◌, ℕ, List, [], ◌∷◌, Bool, true, false, Ok, refl, sym, subst}
+use Rattle.std.specs.List.{AllByRecursion}
 use Rattle.portal_base.specs.declared.who.Kind.{Kind}
 use Rattle.portal_model.specs.declared.entry.Entry.{Entry}
 use Rattle.portal_model.specs.declared.request.Request.{Request}
-use Rattle.portal_model.specs.Seated.{Exchange}
 use Rattle.dbus_auth.specs.declared.handshake.AuthAnswer.{AuthAnswer}
 use Rattle.dbus_auth.specs.declared.handshake.AuthAnswer.TheVariants.{Say, Begin, Early}
 use Rattle.dbus_auth.specs.Handshake.{Handshake, step}
@@ -23,12 +22,11 @@ use Rattle.session.specs.declared.act.Act.TheVariants.{Nothing, Line, Call, Port
 use Rattle.session.specs.declared.act.Client.{Client}
 use Rattle.session.specs.declared.phase.Phase.{Phase}
 use Rattle.session.specs.declared.phase.Phase.TheVariants as due
-use Rattle.session.specs.Answers.{AreOf, Denied, IsOf, Made, Outcome, kept}
+use Rattle.session.specs.Answers.{Outcome}
 use Rattle.session.specs.Asked.{Means, act_of_ask, act_of_frame, asked_by, collect_requests, is_host, line_act, reply_to, requests_of}
 use Rattle.session.specs.Cuts.{first_phase, line_of, next_phase, phase_behind}
 use Rattle.session.specs.Items.{AreItems, phase_after}
-use Rattle.session.proofs.Grew.{kept-append}
-use Rattle.session.proofs.ConnectionStaysOpen.{IsPlain, entries_of}
+use Rattle.session.proofs.ConnectionStaysOpen.{AskOnly, IsPlain, MakesOnly, all-append}
 use Rattle.session.proofs.ReadActs.{read_as, same_act}
 
 -- ---- requests
@@ -41,12 +39,7 @@ Fits Kind.Bus Request.Collect = Unit {0}
 Fits Kind.Bus request = IsOnRecords request
 
 abbrev pub AllFit : Kind → List Request → Type 0
-AllFit kind [] = Unit {0}
-AllFit kind (r ∷ rs) = Fits kind r × AllFit kind rs
-
-all-append : (kind : Kind) (rs ss : List Request) → AllFit kind rs → AllFit kind ss → AllFit kind (rs ++ ss)
-all-append kind [] ss a b = b
-all-append kind (r ∷ rs) ss a b = (a.0, all-append kind rs ss a.1 b)
+AllFit kind rs = AllByRecursion (Fits kind) rs
 
 pub fits_plain : (kind : Kind) (r : Request) → Fits kind r → IsPlain r
 fits_plain Kind.Mount (Request.Enter who k) h = absurd h
@@ -146,31 +139,13 @@ pub items_fit : (is : List (List ℕ)) (kind : Kind) (c : Client) (p : Phase) (a
 items_fit [] kind c p acts s h = subst (λ (z : List Act). AllFit kind (requests_of z)) (sym h) tt
 items_fit (i ∷ is) kind c p acts s (act, later, e, item, more) =
     subst (λ (z : List Act). AllFit kind (requests_of z)) (sym e)
-    (all-append kind (asked_by act) (requests_of later) (act_fits kind c p i act s item.1) (items_fit is kind c (next_phase c p i) later (next_speaks kind c p i s) more))
+    (all-append (Fits kind) (asked_by act) (requests_of later) (act_fits kind c p i act s item.1) (items_fit is kind c (next_phase c p i) later (next_speaks kind c p i s) more))
 
 -- ---- entries
 
 abbrev pub EntriesFit : Kind → List Entry → Type 0
-EntriesFit kind [] = Unit {0}
-EntriesFit kind (e ∷ es) = Fits kind e.request × EntriesFit kind es
-
-entries-append : (kind : Kind) (xs ys : List Entry) → EntriesFit kind xs → EntriesFit kind ys → EntriesFit kind (xs ++ ys)
-entries-append kind [] ys a b = b
-entries-append kind (x ∷ xs) ys a b = (a.0, entries-append kind xs ys a.1 b)
+EntriesFit kind es = AskOnly (Fits kind) es
 
 -- what is made of requests that fit
 abbrev pub MakesFit : Kind → List Outcome → Type 0
-MakesFit kind os = EntriesFit kind (entries_of (kept os))
-
-pub fit_on : (kind : Kind) (os us : List Outcome) → MakesFit kind os → MakesFit kind us → MakesFit kind (os ++ us)
-fit_on kind os us a b =
-    subst (λ (z : List Exchange). EntriesFit kind (entries_of z)) (sym (kept-append os us))
-    (subst (EntriesFit kind) (sym (map-append (λ (x : Exchange). x.entry) (kept os) (kept us))) (entries-append kind (entries_of (kept os)) (entries_of (kept us)) a b))
-
-fit_one : (kind : Kind) (r : Request) (x : Outcome) → Fits kind r → IsOf r x → MakesFit kind (x ∷ [])
-fit_one kind r (Made x) fits h = (subst (Fits kind) (sym h) fits, tt)
-fit_one kind r (Denied asked why) fits h = tt
-
-pub are_fit : (rs : List Request) (kind : Kind) (os : List Outcome) → AllFit kind rs → AreOf rs os → MakesFit kind os
-are_fit [] kind os fits h = subst (MakesFit kind) (sym h) tt
-are_fit (r ∷ rs) kind os fits (x, us, e, is, more) = subst (MakesFit kind) (sym e) (fit_on kind (x ∷ []) us (fit_one kind r x fits.0 is) (are_fit rs kind us fits.1 more))
+MakesFit kind os = MakesOnly (Fits kind) os

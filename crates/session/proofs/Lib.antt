@@ -14,6 +14,7 @@ pub mod AnswersAsked
 pub mod ItemsFit
 pub mod ServedTraces
 pub mod ItemsAreOne
+pub mod OwnEntries
 pub mod SessionCalls
 pub mod FirstLine
 pub mod ToldFrame

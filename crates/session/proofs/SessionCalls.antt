@@ -13,13 +13,16 @@ use Rattle.session.specs.declared.serve.Run.{Run}
 use Rattle.session.specs.declared.serve.Stage.{Stage}
 use Rattle.session.specs.declared.served.Fed.{Fed}
 use Rattle.session.specs.declared.served.Fed.TheVariants as fed
+use Rattle.session.specs.Isolation.{IsIsolated}
 use Rattle.session.specs.Ledger.{Began, Stops, World, held_after}
-use Rattle.session.specs.Sessions.{Feeds, FeedsOpen, HasRoom, HoldsStill, IsBound, IsOpen, fed_of}
+use Rattle.session.specs.Sessions.{Feeds, FeedsOpen, HasRoom, HoldsStill, IsBound, fed_of}
 use Rattle.session.specs.Standings.{Standing, longest}
 use Rattle.session.proofs.DidItems.{did_none}
 use Rattle.session.proofs.Feed.{feeds_rest, takes}
 use Rattle.session.proofs.Grew.{asked_err, asked_ok}
-use Rattle.session.proofs.ConnectionStaysOpen.{enter_opens, feeds_let, left_closed, refusal_keeps_closed, stays_open}
+use Rattle.session.proofs.Pump.{opened}
+use Rattle.session.proofs.ConnectionStaysOpen.{Lets, enter_opens, feeds_let, left_closed, refusal_keeps_closed}
+use Rattle.session.proofs.OwnEntries.{enter_isolated, open_isolated, refused_isolated}
 
 -- ---- Enter and Leave
 
@@ -35,6 +38,20 @@ whatever_err (Err e) p = p
 -- where Enter is refused none is open, as before
 pub enter_refused : (who : Who) (kind : Kind) (v w : Seated) (why : Refused) → Known v → Known w → is_open (state_seen v) v.seat ≡ false → Asks v (Request.Enter who kind) (Err why) w → is_open (state_seen w) w.seat ≡ false
 enter_refused who kind v w why a b closed h = refusal_keeps_closed v w (Request.Enter who kind) why a b closed (asked_err v w (Request.Enter who kind) why h)
+
+-- what an application is replied to them
+pub enter_asked_isolated : (who : Who) (kind : Kind) (v w : Seated) (reply : Reply) → Known v → Known w → is_open (state_seen v) v.seat ≡ false → Asks v (Request.Enter who kind) (Ok reply) w → IsIsolated who v w
+enter_asked_isolated who kind v w reply a b closed h =
+    let x = asked_ok v w (Request.Enter who kind) reply h in
+    enter_isolated who kind v w x.0 a b closed x.1 x.3
+
+pub enter_refused_isolated : (who : Who) (kind : Kind) (v w : Seated) (why : Refused) → Known v → Known w → Asks v (Request.Enter who kind) (Err why) w → IsIsolated who v w
+enter_refused_isolated who kind v w why a b h = refused_isolated who v w (Request.Enter who kind) why a b (asked_err v w (Request.Enter who kind) why h)
+
+pub leave_isolated : (v w : Seated) (reply : Reply) → Known v → Known w → Asks v Request.Leave (Ok reply) w → (who : Who) (kind : Kind) → IsBound who kind v → IsIsolated who v w
+leave_isolated v w reply a b h who kind is =
+    let x = asked_ok v w Request.Leave reply h in
+    open_isolated who kind v w x.0 a b is x.3
 
 -- Leave ends the connection
 pub leave_closes : (v w : Seated) (reply : Reply) → Known v → Known w → Asks v Request.Leave (Ok reply) w → is_open (state_seen w) w.seat ≡ false
@@ -70,9 +87,6 @@ pub fed_err : (why : Fed) (s : Standing) (v w : World) (piece : List ℕ) (t : S
 fed_err why s v w piece t stops client came room holds =
     subst (λ (r : Fed). FeedsOpen s v piece r t w) (sym came) (halt_opens why s v w piece t stops client came room holds)
 
-pub fed_stays : (s : Standing) (v w : World) (piece : List ℕ) (r : Fed) (t : Standing) → Known v.seated → Known w.seated → FeedsOpen s v piece r t w → IsOpen s.client v.seated → IsOpen s.client w.seated
-fed_stays s v w piece r t a b h is = stays_open s.client v.seated w.seated a b (feeds_let r s v piece t w h) is
-
 -- the client, the stage and the rest of a session, in place of those within it
 pub taken_of : (c d : Client) (r : Result Run Fed) (s t x : Stage) (v w : World) (held left piece after : List ℕ) → c ≡ d → s ≡ t → held ≡ left → Stops c r s v (held ++ piece) x w → after ≡ held_after r held piece
     → Stops d r t v (left ++ piece) x w × (after ≡ held_after r left piece)
@@ -81,5 +95,6 @@ taken_of c d r s t x v w held left piece after e f h k is = (
   is ∙ ap (λ (z : List ℕ). held_after r z piece) h,
 )
 
-pub stays_fed : (s : Standing) (v w : World) (piece : List ℕ) (r : Fed) (t : Standing) → s.fed ≡ fed.More → Known v.seated → Known w.seated → Feeds s.fed s v piece r t w → IsOpen s.client v.seated → IsOpen s.client w.seated
-stays_fed s v w piece r t more a b h is = fed_stays s v w piece r t a b (subst (λ (o : Fed). Feeds o s v piece r t w) more h) is
+-- a session that goes on leaves its connection open
+pub fed_lets : (s : Standing) (v w : World) (piece : List ℕ) (r : Fed) (t : Standing) → s.fed ≡ fed.More → Feeds s.fed s v piece r t w → Lets v.seated w.seated
+fed_lets s v w piece r t more h = feeds_let r s v piece t w (opened s v piece r t w more h)

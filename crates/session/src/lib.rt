@@ -8,8 +8,9 @@
 //! **Promise**: every whole item of what came is asked and answered once, in
 //! order, and the items are the same in whatever pieces the stream comes. What a
 //! host wasn't told yet is told ahead of the next answer. Each ending says what
-//! was read, asked and written. Over a tree that tells its files, what an
-//! application is replied is a function of its trace.
+//! was read, asked and written. What an application is replied is a function of
+//! its trace: over a tree that tells its files with all bytes, and over any other
+//! but for the bytes that a READ shows, and their number.
 //!
 //! **Rooms**, from the bytes inwards: [`parts`] has parts of bytes, [`phase`] says
 //! what is due and cuts the next item, [`item`] reads it, [`act`] is what it asks, [`frame`] has the frames and

@@ -3,6 +3,7 @@
 ghost use Rattle.std.specs.Prelude.{◌≡◌, ◌++◌, [], length, true, false, IfOk, OnOk, OnErr, Ok};
 ghost use Rattle.portal_model.specs.Seated.{Asks, is_open, state_seen};
 ghost use Rattle.session.specs.Cuts.{Cuts, no_item};
+ghost use Rattle.session.specs.Isolation.{IsIsolated};
 ghost use Rattle.session.specs.Ledger.{Stops, held_after, world};
 ghost use Rattle.session.specs.Sessions.{Opens, Enters, Feeds, Closes, IsBound, IsOpen, fed_of};
 ghost use Rattle.session.specs.Sessions.{ending};
@@ -77,6 +78,9 @@ impl Session {
         // Or the seat has none, as before.
         ensures still_closed { OnErr result
             (is_open (state_seen (D.seated desk.new)) (D.seated desk.new).seat ≡ false) }
+        // What an application is replied is a function of its trace, as `serve_connection`
+        // says of the whole connection.
+        ensures isolated { IsIsolated who.now (D.seated desk.old) (D.seated desk.new) }
         ensures goes { D.goes desk.old desk.new }
     {
         let client = client_of(alloc, who, kind, settings)?;
@@ -111,6 +115,11 @@ impl Session {
         ensures client_stays { self.new.client ≡ self.old.client }
         ensures stays_open { IsOpen self.old.client (D.seated desk.old)
             → IsOpen self.old.client (D.seated desk.new) }
+        // What an application is replied while its connection is open is a function of its
+        // trace: over a tree that tells its files with all bytes, and over any other but for
+        // the bytes that a READ shows, and their number.
+        ensures isolated { IsOpen self.old.client (D.seated desk.old)
+            → IsIsolated self.old.client.who (D.seated desk.old) (D.seated desk.new) }
         ensures goes { D.goes desk.old desk.new }
     {
         match self.fed {
@@ -160,6 +169,8 @@ impl Session {
         // The seat has no open connection then.
         ensures closed_now { is_open (state_seen (D.seated desk.new)) (D.seated desk.new).seat
             ≡ false }
+        // What an application is replied is a function of its trace here, too.
+        ensures isolated { IsIsolated self.client.who (D.seated desk.old) (D.seated desk.new) }
         ensures goes { D.goes desk.old desk.new }
     {
         leave(alloc, desk);
@@ -279,6 +290,7 @@ fn enter<D: Desk>(alloc: Global, desk: &mut D, who: &Who, kind: Kind) -> Result<
     ensures open_now { OnOk result (IsBound who.now kind (D.seated desk.new)) }
     ensures still_closed { OnErr result
         (is_open (state_seen (D.seated desk.new)) (D.seated desk.new).seat ≡ false) }
+    ensures isolated { IsIsolated who.now (D.seated desk.old) (D.seated desk.new) }
     ensures goes { D.goes desk.old desk.new }
 {
     desk.known();
@@ -298,6 +310,8 @@ fn leave<D: Desk>(alloc: Global, desk: &mut D)
     ensures left { (reply : Reply) × Asks (D.seated desk.old) Request.Leave (Ok reply)
         (D.seated desk.new) }
     ensures closed_now { is_open (state_seen (D.seated desk.new)) (D.seated desk.new).seat ≡ false }
+    ensures isolated { (who : Who) (kind : Kind) → IsBound who kind (D.seated desk.old)
+        → IsIsolated who (D.seated desk.old) (D.seated desk.new) }
     ensures goes { D.goes desk.old desk.new }
 {
     desk.known();

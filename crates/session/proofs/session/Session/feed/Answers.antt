@@ -2,8 +2,10 @@ use Rattle.std.proofs.Common.{◌≡◌, ℕ, ◌+◌, ◌≤◌, length, Ok, Er
 use Rattle.session.specs.declared.served.Fed.TheVariants as fed
 use Rattle.session.specs.Ledger.{world}
 use Rattle.session.specs.Standings.{Standing, longest}
-use Rattle.session.proofs.SessionCalls.{fed_err, fed_ok, stays_fed, taken_of}
+use Rattle.session.proofs.SessionCalls.{fed_err, fed_lets, fed_ok, taken_of}
+use Rattle.session.proofs.ConnectionStaysOpen.{stays_open}
 use Rattle.session.proofs.Feed.{feeds_open}
+use Rattle.session.proofs.OwnEntries.{lets_isolated, still_isolated}
 use Rattle.session.proofs.session.Session.feed.Goals as goal
 use Rattle.session.proofs.session.Session.feed.Goals.{in-Ok, in-Err}
 
@@ -31,10 +33,26 @@ returns-clause-feeds g c =
           feeds_open s v piece _ _ w more (rw x.self-inside-is (fed_err why s v w piece _ took.0 client refl room (at, took.1)))
     ]
 
+-- what was asked left the connection open
 pub returns-clause-stays_open : goal.returns-clause-stays_open
 returns-clause-stays_open g c =
     let s = c.args.self.now in
     let v = world (g.D.Desk.seated c.args.desk.now) (g.K.Sink.told c.args.sink.now) (g.K.Sink.faults c.args.sink.now) in
     let w = world (g.D.Desk.seated c.take.new.desk) (g.K.Sink.told c.take.new.sink) (g.K.Sink.faults c.take.new.sink) in
     let more : s.fed ≡ fed.More = ap (λ (z : Standing). z.fed) (sym c.self.view_is) ∙ c.in-More.is in
-    stays_fed s v w c.args.piece.now _ _ more c.known.ensures c.known-2.ensures (returns-clause-feeds g c)
+    stays_open s.client v.seated w.seated c.known.ensures c.known-2.ensures (fed_lets s v w c.args.piece.now _ _ more (returns-clause-feeds g c))
+
+pub returns-clause-isolated : goal.returns-clause-isolated
+returns-clause-isolated g c =
+    let s = c.args.self.now in
+    let v = world (g.D.Desk.seated c.args.desk.now) (g.K.Sink.told c.args.sink.now) (g.K.Sink.faults c.args.sink.now) in
+    let w = world (g.D.Desk.seated c.take.new.desk) (g.K.Sink.told c.take.new.sink) (g.K.Sink.faults c.take.new.sink) in
+    let more : s.fed ≡ fed.More = ap (λ (z : Standing). z.fed) (sym c.self.view_is) ∙ c.in-More.is in
+    lets_isolated s.client v.seated w.seated c.known.ensures c.known-2.ensures (fed_lets s v w c.args.piece.now _ _ more (returns-clause-feeds g c))
+
+-- and here nothing was asked
+pub returns-in_default-clause-isolated : goal.returns-in_default-clause-isolated
+returns-in_default-clause-isolated g c = λ is. still_isolated c.args.self.now.client.who (g.D.Desk.seated c.args.desk.now)
+
+pub returns-then-piece-room-clause-isolated : goal.returns-then-piece-room-clause-isolated
+returns-then-piece-room-clause-isolated g c = λ is. still_isolated c.args.self.now.client.who (g.D.Desk.seated c.args.desk.now)
