@@ -1,6 +1,6 @@
 -- What is in sight of an application: of its view the bytes of those files alone that it may read
--- now, be it by its right to read a document or by a file that it has open. Of every other file that
--- its view names it sees the generation, the length and the moment of the last change.
+-- now, be it by its right to read a document or by a file that it has open. Of every other file
+-- that its view names it sees the generation, the length and the moment of the last change.
 use Rattle.std.specs.Prelude.{ℕ, ◌==◌, List, length, map, replicate, Bool, false, ◌&&◌, ◌||◌, cond}
 use Rattle.std.specs.List.{list_any}
 use Rattle.portal_base.specs.Names.{is_same}

@@ -1,6 +1,6 @@
 -- Worked examples of what is in sight: document 0000000a of the file /home/a.txt, which holds
--- "hello", a mount of the editor at seat 1, one of the host at seat 2, and the host's bus at seat 3.
--- What is expected is worked out by hand from the rules.
+-- "hello", a mount of the editor at seat 1, one of the host at seat 2, and the host's bus at seat
+-- 3. What is expected is worked out by hand from the rules.
 use Rattle.std.specs.Prelude.{◌≡◌, ℕ, List, [], ◌∷◌, codes, length, map, take, true, false, None}
 use Rattle.rights_rule.specs.Rights.{RightSet}
 use Rattle.portal_model.specs.declared.entry.Entry.{Entry}

@@ -43,7 +43,8 @@ front xs = take (length xs - 1) xs
 abbrev pub without_last : DocumentList → DocumentList
 without_last s = record s { live = front s.live; made = front s.made }
 
--- the document of this number is live, nothing was added after it, and its number wasn't made before
+-- the document of this number is live, nothing was added after it, and its number wasn't made
+-- before
 pub record IsLast (s : DocumentList) (id : DocId) : Type 0 where
   pub before : DocumentList
   pub last : Document

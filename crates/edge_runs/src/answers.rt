@@ -27,8 +27,8 @@ pub fn keep(system: &HostRuntime, alloc: Global, path: &str) -> Result<String, V
     run(system, alloc, path, Course::Keep)
 }
 
-/// `ring PATH`: what the service hears of a client once it was answered and the bell rings, what the
-/// client is told, and what becomes of answers that it doesn't read.
+/// `ring PATH`: what the service hears of a client once it was answered and the bell rings,
+/// what the client is told, and what becomes of answers that it doesn't read.
 pub fn ring(system: &HostRuntime, alloc: Global, path: &str) -> Result<String, VectorError> {
     run(system, alloc, path, Course::Ring)
 }
@@ -124,7 +124,8 @@ fn kept<S: Source, K: Sink>(
     )?)
 }
 
-/// How many bytes come behind each of three answers: two that have room alone, and one that has none.
+/// How many bytes come behind each of three answers: two that have room alone, and one that
+/// has none.
 fn filled<K: Sink>(
     alloc: Global,
     sink: &mut K,

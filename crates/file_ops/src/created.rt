@@ -253,7 +253,8 @@ fn make_looked<T: HostTree, C: Clock>(
         (create_there call.now.request.now flags (room_in handles.old call.now.seat)
         made.entry.document.now made.entry.node) look call.now.seat handles.old (T.is tree.old)
         ended handles.new (T.is tree.new)) }
-    ensures clock { IfOk result (λ ended. Reads C.reads clock.old (moment_of ended.call) clock.new) }
+    ensures clock { IfOk result (λ ended. Reads C.reads clock.old
+        (moment_of ended.call) clock.new) }
     ensures err { OnErr result (WasCalled (T.is tree.old) (T.is tree.new)) }
     ensures shown { OnErr result (is_look_fault look ≡ false) }
     ensures handles_err { OnErr result
@@ -287,7 +288,8 @@ fn make_file<T: HostTree, C: Clock>(
         (create_there call.now.request.now flags (room_in handles.old call.now.seat)
         made.entry.document.now made.entry.node Look.Missing) call.now.seat handles.old
         (T.is tree.old) (done_of_ended ended) handles.new (T.is tree.new)) }
-    ensures clock { IfOk result (λ ended. Reads C.reads clock.old (moment_of ended.call) clock.new) }
+    ensures clock { IfOk result (λ ended. Reads C.reads clock.old
+        (moment_of ended.call) clock.new) }
     ensures err { OnErr result (WasCalled (T.is tree.old) (T.is tree.new)) }
     ensures handles_err { OnErr result
         (Handled call.now.seat HandlesStay handles.old handles.new) }

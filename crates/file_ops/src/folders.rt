@@ -170,7 +170,8 @@ fn by_look(
     place: Place,
     look: LookAnswer,
 ) -> Result<Answer, WantOfMemory>
-    requires room { IsSomeAnd (opened_on handles.old.seats call.now.seat) (CanAdd handles.old.most) }
+    requires room { IsSomeAnd (opened_on handles.old.seats call.now.seat)
+        (CanAdd handles.old.most) }
     requires node { node_of place ≡ call.now.request.now.node }
     requires folder { (s : State) → Lends book.now s →
         IsFolder (sight_of_place s call.now.who.now place) }
@@ -194,7 +195,8 @@ fn listed(
     place: Place,
     look: Look,
 ) -> Result<Answer, WantOfMemory>
-    requires room { IsSomeAnd (opened_on handles.old.seats call.now.seat) (CanAdd handles.old.most) }
+    requires room { IsSomeAnd (opened_on handles.old.seats call.now.seat)
+        (CanAdd handles.old.most) }
     requires node { node_of place ≡ call.now.request.now.node }
     requires folder { (s : State) → Lends book.now s →
         IsFolder (sight_of_place s call.now.who.now place) }

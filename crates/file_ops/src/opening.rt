@@ -138,7 +138,8 @@ fn open_looked<T: HostTree, C: Clock>(
         (open_file call.now.request.now flags (room_in handles.old call.now.seat)
         seen.entry.document.now seen.entry.may_write)) look call.now.seat handles.old
         (T.is tree.old) ended handles.new (T.is tree.new)) }
-    ensures clock { IfOk result (λ ended. Reads C.reads clock.old (moment_of ended.call) clock.new) }
+    ensures clock { IfOk result (λ ended. Reads C.reads clock.old
+        (moment_of ended.call) clock.new) }
     ensures err { OnErr result (Wants handles.old (T.is tree.old) handles.new (T.is tree.new)) }
     ensures shown { OnErr result (is_look_fault look ≡ false) }
     ensures clock_err { OnErr result (MayRead C.reads clock.old clock.new) }
@@ -168,7 +169,8 @@ fn open_shown<T: HostTree, C: Clock>(
         (open_file call.now.request.now flags (room_in handles.old call.now.seat)
         seen.entry.document.now seen.entry.may_write generation size moment) call.now.seat
         handles.old (T.is tree.old) (done_of_ended ended) handles.new (T.is tree.new)) }
-    ensures clock { IfOk result (λ ended. Reads C.reads clock.old (moment_of ended.call) clock.new) }
+    ensures clock { IfOk result (λ ended. Reads C.reads clock.old
+        (moment_of ended.call) clock.new) }
     ensures err { OnErr result (Wants handles.old (T.is tree.old) handles.new (T.is tree.new)) }
     ensures clock_err { OnErr result (MayRead C.reads clock.old clock.new) }
 {
@@ -200,7 +202,8 @@ fn open_name<T: HostTree, C: Clock>(
     ensures ok { IfOk result (λ ended. Opening (open_name call.now.request.now flags
         (room_in handles.old call.now.seat) document.now name) call.now.seat handles.old
         (T.is tree.old) (done_of_ended ended) handles.new (T.is tree.new)) }
-    ensures clock { IfOk result (λ ended. Reads C.reads clock.old (moment_of ended.call) clock.new) }
+    ensures clock { IfOk result (λ ended. Reads C.reads clock.old
+        (moment_of ended.call) clock.new) }
     ensures err { OnErr result (Wants handles.old (T.is tree.old) handles.new (T.is tree.new)) }
     ensures clock_err { OnErr result (MayRead C.reads clock.old clock.new) }
 {
@@ -221,12 +224,14 @@ fn open_cut<T: HostTree, C: Clock>(
     document: &Document,
     name: FileName,
 ) -> Result<Ended, WantOfMemory>
-    requires room { IsSomeAnd (opened_on handles.old.seats call.now.seat) (CanAdd handles.old.most) }
+    requires room { IsSomeAnd (opened_on handles.old.seats call.now.seat)
+        (CanAdd handles.old.most) }
     requires cuts { truncates flags ≡ true }
     ensures ok { IfOk result (λ ended. Opening (open_name call.now.request.now flags
         (room_in handles.old call.now.seat) document.now name) call.now.seat handles.old
         (T.is tree.old) (done_of_ended ended) handles.new (T.is tree.new)) }
-    ensures clock { IfOk result (λ ended. Reads C.reads clock.old (moment_of ended.call) clock.new) }
+    ensures clock { IfOk result (λ ended. Reads C.reads clock.old
+        (moment_of ended.call) clock.new) }
     ensures err { OnErr result (Wants handles.old (T.is tree.old) handles.new (T.is tree.new)) }
     ensures clock_err { OnErr result (MayRead C.reads clock.old clock.new) }
 {

@@ -290,7 +290,8 @@ fn set_looked<T: HostTree, C: Clock>(
     ensures ok { IfOk result (λ ended. GoesBehind
         (if_file (set_subject request.now (sets_of setting) subject name.now)) look
         (T.is tree.old) ended HandlesStay (T.is tree.new)) }
-    ensures clock { IfOk result (λ ended. Reads C.reads clock.old (moment_of ended.call) clock.new) }
+    ensures clock { IfOk result (λ ended. Reads C.reads clock.old
+        (moment_of ended.call) clock.new) }
     ensures err { OnErr result (WasCalled (T.is tree.old) (T.is tree.new)) }
     ensures shown { OnErr result (is_look_fault look ≡ false) }
     ensures clock_err { OnErr result (MayRead C.reads clock.old clock.new) }
@@ -319,7 +320,8 @@ fn set_file<T: HostTree, C: Clock>(
         (sets_file (on_node request.now subject.node) (sets_of setting) subject.denial name.now
         subject.may_write size moment) (T.is tree.old) (done_of_ended ended) HandlesStay
         (T.is tree.new)) }
-    ensures clock { IfOk result (λ ended. Reads C.reads clock.old (moment_of ended.call) clock.new) }
+    ensures clock { IfOk result (λ ended. Reads C.reads clock.old
+        (moment_of ended.call) clock.new) }
     ensures err { OnErr result (WasCalled (T.is tree.old) (T.is tree.new)) }
     ensures clock_err { OnErr result (MayRead C.reads clock.old clock.new) }
 {
@@ -343,7 +345,8 @@ fn set_size<T: HostTree, C: Clock>(
     ensures ok { IfOk result (λ ended. Goes
         (sets_length (on_node request.now subject.node) (sets_of setting) subject.denial name.now
         subject.may_write) (T.is tree.old) (done_of_ended ended) HandlesStay (T.is tree.new)) }
-    ensures clock { IfOk result (λ ended. Reads C.reads clock.old (moment_of ended.call) clock.new) }
+    ensures clock { IfOk result (λ ended. Reads C.reads clock.old
+        (moment_of ended.call) clock.new) }
     ensures err { OnErr result (WasCalled (T.is tree.old) (T.is tree.new)) }
     ensures clock_err { OnErr result (MayRead C.reads clock.old clock.new) }
 {

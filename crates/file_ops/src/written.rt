@@ -75,7 +75,8 @@ fn written<T: HostTree, C: Clock>(
         (write (reach_at s who.now) book.now.file_limit offset content.now
         (option_copied handle.entry)) (T.is tree.old) (done_of_ended ended) HandlesStay
         (T.is tree.new)) }
-    ensures clock { IfOk result (λ ended. Reads C.reads clock.old (moment_of ended.call) clock.new) }
+    ensures clock { IfOk result (λ ended. Reads C.reads clock.old
+        (moment_of ended.call) clock.new) }
     ensures err { OnErr result (WasCalled (T.is tree.old) (T.is tree.new)) }
     ensures clock_err { OnErr result (MayRead C.reads clock.old clock.new) }
 {
@@ -103,7 +104,8 @@ fn write_open<T: HostTree, C: Clock>(
     ensures ok { IfOk result (λ ended. (s : State) → Lends book.now.view s → Goes
         (write_open (reach_at s who.now) book.now.file_limit offset content.now
         (file_of file.entry)) (T.is tree.old) (done_of_ended ended) HandlesStay (T.is tree.new)) }
-    ensures clock { IfOk result (λ ended. Reads C.reads clock.old (moment_of ended.call) clock.new) }
+    ensures clock { IfOk result (λ ended. Reads C.reads clock.old
+        (moment_of ended.call) clock.new) }
     ensures err { OnErr result (WasCalled (T.is tree.old) (T.is tree.new)) }
     ensures clock_err { OnErr result (MayRead C.reads clock.old clock.new) }
 {
@@ -136,7 +138,8 @@ fn write_where<T: HostTree, C: Clock>(
     ensures ok { IfOk result (λ ended. Goes (errs_if (not opened) ebadf
         (errs_if (not may_write) eacces (write_content file_limit name.now offset content.now)))
         (T.is tree.old) (done_of_ended ended) HandlesStay (T.is tree.new)) }
-    ensures clock { IfOk result (λ ended. Reads C.reads clock.old (moment_of ended.call) clock.new) }
+    ensures clock { IfOk result (λ ended. Reads C.reads clock.old
+        (moment_of ended.call) clock.new) }
     ensures err { OnErr result (WasCalled (T.is tree.old) (T.is tree.new)) }
     ensures clock_err { OnErr result (MayRead C.reads clock.old clock.new) }
 {
@@ -165,7 +168,8 @@ fn write_named<T: HostTree, C: Clock>(
     ensures ok { IfOk result (λ ended.
         Goes (write_name file_limit name.now offset content.now) (T.is tree.old)
         (done_of_ended ended) HandlesStay (T.is tree.new)) }
-    ensures clock { IfOk result (λ ended. Reads C.reads clock.old (moment_of ended.call) clock.new) }
+    ensures clock { IfOk result (λ ended. Reads C.reads clock.old
+        (moment_of ended.call) clock.new) }
     ensures err { OnErr result (WasCalled (T.is tree.old) (T.is tree.new)) }
     ensures clock_err { OnErr result (MayRead C.reads clock.old clock.new) }
 {

@@ -1,5 +1,5 @@
--- What a READ comes to, told by its walk alone. Over a tree that tells its files the bytes are those
--- of the file; over one that doesn't, any that are no more than were asked for.
+-- What a READ comes to, told by its walk alone. Over a tree that tells its files the bytes are
+-- those of the file; over one that doesn't, any that are no more than were asked for.
 use Rattle.std.specs.Prelude.{◌≡◌, ℕ, List, false, Option, Some, None}
 use Rattle.portal_base.specs.declared.files.File.{File}
 use Rattle.portal_base.specs.declared.files.FileName.{FileName}

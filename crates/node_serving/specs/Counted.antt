@@ -1,6 +1,6 @@
--- How a served request bears on the counts of look-ups. The kernel was told once more of the node of
--- an entry, by FUSE_LOOKUP or FUSE_CREATE; by FUSE_FORGET and FUSE_BATCH_FORGET it gives look-ups back
--- (include/uapi/linux/fuse.h).
+-- How a served request bears on the counts of look-ups. The kernel was told once more of the node
+-- of an entry, by FUSE_LOOKUP or FUSE_CREATE; by FUSE_FORGET and FUSE_BATCH_FORGET it gives
+-- look-ups back (include/uapi/linux/fuse.h).
 use Rattle.std.specs.Prelude.{◌≡◌, ◌+◌, ◌-◌, ℕ, List, [], ◌∷◌, min}
 use Rattle.inode_table.specs.Counts.{IsCountedAs, count_of, most}
 use Rattle.inode_table.specs.declared.inodes.SeatNode.{SeatNode}

@@ -72,9 +72,9 @@ abbrev pub seat_calls : State → ℕ → NodeRequest → Given → List Call
 seat_calls s seat r given = calls_on s r given (mount_of (connection_of s.connections seat))
 
 -- What was given is lawful; the step makes of it the state that the connections, the table and the
--- tree have then, of which all else stays, and a reply that is alike to this answer; and the tree got
--- just the calls of the request. EIO tells of a call that failed, and Failed is no answer to such a
--- request.
+-- tree have then, of which all else stays, and a reply that is alike to this answer; and the tree
+-- got just the calls of the request. EIO tells of a call that failed, and Failed is no answer to
+-- such a request.
 pub record ServesSeat (s : State) (seat : ℕ) (r : NodeRequest) (old : TreeIs) (done : NodeDone)
     (connections : List Connection) (table : HandleTable) (new : TreeIs) : Type 0 where
   pub lawful : LawfulOnNode s r (given_to done) (mount_of (connection_of s.connections seat))

@@ -1,6 +1,6 @@
--- How often the kernel holds each node, by a history. It was told once more of the node of an entry, by
--- FUSE_LOOKUP or FUSE_CREATE; by FUSE_FORGET and FUSE_BATCH_FORGET it gives look-ups back; and with
--- its connection all of them go (include/uapi/linux/fuse.h).
+-- How often the kernel holds each node, by a history. It was told once more of the node of an
+-- entry, by FUSE_LOOKUP or FUSE_CREATE; by FUSE_FORGET and FUSE_BATCH_FORGET it gives look-ups
+-- back; and with its connection all of them go (include/uapi/linux/fuse.h).
 use Rattle.std.specs.Prelude.{◌≡◌, ◌+◌, ◌-◌, ◌==◌, ◌&&◌, ℕ, List, [], ◌∷◌, cond, min}
 use Rattle.inode_table.specs.Counts.{count_of, most}
 use Rattle.inode_table.specs.declared.inodes.SeatNode.{SeatNode}

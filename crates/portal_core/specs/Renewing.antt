@@ -7,9 +7,9 @@ use Rattle.portal_core.specs.declared.renewal.RenewError.{RenewError}
 use Rattle.portal_core.specs.declared.renewal.RenewError.TheVariants.{Open, Memory}
 use Rattle.portal_steps.specs.Story.{PortalIs, state_first, state_now}
 
--- The old history left no connection open, and the new one is empty: it begins in the state that the
--- old one came to. The files that the tree tells are those that it began with now, and the other
--- devices are as they were.
+-- The old history left no connection open, and the new one is empty: it begins in the state that
+-- the old one came to. The files that the tree tells are those that it began with now, and the
+-- other devices are as they were.
 pub record Renews {T K C W : Type 0} (tree_is : T → TreeIs) (old new : PortalIs T K C W)
     : Type 0 where
   pub closed : (state_now old.story).connections ≡ []

@@ -651,7 +651,8 @@ impl<T: HostTree, K: Keeper, C: Clock, W: Words> Portal<T, K, C, W> {
     fn leave(&mut self, alloc: Global, seat: u32) -> Result<Reply, WantOfMemory>
         ensures began { self.new.story.began ≡ self.old.story.began }
         ensures opening { self.new.story.opening ≡ self.old.story.opening }
-        ensures ok { IfOk result (Answers T.is K.is C.reads W.told self.old self.new seat Request.Leave) }
+        ensures ok { IfOk result
+            (Answers T.is K.is C.reads W.told self.old self.new seat Request.Leave) }
         ensures fault { IfOk result (TellsFault (T.is self.old.tree) (T.is self.new.tree)) }
         ensures failure { IfOk result (TellsFailure (T.is self.old.tree) (T.is self.new.tree)
             (K.is self.old.keeper) (K.is self.new.keeper)) }
@@ -681,7 +682,8 @@ impl<T: HostTree, K: Keeper, C: Clock, W: Words> Portal<T, K, C, W> {
         requires { cost_with self.old.story Request.Collect ≤ limit_of self.old.story }
         ensures began { self.new.story.began ≡ self.old.story.began }
         ensures opening { self.new.story.opening ≡ self.old.story.opening }
-        ensures ok { IfOk result (Answers T.is K.is C.reads W.told self.old self.new seat Request.Collect) }
+        ensures ok { IfOk result
+            (Answers T.is K.is C.reads W.told self.old self.new seat Request.Collect) }
         ensures fault { IfOk result (TellsFault (T.is self.old.tree) (T.is self.new.tree)) }
         ensures failure { IfOk result (TellsFailure (T.is self.old.tree) (T.is self.new.tree)
             (K.is self.old.keeper) (K.is self.new.keeper)) }

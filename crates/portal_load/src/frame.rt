@@ -148,7 +148,8 @@ fn body_of(alloc: Global, draw: Draw) -> Result<Vec<u8>, WantOfMemory>
 
 /// A `fuse_read_in`, which is a `fuse_write_in` too.
 fn put_read_in(body: &mut Vec<u8>, handle: u64, offset: u64, size: u32) -> Result<(), WantOfMemory>
-    ensures { OnOk result (body.new.items ≡ body.old.items ++ spelled (read_in handle offset size)) }
+    ensures { OnOk result (body.new.items ≡ body.old.items ++ spelled
+        (read_in handle offset size)) }
 {
     let fields = [
         Field::Eight(handle),

@@ -76,8 +76,8 @@ pub record OpeningsAreValid : Type 0 where
   pub told : (o : OpeningState) → SoundOpening o → ValidOpening (Some (map file_of o.files)) o
   pub quiet : (o : OpeningState) → SoundOpening o → ValidOpening None o
 
--- Hosts alone wait for changes of the permission store: in a valid state nothing waits to be told on
--- a mount, nor to an application. So a request on a node tells no change, and is answered in the
+-- Hosts alone wait for changes of the permission store: in a valid state nothing waits to be told
+-- on a mount, nor to an application. So a request on a node tells no change, and is answered in the
 -- state as it stands.
 pub record HostsAloneWait : Type 0 where
   pub mount :

@@ -1,5 +1,6 @@
--- Worked examples of calls of the permission store, over a table t of two entries: i, which was made
--- first, with a row, and b, without one. What is expected is worked out by hand from the rules.
+-- Worked examples of calls of the permission store, over a table t of two entries: i, which was
+-- made first, with a row, and b, without one. What is expected is worked out by hand from the
+-- rules.
 use Rattle.std.specs.Prelude.{◌≡◌, ℕ, List, [], ◌∷◌, codes, true, false, None}
 use Rattle.dbus_types.specs.declared.types.Value.TheVariants as V
 use Rattle.portal_base.specs.declared.who.Kind.TheVariants as Kind

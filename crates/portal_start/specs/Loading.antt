@@ -81,8 +81,8 @@ pub record FailsToUpgrade (limits : Limits) (old : KeeperIs) (answer : KeeperDon
   pub version : records.version ≡ first_version
   pub applies : Applies (Upgrade ∷ []) loaded answer new
 
--- Why no portal starts: the keeper failed, whose count rose, to load or to upgrade; the records that
--- were loaded have another version; one of them is bad, and this is the first; or there was no
+-- Why no portal starts: the keeper failed, whose count rose, to load or to upgrade; the records
+-- that were loaded have another version; one of them is bad, and this is the first; or there was no
 -- memory.
 abbrev pub LoadsBadly : Limits → KeeperIs → StartError → KeeperIs → Type 0
 LoadsBadly limits old KeeperFault new =

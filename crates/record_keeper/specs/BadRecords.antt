@@ -32,9 +32,9 @@ names_granted document = map (λ grant. grant.app) document.grants
 abbrev pub applications_of : List DocRecord → List (List ℕ)
 applications_of documents = first_named (each names_granted documents)
 
--- A document that may be kept in records of a version behind those before it: it is sound by itself,
--- it isn't strict where the version has no strict ones, its number is new, the limits of live and of
--- made documents aren't reached, and with it that of applications isn't passed.
+-- A document that may be kept in records of a version behind those before it: it is sound by
+-- itself, it isn't strict where the version has no strict ones, its number is new, the limits of
+-- live and of made documents aren't reached, and with it that of applications isn't passed.
 pub record IsGoodDocument (version : ℕ) (limits : Limits) (earlier : List DocRecord)
     (document : DocRecord) : Type 0 where
   pub itself : IsSoundDocument document

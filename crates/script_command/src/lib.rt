@@ -21,8 +21,8 @@
 //! How a run ends (`status`) and its lines, one after another, stand in `script_replay`.
 //!
 //! ```text
-//! let number = answer(rt, words);                             // the one that the program ends with
-//! let status = run(alloc, words, &mut source, &mut sink);    // Done, Usage, ..
+//! let number = answer(rt, words);                             // the one that the program
+//! ends with let status = run(alloc, words, &mut source, &mut sink);    // Done, Usage, ..
 //! ```
 //!
 //! `docs/scripts.md` says what it reads and prints, `docs/statuses.md` how it ends.

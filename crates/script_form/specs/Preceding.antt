@@ -33,8 +33,8 @@ key_text table id = table ++ (32 ∷ id)
 
 -- it says of the lines what it is kept for: whether one opens a connection, which numbers they open
 -- and which they close, how many documents they keep and of which numbers, of which tables and
--- identifiers they keep entries, which paths can't be a further file's, and which applications their
--- documents give rights to
+-- identifiers they keep entries, which paths can't be a further file's, and which applications
+-- their documents give rights to
 pub record Tracks (p : Preceding) : Type 0 where
   pub starts : p.begun ≡ list_any is_open p.lines
   pub seats : length p.numbers.items ≡ 65536

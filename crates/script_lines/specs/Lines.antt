@@ -75,7 +75,8 @@ device_text Keeper = codes "keeper"
 -- the words of a line
 abbrev pub words_of : ScriptLine → List (List ℕ)
 words_of (File path content) = codes "file" ∷ path ∷ hex_text content ∷ []
-words_of (Doc id reusable strict path grants) = codes "doc" ∷ doc_text id.number ∷ flags_text reusable strict
+words_of (Doc id reusable strict path grants) = codes "doc" ∷ doc_text id.number
+    ∷ flags_text reusable strict
     ∷ path ∷ grants_text grants ∷ []
 words_of (Entry entry) = codes "entry" ∷ entry.table ∷ entry.id ∷ hex_text entry.datum
     ∷ rows_text entry.rows ∷ []
@@ -142,7 +143,8 @@ last_seat = 65535
 -- the rules of a line that don't speak of other lines
 abbrev pub KeepsRules : ScriptLine → Type 0
 KeepsRules (File path content) = (is_script_path path ≡ true) × (path ≢ root) × AreBytes content
-KeepsRules (Doc id reusable strict path grants) = (id.number < 2 ^ 32) × (is_script_path path ≡ true)
+KeepsRules (Doc id reusable strict path grants) =
+    (id.number < 2 ^ 32) × (is_script_path path ≡ true)
     × IsSoundDocument (kept_document id reusable strict path grants)
 KeepsRules (Entry entry) = HasNames entry × IsSoundEntry entry
 KeepsRules (Fail device call) = (1 ≤ call) × (call < 2 ^ 64)

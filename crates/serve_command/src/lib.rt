@@ -1,8 +1,8 @@
 //! `docportal serve`: a service of the system.
 //!
-//! **It promises** what `serve_start` does of which end comes, over what the system gives: an end that
-//! tells of the system comes only where that was counted. What the system gives is outside what any
-//! contract says.
+//! **It promises** what `serve_start` does of which end comes, over what the system gives:
+//! an end that tells of the system comes only where that was counted. What the system gives
+//! is outside what any contract says.
 //!
 //! | Room | Holds |
 //! |---|---|
@@ -20,7 +20,8 @@
 //! let number = answer(rt, system, words);    // the one that the program ends with
 //! ```
 //!
-//! Its words are read in `serve_words`. `docs/serve.md` is for one who runs it, `docs/statuses.md` has its statuses.
+//! Its words are read in `serve_words`. `docs/serve.md` is for one who runs it,
+//! `docs/statuses.md` has its statuses.
 #![tactic(auto)]
 
 pub mod answer;

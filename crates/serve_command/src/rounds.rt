@@ -12,8 +12,8 @@ const STEPS_OF_POST: u64 = 256;
 /// How long a step then takes, in milliseconds.
 const PAUSE: u64 = 100;
 
-/// How often a link that doesn't spend waits for one that does, at first for a millisecond, and each
-/// time twice as long as before.
+/// How often a link that doesn't spend waits for one that does, at first for a millisecond,
+/// and each time twice as long as before.
 const WAITS: u32 = 36;
 
 /// How long it waits at most each time, in milliseconds.

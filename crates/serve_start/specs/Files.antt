@@ -1,6 +1,6 @@
 -- The descriptors that a service needs. POSIX, getrlimit: RLIMIT_NOFILE is one greater than the
--- greatest number that a newly created descriptor may have. POSIX, "File Descriptor Allocation": each
--- gets the least number that isn't open in the process.
+-- greatest number that a newly created descriptor may have. POSIX, "File Descriptor Allocation":
+-- each gets the least number that isn't open in the process.
 use Rattle.std.specs.Prelude.{ℕ, ◌+◌, ◌≤◌}
 
 -- which descriptors a process has open at a moment, by what they are for
@@ -21,11 +21,12 @@ pub record Moment : Type 0 where
 
 -- how many are open then
 abbrev pub open_at : Moment → ℕ
-open_at m = m.held + m.listeners + m.connections + m.spares + m.tree + m.store + m.folders + m.passing
+open_at m = m.held + m.listeners + m.connections + m.spares + m.tree + m.store + m.folders
+    + m.passing
 
--- A moment of a service with so many sockets and posts, where so many descriptors were open before it.
--- A post has one connection at a time. What the other parts open at most is counted by hand: their
--- crates tell nothing of it.
+-- A moment of a service with so many sockets and posts, where so many descriptors were open before
+-- it. A post has one connection at a time. What the other parts open at most is counted by hand:
+-- their crates tell nothing of it.
 pub record MayCome (before sockets posts : ℕ) (m : Moment) : Type 0 where
   pub held : m.held ≤ before
   pub listeners : m.listeners ≤ sockets
@@ -36,8 +37,9 @@ pub record MayCome (before sockets posts : ℕ) (m : Moment) : Type 0 where
   pub folders : m.folders ≤ 2
   pub passing : m.passing ≤ 4
 
--- Under this limit every descriptor of every such moment can be open: no more are open than there are
--- numbers below the limit, so while one is still to be opened the least free number is below it.
+-- Under this limit every descriptor of every such moment can be open: no more are open than there
+-- are numbers below the limit, so while one is still to be opened the least free number is below
+-- it.
 abbrev pub Suffices : ℕ → ℕ → ℕ → ℕ → Type 0
 Suffices before sockets posts limit =
     (m : Moment) → MayCome before sockets posts m → open_at m ≤ limit

@@ -34,8 +34,8 @@ module _ {L S I T K W : Type 0} (C : Type 0) (s : Sides S I) (hall_of : L → Ha
     pub service : IsService at tree_is told words posts tree drawn settings
     pub serves : ServesAs s hall_of tree_is keeper_is posts tree keeper clock drawn settings status
 
-  -- An opening was refused, which was counted, or there was no memory; or a service of these words was
-  -- served, and nothing was refused.
+  -- An opening was refused, which was counted, or there was no memory; or a service of these words
+  -- was served, and nothing was refused.
   abbrev pub RunsAs : ℕ → ServeRun L T K C W → ℕ → Type 0
   RunsAs old (run.Refused end) new = Refuses old end new
   RunsAs old (run.Served status) new = Serves status × (new ≡ old)
@@ -49,8 +49,8 @@ abbrev pub IsUsage : ServeEnd → Type 0
 IsUsage (ends.Usage why) = Unit {0}
 IsUsage end = ⊥
 
--- What the words behind `serve` came to: a text that they ask for; a usage, where they are faulty; no
--- memory to read them; or how a service of what they ask for ended.
+-- What the words behind `serve` came to: a text that they ask for; a usage, where they are faulty;
+-- no memory to read them; or how a service of what they ask for ended.
 module _ {L S I T K W : Type 0} (C : Type 0) (s : Sides S I) (hall_of : L → Hall S I)
     (at : L → List ℕ → Type 0) (tree_is : T → TreeIs) (keeper_is : K → KeeperIs)
     (told : W → Option (List ℕ)) (texts : List (List ℕ)) where

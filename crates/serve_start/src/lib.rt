@@ -3,10 +3,10 @@
 //! **It promises**, of `docportal serve` and of a service in memory alike: which end comes of which
 //! words. An opening is told as refused only where what opens counted a refusal in this call
 //! ([`openers::Openers`]); else the posts of a service were served, as `serve_posts` says. They
-//! listen at the paths of the sockets, of the host and then of each application, a bus and a mount of
-//! each, and are bound as these are: a path tells whose a socket is and what it speaks. Of
-//! the descriptors that a service needs it says which limit is the least that suffices, if its parts
-//! open no more than is counted; what they open is counted by hand.
+//! listen at the paths of the sockets, of the host and then of each application, a bus and
+//! a mount of each, and are bound as these are: a path tells whose a socket is and what it
+//! speaks. Of the descriptors that a service needs it says which limit is the least that
+//! suffices, if its parts open no more than is counted; what they open is counted by hand.
 //!
 //! | Room | Holds |
 //! |---|---|

@@ -11,4 +11,5 @@ leads_with_zero_in (b ∷ c ∷ bs) = b == 48
 
 -- some digits, and no zero ahead of others
 abbrev pub are_digits_in : List ℕ → Bool
-are_digits_in word = not (length word == 0) && (not (leads_with_zero_in word) && list_all is_ascii_digit word)
+are_digits_in word = not (length word == 0) && (not (leads_with_zero_in word)
+    && list_all is_ascii_digit word)

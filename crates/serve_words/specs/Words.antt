@@ -69,8 +69,8 @@ abbrev pub AsksOneOf : List Row → ServeAsk → Type 0
 AsksOneOf found (Serve service) = AsksFor found service
 AsksOneOf found (Tell text) = ⊥
 
--- Words ask for a service, as `clap` finds it in them; or for a text, which they do only where `clap`
--- doesn't take them, as `--help`.
+-- Words ask for a service, as `clap` finds it in them; or for a text, which they do only where
+-- `clap` doesn't take them, as `--help`.
 abbrev pub Asks : List (List ℕ) → ServeAsk → Type 0
 Asks words (Serve service) = AsksFor (found_in words) service
 Asks words (Tell text) = are_taken words ≡ false

@@ -19,8 +19,8 @@ IsServed app v w = (front after : List Entry) (e : Entry) → w.seen ≡ front +
     ≡ Some (reply_at (run w.opening front) e)
 
 -- The same over any tree, of the trace that has what the tree showed to the application's own
--- requests, and nothing that it showed to others. To what the machine replies is alike what is given
--- where the step replies so: it is the same but for the content that a READ shows.
+-- requests, and nothing that it showed to others. To what the machine replies is alike what is
+-- given where the step replies so: it is the same but for the content that a READ shows.
 abbrev pub IsServedByLooks : List ℕ → Seated → Seated → Type 0
 IsServedByLooks app v w = (front after : List Entry) (e : Entry) → w.seen ≡ front ++ e ∷ after
     → length v.seen ≤ length front → e.seat ≡ w.seat

@@ -13,11 +13,11 @@
 //! but for the bytes that a READ shows, and their number.
 //!
 //! **Rooms**, from the bytes inwards: [`parts`] has parts of bytes, [`phase`] says
-//! what is due and cuts the next item, [`item`] reads it, [`act`] is what it asks, [`frame`] has the frames and
-//! [`speech`] the messages that answer it, and [`serve`] asks and writes.
-//! [`session`] is one connection that is fed piece by piece, [`connection`]
-//! serves one over a source to its end, and [`served`] has the answers of both.
-//! [`laws`] are the laws of streams and of answers, for the crates above.
+//! what is due and cuts the next item, [`item`] reads it, [`act`] is what it asks,
+//! [`frame`] has the frames and [`speech`] the messages that answer it, and [`serve`] asks
+//! and writes. [`session`] is one connection that is fed piece by piece, [`connection`]
+//! serves one over a source to its end, and [`served`] has the answers of both. [`laws`]
+//! are the laws of streams and of answers, for the crates above.
 //!
 //! ```ignore
 //! let mut session = Session::begin(alloc, &mut desk, &who, Kind::Mount, &settings)?;

@@ -1,5 +1,5 @@
--- The names of a row, as the one text that is kept of them: each ends in a line feed. A line feed in
--- a name is written as a backslash and an n, and a backslash as two.
+-- The names of a row, as the one text that is kept of them: each ends in a line feed. A line feed
+-- in a name is written as a backslash and an n, and a backslash as two.
 use Rattle.std.specs.Prelude.{ℕ, ◌==◌, List, [], ◌∷◌, ◌++◌, cond}
 use Rattle.std.specs.List.{flat_map}
 

@@ -29,7 +29,8 @@ pub(crate) fn from_here(walk: Walk) -> Walk
 
 /// So many bytes on.
 pub(crate) fn passing(walk: Walk, count: u64) -> Walk
-    ensures { (passed at : ℕ) → Stands passed at walk → Stands (passed + count) (at + count) result }
+    ensures { (passed at : ℕ) → Stands passed at walk → Stands (passed + count) (at
+        + count) result }
 {
     Walk {
         bytes: walk.bytes.saturating_add(count),

@@ -310,7 +310,8 @@ fn share_file(
 ) -> Result<(), WantOfMemory>
     requires app { plan.now.app ≡ named_app add.now }
     requires listed { plan.now.listed ≡ rights_named add.now.names }
-    ensures { OnOk result ((u : Shared) → Tells sharing.old u → Tells sharing.new (file_shared app.now
+    ensures { OnOk result ((u : Shared) → Tells sharing.old u → Tells sharing.new
+        (file_shared app.now
         (shown_in lent.now.book.documents.now.live lent.now.book.grants.now lent.now.files.now)
         add.now numbers.now u path.now)) }
 {

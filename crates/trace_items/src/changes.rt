@@ -72,7 +72,8 @@ pub fn changed_name(alloc: Global, update: &FileUpdate) -> Result<Option<FileNam
 
 /// Changes the files so.
 pub fn change(alloc: Global, files: &mut Vec<File>, update: &FileUpdate) -> Result<(), WantOfMemory>
-    ensures { OnOk result (files.new.items ≡ files_after true (change_of update.now) files.old.items) }
+    ensures { OnOk result (files.new.items
+        ≡ files_after true (change_of update.now) files.old.items) }
 {
     match update {
         FileUpdate::Stay => Ok(()),

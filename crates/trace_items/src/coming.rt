@@ -172,7 +172,8 @@ fn touches(
     ensures { IfOk result (λ items. (s : State) → Shows lent.now s →
         option_copied connection.entry
         ≡ option_map silent (open_connection s.connections entry.now.seat) →
-        is_made_by app.now (open_connection s.connections entry.now.seat) entry.now.request ≡ false →
+        is_made_by app.now (open_connection s.connections entry.now.seat) entry.now.request
+        ≡ false →
         is_node entry.now.request ≡ false → is_done_answer (reply_at s entry.now).answer ≡ true →
         map item_told items ≡ map item_of
         (request_touch app.now s entry.now.seat entry.now.request entry.now.given)) }
@@ -274,7 +275,8 @@ pub fn come(
 ) -> Result<(), WantOfMemory>
     ensures items { OnOk result (map item_told items.new
         ≡ map item_told items.old ++ items_awaited awaited.entry done files.old.items) }
-    ensures files { OnOk result (files.new.items ≡ files_awaited awaited.entry done files.old.items) }
+    ensures files { OnOk result (files.new.items
+        ≡ files_awaited awaited.entry done files.old.items) }
 {
     let Awaited {
         told,

@@ -63,7 +63,8 @@ pub fn own_item(
     entry: &Entry,
 ) -> Result<TraceItem, WantOfMemory>
     ensures { IfOk result (λ own. (s : State) → Shows lent.now s → Lawful s entry.now →
-        option_copied connection.entry ≡ option_map silent (connection_of s.connections entry.now.seat)
+        option_copied connection.entry
+        ≡ option_map silent (connection_of s.connections entry.now.seat)
         → item_told own ≡ item.Own (own_of s entry.now)) }
 {
     match &entry.request {
@@ -112,7 +113,8 @@ fn own_planned(
         (map (content_of_tree lent.now.files.now)
         (take (looks_asked entry.now.given) (paths_of_call queue.now add.now)))
         (cond (reuses add.now)
-        (reused_of_files lent.now.book.documents.now.live add.now (document_paths queue.now add.now))
+        (reused_of_files lent.now.book.documents.now.live add.now
+        (document_paths queue.now add.now))
         [])) }
 {
     let shown = shown(alloc, lent.files, queue, add, plan, asked(&entry.given))?;
