@@ -21,6 +21,26 @@ may_change_file (NodeOp.ReadDir fh offset size) = false
 may_change_file (NodeOp.ReleaseDir fh) = false
 may_change_file (NodeOp.Access mask) = false
 
+-- The requests for which all memory can be taken ahead: they look at the tree once at most, open
+-- nothing, and answer no list and no bytes.
+abbrev pub fits_in_room : NodeOp → Bool
+fits_in_room (NodeOp.Lookup name) = true
+fits_in_room (NodeOp.GetAttr flags fh) = true
+fits_in_room (NodeOp.Access mask) = true
+fits_in_room (NodeOp.Flush fh) = true
+fits_in_room (NodeOp.Release fh) = true
+fits_in_room (NodeOp.ReleaseDir fh) = true
+fits_in_room (NodeOp.Forget count) = true
+fits_in_room (NodeOp.BatchForget nodes) = true
+fits_in_room (NodeOp.SetAttr valid fh size) = false
+fits_in_room (NodeOp.Open flags) = false
+fits_in_room (NodeOp.Create name flags) = false
+fits_in_room (NodeOp.Read fh offset size) = false
+fits_in_room (NodeOp.Write fh offset content) = false
+fits_in_room (NodeOp.Fsync fh) = false
+fits_in_room NodeOp.OpenDir = false
+fits_in_room (NodeOp.ReadDir fh offset size) = false
+
 -- the requests that may call the tree in vain: memory may be wanted in that call or behind it. Of
 -- the others some never call it, and the rest take all their room first.
 abbrev pub may_call_in_vain : NodeOp → Bool

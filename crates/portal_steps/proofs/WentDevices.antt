@@ -22,7 +22,7 @@ use Rattle.portal_steps.specs.Devices.{Drawn, Keeping, KeeperWentOn, may_ask_tre
 use Rattle.portal_steps.proofs.AskedCalls.{asked-calling, asked-keeps, was-asked-called}
 use Rattle.portal_steps.proofs.BusCalls.{listed}
 use Rattle.portal_steps.proofs.DrawnWords.{drawn-drew}
-use Rattle.portal_steps.specs.Story.{PortalIs, state_now}
+use Rattle.portal_steps.specs.Story.{IsAsBefore, PortalIs, state_now}
 use Rattle.node_looks.specs.TreeCalls.{Call}
 use Rattle.portal_steps.specs.TreeCalls.{Calling, WasCalled, entry_calls}
 
@@ -117,9 +117,9 @@ module _ {T K C W : Type 0} (tree_is : T → TreeIs) (keeper_is : K → KeeperIs
     undrawn = λ f. let no : true ≡ false = sym draws ∙ f in absurd (cc);
   }
 
--- it is the same part for part
-pub same-portal : {T K C W : Type 0} (old new : PortalIs T K C W) → new.tree ≡ old.tree → new.keeper ≡ old.keeper → new.clock ≡ old.clock → new.words ≡ old.words → new.story.began ≡ old.story.began → new.story.opening ≡ old.story.opening → new.story.history ≡ old.story.history → new ≡ old
-same-portal old new t k c w b o h = λ i. record { tree = t i; keeper = k i; clock = c i; words = w i; story = record { began = b i; opening = o i; history = h i } }
+-- it is as before part for part
+pub same-portal : {T K C W : Type 0} (old new : PortalIs T K C W) → new.tree ≡ old.tree → new.keeper ≡ old.keeper → new.clock ≡ old.clock → new.words ≡ old.words → new.story.began ≡ old.story.began → new.story.opening ≡ old.story.opening → new.story.history ≡ old.story.history → IsAsBefore old new
+same-portal old new t k c w b o h = λ i. record { tree = t i; keeper = k i; clock = c i; words = w i; story = record { began = b i; opening = o i; history = h i }; spare = new.spare }
 
 module _ {T K C W : Type 0} (tree_is : T → TreeIs) (keeper_is : K → KeeperIs) (clock_reads : C → ℕ → C → Type 0) (words_told : W → Option (List ℕ)) (old : PortalIs T K C W) (request : Request) (new : PortalIs T K C W) where
   -- that of an Add, which may have asked each device but the clock
