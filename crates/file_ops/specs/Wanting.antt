@@ -1,5 +1,5 @@
 -- What a request that wants memory may have asked of the tree and of the clock, by its kind.
-use Rattle.std.specs.Prelude.{Bool, true, false}
+use Rattle.std.specs.Prelude.{ℕ, Bool, true, false}
 use Rattle.portal_model.specs.declared.request.NodeOp.{NodeOp}
 
 -- the requests that may change or make a file: no other reads the clock
@@ -20,6 +20,26 @@ may_change_file NodeOp.OpenDir = false
 may_change_file (NodeOp.ReadDir fh offset size) = false
 may_change_file (NodeOp.ReleaseDir fh) = false
 may_change_file (NodeOp.Access mask) = false
+
+-- How often the tree was called at most where memory is wanted: by a call that wants it, and a look
+-- ahead of one that cuts or makes a file.
+abbrev pub calls_in_vain : NodeOp → ℕ
+calls_in_vain (NodeOp.SetAttr valid fh size) = 2
+calls_in_vain (NodeOp.Open flags) = 2
+calls_in_vain (NodeOp.Create name flags) = 2
+calls_in_vain (NodeOp.Read fh offset size) = 1
+calls_in_vain (NodeOp.Write fh offset content) = 1
+calls_in_vain (NodeOp.Fsync fh) = 1
+calls_in_vain NodeOp.OpenDir = 1
+calls_in_vain (NodeOp.Lookup name) = 0
+calls_in_vain (NodeOp.Forget count) = 0
+calls_in_vain (NodeOp.BatchForget nodes) = 0
+calls_in_vain (NodeOp.GetAttr flags fh) = 0
+calls_in_vain (NodeOp.Flush fh) = 0
+calls_in_vain (NodeOp.Release fh) = 0
+calls_in_vain (NodeOp.ReadDir fh offset size) = 0
+calls_in_vain (NodeOp.ReleaseDir fh) = 0
+calls_in_vain (NodeOp.Access mask) = 0
 
 -- The requests for which all memory can be taken ahead: they look at the tree once at most, open
 -- nothing, and answer no list and no bytes.

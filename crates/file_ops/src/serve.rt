@@ -3,7 +3,7 @@
 ghost use Rattle.std.specs.Prelude.{◌≡◌, ◌+◌, ◌<◌, ◌≤◌, IfOk, IsOk, IsSome, OnErr, false, true};
 ghost use Rattle.open_handles.specs.Opened.{opened_on};
 ghost use Rattle.node_looks.specs.Done.{Does, MayRead, Reads, Wants};
-ghost use Rattle.file_ops.specs.Wanting.{fits_in_room, may_call_in_vain, may_change_file};
+ghost use Rattle.file_ops.specs.Wanting.{calls_in_vain, fits_in_room, may_call_in_vain, may_change_file};
 
 use crate::created::create;
 use crate::folders::open_dir;
@@ -27,7 +27,8 @@ use std::alloc::Global;
 /// Where memory is wanted, the open handles and the files are as before. The tree may
 /// have been called in vain by a SETATTR, OPEN, CREATE, READ, WRITE, FSYNC or OPENDIR,
 /// and the clock read by a SETATTR, OPEN, CREATE or WRITE; no other request that wants
-/// memory has called the tree, and none reads the clock. A LOOKUP, GETATTR or ACCESS wants
+/// memory has called the tree, and none reads the clock. So SETATTR, OPEN and CREATE call
+/// it twice at most, and the others once. A LOOKUP, GETATTR or ACCESS wants
 /// no memory where there is one of `rooms`, of which it takes one at most; a FLUSH,
 /// RELEASE, RELEASEDIR, FORGET or BATCH_FORGET never does.
 pub fn serve_node<T: HostTree, C: Clock>(
@@ -43,7 +44,8 @@ pub fn serve_node<T: HostTree, C: Clock>(
     ensures ok { IfOk result (λ done. Does book.now call.now handles.old (T.is tree.old) done
         handles.new (T.is tree.new)) }
     ensures clock { IfOk result (λ done. Reads C.reads clock.old done.now clock.new) }
-    ensures err { OnErr result (Wants handles.old (T.is tree.old) handles.new (T.is tree.new)) }
+    ensures err { OnErr result (Wants (calls_in_vain call.now.request.now.op) handles.old
+        (T.is tree.old) handles.new (T.is tree.new)) }
     ensures clock_err { OnErr result (MayRead C.reads clock.old clock.new) }
     ensures unasked { may_call_in_vain call.now.request.now.op ≡ false
         → OnErr result (tree.new ≡ tree.old) }

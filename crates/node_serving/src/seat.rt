@@ -2,7 +2,7 @@
 
 ghost use Rattle.std.specs.Prelude.{◌≡◌, ◌+◌, ◌<◌, ◌≤◌, IfOk, IsOk, OnErr, false, length, option_copied, true};
 ghost use Rattle.node_looks.specs.Done.{MayRead, Reads, Wants};
-ghost use Rattle.file_ops.specs.Wanting.{fits_in_room, may_call_in_vain, may_change_file};
+ghost use Rattle.file_ops.specs.Wanting.{calls_in_vain, fits_in_room, may_call_in_vain, may_change_file};
 ghost use Rattle.node_serving.specs.Counted.{Counts};
 ghost use Rattle.node_serving.specs.Seats.{AreEntered, IsServedIn, ServesSeat, refused_here};
 ghost use Rattle.portal_model.specs.State.{State, connection_of as open_connection};
@@ -59,7 +59,8 @@ pub fn serve<T: HostTree, C: Clock>(
     ensures counts { IfOk result (λ done.
         Counts seat request.now done.answer counts.old.counts counts.new.counts) }
     ensures count { length connections.new ≡ length connections.old }
-    ensures err { OnErr result (Wants handles.old (T.is tree.old) handles.new (T.is tree.new)) }
+    ensures err { OnErr result (Wants (calls_in_vain request.now.op) handles.old (T.is tree.old)
+        handles.new (T.is tree.new)) }
     ensures clock_err { OnErr result (MayRead C.reads clock.old clock.new) }
     ensures unasked { may_call_in_vain request.now.op ≡ false
         → OnErr result (tree.new ≡ tree.old) }
