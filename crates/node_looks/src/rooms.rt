@@ -80,7 +80,7 @@ fn fill(alloc: Global, lists: &mut List<List<Look>>, count: usize) -> Result<(),
     ensures more { length lists.old ≤ length lists.new }
     ensures reserved { count ≤ length lists.old → IsOk result }
 {
-    while lists.len() < count {
+    'fill: while lists.len() < count {
         lists.push(room_for_look(alloc)?)?;
     }
     Ok(())
