@@ -17,13 +17,18 @@ pub record Story : Type 0 where
   pub opening : OpeningState
   pub history : List Entry
 
--- the four devices, and the story
+-- the four devices, the story, and for how many requests memory was taken ahead
 pub record PortalIs (T K C W : Type 0) : Type 0 where
   pub tree : T
   pub keeper : K
   pub clock : C
   pub words : W
   pub story : Story
+  pub spare : ℕ
+
+-- all is as before, but for the memory that was taken ahead
+abbrev pub IsAsBefore : {T K C W : Type 0} → PortalIs T K C W → PortalIs T K C W → Type 0
+IsAsBefore old new = new ≡ record old { spare = new.spare }
 
 -- the state that the history began in
 abbrev pub state_first : Story → State
