@@ -26,6 +26,7 @@ impl<T: HostTree, K: Keeper, C: Clock, W: Words> Portal<T, K, C, W> {
         ensures ok { OnOk result (count ≤ self.new.spare) }
         ensures bytes { OnOk result (bytes ≤ bytes_left self.new) }
         ensures same { IsAsBefore self.old self.new }
+        ensures uncounted { self.new.refusals ≡ self.old.refusals }
         ensures more { self.old.spare ≤ self.new.spare }
     {
         let _brought = bytes;
