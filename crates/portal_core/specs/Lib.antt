@@ -1,5 +1,6 @@
 pub mod Started
 pub mod Renewing
+pub mod Waiting
 pub mod Growth
 pub mod OpenFiles
 pub mod LookUps

@@ -18,6 +18,7 @@ pub record Starts {T K C W : Type 0} (tree_is : T → TreeIs) (keeper_is : K
   pub began : portal.story.began ≡ (tree_is tree).began
   pub loaded : LoadsGood limits (keeper_is keeper) portal.story.opening (keeper_is portal.keeper)
   pub history : portal.story.history ≡ []
+  pub refusals : portal.refusals ≡ 0
 
 -- no portal started, for this cause; the devices come back, of which only the keeper was asked
 pub record HandsBack {T K C W : Type 0} (keeper_is : K → KeeperIs) (tree : T) (keeper : K)
@@ -36,4 +37,5 @@ reopened tree_is tree keeper clock words opening = record {
   clock = clock;
   words = words;
   story = record { began = (tree_is tree).began; opening = opening; history = [] };
+  refusals = 0;
 }

@@ -6,7 +6,7 @@ ghost use Rattle.node_looks.specs.OpenHandles.{AreOpen};
 ghost use Rattle.portal_desk.specs.Opening.{IsOpeningState};
 ghost use Rattle.portal_model.specs.History.{Legal, cost};
 ghost use Rattle.portal_model.specs.Opening.{opened_over};
-ghost use Rattle.portal_model.specs.Seated.{is_open};
+ghost use Rattle.portal_model.specs.Seated.{is_open, rises_by};
 ghost use Rattle.portal_model.specs.Valid.{Valid};
 ghost use Rattle.portal_steps.specs.Answered.{Answers, KeepsState, Spends, TellsFault};
 ghost use Rattle.portal_steps.specs.Devices.{TellsFailure, may_ask_in_vain, may_ask_tree_in_vain, may_change_records};
@@ -16,11 +16,14 @@ ghost use Rattle.portal_core.specs.OpenFiles.{GoesByHandles, OpensByRights, Stri
 ghost use Rattle.portal_start.specs.Loading.{AreLists};
 ghost use Rattle.portal_core.specs.Renewing.{CannotRenew, Renews};
 ghost use Rattle.portal_core.specs.Started.{HandsBack, Starts, reopened};
-ghost use Rattle.portal_steps.specs.Story.{HasCause, cost_with, limit_of, state_first, state_now};
+ghost use Rattle.portal_steps.specs.Story.{HasCause, IsAsBefore, cost_with, limit_of, state_first, state_now};
 ghost use Rattle.store_serving.specs.Serving.{may_change_entries};
 ghost use Rattle.store_serving.specs.Waiting.{silent};
 
+mod asked;
+
 use crate::renewal::{RenewError, least_seat};
+use asked::refusals_after;
 use crate::room::{make_room, taken};
 use app_view::ViewBook;
 use change_signals::Outboxes;
@@ -61,11 +64,11 @@ use std::mem;
 
 /// A portal over a tree of files, a keeper of records, a clock and words.
 ///
-/// Contracts see the four devices, the opening state, the files that the tree
-/// began with, and the history. The history is legal, and the portal is in the
-/// state after it: a tree that tells has the files of that state, and a keeper
-/// that tells the records that stand for it. The counts of nodes are those that
-/// the history looked up and forgot, on which no answer depends.
+/// Contracts see the four devices, the opening state, the files that the tree began
+/// with, the history, and how many requests were refused. The history is legal, and
+/// the portal is in the state after it: a tree that tells has the files of that state,
+/// and a keeper that tells the records that stand for it. The counts of nodes are
+/// those that the history looked up and forgot, on which no answer depends.
 #[derive(Drop)]
 pub struct Portal<T: HostTree, K: Keeper, C: Clock, W: Words> {
     tree: T,
@@ -82,6 +85,7 @@ pub struct Portal<T: HostTree, K: Keeper, C: Clock, W: Words> {
     handles: Handles,
     counts: InodeTable,
     history: History,
+    refusals: u64,
 }
 
 impl<T: HostTree, K: Keeper, C: Clock, W: Words> Model for Portal<T, K, C, W> {
@@ -111,6 +115,7 @@ impl<T: HostTree, K: Keeper, C: Clock, W: Words> Model for Portal<T, K, C, W> {
         opening = p.opening;
         history = p.history.entries;
       };
+      refusals = p.refusals;
     } };
 
     // Room is kept for a Leave of each open connection.
@@ -201,6 +206,7 @@ impl<T: HostTree, K: Keeper, C: Clock, W: Words> Portal<T, K, C, W> {
             handles,
             counts: InodeTable::new(alloc),
             history,
+            refusals: 0,
         }
     }
 
@@ -270,23 +276,21 @@ impl<T: HostTree, K: Keeper, C: Clock, W: Words> Portal<T, K, C, W> {
 
     /// Answers a request of a seat.
     ///
-    /// The reply is that of one step of the sequential portal, from the state
-    /// after the history, which grows by this request; over a tree that doesn't
-    /// tell its files it is alike to that. Ahead of its answer go the changes of
-    /// the permission store that a connection of the host to the bus was not told
-    /// yet. Just the calls of the tree that the
-    /// step reaches are made, the clock is read where it changes or makes a file,
-    /// words are drawn just for new documents, and the keeper is asked once where
-    /// the step changes the records; EIO and Failed come only where such a call
-    /// failed. A refusal leaves the portal as it was, but one of a request that may
-    /// change the records may have asked the keeper in vain; one of an Add may have
-    /// asked the tree too, and have drawn words; one of a SETATTR, OPEN, CREATE, READ,
-    /// WRITE, FSYNC or OPENDIR may have asked the tree; and of these SETATTR, OPEN,
-    /// CREATE and WRITE may have read the clock. `Full` comes exactly where the history
-    /// with this request would cost more than its limit; want of memory may come at any
-    /// other request, but not at the Leave of an open connection, which is never
-    /// refused. What an application does by a handle of a strict document is done only as
-    /// far as it has the rights in the document then.
+    /// The reply is that of one step of the sequential portal, from the state after the
+    /// history, which grows by this request; over a tree that doesn't tell its files it is
+    /// alike to that. Ahead of its answer go the changes of the permission store that a
+    /// connection of the host to the bus was not told yet. Just the calls of the tree that the
+    /// step reaches are made, the clock is read where it changes or makes a file, words are
+    /// drawn just for new documents, and the keeper is asked once where the step changes the
+    /// records; EIO and Failed come only where such a call failed. A refusal leaves the portal
+    /// as it was, but for the count of refusals, and one of a request that may change the
+    /// records may have asked the keeper in vain; one of an Add may have asked the tree too,
+    /// and have drawn words; one of a SETATTR, OPEN, CREATE, READ, WRITE, FSYNC or OPENDIR may
+    /// have asked the tree; and of these SETATTR, OPEN, CREATE and WRITE may have read the
+    /// clock. `Full` comes exactly where the history with this request would cost more than its
+    /// limit; want of memory may come at any other request, but not at the Leave of an open
+    /// connection, which is never refused. What an application does by a handle of a strict
+    /// document is done only as far as it has the rights in the document then.
     pub fn ask(&mut self, alloc: Global, seat: u32, request: Request) -> Result<Reply, Refused>
         ensures began { self.new.story.began ≡ self.old.story.began }
         ensures opening { self.new.story.opening ≡ self.old.story.opening }
@@ -296,14 +300,19 @@ impl<T: HostTree, K: Keeper, C: Clock, W: Words> Portal<T, K, C, W> {
         ensures failure { IfOk result (TellsFailure (T.is self.old.tree) (T.is self.new.tree)
             (K.is self.old.keeper) (K.is self.new.keeper)) }
         ensures err { OnErr result (Spends T.is K.is C.reads W.told self.old request self.new) }
-        ensures unasked { may_ask_in_vain request ≡ false → OnErr result (self.new ≡ self.old) }
+        ensures unasked { may_ask_in_vain request ≡ false
+            → OnErr result (IsAsBefore self.old self.new) }
+
+        // A refusal is counted, up to the greatest count, and nothing else is.
+        ensures uncounted { OnOk result (self.new.refusals ≡ self.old.refusals) }
+        ensures counted { OnErr result (self.new.refusals ≡ rises_by self.old.refusals 1) }
 
         // Both ways: it is full exactly where the cost would pass the limit. Nothing is asked then.
         ensures full { limit_of self.old.story < cost_with self.old.story request
             → result
             ≡ Err (Refused.Full (cost self.old.story.history) (limit_of self.old.story)) }
         ensures nothing { limit_of self.old.story < cost_with self.old.story request
-            → self.new ≡ self.old }
+            → IsAsBefore self.old self.new }
         ensures cause { IfErr result (HasCause self.old.story request) }
 
         // Enter took the room for it.
@@ -321,7 +330,9 @@ impl<T: HostTree, K: Keeper, C: Clock, W: Words> Portal<T, K, C, W> {
         ensures opens { OpensByRights self.new.story }
         ensures handles { GoesByHandles self.new.story }
     {
+        let before = self.refusals();
         let answered = self.answer(alloc, seat, request);
+        self.count_refusals(refusals_after(before, &answered));
         strict_handles_follow_revocations();
         self.known();
         answered

@@ -118,8 +118,8 @@ module _ {T K C W : Type 0} (tree_is : T → TreeIs) (keeper_is : K → KeeperIs
   }
 
 -- it is the same part for part
-pub same-portal : {T K C W : Type 0} (old new : PortalIs T K C W) → new.tree ≡ old.tree → new.keeper ≡ old.keeper → new.clock ≡ old.clock → new.words ≡ old.words → new.story.began ≡ old.story.began → new.story.opening ≡ old.story.opening → new.story.history ≡ old.story.history → new ≡ old
-same-portal old new t k c w b o h = λ i. record { tree = t i; keeper = k i; clock = c i; words = w i; story = record { began = b i; opening = o i; history = h i } }
+pub same-portal : {T K C W : Type 0} (old new : PortalIs T K C W) → new.tree ≡ old.tree → new.keeper ≡ old.keeper → new.clock ≡ old.clock → new.words ≡ old.words → new.story.began ≡ old.story.began → new.story.opening ≡ old.story.opening → new.story.history ≡ old.story.history → new.refusals ≡ old.refusals → new ≡ old
+same-portal old new t k c w b o h n = λ i. record { tree = t i; keeper = k i; clock = c i; words = w i; story = record { began = b i; opening = o i; history = h i }; refusals = n i }
 
 module _ {T K C W : Type 0} (tree_is : T → TreeIs) (keeper_is : K → KeeperIs) (clock_reads : C → ℕ → C → Type 0) (words_told : W → Option (List ℕ)) (old : PortalIs T K C W) (request : Request) (new : PortalIs T K C W) where
   -- that of an Add, which may have asked each device but the clock

@@ -1,4 +1,4 @@
--- What a portal is to contracts: its devices, and its story.
+-- What a portal is to contracts: its devices, its story, and how often it refused.
 use Rattle.std.specs.Prelude.{◌≡◌, ◌+◌, ◌<◌, ◌≤◌, ℕ, List, Option}
 use Rattle.portal_base.specs.declared.files.File.{File}
 use Rattle.portal_model.specs.declared.entry.Entry.{Entry}
@@ -17,13 +17,18 @@ pub record Story : Type 0 where
   pub opening : OpeningState
   pub history : List Entry
 
--- the four devices, and the story
+-- the four devices, the story, and how many requests were refused, up to the greatest count
 pub record PortalIs (T K C W : Type 0) : Type 0 where
   pub tree : T
   pub keeper : K
   pub clock : C
   pub words : W
   pub story : Story
+  pub refusals : ℕ
+
+-- as before, but for the count of refusals, of which that never speaks
+abbrev pub IsAsBefore : {T K C W : Type 0} → PortalIs T K C W → PortalIs T K C W → Type 0
+IsAsBefore old new = new ≡ record old { refusals = new.refusals }
 
 -- the state that the history began in
 abbrev pub state_first : Story → State

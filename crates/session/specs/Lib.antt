@@ -7,6 +7,7 @@ pub mod Answers
 pub mod Ledger
 pub mod Standings
 pub mod Sessions
+pub mod Pushes
 pub mod Pumps
 pub mod Connections
 pub mod Isolation

@@ -147,4 +147,4 @@ returns-in-Err-clause-err g c =
 pub returns-in-Err-clause-unasked : goal.returns-in-Err-clause-unasked
 returns-in-Err-clause-unasked g c = λ h.
     let kept = was-called-keeps (g.T.HostTree.is c.self.inside.tree) (g.T.HostTree.is c.serve-served.new.tree) c.in-Err.ensures.err.calls in
-    same-portal _ _ (rw (← c.self.view_is) (c.in-Err.ensures.unasked h)) (search rules) (rw (← c.self.view_is) (c.serve-served.ensures.unread (still-file c.args.request.op h))) (search rules) (rw (← c.self.view_is) kept.0) (search rules) (search rules)
+    same-portal _ _ (rw (← c.self.view_is) (c.in-Err.ensures.unasked h)) (search rules) (rw (← c.self.view_is) (c.serve-served.ensures.unread (still-file c.args.request.op h))) (search rules) (rw (← c.self.view_is) kept.0) (search rules) (search rules) (search rules)
