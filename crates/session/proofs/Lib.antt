@@ -17,6 +17,7 @@ pub mod ItemsAreOne
 pub mod OwnEntries
 pub mod SessionCalls
 pub mod Telling
+pub mod TurnsTaken
 pub mod FirstLine
 pub mod ToldFrame
 pub mod ServeConnection

@@ -12,4 +12,5 @@ pub mod Pumps
 pub mod Connections
 pub mod Isolation
 pub mod Hearing
+pub mod Turns
 pub mod Laws

@@ -1,0 +1,4 @@
+pub mod Fronts
+pub mod Asking
+pub mod FrontOut
+pub mod Steps
