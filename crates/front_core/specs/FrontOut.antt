@@ -27,13 +27,10 @@ use Rattle.front_core.specs.declared.front.FrontOutput.TheVariants.{Write, Close
 use Rattle.front_core.specs.declared.front.FrontEnding.{FrontEnding}
 use Rattle.front_core.specs.declared.front.FrontEnding.TheVariants as ends
 use Rattle.front_core.specs.Asking.{AreAsked, IsAsked}
-use Rattle.front_core.specs.Fronts.{Front, LinkIs, placed, waits}
+use Rattle.front_core.specs.declared.links.Link.{Link}
+use Rattle.front_core.specs.Fronts.{Front, most_pending, placed, waits}
 
 -- ---- what a link is given
-
--- how many bytes a client may leave untaken
-abbrev pub most_pending : ℕ
-most_pending = 67108864
 
 -- bytes are given together, where there are any
 abbrev pub written : ℕ → List ℕ → List FrontOutput
@@ -130,7 +127,7 @@ has_room at bytes = not (nat_lt longest (at.before + length at.rest + length byt
 abbrev pub Spends : Standing → Standing → Type 0
 Spends at now = now ≡ record at { fed = fed.Over served.Spent }
 
-abbrev pub CameGives : Front → ℕ → List ℕ → LinkIs → Bool → List Outcome → List FrontOutput
+abbrev pub CameGives : Front → ℕ → List ℕ → Link → Bool → List Outcome → List FrontOutput
     → Front → Type 0
 CameGives a link bytes at true outcomes outs b =
     (what : Stop) × (requests : List Request) × (asked : List Outcome)
@@ -149,8 +146,8 @@ Closes a link met outcomes outs b =
     × (b ≡ record a { history = h; links = placed a.links link None })
 
 -- by what stands at the link
-abbrev pub AtLink : (LinkIs → List Outcome → List FrontOutput → Front → Type 0) → Front
-    → Option LinkIs → List Outcome → List FrontOutput → Front → Type 0
+abbrev pub AtLink : (Link → List Outcome → List FrontOutput → Front → Type 0) → Front
+    → Option Link → List Outcome → List FrontOutput → Front → Type 0
 AtLink does a None outcomes outs b = Passes a outcomes outs b
 AtLink does a (Some at) outcomes outs b = does at outcomes outs b
 
@@ -158,7 +155,7 @@ AtLink does a (Some at) outcomes outs b = does at outcomes outs b
 
 -- What a link waits for is asked for by one Collect, and told by its signals, which are given
 -- together. A refusal leaves it untold.
-abbrev pub TellsLink : Front → ℕ → Option LinkIs → List Outcome → List FrontOutput → Front → Type 0
+abbrev pub TellsLink : Front → ℕ → Option Link → List Outcome → List FrontOutput → Front → Type 0
 TellsLink a link None outcomes outs b = Passes a outcomes outs b
 TellsLink a link (Some at) outcomes outs b =
     (o : Outcome)

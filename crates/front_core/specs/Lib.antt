@@ -1,4 +1,5 @@
 pub mod Fronts
 pub mod Asking
+pub mod Alone
 pub mod FrontOut
 pub mod Steps

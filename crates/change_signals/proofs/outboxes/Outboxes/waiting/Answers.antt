@@ -1,3 +1,4 @@
+use Rattle.std.proofs.Common.{rules}
 use Rattle.change_signals.proofs.BoxLemmas.{none-waiting, some-waiting}
 use Rattle.change_signals.proofs.outboxes.Outboxes.waiting.Goals as goal
 
