@@ -1,5 +1,0 @@
-pub mod Fronts
-pub mod Asking
-pub mod Alone
-pub mod FrontOut
-pub mod Steps
