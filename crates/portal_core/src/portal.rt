@@ -23,9 +23,9 @@ ghost use Rattle.store_serving.specs.Waiting.{silent};
 mod asked;
 
 use crate::renewal::{RenewError, least_seat};
-use asked::refusals_after;
 use crate::room::{make_room, taken};
 use app_view::ViewBook;
+use asked::refusals_after;
 use change_signals::Outboxes;
 use document_calls::ServedCall;
 use document_records::{Applications, Documents, Grants};

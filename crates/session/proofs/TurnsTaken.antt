@@ -88,11 +88,21 @@ marked_push c s last v w (t, said, serial, sound) = record {
   each = refl;
   counted = refl;
   phase = refl;
-  answers = (t.outcome ∷ [], [], t.written, [], last, refl, sym (append-nil t.written), record {
-    asked = (t.outcome, [], refl, t.is_of, refl);
-    said = said ∙ ap (spoken s.serial) (sym (told_messages t.outcome));
-    serial_is = serial ∙ ap (last_spoken s.serial) (sym (told_messages t.outcome));
-  }, (refl, refl, refl));
+  answers = (
+    t.outcome ∷ [],
+    [],
+    t.written,
+    [],
+    last,
+    refl,
+    sym (append-nil t.written),
+    record {
+      asked = (t.outcome, [], refl, t.is_of, refl);
+      said = said ∙ ap (spoken s.serial) (sym (told_messages t.outcome));
+      serial_is = serial ∙ ap (last_spoken s.serial) (sym (told_messages t.outcome));
+    },
+    (refl, refl, refl),
+  );
   grows = t.grows;
   sound = sound;
 }
