@@ -93,7 +93,7 @@ impl<'a, S: Storied> TryDesk for LocalDesk<'a, S> {
     ghost busy = { λ _. 0 };
 
     ghost goes = { λ d e. (e.portal.ghost_name ≡ d.portal.ghost_name)
-        × GoesOn S.says S.spends
+        × GoesOn S.says S.spends S.refusals
         d.portal.now (seated_at (S.opening d.portal.now) (S.entries d.portal.now) d.seat
         d.refusals)
         e.portal.now (seated_at (S.opening e.portal.now) (S.entries e.portal.now) e.seat
@@ -110,7 +110,7 @@ impl<'a, S: Storied> TryDesk for LocalDesk<'a, S> {
         self.portal.known();
     }
 
-    ghost stands = { λ d. (refl, goes_nowhere S.says S.spends _ _) };
+    ghost stands = { λ d. (refl, goes_nowhere S.says S.spends S.refusals _ _) };
 
-    ghost follows = { λ d e f h k. (k.0 ∙ h.0, goes_further S.says S.spends _ _ _ _ _ _ h.1 k.1) };
+    ghost follows = { λ d e f h k. (k.0 ∙ h.0, goes_further S.says S.spends S.refusals _ _ _ _ _ _ h.1 k.1) };
 }
