@@ -20,10 +20,10 @@ ghost use Rattle.portal_steps.specs.Story.{HasCause, IsAsBefore, cost_with, limi
 ghost use Rattle.store_serving.specs.Serving.{may_change_entries};
 ghost use Rattle.store_serving.specs.Waiting.{silent};
 
+use crate::portal::asked::refusals_after;
 use crate::renewal::{RenewError, least_seat};
 use crate::room::{keep_ahead, make_room, taken};
 use app_view::ViewBook;
-use asked::refusals_after;
 use change_signals::Outboxes;
 use document_calls::ServedCall;
 use document_records::{Applications, Documents, Grants};
