@@ -153,13 +153,15 @@ turns_taken (Some piece ∷ turns) s v t w few (m, x, (took, keeps), more) =
     let long = length-append took.taken k.taken in
     let first = took.before in
     let second = k.before in
+    let none : 0 + pushes_in turns ≡ pushes_in turns = omega arith in
     record {
       taken = took.taken ++ k.taken;
       bytes = sym (append_assoc s.rest piece (stream_of turns))
           ∙ (ap (λ (z : List ℕ). z ++ stream_of turns) took.bytes
           ∙ (append_assoc took.taken m.rest (stream_of turns)
           ∙ (ap (λ (z : List ℕ). took.taken ++ z) k.bytes ∙ sym (append_assoc took.taken k.taken t.rest))));
-      marked = marked_on s.client s.stage m.stage t.stage v x w took.taken k.taken 0 (pushes_in turns) (marked_did s.client s.stage m.stage v x took.taken took.did) rest_marked;
+      marked = subst (λ (n : ℕ). Marked s.client s.stage v (took.taken ++ k.taken) n t.stage w) none
+          (marked_on s.client s.stage m.stage t.stage v x w took.taken k.taken 0 (pushes_in turns) (marked_did s.client s.stage m.stage v x took.taken took.did) rest_marked);
       before = omega (arith, long, first, second);
       client = k.client ∙ here;
       remains = subst (λ (c : Client). Remains c t.stage.phase t.rest stop.More) here k.remains;
